@@ -1,1 +1,11 @@
 pub mod ListObject
+pub mod Replies
+pub mod Bags
+pub mod Generations
+pub mod Calls
+pub mod Machine
+pub mod Steps
+pub mod History
+pub mod Law
+pub mod Values
+pub mod Lists

@@ -1,0 +1,81 @@
+-- One invariant over whole schedules.
+use Rattle.std.proofs.Common.{ℕ, ◌≡◌, ◌++◌, List, [], ◌∷◌, refl, Option, length, ◌∙◌}
+use Rattle.std.specs.Prelude.{option_to_list}
+use Rattle.table_core.specs.Replies.{Reply}
+use Rattle.table_core.specs.Generations.{IsFirst}
+use Rattle.table_core.specs.Machine.{World, empty, Act, after}
+use Rattle.table_core.specs.History.{replies, placed_by, placed}
+use Rattle.table_core.specs.declared.event.Event.{Event}
+use Rattle.table_core.proofs.Locks.{more, keeps_locks, locked_empty}
+use Rattle.table_core.specs.Values.{ValuesStay, KeptIsPlaced, PlacedGrows, FewBuckets}
+use Rattle.table_core.proofs.Turns.{Turn}
+use Rattle.table_core.proofs.Pasts.{turn_after, placed_snoc, replies_snoc, by_snoc, placed_append}
+use Rattle.table_core.proofs.Standing.{keeps_calls, calls_empty}
+use Rattle.table_core.proofs.Facts.{Inv}
+use Rattle.table_core.proofs.Numbers.{keeps_numbered, numbered_empty, keeps_valued, valued_empty}
+use Rattle.table_core.proofs.Contents.{keeps_holding, holding_empty}
+use Rattle.table_core.proofs.Within.{keeps_within, within_empty}
+use Rattle.table_core.proofs.Sizes.{keeps_sized, sized_empty, keeps_roomy, roomy_empty, keeps_capacities, capacities_empty, few_buckets_at, same_first}
+use Rattle.table_core.proofs.Seats.{keeps_seated, seated_empty}
+use Rattle.table_core.proofs.Tracks.{keeps_tracked, tracked_empty}
+use Rattle.table_core.proofs.Places.{keeps_placing, placing_empty, values_stay_at, kept_is_placed_at}
+
+-- each turn keeps all of it
+pub keeps : {w v : World} {x : Event} {a : Option Act} {r : Option Reply} (m : List ℕ) (rs : List Reply) → Turn w x a v r → Inv w m rs → Inv v (m ++ placed_by a) (rs ++ option_to_list r)
+keeps m rs s i = record {
+  locked = keeps_locks s i.locked;
+  calls = keeps_calls s i.locked i.calls;
+  numbered = keeps_numbered s i.numbered;
+  valued = keeps_valued s i.valued;
+  holding = keeps_holding m s i.locked i.calls i.holding;
+  within = keeps_within m s i.locked i.calls i.holding i.within;
+  sized = keeps_sized s i.locked i.calls i.sized;
+  roomy = keeps_roomy m s i.locked i.calls i.sized i.holding i.roomy;
+  capacities = keeps_capacities s i.capacities;
+  seated = keeps_seated m (length m) s i.holding i.roomy i.tracked i.seated;
+  tracked = keeps_tracked s i.calls i.seated i.tracked;
+  placing = keeps_placing m rs s i.calls i.tracked i.placing;
+}
+
+pub inv_empty : (f : ℕ) → IsFirst f → Inv (empty f) [] []
+inv_empty f h = record {
+  locked = locked_empty f;
+  calls = calls_empty f;
+  numbered = numbered_empty f;
+  valued = valued_empty f;
+  holding = holding_empty f;
+  within = within_empty f;
+  sized = sized_empty f;
+  roomy = roomy_empty f h;
+  capacities = capacities_empty f h;
+  seated = seated_empty f h;
+  tracked = tracked_empty f;
+  placing = placing_empty f;
+}
+
+abbrev pub InvAfter : ℕ → List Event → Type 0
+InvAfter f s = Inv (after f s) (placed (empty f) s) (replies (empty f) s)
+
+pub inv_snoc : (f : ℕ) (s : List Event) (x : Event) → InvAfter f s → InvAfter f (s ++ x ∷ [])
+inv_snoc f s x i = rw (placed_snoc f s x, replies_snoc f s x) (keeps (placed (empty f) s) (replies (empty f) s) (turn_after f s x) i)
+
+-- the invariant of each moment
+pub inv : (f : ℕ) → IsFirst f → (s : List Event) → InvAfter f s
+inv f h s = by_snoc (InvAfter f) (inv_empty f h) (inv_snoc f) s
+
+pub first_stays : (f : ℕ) (s : List Event) → (after f s).table.first ≡ f
+first_stays f s = by_snoc (λ s. (after f s).table.first ≡ f) refl (λ s x e. same_first (turn_after f s x) ∙ e) s
+
+-- What it says of values and buckets
+
+pub values_stay : (f : ℕ) (s : List Event) → IsFirst f → ValuesStay f s
+values_stay f s h = let i = inv f h s in values_stay_at (after f s) (placed (empty f) s) (replies (empty f) s) i.calls i.holding i.placing
+
+pub kept_is_placed : (f : ℕ) (s : List Event) → IsFirst f → KeptIsPlaced f s
+kept_is_placed f s h = kept_is_placed_at (after f s) (placed (empty f) s) (inv f h s).holding
+
+pub placed_grows : (f : ℕ) (s more : List Event) → IsFirst f → PlacedGrows f s more
+placed_grows f s more h = (placed (after f s) more, placed_append s more (empty f))
+
+pub few_buckets : (f : ℕ) (s : List Event) → IsFirst f → FewBuckets f s
+few_buckets f s h = rw (first_stays f s) at (few_buckets_at (after f s).table (length (placed (empty f) s)) (inv f h s).roomy)

@@ -1,0 +1,202 @@
+-- The calls: where each stands, and where an answer takes it.
+use Rattle.std.specs.Prelude.{ℕ, ◌+◌, ◌/◌, ◌%◌, ◌==◌, ◌&&◌, ◌||◌, nat_lt, if◌then◌else◌, Bool, true, false, Option, Some, None, List, [], ◌∷◌}
+use Rattle.std.specs.List.{find, list_any}
+use Rattle.table_core.specs.declared.call.Phase.{Phase}
+use Rattle.table_core.specs.declared.call.Phase.TheVariants.{WantShared, Shared, Probe, AtEmpty, Placed, LeaveOk, LeaveGrow, LeaveRefused, AskSize, WantOwned, Owned, Building, LeaveOwned, LeaveFailed, LookLoad, LookProbe, LenLoad, LenSize, WalkLoad, WalkAt, Done}
+use Rattle.table_core.specs.declared.call.Outcome.{Outcome}
+use Rattle.table_core.specs.declared.call.Outcome.TheVariants.{Pending, New, Existing}
+use Rattle.table_core.specs.declared.call.Answer.{Answer}
+use Rattle.table_core.specs.declared.call.Answer.TheVariants.{Taken, Released, NoGeneration, Loaded, Empty, Holds, Won, NoRoom, Counted, Sized, Begun, Unwanted, Failed, Copied, Shown}
+use Rattle.table_core.specs.declared.call.CallState.{CallState}
+
+-- a call: its number, the value of an insert, the list so far of a walk, and its state
+pub record Call : Type 0 where
+  pub number : ℕ
+  pub value : Option ℕ
+  pub list : List ℕ
+  pub state : CallState
+
+-- a call that starts in this phase
+abbrev pub starts : ℕ → Option ℕ → Phase → ℕ → Call
+starts n value phase hash = record {
+  number = n;
+  value = value;
+  list = [];
+  state = record { phase = phase; hash = hash; walked = None; capacity = 0; index = 0; seen = 0; outcome = Pending };
+}
+
+abbrev pub is_used : ℕ → List Call → Bool
+is_used n calls = list_any (λ c. c.number == n) calls
+
+abbrev pub is_value : ℕ → Option ℕ → Bool
+is_value v None = false
+is_value v (Some u) = u == v
+
+abbrev pub is_used_value : ℕ → List Call → Bool
+is_used_value v calls = list_any (λ c. is_value v c.value) calls
+
+-- the call of this number
+abbrev pub call_numbered : ℕ → List Call → Option Call
+call_numbered n calls = find (λ c. c.number == n) calls
+
+-- the calls, with this one in the place of the one of its number
+abbrev pub replaced : Call → List Call → List Call
+replaced d [] = []
+replaced d (c ∷ calls) = if c.number == d.number then d ∷ calls else c ∷ replaced d calls
+
+-- Locks: who holds the lock is read off the phases
+
+abbrev pub holds_shared : Phase → Bool
+holds_shared Shared = true
+holds_shared Probe = true
+holds_shared AtEmpty = true
+holds_shared Placed = true
+holds_shared LeaveOk = true
+holds_shared LeaveGrow = true
+holds_shared LeaveRefused = true
+holds_shared _ = false
+
+abbrev pub holds_owned : Phase → Bool
+holds_owned Owned = true
+holds_owned Building = true
+holds_owned LeaveOwned = true
+holds_owned LeaveFailed = true
+holds_owned _ = false
+
+-- one of these calls holds the lock exclusively
+abbrev pub is_owned : List Call → Bool
+is_owned calls = list_any (λ c. holds_owned c.state.phase) calls
+
+-- one of these calls holds the lock
+abbrev pub is_locked : List Call → Bool
+is_locked calls = list_any (λ c. holds_shared c.state.phase || holds_owned c.state.phase) calls
+
+-- Where an answer takes a call
+
+-- in another phase
+abbrev pub to : Phase → CallState → CallState
+to p s = record s { phase = p }
+
+-- at the first bucket of a probe
+abbrev pub probes : Phase → CallState → ℕ → ℕ → CallState
+probes p s generation capacity =
+    record s { phase = p; walked = Some generation; capacity = capacity; index = s.hash % capacity; seen = 0 }
+
+-- one set bucket further, or in this other phase once all were seen
+abbrev pub passes : Phase → Phase → CallState → CallState
+passes on turned s =
+    if nat_lt (s.seen + 1) s.capacity
+    then record s { phase = on; index = (s.index + 1) % s.capacity; seen = s.seen + 1 }
+    else record s { phase = turned; seen = s.seen + 1 }
+
+-- it accepts the entry in its bucket
+abbrev pub finds_entry : Phase → CallState → CallState
+finds_entry p s = record s { phase = p; outcome = Existing s.index }
+
+-- an insert at a set bucket
+abbrev pub meets : CallState → Bool → CallState
+meets s true = finds_entry LeaveOk s
+meets s false = passes Probe LeaveGrow s
+
+-- a look-up at a set bucket
+abbrev pub looks : CallState → Bool → CallState
+looks s true = finds_entry Done s
+looks s false = passes LookProbe Done s
+
+-- a walk goes on to the next bucket, until there is none
+abbrev pub walks : CallState → CallState
+walks s = if nat_lt (s.index + 1) s.capacity then record s { phase = WalkAt; index = s.index + 1 } else record s { phase = Done; index = s.index + 1 }
+
+abbrev pub is_pending : Outcome → Bool
+is_pending Pending = true
+is_pending _ = false
+
+-- growth is over: a call without an outcome starts over
+abbrev pub ends : CallState → CallState
+ends s = if is_pending s.outcome then to WantShared s else to Done s
+
+-- growth has failed: a call without an outcome gives up, unless there is another generation by now
+abbrev pub fails : CallState → Bool → CallState
+fails s still_current = if is_pending s.outcome && (if still_current then false else true) then to WantShared s else to Done s
+
+-- the state after an answer, in the phases' order; an answer that has no row changes nothing
+abbrev pub decided : Phase → CallState → Answer → CallState
+decided WantShared s Taken = to Shared s
+decided Shared s NoGeneration = record s { phase = LeaveGrow; walked = None }
+decided Shared s (Loaded g n) = probes Probe s g n
+decided Probe s Empty = to AtEmpty s
+decided Probe s (Holds same accepted) = meets s (same && accepted)
+decided AtEmpty s NoRoom = to LeaveRefused s
+decided AtEmpty s Won = to Placed s
+decided AtEmpty s (Holds same accepted) = meets s (same && accepted)
+decided Placed s Counted = record s { phase = LeaveOk; outcome = New s.index }
+decided LeaveOk s (Released _) = to AskSize s
+decided LeaveGrow s (Released _) = to WantOwned s
+decided LeaveRefused s (Released _) = to Done s
+decided AskSize s (Sized k) = if nat_lt k (s.capacity / 2) then to Done s else to WantOwned s
+decided WantOwned s Taken = to Owned s
+decided Owned s Begun = to Building s
+decided Owned s Unwanted = to LeaveOwned s
+decided Owned s Failed = to LeaveFailed s
+decided Building s Copied = to Building s
+decided Building s Shown = to LeaveOwned s
+decided LeaveOwned s (Released _) = ends s
+decided LeaveFailed s (Released still_current) = fails s still_current
+decided LookLoad s NoGeneration = to Done s
+decided LookLoad s (Loaded g n) = probes LookProbe s g n
+decided LookProbe s Empty = to Done s
+decided LookProbe s (Holds same accepted) = looks s (same && accepted)
+decided LenLoad s NoGeneration = to Done s
+decided LenLoad s (Loaded g n) = record s { phase = LenSize; walked = Some g }
+decided LenSize s (Sized k) = to Done s
+decided WalkLoad s NoGeneration = to Done s
+decided WalkLoad s (Loaded g n) = record s { phase = WalkAt; walked = Some g; capacity = n; index = 0 }
+decided WalkAt s Empty = walks s
+decided WalkAt s (Holds _ _) = walks s
+decided _ s _ = s
+
+-- Answers that fit
+
+-- a call that stands at a bucket of its generation
+abbrev pub stands_at_bucket : CallState → Bool
+stands_at_bucket s = nat_lt s.index s.capacity && nat_lt s.seen s.capacity
+
+-- whether an answer has a row in a phase, with numbers that can be
+abbrev pub fits : Phase → CallState → Answer → Bool
+fits WantShared s Taken = true
+fits Shared s NoGeneration = true
+fits Shared s (Loaded g n) = nat_lt 0 n
+fits Probe s Empty = stands_at_bucket s
+fits Probe s (Holds _ _) = stands_at_bucket s
+fits AtEmpty s NoRoom = stands_at_bucket s
+fits AtEmpty s Won = stands_at_bucket s
+fits AtEmpty s (Holds _ _) = stands_at_bucket s
+fits Placed s Counted = true
+fits LeaveOk s (Released _) = true
+fits LeaveGrow s (Released _) = true
+fits LeaveRefused s (Released _) = true
+fits AskSize s (Sized k) = true
+fits WantOwned s Taken = true
+fits Owned s Begun = true
+fits Owned s Unwanted = true
+fits Owned s Failed = true
+fits Building s Copied = true
+fits Building s Shown = true
+fits LeaveOwned s (Released _) = true
+fits LeaveFailed s (Released _) = true
+fits LookLoad s NoGeneration = true
+fits LookLoad s (Loaded g n) = nat_lt 0 n
+fits LookProbe s Empty = stands_at_bucket s
+fits LookProbe s (Holds _ _) = stands_at_bucket s
+fits LenLoad s NoGeneration = true
+fits LenLoad s (Loaded g n) = nat_lt 0 n
+fits LenSize s (Sized k) = true
+fits WalkLoad s NoGeneration = true
+fits WalkLoad s (Loaded g n) = nat_lt 0 n
+fits WalkAt s Empty = nat_lt s.index s.capacity
+fits WalkAt s (Holds _ _) = nat_lt s.index s.capacity
+fits _ _ _ = false
+
+-- the state after an answer; one that doesn't fit changes nothing
+abbrev pub decide : CallState → Answer → CallState
+decide s a = if fits s.phase s a then decided s.phase s a else s

@@ -1,0 +1,68 @@
+-- Lawful schedules: the closures answer by one equality, one hash and one test a look-up.
+use Rattle.std.specs.Prelude.{ℕ, ◌≡◌, Bool, true, Option, Some, None, List, [], ◌∷◌}
+use Rattle.table_core.specs.Generations.{next_copied}
+use Rattle.table_core.specs.Calls.{Call}
+use Rattle.table_core.specs.Machine.{World, empty, Act, Begins, Goes, acts, happens, bucket_at}
+use Rattle.table_core.specs.declared.event.Event.{Event}
+use Rattle.table_core.specs.declared.event.Event.TheVariants.{Insert, Lookup, Copy}
+use Rattle.table_core.specs.declared.event.Entry.{Entry}
+use Rattle.table_core.specs.declared.call.Phase.{Phase}
+use Rattle.table_core.specs.declared.call.Phase.TheVariants.{Probe, AtEmpty, LookProbe}
+use Rattle.table_core.specs.declared.call.Answer.{Answer}
+use Rattle.table_core.specs.declared.call.Answer.TheVariants.{Holds, Copied}
+
+-- an equality of values, their hash, and for the number of each look-up its test
+pub record Law : Type 0 where
+  pub equal : ℕ → ℕ → Bool
+  pub hash : ℕ → ℕ
+  pub test : ℕ → ℕ → Bool
+  pub reflexive : (a : ℕ) → equal a a ≡ true
+  pub symmetric : (a b : ℕ) → equal a b ≡ true → equal b a ≡ true
+  pub transitive : (a b c : ℕ) → equal a b ≡ true → equal b c ≡ true → equal a c ≡ true
+  pub agrees : (a b : ℕ) → equal a b ≡ true → hash a ≡ hash b
+
+abbrev pub accepts_by : Law → ℕ → Option ℕ → ℕ → Bool
+accepts_by l n (Some v) e = l.equal v e
+accepts_by l n None e = l.test n e
+
+-- whether a call accepts a value: an insert by the equality, a look-up by its test
+abbrev pub accepts : Law → Call → ℕ → Bool
+accepts l c e = accepts_by l c.number c.value e
+
+-- the answers that are used at a set bucket: those of a read or put of an insert, and of a read of a look-up
+abbrev pub AnswersBy : Law → Phase → Call → Bool → Entry → Type 0
+AnswersBy l Probe c y e = y ≡ accepts l c e.value
+AnswersBy l AtEmpty c y e = y ≡ accepts l c e.value
+AnswersBy l LookProbe c y e = y ≡ accepts l c e.value
+AnswersBy l _ c y e = Unit {0}
+
+-- a copy carries the hash of what it copies
+abbrev pub CopiesBy : Law → World → Event → Type 0
+CopiesBy l w (Copy n hash) = (e : Entry) → next_copied w.table ≡ Some e → hash ≡ l.hash e.value
+CopiesBy l w _ = Unit {0}
+
+-- where the bits agree the closure is asked, and its answer is the law's
+abbrev pub FindsBy : Law → World → Call → Event → Answer → Type 0
+FindsBy l w c x (Holds true y) = (e : Entry) → bucket_at w.table c.state ≡ Some e → AnswersBy l c.state.phase c y e
+FindsBy l w c x Copied = CopiesBy l w x
+FindsBy l w c x _ = Unit {0}
+
+-- an insert begins with the hash of its value, a look-up with the one hash of all that its test accepts
+abbrev pub OpensBy : Law → Event → Type 0
+OpensBy l (Insert n v hash) = hash ≡ l.hash v
+OpensBy l (Lookup n hash) = (e : ℕ) → l.test n e ≡ true → l.hash e ≡ hash
+OpensBy l _ = Unit {0}
+
+-- what is asked of an event that is taken; nothing is asked of another
+abbrev pub ActsBy : Law → World → Event → Option Act → Type 0
+ActsBy l w x None = Unit {0}
+ActsBy l w x (Some (Begins c)) = OpensBy l x
+ActsBy l w x (Some (Goes c a)) = FindsBy l w c x a
+
+abbrev pub RunsBy : Law → World → List Event → Type 0
+RunsBy l w [] = Unit {0}
+RunsBy l w (x ∷ xs) = ActsBy l w x (acts w x) × RunsBy l (happens w x) xs
+
+-- a schedule that is lawful for a law, from no generation on
+abbrev pub IsLawful : Law → ℕ → List Event → Type 0
+IsLawful l f s = RunsBy l (empty f) s

@@ -1,0 +1,197 @@
+-- What holds of every lawful schedule: it is a growing list without equal entries.
+use Rattle.std.specs.Prelude.{ℕ, ◌==◌, ◌&&◌, ◌≡◌, ◌≢◌, ◌≤◌, ◌⊎◌, if◌then◌else◌, Bool, true, false, not, Option, Some, None, List, [], ◌∷◌, ◌++◌, map, Contains}
+use Rattle.std.specs.List.{list_any, list_all, find}
+use Rattle.table_core.specs.ListObject.{ListCall, ListReply, Answers, IsListRun}
+use Rattle.table_core.specs.ListObject.{Insert as AskInsert, Lookup as AskLookup, Length as AskLength, Walk as AskWalk}
+use Rattle.table_core.specs.ListObject.{Placed as AnswerPlaced, Found as AnswerFound, Refused as AnswerRefused, Shown as AnswerShown, Absent as AnswerAbsent, Counted as AnswerCounted, Walked as AnswerWalked}
+use Rattle.table_core.specs.Bags.{SameBag, weigh}
+use Rattle.table_core.specs.Replies.{Told, ToldPlaced, ToldFound, ToldRefused, ToldSome, ToldNone, ToldLen, ToldWalk, Reply}
+use Rattle.table_core.specs.Calls.{Call, call_numbered, is_used}
+use Rattle.table_core.specs.Machine.{World, empty, Act, Begins, Goes, acts, happens, after, reply}
+use Rattle.table_core.specs.History.{replies, placed, placed_by, given, kept, TakenEvent, bucket_then, has_later}
+use Rattle.table_core.specs.Law.{Law, IsLawful}
+use Rattle.table_core.specs.Values.{Ends, entry_named}
+use Rattle.table_core.specs.declared.event.Event.{Event}
+use Rattle.table_core.specs.declared.event.Event.TheVariants.{Insert}
+use Rattle.table_core.specs.declared.event.Entry.{Entry}
+use Rattle.table_core.specs.declared.call.Phase.{Phase}
+use Rattle.table_core.specs.declared.call.Phase.TheVariants.{Probe, AtEmpty, Owned, LookLoad, LookProbe, Done}
+use Rattle.table_core.specs.declared.call.Answer.{Answer}
+use Rattle.table_core.specs.declared.call.Answer.TheVariants.{Empty, Holds, Won, Failed}
+
+-- The list object's words for what a call asks and is told
+
+-- what a call asks that is told this: a look-up asks by its test
+abbrev pub asked_for : Law → ℕ → Told → ListCall ℕ
+asked_for l n (ToldPlaced v) = AskInsert v
+asked_for l n (ToldFound e v) = AskInsert v
+asked_for l n (ToldRefused v) = AskInsert v
+asked_for l n (ToldSome e) = AskLookup (l.test n)
+asked_for l n ToldNone = AskLookup (l.test n)
+asked_for l n (ToldLen k) = AskLength
+asked_for l n (ToldWalk es) = AskWalk
+
+abbrev pub asked : Law → Reply → ListCall ℕ
+asked l r = asked_for l r.call r.told
+
+abbrev pub answered : Told → ListReply ℕ
+answered (ToldPlaced v) = AnswerPlaced
+answered (ToldFound e v) = AnswerFound e v
+answered (ToldRefused v) = AnswerRefused v
+answered (ToldSome e) = AnswerShown e
+answered ToldNone = AnswerAbsent
+answered (ToldLen k) = AnswerCounted k
+answered (ToldWalk es) = AnswerWalked es
+
+-- the reply of an insert or a look-up
+abbrev pub is_list_reply : Told → Bool
+is_list_reply (ToldLen _) = false
+is_list_reply (ToldWalk _) = false
+is_list_reply _ = true
+
+abbrev pub is_refusal : Told → Bool
+is_refusal (ToldRefused _) = true
+is_refusal _ = false
+
+-- Moments
+
+-- the moment of a reply: the load of a None, the read of a Some, the put of a Placed, the read or put that met the
+-- entry of a Found, and of a Refused the read of an empty bucket or the failed check
+abbrev pub is_moment : Told → Phase → Answer → Bool
+is_moment ToldNone LookLoad a = true
+is_moment (ToldSome e) LookProbe (Holds true true) = true
+is_moment (ToldPlaced v) AtEmpty Won = true
+is_moment (ToldFound e v) Probe (Holds true true) = true
+is_moment (ToldFound e v) AtEmpty (Holds true true) = true
+is_moment (ToldRefused v) Probe Empty = true
+is_moment (ToldRefused v) Owned Failed = true
+is_moment _ _ _ = false
+
+-- an insert reads an empty bucket, or its check fails: it may be refused from here on
+abbrev pub may_be_refused : Phase → Answer → Bool
+may_be_refused Probe Empty = true
+may_be_refused Owned Failed = true
+may_be_refused _ _ = false
+
+-- the bucket holds the entry that the reply names
+abbrev pub Meets : Told → Option Entry → Type 0
+Meets t o = (e : ℕ) → entry_named t ≡ Some e → (d : Entry) × (o ≡ Some d) × (d.value ≡ e)
+
+-- at its moment, which is an event of its span, a reply is the list object's on what was placed; a refusal's moment is the last that it may have
+pub record IsRight (l : Law) (f : ℕ) (s : List Event) (r : Reply) : Type 0 where
+  pub at : TakenEvent f s r.call
+  pub moment : is_moment r.told at.call.state.phase at.found ≡ true
+  pub last : is_refusal r.told ≡ true → has_later may_be_refused (after f (at.before ++ at.event ∷ [])) at.rest r.call ≡ false
+  pub meets : Meets r.told (bucket_then f s r.call at)
+  pub answer : Answers l.equal (placed (empty f) at.before) (asked l r) (answered r.told) (placed (empty f) (at.before ++ at.event ∷ []))
+
+-- each finished insert and look-up is right
+abbrev pub Right : Law → ℕ → List Event → Event → Reply → Type 0
+Right l f s x r = IsLawful l f (s ++ x ∷ []) → Ends f s x r → is_list_reply r.told ≡ true → IsRight l f (s ++ x ∷ []) r
+
+-- One history
+
+-- what call n is told in a schedule
+abbrev pub fate : World → List Event → ℕ → Option Reply
+fate w s n = find (λ r. r.call == n) (replies w s)
+
+-- the insert that places its value here, and isn't told so in this schedule
+abbrev pub placed_here : ℕ → List ℕ → List Reply
+placed_here n vs = map (λ v. record { call = n; told = ToldPlaced v }) vs
+
+abbrev pub told_here : Phase → Answer → Reply → Bool → List Reply
+told_here p a r later = if is_moment r.told p a && not (is_refusal r.told && later) then r ∷ [] else []
+
+abbrev pub stands_here : Call → Answer → Option Reply → Bool → List Reply
+stands_here c a None later = placed_here c.number (placed_by (Some (Goes c a)))
+stands_here c a (Some r) later = told_here c.state.phase a r later
+
+abbrev pub history_at : World → Event → List Event → Option Act → List Reply
+history_at w x xs (Some (Goes c a)) = stands_here c a (fate w (x ∷ xs) c.number) (has_later may_be_refused (happens w x) xs c.number)
+history_at w x xs _ = []
+
+-- the inserts and look-ups that finish, each at its moment, and the inserts that place and don't finish, each at its put
+abbrev pub history : World → List Event → List Reply
+history w [] = []
+history w (x ∷ xs) = history_at w x xs (acts w x) ++ history (happens w x) xs
+
+-- an insert that has placed its value and isn't finished
+pub record HasPlaced (f : ℕ) (s : List Event) (r : Reply) : Type 0 where
+  pub call : Call
+  pub there : call_numbered r.call (after f s).calls ≡ Some call
+  pub value : ℕ
+  pub own : call.value ≡ Some value
+  pub told : r.told ≡ ToldPlaced value
+  pub placed : Contains (placed (empty f) s) value
+  pub unfinished : fate (empty f) s r.call ≡ None
+
+-- at any cut of the schedule, what stands before it are calls that have begun, and what stands behind it are calls that haven't finished
+pub record IsInOrder (f : ℕ) (s more : List Event) : Type 0 where
+  pub before : List Reply
+  pub split : history (empty f) (s ++ more) ≡ before ++ history (after f s) more
+  pub begun : (r : Reply) → Contains before r → is_used r.call (after f s).calls ≡ true
+  pub unfinished : (r : Reply) → Contains (history (after f s) more) r → fate (empty f) s r.call ≡ None
+
+pub record IsOneHistory (l : Law) (f : ℕ) (s : List Event) : Type 0 where
+  -- the history is a run of the list object, which ends with what was placed
+  pub run : IsListRun l.equal [] (map (asked l) (history (empty f) s)) (map (λ r. answered r.told) (history (empty f) s)) (placed (empty f) s)
+  -- each finished insert and look-up stands in it
+  pub each : (r : Reply) → Contains (replies (empty f) s) r → is_list_reply r.told ≡ true → Contains (history (empty f) s) r
+  -- no call stands in it twice
+  pub once : (n : ℕ) → weigh (λ r. if r.call == n then 1 else 0) (history (empty f) s) ≤ 1
+  -- what stands in it is finished, or has placed its value
+  pub only : (r : Reply) → Contains (history (empty f) s) r → Contains (replies (empty f) s) r ⊎ HasPlaced f s r
+
+-- the finished inserts and look-ups, with the inserts that have placed, are one run of the list object
+abbrev pub OneHistory : Law → ℕ → List Event → Type 0
+OneHistory l f s = IsLawful l f s → IsOneHistory l f s
+
+-- a call that finished before another began stands before it
+abbrev pub InOrder : Law → ℕ → List Event → List Event → Type 0
+InOrder l f s more = IsLawful l f (s ++ more) → IsInOrder f s more
+
+-- Equal values
+
+abbrev pub passes : Bool → ℕ
+passes true = 1
+passes false = 0
+
+-- no two values of a list are equal: at most one is equal to x, whatever x is
+abbrev pub AllApart : (ℕ → ℕ → Bool) → List ℕ → Type 0
+AllApart equal m = (x : ℕ) → weigh (λ v. passes (equal x v)) m ≤ 1
+
+abbrev pub PlacedApart : Law → ℕ → List Event → Type 0
+PlacedApart l f s = IsLawful l f s → AllApart l.equal (placed (empty f) s)
+
+-- no taken insert is refused whose equal entry was placed when it began
+abbrev pub NoneRefusedInVain : Law → ℕ → List Event → ℕ → ℕ → ℕ → List Event → Event → ℕ → Type 0
+NoneRefusedInVain l f s n v h more x back =
+    (c : Call) → IsLawful l f (s ++ Insert n v h ∷ more ++ x ∷ []) →
+    acts (after f s) (Insert n v h) ≡ Some (Begins c) →
+    list_any (l.equal v) (placed (empty f) s) ≡ true →
+    reply (after f (s ++ Insert n v h ∷ more)) x ≢ Some (record { call = n; told = ToldRefused back })
+
+-- Classes
+
+abbrev pub is_done : Phase → Bool
+is_done Done = true
+is_done _ = false
+
+-- a lawful schedule in which all calls have finished and none was refused
+pub record IsSettled (l : Law) (f : ℕ) (s : List Event) : Type 0 where
+  pub lawful : IsLawful l f s
+  pub finished : list_all (λ c. is_done c.state.phase) (after f s).calls ≡ true
+  pub unrefused : list_any (λ r. is_refusal r.told) (replies (empty f) s) ≡ false
+
+-- then each class of the values handed in has exactly one entry, and there are no other entries
+abbrev pub Classes : Law → ℕ → List Event → Type 0
+Classes l f s =
+    IsSettled l f s → (x : ℕ) →
+    weigh (λ e. passes (l.equal x e)) (kept (after f s)) ≡ passes (list_any (l.equal x) (given (after f s).calls))
+
+-- so another such schedule of the same inserts, as one of one thread, has the same classes
+abbrev pub SameClasses : Law → ℕ → List Event → Law → ℕ → List Event → Type 0
+SameClasses l f s k g t =
+    IsSettled l f s → IsSettled k g t → ((a b : ℕ) → l.equal a b ≡ k.equal a b) →
+    SameBag (given (after f s).calls) (given (after g t).calls) → (x : ℕ) →
+    weigh (λ e. passes (l.equal x e)) (kept (after f s)) ≡ weigh (λ e. passes (l.equal x e)) (kept (after g t))

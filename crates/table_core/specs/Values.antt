@@ -1,0 +1,123 @@
+-- What holds of every schedule, whatever the closures answer.
+use Rattle.std.specs.Prelude.{ℕ, ◌+◌, ◌-◌, ◌*◌, ◌^◌, ◌≡◌, ◌≤◌, ◌⊎◌, max, Bool, true, false, Option, Some, None, List, [], ◌∷◌, ◌++◌, length}
+use Rattle.table_core.specs.Bags.{SameBag, count_of}
+use Rattle.table_core.specs.Replies.{Told, ToldPlaced, ToldFound, ToldRefused, ToldSome, ToldLen, ToldWalk, Reply}
+use Rattle.table_core.specs.Generations.{Gen, current}
+use Rattle.table_core.specs.Calls.{Call, call_numbered}
+use Rattle.table_core.specs.Machine.{empty, Begins, acts, after, reply}
+use Rattle.table_core.specs.History.{replies, placed, given, back, kept, running, buckets, added, reads, generations_loaded, TakenEvent, bucket_then, has_later}
+use Rattle.table_core.specs.declared.event.Event.{Event}
+use Rattle.table_core.specs.declared.event.Event.TheVariants.{Lookup, Load, Put, Check}
+use Rattle.table_core.specs.declared.event.Entry.{Entry}
+use Rattle.table_core.specs.declared.call.Phase.{Phase}
+use Rattle.table_core.specs.declared.call.Phase.TheVariants.{AtEmpty, Owned}
+use Rattle.table_core.specs.declared.call.Answer.{Answer}
+use Rattle.table_core.specs.declared.call.Answer.TheVariants.{Holds}
+
+-- after this schedule, this event ends a call with this reply
+abbrev pub Ends : ℕ → List Event → Event → Reply → Type 0
+Ends f s x r = reply (after f s) x ≡ Some r
+
+-- the values of the inserts that have begun are those handed back, those kept and those of calls that still run
+abbrev pub ValuesStay : ℕ → List Event → Type 0
+ValuesStay f s = SameBag (given (after f s).calls) (back (replies (empty f) s) ++ kept (after f s) ++ running (after f s).calls)
+
+-- the current generation holds what was placed, up to order
+abbrev pub KeptIsPlaced : ℕ → List Event → Type 0
+KeptIsPlaced f s = SameBag (kept (after f s)) (placed (empty f) s)
+
+-- what was placed stays, and more comes only after it
+abbrev pub PlacedGrows : ℕ → List Event → List Event → Type 0
+PlacedGrows f s more = (rest : List ℕ) × (placed (empty f) (s ++ more) ≡ placed (empty f) s ++ rest)
+
+-- Answers
+
+-- the entry that a reply names, and the value that it hands back or says is placed
+abbrev pub entry_named : Told → Option ℕ
+entry_named (ToldFound e v) = Some e
+entry_named (ToldSome e) = Some e
+entry_named _ = None
+
+abbrev pub value_told : Told → Option ℕ
+value_told (ToldPlaced v) = Some v
+value_told (ToldFound e v) = Some v
+value_told (ToldRefused v) = Some v
+value_told _ = None
+
+-- call n read or met this entry at an event where its bits agreed and the closure said yes
+pub record AcceptedEntry (f : ℕ) (s : List Event) (n e : ℕ) : Type 0 where
+  pub at : TakenEvent f s n
+  pub accepted : at.found ≡ Holds true true
+  pub entry : Entry
+  pub there : bucket_then f s n at ≡ Some entry
+  pub value : entry.value ≡ e
+
+-- a call is told its own value, and only an entry that it has accepted
+pub record IsOwnAnswer (f : ℕ) (s : List Event) (x : Event) (r : Reply) : Type 0 where
+  pub own : (v : ℕ) → value_told r.told ≡ Some v → (c : Call) × (call_numbered r.call (after f s).calls ≡ Some c) × (c.value ≡ Some v)
+  pub accepted : (e : ℕ) → entry_named r.told ≡ Some e → AcceptedEntry f (s ++ x ∷ []) r.call e
+
+abbrev pub OwnAnswers : ℕ → List Event → Event → Reply → Type 0
+OwnAnswers f s x r = Ends f s x r → IsOwnAnswer f s x r
+
+-- why a call may be refused at an event: its memory was refused, or there is no greater capacity
+abbrev pub IsCause : Option Gen → Event → Type 0
+IsCause g (Put n y granted) = granted ≡ false
+IsCause None (Check n granted) = granted ≡ false
+IsCause (Some g) (Check n granted) = (granted ≡ false) ⊎ (g.capacity ≡ 2 ^ 63)
+IsCause g _ = ⊥
+
+-- a put or a check
+abbrev pub is_put_or_check : Phase → Answer → Bool
+is_put_or_check AtEmpty a = true
+is_put_or_check Owned a = true
+is_put_or_check _ a = false
+
+-- the last put or check of call n had a cause, and its value is placed at no moment
+pub record IsRefusal (f : ℕ) (s : List Event) (n v : ℕ) : Type 0 where
+  pub at : TakenEvent f s n
+  pub cause : IsCause (current (after f at.before).table) at.event
+  pub last : has_later is_put_or_check (after f (at.before ++ at.event ∷ [])) at.rest n ≡ false
+  pub never : (more : List Event) → count_of v (placed (empty f) (s ++ more)) ≡ 0
+
+abbrev pub RefusalCauses : ℕ → List Event → Event → ℕ → ℕ → Type 0
+RefusalCauses f s x n v = Ends f s x (record { call = n; told = ToldRefused v }) → IsRefusal f (s ++ x ∷ []) n v
+
+-- Lengths and walks
+
+-- a length lies between the adds taken at its load and what is placed at its end
+pub record IsBetween (f : ℕ) (s : List Event) (n k : ℕ) : Type 0 where
+  pub at : TakenEvent f s n
+  pub loads : at.event ≡ Load n
+  pub least : added (empty f) at.before ≤ k
+  pub most : k ≤ length (placed (empty f) s)
+
+abbrev pub LengthsBetween : ℕ → List Event → Event → ℕ → ℕ → Type 0
+LengthsBetween f s x n k = Ends f s x (record { call = n; told = ToldLen k }) → IsBetween f (s ++ x ∷ []) n k
+
+-- a walk holds no value twice, each that was placed at its load, and only values placed at its end
+pub record IsWholeWalk (f : ℕ) (s : List Event) (n : ℕ) (list : List ℕ) : Type 0 where
+  pub at : TakenEvent f s n
+  pub loads : at.event ≡ Load n
+  pub once : (v : ℕ) → count_of v list ≤ 1
+  pub all : (v : ℕ) → count_of v (placed (empty f) at.before) ≤ count_of v list
+  pub only : (v : ℕ) → count_of v list ≤ count_of v (placed (empty f) s)
+
+abbrev pub WalksWhole : ℕ → List Event → Event → ℕ → List ℕ → Type 0
+WalksWhole f s x n list = Ends f s x (record { call = n; told = ToldWalk list }) → IsWholeWalk f (s ++ x ∷ []) n list
+
+-- Bounds
+
+-- all generations together have few buckets
+abbrev pub FewBuckets : ℕ → List Event → Type 0
+FewBuckets f s = let n = length (placed (empty f) s) in buckets (after f s).table ≤ max f (8 * n - f)
+
+-- a look-up that was begun takes at most one read more than there are values placed
+abbrev pub LookupsReadFew : ℕ → List Event → ℕ → ℕ → List Event → Type 0
+LookupsReadFew f s n h more =
+    (c : Call) → acts (after f s) (Lookup n h) ≡ Some (Begins c) →
+    reads (empty f) (s ++ Lookup n h ∷ more) n ≤ length (placed (empty f) (s ++ Lookup n h ∷ more)) + 1
+
+-- a call loads each generation at most once
+abbrev pub InsertsLoadOnce : ℕ → List Event → ℕ → ℕ → Type 0
+InsertsLoadOnce f s n g = count_of g (generations_loaded (empty f) s n) ≤ 1

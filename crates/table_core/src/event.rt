@@ -1,0 +1,84 @@
+/// One event of a schedule: what a call with this number does next, and what its closure and its
+/// memory answer it.
+///
+/// `accepted` is the closure's answer at a set bucket, and `granted` says whether the memory that
+/// was asked for was there. Where nothing was asked they are not looked at.
+#[derive(Clone, Copy)]
+pub enum Event {
+    /// Starts an insert of a value with its hash.
+    Insert {
+        call: u64,
+        value: u64,
+        hash: u64,
+    },
+    /// Starts a look-up of a hash.
+    Lookup {
+        call: u64,
+        hash: u64,
+    },
+    /// Starts a length.
+    Len {
+        call: u64,
+    },
+    /// Starts a walk over all entries.
+    Walk {
+        call: u64,
+    },
+    /// Takes the lock shared.
+    Share {
+        call: u64,
+    },
+    /// Takes the lock alone.
+    Own {
+        call: u64,
+    },
+    /// Releases the lock.
+    Free {
+        call: u64,
+    },
+    /// Loads the current generation.
+    Load {
+        call: u64,
+    },
+    /// Reads the bucket at which the call stands.
+    Read {
+        call: u64,
+        accepted: bool,
+    },
+    /// Exchanges that bucket, if it is still empty, for the call's own value.
+    Put {
+        call: u64,
+        accepted: bool,
+        granted: bool,
+    },
+    /// Adds one to the size of the walked generation.
+    Add {
+        call: u64,
+    },
+    /// Reads that size.
+    Size {
+        call: u64,
+    },
+    /// Looks, holding the lock alone, whether growth is wanted, and begins it.
+    Check {
+        call: u64,
+        granted: bool,
+    },
+    /// Copies the next entry, with this hash, into the generation that is being built.
+    Copy {
+        call: u64,
+        hash: u64,
+    },
+    /// Makes the generation that was built the current one.
+    Show {
+        call: u64,
+    },
+}
+
+/// What a set bucket holds: its place, a value, and eight bits of the hash of its insert.
+#[derive(Clone, Copy)]
+pub struct Entry {
+    pub place: u64,
+    pub value: u64,
+    pub bits: u64,
+}

@@ -1,0 +1,35 @@
+use std::marker::Model;
+
+/// What a call is told when it finishes.
+#[derive(Drop)]
+pub enum Reply {
+    /// The call's value is an entry now.
+    Placed(u64),
+    /// This entry was accepted, and the call's value comes back.
+    Found(u64, u64),
+    /// The call's value comes back: it found no room and no memory.
+    Refused(u64),
+    /// The look-up accepted this entry.
+    Some(u64),
+    /// The look-up accepted no entry.
+    None,
+    /// So many entries.
+    Len(u64),
+    /// The entries, in the order in which they were read.
+    Walk(Vec<u64>),
+}
+
+/// A call that has finished, and its reply.
+#[derive(Drop)]
+pub struct Finished {
+    pub call: u64,
+    pub reply: Reply,
+}
+
+impl Model for Finished {
+    ghost use Rattle.table_core.specs.Replies.{Reply, told_of};
+
+    ghost Value = { Reply };
+
+    ghost view = { λ f. record { call = f.call; told = told_of f.reply } };
+}
