@@ -1,0 +1,88 @@
+//! An allocator for tests, which refuses the requests that a rule names.
+#![tactic(auto)]
+
+use std::alloc::{AllocError, Allocator};
+use std::sync::atomic::{AtomicU64, Ordering};
+
+/// Which requests are refused. Requests of other sizes pass and are not counted.
+pub struct Rule {
+    least: usize,
+    most: usize,
+    passing: AtomicU64,
+    refused: AtomicU64,
+}
+
+impl Rule {
+    /// Of the requests of `least` to `most` bytes, the first `passing` are granted, the next `refused` are refused, and
+    /// all later ones are granted.
+    pub fn new(least: usize, most: usize, passing: u64, refused: u64) -> Rule {
+        Rule {
+            least,
+            most,
+            passing: AtomicU64::new(passing),
+            refused: AtomicU64::new(refused),
+        }
+    }
+}
+
+/// Whether the rule refuses a request of this size, which it then counts.
+fn refuses(rule: &Rule, size: usize) -> bool {
+    if size < rule.least || size > rule.most {
+        return false;
+    }
+    if take_one(&rule.passing) {
+        return false;
+    }
+    take_one(&rule.refused)
+}
+
+/// Takes one from the count, unless it is 0.
+fn take_one(count: &AtomicU64) -> bool {
+    let left = count.load(Ordering::SeqCst);
+    if left == 0 {
+        return false;
+    }
+    count.store(left - 1, Ordering::SeqCst);
+    true
+}
+
+/// Memory of another allocator, less what the rule refuses.
+pub struct Refusing<B: Allocator> {
+    inner: B,
+    rule: Rule,
+}
+
+impl<B: Allocator> Refusing<B> {
+    pub fn new(inner: B, rule: Rule) -> Refusing<B> {
+        Refusing { inner, rule }
+    }
+}
+
+impl<B: Allocator> Drop for Refusing<B> {
+    fn drop(self) {
+        let Self {
+            inner: _,
+            rule: Rule {
+                least: _,
+                most: _,
+                passing: _,
+                refused: _,
+            },
+        } = self;
+    }
+}
+
+unsafe impl<B: Allocator> Allocator for Refusing<B> {
+    ghost dealloc_token = { λ heap ty ptr. B.dealloc_token heap.inner ty ptr };
+
+    fn allocate(&self, size: usize, align: usize) -> Result<*mut u8, AllocError> {
+        if refuses(&self.rule, size) {
+            return Err(AllocError);
+        }
+        self.inner.allocate(size, align)
+    }
+
+    unsafe fn deallocate(&self, ptr: *mut u8, size: usize, align: usize) {
+        self.inner.deallocate(ptr, size, align);
+    }
+}

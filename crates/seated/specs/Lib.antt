@@ -1,0 +1,5 @@
+pub mod Views
+pub mod Rule
+pub mod Steps
+pub mod Numbers
+pub mod Tables
