@@ -15,7 +15,7 @@ use Rattle.table_core.specs.declared.call.CallState.{CallState}
 use Rattle.table_core.specs.declared.call.Phase.{Phase}
 use Rattle.table_core.specs.declared.call.Phase.TheVariants.{AtEmpty, Placed}
 use Rattle.table_core.specs.declared.call.Answer.{Answer}
-use Rattle.table_core.proofs.Lists.{weigh-append, weigh-get, get-set_same, get-set_other, get-push_before, get-push_last, tally, length-push}
+use Rattle.table_core.proofs.Lists.{weigh-append, weigh-get, get-set_same, get-set_other, get-push_before, get-push_last, tally, length-push, weigh-take_more}
 use Rattle.table_core.proofs.Locks.{Locked, nobody, alone, sharers, built_count, more}
 use Rattle.std.proofs.Common.{add-one}
 use Rattle.std.proofs.lemmas.Bool.{eq-eqb}
@@ -24,6 +24,7 @@ use Rattle.table_core.proofs.Turns.{Turn, rests, opens, takes}
 use Rattle.table_core.proofs.Pasts.{append-none}
 use Rattle.table_core.proofs.Standing.{fitting, stands, IsLast, CallOk, CallsOk, length-change}
 use Rattle.table_core.proofs.Facts.{values, In, Holding, Grew, AllGrew}
+use Rattle.table_core.proofs.Truth.{not-true}
 
 pub put_in_at : (f : Entry → ℕ) (e x : Entry) (xs : List Entry) (b : Bool) → weigh f (put_in e xs) ≡ f e + weigh f xs → weigh f (if b then e ∷ x ∷ xs else x ∷ put_in e xs) ≡ f e + (f x + weigh f xs)
 put_in_at f e x xs true h = refl
@@ -32,11 +33,6 @@ put_in_at f e x xs false h = omega arith
 pub weigh-put_in : (f : Entry → ℕ) (e : Entry) (es : List Entry) → weigh f (put_in e es) ≡ f e + weigh f es
 weigh-put_in f e [] = refl
 weigh-put_in f e (x ∷ xs) = put_in_at f e x xs (nat_lt e.place x.place) (weigh-put_in f e xs)
-
-pub weigh-take_more : (f : Entry → ℕ) (es : List Entry) (k : ℕ) (e : Entry) → slice_get es k ≡ Some e → weigh f (take (suc k) es) ≡ weigh f (take k es) + f e
-weigh-take_more f [] k e h = absurd (cc)
-weigh-take_more f (x ∷ xs) zero e h = let q : x ≡ e = cc in omega (arith, ap f q)
-weigh-take_more f (x ∷ xs) (suc k) e h = omega (arith, weigh-take_more f xs k e h)
 
 pub take-past : (es : List Entry) (k : ℕ) → slice_get es k ≡ None → take k es ≡ es
 take-past [] zero h = refl
@@ -68,10 +64,6 @@ pub last_push : (gens : List Gen) (g : Gen) → last_of (gens ++ g ∷ []) ≡ S
 last_push gens g = let n : length (gens ++ g ∷ []) - 1 ≡ length gens = omega (arith, length-push gens g) in rw n (get-push_last gens g)
 
 -- What is kept of a set bucket
-
-pub not-true : (b : Bool) → (b ≡ true → ⊥) → b ≡ false
-not-true true h = absurd (h refl)
-not-true false h = refl
 
 pub order : (a b : ℕ) → (a < b) ⊎ ((a ≡ b) ⊎ (b < a))
 order zero zero = inr (inl refl)
@@ -193,14 +185,6 @@ pub turn_grew : {w v : World} {x : Event} {a : Option Act} {r : Option Reply} �
 turn_grew {w = w} rests = same_grew w.table.gens
 turn_grew {w = w} (opens n v p h r k u f) = same_grew w.table.gens
 turn_grew {w = w} (takes i c p a s list t o g e row nu) = row_grew w c row
-
-pub grew_more : (gens now next : List Gen) → AllGrew gens now → AllGrew now next → AllGrew gens next
-grew_more gens now next a b = record {
-  each = λ k g h.
-      let p = a.each k g h in
-      let q = b.each k p.0 p.1 in
-      (q.0, q.1, grew_on g p.0 q.0 p.2 q.2);
-}
 
 -- The current generation holds what was placed
 

@@ -1,10 +1,10 @@
 -- The parts of the invariant, each under its name. Each part is kept by every turn; the files beside this one prove it.
-use Rattle.std.proofs.Common.{ℕ, ◌≡◌, ◌+◌, ◌*◌, ◌^◌, ◌<◌, ◌≤◌, ◌⊎◌, List, [], ◌∷◌, Bool, true, false, Some, None, length, take}
+use Rattle.std.proofs.Common.{ℕ, ◌≡◌, ◌+◌, ◌*◌, ◌<◌, ◌≤◌, ◌⊎◌, List, [], ◌∷◌, Bool, true, false, Some, None, length, take}
 use Rattle.std.specs.Prelude.{◌==◌}
 use Rattle.std.specs.List.{slice_get}
 use Rattle.table_core.specs.Bags.{weigh}
 use Rattle.table_core.specs.Replies.{Reply}
-use Rattle.table_core.specs.Generations.{Gen, Build, Table, IsFirst, bits_of, bucket, at_place, current, gen_of, bucket_in, entries_of}
+use Rattle.table_core.specs.Generations.{Gen, Build, Table, bits_of, bucket, at_place, current, gen_of, bucket_in, entries_of}
 use Rattle.table_core.specs.Calls.{Call}
 use Rattle.table_core.specs.Machine.{World}
 use Rattle.table_core.specs.History.{back, picks}
@@ -88,15 +88,6 @@ pub record Roomy (t : Table) (n : ℕ) : Type 0 where
   pub now : (g : Gen) → current t ≡ Some g → (room t.gens + t.first ≡ 2 * g.capacity) × ((g.capacity ≡ t.first) ⊎ (g.capacity ≤ 4 * n)) × ((m : ℕ) × (g.capacity ≡ 2 * m))
   pub next : (g : Gen) (b : Build) → current t ≡ Some g → t.building ≡ Some b → (b.gen.capacity ≡ 2 * g.capacity) × (g.capacity ≤ 2 * n)
   pub none : current t ≡ None → room t.gens ≡ 0
-
--- capacities are powers of two up to 2^63
-abbrev pub IsCapacity : ℕ → Type 0
-IsCapacity c = (k : ℕ) × (c ≡ 2 ^ k) × (4 ≤ k) × (k ≤ 63)
-
-pub record Capacities (t : Table) : Type 0 where
-  pub first : IsFirst t.first
-  pub gens : (k : ℕ) (g : Gen) → slice_get t.gens k ≡ Some g → IsCapacity g.capacity
-  pub built : (b : Build) → t.building ≡ Some b → IsCapacity b.gen.capacity
 
 -- Where the calls stand
 
@@ -232,7 +223,6 @@ pub record Inv (w : World) (m : List ℕ) (rs : List Reply) : Type 0 where
   pub within : Within w m
   pub sized : SizesOk w
   pub roomy : Roomy w.table (length m)
-  pub capacities : Capacities w.table
   pub seated : AllSeated w
   pub tracked : AllTracked w
   pub placing : Placing w.calls m rs

@@ -1,5 +1,5 @@
 -- A look-up takes few reads, and a call loads each generation at most once.
-use Rattle.std.proofs.Common.{eqb-true, ℕ, suc, zero, ◌≡◌, ◌+◌, ◌≤◌, ◌++◌, ◌⊎◌, inl, inr, List, [], ◌∷◌, Bool, true, false, refl, Option, Some, None, length, sym, subst, ap, arith, ◌∙◌}
+use Rattle.std.proofs.Common.{eqb-true, ℕ, suc, zero, ◌≡◌, ◌+◌, ◌≤◌, ◌++◌, inl, inr, List, [], ◌∷◌, Bool, true, false, refl, Option, Some, None, length, sym, subst, ap, arith, ◌∙◌}
 use Rattle.std.specs.Prelude.{◌==◌, if◌then◌else◌, slice_set}
 use Rattle.std.specs.List.{slice_get}
 use Rattle.table_core.specs.Replies.{Told, Reply}
@@ -15,7 +15,7 @@ use Rattle.table_core.specs.declared.call.Phase.{Phase}
 use Rattle.table_core.specs.declared.call.Phase.TheVariants.{LookLoad, LookProbe, Done}
 use Rattle.table_core.specs.declared.call.Answer.{Answer}
 use Rattle.table_core.specs.declared.call.Answer.TheVariants.{Loaded}
-use Rattle.table_core.proofs.Lists.{get-set_same, get-set_other, get-push_before, get-push_last, or-false, weigh-ones}
+use Rattle.table_core.proofs.Lists.{get-set_same, get-set_other, get-push_before, get-push_last, weigh-ones}
 use Rattle.table_core.proofs.Locks.{more}
 use Rattle.std.proofs.lemmas.List.{append_assoc, length-append}
 use Rattle.std.proofs.lemmas.Bool.{eq-eqb, cases_eq}
@@ -25,6 +25,7 @@ use Rattle.table_core.proofs.Facts.{Inv}
 use Rattle.table_core.proofs.Seats.{many_places}
 use Rattle.table_core.proofs.Numbers.{unused_at}
 use Rattle.table_core.proofs.Pasts.{turn_after, placed_snoc, reads_snoc, loads_snoc, by_snoc, by_snoc_from}
+use Rattle.table_core.proofs.Truth.{true_or_false, or-false}
 
 -- Before a call has begun it has read and loaded nothing
 
@@ -35,12 +36,8 @@ other_number_at n m false e h = e
 pub other_number : (n m : ℕ) → (n ≡ m → ⊥) → (n == m) ≡ false
 other_number n m h = other_number_at n m (n == m) refl h
 
-either : (b : Bool) → (b ≡ true) ⊎ (b ≡ false)
-either true = inl refl
-either false = inr refl
-
 other_read : (c : Call) (a : Answer) (x : Event) (n : ℕ) → (c.number == n) ≡ false → read_by (Some (Goes c a)) x n ≡ 0
-other_read c a x n h = elim (either (is_read x)) [ inl y ↦ rw (y, h) refl | inr y ↦ rw y refl ]
+other_read c a x n h = elim (true_or_false (is_read x)) [ inl y ↦ rw (y, h) refl | inr y ↦ rw y refl ]
 
 pub other_loaded : (c : Call) (a : Answer) (n : ℕ) → (c.number == n) ≡ false → loaded_by (Some (Goes c a)) n ≡ []
 other_loaded c (Loaded g k) n h = rw h refl
@@ -107,7 +104,7 @@ abbrev one_if_read : Event → ℕ
 one_if_read x = if is_read x then 1 else 0
 
 own_read : (c : Call) (a : Answer) (x : Event) (n : ℕ) → c.number ≡ n → read_by (Some (Goes c a)) x n ≡ one_if_read x
-own_read c a x n e = let q : (c.number == n) ≡ true = eq-eqb c.number n e in elim (either (is_read x)) [ inl y ↦ rw (y, q) refl | inr y ↦ rw y refl ]
+own_read c a x n e = let q : (c.number == n) ≡ true = eq-eqb c.number n e in elim (true_or_false (is_read x)) [ inl y ↦ rw (y, q) refl | inr y ↦ rw y refl ]
 
 row_few : (w : World) (c : Call) {p : Phase} {x : Event} {a : Answer} {r : CallState} {ls : List ℕ} {t : Table} {q : Option Told} → Row w c p x a r ls t q → (reads n : ℕ) → (p ≡ LookProbe → c.state.seen ≤ n) → Few p c.state.seen reads n → Few r.phase r.seen (reads + one_if_read x) n
 row_few w c (looks_none m e) reads n s f = omega arith

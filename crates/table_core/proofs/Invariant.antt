@@ -15,7 +15,7 @@ use Rattle.table_core.proofs.Facts.{Inv}
 use Rattle.table_core.proofs.Numbers.{keeps_numbered, numbered_empty, keeps_valued, valued_empty}
 use Rattle.table_core.proofs.Contents.{keeps_holding, holding_empty}
 use Rattle.table_core.proofs.Within.{keeps_within, within_empty}
-use Rattle.table_core.proofs.Sizes.{keeps_sized, sized_empty, keeps_roomy, roomy_empty, keeps_capacities, capacities_empty, few_buckets_at, same_first}
+use Rattle.table_core.proofs.Sizes.{keeps_sized, sized_empty, keeps_roomy, roomy_empty, few_buckets_at, same_first}
 use Rattle.table_core.proofs.Seats.{keeps_seated, seated_empty}
 use Rattle.table_core.proofs.Tracks.{keeps_tracked, tracked_empty}
 use Rattle.table_core.proofs.Places.{keeps_placing, placing_empty, values_stay_at, kept_is_placed_at}
@@ -31,7 +31,6 @@ keeps m rs s i = record {
   within = keeps_within m s i.locked i.calls i.holding i.within;
   sized = keeps_sized s i.locked i.calls i.sized;
   roomy = keeps_roomy m s i.locked i.calls i.sized i.holding i.roomy;
-  capacities = keeps_capacities s i.capacities;
   seated = keeps_seated m (length m) s i.holding i.roomy i.tracked i.seated;
   tracked = keeps_tracked s i.calls i.seated i.tracked;
   placing = keeps_placing m rs s i.calls i.tracked i.placing;
@@ -47,7 +46,6 @@ inv_empty f h = record {
   within = within_empty f;
   sized = sized_empty f;
   roomy = roomy_empty f h;
-  capacities = capacities_empty f h;
   seated = seated_empty f h;
   tracked = tracked_empty f;
   placing = placing_empty f;

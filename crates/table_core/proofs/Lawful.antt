@@ -30,10 +30,12 @@ use Rattle.table_core.proofs.Turns.{Turn, rests, opens, takes}
 use Rattle.table_core.proofs.Pasts.{append-none, turn_after, placed_snoc, by_snoc}
 use Rattle.table_core.proofs.Standing.{fitting, stands, CallOk}
 use Rattle.table_core.proofs.Facts.{In, IsSet, Holding, Grew, AllGrew, Seated, probing, Probing, wants_growth, Turned, Tracked, Way, Reached, Missed, is_asking, Judged, LawOk, Inv}
-use Rattle.table_core.proofs.Contents.{not-true, order, in_put, in_bucket, in_get, put_stays, bucket_none, bucket_some, row_grew, fit_at, entry_of}
-use Rattle.table_core.proofs.Seats.{first_empty_way, copy_room, place_built}
+use Rattle.table_core.proofs.Contents.{order, in_put, in_bucket, in_get, put_stays, bucket_none, bucket_some, row_grew, fit_at, entry_of}
+use Rattle.table_core.proofs.Seats.{first_empty_way, copy_room}
 use Rattle.table_core.proofs.Tracks.{growth_from, asking_outcome, load_outcome, none_shared, none_look, none_len, none_walk, tracked_row}
 use Rattle.table_core.proofs.Invariant.{inv}
+use Rattle.table_core.proofs.Truth.{not-true}
+use Rattle.table_core.proofs.Sizes.{place_building}
 
 -- What a probe misses
 
@@ -129,11 +131,6 @@ row_asking w c _ h = cc
 pub row_hash : (w : World) (c : Call) {p : Phase} {x : Event} {a : Answer} {r : CallState} {ls : List ℕ} {t : Table} {q : Option Told} → Row w c p x a r ls t q → r.hash ≡ c.state.hash
 row_hash w c (shares _ _) = refl
 row_hash w c _ = refl
-
-pub and_both : (a b : Bool) → (a && b) ≡ true → (a ≡ true) × (b ≡ true)
-and_both true true h = (refl, refl)
-and_both true false h = absurd (cc)
-and_both false b h = absurd (cc)
 
 -- an answer yes where the bits agree: the entry is accepted
 pub accepted_at : (l : Law) (w : World) (c : Call) (p : Phase) (x : Event) (e : Entry) (y b : Bool) → c.state.phase ≡ p → (AnswersBy l p c y e → y ≡ accepts_value l c e.value) → bucket_at w.table c.state ≡ Some e → (b && y) ≡ true → FindsBy l w c x (Holds b y) → accepts_value l c e.value ≡ true
@@ -328,7 +325,7 @@ copied_in (Some g) None e h = absurd (cc)
 copied_in (Some g) (Some b) e h = (g, refl, in_get e g.entries b.copied h)
 
 pub built_reach : (l : Law) (w : World) (m : List ℕ) (rs : List Reply) (c : Call) {p : Phase} {x : Event} {a : Answer} {r : CallState} {ls : List ℕ} {t : Table} {q : Option Told} → Row w c p x a r ls t q → FindsBy l w c x a → Inv w m rs → LawOk l w → (d : Build) → t.building ≡ Some d → Reached l d.gen
-built_reach l w m rs c (puts _ _ _) u i o d h = o.built d (sym (place_built w.table c.state c.value) ∙ h)
+built_reach l w m rs c (puts _ _ _) u i o d h = o.built d (sym (place_building w.table c.state c.value) ∙ h)
 built_reach l w m rs c (begins_first _ _) u i o d h = reach_begin l w d h
 built_reach l w m rs c (begins_next _ _ _ _ _) u i o d h = reach_begin l w d h
 built_reach l w m rs c (copies _ k e n) u i o d h = let q = copied_in (current w.table) w.table.building e n in reach_copy l w m rs w.table.building e k refl n (u e n) ((o.gens _ q.0 q.1).bits e q.2) i o.built d h

@@ -1,5 +1,13 @@
+mod Truth
+mod CodeEvents
+mod CodeFits
+mod CodeSteps
+mod CodeTable
+mod CodeCalls
+mod CodeEntries
 mod Lists
 mod Rows
+mod Exact
 mod Turns
 mod Locks
 mod Standing
@@ -22,3 +30,10 @@ mod FewReads
 mod FewLoads
 mod OwnAnswers
 mod Refusals
+mod Classes
+mod Worked
+mod Callings
+mod Settled
+mod Histories
+mod HistoryRuns
+mod OneHistory

@@ -1,8 +1,9 @@
 -- Facts on lists.
-use Rattle.std.proofs.Common.{ℕ, suc, zero, ◌≡◌, ◌+◌, ◌≤◌, ◌++◌, ◌⊎◌, inl, inr, List, [], ◌∷◌, Bool, true, false, refl, Some, length, ap, arith}
-use Rattle.std.specs.Prelude.{slice_set, map, ◌||◌}
+use Rattle.std.proofs.Common.{ℕ, suc, zero, ◌≡◌, ◌+◌, ◌≤◌, ◌++◌, ◌⊎◌, inl, inr, List, [], ◌∷◌, Bool, true, false, refl, Some, length, ap, arith, take}
+use Rattle.std.specs.Prelude.{slice_set, map}
 use Rattle.std.specs.List.{slice_get, list_any, flat_map}
 use Rattle.table_core.specs.Bags.{weigh}
+use Rattle.table_core.proofs.Truth.{or-false}
 
 pub weigh-append : {X : Type 0} (f : X → ℕ) (xs ys : List X) → weigh f (xs ++ ys) ≡ weigh f xs + weigh f ys
 weigh-append f [] ys = omega arith
@@ -21,14 +22,6 @@ pub weigh-get : {X : Type 0} (f : X → ℕ) (xs : List X) (i : ℕ) (x : X) →
 weigh-get f [] i x h = absurd (cc)
 weigh-get f (z ∷ xs) zero x h = let e : z ≡ x = cc in omega (arith, ap f e)
 weigh-get f (z ∷ xs) (suc i) x h = omega (arith, weigh-get f xs i x h)
-
--- two places weigh no more than all
-pub weigh-two : {X : Type 0} (f : X → ℕ) (xs : List X) (i j : ℕ) (x y : X) → (i ≡ j → ⊥) → slice_get xs i ≡ Some x → slice_get xs j ≡ Some y → f x + f y ≤ weigh f xs
-weigh-two f [] i j x y n h k = absurd (cc)
-weigh-two f (z ∷ xs) zero zero x y n h k = absurd (n refl)
-weigh-two f (z ∷ xs) zero (suc j) x y n h k = let e : z ≡ x = cc in omega (arith, ap f e, weigh-get f xs j y k)
-weigh-two f (z ∷ xs) (suc i) zero x y n h k = let e : z ≡ y = cc in omega (arith, ap f e, weigh-get f xs i x h)
-weigh-two f (z ∷ xs) (suc i) (suc j) x y n h k = omega (arith, weigh-two f xs i j x y (λ e. n (ap suc e)) h k)
 
 -- what an element of a list is after a write
 pub get-set : {X : Type 0} (xs : List X) (i j : ℕ) (x y z : X) → slice_get xs i ≡ Some x → slice_get (slice_set xs i y) j ≡ Some z → ((j ≡ i) × (z ≡ y)) ⊎ ((i ≡ j → ⊥) × (slice_get xs j ≡ Some z))
@@ -73,11 +66,6 @@ pub get-push_last : {X : Type 0} (xs : List X) (y : X) → slice_get (xs ++ y �
 get-push_last [] y = refl
 get-push_last (x ∷ xs) y = get-push_last xs y
 
-pub or-false : (a b : Bool) → (a || b) ≡ false → (a ≡ false) × (b ≡ false)
-or-false false false h = (refl, refl)
-or-false false true h = absurd (cc)
-or-false true b h = absurd (cc)
-
 -- the number of passes of a test
 abbrev pub tally : Bool → ℕ
 tally true = 1
@@ -109,3 +97,14 @@ zero-each p xs i x z h = let le : tally (p x) ≤ weigh (λ x. tally (p x)) xs =
 pub length-push : {X : Type 0} (xs : List X) (y : X) → length (xs ++ y ∷ []) ≡ suc (length xs)
 length-push [] y = refl
 length-push (x ∷ xs) y = ap suc (length-push xs y)
+
+pub weigh-take_more : {X : Type 0} (f : X → ℕ) (xs : List X) (i : ℕ) (x : X) → slice_get xs i ≡ Some x → weigh f (take (suc i) xs) ≡ weigh f (take i xs) + f x
+weigh-take_more f [] i x h = absurd (cc)
+weigh-take_more f (y ∷ xs) zero x h = let e : y ≡ x = cc in omega (arith, ap f e)
+weigh-take_more f (y ∷ xs) (suc i) x h = omega (arith, weigh-take_more f xs i x h)
+
+pub weigh-take : {X : Type 0} (f : X → ℕ) (xs : List X) (i : ℕ) → weigh f (take i xs) ≤ weigh f xs
+weigh-take f [] zero = omega arith
+weigh-take f [] (suc i) = omega arith
+weigh-take f (y ∷ xs) zero = omega arith
+weigh-take f (y ∷ xs) (suc i) = omega (arith, weigh-take f xs i)

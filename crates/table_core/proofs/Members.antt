@@ -3,7 +3,6 @@ use Rattle.std.proofs.Common.{eqb-true, ℕ, suc, zero, ◌≡◌, ◌+◌, ◌<
 use Rattle.std.specs.Prelude.{◌==◌, if◌then◌else◌, Contains, slice_index_or}
 use Rattle.table_core.specs.Bags.{weigh, count_of}
 use Rattle.table_core.specs.Lists.{passes}
-use Rattle.std.proofs.lemmas.Bool.{eq-eqb}
 
 abbrev pub Is : {X : Type 0} → X → List X → Type 0
 Is x [] = ⊥
@@ -58,6 +57,3 @@ one_of_true false h = refl
 -- where nothing passes, no member does
 pub none_in : (p : ℕ → Bool) (m : List ℕ) → weigh (λ u. passes (p u)) m ≡ 0 → (e : ℕ) → Contains m e → p e ≡ false
 none_in p m z e c = let w : passes (p e) ≤ weigh (λ u. passes (p u)) m = is_weighed (λ u. passes (p u)) e m (in_of m e c) in one_of_true (p e) (omega arith)
-
-pub is_counted : (v : ℕ) (xs : List ℕ) → Is v xs → 1 ≤ count_of v xs
-is_counted v xs i = let q : (v == v) ≡ true = eq-eqb v v refl in rw q at (is_weighed (λ x. if x == v then 1 else 0) v xs i)

@@ -6,10 +6,11 @@ use Rattle.table_core.specs.Calls.{Call, starts, is_used, is_value, is_used_valu
 use Rattle.table_core.specs.Machine.{World, empty, Act}
 use Rattle.table_core.specs.Steps.{IsNewValue, left}
 use Rattle.table_core.specs.declared.event.Event.{Event}
-use Rattle.table_core.proofs.Lists.{get-set, get-push, or-false}
+use Rattle.table_core.proofs.Lists.{get-set, get-push}
 use Rattle.std.proofs.lemmas.Bool.{eq-eqb}
 use Rattle.table_core.proofs.Turns.{Turn, rests, opens, takes}
 use Rattle.table_core.proofs.Facts.{Numbered, Valued}
+use Rattle.table_core.proofs.Truth.{or-false}
 
 pub unused_at : (n : ℕ) (cs : List Call) (i : ℕ) (c : Call) → is_used n cs ≡ false → slice_get cs i ≡ Some c → c.number ≡ n → ⊥
 unused_at n [] i c u h e = cc

@@ -1,6 +1,6 @@
 -- A call is told its own value, and only an entry that it has accepted.
 use Rattle.std.proofs.Common.{ℕ, suc, zero, ◌≡◌, ◌++◌, inl, inr, List, [], ◌∷◌, Bool, true, false, refl, Option, Some, None, sym, subst, ap, arith, ◌∙◌}
-use Rattle.std.specs.Prelude.{◌==◌, if◌then◌else◌}
+use Rattle.std.specs.Prelude.{◌==◌}
 use Rattle.std.specs.List.{slice_get}
 use Rattle.table_core.specs.Replies.{Told, ToldPlaced, ToldFound, ToldRefused, ToldSome, Reply}
 use Rattle.table_core.specs.Generations.{Gen, Table, bits_of, gen_of, bucket_in}
@@ -12,7 +12,7 @@ use Rattle.table_core.specs.declared.event.Event.{Event}
 use Rattle.table_core.specs.declared.event.Entry.{Entry}
 use Rattle.table_core.specs.declared.call.CallState.{CallState}
 use Rattle.table_core.specs.declared.call.Phase.{Phase}
-use Rattle.table_core.specs.declared.call.Phase.TheVariants.{Shared, LeaveOk, LookLoad, LenLoad, WalkLoad, Done}
+use Rattle.table_core.specs.declared.call.Phase.TheVariants.{Shared, LeaveOk, LookLoad, LookProbe, LenLoad, LenSize, WalkLoad, WalkAt, Done}
 use Rattle.table_core.specs.declared.call.Outcome.{Outcome}
 use Rattle.table_core.specs.declared.call.Outcome.TheVariants.{Pending, New, Existing}
 use Rattle.table_core.specs.declared.call.Answer.{Answer}
@@ -24,20 +24,18 @@ use Rattle.table_core.specs.Values.{entry_named, value_told, AcceptedEntry, IsOw
 use Rattle.table_core.proofs.Turns.{Turn, rests, opens, takes}
 use Rattle.table_core.proofs.Facts.{AllGrew, Inv}
 use Rattle.table_core.proofs.Standing.{fitting}
+use Rattle.table_core.proofs.Places.{no_value}
 use Rattle.table_core.proofs.Contents.{fit_at, turn_grew}
 use Rattle.table_core.proofs.Tracks.{load_outcome, none_shared, none_look, none_len, none_walk}
-use Rattle.table_core.proofs.Lawful.{and_both, entry_stays}
+use Rattle.table_core.proofs.Lawful.{entry_stays}
 use Rattle.table_core.proofs.FewReads.{other_number}
 use Rattle.table_core.proofs.Pasts.{turn_after, by_snoc, taken_now, taken_later}
+use Rattle.table_core.proofs.Truth.{and_both}
 
 -- The call of a number
 
-numbered_if : (n : ℕ) (x : Call) (cs : List Call) (i : ℕ) (c : Call) (b : Bool) → (x.number == n) ≡ b → (b ≡ true → x ≡ c) → call_numbered n cs ≡ Some c → (if b then Some x else call_numbered n cs) ≡ Some c
-numbered_if n x cs i c true e h k = ap Some (h refl)
-numbered_if n x cs i c false e h k = k
-
 -- where no two calls have one number, a call is found by its own
-numbered_at : (cs : List Call) → ((i j : ℕ) (c d : Call) → slice_get cs i ≡ Some c → slice_get cs j ≡ Some d → c.number ≡ d.number → i ≡ j) → (i : ℕ) (c : Call) → slice_get cs i ≡ Some c → call_numbered c.number cs ≡ Some c
+pub numbered_at : (cs : List Call) → ((i j : ℕ) (c d : Call) → slice_get cs i ≡ Some c → slice_get cs j ≡ Some d → c.number ≡ d.number → i ≡ j) → (i : ℕ) (c : Call) → slice_get cs i ≡ Some c → call_numbered c.number cs ≡ Some c
 numbered_at [] apart i c g = absurd (cc)
 numbered_at (x ∷ cs) apart zero c g =
     let same : x ≡ c = cc in
@@ -122,40 +120,40 @@ module _ (f : ℕ) (inv : (s : List Event) → Inv (after f s) (placed (empty f)
 
 -- What a row tells
 
-refused_own : (v : Option ℕ) (q : Told) → refused v ≡ Some q → (u : ℕ) → value_told q ≡ Some u → v ≡ Some u
-refused_own None q h u e = absurd (cc)
-refused_own (Some v) q h u e = let z : ToldRefused v ≡ q = cc in ap value_told z ∙ e
+refused_own : (v : Option ℕ) (q : Told) → refused v ≡ Some q → v ≡ value_told q
+refused_own None q h = absurd (cc)
+refused_own (Some v) q h = let z : ToldRefused v ≡ q = cc in ap value_told z
 
-found_own : (d : Option Entry) (v : ℕ) (q : Told) → found_entry d v ≡ Some q → (u : ℕ) → value_told q ≡ Some u → v ≡ u
-found_own None v q h u e = absurd (cc)
-found_own (Some d) v q h u e = let z : ToldFound d.value v ≡ q = cc in let y : Some v ≡ Some u = ap value_told z ∙ e in cc
+found_own : (d : Option Entry) (v : ℕ) (q : Told) → found_entry d v ≡ Some q → Some v ≡ value_told q
+found_own None v q h = absurd (cc)
+found_own (Some d) v q h = let z : ToldFound d.value v ≡ q = cc in ap value_told z
 
-outcome_own : (o : Outcome) (t : Table) (s : CallState) (v : Option ℕ) (q : Told) → told_of_outcome o t s v ≡ Some q → (u : ℕ) → value_told q ≡ Some u → v ≡ Some u
-outcome_own (New i) t s (Some v) q h u e = let z : ToldPlaced v ≡ q = cc in ap value_told z ∙ e
-outcome_own (Existing i) t s (Some v) q h u e = ap Some (found_own (bucket_in (walked_gen t s) i) v q h u e)
-outcome_own Pending t s v q h u e = absurd (cc)
-outcome_own (New i) t s None q h u e = absurd (cc)
-outcome_own (Existing i) t s None q h u e = absurd (cc)
+outcome_own : (o : Outcome) (t : Table) (s : CallState) (v : Option ℕ) (q : Told) → told_of_outcome o t s v ≡ Some q → v ≡ value_told q
+outcome_own (New i) t s (Some v) q h = let z : ToldPlaced v ≡ q = cc in ap value_told z
+outcome_own (Existing i) t s (Some v) q h = found_own (bucket_in (walked_gen t s) i) v q h
+outcome_own Pending t s v q h = absurd (cc)
+outcome_own (New i) t s None q h = absurd (cc)
+outcome_own (Existing i) t s None q h = absurd (cc)
 
-no_value : (q z : Told) (u : ℕ) → Some q ≡ Some z → value_told q ≡ None → value_told z ≡ Some u → ⊥
-no_value q z u h n e = let y : q ≡ z = cc in let k : value_told q ≡ Some u = rw y e in let j : None ≡ Some u = sym n ∙ k in cc
+none_own : (v : Option ℕ) (z q : Told) → Some z ≡ Some q → value_told z ≡ None → v ≡ None → v ≡ value_told q
+none_own v z q h n e = let y : z ≡ q = cc in e ∙ sym n ∙ ap value_told y
 
-row_own : (w : World) (c : Call) {p : Phase} {x : Event} {a : Answer} {r : CallState} {ls : List ℕ} {t : Table} {o : Option Told} → Row w c p x a r ls t o → (q : Told) → o ≡ Some q → (u : ℕ) → value_told q ≡ Some u → c.value ≡ Some u
-row_own w c (leaves_refused n) q h u e = refused_own c.value q h u e
-row_own w c (gives_up n k d) q h u e = refused_own c.value q h u e
-row_own w c (small n g k d) q h u e = outcome_own c.state.outcome w.table c.state c.value q h u e
-row_own w c (ends n k) q h u e = outcome_own c.state.outcome w.table c.state c.value q h u e
-row_own w c (ends_failed n k) q h u e = outcome_own c.state.outcome w.table c.state c.value q h u e
-row_own w c (looks_none n k) q h u e = absurd (no_value _ q u h refl e)
-row_own w c (look_empty n y k) q h u e = absurd (no_value _ q u h refl e)
-row_own w c (look_meets n y d k b) q h u e = absurd (no_value _ q u h refl e)
-row_own w c (look_turns n y d k b lt) q h u e = absurd (no_value _ q u h refl e)
-row_own w c (len_none n k) q h u e = absurd (no_value _ q u h refl e)
-row_own w c (len_size n g k) q h u e = absurd (no_value _ q u h refl e)
-row_own w c (walk_none n k) q h u e = absurd (no_value _ q u h refl e)
-row_own w c (walk_skips_last n y k lt) q h u e = absurd (no_value _ q u h refl e)
-row_own w c (walk_takes_last n y d k lt) q h u e = absurd (no_value _ q u h refl e)
-row_own w c _ q h u e = absurd (cc)
+row_own : (w : World) (c : Call) {p : Phase} {x : Event} {a : Answer} {r : CallState} {ls : List ℕ} {t : Table} {o : Option Told} → Row w c p x a r ls t o → fitting (is_some c.value) p c.state.outcome ≡ true → (q : Told) → o ≡ Some q → c.value ≡ value_told q
+row_own w c (leaves_refused n) fit q h = refused_own c.value q h
+row_own w c (gives_up n k d) fit q h = refused_own c.value q h
+row_own w c (small n g k d) fit q h = outcome_own c.state.outcome w.table c.state c.value q h
+row_own w c (ends n k) fit q h = outcome_own c.state.outcome w.table c.state c.value q h
+row_own w c (ends_failed n k) fit q h = outcome_own c.state.outcome w.table c.state c.value q h
+row_own w c (looks_none n k) fit q h = none_own c.value _ q h refl (no_value LookLoad (refl, λ i. refl, λ i. refl, refl, λ i. refl, λ i. refl) c.value c.state.outcome fit)
+row_own w c (look_empty n y k) fit q h = none_own c.value _ q h refl (no_value LookProbe (refl, λ i. refl, λ i. refl, refl, λ i. refl, λ i. refl) c.value c.state.outcome fit)
+row_own w c (look_meets n y d k b) fit q h = none_own c.value _ q h refl (no_value LookProbe (refl, λ i. refl, λ i. refl, refl, λ i. refl, λ i. refl) c.value c.state.outcome fit)
+row_own w c (look_turns n y d k b lt) fit q h = none_own c.value _ q h refl (no_value LookProbe (refl, λ i. refl, λ i. refl, refl, λ i. refl, λ i. refl) c.value c.state.outcome fit)
+row_own w c (len_none n k) fit q h = none_own c.value _ q h refl (no_value LenLoad (refl, λ i. refl, λ i. refl, refl, λ i. refl, λ i. refl) c.value c.state.outcome fit)
+row_own w c (len_size n g k) fit q h = none_own c.value _ q h refl (no_value LenSize (refl, λ i. refl, λ i. refl, refl, λ i. refl, λ i. refl) c.value c.state.outcome fit)
+row_own w c (walk_none n k) fit q h = none_own c.value _ q h refl (no_value WalkLoad (refl, λ i. refl, λ i. refl, refl, λ i. refl, λ i. refl) c.value c.state.outcome fit)
+row_own w c (walk_skips_last n y k lt) fit q h = none_own c.value _ q h refl (no_value WalkAt (refl, λ i. refl, λ i. refl, refl, λ i. refl, λ i. refl) c.value c.state.outcome fit)
+row_own w c (walk_takes_last n y d k lt) fit q h = none_own c.value _ q h refl (no_value WalkAt (refl, λ i. refl, λ i. refl, refl, λ i. refl, λ i. refl) c.value c.state.outcome fit)
+row_own w c _ fit q h = absurd (cc)
 
 -- the entry that a call is told: it is accepted now, or it was
 data Names (w : World) (c : Call) (a : Answer) (e : ℕ) : Type 0 where
@@ -232,7 +230,7 @@ module _ (f : ℕ) (inv : (s : List Event) → Inv (after f s) (placed (empty f)
   own_turn s x r (takes i c p a st ls t o g e row nu) took h =
       let told : (o ≡ Some r.told) × (c.number ≡ r.call) = reply_by_row c.number o r h in
       record {
-        own = λ v k. (c, subst (λ n. call_numbered n (after f s).calls ≡ Some c) told.1 (numbered_at (after f s).calls (inv s).numbered.apart i c g), row_own (after f s) c row r.told told.0 v k);
+        own = (c, subst (λ n. call_numbered n (after f s).calls ≡ Some c) told.1 (numbered_at (after f s).calls (inv s).numbered.apart i c g), row_own (after f s) c row (fit_at c _ p ((inv s).calls.at i c g) e) r.told told.0);
         accepted = λ e k. subst (λ n. AcceptedEntry f (s ++ x ∷ []) n e) told.1 (entry_accepted s x i c a e g took (row_names (after f s) c row r.told told.0 e k));
       }
 

@@ -1,6 +1,6 @@
 -- A call is refused only for want of memory or of a greater capacity, and its value is placed at no moment.
 use Rattle.std.proofs.Common.{ℕ, ◌≡◌, ◌≤◌, ◌++◌, inl, inr, List, [], ◌∷◌, Bool, true, false, refl, Option, Some, None, sym, subst, ap, arith, ◌∙◌}
-use Rattle.std.specs.Prelude.{◌==◌, ◌&&◌}
+use Rattle.std.specs.Prelude.{◌==◌}
 use Rattle.std.specs.List.{slice_get}
 use Rattle.table_core.specs.Bags.{weigh, count_of}
 use Rattle.table_core.specs.Replies.{Told, ToldRefused, Reply}
@@ -17,7 +17,9 @@ use Rattle.table_core.specs.declared.call.Phase.{Phase}
 use Rattle.table_core.specs.declared.call.Phase.TheVariants.{LeaveRefused, LeaveFailed, Done}
 use Rattle.table_core.specs.declared.call.Outcome.{Outcome}
 use Rattle.table_core.specs.declared.call.Outcome.TheVariants.{Pending, New, Existing}
+use Rattle.table_core.specs.declared.call.Answer.TheVariants.{NoRoom}
 use Rattle.table_core.specs.declared.call.Answer.{Answer}
+use Rattle.table_core.specs.declared.call.Answer.TheVariants.{NoRoom}
 use Rattle.table_core.proofs.Lists.{get-set, get-set_same, get-set_other, get-push, get-push_before}
 use Rattle.table_core.proofs.Locks.{more}
 use Rattle.std.proofs.lemmas.Bool.{cases_lt}
@@ -31,6 +33,7 @@ use Rattle.table_core.proofs.Walks.{mark, none_of, picked_own}
 use Rattle.table_core.proofs.FewReads.{other_number}
 use Rattle.table_core.proofs.OwnAnswers.{reply_by_row}
 use Rattle.table_core.proofs.Pasts.{turn_after, by_snoc, by_snoc_from, taken_now, taken_later, after_taken, later_snoc}
+use Rattle.table_core.proofs.Truth.{and-false}
 
 -- a call that may be told that it is refused
 abbrev refusable : Phase → Outcome → Bool
@@ -41,7 +44,7 @@ refusable _ o = false
 -- its last put or check had a cause
 record Caused (f : ℕ) (s : List Event) (c : Call) : Type 0 where
   at : TakenEvent f s c.number
-  cause : IsCause (current (after f at.before).table) at.event
+  cause : IsCause (current (after f at.before).table) at.event at.found
   last : has_later is_put_or_check (after f (at.before ++ at.event ∷ [])) at.rest c.number ≡ false
 
 caused_later : (f : ℕ) (s : List Event) (x : Event) (c : Call) → answers_so is_put_or_check (acts (after f s) x) c.number ≡ false → Caused f s c → Caused f (s ++ x ∷ []) c
@@ -53,11 +56,11 @@ caused_later f s x c h k = record {
 
 -- the cause of a refusal
 
-cause_put : (g : Option Gen) (n : ℕ) (y : Bool) → IsCause g (Put n y false)
+cause_put : (g : Option Gen) (n : ℕ) (y : Bool) → IsCause g (Put n y false) NoRoom
 cause_put None n y = refl
 cause_put (Some g) n y = refl
 
-row_cause : (w : World) (c : Call) {p : Phase} {x : Event} {a : Answer} {r : CallState} {ls : List ℕ} {t : Table} {q : Option Told} → Row w c p x a r ls t q → refusable r.phase r.outcome ≡ true → IsCause (current w.table) x
+row_cause : (w : World) (c : Call) {p : Phase} {x : Event} {a : Answer} {r : CallState} {ls : List ℕ} {t : Table} {q : Option Told} → Row w c p x a r ls t q → refusable r.phase r.outcome ≡ true → IsCause (current w.table) x a
 row_cause w c (no_room n y) h = cause_put (current w.table) n y
 row_cause w c (fails_first n e) h = rw e refl
 row_cause w c (fails_largest n m g e lt top) h = rw e (inr top)
@@ -68,18 +71,14 @@ begin_refusable : {x : Event} {n : ℕ} {v : Option ℕ} {p : Phase} {h : ℕ} �
 begin_refusable (opens_insert n v h) = refl
 begin_refusable _ = refl
 
-and_false : (b : Bool) → (b && false) ≡ false
-and_false true = refl
-and_false false = refl
-
 other_answer : (c : Call) (a : Answer) (n : ℕ) → (c.number == n) ≡ false → answers_so is_put_or_check (Some (Goes c a)) n ≡ false
-other_answer c a n h = rw h (and_false (is_put_or_check c.state.phase a))
+other_answer c a n h = rw h (and-false (is_put_or_check c.state.phase a))
 
 module _ (f : ℕ) (inv : (s : List Event) → Inv (after f s) (placed (empty f) s) (replies (empty f) s)) where
   abbrev AllCaused : List Event → World → Type 0
   AllCaused s v = (i : ℕ) (c : Call) → slice_get v.calls i ≡ Some c → refusable c.state.phase c.state.outcome ≡ true → Caused f s c
 
-  caused_now : (s : List Event) (x : Event) (c : Call) (a : Answer) (r : CallState) (ls : List ℕ) → acts (after f s) x ≡ Some (Goes c a) → IsCause (current (after f s).table) x → Caused f (s ++ x ∷ []) (left c r ls)
+  caused_now : (s : List Event) (x : Event) (c : Call) (a : Answer) (r : CallState) (ls : List ℕ) → acts (after f s) x ≡ Some (Goes c a) → IsCause (current (after f s).table) x a → Caused f (s ++ x ∷ []) (left c r ls)
   caused_now s x c a r ls took k = record { at = taken_now f s x c.number c a took refl; cause = k; last = refl }
 
   caused_turn : (s : List Event) (x : Event) {v : World} {a : Option Act} {r : Option Reply} → Turn (after f s) x a v r → acts (after f s) x ≡ a → AllCaused s (after f s) → AllCaused (s ++ x ∷ []) v
@@ -126,11 +125,11 @@ refused_pending false (Existing i) h = absurd (cc)
 failed_refusable : (o : Outcome) → o ≡ Pending → refusable LeaveFailed o ≡ true
 failed_refusable o e = rw e refl
 
-found_unrefused : (d : Option Entry) (u v : ℕ) → found_entry d u ≡ Some (ToldRefused v) → ⊥
+pub found_unrefused : (d : Option Entry) (u v : ℕ) → found_entry d u ≡ Some (ToldRefused v) → ⊥
 found_unrefused None u v h = cc
 found_unrefused (Some d) u v h = cc
 
-outcome_unrefused : (o : Outcome) (t : Table) (s : CallState) (u : Option ℕ) (v : ℕ) → told_of_outcome o t s u ≡ Some (ToldRefused v) → ⊥
+pub outcome_unrefused : (o : Outcome) (t : Table) (s : CallState) (u : Option ℕ) (v : ℕ) → told_of_outcome o t s u ≡ Some (ToldRefused v) → ⊥
 outcome_unrefused (New i) t s (Some u) v h = cc
 outcome_unrefused (Existing i) t s (Some u) v h = found_unrefused (bucket_in (walked_gen t s) i) u v h
 outcome_unrefused Pending t s u v h = cc

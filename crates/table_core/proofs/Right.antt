@@ -27,20 +27,21 @@ use Rattle.std.specs.Option.{is_some}
 use Rattle.table_core.specs.ListObject.{AcceptsNone, Answers}
 use Rattle.table_core.specs.Law.{Law, FindsBy, ActsBy, IsLawful}
 use Rattle.table_core.specs.Law.{accepts as accepts_value}
-use Rattle.table_core.specs.Values.{entry_named}
-use Rattle.table_core.specs.Lists.{asked, answered, is_list_reply, is_refusal, is_moment, may_be_refused, Meets, IsRight, Right}
+use Rattle.table_core.specs.Values.{Ends, entry_named}
+use Rattle.table_core.specs.Lists.{asked, answered, is_list_reply, is_refusal, is_moment, may_be_refused, Meets, IsRight}
 use Rattle.table_core.specs.Lists.{passes as one_if}
 use Rattle.table_core.proofs.Locks.{le_one}
 use Rattle.table_core.proofs.Turns.{Turn, rests, opens, takes}
 use Rattle.table_core.proofs.Pasts.{append-none, turn_after, placed_snoc, by_snoc, taken_now, taken_later, after_taken, later_snoc}
 use Rattle.table_core.proofs.Standing.{stands, pending_of, gens_stay}
 use Rattle.table_core.proofs.Facts.{values, In, Holding, Within, AllGrew, probing, Probing, wants_growth, Met, Tracked, is_asking, LawOk, in_table, Numbered}
-use Rattle.table_core.proofs.Contents.{in_bucket, bucket_none, bucket_some, row_grew, grew_same, fit_at, not-true}
+use Rattle.table_core.proofs.Contents.{in_bucket, bucket_none, bucket_some, row_grew, fit_at, same_grew}
 use Rattle.table_core.proofs.Places.{by_class, no_value}
 use Rattle.table_core.proofs.Tracks.{load_outcome, none_shared, none_look, none_len, none_walk}
 use Rattle.table_core.proofs.Lawful.{accepted_at, refused_by, missed_more, misses_at_empty, misses_at_turn, none_placed, fresh_value, same_entry, same_gen, same_walk, entry_stays, lawful_before, lawful_then, law_after, none_passes}
 use Rattle.table_core.proofs.Members.{none_in, counted, contains_of}
 use Rattle.table_core.proofs.Invariant.{InvAfter, inv}
+use Rattle.table_core.proofs.Truth.{not-true, and-false}
 
 abbrev pub say : ℕ → Told → Reply
 say n t = record { call = n; told = t }
@@ -60,7 +61,7 @@ pub answer_refused : (l : Law) (m : List ℕ) (n v : ℕ) → AcceptsNone (l.equ
 answer_refused l m n v h = (h, refl, append-none m)
 
 pub answer_placed : (l : Law) (m : List ℕ) (n v : ℕ) → AcceptsNone (l.equal v) m → Answers l.equal m (asked l (say n (ToldPlaced v))) (answered (ToldPlaced v)) (m ++ v ∷ [])
-answer_placed l m n v h = (h, refl)
+answer_placed l m n v h = (h, refl, refl)
 
 -- Moments
 
@@ -308,9 +309,6 @@ abbrev is_look_probe : Phase → Bool
 is_look_probe LookProbe = true
 is_look_probe _ = false
 
-pub same_grown : (gens : List Gen) → AllGrew gens gens
-same_grown gens = record { each = λ k g h. (g, h, grew_same g) }
-
 pub looked_row : (l : Law) (f : ℕ) (s : List Event) (i : ℕ) (c : Call) {p : Phase} {x : Event} {a : Answer} {r : CallState} {ls : List ℕ} {t : Table} {q : Option Told} → Row (after f s) c p x a r ls t q → Here l f s x c a i → c.state.phase ≡ p → InvAfter f s → Fated l f s (after f s).table.gens c → r.phase ≡ LookProbe → LookedAt f (s ++ x ∷ []) t.gens (left c r ls)
 looked_row l f s i c (looks n g b) h e iv k z = record {
   at = taken_now f s (Load n) c.number c (Loaded (length (after f s).table.gens - 1) g.capacity) h.0 refl;
@@ -324,7 +322,7 @@ looked_row l f s i c (looks n g b) h e iv k z = record {
       let w : values u g.entries ≡ values u d.entries = ap (λ (z : Gen). values u z.entries) m in
       omega arith;
 }
-looked_row l f s i c (look_goes_on n y d b u lt) h e iv k z = looked_later f s (Read n y) (after f s).table.gens (after f s).table.gens c _ _ refl (same_grown (after f s).table.gens) ((iv.tracked.at i c h.1).probes (ap probing e)) (k.looked e)
+looked_row l f s i c (look_goes_on n y d b u lt) h e iv k z = looked_later f s (Read n y) (after f s).table.gens (after f s).table.gens c _ _ refl (same_grew (after f s).table.gens) ((iv.tracked.at i c h.1).probes (ap probing e)) (k.looked e)
 looked_row l f s i c _ h e iv k z = absurd (let q : is_look_probe LookProbe ≡ true = refl in let m = ap is_look_probe z in cc)
 
 pub fated_row : (l : Law) (f : ℕ) (s : List Event) (i : ℕ) (c : Call) {p : Phase} {x : Event} {a : Answer} {r : CallState} {ls : List ℕ} {t : Table} {q : Option Told} → Row (after f s) c p x a r ls t q → AllGrew (after f s).table.gens t.gens → Here l f s x c a i → c.state.phase ≡ p → InvAfter f s → LawOk l (after f s) → FindsBy l (after f s) c x a → Fated l f s (after f s).table.gens c → Fated l f (s ++ x ∷ []) t.gens (left c r ls)
@@ -346,10 +344,6 @@ fated_begin l f s gens (opens_walk n) = record { placed = λ u e y. absurd (cc);
 pub other_number : (w : World) (i j : ℕ) (c d : Call) → Numbered w → (i ≡ j → ⊥) → slice_get w.calls i ≡ Some c → slice_get w.calls j ≡ Some d → (c.number == d.number) ≡ false
 other_number w i j c d n ne g h = not-true _ (λ q. ne (n.apart i j c d g h (eqb-true c.number d.number q)))
 
-pub and-false : (a : Bool) → (a && false) ≡ false
-and-false true = refl
-and-false false = refl
-
 pub not_its : (w : World) (i j : ℕ) (c d : Call) (a : Answer) → Numbered w → (i ≡ j → ⊥) → slice_get w.calls i ≡ Some c → slice_get w.calls j ≡ Some d → answers_so may_be_refused (Some (Goes c a)) d.number ≡ false
 not_its w i j c d a n ne g h = let z : (c.number == d.number) ≡ false = other_number w i j c d n ne g h in rw z (and-false (may_be_refused c.state.phase a))
 
@@ -364,10 +358,10 @@ not_both w i j c d l g h e k =
     absurd (omega arith)
 
 pub fated_turn : (l : Law) (f : ℕ) (s : List Event) (x : Event) {v : World} {a : Option Act} {r : Option Reply} → Turn (after f s) x a v r → acts (after f s) x ≡ a → InvAfter f s → LawOk l (after f s) → ActsBy l (after f s) x a → AllFated l f s (after f s) → AllFated l f (s ++ x ∷ []) v
-fated_turn l f s x rests h iv o u k = λ i c g. fated_other l f s x (after f s).table.gens (after f s).table.gens c (same_grown (after f s).table.gens) (iv.tracked.at i c g) (rw h refl) (λ q. refl) (k i c g)
+fated_turn l f s x rests h iv o u k = λ i c g. fated_other l f s x (after f s).table.gens (after f s).table.gens c (same_grew (after f s).table.gens) (iv.tracked.at i c g) (rw h refl) (λ q. refl) (k i c g)
 fated_turn l f s x (opens n v p y ra b q z) h iv o u k = λ i c g. elim (get-push (after f s).calls (starts n v p y) c i g) [
   | inl m ↦ rw m.1 (fated_begin l f (s ++ x ∷ []) (after f s).table.gens b)
-  | inr m ↦ fated_other l f s x (after f s).table.gens (after f s).table.gens c (same_grown (after f s).table.gens) (iv.tracked.at i c m) (rw h refl) (λ q. refl) (k i c m)
+  | inr m ↦ fated_other l f s x (after f s).table.gens (after f s).table.gens c (same_grew (after f s).table.gens) (iv.tracked.at i c m) (rw h refl) (λ q. refl) (k i c m)
 ]
 fated_turn l f s x (takes i c p a r list t q g e row nu) h iv o u k = λ j d m. elim (get-set (after f s).calls i j c (left c r list) d g m) [
   | inl z ↦ rw z.1 (fated_row l f s i c row (row_grew (after f s) c row) (h, g) e iv o u (k i c g))
@@ -398,10 +392,6 @@ right_told l f s n a b e k = rw e k
 pub found_told : (o : Option Entry) (u : ℕ) (b : Told) → found_entry o u ≡ Some b → (e : Entry) × (o ≡ Some e) × (b ≡ ToldFound e.value u)
 found_told None u b h = absurd (cc)
 found_told (Some e) u b h = (e, refl, (let z : ToldFound e.value u ≡ b = cc in sym z))
-
--- the event changes nothing in what this call will be told
-abbrev Quiet : ℕ → List Event → Event → ℕ → Type 0
-Quiet f s x n = answers_so may_be_refused (acts (after f s) x) n ≡ false
 
 pub right_outcome_at : (l : Law) (f : ℕ) (s : List Event) (x : Event) (c : Call) (o : Outcome) (v : Option ℕ) → c.state.outcome ≡ o → c.value ≡ v → ((i : ℕ) → in_table c.state.phase (New i) ≡ true) → Fated l f s (after f s).table.gens c → (b : Told) → told_of_outcome o (after f s).table c.state v ≡ Some b → IsRight l f (s ++ x ∷ []) (say c.number b)
 right_outcome_at l f s x c Pending None e w n k b h = absurd (cc)
@@ -491,7 +481,7 @@ right_turn l f s x (takes i c p a st list t q g e row nu) h iv o u k r w z =
     rw (← y.2) (right_row l f s i c row (h, g) e iv o u (k i c g) y.0 y.1 (ap (λ (m : Reply). is_list_reply m.told) y.2 ∙ z))
 
 -- each finished insert and look-up is right
-pub right : (l : Law) (f : ℕ) (s : List Event) (x : Event) (r : Reply) → IsFirst f → Right l f s x r
+pub right : (l : Law) (f : ℕ) (s : List Event) (x : Event) (r : Reply) → IsFirst f → IsLawful l f (s ++ x ∷ []) → Ends f s x r → is_list_reply r.told ≡ true → IsRight l f (s ++ x ∷ []) r
 right l f s x r h u e z =
     let b = lawful_before l s (x ∷ []) (empty f) u in
     right_turn l f s x (turn_after f s x) refl (inv f h s) (law_after l f h s b) (lawful_then l s (x ∷ []) (empty f) u).0 (fated_after l f h s b) r e z

@@ -4,10 +4,10 @@ use Rattle.std.specs.Prelude.{◌==◌, ◌&&◌, ◌||◌, nat_lt, if◌then◌
 use Rattle.table_core.specs.Replies.{ToldNone, ToldWalk}
 use Rattle.table_core.specs.Generations.{Gen, Table, bits_of, current, is_current, next_copied}
 use Rattle.table_core.specs.Calls.{Call, starts, is_used, is_used_value, call_numbered, is_owned, is_locked, to, is_pending, decided}
-use Rattle.table_core.specs.Machine.{World, takes_unless, loaded, walked_gen, bucket_at, read, exchanged, sized, checked, finds_in, finds, changed, refused, told_of_outcome, by_outcome, look_told, told_in, list_in, number_of, in_range, Act, begins_unless, goes_by, act_of, acts, after_act, happens, reply_by, reply}
+use Rattle.table_core.specs.Machine.{World, takes_unless, loaded, walked_gen, bucket_at, read, exchanged, sized, checked, finds_in, finds, changed, refused, told_of_outcome, by_outcome, look_told, told_in, list_in, number_of, in_range, Act, begins_unless, goes_by, act_of, acts, after_act, reply_by}
 use Rattle.table_core.specs.Calls.{meets as meets_at, looks as looks_at}
 use Rattle.table_core.specs.Machine.{copies as copies_left, shows as shows_left, goes as goes_with}
-use Rattle.table_core.specs.Steps.{accepts, next_bucket, turned, Row, shares, loads_none, loads, reads_empty, meets, turns, goes_on, no_room, puts, loses_meets, loses_turns, loses_goes_on, adds, leaves_ok, leaves_grow, leaves_refused, large, small, owns, begins_first, fails_first, unwanted, fails_largest, fails_refused, begins_next, copies, shows, ends, starts_over, ends_failed, gives_up, tries_again, looks_none, looks, look_empty, look_meets, look_turns, look_goes_on, len_none, len_loads, len_size, walk_none, walk_loads, walk_skips_last, walk_takes_last, walk_skips, walk_takes, Opens, opens_insert, opens_lookup, opens_len, opens_walk, IsNewValue, Step, stays, begins, goes}
+use Rattle.table_core.specs.Steps.{accepts, next_bucket, turned, Row, shares, loads_none, loads, reads_empty, meets, turns, goes_on, no_room, puts, loses_meets, loses_turns, loses_goes_on, adds, leaves_ok, leaves_grow, leaves_refused, large, small, owns, begins_first, fails_first, unwanted, fails_largest, fails_refused, begins_next, copies, shows, ends, starts_over, ends_failed, gives_up, tries_again, looks_none, looks, look_empty, look_meets, look_turns, look_goes_on, len_none, len_loads, len_size, walk_none, walk_loads, walk_skips_last, walk_takes_last, walk_skips, walk_takes, Opens, opens_insert, opens_lookup, opens_len, opens_walk, IsNewValue, Takes, begins, goes}
 use Rattle.table_core.specs.declared.event.Event.{Event}
 use Rattle.table_core.specs.declared.event.Event.TheVariants.{Insert, Lookup, Len, Walk, Share, Own, Free, Load, Read, Put, Add, Size, Check, Copy, Show}
 use Rattle.table_core.specs.declared.event.Entry.{Entry}
@@ -18,6 +18,7 @@ use Rattle.table_core.specs.declared.call.Outcome.{Outcome}
 use Rattle.table_core.specs.declared.call.Outcome.TheVariants.{Pending, New, Existing}
 use Rattle.table_core.specs.declared.call.Answer.{Answer}
 use Rattle.table_core.specs.declared.call.Answer.TheVariants.{Taken, Released, Empty, Holds, NoRoom, Sized, Begun, Unwanted, Failed}
+use Rattle.table_core.proofs.Truth.{or-false}
 
 -- what a phase makes of an event and its answer is a row
 abbrev Rows : World → Call → Phase → Event → Answer → Type 0
@@ -178,28 +179,25 @@ row w c WalkLoad (Load n) a f = along (Rows w c WalkLoad (Load n)) _ a f (row_wa
 row w c WalkAt (Read n y) a f = along (Rows w c WalkAt (Read n y)) _ a f (row_walk_read w c n y (bucket_at w.table c.state) refl)
 row w c _ x a f = absurd (cc)
 
-abbrev StepsBy : World → Event → Option Act → Type 0
-StepsBy w x o = Step w x o (after_act w x o) (reply_by w o)
+-- what is done is taken by the table of events
+abbrev pub StepsBy : World → Event → Option Act → Type 0
+StepsBy w x None = Unit {0}
+StepsBy w x (Some a) = Takes w x a (after_act w x (Some a)) (reply_by w (Some a))
 
 pub step_begins : (w : World) (x : Event) (n : ℕ) (v : Option ℕ) (p : Phase) (h : ℕ) (b : Bool) → in_range x ≡ true → Opens x n v p h → (b ≡ false → (is_used n w.calls ≡ false) × IsNewValue w.calls v) → StepsBy w x (begins_unless b (starts n v p h))
-step_begins w x n v p h true r o f = stays
+step_begins w x n v p h true r o f = tt
 step_begins w x n v p h false r o f = begins n v p h r o (f refl).0 (f refl).1
 
 pub step_finds : (w : World) (x : Event) (c : Call) (o : Option Answer) → in_range x ≡ true → call_numbered (number_of x) w.calls ≡ Some c → finds w c.state x ≡ o → StepsBy w x (goes_by c o)
-step_finds w x c None r h f = stays
+step_finds w x c None r h f = tt
 step_finds w x c (Some a) r h f = goes c c.state.phase a (decided c.state.phase c.state a) (list_in c.state.phase w.table c a) (changed w.table c x a) (told_in c.state.phase w.table c a) r h refl (row w c c.state.phase x a f)
 
 pub step_goes : (w : World) (x : Event) (o : Option Call) → in_range x ≡ true → call_numbered (number_of x) w.calls ≡ o → StepsBy w x (goes_with w o x)
-step_goes w x None r h = stays
+step_goes w x None r h = tt
 step_goes w x (Some c) r h = step_finds w x c (finds w c.state x) r h refl
 
-pub neither : (a b : Bool) → (a || b) ≡ false → (a ≡ false) × (b ≡ false)
-neither false false h = (refl, refl)
-neither false true h = absurd (cc)
-neither true b h = absurd (cc)
-
 pub step_of : (w : World) (x : Event) → in_range x ≡ true → StepsBy w x (act_of w x)
-step_of w (Insert n v h) r = step_begins w (Insert n v h) n (Some v) WantShared h (is_used n w.calls || is_used_value v w.calls) r (opens_insert n v h) (neither _ _)
+step_of w (Insert n v h) r = step_begins w (Insert n v h) n (Some v) WantShared h (is_used n w.calls || is_used_value v w.calls) r (opens_insert n v h) (or-false _ _)
 step_of w (Lookup n h) r = step_begins w (Lookup n h) n None LookLoad h (is_used n w.calls) r (opens_lookup n h) (λ f. (f, tt))
 step_of w (Len n) r = step_begins w (Len n) n None LenLoad 0 (is_used n w.calls) r (opens_len n) (λ f. (f, tt))
 step_of w (Walk n) r = step_begins w (Walk n) n None WalkLoad 0 (is_used n w.calls) r (opens_walk n) (λ f. (f, tt))
@@ -217,8 +215,8 @@ step_of w (Show n) r = step_goes w (Show n) (call_numbered n w.calls) r refl
 
 pub step_if : (w : World) (x : Event) (b : Bool) → in_range x ≡ b → StepsBy w x (if b then act_of w x else None)
 step_if w x true r = step_of w x r
-step_if w x false r = stays
+step_if w x false r = tt
 
--- each event is a step
-pub step : (w : World) (x : Event) → Step w x (acts w x) (happens w x) (reply w x)
-step w x = step_if w x (in_range x) refl
+-- what an event does is taken by the table of events
+pub steps : (w : World) (x : Event) → StepsBy w x (acts w x)
+steps w x = step_if w x (in_range x) refl

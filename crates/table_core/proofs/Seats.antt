@@ -13,16 +13,17 @@ use Rattle.table_core.specs.declared.event.Entry.{Entry}
 use Rattle.table_core.specs.declared.call.CallState.{CallState}
 use Rattle.table_core.specs.declared.call.Phase.{Phase}
 use Rattle.table_core.specs.declared.call.Answer.{Answer}
-use Rattle.table_core.proofs.Lists.{get-set, get-push, tally, weigh-plus, weigh-ones}
+use Rattle.table_core.proofs.Lists.{get-set, get-push, tally, weigh-plus, weigh-ones, weigh-take_more, weigh-take}
 use Rattle.table_core.proofs.Locks.{weigh-le}
 use Rattle.std.proofs.lemmas.Bool.{eq-eqb, eqb-true}
 use Rattle.std.proofs.Math.Nat.{mod-lt, mod-add-mod, mod-eq_of_lt, add-mod_right}
 use Rattle.std.proofs.lemmas.Nat.{pow_pos}
 use Rattle.table_core.proofs.Turns.{Turn, rests, opens, takes}
 use Rattle.table_core.proofs.Facts.{values, In, IsSet, Holding, Seated, AllSeated, Roomy, probing, Probing, AllTracked, Way}
-use Rattle.table_core.proofs.Contents.{weigh-put_in, weigh-take_more, not-true, order, put_new, put_stays, in_put, entry_of, bucket_none}
-use Rattle.table_core.proofs.Sizes.{first_row}
+use Rattle.table_core.proofs.Contents.{weigh-put_in, order, put_new, put_stays, in_put, entry_of, bucket_none}
+use Rattle.table_core.proofs.Sizes.{first_row, place_building}
 use Rattle.table_core.proofs.Pasts.{append-none}
+use Rattle.table_core.proofs.Truth.{not-true}
 
 -- Places that differ
 
@@ -96,10 +97,6 @@ many_places capacity hash n es le f = omega (arith, all_hit capacity hash n es f
 
 pub more_set : (capacity hash j : ℕ) (es : List Entry) (d : Entry) → bucket es (at_place capacity hash j) ≡ Some d → ((m : ℕ) → m < j → IsSet es (at_place capacity hash m)) → (m : ℕ) → m < suc j → IsSet es (at_place capacity hash m)
 more_set capacity hash j es d h f m lt = elim (order m j) [ inl k ↦ f m k | inr o ↦ elim o [ inl e ↦ (d, rw e h) | inr k ↦ absurd (omega arith) ] ]
-
-pub bucket_if : (es : List Entry) (i further : ℕ) (o : Option Entry) → bucket es i ≡ o → o ≡ None → if_empty o i further ≡ i
-bucket_if es i further None h e = refl
-bucket_if es i further (Some d) h e = absurd (cc)
 
 pub empty_at_end : (capacity hash d : ℕ) (es : List Entry) (o : Option Entry) → bucket es (at_place capacity hash d) ≡ o → length es < capacity → d ≡ length es → ((j : ℕ) → j < d → IsSet es (at_place capacity hash j)) → o ≡ None
 empty_at_end capacity hash d es None h lt e f = refl
@@ -199,10 +196,6 @@ pub seated_place : (w : World) (c : Call) (v : Option ℕ) → bucket_at w.table
 seated_place w c None n p s j g e = s.gens j g e
 seated_place w c (Some v) n p s j g e = seated_change w.table.gens c.state.walked (λ g. fill g (entry_of c.state v)) (λ k d h q z. seated_put d (entry_of c.state v) (bucket_none w.table c.state k d h q n) (probe_below w c k d p h q z) z) s.gens j g e
 
-pub place_built : (t : Table) (s : CallState) (v : Option ℕ) → (place t s v).building ≡ t.building
-place_built t s None = refl
-place_built t s (Some v) = refl
-
 pub next_positive : (w : World) (o : Option Gen) → current w.table ≡ o → AllSeated w → 0 < next_capacity w.table.first o
 next_positive w None h s = s.first
 next_positive w (Some g) h s = omega (arith, (s.gens (length w.table.gens - 1) g h).roomy)
@@ -210,14 +203,8 @@ next_positive w (Some g) h s = omega (arith, (s.gens (length w.table.gens - 1) g
 pub seated_begin : (w : World) → AllSeated w → (b : Build) → (begin_growth w.table).building ≡ Some b → Seated b.gen
 seated_begin w s b e = let z : record { gen = fresh (next_capacity w.table.first (current w.table)); copied = 0 } ≡ b = cc in rw (← z) (seated_fresh _ (next_positive w (current w.table) refl s))
 
-pub take-fewer : (f : Entry → ℕ) (es : List Entry) (k : ℕ) → weigh f (take k es) ≤ weigh f es
-take-fewer f [] zero = omega arith
-take-fewer f [] (suc k) = omega arith
-take-fewer f (x ∷ xs) zero = omega arith
-take-fewer f (x ∷ xs) (suc k) = omega (arith, take-fewer f xs k)
-
 pub fewer_copied : (es : List Entry) (k : ℕ) (e : Entry) → slice_get es k ≡ Some e → weigh (λ e. 1) (take k es) < length es
-fewer_copied es k e h = omega (arith, weigh-take_more (λ e. 1) es k e h, take-fewer (λ e. 1) es (suc k), weigh-ones es)
+fewer_copied es k e h = omega (arith, weigh-take_more (λ e. 1) es k e h, weigh-take (λ e. 1) es (suc k), weigh-ones es)
 
 -- a generation being built has room for each entry that is left
 pub copy_room : (t : Table) (m : List ℕ) (n : ℕ) (g : Option Gen) (b : Build) (e : Entry) → current t ≡ g → t.building ≡ Some b → slice_get (entries_of g) b.copied ≡ Some e → Holding t m → Roomy t n → ((d : Gen) → g ≡ Some d → Seated d) → length b.gen.entries < b.gen.capacity
@@ -246,7 +233,7 @@ seated_gens w c (shows _ _) p s = seated_show w.table w.table.building refl s.ge
 seated_gens w c _ p s = s.gens
 
 pub seated_built : (w : World) (c : Call) {p : Phase} {x : Event} {a : Answer} {r : CallState} {ls : List ℕ} {t : Table} {q : Option Told} → Row w c p x a r ls t q → (m : List ℕ) (n : ℕ) → Holding w.table m → Roomy w.table n → AllSeated w → (b : Build) → t.building ≡ Some b → Seated b.gen
-seated_built w c (puts _ _ _) m n o y s b e = s.built b (sym (place_built w.table c.state c.value) ∙ e)
+seated_built w c (puts _ _ _) m n o y s b e = s.built b (sym (place_building w.table c.state c.value) ∙ e)
 seated_built w c (begins_first _ _) m n o y s b e = seated_begin w s b e
 seated_built w c (begins_next _ _ _ _ _) m n o y s b e = seated_begin w s b e
 seated_built w c (copies _ k e2 h) m n o y s b e = seated_copy_at w.table m n w.table.building e2 k refl h o y (λ d q. s.gens _ d q) s.built b e

@@ -1,6 +1,6 @@
 -- The sizes of the generations, and how many buckets they have.
-use Rattle.std.proofs.Common.{ℕ, suc, ◌≡◌, ◌+◌, ◌-◌, ◌*◌, ◌/◌, ◌^◌, ◌≤◌, ◌++◌, ◌⊎◌, inl, inr, List, [], ◌∷◌, true, false, refl, Option, Some, None, length, sym, ap, arith, ltb, eqb, ◌∙◌}
-use Rattle.std.specs.Prelude.{◌==◌, option_to_list}
+use Rattle.std.proofs.Common.{ℕ, suc, ◌≡◌, ◌+◌, ◌-◌, ◌*◌, ◌/◌, ◌^◌, ◌≤◌, ◌++◌, ◌⊎◌, inl, inr, List, [], ◌∷◌, true, false, refl, Option, Some, None, length, sym, ap, arith, ltb, ◌∙◌}
+use Rattle.std.specs.Prelude.{option_to_list}
 use Rattle.std.specs.List.{slice_get}
 use Rattle.table_core.specs.Bags.{weigh}
 use Rattle.table_core.specs.Replies.{Told, Reply}
@@ -16,17 +16,17 @@ use Rattle.table_core.specs.declared.call.Phase.{Phase}
 use Rattle.table_core.specs.declared.call.Phase.TheVariants.{AtEmpty, Placed, Building}
 use Rattle.table_core.specs.declared.call.Outcome.{Outcome}
 use Rattle.table_core.specs.declared.call.Answer.{Answer}
-use Rattle.table_core.proofs.Lists.{weigh-append, weigh-set, get-set, get-push, tally, weigh-ones}
+use Rattle.table_core.proofs.Lists.{weigh-append, weigh-set, tally, weigh-ones}
 use Rattle.table_core.proofs.Locks.{Locked, weigh-le, moved, more}
 use Rattle.std.specs.Prelude.{max}
-use Rattle.std.proofs.lemmas.Bool.{ltb-false, eq-eqb}
+use Rattle.std.proofs.lemmas.Bool.{ltb-false}
 use Rattle.table_core.proofs.Turns.{Turn, rests, opens, takes}
 use Rattle.table_core.proofs.Pasts.{append-none}
 use Rattle.table_core.proofs.Standing.{fitting, IsLast, CallOk, CallsOk, no_sharer}
-use Rattle.table_core.proofs.Facts.{Holding, is_placed, placers, SizesOk, room, Roomy, IsCapacity, Capacities}
+use Rattle.table_core.proofs.Facts.{Holding, is_placed, placers, SizesOk, room, Roomy}
 use Rattle.table_core.proofs.Contents.{last_change, last_push, stand_at, nothing_built, shares_of, weigh-put_in, entry_of}
 use Rattle.table_core.proofs.Within.{gen_after}
-use Rattle.table_core.proofs.Contents.{fit_at, order}
+use Rattle.table_core.proofs.Contents.{fit_at}
 use Rattle.std.specs.Option.{is_some}
 use Rattle.std.proofs.Math.Nat.{pow-succ'}
 
@@ -144,15 +144,6 @@ roomy_change w c t f m n le e same nb l o =
       none = λ x. absurd (cc);
     })
 
-pub roomy_more : (t : Table) (m n : ℕ) → m ≤ n → Roomy t m → Roomy t n
-roomy_more t m n le o = record {
-  even = o.even;
-  begun = o.begun;
-  now = λ g x. ((o.now g x).0, less g.capacity t.first m n le (o.now g x).1, (o.now g x).2);
-  next = λ g b x y. ((o.next g b x y).0, omega (arith, (o.next g b x y).1));
-  none = o.none;
-}
-
 pub half : (c m s n : ℕ) → c ≡ 2 * m → ltb s (c / 2) ≡ false → s ≤ n → c ≤ 2 * n
 half c m s n e h l = let q : c / 2 ≤ s = ltb-false s (c / 2) h in omega arith
 
@@ -247,55 +238,11 @@ few_buckets_at t n r = under _ _ _ (bounded t n r (current t) t.building refl re
 pub power_more : (k : ℕ) → 2 ^ (k + 1) ≡ 2 * 2 ^ k
 power_more k = let e : k + 1 ≡ suc k = omega arith in ap (λ z. 2 ^ z) e ∙ pow-succ' 2 k
 
-pub first_power : (f : ℕ) → IsFirst f → IsCapacity f
-first_power f h = (h.0, h.1, h.2, omega (arith, h.3))
-
 pub even_first : (f : ℕ) → IsFirst f → (m : ℕ) × (f ≡ 2 * m)
 even_first f h = (2 ^ (h.0 - 1), (let e : h.0 ≡ (h.0 - 1) + 1 = omega (arith, h.2) in h.1 ∙ (ap (λ z. 2 ^ z) e ∙ power_more (h.0 - 1))))
 
 pub roomy_empty : (first : ℕ) → IsFirst first → Roomy (empty first).table 0
 roomy_empty first h = record { even = even_first first h; begun = λ b x y. absurd (cc); now = λ g x. absurd (cc); next = λ g b x y. absurd (cc); none = λ x. refl }
-
--- twice a capacity other than the largest is a capacity
-pub twice : (c : ℕ) → IsCapacity c → (c == 2 ^ 63) ≡ false → IsCapacity (2 * c)
-twice c h n = (h.0 + 1, ap (λ z. 2 * z) h.1 ∙ sym (power_more h.0), omega (arith, h.2), elim (order h.0 63) [ inl lt ↦ omega arith | inr o ↦ elim o [ inl e ↦ absurd (let q : c ≡ 2 ^ 63 = h.1 ∙ ap (λ z. 2 ^ z) e in let y : eqb c (2 ^ 63) ≡ true = eq-eqb c (2 ^ 63) q in cc) | inr gt ↦ absurd (omega (arith, h.3)) ] ])
-
-pub capacity_change : (gens : List Gen) (k : ℕ) (o : Option Gen) (f : Gen → Gen) → ((g : Gen) → (f g).capacity ≡ g.capacity) → slice_get gens k ≡ o → ((j : ℕ) (g : Gen) → slice_get gens j ≡ Some g → IsCapacity g.capacity) → (j : ℕ) (g : Gen) → slice_get (change_at gens k o f) j ≡ Some g → IsCapacity g.capacity
-capacity_change gens k None f s h c j g e = c j g e
-capacity_change gens k (Some d) f s h c j g e = elim (get-set gens k j d (f d) g h e) [ inl p ↦ rw (p.1, s) (c k d h) | inr p ↦ c j g p.1 ]
-
-pub capacities_change : (gens : List Gen) (w : Option ℕ) (f : Gen → Gen) → ((g : Gen) → (f g).capacity ≡ g.capacity) → ((j : ℕ) (g : Gen) → slice_get gens j ≡ Some g → IsCapacity g.capacity) → (j : ℕ) (g : Gen) → slice_get (change gens w f) j ≡ Some g → IsCapacity g.capacity
-capacities_change gens None f s c j g e = c j g e
-capacities_change gens (Some k) f s c j g e = capacity_change gens k (slice_get gens k) f s refl c j g e
-
-pub capacities_place : (t : Table) (s : CallState) (v : Option ℕ) → Capacities t → Capacities (place t s v)
-capacities_place t s None c = c
-capacities_place t s (Some v) c = record { first = c.first; gens = capacities_change t.gens s.walked (λ g. fill g (entry_of s v)) (λ g. refl) c.gens; built = c.built }
-
-pub capacities_begin : (t : Table) (o : Option Gen) → current t ≡ o → ((g : Gen) → o ≡ Some g → (g.capacity == 2 ^ 63) ≡ false) → Capacities t → Capacities (begin_growth t)
-capacities_begin t None h n c = record { first = c.first; gens = c.gens; built = λ b e. let z : record { gen = fresh (next_capacity t.first (current t)); copied = 0 } ≡ b = cc in rw (← z, h) (first_power t.first c.first) }
-capacities_begin t (Some g) h n c = record { first = c.first; gens = c.gens; built = λ b e. let z : record { gen = fresh (next_capacity t.first (current t)); copied = 0 } ≡ b = cc in rw (← z, h) (twice g.capacity (c.gens (length t.gens - 1) g h) (n g refl)) }
-
-pub capacities_show : (t : Table) (b : Option Build) → t.building ≡ b → Capacities t → (j : ℕ) (g : Gen) → slice_get (t.gens ++ built b) j ≡ Some g → IsCapacity g.capacity
-capacities_show t None h c j g e = c.gens j g (rw append-none at e)
-capacities_show t (Some b) h c j g e = elim (get-push t.gens b.gen g j e) [ inl p ↦ rw p.1 (c.built b h) | inr p ↦ c.gens j g p ]
-
-pub capacities_row : (w : World) (c : Call) {p : Phase} {x : Event} {a : Answer} {r : CallState} {ls : List ℕ} {t : Table} {q : Option Told} → Row w c p x a r ls t q → Capacities w.table → Capacities t
-capacities_row w c (puts _ _ _) k = capacities_place w.table c.state c.value k
-capacities_row w c (adds _) k = record { first = k.first; gens = capacities_change w.table.gens c.state.walked count (λ g. refl) k.gens; built = k.built }
-capacities_row w c (begins_first _ h) k = capacities_begin w.table None h (λ g e. absurd (cc)) k
-capacities_row w c (begins_next _ g h f n) k = capacities_begin w.table (Some g) h (λ d e. let z : g ≡ d = cc in rw (← z) n) k
-capacities_row w c (copies _ j e _) k = record { first = k.first; gens = k.gens; built = λ d x. let q = copied_from w.table.building e j d x in rw q.2 (k.built q.0 q.1) }
-capacities_row w c (shows _ _) k = record { first = k.first; gens = capacities_show w.table w.table.building refl k; built = λ b x. absurd (cc) }
-capacities_row w c _ k = k
-
-pub keeps_capacities : {w v : World} {x : Event} {a : Option Act} {r : Option Reply} → Turn w x a v r → Capacities w.table → Capacities v.table
-keeps_capacities rests k = k
-keeps_capacities (opens _ _ _ _ _ _ _ _) k = k
-keeps_capacities {w = w} (takes i c p a s list t o g e row nu) k = capacities_row w c row k
-
-pub capacities_empty : (first : ℕ) → IsFirst first → Capacities (empty first).table
-capacities_empty first h = record { first = h; gens = λ k g e. absurd (cc); built = λ b e. absurd (cc) }
 
 -- the first capacity stays
 

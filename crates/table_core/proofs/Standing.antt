@@ -159,9 +159,6 @@ other_ok w l n i c h (inr e) j d k ok = record {
   stands = λ q. absurd (stands_shares d.state.phase q (zero-each (λ (c : Call). holds_shared c.state.phase) w.calls j d (no_sharer w l i c h e) k));
 }
 
-pub building_stands : (p : Phase) → p ≡ Building → stands p ≡ false
-building_stands p e = rw e refl
-
 pub shown_stands : (w : World) (c : Call) {p : Phase} {x : Event} {a : Answer} {r : CallState} {ls : List ℕ} {t : Table} {q : Option Told} → Row w c p x a r ls t q → stands r.phase ≡ true → length t.gens ≡ length w.table.gens
 shown_stands w c (puts _ _ _) h = length-place w.table c.state c.value
 shown_stands w c (adds _) h = absurd (cc)

@@ -6,12 +6,12 @@ use Rattle.table_core.specs.Replies.{Told, Reply}
 use Rattle.table_core.specs.Generations.{Table}
 use Rattle.table_core.specs.Calls.{Call, starts, is_used, call_numbered, replaced}
 use Rattle.table_core.specs.Machine.{World, number_of, in_range, Act, Begins, Goes, acts, happens, reply_to, reply}
-use Rattle.table_core.specs.Steps.{Row, Opens, IsNewValue, left, Step, stays, begins, goes}
+use Rattle.table_core.specs.Steps.{Row, Opens, IsNewValue, left, Step, moves, stays, begins, goes}
 use Rattle.table_core.specs.declared.event.Event.{Event}
 use Rattle.table_core.specs.declared.call.CallState.{CallState}
 use Rattle.table_core.specs.declared.call.Phase.{Phase}
 use Rattle.table_core.specs.declared.call.Answer.{Answer}
-use Rattle.table_core.proofs.Rows.{step}
+use Rattle.table_core.proofs.Exact.{step}
 
 pub data Turn (w : World) (x : Event) : Option Act → World → Option Reply → Type 0 where
   rests : Turn w x None w None
@@ -53,9 +53,9 @@ slot n [] c h = absurd (cc)
 slot n (x ∷ cs) c h = slot_if n x cs c (x.number == n) refl h (slot n cs c)
 
 pub turn_of : {w v : World} {x : Event} {m : Option Act} {r : Option Reply} → Step w x m v r → Turn w x m v r
-turn_of stays = rests
-turn_of (begins n v p h r o u f) = opens n v p h r o u f
-turn_of {w = w} {x = x} (goes c p a s list t o r h e row) =
+turn_of (stays _) = rests
+turn_of (moves _ _ _ (begins n v p h r o u f)) = opens n v p h r o u f
+turn_of {w = w} {x = x} (moves _ _ _ (goes c p a s list t o r h e row)) =
     let q = slot (number_of x) w.calls c h in
     rw (q.set (left c s list) q.number) (takes q.at c p a s list t o q.there e row q.number)
 

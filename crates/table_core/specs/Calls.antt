@@ -147,7 +147,7 @@ decided LookLoad s (Loaded g n) = probes LookProbe s g n
 decided LookProbe s Empty = to Done s
 decided LookProbe s (Holds same accepted) = looks s (same && accepted)
 decided LenLoad s NoGeneration = to Done s
-decided LenLoad s (Loaded g n) = record s { phase = LenSize; walked = Some g }
+decided LenLoad s (Loaded g n) = record s { phase = LenSize; walked = Some g; capacity = n }
 decided LenSize s (Sized k) = to Done s
 decided WalkLoad s NoGeneration = to Done s
 decided WalkLoad s (Loaded g n) = record s { phase = WalkAt; walked = Some g; capacity = n; index = 0 }

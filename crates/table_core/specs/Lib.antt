@@ -1,3 +1,7 @@
+pub mod Bound
+pub mod Indexed
+pub mod Reached
+pub mod Openings
 pub mod ListObject
 pub mod Replies
 pub mod Bags
@@ -9,3 +13,4 @@ pub mod History
 pub mod Law
 pub mod Values
 pub mod Lists
+pub mod Worked

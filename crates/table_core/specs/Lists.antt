@@ -10,7 +10,7 @@ use Rattle.table_core.specs.Calls.{Call, call_numbered, is_used}
 use Rattle.table_core.specs.Machine.{World, empty, Act, Begins, Goes, acts, happens, after, reply}
 use Rattle.table_core.specs.History.{replies, placed, placed_by, given, kept, TakenEvent, bucket_then, has_later}
 use Rattle.table_core.specs.Law.{Law, IsLawful}
-use Rattle.table_core.specs.Values.{Ends, entry_named}
+use Rattle.table_core.specs.Values.{Ends, entry_named, IsOwn}
 use Rattle.table_core.specs.declared.event.Event.{Event}
 use Rattle.table_core.specs.declared.event.Event.TheVariants.{Insert}
 use Rattle.table_core.specs.declared.event.Entry.{Entry}
@@ -35,7 +35,7 @@ abbrev pub asked : Law → Reply → ListCall ℕ
 asked l r = asked_for l r.call r.told
 
 abbrev pub answered : Told → ListReply ℕ
-answered (ToldPlaced v) = AnswerPlaced
+answered (ToldPlaced v) = AnswerPlaced v
 answered (ToldFound e v) = AnswerFound e v
 answered (ToldRefused v) = AnswerRefused v
 answered (ToldSome e) = AnswerShown e
@@ -85,9 +85,9 @@ pub record IsRight (l : Law) (f : ℕ) (s : List Event) (r : Reply) : Type 0 whe
   pub meets : Meets r.told (bucket_then f s r.call at)
   pub answer : Answers l.equal (placed (empty f) at.before) (asked l r) (answered r.told) (placed (empty f) (at.before ++ at.event ∷ []))
 
--- each finished insert and look-up is right
+-- each finished insert and look-up is right: what its reply says was asked is what its own call asked, and the answer is the list object's
 abbrev pub Right : Law → ℕ → List Event → Event → Reply → Type 0
-Right l f s x r = IsLawful l f (s ++ x ∷ []) → Ends f s x r → is_list_reply r.told ≡ true → IsRight l f (s ++ x ∷ []) r
+Right l f s x r = IsLawful l f (s ++ x ∷ []) → Ends f s x r → is_list_reply r.told ≡ true → IsOwn (after f s) r × IsRight l f (s ++ x ∷ []) r
 
 -- One history
 
@@ -141,14 +141,16 @@ pub record IsOneHistory (l : Law) (f : ℕ) (s : List Event) : Type 0 where
   pub once : (n : ℕ) → weigh (λ r. if r.call == n then 1 else 0) (history (empty f) s) ≤ 1
   -- what stands in it is finished, or has placed its value
   pub only : (r : Reply) → Contains (history (empty f) s) r → Contains (replies (empty f) s) r ⊎ HasPlaced f s r
+  -- and asks what its own call asked: an insert of its value, a look-up by its test
+  pub own : (r : Reply) → Contains (history (empty f) s) r → IsOwn (after f s) r
 
 -- the finished inserts and look-ups, with the inserts that have placed, are one run of the list object
 abbrev pub OneHistory : Law → ℕ → List Event → Type 0
 OneHistory l f s = IsLawful l f s → IsOneHistory l f s
 
--- a call that finished before another began stands before it
-abbrev pub InOrder : Law → ℕ → List Event → List Event → Type 0
-InOrder l f s more = IsLawful l f (s ++ more) → IsInOrder f s more
+-- a call that finished before another began stands before it, whatever the closures answer
+abbrev pub InOrder : ℕ → List Event → List Event → Type 0
+InOrder f s more = IsInOrder f s more
 
 -- Equal values
 

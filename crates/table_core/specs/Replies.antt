@@ -8,7 +8,7 @@ pub data Told : Type 0 where
   ToldPlaced : (value : ℕ) → Told
   -- this entry was accepted, and the call's value comes back
   ToldFound : (entry : ℕ) → (back : ℕ) → Told
-  -- the call's value comes back: there was no room, and no memory for more
+  -- the call's value comes back: memory was refused, for its entry or for growth, or the table can't grow
   ToldRefused : (back : ℕ) → Told
   -- the look-up accepted this entry
   ToldSome : (entry : ℕ) → Told

@@ -2,8 +2,8 @@
 use Rattle.std.specs.Prelude.{ℕ, ◌+◌, ◌-◌, ◌/◌, ◌%◌, ◌^◌, ◌==◌, ◌&&◌, ◌≡◌, nat_lt, Bool, true, false, Option, Some, None, List, [], ◌∷◌, ◌++◌, length}
 use Rattle.table_core.specs.Replies.{Told, ToldSome, ToldNone, ToldLen, ToldWalk, Reply}
 use Rattle.table_core.specs.Generations.{Gen, Table, bits_of, current, is_current, next_copied, copy_on}
-use Rattle.table_core.specs.Calls.{Call, starts, is_used, is_used_value, call_numbered, replaced, is_owned, is_locked, to, probes, finds_entry, is_pending}
-use Rattle.table_core.specs.Machine.{World, Act, Begins, Goes, walked_gen, bucket_at, place, add_one, begin_growth, show_built, refused, by_outcome, number_of, in_range, reply_to}
+use Rattle.table_core.specs.Calls.{Call, starts, is_used, is_used_value, call_numbered, replaced, is_owned, is_locked, holds_shared, holds_owned, to, probes, finds_entry, is_pending}
+use Rattle.table_core.specs.Machine.{World, Act, Begins, Goes, walked_gen, bucket_at, place, add_one, begin_growth, show_built, refused, by_outcome, number_of, in_range, reply_to, acts, happens, reply}
 use Rattle.table_core.specs.declared.event.Event.{Event}
 use Rattle.table_core.specs.declared.event.Event.TheVariants.{Insert, Lookup, Len, Walk, Share, Own, Free, Load, Read, Put, Add, Size, Check, Copy, Show}
 use Rattle.table_core.specs.declared.event.Entry.{Entry}
@@ -83,7 +83,7 @@ pub data Row (w : World) (c : Call) : Phase → Event → Answer → CallState �
   look_goes_on : (n : ℕ) (y : Bool) (e : Entry) → bucket_at w.table c.state ≡ Some e → accepts e c.state y ≡ false → nat_lt (c.state.seen + 1) c.state.capacity ≡ true → Row w c LookProbe (Read n y) (Holds (e.bits == bits_of c.state.hash) y) (next_bucket LookProbe c.state) c.list w.table None
   -- LenLoad: load
   len_none : (n : ℕ) → current w.table ≡ None → Row w c LenLoad (Load n) NoGeneration (to Done c.state) c.list w.table (Some (ToldLen 0))
-  len_loads : (n : ℕ) (g : Gen) → current w.table ≡ Some g → Row w c LenLoad (Load n) (Loaded (length w.table.gens - 1) g.capacity) (record c.state { phase = LenSize; walked = Some (length w.table.gens - 1) }) c.list w.table None
+  len_loads : (n : ℕ) (g : Gen) → current w.table ≡ Some g → Row w c LenLoad (Load n) (Loaded (length w.table.gens - 1) g.capacity) (record c.state { phase = LenSize; walked = Some (length w.table.gens - 1); capacity = g.capacity }) c.list w.table None
   -- LenSize: size
   len_size : (n : ℕ) (g : Gen) → walked_gen w.table c.state ≡ Some g → Row w c LenSize (Size n) (Sized g.size) (to Done c.state) c.list w.table (Some (ToldLen g.size))
   -- WalkLoad: load
@@ -111,14 +111,42 @@ IsNewValue calls (Some v) = is_used_value v calls ≡ false
 abbrev pub left : Call → CallState → List ℕ → Call
 left c s list = record c { list = list; state = s }
 
--- One event: what it does, the world after it, and the reply that it gives.
-pub data Step (w : World) (x : Event) : Option Act → World → Option Reply → Type 0 where
-  -- an event that isn't taken changes nothing
-  stays : Step w x None w None
+-- What a taken event does, the world after it, and the reply that it gives.
+pub data Takes (w : World) (x : Event) : Act → World → Option Reply → Type 0 where
   -- a call begins, whose number and value are unused
   begins : (n : ℕ) (v : Option ℕ) (p : Phase) (h : ℕ) → in_range x ≡ true → Opens x n v p h → is_used n w.calls ≡ false → IsNewValue w.calls v →
-      Step w x (Some (Begins (starts n v p h))) (record w { calls = w.calls ++ starts n v p h ∷ [] }) None
+      Takes w x (Begins (starts n v p h)) (record w { calls = w.calls ++ starts n v p h ∷ [] }) None
   -- a call takes a row
   goes : (c : Call) (p : Phase) (a : Answer) (s : CallState) (list : List ℕ) (t : Table) (o : Option Told) →
       in_range x ≡ true → call_numbered (number_of x) w.calls ≡ Some c → c.state.phase ≡ p → Row w c p x a s list t o →
-      Step w x (Some (Goes c a)) (record { table = t; calls = replaced (left c s list) w.calls }) (reply_to c.number o)
+      Takes w x (Goes c a) (record { table = t; calls = replaced (left c s list) w.calls }) (reply_to c.number o)
+
+-- One event: what the table of events says, and where it says nothing the world stays as it was.
+pub data Step (w : World) (x : Event) : Option Act → World → Option Reply → Type 0 where
+  moves : (a : Act) (v : World) (r : Option Reply) → Takes w x a v r → Step w x (Some a) v r
+  stays : ((a : Act) (v : World) (r : Option Reply) → Takes w x a v r → ⊥) → Step w x None w None
+
+-- this is what the event does
+pub record IsTheStep (w : World) (x : Event) (a : Act) (v : World) (r : Option Reply) : Type 0 where
+  pub does : acts w x ≡ Some a
+  pub leads : happens w x ≡ v
+  pub tells : reply w x ≡ r
+
+-- whatever the table of events says is what happens
+abbrev pub OnlyStep : World → Event → Act → World → Option Reply → Type 0
+OnlyStep w x a v r = Takes w x a v r → IsTheStep w x a v r
+
+-- the lock is taken or let go
+abbrev pub moves_lock : Answer → Bool
+moves_lock Taken = true
+moves_lock (Released _) = true
+moves_lock _ = false
+
+-- a call in one phase holds the lock as it does in another
+pub record HoldsAsBefore (p q : Phase) : Type 0 where
+  pub shared : holds_shared q ≡ holds_shared p
+  pub owned : holds_owned q ≡ holds_owned p
+
+-- who holds the lock changes only where it is taken or let go
+abbrev pub LockStays : World → Call → Phase → Event → Answer → CallState → List ℕ → Table → Option Told → Type 0
+LockStays w c p x a s list t o = Row w c p x a s list t o → moves_lock a ≡ false → HoldsAsBefore p s.phase

@@ -4,7 +4,7 @@ use Rattle.table_core.specs.Bags.{SameBag, count_of}
 use Rattle.table_core.specs.Replies.{Told, ToldPlaced, ToldFound, ToldRefused, ToldSome, ToldLen, ToldWalk, Reply}
 use Rattle.table_core.specs.Generations.{Gen, current}
 use Rattle.table_core.specs.Calls.{Call, call_numbered}
-use Rattle.table_core.specs.Machine.{empty, Begins, acts, after, reply}
+use Rattle.table_core.specs.Machine.{World, empty, Begins, acts, after, reply}
 use Rattle.table_core.specs.History.{replies, placed, given, back, kept, running, buckets, added, reads, generations_loaded, TakenEvent, bucket_then, has_later}
 use Rattle.table_core.specs.declared.event.Event.{Event}
 use Rattle.table_core.specs.declared.event.Event.TheVariants.{Lookup, Load, Put, Check}
@@ -12,7 +12,7 @@ use Rattle.table_core.specs.declared.event.Entry.{Entry}
 use Rattle.table_core.specs.declared.call.Phase.{Phase}
 use Rattle.table_core.specs.declared.call.Phase.TheVariants.{AtEmpty, Owned}
 use Rattle.table_core.specs.declared.call.Answer.{Answer}
-use Rattle.table_core.specs.declared.call.Answer.TheVariants.{Holds}
+use Rattle.table_core.specs.declared.call.Answer.TheVariants.{Holds, NoRoom, Failed}
 
 -- after this schedule, this event ends a call with this reply
 abbrev pub Ends : ℕ → List Event → Event → Reply → Type 0
@@ -52,20 +52,24 @@ pub record AcceptedEntry (f : ℕ) (s : List Event) (n e : ℕ) : Type 0 where
   pub there : bucket_then f s n at ≡ Some entry
   pub value : entry.value ≡ e
 
+-- a reply is its call's own: an insert is told of its own value, and another call of none
+abbrev pub IsOwn : World → Reply → Type 0
+IsOwn w r = (c : Call) × (call_numbered r.call w.calls ≡ Some c) × (c.value ≡ value_told r.told)
+
 -- a call is told its own value, and only an entry that it has accepted
 pub record IsOwnAnswer (f : ℕ) (s : List Event) (x : Event) (r : Reply) : Type 0 where
-  pub own : (v : ℕ) → value_told r.told ≡ Some v → (c : Call) × (call_numbered r.call (after f s).calls ≡ Some c) × (c.value ≡ Some v)
+  pub own : IsOwn (after f s) r
   pub accepted : (e : ℕ) → entry_named r.told ≡ Some e → AcceptedEntry f (s ++ x ∷ []) r.call e
 
 abbrev pub OwnAnswers : ℕ → List Event → Event → Reply → Type 0
 OwnAnswers f s x r = Ends f s x r → IsOwnAnswer f s x r
 
--- why a call may be refused at an event: its memory was refused, or there is no greater capacity
-abbrev pub IsCause : Option Gen → Event → Type 0
-IsCause g (Put n y granted) = granted ≡ false
-IsCause None (Check n granted) = granted ≡ false
-IsCause (Some g) (Check n granted) = (granted ≡ false) ⊎ (g.capacity ≡ 2 ^ 63)
-IsCause g _ = ⊥
+-- why a call may be refused at an event, by what it found there: its memory was asked for and refused, or there is no greater capacity
+abbrev pub IsCause : Option Gen → Event → Answer → Type 0
+IsCause g (Put n y granted) NoRoom = granted ≡ false
+IsCause None (Check n granted) Failed = granted ≡ false
+IsCause (Some g) (Check n granted) Failed = (granted ≡ false) ⊎ (g.capacity ≡ 2 ^ 63)
+IsCause g _ _ = ⊥
 
 -- a put or a check
 abbrev pub is_put_or_check : Phase → Answer → Bool
@@ -76,7 +80,7 @@ is_put_or_check _ a = false
 -- the last put or check of call n had a cause, and its value is placed at no moment
 pub record IsRefusal (f : ℕ) (s : List Event) (n v : ℕ) : Type 0 where
   pub at : TakenEvent f s n
-  pub cause : IsCause (current (after f at.before).table) at.event
+  pub cause : IsCause (current (after f at.before).table) at.event at.found
   pub last : has_later is_put_or_check (after f (at.before ++ at.event ∷ [])) at.rest n ≡ false
   pub never : (more : List Event) → count_of v (placed (empty f) (s ++ more)) ≡ 0
 

@@ -3,6 +3,14 @@
 #![tactic(auto)]
 
 pub mod call;
+mod calls;
+pub mod deciding;
 pub mod event;
+mod generation;
+mod machine;
 pub mod reply;
+pub mod state;
+mod table;
+#[cfg(test)]
+mod tests;
 pub mod theorems;

@@ -7,7 +7,8 @@ pub enum Reply {
     Placed(u64),
     /// This entry was accepted, and the call's value comes back.
     Found(u64, u64),
-    /// The call's value comes back: it found no room and no memory.
+    /// The call's value comes back: memory was refused, for its entry or for growth, or the table
+    /// can't grow.
     Refused(u64),
     /// The look-up accepted this entry.
     Some(u64),

@@ -1,10 +1,25 @@
-ghost use Rattle.std.specs.Prelude.{ℕ, List};
-ghost use Rattle.table_core.specs.Generations.{IsFirst};
-ghost use Rattle.table_core.specs.Replies.{Reply};
+ghost use Rattle.std.specs.Prelude.{ℕ, List, Option, [], ◌∷◌, ◌++◌};
+ghost use Rattle.table_core.specs.Calls.{Call};
+ghost use Rattle.table_core.specs.Generations.{Table, IsFirst};
+ghost use Rattle.table_core.specs.Machine.{World, Act, acts, happens, reply};
+ghost use Rattle.table_core.specs.Replies.{Told, Reply, ToldPlaced, ToldRefused, ToldNone, ToldLen, ToldWalk};
+ghost use Rattle.table_core.specs.Steps.{Step, OnlyStep, LockStays};
 ghost use Rattle.table_core.specs.Values.{ValuesStay, KeptIsPlaced, PlacedGrows, OwnAnswers, RefusalCauses, LengthsBetween, WalksWhole, FewBuckets, LookupsReadFew, InsertsLoadOnce};
 ghost use Rattle.table_core.specs.Law.{Law};
-ghost use Rattle.table_core.specs.Lists.{Right, PlacedApart};
+ghost use Rattle.table_core.specs.Lists.{Right, OneHistory, InOrder, PlacedApart, NoneRefusedInVain, Classes, SameClasses};
+ghost use Rattle.table_core.specs.Worked.{IsWorked, LooksForWhatComes, say, all_placed, lost_to_equal, told_lost_to_equal, lost_to_other, told_lost_to_other, refused_put, told_refused_put, uncounted, late_none, told_late_none, stands_late_none, shared_lock, double_growth, two_growers, starts_again, told_starts_again, refused_first, empty_walk, short_walk, other_bits};
+ghost use Rattle.table_core.specs.declared.call.Answer.{Answer};
+ghost use Rattle.table_core.specs.declared.call.CallState.{CallState};
+ghost use Rattle.table_core.specs.declared.call.Phase.{Phase};
 ghost use Rattle.table_core.specs.declared.event.Event.{Event};
+
+/// The machine takes exactly the steps of the table of events, and who holds the lock changes only
+/// where a call takes it or lets it go.
+pub fn events_are_steps()
+    ensures step { (w : World) (x : Event) → Step w x (acts w x) (happens w x) (reply w x) }
+    ensures only_step { (w : World) (x : Event) (a : Act) (v : World) (r : Option Reply) → OnlyStep w x a v r }
+    ensures lock_stays { (w : World) (c : Call) (p : Phase) (x : Event) (a : Answer) (s : CallState) (list : List ℕ) (t : Table) (o : Option Told) → LockStays w c p x a s list t o }
+{}
 
 /// What holds of every schedule, whatever the closures answer.
 pub fn schedules_keep_values()
@@ -23,5 +38,30 @@ pub fn schedules_keep_values()
 /// What holds of every lawful schedule: it is a growing list without equal entries.
 pub fn schedules_are_lists()
     ensures right { (l : Law) (f : ℕ) (s : List Event) (x : Event) (r : Reply) → IsFirst f → Right l f s x r }
+    ensures one_history { (l : Law) (f : ℕ) (s : List Event) → IsFirst f → OneHistory l f s }
+    ensures in_order { (f : ℕ) (s more : List Event) → IsFirst f → InOrder f s more }
     ensures placed_apart { (l : Law) (f : ℕ) (s : List Event) → IsFirst f → PlacedApart l f s }
+    ensures none_refused_in_vain { (l : Law) (f : ℕ) (s : List Event) (n v h : ℕ) (more : List Event) (x : Event) (back : ℕ) → IsFirst f → NoneRefusedInVain l f s n v h more x back }
+    ensures classes { (l : Law) (f : ℕ) (s : List Event) → IsFirst f → Classes l f s }
+    ensures same_classes { (l : Law) (f : ℕ) (s : List Event) (k : Law) (g : ℕ) (t : List Event) → IsFirst f → IsFirst g → SameClasses l f s k g t }
+{}
+
+/// Worked schedules: what their calls are told, how those stand in the one history, how many buckets
+/// they leave, and that each is lawful for some law.
+pub fn worked_schedules()
+    ensures lost_to_equal { IsWorked 16 lost_to_equal told_lost_to_equal told_lost_to_equal 16 }
+    ensures larger_first { IsWorked 32 lost_to_equal told_lost_to_equal told_lost_to_equal 32 }
+    ensures lost_to_other { IsWorked 16 lost_to_other told_lost_to_other told_lost_to_other 16 }
+    ensures refused_put { IsWorked 16 refused_put told_refused_put told_refused_put 16 }
+    ensures uncounted { IsWorked 16 uncounted (say 3 (ToldLen 0) ∷ say 1 (ToldPlaced 10) ∷ []) (say 1 (ToldPlaced 10) ∷ []) 16 }
+    ensures late_none { IsWorked 16 late_none told_late_none stands_late_none 48 }
+    ensures looks_for_what_comes { LooksForWhatComes }
+    ensures shared_lock { IsWorked 16 shared_lock (say 1 (ToldPlaced 10) ∷ []) (say 1 (ToldPlaced 10) ∷ []) 16 }
+    ensures double_growth { IsWorked 16 double_growth (all_placed 1 18) (all_placed 1 18) 112 }
+    ensures two_growers { IsWorked 16 two_growers (all_placed 1 8) (all_placed 1 8) 48 }
+    ensures starts_again { IsWorked 16 starts_again told_starts_again told_starts_again 48 }
+    ensures refused_first { IsWorked 16 refused_first (say 1 (ToldRefused 10) ∷ say 2 (ToldLen 0) ∷ []) (say 1 (ToldRefused 10) ∷ []) 0 }
+    ensures empty_walk { IsWorked 16 empty_walk (say 1 (ToldWalk []) ∷ []) [] 0 }
+    ensures short_walk { IsWorked 16 short_walk (told_lost_to_equal ++ (say 3 (ToldWalk (10 ∷ [])) ∷ [])) told_lost_to_equal 16 }
+    ensures other_bits { IsWorked 16 other_bits (say 1 (ToldPlaced 10) ∷ say 2 ToldNone ∷ []) (say 1 (ToldPlaced 10) ∷ say 2 ToldNone ∷ []) 16 }
 {}

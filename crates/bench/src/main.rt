@@ -1,0 +1,42 @@
+//! Measures the tables, beside others that answer in the same form.
+//!
+//!     bench list          the names of what is measured
+//!     bench held GROUP    the table held alone: runs a group of measurements once, in a fresh process: one or seq
+//!     bench seats GROUP   the number table of seated threads: one, seq, same or ins
+//!     bench               a small check, without a clock
+//!
+//! Each line is the name, the measurement and nanoseconds of wall time an operation (`g_rss`: resident bytes an entry).
+#![tactic(auto)]
+
+mod measures;
+mod numbers;
+mod report;
+mod seats;
+
+use crate::measures::{check_held, measure_held};
+use crate::report::Report;
+use crate::seats::{check_seats, measure_seats};
+use std::convert::AsStr;
+use std::{env, io};
+
+const HELD: &str = "held";
+
+const SEATS: &str = "seats";
+
+fn main(rt: HostRuntime) -> io::Result<()> {
+    let words: Vec<String> = env::args(&rt)?.skip(1).collect(rt.alloc())?;
+    match words.as_slice() {
+        [] => {
+            check_held(&rt)?;
+            check_seats(&rt)
+        }
+        [word] if word.as_str() == "list" => println!(rt; "{HELD}\n{SEATS}"),
+        [name, group] if name.as_str() == HELD => {
+            measure_held(&rt, &Report { name: HELD }, group.as_str())
+        }
+        [name, group] if name.as_str() == SEATS => {
+            measure_seats(&rt, &Report { name: SEATS }, group.as_str())
+        }
+        _ => Ok(()),
+    }
+}

@@ -1,0 +1,86 @@
+//! A set of numbers over the table held alone, and the keys of the measurements.
+ghost use Rattle.std.specs.Prelude.{◌≡◌, ◌<◌};
+ghost use Rattle.bench.specs.Numbers.{number_hash};
+
+use lock_free_hashtable::atomic_value::Law;
+use lock_free_hashtable::raw::HeldRawTable;
+use std::alloc::Allocator;
+
+/// The keys of one measurement.
+pub const COUNT: u64 = 1_000_000;
+
+/// Numbers are compared by themselves, and hashed by `hash_number`.
+pub struct NumberLaw;
+
+impl Law<u64> for NumberLaw {
+    ghost use Rattle.bench.specs.Numbers.{same_number, number_hash, number_lawful};
+
+    ghost same = { same_number };
+
+    ghost hash_of = { number_hash };
+
+    ghost lawful = { number_lawful };
+}
+
+/// The hash of a number, the same as that of the tables that this one is compared with.
+pub fn hash_number(number: u64) -> u64
+    ensures { result ≡ number_hash number }
+{
+    number.wrapping_mul(0x9E37_79B9_7F4A_7C15)
+}
+
+/// Spreads 0, 1, 2, .. over all of `u64`, one to one (splitmix64).
+pub fn spread(index: u64) -> u64 {
+    let z = index.wrapping_add(0x9E37_79B9_7F4A_7C15);
+    let z = (z ^ (z >> 30)).wrapping_mul(0xBF58_476D_1CE4_E5B9);
+    let z = (z ^ (z >> 27)).wrapping_mul(0x94D0_49BB_1331_11EB);
+    z ^ (z >> 31)
+}
+
+/// The order of look-ups: a fixed permutation of 0 to `COUNT - 1`.
+pub fn turn(index: u64) -> u64
+    requires { index < COUNT }
+    ensures { result < COUNT }
+{
+    (index * 618_033 + 12_345) % COUNT
+}
+
+/// A set of boxed numbers.
+#[derive(Drop)]
+pub struct NumberSet<A: Allocator + Copy> {
+    table: HeldRawTable<Box<u64, A>, A>,
+    alloc: A,
+}
+
+impl<A: Allocator + Copy> NumberSet<A> {
+    /// The empty set.
+    pub fn new(alloc: A) -> Self {
+        NumberSet {
+            table: HeldRawTable::new(alloc),
+            alloc,
+        }
+    }
+
+    /// Whether the number was placed: it is new, and memory was there.
+    pub fn insert(&mut self, number: u64) -> bool {
+        let Ok(value) = Box::new(self.alloc, number) else {
+            return false;
+        };
+        matches!(
+            self.table.insert_alone::<NumberLaw, _, _>(
+                hash_number(number),
+                value,
+                |new: &u64, entry: &u64| *new == *entry,
+                |entry: &u64| hash_number(*entry),
+            ),
+            Ok((_, None))
+        )
+    }
+
+    /// Whether the number is an entry.
+    pub fn contains(&self, number: u64) -> bool {
+        self.table
+            .lookup_alone::<NumberLaw, _>(hash_number(number), |entry: &u64| *entry == number)
+            .is_some()
+    }
+}

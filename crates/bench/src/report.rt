@@ -1,0 +1,31 @@
+//! How a measurement is printed.
+use std::io;
+use std::num::nearest_u64_to_f64;
+use std::rt::Clock;
+use std::time::Instant;
+
+/// Who reports a measurement.
+#[derive(Clone, Copy)]
+pub struct Report<'a> {
+    pub name: &'a str,
+}
+
+impl Report<'_> {
+    /// Prints what one of so many operations took. A count that is wrong is reported in place of the time.
+    pub fn time(
+        &self,
+        rt: &(impl Print + Clock),
+        measurement: &str,
+        start: Instant,
+        done: u64,
+        wanted: u64,
+        operations: u64,
+    ) -> io::Result<()> {
+        if done != wanted {
+            return Err(io::Error::from(io::ErrorKind::InvalidData));
+        }
+        let nanos = start.elapsed(rt)?.as_secs_f64() * 1e9 / nearest_u64_to_f64(operations);
+        let name = self.name;
+        println!(rt; "{name} {measurement} {nanos:.2}")
+    }
+}

@@ -1,0 +1,123 @@
+-- How many buckets and entries a row of generations has.
+use Rattle.std.proofs.Common.{◌≡◌, ℕ, suc, add-one, mul_assoc, ◌+◌, ◌-◌, ◌*◌, ◌%◌, ◌^◌, Bool, mul-pos, ◌<◌, ◌≤◌, inl, inr, max, List, [], ◌∷◌, Option, length, map, refl, sym, ap, ◌∙◌, arith, le-mul_of_pos_right}
+use Rattle.std.specs.Prelude.{slice_set}
+use Rattle.std.specs.List.{sum_by}
+use Rattle.std.proofs.lemmas.Bool.{cases_lt}
+use Rattle.std.proofs.lemmas.Nat.{pow-add, pow_pos}
+use Rattle.std.proofs.Math.Nat.{pow-suc, le-max_left, le-max_right, le_trans, mod-add-mod, add-mod_right, mod-eq_of_lt, mod-lt}
+use Rattle.std.proofs.Math.Pow.{pow_mono}
+use Rattle.std.proofs.lemmas.List.{length-map, length-set, map-append}
+use Rattle.std.proofs.lemmas.List.Sums.{sum_by-append}
+use Rattle.lock_free_hashtable.specs.Buckets.{Part, vacant, own, named, values, owned, set_parts, shown_all, AllSound}
+use Rattle.lock_free_hashtable.specs.Capacity.{IsFirstCapacity, IsSized}
+use Rattle.lock_free_hashtable.specs.Table.{homes_of, IsBuilt}
+use Rattle.lock_free_hashtable.specs.Probe.{IsPassed}
+use Rattle.lock_free_hashtable.specs.Ways.{place}
+use Rattle.lock_free_hashtable.specs.declared.cell.Entry.{Entry}
+use Rattle.lock_free_hashtable.proofs.Entries.{all_set}
+use Rattle.lock_free_hashtable.proofs.Homes.{homes_in}
+
+module _ {T : Type 0} where
+  -- as many buckets are set as show an entry
+  pub set_shown : (gs : List (List (Part T))) (ps : List (Part T)) → AllSound gs ps → length (set_parts ps) ≡ length (values (shown_all gs ps))
+  set_shown gs [] s = refl
+  set_shown gs (vacant ∷ ps) s = set_shown gs ps (λ k. s (suc k))
+  set_shown gs (own e ∷ ps) s = ap suc (set_shown gs ps (λ k. s (suc k)))
+  set_shown gs (named b g i ∷ ps) s = rw ((s 0).1) (ap suc (set_shown gs ps (λ k. s (suc k))))
+
+  -- where a bucket is set, each generation has as many buckets as before
+  -- the current generation has its buckets beside those of the earlier ones
+  total_split : (gs : List (List (Part T))) (cur : List (Part T)) → sum_by length (homes_of gs cur) ≡ sum_by length (homes_in gs) + length cur
+  total_split gs cur = rw map-append (sum_by-append length (homes_in gs) (map owned cur ∷ []) ∙ rw length-map (omega arith))
+
+  pub total_set : (gs : List (List (Part T))) (cur : List (Part T)) (i : ℕ) (p : Part T) → sum_by length (homes_of gs (slice_set cur i p)) ≡ sum_by length (homes_of gs cur)
+  total_set gs cur i p = rw (total_split gs (slice_set cur i p), total_split gs cur, length-set) refl
+
+-- a power of two that fits a word of 64 bits is at most 2^63
+small_power : (k : ℕ) → 2 ^ k < 2 ^ 64 → k < 64
+small_power k small = elim (cases_lt k 64) [
+  | inl lt ↦ lt
+  | inr ge ↦ absurd (let h : 2 ^ 64 ≤ 2 ^ k = pow_mono ge in omega arith)
+]
+
+module _ (first grown c total n : ℕ) (is : IsFirstCapacity first) (sized : IsSized first grown c total n) where
+  first_power : 4 ≤ is.0.0
+  first_power = elim (cases_lt is.0.0 4) [
+    | inl lt ↦ absurd (let h : 2 ^ is.0.0 ≤ 2 ^ 3 = pow_mono (let le : is.0.0 ≤ 3 = omega arith in le) in let e = is.0.1 in let some = is.1 in omega arith)
+    | inr ge ↦ ge
+  ]
+
+  -- the capacity is a power of two
+  pub capacity_power : c ≡ 2 ^ (is.0.0 + grown)
+  capacity_power = sized.doubled ∙ (rw (is.0.1) (sym (pow-add 2 is.0.0 grown)))
+
+  pub some_capacity : first ≤ c
+  some_capacity = rw sized.doubled (le-mul_of_pos_right first (pow_pos grown))
+
+  -- a capacity that fits a word of 64 bits is at most 2^63, and came by fewer than 60 growths
+  pub few_growths : c < 2 ^ 64 → grown < 60
+  few_growths small =
+      let all : is.0.0 + grown < 64 = small_power (is.0.0 + grown) (rw capacity_power at small) in
+      let some : 4 ≤ is.0.0 = first_power in
+      omega arith
+
+  pub small_capacity : c < 2 ^ 64 → c ≤ 2 ^ 63
+  small_capacity small =
+      let all : is.0.0 + grown < 64 = small_power (is.0.0 + grown) (rw capacity_power at small) in
+      rw capacity_power (pow_mono (let le : is.0.0 + grown ≤ 63 = omega arith in le))
+
+  -- the buckets of all generations are few for the entries
+  pub few_buckets : total ≤ max first (8 * n - first)
+  few_buckets = let all = sized.all in elim sized.wanted [
+    | inl e ↦ le_trans (let le : total ≤ first = omega arith in le) (le-max_left first (8 * n - first))
+    | inr le ↦ le_trans (let le : total ≤ 8 * n - first = omega arith in le) (le-max_right first (8 * n - first))
+  ]
+
+  -- with one entry more
+  pub sized_set : IsSized first grown c total (n + 1)
+  sized_set = record {
+    doubled = sized.doubled;
+    all = sized.all;
+    wanted = elim sized.wanted [ inl e ↦ inl e | inr le ↦ inr (omega arith) ];
+  }
+
+  -- with one generation more of twice the capacity, if at least half of the buckets are set
+  pub sized_more : (m k : ℕ) → m ≡ 2 * c → k ≡ n → c ≤ 2 * n → IsSized first (grown + 1) m (total + m) k
+  sized_more m k twice same wanted = record {
+    doubled = rw (twice, add-one, pow-suc, ← mul_assoc, ← sized.doubled) (omega arith);
+    all = (let all = sized.all in omega arith);
+    wanted = inr (omega arith);
+  }
+
+-- the first generation
+pub sized_first : (first n total : ℕ) → total ≡ first → IsSized first 0 first total n
+sized_first first n total e = record { doubled = omega arith; all = omega arith; wanted = inl refl }
+
+-- where there is a bucket, the generations have the sizes that growth gives them
+pub sized_of : {T : Type 0} (first : ℕ) (gs : List (List (Part T))) (cur : List (Part T)) → 0 < length cur → IsBuilt first gs cur → IsSized first (length gs) (length cur) (sum_by length (homes_of gs cur)) (length (set_parts cur))
+sized_of first gs cur some (inl none) = absurd (let e : length cur ≡ 0 = rw none.1 refl in omega arith)
+sized_of first gs cur some (inr sized) = sized
+
+-- where there is none, there is no generation
+pub none_of : {T : Type 0} (first : ℕ) (gs : List (List (Part T))) (cur : List (Part T)) → 0 < first → length cur ≡ 0 → IsBuilt first gs cur → (gs ≡ []) × (cur ≡ [])
+none_of first gs cur some e (inl none) = none
+none_of first gs cur some e (inr sized) = absurd (let c = sized.doubled in let p : 0 < first * 2 ^ length gs = mul-pos some (pow_pos (length gs)) in omega arith)
+
+module _ {X : Type 0} (ps : List (Option X)) (hash : ℕ) where
+  -- each bucket lies on the way of each hash
+  way_to : (i : ℕ) → i < length ps → (k : ℕ) × (k < length ps) × (place ps hash k ≡ i)
+  way_to i lt =
+      let n : ℕ = length ps in
+      let r : ℕ = hash % n in
+      let below : r < n = mod-lt hash (let h : 0 < n = omega arith in h) in
+      elim (cases_lt i r) [
+        | inl before ↦ (i + n - r, (omega arith), sym (mod-add-mod hash n (i + n - r)) ∙ (let e : r + (i + n - r) ≡ i + n = omega arith in rw e (add-mod_right i n ∙ mod-eq_of_lt lt)))
+        | inr behind ↦ (i - r, (omega arith), sym (mod-add-mod hash n (i - r)) ∙ (let e : r + (i - r) ≡ i = omega arith in rw e (mod-eq_of_lt lt)))
+      ]
+
+-- where a probe passed every bucket, each bucket is set
+pub full_values : {T U : Type 0} (target : T → U) (answers : U → Bool → Type 0) (ps : List (Option (Entry T))) (hash : ℕ) → IsPassed target answers ps hash (length ps) → length (values ps) ≡ length ps
+full_values target answers ps hash passed = all_set ps (λ i lt.
+    let w = way_to ps hash i lt in
+    let a = passed.refused w.0 w.1 in
+    (a.entry, rw w.2 at a.held))

@@ -1,0 +1,21 @@
+use Rattle.std.proofs.Common.{◌≡◌, ◌≤◌, length, take}
+use Rattle.std.specs.Fn.{FnReturnsAt}
+use Rattle.lock_free_hashtable.specs.Buckets.{set_parts, shown_all}
+use Rattle.lock_free_hashtable.specs.Growth.{IsRehomed}
+use Rattle.lock_free_hashtable.specs.Generations.{parts_of, last_of, IsNamedIn}
+use Rattle.lock_free_hashtable.proofs.growth.rehomed.Given as goal
+
+pub record IsUnderWay (A B C D E : Type 0) : Type 0 where
+  pub long : A
+  pub grown : B
+  pub counted : C
+  pub names : D
+  pub rehomed : E
+
+abbrev pub invariant-loop-index : goal.invariant-loop-index
+invariant-loop-index g l =
+    IsUnderWay (length l.built.parts ≡ l.capacity)
+    (l.built.size ≤ l.index)
+    (l.built.size ≡ length (set_parts l.built.parts))
+    (IsNamedIn (parts_of l.earlier) l.built.parts)
+    (IsRehomed g.T.AtomicValue.target (FnReturnsAt g.H.Fn l.hash_fn) (take l.index (shown_all (parts_of l.earlier) (last_of (parts_of l.earlier)))) (shown_all (parts_of l.earlier) l.built.parts))

@@ -1,0 +1,14 @@
+use Rattle.std.proofs.Common.{arith, ◌<◌, ◌^◌, length}
+use Rattle.lock_free_hashtable.proofs.Kept.{buckets_few, buckets_fit, buckets_are}
+use Rattle.lock_free_hashtable.proofs.raw.HeldRawTable.buckets_alone.Goals as goal
+
+pub overflow_add-result : goal.overflow_add-result
+overflow_add-result g c =
+    let some : 0 < length c.self.inside.current.parts = omega arith in
+    let small : length c.self.inside.current.parts < 2 ^ 64 = omega arith in
+    record { fits = rw c.capacity-capacity.ensures (buckets_fit _ _ _ _ c.self.invariant some small) }
+
+pub returns-clause-few : goal.returns-clause-few
+returns-clause-few g c =
+    let some : 0 < length c.self.inside.current.parts = omega arith in
+    rw (c.capacity-capacity.ensures, buckets_are _ _ _ _ c.self.invariant some, ← c.self.view_is) (buckets_few _ _ _ _ c.self.invariant some)

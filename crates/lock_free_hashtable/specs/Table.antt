@@ -1,0 +1,112 @@
+-- A table held alone, as its callers see it.
+use Rattle.std.specs.Prelude.{◌≡◌, ◌⊎◌, ℕ, ◌++◌, Bool, List, [], ◌∷◌, Option, Some, length, map, option_map, Contains, slice_index_or}
+use Rattle.std.specs.List.{sum_by, flat_map}
+use Rattle.std.specs.List.Sorted.{IsPermutation}
+use Rattle.table_core.specs.ListObject.{Length, Counted, Answers}
+use Rattle.lock_free_hashtable.specs.Buckets.{Part, values, value_at, owned, set_parts, shown_all, AllSound}
+use Rattle.lock_free_hashtable.specs.Ways.{IsLawfulFor}
+use Rattle.lock_free_hashtable.specs.Capacity.{IsFirstCapacity, IsSized}
+use Rattle.lock_free_hashtable.specs.declared.cell.Entry.{Entry}
+use Rattle.lock_free_hashtable.specs.declared.place.Place.{Place}
+
+pub record Table (T : Type 0) : Type 0 where
+  -- the capacity of the first generation
+  pub first : ℕ
+  -- what each bucket of the current generation shows; no bucket before the first insert
+  pub buckets : List (Option (Entry T))
+  -- generation by generation, the current one last, what each bucket owns
+  pub homes : List (List (Option (Entry T)))
+  -- the count that the current generation keeps
+  pub size : ℕ
+
+module _ {T : Type 0} where
+  -- the entries with their eight bits, in the order of the buckets
+  abbrev pub marked : Table T → List (Entry T)
+  marked t = values t.buckets
+
+  -- the values of a list of entries
+  abbrev pub values_of : List (Entry T) → List T
+  values_of es = map (λ e. e.value) es
+
+  -- the entries, in the order of the buckets
+  abbrev pub entries : Table T → List T
+  entries t = values_of (marked t)
+
+  -- the buckets of the current generation
+  abbrev pub capacity : Table T → ℕ
+  capacity t = length t.buckets
+
+  -- the buckets of all generations
+  abbrev pub all_buckets : Table T → ℕ
+  all_buckets t = sum_by length t.homes
+
+  -- the entry that lives at a place, with its bits
+  abbrev pub home_at : Table T → Place → Option (Entry T)
+  home_at t p = value_at (slice_index_or t.homes p.generation []) p.index
+
+  -- the value that lives at a place
+  abbrev pub entry_at : Table T → Place → Option T
+  entry_at t p = option_map (λ e. e.value) (home_at t p)
+
+  -- this entry lives at the place
+  pub record IsEntryAt (t : Table T) (p : Place) (v : T) : Type 0 where
+    pub lives : entry_at t p ≡ Some v
+    pub among : Contains (entries t) v
+
+  -- each place keeps its entry, from one table to a later one
+  abbrev pub IsLater : Table T → Table T → Type 0
+  IsLater old new = (p : Place) (v : T) → IsEntryAt old p v → IsEntryAt new p v
+
+  -- the size is the number of the entries
+  abbrev pub IsCounted : Table T → Type 0
+  IsCounted t = t.size ≡ length (entries t)
+
+  -- the table is counted, and its entries are those of the list, in some order
+  pub record Stands (t : Table T) (M : List T) : Type 0 where
+    pub counted : IsCounted t
+    pub permuted : IsPermutation (entries t) M
+
+  -- each list that the table stands for answers its length with this number
+  abbrev pub CountsAsList : Table T → ℕ → Type 0
+  CountsAsList t k = (equal : T → T → Bool) (M : List T) → Stands t M → Answers equal M Length (Counted k) M
+
+  -- no generation yet
+  abbrev pub empty_table : ℕ → Table T
+  empty_table first = record { first = first; buckets = []; homes = [] ∷ []; size = 0 }
+
+  -- what each bucket of each generation owns
+  abbrev pub homes_of : List (List (Part T)) → List (Part T) → List (List (Option (Entry T)))
+  homes_of gs current = map (λ ps. map owned ps) (gs ++ current ∷ [])
+
+  -- the table of earlier generations and a current one
+  abbrev pub table_of : ℕ → List (List (Part T)) → List (Part T) → ℕ → Table T
+  table_of first gs current size = record { first = first; buckets = shown_all gs current; homes = homes_of gs current; size = size }
+
+  -- there is no generation, or the generations have the sizes that growth gives them
+  abbrev pub IsBuilt : ℕ → List (List (Part T)) → List (Part T) → Type 0
+  IsBuilt first gs current =
+      ((gs ≡ []) × (current ≡ []))
+      ⊎ IsSized first (length gs) (length current) (sum_by length (homes_of gs current)) (length (set_parts current))
+
+  -- what is true of the generations of every table
+  pub record IsKept (first : ℕ) (gs : List (List (Part T))) (current : List (Part T)) (size : ℕ) : Type 0 where
+    pub first_is : IsFirstCapacity first
+    pub built : IsBuilt first gs current
+    -- each name leads to its entry
+    pub sound : AllSound gs current
+    -- the entries shown are those that some bucket owns, each once
+    pub whole : IsPermutation (flat_map values (homes_of gs current)) (values (shown_all gs current))
+    pub counted : size ≡ length (values (shown_all gs current))
+
+module _ {T U : Type 0} (target : T → U) (same : U → U → Bool) (hash_of : U → ℕ) where
+  -- the current generation is lawful
+  abbrev pub IsLawful : Table T → Type 0
+  IsLawful t = IsLawfulFor target same hash_of t.buckets
+
+-- the table is lawful for every equality and every hash
+abbrev pub IsLawfulForAll : {T U : Type 0} → (T → U) → Table T → Type 0
+IsLawfulForAll {T} {U} target t = (same : U → U → Bool) (hash_of : U → ℕ) → IsLawful target same hash_of t
+
+-- a table without entries is lawful for every equality and every hash
+abbrev pub LawfulWithoutEntries : {T U : Type 0} → (T → U) → Type 0
+LawfulWithoutEntries {T} target = (t : Table T) → length (entries t) ≡ 0 → IsLawfulForAll target t

@@ -1,0 +1,72 @@
+//! Values that a table holds, and laws that tables are used under.
+ghost use Rattle.std.specs.Prelude.{◌≡◌, ◌<◌, ◌^◌, ℕ, Bool, true};
+ghost use Rattle.lock_free_hashtable.specs.Law.{IsLaw};
+
+use std::alloc::Allocator;
+use std::num::{NonZeroU32, NonZeroU64};
+use std::sync::Arc;
+
+/// A value that a table can hold. The table compares and hashes what the value leads to, its target.
+pub trait AtomicValue: Drop {
+    /// What is compared, hashed and shown.
+    type Target;
+
+    // The target is one function of the value.
+    ghost target: { Self → Self.Target };
+
+    /// The target of the value.
+    fn deref(&self) -> &Self::Target
+        ensures { result.now ≡ target self.now };
+}
+
+impl<T: Drop, A: Allocator> AtomicValue for Box<T, A> {
+    type Target = T;
+
+    ghost target = { λ b. b.value };
+
+    fn deref(&self) -> &T {
+        self.as_ref()
+    }
+}
+
+impl<T: Drop, A: Allocator> AtomicValue for Arc<T, A> {
+    type Target = T;
+
+    ghost target = { λ a. a.value };
+
+    fn deref(&self) -> &T {
+        self.as_ref()
+    }
+}
+
+impl AtomicValue for NonZeroU64 {
+    type Target = NonZeroU64;
+
+    ghost target = { λ n. n };
+
+    fn deref(&self) -> &NonZeroU64 {
+        self
+    }
+}
+
+impl AtomicValue for NonZeroU32 {
+    type Target = NonZeroU32;
+
+    ghost target = { λ n. n };
+
+    fn deref(&self) -> &NonZeroU32 {
+        self
+    }
+}
+
+/// What a caller means by equal targets and by the hash of a target. It is named in contracts alone.
+pub trait Law<V> {
+    // Whether two targets are the same.
+    ghost same: { V → V → Bool };
+
+    // The hash of a target, below 2^64.
+    ghost hash_of: { V → ℕ };
+
+    // `same` is an equivalence, and same targets have the same hash.
+    ghost lawful: { IsLaw same hash_of };
+}

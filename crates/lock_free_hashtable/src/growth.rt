@@ -1,0 +1,101 @@
+//! A generation made of the entries of the one before.
+ghost use Rattle.std.specs.Prelude.{◌≡◌, ◌+◌, ◌*◌, ◌<◌, ◌≤◌, ℕ, length, IfOk, MatchOption, Some, None};
+ghost use Rattle.std.specs.Fn.{FnReturnsAt};
+ghost use Rattle.lock_free_hashtable.specs.Buckets.{home, shown, shown_all, part_at, AllSound, set_parts};
+ghost use Rattle.lock_free_hashtable.specs.Capacity.{IsPowerOfTwo};
+ghost use Rattle.lock_free_hashtable.specs.Growth.{IsRehomed, RehomesOne};
+ghost use Rattle.lock_free_hashtable.specs.Generations.{parts_of, last_of, Leads, IsNamedIn};
+
+use crate::atomic_value::AtomicValue;
+use crate::cell::{Entry, Look};
+use crate::fixed::{Generation, Name, entry_named};
+use std::alloc::{AllocError, Allocator};
+
+/// The name of the entry that a bucket of the last generation shows, and the entry.
+fn name_at<T: AtomicValue, A: Allocator + Copy>(
+    earlier: &[Generation<T, A>],
+    last: u8,
+    index: usize,
+) -> Option<(Name, &Entry<T>)>
+    requires last { last + 1 ≡ length earlier.now }
+    requires place { index < length (last_of (parts_of earlier.now)) }
+    requires sound { AllSound (parts_of earlier.now) (last_of (parts_of earlier.now)) }
+    ensures { MatchOption result (shown (parts_of earlier.now) (part_at (last_of (parts_of earlier.now)) index) ≡ None) (λ found. Leads (parts_of earlier.now) found.0 found.1.now × (shown (parts_of earlier.now) (part_at (last_of (parts_of earlier.now)) index) ≡ Some found.1.now)) }
+{
+    match earlier[last as usize].look_at(index) {
+        Look::Vacant => None,
+        Look::Own { bits, entry } => Some((
+            Name {
+                bits,
+                generation: last,
+                index,
+            },
+            entry,
+        )),
+        Look::Named {
+            bits,
+            generation,
+            index,
+        } => Some((
+            Name {
+                bits,
+                generation,
+                index,
+            },
+            entry_named(earlier, generation, index),
+        )),
+    }
+}
+
+/// Names the entry that a bucket of the last generation shows, if there is one, in the generation being built.
+fn rehome_one<T: AtomicValue, A: Allocator + Copy, H: Fn(&T::Target) -> u64>(
+    earlier: &[Generation<T, A>],
+    last: u8,
+    index: usize,
+    built: &mut Generation<T, A>,
+    hash_fn: &H,
+)
+    requires last { last + 1 ≡ length earlier.now }
+    requires place { index < length (last_of (parts_of earlier.now)) }
+    requires sound { AllSound (parts_of earlier.now) (last_of (parts_of earlier.now)) }
+    requires room { built.old.size < length built.old.parts }
+    requires counted { built.old.size ≡ length (set_parts built.old.parts) }
+    requires names { IsNamedIn (parts_of earlier.now) built.old.parts }
+    requires callable { H.IsAlwaysCallable hash_fn.now }
+    ensures long { length built.new.parts ≡ length built.old.parts }
+    ensures grown { built.new.size ≤ built.old.size + 1 }
+    ensures counted { built.new.size ≡ length (set_parts built.new.parts) }
+    ensures names { IsNamedIn (parts_of earlier.now) built.new.parts }
+    ensures step { RehomesOne T.target (FnReturnsAt H.Fn hash_fn.now) (parts_of earlier.now) (shown_all (parts_of earlier.now) (last_of (parts_of earlier.now))) index built.old.parts built.new.parts }
+{
+    if let Some((name, entry)) = name_at(earlier, last, index) {
+        let hash = hash_fn(entry.value.deref());
+        built.insert_unique(earlier, hash, name);
+    }
+}
+
+/// A generation of this capacity that names every entry of the last earlier one, by the hashes that `hash_fn` gives.
+pub fn rehomed<T: AtomicValue, A: Allocator + Copy, H: Fn(&T::Target) -> u64>(
+    alloc: A,
+    earlier: &[Generation<T, A>],
+    last: u8,
+    capacity: usize,
+    hash_fn: &H,
+) -> Result<Generation<T, A>, AllocError>
+    requires last { last + 1 ≡ length earlier.now }
+    requires sound { AllSound (parts_of earlier.now) (last_of (parts_of earlier.now)) }
+    requires power { IsPowerOfTwo capacity }
+    requires room { length (last_of (parts_of earlier.now)) < capacity }
+    requires callable { H.IsAlwaysCallable hash_fn.now }
+    ensures long { IfOk result (λ built. length built.parts ≡ capacity) }
+    ensures counted { IfOk result (λ built. built.size ≡ length (set_parts built.parts)) }
+    ensures names { IfOk result (λ built. IsNamedIn (parts_of earlier.now) built.parts) }
+    ensures rehomed { IfOk result (λ built. IsRehomed T.target (FnReturnsAt H.Fn hash_fn.now) (shown_all (parts_of earlier.now) (last_of (parts_of earlier.now))) (shown_all (parts_of earlier.now) built.parts)) }
+{
+    let mut built = Generation::with_capacity(alloc, capacity)?;
+    let old = earlier[last as usize].capacity();
+    for index in 0..old {
+        rehome_one(earlier, last, index, &mut built, hash_fn);
+    }
+    Ok(built)
+}

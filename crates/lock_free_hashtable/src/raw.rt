@@ -1,0 +1,335 @@
+//! The table held alone.
+ghost use Rattle.std.specs.Prelude.{◌≡◌, ◌-◌, ◌+◌, ◌*◌, ◌<◌, ◌≤◌, ◌⊎◌, ◌↔◌, ℕ, max, length, OnOk, OnErr, IfSome, IfNone, IsSome, IsTrue, option_copied, [], map, slice_index_or};
+ghost use Rattle.std.specs.Fn.{FnReturnsAt, FnReturnsAtPair};
+ghost use Rattle.lock_free_hashtable.specs.Buckets.{value_at, owned};
+ghost use Rattle.lock_free_hashtable.specs.Capacity.{IsFirstCapacity};
+
+mod into_iter;
+mod iter;
+pub mod laws;
+
+use crate::atomic_value::{AtomicValue, Law};
+use crate::cell::Look;
+use crate::fixed::{Generation, Refusal, Spot};
+use crate::growth::rehomed;
+use crate::place::Place;
+pub use into_iter::IntoIter;
+pub use iter::HeldIter;
+use std::alloc::{AllocError, Allocator, Global};
+use std::marker::Model;
+use std::mem;
+
+/// The capacity of the first generation of a table made by `new`.
+const FIRST_CAPACITY: usize = 16;
+
+/// An insertion-only set that one owner holds alone: no lock, no atomic, no waiting. Values are compared, hashed and
+/// shown by their targets.
+///
+/// Each call takes the hash and the closures of its caller. With lawful ones (one equivalence, one hash that agrees
+/// with it) the table answers as a growing list without equal entries; with any closures no value is lost or kept twice.
+#[derive(Drop)]
+pub struct HeldRawTable<T: AtomicValue, A: Allocator + Copy = Global> {
+    first: usize,
+    earlier: Vec<Generation<T, A>, A>,
+    current: Generation<T, A>,
+    alloc: A,
+}
+
+impl<T: AtomicValue, A: Allocator + Copy> Model for HeldRawTable<T, A> {
+    ghost use Rattle.lock_free_hashtable.specs.Table.{Table, table_of, IsKept};
+    ghost use Rattle.lock_free_hashtable.specs.Generations.{parts_of};
+
+    ghost Value = { Table T };
+
+    ghost view = { λ t. table_of t.first (parts_of t.earlier.items) t.current.parts t.current.size };
+
+    ghost invariant = { λ t. IsKept t.first (parts_of t.earlier.items) t.current.parts t.current.size };
+}
+
+impl<T: AtomicValue, A: Allocator + Copy> HeldRawTable<T, A> {
+    ghost use Rattle.lock_free_hashtable.specs.Table.{Table, empty_table, entries, marked, capacity, all_buckets, home_at, entry_at, IsLater, IsCounted, IsLawful, IsLawfulForAll, Stands, CountsAsList};
+    ghost use Rattle.lock_free_hashtable.specs.Growth.{IsOpened, IsGrown, GrowsIfWanted, Settles, SettlesGrowing};
+    ghost use Rattle.lock_free_hashtable.specs.Held.{ShowsAt, FindsOne, FindsNone, InsertKeeps, InsertMarks, InsertAnswers, PlacesAsList, LooksUpAsList, InsertShows};
+
+    /// The empty table, whose first generation will have 16 buckets. It takes no memory.
+    pub fn new(alloc: A) -> Self
+        ensures empty { result ≡ empty_table 16 }
+        ensures stands { Stands result [] }
+        ensures lawful { IsLawfulForAll T.target result }
+    {
+        HeldRawTable::with_first_capacity(alloc, FIRST_CAPACITY)
+    }
+
+    /// The empty table, whose first generation will have `first` buckets: a power of two from 16 to 2^30. It takes no
+    /// memory.
+    pub fn with_first_capacity(alloc: A, first: usize) -> Self
+        requires { IsFirstCapacity first }
+        ensures empty { result ≡ empty_table first }
+        ensures stands { Stands result [] }
+        ensures lawful { IsLawfulForAll T.target result }
+    {
+        HeldRawTable {
+            first,
+            earlier: Vec::new(alloc),
+            current: Generation::none(alloc),
+            alloc,
+        }
+    }
+
+    /// The number of entries.
+    pub fn len_alone(&self) -> usize
+        ensures size { result ≡ self.now.size }
+        ensures counted { result ≡ length (entries self.now) }
+        ensures as_list { CountsAsList self.now result }
+    {
+        self.current.size()
+    }
+
+    /// Whether there is no entry.
+    pub fn is_empty_alone(&self) -> bool
+        ensures { IsTrue result ↔ (length (entries self.now) ≡ 0) }
+    {
+        self.len_alone() == 0
+    }
+
+    /// The buckets of the current generation; 0 before the first insert.
+    pub fn capacity_alone(&self) -> usize
+        ensures { result ≡ capacity self.now }
+    {
+        self.current.capacity()
+    }
+
+    /// The buckets of all generations together.
+    pub fn buckets_alone(&self) -> usize
+        ensures all { result ≡ all_buckets self.now }
+        ensures few { result ≤ max self.now.first (8 * length (entries self.now) - self.now.first) }
+    {
+        let capacity = self.current.capacity();
+        if capacity == 0 {
+            return 0;
+        }
+        capacity - self.first + capacity
+    }
+
+    /// Makes the first generation, if there is none. A refusal leaves the table as it was.
+    fn open_alone(&mut self) -> Result<(), AllocError>
+        ensures opened { OnOk result (IsOpened self.old self.new) }
+        ensures some { OnOk result (0 < capacity self.new) }
+        ensures unchanged { OnErr result ((self.old ≡ empty_table self.old.first) × (self.new ≡ self.old)) }
+        ensures counted { IsCounted self.old }
+    {
+        if self.current.capacity() == 0 {
+            self.current = Generation::with_capacity(self.alloc, self.first)?;
+        }
+        Ok(())
+    }
+
+    /// Makes a generation of twice the capacity that names every entry. A refusal leaves the table as it was.
+    fn grow_alone<H: Fn(&T::Target) -> u64>(&mut self, hash_fn: &H) -> Result<(), AllocError>
+        requires some { 0 < capacity self.old }
+        requires wanted { capacity self.old ≤ 2 * self.old.size }
+        requires callable { H.IsAlwaysCallable hash_fn.now }
+        ensures grown { OnOk result (IsGrown T.target (FnReturnsAt H.Fn hash_fn.now) self.old self.new) }
+        ensures unchanged { OnErr result (self.new ≡ self.old) }
+    {
+        let Some(doubled) = self.current.capacity().checked_mul(2) else {
+            return Err(AllocError);
+        };
+        let last = self.earlier.len() as u8;
+        let old = mem::replace(&mut self.current, Generation::none(self.alloc));
+        if let Err(refused) = self.earlier.push(old) {
+            self.current = refused.value;
+            return Err(AllocError);
+        }
+        match rehomed(self.alloc, self.earlier.as_slice(), last, doubled, hash_fn) {
+            Ok(built) => {
+                self.current = built;
+                Ok(())
+            }
+            Err(refused) => {
+                match self.earlier.pop() {
+                    Some(old) => self.current = old,
+                    None => unreachable!(),
+                }
+                Err(refused)
+            }
+        }
+    }
+
+    /// Grows, if at least half of the buckets are set. A refused growth changes nothing.
+    fn grow_if_wanted<H: Fn(&T::Target) -> u64>(&mut self, hash_fn: &H) -> Result<(), AllocError>
+        requires some { 0 < capacity self.old }
+        requires callable { H.IsAlwaysCallable hash_fn.now }
+        ensures grown { OnOk result (GrowsIfWanted T.target (FnReturnsAt H.Fn hash_fn.now) self.old self.new) }
+        ensures unchanged { OnErr result (self.new ≡ self.old) }
+    {
+        if self.current.wants_growth() {
+            return self.grow_alone(hash_fn);
+        }
+        Ok(())
+    }
+
+    /// The place of the entry that a bucket of the current generation shows.
+    fn place_at(&self, index: usize) -> Place
+        requires { IsSome (value_at self.now.buckets index) }
+        ensures { home_at self.now result ≡ value_at self.now.buckets index }
+    {
+        match self.current.look_at(index) {
+            Look::Named {
+                generation,
+                index,
+                ..
+            } => Place {
+                generation: generation as usize,
+                index,
+            },
+            _ => Place {
+                generation: self.earlier.len(),
+                index,
+            },
+        }
+    }
+
+    /// Places the value in the current generation, unless an entry is accepted as equal. Says where the answer's entry lives.
+    fn settle_alone<E: Fn(&T::Target, &T::Target) -> bool>(
+        &mut self,
+        hash: u64,
+        value: T,
+        eq: &E,
+    ) -> Result<(Place, Option<T>), Refusal<T>>
+        requires some { 0 < capacity self.old }
+        requires callable { E.IsAlwaysCallable eq.now }
+        ensures { Settles T.target (FnReturnsAtPair E.Fn eq.now (T.target value)) self.old hash value result self.new }
+    {
+        match self
+            .current
+            .insert(self.alloc, self.earlier.as_slice(), hash, value, eq)
+        {
+            Ok((index, back)) => Ok((self.place_at(index), back)),
+            Err(refused) => Err(refused),
+        }
+    }
+
+    /// Places the value; where the generation is full for it, grows and starts over.
+    fn settle_growing<E: Fn(&T::Target, &T::Target) -> bool, H: Fn(&T::Target) -> u64>(
+        &mut self,
+        hash: u64,
+        value: T,
+        eq: &E,
+        hash_fn: &H,
+    ) -> Result<(Place, Option<T>), T>
+        requires some { 0 < capacity self.old }
+        requires eq_callable { E.IsAlwaysCallable eq.now }
+        requires hash_callable { H.IsAlwaysCallable hash_fn.now }
+        ensures { SettlesGrowing T.target (FnReturnsAtPair E.Fn eq.now (T.target value)) (FnReturnsAt H.Fn hash_fn.now) self.old hash value result self.new }
+    {
+        let value = match self.settle_alone(hash, value, eq) {
+            Ok(settled) => return Ok(settled),
+            Err(Refusal::NoMemory(value)) => return Err(value),
+            Err(Refusal::Full(value)) => value,
+        };
+        if self.grow_alone(hash_fn).is_err() {
+            return Err(value);
+        }
+        match self.settle_alone(hash, value, eq) {
+            Ok(settled) => Ok(settled),
+            Err(Refusal::NoMemory(value)) => Err(value),
+            Err(Refusal::Full(_)) => unreachable!(),
+        }
+    }
+
+    /// Inserts the value, unless an entry is accepted as equal, and says where the entry lives: `target_at` shows it.
+    ///
+    /// `eq` is asked with the target of the value first and that of an entry second. Ok with None: the value is an entry
+    /// now. Ok with a value: that value was handed in, and the entry at the place was accepted as its equal. Err: memory
+    /// was refused, the value comes back, and the entries are as they were. A refused growth after an Ok keeps the Ok.
+    pub fn place_alone<
+        L: Law<T::Target>,
+        E: Fn(&T::Target, &T::Target) -> bool,
+        H: Fn(&T::Target) -> u64,
+    >(&mut self, hash: u64, value: T, eq: &E, hash_fn: &H) -> Result<(Place, Option<T>), T>
+        requires eq_callable { E.IsAlwaysCallable eq.now }
+        requires hash_callable { H.IsAlwaysCallable hash_fn.now }
+
+        // with any closures
+        ensures keeps { InsertKeeps T.target (FnReturnsAtPair E.Fn eq.now (T.target value)) (entry_at self.new) (entries self.old) value result (entries self.new) }
+        ensures marks { InsertMarks (marked self.old) hash value result (marked self.new) }
+        ensures later { IsLater self.old self.new }
+        ensures first { self.new.first ≡ self.old.first }
+        ensures counted { IsCounted self.new }
+
+        // with lawful ones
+        ensures lawful { InsertAnswers T.target L.same L.hash_of (FnReturnsAtPair E.Fn eq.now) (FnReturnsAt H.Fn hash_fn.now) (IsLawful T.target L.same L.hash_of self.old) (entries self.old) hash value result (IsLawful T.target L.same L.hash_of self.new) }
+        ensures as_list { PlacesAsList T.target L.same L.hash_of (FnReturnsAtPair E.Fn eq.now) (FnReturnsAt H.Fn hash_fn.now) self.old hash value result self.new }
+    {
+        if self.open_alone().is_err() {
+            return Err(value);
+        }
+        let settled = self.settle_growing(hash, value, eq, hash_fn)?;
+        let _ = self.grow_if_wanted(hash_fn);
+        Ok(settled)
+    }
+
+    /// The generation of this number: an earlier one, or the current one, which is the last.
+    fn generation_at(&self, generation: usize) -> &Generation<T, A>
+        requires { generation < length self.now.homes }
+        ensures { map owned result.now.parts ≡ slice_index_or self.now.homes generation [] }
+    {
+        if generation < self.earlier.len() {
+            return &self.earlier[generation];
+        }
+        &self.current
+    }
+
+    /// The target of the entry that lives at a place of this table.
+    pub fn target_at(&self, place: Place) -> &T::Target
+        requires { IsSome (entry_at self.now place) }
+        ensures { ShowsAt (entry_at self.now place) (λ v. result.now ≡ T.target v) }
+    {
+        match self
+            .generation_at(place.generation)
+            .entry_owned(place.index)
+        {
+            Some(entry) => entry.value.deref(),
+            None => unreachable!(),
+        }
+    }
+
+    /// Inserts the value, unless an entry is accepted as equal, and shows the entry's target. It is `place_alone`, and
+    /// then `target_at` of the place: see there for what each answer leaves.
+    pub fn insert_alone<
+        L: Law<T::Target>,
+        E: Fn(&T::Target, &T::Target) -> bool,
+        H: Fn(&T::Target) -> u64,
+    >(&mut self, hash: u64, value: T, eq: E, hash_fn: H) -> Result<(&T::Target, Option<T>), T>
+        requires eq_callable { E.IsAlwaysCallable eq }
+        requires hash_callable { H.IsAlwaysCallable hash_fn }
+        ensures { InsertShows T.target L.same L.hash_of (FnReturnsAtPair E.Fn eq) (FnReturnsAt H.Fn hash_fn) self.old hash value result }
+    {
+        let (place, back) = self.place_alone::<L, E, H>(hash, value, &eq, &hash_fn)?;
+        Ok((self.target_at(place), back))
+    }
+
+    /// The target of an entry that the test accepts, or None. It takes no memory and changes nothing.
+    ///
+    /// A test is lawful if it is one function of the target and accepts only targets of the given hash. With a lawful
+    /// test on a lawful table, None means that no entry is accepted.
+    pub fn lookup_alone<L: Law<T::Target>, F: Fn(&T::Target) -> bool>(
+        &self,
+        hash: u64,
+        test: F,
+    ) -> Option<&T::Target>
+        requires { F.IsAlwaysCallable test }
+        ensures accepted { IfSome result (λ found. FindsOne T.target (FnReturnsAt F.Fn test) (entries self.now) found.now) }
+        ensures none { IfNone result (FindsNone T.target L.same L.hash_of (FnReturnsAt F.Fn test) (IsLawful T.target L.same L.hash_of self.now) (entries self.now) hash) }
+        ensures as_list { LooksUpAsList T.target L.same L.hash_of (FnReturnsAt F.Fn test) self.now hash (option_copied result) }
+    {
+        if self.current.capacity() == 0 {
+            return None;
+        }
+        match self.current.probe(self.earlier.as_slice(), hash, &test) {
+            Spot::Accepted(_, entry) => Some(entry.value.deref()),
+            _ => None,
+        }
+    }
+}

@@ -1,0 +1,80 @@
+//! The values of a table, handed out.
+ghost use Rattle.std.specs.Iterator.{YieldsFirst, item_count};
+ghost use Rattle.lock_free_hashtable.specs.Walks.{GivesEntries};
+
+use crate::atomic_value::AtomicValue;
+use crate::fixed::Generation;
+use crate::fixed::owning::OwnValues;
+use crate::raw::HeldRawTable;
+use std::alloc::{Allocator, Global};
+use std::iter::FusedIterator;
+use std::marker::Model;
+use std::vec;
+
+/// The values of a table, by value and each once, seen as the list of those that are left. Dropped early, it drops them.
+#[derive(Drop)]
+pub struct IntoIter<T: AtomicValue, A: Allocator + Copy = Global> {
+    values: OwnValues<T, A>,
+    earlier: vec::IntoIter<Generation<T, A>, A>,
+    left: usize,
+}
+
+impl<T: AtomicValue, A: Allocator + Copy> Model for IntoIter<T, A> {
+    ghost use Rattle.std.specs.Prelude.{◌≡◌, ◌++◌, List, length};
+    ghost use Rattle.std.specs.Vec.Iter.{into_iter_items};
+    ghost use Rattle.lock_free_hashtable.specs.Walks.{all_owned};
+
+    ghost Value = { List T };
+
+    ghost view = { λ it. it.values ++ all_owned (into_iter_items it.earlier) };
+
+    ghost invariant = { λ it. it.left ≡ length (it.values ++ all_owned (into_iter_items it.earlier)) };
+}
+
+impl<T: AtomicValue, A: Allocator + Copy> Iterator for IntoIter<T, A> {
+    type Item = T;
+
+    ghost next_gives = { YieldsFirst (λ rest. rest) };
+
+    ghost remaining = { item_count (λ rest. rest) };
+
+    fn next(&mut self) -> Option<T> {
+        loop {
+            if let Some(value) = self.values.next() {
+                self.left -= 1;
+                return Some(value);
+            }
+            self.values = self.earlier.next()?.into_own_values();
+        }
+    }
+
+    fn size_hint(&self) -> (usize, Option<usize>) {
+        (self.left, Some(self.left))
+    }
+}
+
+impl<T: AtomicValue, A: Allocator + Copy> ExactSizeIterator for IntoIter<T, A> {
+    fn len(&self) -> usize {
+        self.left
+    }
+}
+
+impl<T: AtomicValue, A: Allocator + Copy> FusedIterator for IntoIter<T, A> {}
+
+impl<T: AtomicValue, A: Allocator + Copy> IntoIterator for HeldRawTable<T, A> {
+    type Item = T;
+
+    type IntoIter = IntoIter<T, A>;
+
+    ghost into_iter_gives = { λ t it. GivesEntries t it };
+
+    /// Takes the table apart, and hands out each value that it holds. It takes no memory.
+    fn into_iter(self) -> IntoIter<T, A> {
+        let left = self.len_alone();
+        IntoIter {
+            values: self.current.into_own_values(),
+            earlier: self.earlier.into_iter(),
+            left,
+        }
+    }
+}

@@ -1,0 +1,95 @@
+-- One event at the place of its call, as the code takes it.
+use Rattle.std.proofs.Common.{ℕ, suc, zero, ◌≡◌, ◌+◌, ◌<◌, List, [], ◌∷◌, Bool, true, false, refl, Option, Some, None, length, sym, ap, arith, ◌∙◌}
+use Rattle.std.specs.Prelude.{nat_lt, if◌then◌else◌, slice_set}
+use Rattle.std.specs.List.{slice_get}
+use Rattle.std.specs.Option.{option_map}
+use Rattle.table_core.specs.Replies.{ToldWalk, told_of}
+use Rattle.table_core.specs.declared.reply.Reply.{Reply as RustReply}
+use Rattle.table_core.specs.Generations.{Table}
+use Rattle.table_core.specs.Calls.{Call, decided, decide, fits}
+use Rattle.table_core.specs.Machine.{list_in, told_in, told, call_after, with_entry}
+use Rattle.table_core.specs.Reached.{walked_entry, list_left, list_told}
+use Rattle.table_core.specs.declared.event.Entry.{Entry}
+use Rattle.table_core.specs.declared.call.CallState.{CallState}
+use Rattle.table_core.specs.declared.call.Phase.TheVariants.{WalkAt, Done}
+use Rattle.table_core.specs.declared.call.Answer.{Answer}
+use Rattle.table_core.specs.declared.call.Answer.TheVariants.{Empty, Holds}
+use Rattle.table_core.proofs.Lists.{get-set_same, length-set}
+
+pub set_same : {X : Type 0} (xs : List X) (i : ℕ) (x : X) → slice_get xs i ≡ Some x → xs ≡ slice_set xs i x
+set_same [] i x h = refl
+set_same (y ∷ xs) zero x h = let e : y ≡ x = cc in ap (λ z. z ∷ xs) e
+set_same (y ∷ xs) (suc i) x h = ap (λ ys. y ∷ ys) (set_same xs i x h)
+
+pub set_set : {X : Type 0} (xs : List X) (i : ℕ) (x y : X) → slice_set (slice_set xs i x) i y ≡ slice_set xs i y
+set_set [] i x y = refl
+set_set (z ∷ xs) zero x y = refl
+set_set (z ∷ xs) (suc i) x y = ap (λ ys. z ∷ ys) (set_set xs i x y)
+
+-- an answer that fits decides
+pub decide_fits : (s : CallState) (a : Answer) → fits s.phase s a ≡ true → decide s a ≡ decided s.phase s a
+decide_fits s a h = rw h refl
+
+left_if : (b : Bool) (s r : CallState) (list : List ℕ) → s.phase ≡ WalkAt → r.phase ≡ Done → (if b then list else []) ≡ list_left (if b then s else r).phase list
+left_if true s r list e f = rw e refl
+left_if false s r list e f = rw f refl
+
+told_if : (b : Bool) (s r : CallState) (list : List ℕ) → s.phase ≡ WalkAt → r.phase ≡ Done → (if b then None else Some (ToldWalk list)) ≡ list_told (if b then s else r).phase list
+told_if true s r list e f = rw e refl
+told_if false s r list e f = rw f refl
+
+walk_left : (t : Table) (c : Call) (a : Answer) → fits WalkAt c.state a ≡ true → list_in WalkAt t c a ≡ list_left (decided WalkAt c.state a).phase (with_entry c.list (walked_entry t c.state a))
+walk_left t c Empty h = left_if (nat_lt (c.state.index + 1) c.state.capacity) _ _ c.list refl refl
+walk_left t c (Holds _ _) h = left_if (nat_lt (c.state.index + 1) c.state.capacity) _ _ _ refl refl
+walk_left t c _ h = absurd (cc)
+
+walk_tells : (t : Table) (c : Call) (a : Answer) → fits WalkAt c.state a ≡ true → told_in WalkAt t c a ≡ list_told (decided WalkAt c.state a).phase (with_entry c.list (walked_entry t c.state a))
+walk_tells t c Empty h = told_if (nat_lt (c.state.index + 1) c.state.capacity) _ _ c.list refl refl
+walk_tells t c (Holds _ _) h = told_if (nat_lt (c.state.index + 1) c.state.capacity) _ _ _ refl refl
+walk_tells t c _ h = absurd (cc)
+
+decide_at : (c : Call) (a : Answer) → c.state.phase ≡ WalkAt → fits c.state.phase c.state a ≡ true → decide c.state a ≡ decided WalkAt c.state a
+decide_at c a e h = decide_fits c.state a h ∙ ap (λ p. decided p c.state a) e
+
+fits_at : (c : Call) (a : Answer) → c.state.phase ≡ WalkAt → fits c.state.phase c.state a ≡ true → fits WalkAt c.state a ≡ true
+fits_at c a e h = ap (λ p. fits p c.state a) (sym e) ∙ h
+
+-- a walk after its bucket
+pub walk_after : (t : Table) (c : Call) (a : Answer) → c.state.phase ≡ WalkAt → fits c.state.phase c.state a ≡ true →
+    record c { list = list_left (decide c.state a).phase (with_entry c.list (walked_entry t c.state a)); state = decide c.state a } ≡ call_after t c a
+walk_after t c a e h =
+    let l : list_left (decide c.state a).phase (with_entry c.list (walked_entry t c.state a)) ≡ list_in c.state.phase t c a =
+    ap (λ (s : CallState). list_left s.phase (with_entry c.list (walked_entry t c.state a))) (decide_at c a e h)
+    ∙ sym (walk_left t c a (fits_at c a e h)) ∙ ap (λ p. list_in p t c a) (sym e) in
+    ap (λ list. record c { list = list; state = decide c.state a }) l ∙ ap (λ s. record c { list = list_in c.state.phase t c a; state = s }) (decide_fits c.state a h)
+
+pub walk_is_told : (t : Table) (c : Call) (a : Answer) → c.state.phase ≡ WalkAt → fits c.state.phase c.state a ≡ true →
+    list_told (decide c.state a).phase (with_entry c.list (walked_entry t c.state a)) ≡ told t c a
+walk_is_told t c a e h =
+    ap (λ (s : CallState). list_told s.phase (with_entry c.list (walked_entry t c.state a))) (decide_at c a e h)
+    ∙ sym (walk_tells t c a (fits_at c a e h)) ∙ ap (λ p. told_in p t c a) (sym e)
+
+-- a walk whose list takes an entry and whose state is the next
+pub walk_moves : (t : Table) (cs mid now : List Call) (i : ℕ) (c : Call) (a : Answer) (s n : CallState) (o : Option Entry) → slice_get cs i ≡ Some c → c.state.phase ≡ WalkAt → fits c.state.phase c.state a ≡ true →
+    s ≡ c.state → o ≡ walked_entry t s a → n ≡ decide s a → mid ≡ slice_set cs i (record c { list = with_entry c.list o }) →
+    ((d : Call) → slice_get mid i ≡ Some d → now ≡ slice_set mid i (record d { list = list_left n.phase d.list; state = n })) →
+    now ≡ slice_set cs i (call_after t c a)
+walk_moves t cs mid now i c a s n o g e h p q r x y =
+    let d : Call = record c { list = with_entry c.list o } in
+    let u : slice_get mid i ≡ Some d = rw x (get-set_same cs i c d g) in
+    let v : record d { list = list_left n.phase d.list; state = n } ≡ call_after t c a = rw (r, q, p) (walk_after t c a e h) in
+    y d u ∙ ap (λ z. slice_set z i (record d { list = list_left n.phase d.list; state = n })) x ∙ set_set cs i d _ ∙ ap (slice_set cs i) v
+
+pub walk_tells_now : (t : Table) (cs mid : List Call) (i : ℕ) (c : Call) (a : Answer) (s n : CallState) (o : Option Entry) (r : Option RustReply) → slice_get cs i ≡ Some c → c.state.phase ≡ WalkAt → fits c.state.phase c.state a ≡ true →
+    s ≡ c.state → o ≡ walked_entry t s a → n ≡ decide s a → mid ≡ slice_set cs i (record c { list = with_entry c.list o }) →
+    ((d : Call) → slice_get mid i ≡ Some d → option_map told_of r ≡ list_told n.phase d.list) →
+    option_map told_of r ≡ told t c a
+walk_tells_now t cs mid i c a s n o k g e h p q r x y =
+    let d : Call = record c { list = with_entry c.list o } in
+    let u : slice_get mid i ≡ Some d = rw x (get-set_same cs i c d g) in
+    let v : list_told n.phase d.list ≡ told t c a = rw (r, q, p) (walk_is_told t c a e h) in
+    y d u ∙ v
+
+-- a write leaves as many
+pub still_within : {X : Type 0} (xs now : List X) (i : ℕ) (x : X) → now ≡ slice_set xs i x → i < length xs → i < length now
+still_within xs now i x e h = rw e (omega (arith, length-set xs i x))

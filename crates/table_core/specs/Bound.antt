@@ -1,0 +1,46 @@
+-- How the fast structures of the code stand for the machine's lists.
+use Rattle.std.specs.Prelude.{ℕ, suc, ◌*◌, ◌^◌, ◌==◌, ◌≡◌, ◌≤◌, if◌then◌else◌, Bool, true, false, Option, Some, None, List, [], ◌∷◌, ◌++◌, map, option_to_list}
+use Rattle.table_core.specs.Bags.{weigh}
+use Rattle.std.specs.Option.{option_map}
+use Rattle.table_core.specs.Generations.{Gen, Build}
+use Rattle.table_core.specs.Calls.{Call, holds_shared, holds_owned}
+use Rattle.table_core.specs.declared.event.Entry.{Entry}
+use Rattle.table_core.specs.declared.generation.Slot.{Slot}
+
+-- an entry as a map keeps it, by its place
+abbrev pub entry_of : ℕ × Slot → Entry
+entry_of p = record { place = p.0; value = p.1.value; bits = p.1.bits }
+
+-- a capacity is a power of two up to 2^63
+abbrev pub IsCapacity : ℕ → Type 0
+IsCapacity n = (k : ℕ) × (n ≡ 2 ^ k) × (k ≤ 63)
+
+-- where the call of this number stands among the calls
+abbrev pub position_of : ℕ → List Call → Option ℕ
+position_of n [] = None
+position_of n (c ∷ calls) = if c.number == n then Some 0 else option_map (λ i. suc i) (position_of n calls)
+
+abbrev pub one_if : Bool → ℕ
+one_if true = 1
+one_if false = 0
+
+-- how many calls hold the lock shared
+abbrev pub sharing_among : List Call → ℕ
+sharing_among calls = weigh (λ c. one_if (holds_shared c.state.phase)) calls
+
+-- how many calls hold the lock exclusively
+abbrev pub owning_among : List Call → ℕ
+owning_among calls = weigh (λ c. one_if (holds_owned c.state.phase)) calls
+
+abbrev pub build_of : Option Gen → ℕ → Option Build
+build_of None copied = None
+build_of (Some g) copied = Some (record { gen = g; copied = copied })
+
+-- each of these capacities is twice the one before, and the first is n
+abbrev pub Doubles : ℕ → List ℕ → Type 0
+Doubles n [] = Unit {0}
+Doubles n (c ∷ cs) = (c ≡ n) × IsCapacity n × Doubles (2 * n) cs
+
+-- the capacities of the generations, and of the one being built
+abbrev pub capacities : List Gen → Option Gen → List ℕ
+capacities gens growing = map (λ g. g.capacity) (gens ++ option_to_list growing)

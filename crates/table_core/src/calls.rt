@@ -1,0 +1,298 @@
+ghost use Rattle.std.specs.Prelude.{◌≡◌, ℕ, nat_eq, ◌||◌, ◌≤◌, ◌<◌, ◌+◌, ◌^◌, ◌++◌, ◌∷◌, [], Option, Some, None, false, length, slice_set, vec_len, OnOk, OnErr, IfOk};
+ghost use Rattle.std.specs.HashSet as set;
+ghost use Rattle.std.specs.List.{slice_get};
+ghost use Rattle.table_core.specs.Calls.{starts, is_used, is_value, is_used_value, is_owned, is_locked, holds_shared, holds_owned, Call as SpecCall};
+ghost use Rattle.table_core.specs.Steps.{IsNewValue};
+ghost use Rattle.table_core.specs.Bound.{position_of, one_if};
+
+use crate::call::{CallState, Outcome, Phase};
+use std::alloc::{AllocError, AllocFailed, Global};
+use std::collections::{HashMap, HashSet};
+use std::marker::Model;
+use std::mem;
+
+/// A call: its number, the value of an insert, the list so far of a walk, and where it stands.
+#[derive(Drop)]
+pub struct Call {
+    number: u64,
+    value: Option<u64>,
+    list: Vec<u64>,
+    state: CallState,
+}
+
+impl Model for Call {
+    ghost use Rattle.table_core.specs.Calls.{Call};
+
+    ghost Value = { Call };
+
+    ghost view = { λ c. record { number = c.number; value = c.value; list = c.list.items; state = c.state } };
+}
+
+/// All calls of a schedule, in the order in which they began. Where a call of a number stands, which
+/// values are used and who holds the lock is known without a scan of the calls.
+#[derive(Drop)]
+pub struct Calls {
+    all: Vec<Call>,
+    positions: HashMap<u64, usize>,
+    values: HashSet<u64>,
+    sharing: usize,
+    owning: usize,
+}
+
+impl Model for Calls {
+    ghost use Rattle.std.specs.Prelude.{List};
+    ghost use Rattle.table_core.specs.Calls.{Call};
+    ghost use Rattle.table_core.specs.Indexed.{IsIndexed};
+
+    ghost Value = { List Call };
+
+    ghost view = { λ c. c.all.items };
+
+    ghost invariant = { λ c. IsIndexed c.all.items c.positions c.values c.sharing c.owning };
+}
+
+/// Whether a call in this phase holds the lock shared.
+fn shares(phase: Phase) -> bool
+    ensures { result ≡ holds_shared phase }
+{
+    matches!(
+        phase,
+        Phase::Shared
+            | Phase::Probe
+            | Phase::AtEmpty
+            | Phase::Placed
+            | Phase::LeaveOk
+            | Phase::LeaveGrow
+            | Phase::LeaveRefused
+    )
+}
+
+/// Whether a call in this phase holds the lock alone.
+fn owns(phase: Phase) -> bool
+    ensures { result ≡ holds_owned phase }
+{
+    matches!(
+        phase,
+        Phase::Owned | Phase::Building | Phase::LeaveOwned | Phase::LeaveFailed
+    )
+}
+
+/// A count in which one call was counted, if `before`, and is counted now, if `after`.
+fn recount(count: usize, before: bool, after: bool) -> usize
+    requires counted { one_if before ≤ count }
+    requires small { count < 2 ^ 63 }
+    ensures { result + one_if before ≡ count + one_if after }
+{
+    match (before, after) {
+        (true, false) => count - 1,
+        (false, true) => count + 1,
+        _ => count,
+    }
+}
+
+impl Call {
+    /// Where the call stands.
+    pub fn state(&self) -> CallState
+        ensures { result ≡ self.now.state }
+    {
+        self.state
+    }
+
+    /// The value of an insert.
+    pub fn value(&self) -> Option<u64>
+        ensures { result ≡ self.now.value }
+    {
+        self.value
+    }
+
+    fn set_state(&mut self, state: CallState)
+        ensures { self.new ≡ record self.old { state = state } }
+    {
+        self.state = state;
+    }
+
+    fn list_value(&mut self, value: u64) -> Result<(), AllocError>
+        ensures ok { OnOk result (self.new ≡ record self.old { list = self.old.list ++ value ∷ [] }) }
+        ensures err { OnErr result (self.new ≡ self.old) }
+    {
+        self.list.push(value)?;
+        Ok(())
+    }
+
+    fn take_list(&mut self, alloc: Global) -> Vec<u64>
+        ensures list { result.items ≡ self.old.list }
+        ensures left { self.new ≡ record self.old { list = [] } }
+    {
+        mem::replace(&mut self.list, Vec::new(alloc))
+    }
+}
+
+/// The value of an insert is used now.
+fn use_value(values: &mut HashSet<u64>, value: Option<u64>) -> Result<(), AllocError>
+    ensures ok { OnOk result ((v : ℕ) → set.contains nat_eq values.new v ≡ (is_value v value || set.contains nat_eq values.old v)) }
+    ensures err { OnErr result (values.new.keys ≡ values.old.keys) }
+{
+    if let Some(value) = value {
+        values.insert(value)?;
+    }
+    Ok(())
+}
+
+/// The state of the call at a place.
+fn state_at(all: &[Call], at: usize) -> CallState
+    requires { at < length all.now }
+    ensures { (c : SpecCall) → slice_get all.now at ≡ Some c → result ≡ c.state }
+{
+    all[at].state()
+}
+
+fn set_state_at(all: &mut Vec<Call>, at: usize, state: CallState)
+    requires { at < vec_len all.old }
+    ensures { (c : SpecCall) → slice_get all.old.items at ≡ Some c → all.new.items ≡ slice_set all.old.items at (record c { state = state }) }
+{
+    let call = &mut all[at];
+    call.set_state(state);
+}
+
+fn list_value_at(all: &mut Vec<Call>, at: usize, value: u64) -> Result<(), AllocError>
+    requires { at < vec_len all.old }
+    ensures ok { (c : SpecCall) → slice_get all.old.items at ≡ Some c → OnOk result (all.new.items ≡ slice_set all.old.items at (record c { list = c.list ++ value ∷ [] })) }
+    ensures err { OnErr result (all.new.items ≡ all.old.items) }
+{
+    let call = &mut all[at];
+    call.list_value(value)
+}
+
+fn take_list_at(all: &mut Vec<Call>, at: usize, alloc: Global) -> Vec<u64>
+    requires { at < vec_len all.old }
+    ensures list { (c : SpecCall) → slice_get all.old.items at ≡ Some c → result.items ≡ c.list }
+    ensures left { (c : SpecCall) → slice_get all.old.items at ≡ Some c → all.new.items ≡ slice_set all.old.items at (record c { list = [] }) }
+{
+    let call = &mut all[at];
+    call.take_list(alloc)
+}
+
+impl Calls {
+    /// No calls. It takes no memory.
+    pub fn new(alloc: Global) -> Calls
+        ensures { result ≡ [] }
+    {
+        Calls {
+            all: Vec::new(alloc),
+            positions: HashMap::new(alloc),
+            values: HashSet::new(alloc),
+            sharing: 0,
+            owning: 0,
+        }
+    }
+
+    /// Where the call of a number stands.
+    pub fn position(&self, number: u64) -> Option<usize>
+        ensures { result ≡ position_of number self.now }
+    {
+        self.positions.get(&number).copied()
+    }
+
+    /// Whether a call has this number.
+    pub fn is_used(&self, number: u64) -> bool
+        ensures { result ≡ is_used number self.now }
+    {
+        self.positions.contains_key(&number)
+    }
+
+    /// Whether an insert has this value.
+    pub fn is_used_value(&self, value: u64) -> bool
+        ensures { result ≡ is_used_value value self.now }
+    {
+        self.values.contains(&value)
+    }
+
+    /// Whether a call holds the lock alone.
+    pub fn is_owned(&self) -> bool
+        ensures { result ≡ is_owned self.now }
+    {
+        self.owning > 0
+    }
+
+    /// Whether a call holds the lock.
+    pub fn is_locked(&self) -> bool
+        ensures { result ≡ is_locked self.now }
+    {
+        self.sharing > 0 || self.owning > 0
+    }
+
+    /// A call more, in its first phase.
+    pub fn begin(
+        &mut self,
+        alloc: Global,
+        number: u64,
+        value: Option<u64>,
+        phase: Phase,
+        hash: u64,
+    ) -> Result<(), AllocError>
+        requires number { is_used number self.old ≡ false }
+        requires value { IsNewValue self.old value }
+        requires unlocked { (holds_shared phase ≡ false) × (holds_owned phase ≡ false) }
+        ensures ok { OnOk result (self.new ≡ self.old ++ starts number value phase hash ∷ []) }
+        ensures err { OnErr result (self.new ≡ self.old) }
+    {
+        let call = Call {
+            number,
+            value,
+            list: Vec::new(alloc),
+            state: CallState {
+                phase,
+                hash,
+                walked: None,
+                capacity: 0,
+                index: 0,
+                seen: 0,
+                outcome: Outcome::Pending,
+            },
+        };
+        self.all.reserve(1)?;
+        self.positions.reserve(1)?;
+        use_value(&mut self.values, value)?;
+        self.positions.insert(number, self.all.len())?;
+        self.all.push(call)?;
+        Ok(())
+    }
+
+    /// The call at a place.
+    pub fn get(&self, at: usize) -> &Call
+        requires { at < length self.now }
+        ensures { slice_get self.now at ≡ Some result.now }
+    {
+        &self.all[at]
+    }
+
+    /// The next state of the call at a place.
+    pub fn set_state(&mut self, at: usize, state: CallState)
+        requires { at < length self.old }
+        ensures { (c : SpecCall) → slice_get self.old at ≡ Some c → self.new ≡ slice_set self.old at (record c { state = state }) }
+    {
+        let before = state_at(self.all.as_slice(), at).phase;
+        set_state_at(&mut self.all, at, state);
+        self.sharing = recount(self.sharing, shares(before), shares(state.phase));
+        self.owning = recount(self.owning, owns(before), owns(state.phase));
+    }
+
+    /// One value more in the list of the walk at a place.
+    pub fn list_value(&mut self, at: usize, value: u64) -> Result<(), AllocError>
+        requires { at < length self.old }
+        ensures ok { (c : SpecCall) → slice_get self.old at ≡ Some c → OnOk result (self.new ≡ slice_set self.old at (record c { list = c.list ++ value ∷ [] })) }
+        ensures err { OnErr result (self.new ≡ self.old) }
+    {
+        list_value_at(&mut self.all, at, value)?;
+        Ok(())
+    }
+
+    /// Takes the list out of the walk at a place.
+    pub fn take_list(&mut self, alloc: Global, at: usize) -> Vec<u64>
+        requires { at < length self.old }
+        ensures list { (c : SpecCall) → slice_get self.old at ≡ Some c → result.items ≡ c.list }
+        ensures left { (c : SpecCall) → slice_get self.old at ≡ Some c → self.new ≡ slice_set self.old at (record c { list = [] }) }
+    {
+        take_list_at(&mut self.all, at, alloc)
+    }
+}

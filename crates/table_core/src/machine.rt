@@ -1,0 +1,531 @@
+ghost use Rattle.std.specs.Prelude.{◌≡◌, ◌≢◌, ◌<◌, true, false, if◌then◌else◌, Option, Some, None, length, slice_set, OnOk, OnErr, IfOk, IfSome};
+ghost use Rattle.std.specs.Option.{option_map};
+ghost use Rattle.std.specs.List.{slice_get};
+ghost use Rattle.table_core.specs.Replies.{told_of};
+ghost use Rattle.table_core.specs.Generations.{IsFirst, next_copied};
+ghost use Rattle.table_core.specs.History.{buckets};
+ghost use Rattle.table_core.specs.Calls.{Call as SpecCall, starts, fits, holds_shared, holds_owned};
+ghost use Rattle.table_core.specs.Machine.{empty, happens, reply, finds, takes_unless, holds, read, exchanged, sized, copies, shows, frees, walked_gen, with_entry, call_after, bucket_at, refused, by_outcome, by_failure, look_told, told, place, changed, number_of, in_range};
+ghost use Rattle.table_core.specs.Openings.{opening};
+ghost use Rattle.table_core.specs.Reached.{IsReached, CanChange, told_placed, told_found, is_taken, begun, moved, told_to, walked_entry, list_left, list_told};
+
+use crate::call::{Answer, CallState, Outcome, Phase};
+use crate::calls::{Call, Calls};
+use crate::deciding::decide;
+use crate::event::{Entry, Event};
+use crate::generation::hash_bits;
+use crate::reply::{Finished, Reply};
+use crate::table::Table;
+use std::alloc::{AllocError, Global};
+use std::marker::Model;
+
+/// The table and its calls.
+#[derive(Drop)]
+pub struct Machine {
+    alloc: Global,
+    table: Table,
+    calls: Calls,
+}
+
+impl Model for Machine {
+    ghost use Rattle.table_core.specs.Machine.{World};
+
+    ghost Value = { World };
+
+    ghost view = { λ m. record { table = m.table; calls = m.calls } };
+}
+
+/// What a set bucket shows to a call.
+fn show_entry(entry: Entry, hash: u64, accepted: bool) -> Answer
+    ensures { result ≡ holds entry hash accepted }
+{
+    Answer::Holds {
+        same_bits: entry.bits == hash_bits(hash),
+        accepted,
+    }
+}
+
+/// What a read of a bucket finds.
+fn read_bucket(bucket: Option<Entry>, hash: u64, accepted: bool) -> Answer
+    ensures { result ≡ read bucket hash accepted }
+{
+    match bucket {
+        None => Answer::Empty,
+        Some(entry) => show_entry(entry, hash, accepted),
+    }
+}
+
+/// What an exchange of a bucket finds.
+fn exchange(bucket: Option<Entry>, hash: u64, accepted: bool) -> Answer
+    ensures { result ≡ exchanged bucket hash accepted }
+{
+    match bucket {
+        None => Answer::Won,
+        Some(entry) => show_entry(entry, hash, accepted),
+    }
+}
+
+/// The lock, unless it is held.
+fn take_unless(held: bool) -> Option<Answer>
+    ensures { result ≡ takes_unless held }
+{
+    if held { None } else { Some(Answer::Taken) }
+}
+
+/// What a call is told that gives its value back.
+fn tell_refused(value: Option<u64>) -> Option<Reply>
+    ensures { option_map told_of result ≡ refused value }
+{
+    match value {
+        Some(value) => Some(Reply::Refused(value)),
+        None => None,
+    }
+}
+
+/// What an insert is told that has placed its value.
+fn tell_placed(value: Option<u64>) -> Option<Reply>
+    ensures { option_map told_of result ≡ told_placed value }
+{
+    match value {
+        Some(value) => Some(Reply::Placed(value)),
+        None => None,
+    }
+}
+
+/// What an insert is told that has accepted this entry.
+fn tell_found(entry: Option<Entry>, value: Option<u64>) -> Option<Reply>
+    ensures { option_map told_of result ≡ told_found entry value }
+{
+    match (entry, value) {
+        (Some(entry), Some(value)) => Some(Reply::Found(entry.value, value)),
+        _ => None,
+    }
+}
+
+/// The bucket at which a call stands.
+fn bucket_of(table: &Table, state: CallState) -> Option<Entry>
+    ensures { result ≡ bucket_at table.now state }
+{
+    table.at(state.walked, state.index)
+}
+
+/// What a call is told by its outcome.
+fn tell_outcome(table: &Table, call: &Call) -> Option<Reply>
+    ensures { option_map told_of result ≡ by_outcome table.now call.now }
+{
+    let state = call.state();
+    match state.outcome {
+        Outcome::Pending => None,
+        Outcome::New { .. } => tell_placed(call.value()),
+        Outcome::Existing { place } => tell_found(table.at(state.walked, place), call.value()),
+    }
+}
+
+/// What a call is told whose growth has failed.
+fn tell_failure(table: &Table, call: &Call, still_current: bool) -> Option<Reply>
+    ensures { option_map told_of result ≡ by_failure table.now call.now still_current }
+{
+    match (call.state().outcome, still_current) {
+        (Outcome::Pending, true) => tell_refused(call.value()),
+        _ => tell_outcome(table, call),
+    }
+}
+
+/// What a look-up is told at a set bucket.
+fn tell_look(table: &Table, state: CallState, accepted: bool) -> Option<Reply>
+    requires { state.seen < state.capacity }
+    ensures { option_map told_of result ≡ look_told table.now state accepted }
+{
+    if accepted {
+        match bucket_of(table, state) {
+            Some(entry) => Some(Reply::Some(entry.value)),
+            None => None,
+        }
+    } else if state.seen + 1 < state.capacity {
+        None
+    } else {
+        Some(Reply::None)
+    }
+}
+
+/// What a call, other than a walk at a bucket, is told that finishes by an answer.
+fn tell(alloc: Global, table: &Table, call: &Call, answer: Answer) -> Option<Reply>
+    requires other { call.now.state.phase ≢ Phase.WalkAt }
+    requires fitting { fits call.now.state.phase call.now.state answer ≡ true }
+    ensures { option_map told_of result ≡ told table.now call.now answer }
+{
+    let state = call.state();
+    match (state.phase, answer) {
+        (Phase::LeaveRefused, Answer::Released { .. }) => tell_refused(call.value()),
+        (Phase::AskSize, Answer::Sized { size }) => {
+            if size < state.capacity / 2 {
+                tell_outcome(table, call)
+            } else {
+                None
+            }
+        }
+        (Phase::LeaveOwned, Answer::Released { .. }) => tell_outcome(table, call),
+        (Phase::LeaveFailed, Answer::Released { still_current }) => {
+            tell_failure(table, call, still_current)
+        }
+        (Phase::LookLoad, Answer::NoGeneration) => Some(Reply::None),
+        (Phase::LookProbe, Answer::Empty) => Some(Reply::None),
+        (
+            Phase::LookProbe,
+            Answer::Holds {
+                same_bits,
+                accepted,
+            },
+        ) => tell_look(table, state, same_bits && accepted),
+        (Phase::LenLoad, Answer::NoGeneration) => Some(Reply::Len(0)),
+        (Phase::LenSize, Answer::Sized { size }) => Some(Reply::Len(size)),
+        (Phase::WalkLoad, Answer::NoGeneration) => Some(Reply::Walk(Vec::new(alloc))),
+        _ => None,
+    }
+}
+
+/// The value of a call into the bucket at which it stands.
+fn place_value(table: &mut Table, value: Option<u64>, state: CallState) -> Result<(), AllocError>
+    requires empty { bucket_at table.old state ≡ None }
+    requires settled { table.old.building ≡ None }
+    ensures ok { OnOk result (table.new ≡ place table.old state value) }
+    ensures err { OnErr result (table.new ≡ table.old) }
+{
+    let Some(value) = value else {
+        return Ok(());
+    };
+    table.place(
+        state.walked,
+        Entry {
+            place: state.index,
+            value,
+            bits: hash_bits(state.hash),
+        },
+    )
+}
+
+/// What an event changes in the table.
+fn change(
+    alloc: Global,
+    table: &mut Table,
+    call: &Call,
+    event: Event,
+    answer: Answer,
+) -> Result<(), AllocError>
+    requires { CanChange table.old call.now event answer }
+    ensures ok { OnOk result (table.new ≡ changed table.old call.now event answer) }
+    ensures err { OnErr result (table.new ≡ table.old) }
+{
+    let state = call.state();
+    match (event, answer) {
+        (Event::Put { .. }, Answer::Won) => place_value(table, call.value(), state),
+        (Event::Add { .. }, Answer::Counted) => {
+            table.count(state.walked);
+            Ok(())
+        }
+        (Event::Check { .. }, Answer::Begun) => table.begin_growth(alloc),
+        (Event::Copy { hash, .. }, Answer::Copied) => table.copy_next(hash),
+        (Event::Show { .. }, Answer::Shown) => table.show(alloc),
+        _ => Ok(()),
+    }
+}
+
+impl Machine {
+    /// No generation and no call. The first generation will have `first` buckets.
+    pub fn new(alloc: Global, first: u64) -> Machine
+        requires { IsFirst first }
+        ensures { result ≡ empty first }
+    {
+        Machine {
+            alloc,
+            table: Table::new(alloc, first),
+            calls: Calls::new(alloc),
+        }
+    }
+
+    /// How many buckets all generations have together, the one being built included.
+    pub fn buckets(&self) -> u64
+        ensures { result ≡ buckets self.now.table }
+    {
+        self.table.buckets()
+    }
+
+    /// What an event of a call finds; nothing where it has no place in the call's phase, or has to
+    /// wait.
+    fn answer(&self, state: CallState, event: Event) -> Option<Answer>
+        ensures { result ≡ finds self.now state event }
+    {
+        match (state.phase, event) {
+            (Phase::WantShared, Event::Share { .. }) => take_unless(self.calls.is_owned()),
+            (Phase::Shared, Event::Load { .. }) => Some(self.table.load()),
+            (Phase::Probe, Event::Read { accepted, .. }) => Some(self.read(state, accepted)),
+            (
+                Phase::AtEmpty,
+                Event::Put {
+                    accepted,
+                    granted,
+                    ..
+                },
+            ) => Some(self.put(state, accepted, granted)),
+            (Phase::Placed, Event::Add { .. }) => Some(Answer::Counted),
+            (Phase::LeaveOk, Event::Free { .. }) => Some(self.free(state)),
+            (Phase::LeaveGrow, Event::Free { .. }) => Some(self.free(state)),
+            (Phase::LeaveRefused, Event::Free { .. }) => Some(self.free(state)),
+            (Phase::AskSize, Event::Size { .. }) => self.size(state),
+            (Phase::WantOwned, Event::Own { .. }) => take_unless(self.calls.is_locked()),
+            (Phase::Owned, Event::Check { granted, .. }) => Some(self.table.check(granted)),
+            (Phase::Building, Event::Copy { .. }) => self.copy(),
+            (Phase::Building, Event::Show { .. }) => self.show(),
+            (Phase::LeaveOwned, Event::Free { .. }) => Some(self.free(state)),
+            (Phase::LeaveFailed, Event::Free { .. }) => Some(self.free(state)),
+            (Phase::LookLoad, Event::Load { .. }) => Some(self.table.load()),
+            (Phase::LookProbe, Event::Read { accepted, .. }) => Some(self.read(state, accepted)),
+            (Phase::LenLoad, Event::Load { .. }) => Some(self.table.load()),
+            (Phase::LenSize, Event::Size { .. }) => self.size(state),
+            (Phase::WalkLoad, Event::Load { .. }) => Some(self.table.load()),
+            (Phase::WalkAt, Event::Read { accepted, .. }) => Some(self.read(state, accepted)),
+            _ => None,
+        }
+    }
+
+    fn read(&self, state: CallState, accepted: bool) -> Answer
+        ensures { result ≡ read (bucket_at self.now.table state) state.hash accepted }
+    {
+        read_bucket(bucket_of(&self.table, state), state.hash, accepted)
+    }
+
+    fn put(&self, state: CallState, accepted: bool, granted: bool) -> Answer
+        ensures { result ≡ (if granted then exchanged (bucket_at self.now.table state) state.hash accepted else Answer.NoRoom) }
+    {
+        if granted {
+            exchange(bucket_of(&self.table, state), state.hash, accepted)
+        } else {
+            Answer::NoRoom
+        }
+    }
+
+    fn free(&self, state: CallState) -> Answer
+        ensures { Some result ≡ frees self.now state }
+    {
+        Answer::Released {
+            still_current: self.table.is_current(state.walked),
+        }
+    }
+
+    fn size(&self, state: CallState) -> Option<Answer>
+        ensures { result ≡ sized (walked_gen self.now.table state) }
+    {
+        match self.table.size(state.walked) {
+            Some(size) => Some(Answer::Sized { size }),
+            None => None,
+        }
+    }
+
+    fn copy(&self) -> Option<Answer>
+        ensures { result ≡ copies (next_copied self.now.table) }
+    {
+        match self.table.next() {
+            Some(_) => Some(Answer::Copied),
+            None => None,
+        }
+    }
+
+    fn show(&self) -> Option<Answer>
+        ensures { result ≡ shows (next_copied self.now.table) }
+    {
+        match self.table.next() {
+            Some(_) => None,
+            None => Some(Answer::Shown),
+        }
+    }
+}
+
+/// The entry that an answer shows to a walk.
+fn entry_shown(table: &Table, state: CallState, answer: Answer) -> Option<Entry>
+    ensures { result ≡ walked_entry table.now state answer }
+{
+    match answer {
+        Answer::Holds { .. } => bucket_of(table, state),
+        _ => None,
+    }
+}
+
+/// An entry more in the list of the walk at a place.
+fn list_entry(calls: &mut Calls, at: usize, entry: Option<Entry>) -> Result<(), AllocError>
+    requires { at < length calls.old }
+    ensures ok { (c : SpecCall) → slice_get calls.old at ≡ Some c → OnOk result (calls.new ≡ slice_set calls.old at (record c { list = with_entry c.list entry })) }
+    ensures err { OnErr result (calls.new ≡ calls.old) }
+{
+    match entry {
+        Some(entry) => calls.list_value(at, entry.value),
+        None => Ok(()),
+    }
+}
+
+/// The next state of the walk at a place, which takes its list where it finishes.
+fn end_walk(alloc: Global, calls: &mut Calls, at: usize, next: CallState) -> Option<Reply>
+    requires { at < length calls.old }
+    ensures left { (c : SpecCall) → slice_get calls.old at ≡ Some c → calls.new ≡ slice_set calls.old at (record c { list = list_left next.phase c.list; state = next }) }
+    ensures told { (c : SpecCall) → slice_get calls.old at ≡ Some c → option_map told_of result ≡ list_told next.phase c.list }
+{
+    calls.set_state(at, next);
+    match next.phase {
+        Phase::Done => Some(Reply::Walk(calls.take_list(alloc, at))),
+        _ => None,
+    }
+}
+
+/// The walk at a place reads a bucket.
+fn walk(
+    alloc: Global,
+    table: &Table,
+    calls: &mut Calls,
+    at: usize,
+    answer: Answer,
+) -> Result<Option<Reply>, AllocError>
+    requires within { at < length calls.old }
+    requires walking { (c : SpecCall) → slice_get calls.old at ≡ Some c → (c.state.phase ≡ Phase.WalkAt) × (fits c.state.phase c.state answer ≡ true) }
+    ensures ok { (c : SpecCall) → slice_get calls.old at ≡ Some c → OnOk result (calls.new ≡ slice_set calls.old at (call_after table.now c answer)) }
+    ensures told { (c : SpecCall) → slice_get calls.old at ≡ Some c → IfOk result (λ r. option_map told_of r ≡ told table.now c answer) }
+    ensures err { OnErr result (calls.new ≡ calls.old) }
+{
+    let state = calls.get(at).state();
+    let entry = entry_shown(table, state, answer);
+    list_entry(calls, at, entry)?;
+    Ok(end_walk(alloc, calls, at, decide(state, answer)))
+}
+
+impl Machine {
+    /// The call at a place takes its event, if it has a row.
+    fn go(&mut self, at: usize, event: Event) -> Result<Option<Reply>, AllocError>
+        requires within { at < length self.old.calls }
+        requires reached { IsReached self.old }
+        ensures ok { (c : SpecCall) → slice_get self.old.calls at ≡ Some c → OnOk result (self.new ≡ moved self.old at c event (finds self.old c.state event)) }
+        ensures told { (c : SpecCall) → slice_get self.old.calls at ≡ Some c → IfOk result (λ r. option_map told_of r ≡ told_to self.old c (finds self.old c.state event)) }
+        ensures err { OnErr result (self.new ≡ self.old) }
+    {
+        let state = self.calls.get(at).state();
+        let Some(answer) = self.answer(state, event) else {
+            return Ok(None);
+        };
+        if let Phase::WalkAt = state.phase {
+            let told = walk(self.alloc, &self.table, &mut self.calls, at, answer)?;
+            return Ok(told);
+        }
+        let call = self.calls.get(at);
+        let told = tell(self.alloc, &self.table, call, answer);
+        change(self.alloc, &mut self.table, call, event, answer)?;
+        self.calls.set_state(at, decide(state, answer));
+        Ok(told)
+    }
+
+    /// A call begins, unless its number or its value is used.
+    fn begin(&mut self, number: u64, opening: Opening) -> Result<(), AllocError>
+        requires { (holds_shared opening.phase ≡ false) × (holds_owned opening.phase ≡ false) }
+        ensures ok { OnOk result (self.new ≡ begun self.old (is_taken number opening.value self.old.calls) (starts number opening.value opening.phase opening.hash)) }
+        ensures err { OnErr result (self.new ≡ self.old) }
+    {
+        if self.is_taken(number, opening.value) {
+            return Ok(());
+        }
+        self.calls.begin(
+            self.alloc,
+            number,
+            opening.value,
+            opening.phase,
+            opening.hash,
+        )
+    }
+
+    fn is_taken(&self, number: u64, value: Option<u64>) -> bool
+        ensures { result ≡ is_taken number value self.now.calls }
+    {
+        match value {
+            Some(value) => self.calls.is_used(number) || self.calls.is_used_value(value),
+            None => self.calls.is_used(number),
+        }
+    }
+
+    /// The call of an event that begins none takes it.
+    fn go_on(&mut self, event: Event) -> Result<Option<Finished>, AllocError>
+        requires reached { IsReached self.old }
+        requires going { opening event ≡ None }
+        ensures ok { OnOk result (self.new ≡ happens self.old event) }
+        ensures told { IfOk result (λ r. r ≡ reply self.old event) }
+        ensures err { OnErr result (self.new ≡ self.old) }
+    {
+        let call = event.call();
+        let Some(at) = self.calls.position(call) else {
+            return Ok(None);
+        };
+        match self.go(at, event)? {
+            Some(reply) => Ok(Some(Finished { call, reply })),
+            None => Ok(None),
+        }
+    }
+
+    /// Takes one event. Where memory is refused the machine is as it was.
+    pub fn step(&mut self, event: Event) -> Result<Option<Finished>, AllocError>
+        requires { IsReached self.old }
+        ensures ok { OnOk result (self.new ≡ happens self.old event) }
+        ensures told { IfOk result (λ r. r ≡ reply self.old event) }
+        ensures err { OnErr result (self.new ≡ self.old) }
+    {
+        match opening_of(event) {
+            Some(opening) => {
+                self.begin(event.call(), opening)?;
+                Ok(None)
+            }
+            None => self.go_on(event),
+        }
+    }
+}
+
+/// How a call begins.
+#[derive(Clone, Copy)]
+struct Opening {
+    value: Option<u64>,
+    phase: Phase,
+    hash: u64,
+}
+
+/// How the call of an event begins, if the event begins one.
+fn opening_of(event: Event) -> Option<Opening>
+    ensures opening { result ≡ opening event }
+    ensures unlocked { IfSome result (λ o. (holds_shared o.phase ≡ false) × (holds_owned o.phase ≡ false)) }
+{
+    let (value, phase, hash) = match event {
+        Event::Insert { value, hash, .. } => (Some(value), Phase::WantShared, hash),
+        Event::Lookup { hash, .. } => (None, Phase::LookLoad, hash),
+        Event::Len { .. } => (None, Phase::LenLoad, 0),
+        Event::Walk { .. } => (None, Phase::WalkLoad, 0),
+        _ => return None,
+    };
+    Some(Opening { value, phase, hash })
+}
+
+impl Event {
+    /// The number of the call that it is of.
+    pub fn call(self) -> u64
+        ensures number { result ≡ number_of self }
+        ensures in_range { in_range self ≡ true }
+    {
+        match self {
+            Event::Insert { call, .. }
+            | Event::Lookup { call, .. }
+            | Event::Len { call }
+            | Event::Walk { call }
+            | Event::Share { call }
+            | Event::Own { call }
+            | Event::Free { call }
+            | Event::Load { call }
+            | Event::Read { call, .. }
+            | Event::Put { call, .. }
+            | Event::Add { call }
+            | Event::Size { call }
+            | Event::Check { call, .. }
+            | Event::Copy { call, .. }
+            | Event::Show { call } => call,
+        }
+    }
+}

@@ -1,0 +1,295 @@
+ghost use Rattle.std.specs.Prelude.{◌≡◌, ◌<◌, ◌^◌, true, Some, None, [], length, OnOk, OnErr, IfOk, option_copied};
+ghost use Rattle.std.specs.Option.{option_map};
+ghost use Rattle.table_core.specs.Bags.{weigh};
+ghost use Rattle.table_core.specs.Generations.{IsFirst, Gen, Build, bucket, first_empty, gen_of, last_of, bucket_in, current, is_current, next_copied, fill, count, change, next_capacity, entries_of};
+ghost use Rattle.table_core.specs.Bound.{IsCapacity};
+ghost use Rattle.table_core.specs.Machine.{loads, loaded, checked, begin_growth, copy_next, show_built};
+ghost use Rattle.table_core.specs.History.{buckets};
+
+use crate::call::Answer;
+use crate::event::Entry;
+use crate::generation::Generation;
+use std::alloc::{AllocError, Global};
+use std::marker::Model;
+
+/// The table: its generations from the first on, and the one being built.
+#[derive(Drop)]
+pub struct Table {
+    first: u64,
+    generations: Vec<Generation>,
+    growing: Option<Generation>,
+    /// The entries of the current generation in order, while another one is being built.
+    source: Vec<Entry>,
+    copied: usize,
+}
+
+impl Model for Table {
+    ghost use Rattle.table_core.specs.Generations.{Table};
+    ghost use Rattle.table_core.specs.Bound.{build_of};
+    ghost use Rattle.table_core.specs.Indexed.{IsTable};
+
+    ghost Value = { Table };
+
+    ghost view = { λ t. record { first = t.first; gens = t.generations.items; building = build_of t.growing t.copied } };
+
+    ghost invariant = { λ t. IsTable t.first t.generations.items t.growing t.source.items };
+}
+
+/// The generation of a number.
+fn generation_of(generations: &[Generation], walked: Option<u64>) -> Option<&Generation>
+    ensures { option_copied result ≡ gen_of generations.now walked }
+{
+    let number = walked?;
+    if number < generations.len() as u64 {
+        Some(&generations[number as usize])
+    } else {
+        None
+    }
+}
+
+/// The current generation.
+fn current_of(generations: &[Generation]) -> Option<&Generation>
+    ensures { option_copied result ≡ last_of generations.now }
+{
+    if generations.is_empty() {
+        None
+    } else {
+        Some(&generations[generations.len() - 1])
+    }
+}
+
+/// The capacity of the generation after these.
+fn next_capacity(first: u64, generations: &[Generation]) -> u64
+    requires allowed { IsFirst first }
+    requires room { checked (last_of generations.now) true ≡ Answer.Begun }
+    ensures value { result ≡ next_capacity first (last_of generations.now) }
+    ensures power { IsCapacity result }
+{
+    match current_of(generations) {
+        None => first,
+        Some(generation) => 2 * generation.capacity(),
+    }
+}
+
+/// The entries of the last of these generations.
+fn entries_of_last(generations: &[Generation], alloc: Global) -> Result<Vec<Entry>, AllocError>
+    ensures { IfOk result (λ v. v.items ≡ entries_of (last_of generations.now)) }
+{
+    match current_of(generations) {
+        None => Ok(Vec::new(alloc)),
+        Some(generation) => generation.entries(alloc),
+    }
+}
+
+/// The capacities of some generations together.
+fn capacity_of(generations: &[Generation]) -> u64
+    requires { weigh (λ (g : Gen). g.capacity) generations.now < 2 ^ 64 }
+    ensures { result ≡ weigh (λ (g : Gen). g.capacity) generations.now }
+{
+    let mut buckets = 0;
+    for generation in generations {
+        buckets += generation.capacity();
+    }
+    buckets
+}
+
+fn fill_walked(
+    generations: &mut Vec<Generation>,
+    walked: Option<u64>,
+    entry: Entry,
+) -> Result<(), AllocError>
+    requires { bucket_in (gen_of generations.old.items walked) entry.place ≡ None }
+    ensures ok { OnOk result (generations.new.items ≡ change generations.old.items walked (λ g. fill g entry)) }
+    ensures err { OnErr result (generations.new.items ≡ generations.old.items) }
+{
+    let Some(number) = walked else {
+        return Ok(());
+    };
+    if number < generations.len() as u64 {
+        let generation = &mut generations[number as usize];
+        generation.fill(entry)?;
+    }
+    Ok(())
+}
+
+fn count_walked(generations: &mut Vec<Generation>, walked: Option<u64>)
+    requires { (g : Gen) → gen_of generations.old.items walked ≡ Some g → g.size < length g.entries }
+    ensures { generations.new.items ≡ change generations.old.items walked count }
+{
+    let Some(number) = walked else {
+        return;
+    };
+    if number < generations.len() as u64 {
+        let generation = &mut generations[number as usize];
+        generation.count();
+    }
+}
+
+impl Table {
+    /// No generation. The first one will have so many buckets. It takes no memory.
+    pub fn new(alloc: Global, first: u64) -> Table
+        requires { IsFirst first }
+        ensures { result ≡ record { first = first; gens = []; building = None } }
+    {
+        Table {
+            first,
+            generations: Vec::new(alloc),
+            growing: None,
+            source: Vec::new(alloc),
+            copied: 0,
+        }
+    }
+
+    /// What a load finds.
+    pub fn load(&self) -> Answer
+        ensures { result ≡ loads self.now }
+    {
+        match current_of(self.generations.as_slice()) {
+            None => Answer::NoGeneration,
+            Some(generation) => Answer::Loaded {
+                generation: (self.generations.len() - 1) as u64,
+                capacity: generation.capacity(),
+            },
+        }
+    }
+
+    /// The bucket at a place of a generation.
+    pub fn at(&self, walked: Option<u64>, place: u64) -> Option<Entry>
+        ensures { result ≡ bucket_in (gen_of self.now.gens walked) place }
+    {
+        match generation_of(self.generations.as_slice(), walked) {
+            Some(generation) => generation.at(place),
+            None => None,
+        }
+    }
+
+    /// The size of a generation.
+    pub fn size(&self, walked: Option<u64>) -> Option<u64>
+        ensures { result ≡ option_map (λ (g : Gen). g.size) (gen_of self.now.gens walked) }
+    {
+        match generation_of(self.generations.as_slice(), walked) {
+            Some(generation) => Some(generation.size()),
+            None => None,
+        }
+    }
+
+    /// What a look at the current generation finds: whether growth is wanted, and begins.
+    pub fn check(&self, granted: bool) -> Answer
+        ensures { result ≡ checked (current self.now) granted }
+    {
+        const GREATEST: u64 = 1 << 63;
+        match current_of(self.generations.as_slice()) {
+            None => {
+                if granted {
+                    Answer::Begun
+                } else {
+                    Answer::Failed
+                }
+            }
+            Some(generation) => {
+                if generation.size() < generation.capacity() / 2 {
+                    Answer::Unwanted
+                } else if granted && generation.capacity() != GREATEST {
+                    Answer::Begun
+                } else {
+                    Answer::Failed
+                }
+            }
+        }
+    }
+
+    /// Whether a generation is the current one, or there is none still.
+    pub fn is_current(&self, walked: Option<u64>) -> bool
+        ensures { result ≡ is_current self.now.gens walked }
+    {
+        match walked {
+            None => self.generations.is_empty(),
+            Some(number) => { number < u64::MAX && number + 1 == self.generations.len() as u64 }
+        }
+    }
+
+    /// The next entry to be copied into the generation that is being built.
+    pub fn next(&self) -> Option<Entry>
+        ensures { result ≡ next_copied self.now }
+    {
+        match &self.growing {
+            Some(_) => self.source.get(self.copied).copied(),
+            None => None,
+        }
+    }
+
+    /// Puts an entry into an empty bucket of a generation.
+    pub fn place(&mut self, walked: Option<u64>, entry: Entry) -> Result<(), AllocError>
+        requires empty { bucket_in (gen_of self.old.gens walked) entry.place ≡ None }
+        requires settled { self.old.building ≡ None }
+        ensures ok { OnOk result (self.new ≡ record self.old { gens = change self.old.gens walked (λ g. fill g entry) }) }
+        ensures err { OnErr result (self.new ≡ self.old) }
+    {
+        fill_walked(&mut self.generations, walked, entry)?;
+        Ok(())
+    }
+
+    /// Counts an entry that was placed.
+    pub fn count(&mut self, walked: Option<u64>)
+        requires settled { self.old.building ≡ None }
+        requires uncounted { (g : Gen) → gen_of self.old.gens walked ≡ Some g → g.size < length g.entries }
+        ensures { self.new ≡ record self.old { gens = change self.old.gens walked count } }
+    {
+        count_walked(&mut self.generations, walked);
+    }
+
+    /// Begins a generation of the first capacity, or of twice the current one.
+    pub fn begin_growth(&mut self, alloc: Global) -> Result<(), AllocError>
+        requires { checked (current self.old) true ≡ Answer.Begun }
+        ensures ok { OnOk result (self.new ≡ begin_growth self.old) }
+        ensures err { OnErr result (self.new ≡ self.old) }
+    {
+        let capacity = next_capacity(self.first, self.generations.as_slice());
+        let source = entries_of_last(self.generations.as_slice(), alloc)?;
+        self.source = source;
+        self.growing = Some(Generation::new(alloc, capacity));
+        self.copied = 0;
+        Ok(())
+    }
+
+    /// Copies the next entry to the first empty bucket from a hash's own on.
+    pub fn copy_next(&mut self, hash: u64) -> Result<(), AllocError>
+        requires { (b : Build) → self.old.building ≡ Some b → bucket b.gen.entries (first_empty b.gen hash) ≡ None }
+        ensures ok { OnOk result (self.new ≡ copy_next self.old (next_copied self.old) hash) }
+        ensures err { OnErr result (self.new ≡ self.old) }
+    {
+        let Some(entry) = self.next() else {
+            return Ok(());
+        };
+        if let Some(growing) = &mut self.growing {
+            growing.copy(entry, hash)?;
+            self.copied += 1;
+        }
+        Ok(())
+    }
+
+    /// The generation that was built is the current one.
+    pub fn show(&mut self, alloc: Global) -> Result<(), AllocError>
+        ensures ok { OnOk result (self.new ≡ show_built self.old) }
+        ensures err { OnErr result (self.new ≡ self.old) }
+    {
+        self.generations.reserve(1)?;
+        if let Some(built) = self.growing.take() {
+            self.generations.push(built)?;
+        }
+        self.source = Vec::new(alloc);
+        self.copied = 0;
+        Ok(())
+    }
+
+    /// How many buckets all generations have together, the one being built included.
+    pub fn buckets(&self) -> u64
+        ensures { result ≡ buckets self.now }
+    {
+        let buckets = capacity_of(self.generations.as_slice());
+        match &self.growing {
+            Some(growing) => buckets + growing.capacity(),
+            None => buckets,
+        }
+    }
+}

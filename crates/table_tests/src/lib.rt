@@ -1,0 +1,8 @@
+//! Tests of the hash tables, over several of their modules at once.
+#![tactic(auto)]
+
+pub mod counting;
+pub mod laws;
+pub mod slow_list;
+#[cfg(test)]
+mod tests;

@@ -1,0 +1,117 @@
+//! Each value is dropped once.
+use crate::counting::{Counting, CountingLaw};
+use crate::laws::spread;
+use lock_free_hashtable::raw::HeldRawTable;
+use std::alloc::{AllocError, Global};
+use std::cell::Cell;
+use std::rc::Rc;
+use std::test::Fail;
+
+type Countings = HeldRawTable<Box<Counting>>;
+
+/// Inserts a value that counts its drops there. Whether it was placed.
+fn places(
+    table: &mut Countings,
+    alloc: Global,
+    number: u64,
+    drops: &Rc<Cell<u64>>,
+) -> Result<bool, AllocError> {
+    let value = Box::new(alloc, Counting::new(number, drops.clone()?))?;
+    match table.insert_alone::<CountingLaw, _, _>(
+        spread(number),
+        value,
+        |a: &Counting, b: &Counting| a.number == b.number,
+        |a: &Counting| spread(a.number),
+    ) {
+        Ok((_, back)) => Ok(back.is_none()),
+        Err(_) => Err(AllocError),
+    }
+}
+
+/// A count of drops for each of the first numbers.
+fn counts(alloc: Global, numbers: u64) -> Result<Vec<Rc<Cell<u64>>>, AllocError> {
+    let mut counts = Vec::new(alloc);
+    for _number in 0..numbers {
+        counts.push(Rc::new(alloc, Cell::new(0))?)?;
+    }
+    Ok(counts)
+}
+
+/// A table of values that count their drops in these.
+fn table_of(alloc: Global, counts: &[Rc<Cell<u64>>]) -> Result<Countings, AllocError> {
+    let mut table = HeldRawTable::new(alloc);
+    for (number, drops) in (0u64..).zip(counts) {
+        places(&mut table, alloc, number, drops)?;
+    }
+    Ok(table)
+}
+
+/// How many values were dropped this often.
+fn dropped(counts: &[Rc<Cell<u64>>], times: u64) -> usize {
+    counts
+        .iter()
+        .filter(|drops: &&Rc<Cell<u64>>| drops.get() == times)
+        .count()
+}
+
+#[test]
+fn an_owning_iterator_that_ends_early_drops_the_rest(rt: HostRuntime) -> Result<(), Fail> {
+    for (values, capacity, rest_dropped) in [(5, 16, 3), (20, 64, 18)] {
+        let counts = counts(rt.alloc(), values)?;
+        let table = table_of(rt.alloc(), &counts)?;
+        assert_eq!(rt; table.capacity_alone(), capacity);
+        let mut rest = table.into_iter();
+        let kept = (rest.next(), rest.next());
+        assert!(rt; kept.0.is_some() && kept.1.is_some());
+        assert_eq!(rt; dropped(&counts, 0), counts.len());
+        drop(rest);
+        assert_eq!(rt;
+            (dropped(&counts, 0), dropped(&counts, 1)),
+            (2, rest_dropped)
+        );
+        drop(kept);
+        assert_eq!(rt; dropped(&counts, 1), counts.len());
+    }
+    Ok(())
+}
+
+#[test]
+fn an_owning_iterator_stays_at_its_end(rt: HostRuntime) -> Result<(), Fail> {
+    let counts = counts(rt.alloc(), 20)?;
+    let mut rest = table_of(rt.alloc(), &counts)?.into_iter();
+    for _number in 0..20 {
+        assert!(rt; rest.next().is_some());
+    }
+    for _again in 0..3 {
+        assert!(rt; rest.next().is_none());
+    }
+    assert_eq!(rt; dropped(&counts, 1), 20);
+    Ok(())
+}
+
+#[test]
+fn the_end_of_a_table_drops_each_value(rt: HostRuntime) -> Result<(), Fail> {
+    let counts = counts(rt.alloc(), 40)?;
+    let table = table_of(rt.alloc(), &counts)?;
+    assert_eq!(rt; (table.capacity_alone(), table.buckets_alone()), (128, 240));
+    let mut walk = table.iter_alone();
+    assert!(rt; walk.next().is_some());
+    drop(walk);
+    assert_eq!(rt; dropped(&counts, 0), 40);
+    drop(table);
+    assert_eq!(rt; dropped(&counts, 1), 40);
+    Ok(())
+}
+
+#[test]
+fn a_value_that_is_found_comes_back(rt: HostRuntime) -> Result<(), Fail> {
+    let counts = counts(rt.alloc(), 2)?;
+    let mut table = HeldRawTable::new(rt.alloc());
+    for (drops, placed) in counts.iter().zip([true, false]) {
+        assert_eq!(rt; places(&mut table, rt.alloc(), 7, drops)?, placed);
+        assert_eq!(rt; drops.get(), if placed { 0 } else { 1 });
+    }
+    drop(table);
+    assert_eq!(rt; dropped(&counts, 1), 2);
+    Ok(())
+}

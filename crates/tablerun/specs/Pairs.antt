@@ -1,0 +1,52 @@
+-- Tables of pairs, and what a list of pairs is told.
+use Rattle.std.specs.Prelude.{◌≡◌, ℕ, ◌^◌, ◌%◌, ◌==◌, ◌&&◌, ◌++◌, Bool, List, [], ◌∷◌, Option, Some, None, map, Contains}
+use Rattle.std.specs.List.Sorted.{IsPermutation}
+use Rattle.std.specs.Prelude.{IsSorted}
+use Rattle.std.specs.Ordering.{nat_cmp}
+use Rattle.std.proofs.Common.{arith}
+use Rattle.std.proofs.lemmas.Grind.{common_steps}
+use Rattle.lock_free_hashtable.specs.Law.{IsLaw}
+use Rattle.lock_free_hashtable.specs.Table.{Table, Stands, IsLawful}
+use Rattle.tablerun.specs.declared.pairs.Insertion.{Insertion}
+use Rattle.tablerun.specs.declared.pairs.Insertion.TheVariants.{Placed, Found, Refused}
+
+abbrev pub same_pair : (ℕ × ℕ) → (ℕ × ℕ) → Bool
+same_pair a b = (a.0 == b.0) && (a.1 == b.1)
+
+-- the first part, which is below 2^64
+abbrev pub pair_hash : (ℕ × ℕ) → ℕ
+pair_hash a = a.0 % 2 ^ 64
+
+pub pair_lawful : IsLaw same_pair pair_hash
+pair_lawful = record {
+  reflexive = λ a. grind (arith, common_steps);
+  symmetric = λ a b h. grind (arith, common_steps);
+  transitive = λ a b c h k. grind (arith, common_steps);
+  small = λ a. grind (arith, common_steps);
+  agrees = λ a b h. grind (arith, common_steps);
+}
+
+-- how an insert of the pair x ends on a list of pairs, and the list after
+abbrev pub InsertsPair : List (ℕ × ℕ) → ℕ × ℕ → Insertion → List (ℕ × ℕ) → Type 0
+InsertsPair ps x Placed qs = ¬ Contains ps x × (qs ≡ ps ++ x ∷ [])
+InsertsPair ps x Found qs = Contains ps x × (qs ≡ ps)
+InsertsPair ps x Refused qs = ¬ Contains ps x × (qs ≡ ps)
+
+-- a look-up of the pair x gives the second part of the pair that it finds
+abbrev pub LooksUpPair : List (ℕ × ℕ) → ℕ × ℕ → Option ℕ → Type 0
+LooksUpPair ps x (Some n) = Contains ps x × (n ≡ x.1)
+LooksUpPair ps x None = ¬ Contains ps x
+
+-- the second parts of all pairs, in ascending order
+pub record ListsNumbers (ps : List (ℕ × ℕ)) (ns : List ℕ) : Type 0 where
+  pub permuted : IsPermutation (map (λ x. x.1) ps) ns
+  pub sorted : IsSorted nat_cmp ns
+
+module _ {T : Type 0} (pair_of : T → ℕ × ℕ) (t : Table T) where
+  -- the table is lawful for pairs
+  abbrev pub IsPairTable : Type 0
+  IsPairTable = IsLawful pair_of same_pair pair_hash t
+
+  -- the table stands for a list of these pairs
+  abbrev pub HoldsPairs : List (ℕ × ℕ) → Type 0
+  HoldsPairs ps = (M : List T) × Stands t M × (map pair_of M ≡ ps)

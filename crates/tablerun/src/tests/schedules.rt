@@ -1,0 +1,484 @@
+//! Worked schedules: the lines that their events print.
+use super::run;
+use crate::commands::run_words;
+use std::alloc::Global;
+use std::cell::Cell;
+use std::io;
+use std::io::Read;
+use std::test::Fail;
+
+/// A schedule in parts, and what it prints.
+///
+/// Events have `; ` between them. `first C V H` stands for a call that finds no generation, makes the first one and loads
+/// it, `go C V H` for one that places its value in an empty bucket, `copies C N` for N entries copied with the hashes from
+/// 0 on, and `N times EVENT` for one event again and again.
+#[derive(Clone, Copy)]
+struct Row {
+    words: &'static [&'static str],
+    parts: &'static [&'static str],
+    output: &'static str,
+}
+
+/// A row whose first generation has 16 buckets.
+const fn prints(parts: &'static [&'static str], output: &'static str) -> Row {
+    Row {
+        words: &["core"],
+        parts,
+        output,
+    }
+}
+
+/// Call 2 loses the exchange of an empty bucket to an equal value.
+const LOST_TO_AN_EQUAL: &str = "first 1 10 0; read 1 n; insert 2 11 0; share 2; load 2; read 2 n; \
+    put 1 n ok; put 2 y ok; add 1; free 1; free 2; size 1; size 2";
+
+/// Seven values, none of which wants growth.
+const SEVEN: &str = "first 1 10 0; read 1 n; put 1 n ok; add 1; free 1; size 1; \
+    go 2 11 1; go 3 12 2; go 4 13 3; go 5 14 4; go 6 15 5; go 7 16 6";
+
+/// Nine more, each of which is refused the growth that it wants.
+const NINE_WITHOUT_GROWTH: &str = "go 8 17 7; own 8; check 8 no; free 8; \
+    go 9 18 8; own 9; check 9 no; free 9; go 10 19 9; own 10; check 10 no; free 10; \
+    go 11 20 10; own 11; check 11 no; free 11; go 12 21 11; own 12; check 12 no; free 12; \
+    go 13 22 12; own 13; check 13 no; free 13; go 14 23 13; own 14; check 14 no; free 14; \
+    go 15 24 14; own 15; check 15 no; free 15; go 16 25 15; own 16; check 16 no; free 16";
+
+/// Two calls find all 16 buckets set.
+const TWO_AT_A_FULL_GENERATION: &str =
+    "insert 17 26 0; share 17; load 17; 16 times read 17 n; free 17; \
+    insert 18 27 0; share 18; load 18; 16 times read 18 n; free 18";
+
+/// Call 17 makes the generation of 32 buckets.
+const GROWTH_TO_32: &str = "own 17; check 17 ok; copies 17 16; show 17; free 17";
+
+#[test]
+fn exchanges_that_are_lost(rt: HostRuntime) -> Result<(), Fail> {
+    let rows = [
+        prints(&[LOST_TO_AN_EQUAL], "1 placed 10\n2 found 10 back 11\n"),
+        Row {
+            words: &["core", "32"],
+            parts: &[LOST_TO_AN_EQUAL, "b"],
+            output: "1 placed 10\n2 found 10 back 11\n32\n",
+        },
+        // A call number that was used begins nothing.
+        prints(
+            &[
+                LOST_TO_AN_EQUAL,
+                "insert 1 13 0",
+                "insert 3 12 1; share 3; load 3; read 3 n; put 3 n no; free 3",
+                "lookup 4 0; load 4; read 4 y; lookup 5 3; load 5; read 5 n",
+            ],
+            "1 placed 10\n2 found 10 back 11\n3 refused 12\n4 some 10\n5 none\n",
+        ),
+        prints(
+            &[
+                "first 1 10 0; read 1 n; insert 2 11 0; share 2; load 2; read 2 n; put 1 n ok; put 2 n ok",
+                "read 2 n; put 2 n ok; add 1; add 2; free 1; free 2; size 1; size 2",
+            ],
+            "1 placed 10\n2 placed 11\n",
+        ),
+    ];
+    for row in &rows {
+        let input = lines_of(rt.alloc(), row.parts)?;
+        let ended = run(&rt, row.words, input.as_str())?;
+        assert_eq!(rt; ended.output.as_str(), row.output);
+        assert_eq!(rt; ended.messages.as_str(), "");
+        assert_eq!(rt; ended.status, 0);
+    }
+    Ok(())
+}
+
+#[test]
+fn lookups_lengths_and_walks(rt: HostRuntime) -> Result<(), Fail> {
+    let rows = [
+        // A length beside an entry that isn't counted yet.
+        prints(
+            &["first 1 10 0; read 1 n; put 1 n ok; len 3; load 3; size 3; add 1; free 1; size 1"],
+            "3 len 0\n1 placed 10\n",
+        ),
+        // A look-up in an earlier generation misses what is placed in a later one.
+        prints(
+            &[
+                SEVEN,
+                "go 8 17 7; lookup 20 8; load 20; own 8; check 8 ok; copies 8 8; show 8; free 8",
+                "go 9 18 8; read 20 n; lookup 21 8; load 21; read 21 y; b",
+            ],
+            "1 placed 10\n2 placed 11\n3 placed 12\n4 placed 13\n5 placed 14\n6 placed 15\n7 placed 16\n\
+            8 placed 17\n9 placed 18\n20 none\n21 some 18\n48\n",
+        ),
+        // The same bucket with other bits of the hash.
+        prints(
+            &[
+                "first 1 10 0; read 1 n; put 1 n ok; add 1; free 1; size 1",
+                "lookup 2 0x100000000; load 2; read 2 y; read 2 n",
+            ],
+            "1 placed 10\n2 none\n",
+        ),
+        prints(&["walk 1; load 1"], "1 walk []\n"),
+        prints(
+            &[LOST_TO_AN_EQUAL, "walk 3; load 3; 16 times read 3 n"],
+            "1 placed 10\n2 found 10 back 11\n3 walk [10]\n",
+        ),
+        // A walk of seven.
+        prints(
+            &[SEVEN, "walk 20; load 20; 16 times read 20 y"],
+            "1 placed 10\n2 placed 11\n3 placed 12\n4 placed 13\n5 placed 14\n6 placed 15\n7 placed 16\n\
+            20 walk [10, 11, 12, 13, 14, 15, 16]\n",
+        ),
+    ];
+    for row in &rows {
+        let input = lines_of(rt.alloc(), row.parts)?;
+        let ended = run(&rt, row.words, input.as_str())?;
+        assert_eq!(rt; ended.output.as_str(), row.output);
+        assert_eq!(rt; ended.messages.as_str(), "");
+        assert_eq!(rt; ended.status, 0);
+    }
+    Ok(())
+}
+
+#[test]
+fn growths(rt: HostRuntime) -> Result<(), Fail> {
+    let rows = [
+        // No lock is taken alone while another call holds it shared.
+        prints(
+            &[
+                "insert 1 10 0; insert 2 11 0; share 1; share 2; load 1; load 2; free 2; own 2; check 2 ok",
+                "free 1; own 1; check 1 ok; show 1; free 1; share 1; load 1; read 1 n; put 1 n ok; add 1",
+                "free 1; size 1",
+            ],
+            "1 placed 10\n",
+        ),
+        prints(
+            &[
+                "b; insert 1 10 0; share 1; load 1; free 1; own 1; check 1 no; free 1; len 2; load 2; b",
+            ],
+            "0\n1 refused 10\n2 len 0\n0\n",
+        ),
+        // Two growers at eight entries.
+        prints(
+            &[
+                "first 1 10 0; read 1 n; put 1 n ok; add 1; free 1; size 1",
+                "go 2 11 1; go 3 12 2; go 4 13 3; go 5 14 4; go 6 15 5",
+                "insert 7 16 6; share 7; load 7; read 7 n; put 7 n ok; add 7",
+                "insert 8 17 7; share 8; load 8; read 8 n; put 8 n ok; add 8",
+                "free 7; free 8; size 7; size 8; own 7; check 7 ok; copies 7 8; show 7; free 7",
+                "own 8; check 8 ok; free 8; b",
+            ],
+            "1 placed 10\n2 placed 11\n3 placed 12\n4 placed 13\n5 placed 14\n6 placed 15\n7 placed 16\n\
+            8 placed 17\n48\n",
+        ),
+        // Two growers at a full generation: the second doubles again at once.
+        prints(
+            &[
+                SEVEN,
+                NINE_WITHOUT_GROWTH,
+                TWO_AT_A_FULL_GENERATION,
+                GROWTH_TO_32,
+                "own 18; check 18 ok; copies 18 16; show 18; free 18; b",
+                "share 17; load 17; 17 times read 17 n; put 17 n ok; add 17; free 17; size 17",
+                "share 18; load 18; 18 times read 18 n; put 18 n ok; add 18; free 18; size 18",
+            ],
+            "1 placed 10\n2 placed 11\n3 placed 12\n4 placed 13\n5 placed 14\n6 placed 15\n7 placed 16\n\
+            8 placed 17\n9 placed 18\n10 placed 19\n11 placed 20\n12 placed 21\n13 placed 22\n14 placed 23\n\
+            15 placed 24\n16 placed 25\n112\n17 placed 26\n18 placed 27\n",
+        ),
+        // A growth that fails beside a newer generation starts over in it.
+        prints(
+            &[
+                SEVEN,
+                NINE_WITHOUT_GROWTH,
+                TWO_AT_A_FULL_GENERATION,
+                GROWTH_TO_32,
+                "own 18; check 18 no; free 18; share 18; load 18; 17 times read 18 n; put 18 n ok; add 18",
+                "free 18; size 18; own 18; check 18 no; free 18; b",
+            ],
+            "1 placed 10\n2 placed 11\n3 placed 12\n4 placed 13\n5 placed 14\n6 placed 15\n7 placed 16\n\
+            8 placed 17\n9 placed 18\n10 placed 19\n11 placed 20\n12 placed 21\n13 placed 22\n14 placed 23\n\
+            15 placed 24\n16 placed 25\n18 placed 27\n48\n",
+        ),
+    ];
+    for row in &rows {
+        let input = lines_of(rt.alloc(), row.parts)?;
+        let ended = run(&rt, row.words, input.as_str())?;
+        assert_eq!(rt; ended.output.as_str(), row.output);
+        assert_eq!(rt; ended.messages.as_str(), "");
+        assert_eq!(rt; ended.status, 0);
+    }
+    Ok(())
+}
+
+/// The lines of the parts of a row.
+fn lines_of(alloc: Global, parts: &[&str]) -> Result<String, Fail> {
+    let mut input = String::new(alloc);
+    for part in parts {
+        push_events(&mut input, part)?;
+    }
+    Ok(input)
+}
+
+/// The lines of a part of a row.
+fn push_events(input: &mut String, part: &str) -> Result<(), Fail> {
+    for event in part.split("; ") {
+        match event.split_once(' ') {
+            Some(("first", numbers)) => push_first(input, numbers)?,
+            Some(("go", numbers)) => push_go(input, numbers)?,
+            Some(("copies", numbers)) => push_copies(input, numbers)?,
+            _ => push_times(input, event)?,
+        }
+    }
+    Ok(())
+}
+
+/// The lines of a call that finds no generation, makes the first one and loads it.
+fn push_first(input: &mut String, numbers: &str) -> Result<(), Fail> {
+    let (call, _) = numbers.split_once(' ').ok_or("a number is missing")?;
+    writeln!(
+        input,
+        "insert {numbers}\nshare {call}\nload {call}\nfree {call}"
+    )?;
+    writeln!(
+        input,
+        "own {call}\ncheck {call} ok\nshow {call}\nfree {call}"
+    )?;
+    writeln!(input, "share {call}\nload {call}")?;
+    Ok(())
+}
+
+/// The lines of a call that places its value in an empty bucket.
+fn push_go(input: &mut String, numbers: &str) -> Result<(), Fail> {
+    let (call, _) = numbers.split_once(' ').ok_or("a number is missing")?;
+    writeln!(
+        input,
+        "insert {numbers}\nshare {call}\nload {call}\nread {call} n"
+    )?;
+    writeln!(
+        input,
+        "put {call} n ok\nadd {call}\nfree {call}\nsize {call}"
+    )?;
+    Ok(())
+}
+
+/// The lines of so many copies, with the hashes from 0 on.
+fn push_copies(input: &mut String, numbers: &str) -> Result<(), Fail> {
+    let (call, count) = numbers.split_once(' ').ok_or("a number is missing")?;
+    for hash in 0..count.parse::<u64>()? {
+        writeln!(input, "copy {call} {hash}")?;
+    }
+    Ok(())
+}
+
+/// The line of an event, once or as often as it says.
+fn push_times(input: &mut String, event: &str) -> Result<(), Fail> {
+    let (count, event) = event.split_once(" times ").unwrap_or(("1", event));
+    for _time in 0..count.parse::<u64>()? {
+        writeln!(input, "{event}")?;
+    }
+    Ok(())
+}
+
+#[test]
+fn spellings_of_events(rt: HostRuntime) -> Result<(), Fail> {
+    // Each form once, and a number of either form; none of them finishes a call but the last two.
+    let good =
+        "insert 0x1 18446744073709551615 0xFFFFffffFFFFffff\nlookup 02 0\nlen 3\nwalk 4\nshare 1\nown 1\nfree 9\n\
+        load 9\nread 9 y\nread 9 n\nput 9 y ok\nput 9 y no\nput 9 n ok\nput 9 n no\nadd 9\nsize 9\ncheck 9 ok\n\
+        check 9 no\ncopy 9 00000000000000000000\nshow 9\nb\nload 3\nload 2";
+    let ended = run(&rt, &["core"], good)?;
+    assert_eq!(rt; ended.output.as_str(), "0\n3 len 0\n2 none\n");
+    assert_eq!(rt; ended.messages.as_str(), "");
+    let bad = [
+        "",
+        " ",
+        "bb",
+        "b ",
+        " b",
+        "B",
+        "b 1",
+        "i 0 1",
+        "n",
+        "insert",
+        "insert ",
+        "insert 1",
+        "insert 1 2",
+        "insert 1 2 ",
+        "insert 1 2 3 ",
+        "insert 1 2 3 4",
+        "insert  1 2 3",
+        "insert 1  2 3",
+        "insert 1 2  3",
+        " insert 1 2 3",
+        "insert 1 2 3\r",
+        "insert\t1 2 3",
+        "insert 1 2 -3",
+        "insert 1 2 18446744073709551616",
+        "insert 1 x 3",
+        "insert x 2 3",
+        "Insert 1 2 3",
+        "inserts 1 2 3",
+        "inser 1 2 3",
+        "lookup 1",
+        "lookup 1 2 3",
+        "lookup 1 0X2",
+        "lookup1 2",
+        "len",
+        "len ",
+        "len 1 2",
+        "len x",
+        "lent 1",
+        "walk 1 n",
+        "share",
+        "own 0x",
+        "free +1",
+        "load 1.",
+        "read 1",
+        "read 1 ",
+        "read 1 Y",
+        "read 1 yes",
+        "read 1 ok",
+        "read y 1",
+        "read 1 y n",
+        "put 1 y",
+        "put 1 ok",
+        "put 1 y ok ",
+        "put 1 y OK",
+        "put 1 ok y",
+        "put 1 y y",
+        "put 1 y ok no",
+        "put x y ok",
+        "add 1 1",
+        "size",
+        "check 1",
+        "check 1 y",
+        "check 1 okay",
+        "check 1 ok no",
+        "check x ok",
+        "copy 1",
+        "copy 1 2 3",
+        "copy x 2",
+        "copy 1 x",
+        "show 1 ok",
+        "shows 1",
+        "place 1",
+        "1",
+        "first 1 10 0",
+    ];
+    for line in bad {
+        let input = format!(in rt.alloc(); "walk 1\nload 1\n{line}\nb\n")?;
+        let ended = run(&rt, &["core"], input.as_str())?;
+        assert_eq!(rt; ended.output.as_str(), "1 walk []\n", "at {line:?}");
+        assert_eq!(rt; ended.messages.as_str(), "bad line 3\n", "at {line:?}");
+        assert_eq!(rt; ended.status, 2, "at {line:?}");
+    }
+    Ok(())
+}
+
+#[test]
+fn events_that_are_not_enabled(rt: HostRuntime) -> Result<(), Fail> {
+    // A value number that was used begins nothing, and leaves the call number free.
+    let rows = [
+        prints(
+            &["insert 1 10 0; insert 2 10 0; lookup 2 0; load 2"],
+            "2 none\n",
+        ),
+        prints(
+            &["insert 1 10 0; insert 1 11 0; insert 2 11 0; lookup 2 0; load 2; len 3; load 3"],
+            "3 len 0\n",
+        ),
+        prints(&["load 1; show 2; copy 2 0; read 3 y; free 4; b"], "0\n"),
+        // A call that has finished takes nothing more.
+        prints(
+            &["len 1; load 1; load 1; size 1; len 1; load 1; free 1"],
+            "1 len 0\n",
+        ),
+    ];
+    for row in &rows {
+        let input = lines_of(rt.alloc(), row.parts)?;
+        let ended = run(&rt, row.words, input.as_str())?;
+        assert_eq!(rt; ended.output.as_str(), row.output);
+        assert_eq!(rt; ended.messages.as_str(), "");
+        assert_eq!(rt; ended.status, 0);
+    }
+    Ok(())
+}
+
+/// The lines of a schedule that asks for memory in each way, and what each line prints.
+const ASKING: [(&str, &str); 24] = [
+    ("insert 1 10 0\n", ""),
+    ("share 1\n", ""),
+    ("load 1\n", ""),
+    ("free 1\n", ""),
+    ("own 1\n", ""),
+    ("check 1 ok\n", ""),
+    ("show 1\n", ""),
+    ("free 1\n", ""),
+    ("b\n", "16\n"),
+    ("share 1\n", ""),
+    ("load 1\n", ""),
+    ("read 1 n\n", ""),
+    ("put 1 n ok\n", ""),
+    ("add 1\n", ""),
+    ("free 1\n", ""),
+    ("size 1\n", "1 placed 10\n"),
+    ("lookup 2 0\n", ""),
+    ("load 2\n", ""),
+    ("read 2 y\n", "2 some 10\n"),
+    ("walk 3\n", ""),
+    ("load 3\n", ""),
+    ("read 3 n\n", ""),
+    ("len 4\n", ""),
+    ("load 4\n", ""),
+];
+
+/// A reader that gives a line at a call, and notes how many it gave.
+#[derive(Drop)]
+struct Lines<'a> {
+    given: &'a Cell<usize>,
+}
+
+impl Read for Lines<'_> {
+    fn read(&mut self, buf: &mut [u8]) -> io::Result<usize> {
+        let given = self.given.get();
+        let Some((line, _)) = ASKING.get(given) else {
+            return Ok(0);
+        };
+        self.given.set(given.saturating_add(1));
+        let count = line.len().min(buf.len());
+        buf[..count].copy_from_slice(&line.as_bytes()[..count]);
+        Ok(count)
+    }
+}
+
+/// What is run here asks for no memory but the schedule's, so where a request is refused it is one of those.
+#[test]
+fn a_request_that_is_refused_ends_the_run(rt: HostRuntime) {
+    let given = Cell::new(0);
+    let mut output = [0; 64];
+    let mut messages = [0; 64];
+    let mut output_left = output.as_mut_slice();
+    let mut messages_left = messages.as_mut_slice();
+    let reader = Lines { given: &given };
+    let status = run_words(
+        &rt,
+        rt.alloc(),
+        &["core"],
+        reader,
+        &mut output_left,
+        &mut messages_left,
+    );
+    let output_room = output_left.len();
+    let told = 64usize.saturating_sub(messages_left.len());
+    let refused = status != 0;
+    let (taken, message) = if refused {
+        (given.get().saturating_sub(1), "no memory\n")
+    } else {
+        (ASKING.len(), "")
+    };
+    assert_eq!(rt; &messages[..told], message.as_bytes());
+    assert!(rt; status < 2);
+    let mut replies = output.as_slice();
+    for (_, reply) in ASKING.iter().take(taken) {
+        assert!(rt; replies.starts_with(reply.as_bytes()));
+        replies = &replies[reply.len()..];
+    }
+    assert_eq!(rt; replies.len(), output_room);
+}
