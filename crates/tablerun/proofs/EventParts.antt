@@ -2,7 +2,7 @@
 use Rattle.std.proofs.Common.{◌≡◌, ◌≢◌, ℕ, Bool, List, [], ◌∷◌, ◌++◌, ◌+◌, ◌*◌, arith, ap, refl, sym, ◌∙◌}
 use Rattle.std.specs.Prelude.{Option, Some, None, IfNone, codes}
 use Rattle.tablerun.specs.Spelling.{SpellsNumber, SpellsPair, HasNoSpace}
-use Rattle.tablerun.specs.Events.{Part, Letters, Number, answer, grant, parts_of, IsCut, SpellsPart, SpellsParts, SpellsAfter, SpellsEvent}
+use Rattle.tablerun.specs.Events.{Part, Letters, Number, answer, grant, parts_of, SpellsParts, SpellsAfter, SpellsEvent}
 use Rattle.tablerun.proofs.Spaces.{HasNoSpace-tail, cut_once, numbers_have_none}
 use Rattle.table_core.specs.declared.event.Event.{Event}
 use Rattle.table_core.specs.declared.event.Event.TheVariants.{Insert, Lookup, Len, Walk, Share, Own, Free, Load, Read, Put, Add, Size, Check, Copy, Show}

@@ -1,6 +1,7 @@
 //! A walk over a table held alone.
-ghost use Rattle.std.specs.Prelude.{◌≡◌, ◌^◌, ◌<◌, length, map};
-ghost use Rattle.std.specs.Iterator.{YieldsFirstRef, item_count};
+ghost use Rattle.std.specs.Prelude.{◌≡◌, ◌^◌, ◌<◌, length, map, Some, IfSome};
+ghost use Rattle.std.specs.Iterator.{YieldsFirstRef, item_count, at_most, UpTo};
+ghost use Rattle.std.specs.Iterator.SizeHint.{IsWithinCount};
 ghost use Rattle.lock_free_hashtable.specs.Table.{entries};
 ghost use Rattle.lock_free_hashtable.specs.Walks.{WalksAsList};
 
@@ -52,7 +53,11 @@ impl<'a, V: 'a, T: AtomicValue<Target = V>, A: Allocator + Copy> Iterator for He
         None
     }
 
-    fn size_hint(&self) -> (usize, Option<usize>) {
+    fn size_hint(&self) -> (usize, Option<usize>)
+        ensures lower { IsWithinCount result.0 (at_most (length self.now)) }
+        ensures upper { IfSome result.1 (UpTo (at_most (length self.now))) }
+        ensures exact { result ≡ (length self.now, Some (length self.now)) }
+    {
         (self.left, Some(self.left))
     }
 }
