@@ -7,7 +7,8 @@ use crate::call::{Answer, CallState, Outcome, Phase};
 ///
 /// Every rule of where an answer takes a call is here, and only here. It takes no memory. An answer
 /// that has no place in the call's phase, or whose numbers can't be (a capacity of 0, a bucket or a
-/// count of buckets beyond the capacity), gives the state back as it was.
+/// count of buckets beyond the capacity), gives the state back as it was. An add and the size that
+/// an insert asks for are taken whatever the numbers are.
 pub fn decide(state: CallState, answer: Answer) -> CallState
     ensures { result ≡ after_answer state answer }
 {
