@@ -2,39 +2,31 @@
 use Rattle.std.proofs.Common.{ℕ, ◌≡◌, ◌+◌, ◌-◌, ◌<◌, ◌≤◌, ◌++◌, List, [], ◌∷◌, true, refl, Option, Some, length, sym, subst, ap, arith, ◌∙◌}
 use Rattle.std.specs.Prelude.{nat_lt, slice_set}
 use Rattle.std.specs.List.{slice_get}
-use Rattle.std.proofs.lemmas.Bool.{lt-ltb, and_from}
-use Rattle.std.proofs.lemmas.Nat.{mod_below}
+use Rattle.std.proofs.lemmas.Bool.{lt-ltb}
 use Rattle.table_core.specs.Replies.{Told, Reply}
 use Rattle.table_core.specs.Generations.{Gen, Table, IsFirst, current, at_place}
 use Rattle.table_core.specs.Calls.{Call, fits, stands_at_bucket, holds_shared, decided, decide}
 use Rattle.table_core.specs.Machine.{World, empty, finds, finds_in, walked_gen, happens, list_in, changed, call_after, told}
 use Rattle.table_core.specs.History.{replies, placed}
-use Rattle.table_core.specs.Steps.{Row, loads, reads_empty, meets, turns, goes_on, no_room, puts, loses_meets, loses_turns, loses_goes_on, adds, begins_first, begins_next, copies, looks, look_empty, look_meets, look_turns, look_goes_on, len_loads, walk_loads, walk_skips_last, walk_takes_last, walk_skips, walk_takes}
+use Rattle.table_core.specs.Steps.{Row, loads, reads_empty, meets, turns, goes_on, no_room, puts, loses_meets, loses_turns, loses_goes_on, adds, large, small, len_size, begins_first, begins_next, copies, looks, look_empty, look_meets, look_turns, look_goes_on, len_loads, walk_loads, walk_skips_last, walk_takes_last, walk_skips, walk_takes}
 use Rattle.table_core.specs.Reached.{IsReached, CanChange, moved, told_to}
 use Rattle.table_core.specs.declared.event.Event.{Event}
 use Rattle.table_core.specs.declared.event.Event.TheVariants.{Read}
 use Rattle.table_core.specs.declared.call.CallState.{CallState}
 use Rattle.table_core.specs.declared.call.Phase.{Phase}
-use Rattle.table_core.specs.declared.call.Phase.TheVariants.{Probe, AtEmpty, Placed, LookProbe, WalkAt}
+use Rattle.table_core.specs.declared.call.Phase.TheVariants.{Probe, AtEmpty, Placed, AskSize, LookProbe, LenSize, WalkAt}
 use Rattle.table_core.specs.declared.call.Answer.{Answer}
-use Rattle.table_core.proofs.Facts.{Inv, AllSeated, Tracked, Probing, Walking, probing, is_walking, SizesOk, placers, is_placed}
+use Rattle.table_core.proofs.Facts.{Inv, AllSeated, Tracked, Probing, Walking, probing, measuring, is_walking, SizesOk, placers, is_placed}
 use Rattle.table_core.proofs.Lists.{tally, weigh-get}
 use Rattle.table_core.proofs.Standing.{IsLast, CallOk}
 use Rattle.table_core.proofs.Contents.{nothing_built, stand_at}
 use Rattle.table_core.proofs.Seats.{first_empty_way, copy_room}
+use Rattle.table_core.proofs.Tracks.{at_bucket}
 use Rattle.table_core.proofs.Rows.{row}
 use Rattle.table_core.proofs.Invariant.{inv}
 use Rattle.table_core.proofs.Pasts.{run_append}
 use Rattle.table_core.proofs.CodeSteps.{decide_fits}
 use Rattle.table_core.proofs.Pasts.{run_append}
-
-at_bucket : (gens : List Gen) (c : Call) → Probing gens c → stands_at_bucket c.state ≡ true
-at_bucket gens c p =
-    let q = p.below in
-    let e = p.capacity in
-    let i = p.index in
-    let m : at_place p.gen.capacity c.state.hash c.state.seen < p.gen.capacity = mod_below (c.state.hash + c.state.seen) p.gen.capacity (omega arith) in
-    and_from _ _ (lt-ltb c.state.index c.state.capacity (omega arith)) (lt-ltb c.state.seen c.state.capacity (omega arith))
 
 in_walk : (gens : List Gen) (c : Call) → Walking gens c → nat_lt c.state.index c.state.capacity ≡ true
 in_walk gens c p = let q = p.below in let e = p.capacity in lt-ltb c.state.index c.state.capacity (omega arith)
@@ -44,6 +36,9 @@ probe_fits w c p e h t = at_bucket w.table.gens c (t.probes (ap probing e ∙ h)
 
 walk_fits : (w : World) (c : Call) → c.state.phase ≡ WalkAt → Tracked w.table.gens c → nat_lt c.state.index c.state.capacity ≡ true
 walk_fits w c e t = in_walk w.table.gens c (t.walks (ap is_walking e))
+
+size_fits : (w : World) (c : Call) (p : Phase) → c.state.phase ≡ p → measuring p ≡ true → Tracked w.table.gens c → nat_lt 0 c.state.capacity ≡ true
+size_fits w c p e h t = lt-ltb 0 c.state.capacity (t.measures (ap measuring e ∙ h))
 
 loaded_fits : (w : World) (g : Gen) → AllSeated w → current w.table ≡ Some g → nat_lt 0 g.capacity ≡ true
 loaded_fits w g s h = lt-ltb 0 g.capacity (s.gens (length w.table.gens - 1) g h).roomy
@@ -67,6 +62,10 @@ fits_row w c (look_empty _ _ _) e s k = probe_fits w c LookProbe e refl k
 fits_row w c (look_meets _ _ _ _ _) e s k = probe_fits w c LookProbe e refl k
 fits_row w c (look_turns _ _ _ _ _ _) e s k = probe_fits w c LookProbe e refl k
 fits_row w c (look_goes_on _ _ _ _ _ _) e s k = probe_fits w c LookProbe e refl k
+fits_row w c (adds _) e s k = k.stands (ap is_placed e)
+fits_row w c (large _ g _ _) e s k = size_fits w c AskSize e refl k
+fits_row w c (small _ g _ _) e s k = size_fits w c AskSize e refl k
+fits_row w c (len_size _ g _) e s k = size_fits w c LenSize e refl k
 fits_row w c (walk_skips_last _ _ _ _) e s k = walk_fits w c e k
 fits_row w c (walk_takes_last _ _ _ _ _) e s k = walk_fits w c e k
 fits_row w c (walk_skips _ _ _ _) e s k = walk_fits w c e k

@@ -5,12 +5,12 @@ use Rattle.std.specs.List.{slice_get}
 use Rattle.table_core.specs.Bags.{weigh}
 use Rattle.table_core.specs.Replies.{Reply}
 use Rattle.table_core.specs.Generations.{Gen, Build, Table, bits_of, bucket, at_place, current, gen_of, bucket_in, entries_of}
-use Rattle.table_core.specs.Calls.{Call}
+use Rattle.table_core.specs.Calls.{Call, stands_at_bucket}
 use Rattle.table_core.specs.Machine.{World}
 use Rattle.table_core.specs.History.{back, picks}
 use Rattle.table_core.specs.declared.event.Entry.{Entry}
 use Rattle.table_core.specs.declared.call.Phase.{Phase}
-use Rattle.table_core.specs.declared.call.Phase.TheVariants.{Probe, AtEmpty, Placed, LeaveGrow, WantOwned, Owned, Building, LeaveOwned, LeaveFailed, LookProbe, LenLoad, LenSize, WalkLoad, WalkAt, Done}
+use Rattle.table_core.specs.declared.call.Phase.TheVariants.{Probe, AtEmpty, Placed, LeaveOk, LeaveGrow, AskSize, WantOwned, Owned, Building, LeaveOwned, LeaveFailed, LookProbe, LenLoad, LenSize, WalkLoad, WalkAt, Done}
 use Rattle.table_core.specs.declared.call.Outcome.{Outcome}
 use Rattle.table_core.specs.declared.call.Outcome.TheVariants.{Pending, New, Existing}
 use Rattle.table_core.proofs.Lists.{tally}
@@ -147,8 +147,17 @@ pub record Turned (gens : List Gen) (c : Call) : Type 0 where
 pub record Met (gens : List Gen) (c : Call) : Type 0 where
   pub there : (i : ℕ) → c.state.outcome ≡ Existing i → (e : Entry) × (bucket_in (gen_of gens c.state.walked) i ≡ Some e)
 
+-- a call that asks for a size, or is about to
+abbrev pub measuring : Phase → Bool
+measuring LeaveOk = true
+measuring AskSize = true
+measuring LenSize = true
+measuring _ = false
+
 pub record Tracked (gens : List Gen) (c : Call) : Type 0 where
   pub probes : probing c.state.phase ≡ true → Probing gens c
+  pub stands : is_placed c.state.phase ≡ true → stands_at_bucket c.state ≡ true
+  pub measures : measuring c.state.phase ≡ true → 0 < c.state.capacity
   pub walks : is_walking c.state.phase ≡ true → Walking gens c
   pub turned : wants_growth c.state.phase c.state.outcome ≡ true → Turned gens c
   pub met : Met gens c

@@ -4,9 +4,9 @@ use Rattle.std.specs.Prelude.{nat_lt}
 use Rattle.std.specs.List.{slice_get}
 use Rattle.table_core.specs.Replies.{Told, Reply}
 use Rattle.table_core.specs.Generations.{Gen, Table, bucket, at_place, current, gen_of, bucket_in}
-use Rattle.table_core.specs.Calls.{Call, starts, probes, finds_entry}
+use Rattle.table_core.specs.Calls.{Call, starts, probes, finds_entry, stands_at_bucket}
 use Rattle.table_core.specs.Machine.{World, empty, bucket_at, Act}
-use Rattle.table_core.specs.Steps.{next_bucket, turned, Row, loads_none, loads, reads_empty, meets, turns, goes_on, loses_meets, loses_turns, loses_goes_on, adds, leaves_grow, large, owns, begins_first, fails_first, unwanted, fails_largest, fails_refused, begins_next, copies, shows, looks, look_meets, look_goes_on, len_loads, walk_loads, walk_skips, walk_takes, Opens, opens_insert, opens_lookup, opens_len, opens_walk, left}
+use Rattle.table_core.specs.Steps.{next_bucket, turned, Row, loads_none, loads, reads_empty, meets, turns, goes_on, puts, loses_meets, loses_turns, loses_goes_on, adds, leaves_ok, leaves_grow, large, owns, begins_first, fails_first, unwanted, fails_largest, fails_refused, begins_next, copies, shows, looks, look_meets, look_goes_on, len_loads, walk_loads, walk_skips, walk_takes, Opens, opens_insert, opens_lookup, opens_len, opens_walk, left}
 use Rattle.table_core.specs.declared.event.Event.{Event}
 use Rattle.table_core.specs.declared.event.Entry.{Entry}
 use Rattle.table_core.specs.declared.call.CallState.{CallState}
@@ -16,11 +16,12 @@ use Rattle.table_core.specs.declared.call.Outcome.{Outcome}
 use Rattle.table_core.specs.declared.call.Outcome.TheVariants.{Pending, New, Existing}
 use Rattle.table_core.specs.declared.call.Answer.{Answer}
 use Rattle.table_core.proofs.Lists.{get-set, get-push}
-use Rattle.std.proofs.lemmas.Bool.{ltb-false, ltb-true}
+use Rattle.std.proofs.lemmas.Bool.{ltb-false, ltb-true, lt-ltb, and_from, and_parts}
+use Rattle.std.proofs.lemmas.Nat.{mod_below}
 use Rattle.std.specs.Option.{is_some}
 use Rattle.table_core.proofs.Turns.{Turn, rests, opens, takes}
 use Rattle.table_core.proofs.Standing.{fitting, CallOk, CallsOk, implies, imply}
-use Rattle.table_core.proofs.Facts.{IsSet, AllGrew, AllSeated, probing, Probing, Walking, is_walking, wants_growth, Turned, Met, Tracked, AllTracked}
+use Rattle.table_core.proofs.Facts.{IsSet, AllGrew, AllSeated, is_placed, measuring, probing, Probing, Walking, is_walking, wants_growth, Turned, Met, Tracked, AllTracked}
 use Rattle.table_core.proofs.Contents.{row_grew, fit_at, order, bucket_some}
 use Rattle.std.proofs.Math.Nat.{mod-add-mod}
 
@@ -39,6 +40,15 @@ probing_grown gens now c g p =
       below = rw n.2.capacity p.below;
       passed = λ j lt. ((p.passed j lt).0, rw n.2.capacity (n.2.kept _ _ (p.passed j lt).1));
     }
+
+-- a call that probes stands at a bucket
+pub at_bucket : (gens : List Gen) (c : Call) → Probing gens c → stands_at_bucket c.state ≡ true
+at_bucket gens c p =
+    let q = p.below in
+    let e = p.capacity in
+    let i = p.index in
+    let m : at_place p.gen.capacity c.state.hash c.state.seen < p.gen.capacity = mod_below (c.state.hash + c.state.seen) p.gen.capacity (omega arith) in
+    and_from _ _ (lt-ltb c.state.index c.state.capacity (omega arith)) (lt-ltb c.state.seen c.state.capacity (omega arith))
 
 pub walking_grown : (gens now : List Gen) (c : Call) → AllGrew gens now → Walking gens c → Walking now c
 walking_grown gens now c g p =
@@ -64,6 +74,8 @@ met_at gens now (Some k) i g m = met_in gens now k i (slice_get gens k) g refl m
 pub tracked_grown : (gens now : List Gen) (c : Call) → AllGrew gens now → Tracked gens c → Tracked now c
 tracked_grown gens now c g t = record {
   probes = λ h. probing_grown gens now c g (t.probes h);
+  stands = t.stands;
+  measures = t.measures;
   walks = λ h. walking_grown gens now c g (t.walks h);
   turned = λ h. turned_grown gens now c g (t.turned h);
   met = record { there = λ i e. met_at gens now c.state.walked i g (t.met.there i e) };
@@ -116,6 +128,27 @@ probing_row w c (loses_goes_on _ _ e b f lt) s q z = probing_on w c Probe _ e b 
 probing_row w c (look_goes_on _ _ e b f lt) s q z = probing_on w c LookProbe _ e b lt (q refl)
 probing_row w c (reads_empty _ _ _) s q z = let o = q refl in record { number = o.number; gen = o.gen; walked = o.walked; got = o.got; capacity = o.capacity; index = o.index; below = o.below; passed = o.passed }
 probing_row w c _ s q z = absurd (cc)
+
+-- a value has come into the bucket of its call's probe
+pub stands_row : (w : World) (c : Call) {p : Phase} {x : Event} {a : Answer} {r : CallState} {ls : List ℕ} {t : Table} {q : Option Told} → Row w c p x a r ls t q → (probing p ≡ true → Probing w.table.gens c) → is_placed r.phase ≡ true → stands_at_bucket r ≡ true
+stands_row w c (puts _ _ _) q z = at_bucket w.table.gens c (q refl)
+stands_row w c _ q z = absurd (cc)
+
+-- a call that probes has a generation of some buckets
+probe_room : (gens : List Gen) (c : Call) → Probing gens c → 0 < c.state.capacity
+probe_room gens c p = let q = p.below in let e = p.capacity in omega arith
+
+bucket_room : (s : CallState) → stands_at_bucket s ≡ true → 0 < s.capacity
+bucket_room s h = let l : s.index < s.capacity = ltb-true s.index s.capacity (and_parts _ _ h).0 in omega arith
+
+-- what is measured has buckets
+pub measures_row : (w : World) (c : Call) {p : Phase} {x : Event} {a : Answer} {r : CallState} {ls : List ℕ} {t : Table} {q : Option Told} → Row w c p x a r ls t q → AllSeated w → (probing p ≡ true → Probing w.table.gens c) → (is_placed p ≡ true → stands_at_bucket c.state ≡ true) → (measuring p ≡ true → 0 < c.state.capacity) → measuring r.phase ≡ true → 0 < r.capacity
+measures_row w c (meets _ _ _ _ _) s q o m z = probe_room w.table.gens c (q refl)
+measures_row w c (loses_meets _ _ _ _ _) s q o m z = probe_room w.table.gens c (q refl)
+measures_row w c (adds _) s q o m z = bucket_room c.state (o refl)
+measures_row w c (leaves_ok _) s q o m z = m refl
+measures_row w c (len_loads _ g h) s q o m z = (s.gens _ g h).roomy
+measures_row w c _ s q o m z = absurd (cc)
 
 pub walking_on : (w : World) (c : Call) (r : CallState) (ls : List ℕ) → r ≡ record c.state { phase = WalkAt; index = c.state.index + 1 } → nat_lt (c.state.index + 1) c.state.capacity ≡ true → Walking w.table.gens c → Walking w.table.gens (left c r ls)
 walking_on w c r ls e lt p = rw e (record { number = p.number; gen = p.gen; walked = p.walked; got = p.got; capacity = p.capacity; below = let l : c.state.index + 1 < c.state.capacity = ltb-true (c.state.index + 1) c.state.capacity lt in rw p.capacity at l })
@@ -212,16 +245,18 @@ met_row w c _ f m = met_same w.table.gens c _ _ refl refl m
 pub tracked_row : (w : World) (c : Call) {p : Phase} {x : Event} {a : Answer} {r : CallState} {ls : List ℕ} {t : Table} {q : Option Told} → Row w c p x a r ls t q → c.state.phase ≡ p → CallOk (length w.table.gens) c → AllSeated w → Tracked w.table.gens c → Tracked w.table.gens (left c r ls)
 tracked_row w c row e k s t = record {
   probes = probing_row w c row s (λ h. t.probes (ap probing e ∙ h));
+  stands = stands_row w c row (λ h. t.probes (ap probing e ∙ h));
+  measures = measures_row w c row s (λ h. t.probes (ap probing e ∙ h)) (λ h. t.stands (ap is_placed e ∙ h)) (λ h. t.measures (ap measuring e ∙ h));
   walks = walking_row w c row s (λ h. t.walks (ap is_walking e ∙ h));
   turned = turned_row w c row (fit_at c _ _ k e) (λ h. t.probes (ap probing e ∙ h)) (λ h. t.turned (ap (λ z. wants_growth z c.state.outcome) e ∙ h));
   met = met_row w c row (fit_at c _ _ k e) t.met;
 }
 
 pub begin_tracks : (gens : List Gen) {x : Event} {n : ℕ} {v : Option ℕ} {p : Phase} {h : ℕ} → Opens x n v p h → Tracked gens (starts n v p h)
-begin_tracks gens (opens_insert n v h) = record { probes = λ e. absurd (cc); walks = λ e. absurd (cc); turned = λ e. absurd (cc); met = record { there = λ i e. absurd (cc) } }
-begin_tracks gens (opens_lookup n h) = record { probes = λ e. absurd (cc); walks = λ e. absurd (cc); turned = λ e. absurd (cc); met = record { there = λ i e. absurd (cc) } }
-begin_tracks gens (opens_len n) = record { probes = λ e. absurd (cc); walks = λ e. absurd (cc); turned = λ e. absurd (cc); met = record { there = λ i e. absurd (cc) } }
-begin_tracks gens (opens_walk n) = record { probes = λ e. absurd (cc); walks = λ e. absurd (cc); turned = λ e. absurd (cc); met = record { there = λ i e. absurd (cc) } }
+begin_tracks gens (opens_insert n v h) = record { probes = λ e. absurd (cc); stands = λ e. absurd (cc); measures = λ e. absurd (cc); walks = λ e. absurd (cc); turned = λ e. absurd (cc); met = record { there = λ i e. absurd (cc) } }
+begin_tracks gens (opens_lookup n h) = record { probes = λ e. absurd (cc); stands = λ e. absurd (cc); measures = λ e. absurd (cc); walks = λ e. absurd (cc); turned = λ e. absurd (cc); met = record { there = λ i e. absurd (cc) } }
+begin_tracks gens (opens_len n) = record { probes = λ e. absurd (cc); stands = λ e. absurd (cc); measures = λ e. absurd (cc); walks = λ e. absurd (cc); turned = λ e. absurd (cc); met = record { there = λ i e. absurd (cc) } }
+begin_tracks gens (opens_walk n) = record { probes = λ e. absurd (cc); stands = λ e. absurd (cc); measures = λ e. absurd (cc); walks = λ e. absurd (cc); turned = λ e. absurd (cc); met = record { there = λ i e. absurd (cc) } }
 
 pub keeps_tracked : {w v : World} {x : Event} {a : Option Act} {r : Option Reply} → Turn w x a v r → CallsOk w → AllSeated w → AllTracked w → AllTracked v
 keeps_tracked rests k s t = t

@@ -1,5 +1,5 @@
 /// Where a call stands. The phase says which events have a row for it.
-#[derive(Clone, Copy)]
+#[derive(Clone, Copy, Debug, PartialEq, Eq)]
 pub enum Phase {
     /// An insert wants the lock, shared with others.
     WantShared,
@@ -46,7 +46,7 @@ pub enum Phase {
 }
 
 /// What a call has reached, and in which place of the generation that it walks its entry is.
-#[derive(Clone, Copy)]
+#[derive(Clone, Copy, Debug, PartialEq, Eq)]
 pub enum Outcome {
     /// Nothing yet, or a reply that names no entry.
     Pending,
@@ -57,7 +57,7 @@ pub enum Outcome {
 }
 
 /// A call's phase and its numbers. It holds no value.
-#[derive(Clone, Copy)]
+#[derive(Clone, Copy, Debug, PartialEq, Eq)]
 pub struct CallState {
     /// Where it stands.
     pub phase: Phase,
@@ -76,7 +76,7 @@ pub struct CallState {
 }
 
 /// What an event found.
-#[derive(Clone, Copy)]
+#[derive(Clone, Copy, Debug, PartialEq, Eq)]
 pub enum Answer {
     /// The lock is held now.
     Taken,

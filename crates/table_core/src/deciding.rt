@@ -1,4 +1,4 @@
-ghost use Rattle.std.specs.Prelude.{◌≡◌, true, Some, nat_lt, if◌then◌else◌};
+ghost use Rattle.std.specs.Prelude.{◌≡◌, true, Some, nat_lt, ◌/◌, if◌then◌else◌};
 ghost use Rattle.table_core.specs.Calls.{decide as after_answer, stands_at_bucket, to, probes, meets, looks, passes, walks, finds_entry, ends, fails};
 
 use crate::call::{Answer, CallState, Outcome, Phase};
@@ -7,8 +7,7 @@ use crate::call::{Answer, CallState, Outcome, Phase};
 ///
 /// Every rule of where an answer takes a call is here, and only here. It takes no memory. An answer
 /// that has no place in the call's phase, or whose numbers can't be (a capacity of 0, a bucket or a
-/// count of buckets beyond the capacity), gives the state back as it was. An add and the size that
-/// an insert asks for are taken whatever the numbers are.
+/// count of buckets beyond the capacity), gives the state back as it was.
 pub fn decide(state: CallState, answer: Answer) -> CallState
     ensures { result ≡ after_answer state answer }
 {
@@ -43,21 +42,11 @@ pub fn decide(state: CallState, answer: Answer) -> CallState
                 accepted,
             },
         ) => meet(state, same_bits && accepted),
-        (Phase::Placed, Answer::Counted) => CallState {
-            phase: Phase::LeaveOk,
-            outcome: Outcome::New { place: state.index },
-            ..state
-        },
+        (Phase::Placed, Answer::Counted) => counted(state),
         (Phase::LeaveOk, Answer::Released { .. }) => in_phase(state, Phase::AskSize),
         (Phase::LeaveGrow, Answer::Released { .. }) => in_phase(state, Phase::WantOwned),
         (Phase::LeaveRefused, Answer::Released { .. }) => in_phase(state, Phase::Done),
-        (Phase::AskSize, Answer::Sized { size }) => {
-            if size < state.capacity / 2 {
-                in_phase(state, Phase::Done)
-            } else {
-                in_phase(state, Phase::WantOwned)
-            }
-        }
+        (Phase::AskSize, Answer::Sized { size }) => ask(state, size),
         (Phase::WantOwned, Answer::Taken) => in_phase(state, Phase::Owned),
         (Phase::Owned, Answer::Begun) => in_phase(state, Phase::Building),
         (Phase::Owned, Answer::Unwanted) => in_phase(state, Phase::LeaveOwned),
@@ -90,7 +79,7 @@ pub fn decide(state: CallState, answer: Answer) -> CallState
                 capacity,
             },
         ) => measure(state, generation, capacity),
-        (Phase::LenSize, Answer::Sized { .. }) => in_phase(state, Phase::Done),
+        (Phase::LenSize, Answer::Sized { .. }) => measured(state),
         (Phase::WalkLoad, Answer::NoGeneration) => in_phase(state, Phase::Done),
         (
             Phase::WalkLoad,
@@ -189,6 +178,43 @@ fn meet(state: CallState, accepted: bool) -> CallState
     } else {
         pass(state, Phase::Probe, Phase::LeaveGrow)
     }
+}
+
+/// The value in its bucket is counted.
+fn counted(state: CallState) -> CallState
+    ensures { result ≡ (if stands_at_bucket state then record state { phase = Phase.LeaveOk; outcome = Outcome.New state.index } else state) }
+{
+    if !stands(state) {
+        return state;
+    }
+    CallState {
+        phase: Phase::LeaveOk,
+        outcome: Outcome::New { place: state.index },
+        ..state
+    }
+}
+
+/// The size of an insert's generation: growth is due where it is at least half of the capacity.
+fn ask(state: CallState, size: u64) -> CallState
+    ensures { result ≡ (if nat_lt 0 state.capacity then (if nat_lt size (state.capacity / 2) then to Phase.Done state else to Phase.WantOwned state) else state) }
+{
+    if state.capacity == 0 {
+        state
+    } else if size < state.capacity / 2 {
+        in_phase(state, Phase::Done)
+    } else {
+        in_phase(state, Phase::WantOwned)
+    }
+}
+
+/// The size that a length asked for.
+fn measured(state: CallState) -> CallState
+    ensures { result ≡ (if nat_lt 0 state.capacity then to Phase.Done state else state) }
+{
+    if state.capacity == 0 {
+        return state;
+    }
+    in_phase(state, Phase::Done)
 }
 
 /// A look-up at a set bucket.

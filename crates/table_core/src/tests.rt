@@ -1,5 +1,7 @@
 ghost use Rattle.std.specs.Prelude.{◌<◌};
 
+mod decisions;
+
 use crate::event::Event;
 use crate::reply::{Finished, Reply};
 use crate::state::{State, run, run_with};
