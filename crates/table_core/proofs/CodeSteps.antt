@@ -80,7 +80,7 @@ walk_moves t cs mid now i c a s n o g e h p q r x y =
     let v : record d { list = list_left n.phase d.list; state = n } ≡ call_after t c a = rw (r, q, p) (walk_after t c a e h) in
     y d u ∙ ap (λ z. slice_set z i (record d { list = list_left n.phase d.list; state = n })) x ∙ set_set cs i d _ ∙ ap (slice_set cs i) v
 
-pub walk_tells_now : (t : Table) (cs mid : List Call) (i : ℕ) (c : Call) (a : Answer) (s n : CallState) (o : Option Entry) (r : Option RustReply) → slice_get cs i ≡ Some c → c.state.phase ≡ WalkAt → fits c.state.phase c.state a ≡ true →
+pub walk_tells_now : {A : Type 0} (t : Table) (cs mid : List Call) (i : ℕ) (c : Call) (a : Answer) (s n : CallState) (o : Option Entry) (r : Option (RustReply A)) → slice_get cs i ≡ Some c → c.state.phase ≡ WalkAt → fits c.state.phase c.state a ≡ true →
     s ≡ c.state → o ≡ walked_entry t s a → n ≡ decide s a → mid ≡ slice_set cs i (record c { list = with_entry c.list o }) →
     ((d : Call) → slice_get mid i ≡ Some d → option_map told_of r ≡ list_told n.phase d.list) →
     option_map told_of r ≡ told t c a

@@ -22,7 +22,7 @@ pub record Reply : Type 0 where
   pub call : ℕ
   pub told : Told
 
-abbrev pub told_of : RustReply → Told
+abbrev pub told_of : {A : Type 0} → RustReply A → Told
 told_of (Placed v) = ToldPlaced v
 told_of (Found e v) = ToldFound e v
 told_of (Refused v) = ToldRefused v

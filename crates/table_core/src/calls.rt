@@ -6,21 +6,22 @@ ghost use Rattle.table_core.specs.Steps.{IsNewValue};
 ghost use Rattle.table_core.specs.Bound.{position_of, one_if};
 
 use crate::call::{CallState, Outcome, Phase};
-use std::alloc::{AllocError, AllocFailed, Global};
+use std::alloc::{AllocError, Allocator};
 use std::collections::{HashMap, HashSet};
+use std::hash::{BuildHasherDefault, FoldHasher};
 use std::marker::Model;
 use std::mem;
 
 /// A call: its number, the value of an insert, the list so far of a walk, and where it stands.
 #[derive(Drop)]
-pub struct Call {
+pub struct Call<A: Allocator + Copy> {
     number: u64,
     value: Option<u64>,
-    list: Vec<u64>,
+    list: Vec<u64, A>,
     state: CallState,
 }
 
-impl Model for Call {
+impl<A: Allocator + Copy> Model for Call<A> {
     ghost use Rattle.table_core.specs.Calls.{Call};
 
     ghost Value = { Call };
@@ -31,15 +32,15 @@ impl Model for Call {
 /// All calls of a schedule, in the order in which they began. Where a call of a number stands, which
 /// values are used and who holds the lock is known without a scan of the calls.
 #[derive(Drop)]
-pub struct Calls {
-    all: Vec<Call>,
-    positions: HashMap<u64, usize>,
-    values: HashSet<u64>,
+pub struct Calls<A: Allocator + Copy> {
+    all: Vec<Call<A>, A>,
+    positions: HashMap<u64, usize, BuildHasherDefault<FoldHasher>, A>,
+    values: HashSet<u64, BuildHasherDefault<FoldHasher>, A>,
     sharing: usize,
     owning: usize,
 }
 
-impl Model for Calls {
+impl<A: Allocator + Copy> Model for Calls<A> {
     ghost use Rattle.std.specs.Prelude.{List};
     ghost use Rattle.table_core.specs.Calls.{Call};
     ghost use Rattle.table_core.specs.Indexed.{IsIndexed};
@@ -90,7 +91,7 @@ fn recount(count: usize, before: bool, after: bool) -> usize
     }
 }
 
-impl Call {
+impl<A: Allocator + Copy> Call<A> {
     /// Where the call stands.
     pub fn state(&self) -> CallState
         ensures { result ≡ self.now.state }
@@ -119,7 +120,7 @@ impl Call {
         Ok(())
     }
 
-    fn take_list(&mut self, alloc: Global) -> Vec<u64>
+    fn take_list(&mut self, alloc: A) -> Vec<u64, A>
         ensures list { result.items ≡ self.old.list }
         ensures left { self.new ≡ record self.old { list = [] } }
     {
@@ -128,7 +129,10 @@ impl Call {
 }
 
 /// The value of an insert is used now.
-fn use_value(values: &mut HashSet<u64>, value: Option<u64>) -> Result<(), AllocError>
+fn use_value<A: Allocator + Copy>(
+    values: &mut HashSet<u64, BuildHasherDefault<FoldHasher>, A>,
+    value: Option<u64>,
+) -> Result<(), AllocError>
     ensures ok { OnOk result ((v : ℕ) → set.contains nat_eq values.new v ≡ (is_value v value || set.contains nat_eq values.old v)) }
     ensures err { OnErr result (values.new.keys ≡ values.old.keys) }
 {
@@ -139,14 +143,14 @@ fn use_value(values: &mut HashSet<u64>, value: Option<u64>) -> Result<(), AllocE
 }
 
 /// The state of the call at a place.
-fn state_at(all: &[Call], at: usize) -> CallState
+fn state_at<A: Allocator + Copy>(all: &[Call<A>], at: usize) -> CallState
     requires { at < length all.now }
     ensures { (c : SpecCall) → slice_get all.now at ≡ Some c → result ≡ c.state }
 {
     all[at].state()
 }
 
-fn set_state_at(all: &mut Vec<Call>, at: usize, state: CallState)
+fn set_state_at<A: Allocator + Copy>(all: &mut Vec<Call<A>, A>, at: usize, state: CallState)
     requires { at < vec_len all.old }
     ensures { (c : SpecCall) → slice_get all.old.items at ≡ Some c → all.new.items ≡ slice_set all.old.items at (record c { state = state }) }
 {
@@ -154,7 +158,11 @@ fn set_state_at(all: &mut Vec<Call>, at: usize, state: CallState)
     call.set_state(state);
 }
 
-fn list_value_at(all: &mut Vec<Call>, at: usize, value: u64) -> Result<(), AllocError>
+fn list_value_at<A: Allocator + Copy>(
+    all: &mut Vec<Call<A>, A>,
+    at: usize,
+    value: u64,
+) -> Result<(), AllocError>
     requires { at < vec_len all.old }
     ensures ok { (c : SpecCall) → slice_get all.old.items at ≡ Some c → OnOk result (all.new.items ≡ slice_set all.old.items at (record c { list = c.list ++ value ∷ [] })) }
     ensures err { OnErr result (all.new.items ≡ all.old.items) }
@@ -163,7 +171,7 @@ fn list_value_at(all: &mut Vec<Call>, at: usize, value: u64) -> Result<(), Alloc
     call.list_value(value)
 }
 
-fn take_list_at(all: &mut Vec<Call>, at: usize, alloc: Global) -> Vec<u64>
+fn take_list_at<A: Allocator + Copy>(all: &mut Vec<Call<A>, A>, at: usize, alloc: A) -> Vec<u64, A>
     requires { at < vec_len all.old }
     ensures list { (c : SpecCall) → slice_get all.old.items at ≡ Some c → result.items ≡ c.list }
     ensures left { (c : SpecCall) → slice_get all.old.items at ≡ Some c → all.new.items ≡ slice_set all.old.items at (record c { list = [] }) }
@@ -172,9 +180,9 @@ fn take_list_at(all: &mut Vec<Call>, at: usize, alloc: Global) -> Vec<u64>
     call.take_list(alloc)
 }
 
-impl Calls {
+impl<A: Allocator + Copy> Calls<A> {
     /// No calls. It takes no memory.
-    pub fn new(alloc: Global) -> Calls
+    pub fn new(alloc: A) -> Self
         ensures { result ≡ [] }
     {
         Calls {
@@ -224,7 +232,7 @@ impl Calls {
     /// A call more, in its first phase.
     pub fn begin(
         &mut self,
-        alloc: Global,
+        alloc: A,
         number: u64,
         value: Option<u64>,
         phase: Phase,
@@ -259,7 +267,7 @@ impl Calls {
     }
 
     /// The call at a place.
-    pub fn get(&self, at: usize) -> &Call
+    pub fn get(&self, at: usize) -> &Call<A>
         requires { at < length self.now }
         ensures { slice_get self.now at ≡ Some result.now }
     {
@@ -288,7 +296,7 @@ impl Calls {
     }
 
     /// Takes the list out of the walk at a place.
-    pub fn take_list(&mut self, alloc: Global, at: usize) -> Vec<u64>
+    pub fn take_list(&mut self, alloc: A, at: usize) -> Vec<u64, A>
         requires { at < length self.old }
         ensures list { (c : SpecCall) → slice_get self.old at ≡ Some c → result.items ≡ c.list }
         ensures left { (c : SpecCall) → slice_get self.old at ≡ Some c → self.new ≡ slice_set self.old at (record c { list = [] }) }

@@ -4,7 +4,7 @@ ghost use Rattle.table_core.specs.Generations.{bucket, bits_of, fresh, fill, cou
 ghost use Rattle.table_core.specs.Bound.{IsCapacity, entry_of};
 
 use crate::event::Entry;
-use std::alloc::{AllocError, Global};
+use std::alloc::{AllocError, Allocator};
 use std::collections::BTreeMap;
 use std::marker::Model;
 
@@ -18,13 +18,13 @@ pub struct Slot {
 /// A generation of buckets: its capacity, its size, and its set buckets by their places. Its memory
 /// goes with the set buckets, never with the capacity.
 #[derive(Drop)]
-pub struct Generation {
+pub struct Generation<A: Allocator + Copy> {
     capacity: u64,
     size: u64,
-    slots: BTreeMap<u64, Slot>,
+    slots: BTreeMap<u64, Slot, A>,
 }
 
-impl Model for Generation {
+impl<A: Allocator + Copy> Model for Generation<A> {
     ghost use Rattle.std.specs.Prelude.{◌≤◌, map, length};
     ghost use Rattle.table_core.specs.Generations.{Gen};
     ghost use Rattle.table_core.specs.Bound.{entry_of, IsCapacity};
@@ -44,7 +44,10 @@ pub fn hash_bits(hash: u64) -> u64
 }
 
 /// The entries that a map keeps, in order of their places.
-fn entries_in(slots: &BTreeMap<u64, Slot>, alloc: Global) -> Result<Vec<Entry>, AllocError>
+fn entries_in<A: Allocator + Copy>(
+    slots: &BTreeMap<u64, Slot, A>,
+    alloc: A,
+) -> Result<Vec<Entry, A>, AllocError>
     ensures { IfOk result (λ v. v.items ≡ map entry_of slots.now.entries) }
 {
     slots
@@ -66,9 +69,9 @@ fn place_after(place: u64, capacity: u64) -> u64
     if next < capacity { next } else { 0 }
 }
 
-impl Generation {
+impl<A: Allocator + Copy> Generation<A> {
     /// A generation without entries. It takes no memory.
-    pub fn new(alloc: Global, capacity: u64) -> Generation
+    pub fn new(alloc: A, capacity: u64) -> Self
         requires { IsCapacity capacity }
         ensures { result ≡ fresh capacity }
     {
@@ -114,7 +117,7 @@ impl Generation {
     }
 
     /// All entries, in order of their places.
-    pub fn entries(&self, alloc: Global) -> Result<Vec<Entry>, AllocError>
+    pub fn entries(&self, alloc: A) -> Result<Vec<Entry, A>, AllocError>
         ensures { IfOk result (λ v. v.items ≡ self.now.entries) }
     {
         entries_in(&self.slots, alloc)

@@ -16,18 +16,18 @@ use crate::event::{Entry, Event};
 use crate::generation::hash_bits;
 use crate::reply::{Finished, Reply};
 use crate::table::Table;
-use std::alloc::{AllocError, Global};
+use std::alloc::{AllocError, Allocator};
 use std::marker::Model;
 
 /// The table and its calls.
 #[derive(Drop)]
-pub struct Machine {
-    alloc: Global,
-    table: Table,
-    calls: Calls,
+pub struct Machine<A: Allocator + Copy> {
+    alloc: A,
+    table: Table<A>,
+    calls: Calls<A>,
 }
 
-impl Model for Machine {
+impl<A: Allocator + Copy> Model for Machine<A> {
     ghost use Rattle.table_core.specs.Machine.{World};
 
     ghost Value = { World };
@@ -73,7 +73,7 @@ fn take_unless(held: bool) -> Option<Answer>
 }
 
 /// What a call is told that gives its value back.
-fn tell_refused(value: Option<u64>) -> Option<Reply>
+fn tell_refused<A: Allocator + Copy>(value: Option<u64>) -> Option<Reply<A>>
     ensures { option_map told_of result ≡ refused value }
 {
     match value {
@@ -83,7 +83,7 @@ fn tell_refused(value: Option<u64>) -> Option<Reply>
 }
 
 /// What an insert is told that has placed its value.
-fn tell_placed(value: Option<u64>) -> Option<Reply>
+fn tell_placed<A: Allocator + Copy>(value: Option<u64>) -> Option<Reply<A>>
     ensures { option_map told_of result ≡ told_placed value }
 {
     match value {
@@ -93,7 +93,7 @@ fn tell_placed(value: Option<u64>) -> Option<Reply>
 }
 
 /// What an insert is told that has accepted this entry.
-fn tell_found(entry: Option<Entry>, value: Option<u64>) -> Option<Reply>
+fn tell_found<A: Allocator + Copy>(entry: Option<Entry>, value: Option<u64>) -> Option<Reply<A>>
     ensures { option_map told_of result ≡ told_found entry value }
 {
     match (entry, value) {
@@ -103,14 +103,14 @@ fn tell_found(entry: Option<Entry>, value: Option<u64>) -> Option<Reply>
 }
 
 /// The bucket at which a call stands.
-fn bucket_of(table: &Table, state: CallState) -> Option<Entry>
+fn bucket_of<A: Allocator + Copy>(table: &Table<A>, state: CallState) -> Option<Entry>
     ensures { result ≡ bucket_at table.now state }
 {
     table.at(state.walked, state.index)
 }
 
 /// What a call is told by its outcome.
-fn tell_outcome(table: &Table, call: &Call) -> Option<Reply>
+fn tell_outcome<A: Allocator + Copy>(table: &Table<A>, call: &Call<A>) -> Option<Reply<A>>
     ensures { option_map told_of result ≡ by_outcome table.now call.now }
 {
     let state = call.state();
@@ -122,7 +122,11 @@ fn tell_outcome(table: &Table, call: &Call) -> Option<Reply>
 }
 
 /// What a call is told whose growth has failed.
-fn tell_failure(table: &Table, call: &Call, still_current: bool) -> Option<Reply>
+fn tell_failure<A: Allocator + Copy>(
+    table: &Table<A>,
+    call: &Call<A>,
+    still_current: bool,
+) -> Option<Reply<A>>
     ensures { option_map told_of result ≡ by_failure table.now call.now still_current }
 {
     match (call.state().outcome, still_current) {
@@ -132,7 +136,11 @@ fn tell_failure(table: &Table, call: &Call, still_current: bool) -> Option<Reply
 }
 
 /// What a look-up is told at a set bucket.
-fn tell_look(table: &Table, state: CallState, accepted: bool) -> Option<Reply>
+fn tell_look<A: Allocator + Copy>(
+    table: &Table<A>,
+    state: CallState,
+    accepted: bool,
+) -> Option<Reply<A>>
     requires { state.seen < state.capacity }
     ensures { option_map told_of result ≡ look_told table.now state accepted }
 {
@@ -149,7 +157,12 @@ fn tell_look(table: &Table, state: CallState, accepted: bool) -> Option<Reply>
 }
 
 /// What a call, other than a walk at a bucket, is told that finishes by an answer.
-fn tell(alloc: Global, table: &Table, call: &Call, answer: Answer) -> Option<Reply>
+fn tell<A: Allocator + Copy>(
+    alloc: A,
+    table: &Table<A>,
+    call: &Call<A>,
+    answer: Answer,
+) -> Option<Reply<A>>
     requires other { call.now.state.phase ≢ Phase.WalkAt }
     requires fitting { fits call.now.state.phase call.now.state answer ≡ true }
     ensures { option_map told_of result ≡ told table.now call.now answer }
@@ -185,7 +198,11 @@ fn tell(alloc: Global, table: &Table, call: &Call, answer: Answer) -> Option<Rep
 }
 
 /// The value of a call into the bucket at which it stands.
-fn place_value(table: &mut Table, value: Option<u64>, state: CallState) -> Result<(), AllocError>
+fn place_value<A: Allocator + Copy>(
+    table: &mut Table<A>,
+    value: Option<u64>,
+    state: CallState,
+) -> Result<(), AllocError>
     requires empty { bucket_at table.old state ≡ None }
     requires settled { table.old.building ≡ None }
     ensures ok { OnOk result (table.new ≡ place table.old state value) }
@@ -205,10 +222,10 @@ fn place_value(table: &mut Table, value: Option<u64>, state: CallState) -> Resul
 }
 
 /// What an event changes in the table.
-fn change(
-    alloc: Global,
-    table: &mut Table,
-    call: &Call,
+fn change<A: Allocator + Copy>(
+    alloc: A,
+    table: &mut Table<A>,
+    call: &Call<A>,
     event: Event,
     answer: Answer,
 ) -> Result<(), AllocError>
@@ -230,9 +247,9 @@ fn change(
     }
 }
 
-impl Machine {
+impl<A: Allocator + Copy> Machine<A> {
     /// No generation and no call. The first generation will have `first` buckets.
-    pub fn new(alloc: Global, first: u64) -> Machine
+    pub fn new(alloc: A, first: u64) -> Self
         requires { IsFirst first }
         ensures { result ≡ empty first }
     {
@@ -341,7 +358,11 @@ impl Machine {
 }
 
 /// The entry that an answer shows to a walk.
-fn entry_shown(table: &Table, state: CallState, answer: Answer) -> Option<Entry>
+fn entry_shown<A: Allocator + Copy>(
+    table: &Table<A>,
+    state: CallState,
+    answer: Answer,
+) -> Option<Entry>
     ensures { result ≡ walked_entry table.now state answer }
 {
     match answer {
@@ -351,7 +372,11 @@ fn entry_shown(table: &Table, state: CallState, answer: Answer) -> Option<Entry>
 }
 
 /// An entry more in the list of the walk at a place.
-fn list_entry(calls: &mut Calls, at: usize, entry: Option<Entry>) -> Result<(), AllocError>
+fn list_entry<A: Allocator + Copy>(
+    calls: &mut Calls<A>,
+    at: usize,
+    entry: Option<Entry>,
+) -> Result<(), AllocError>
     requires { at < length calls.old }
     ensures ok { (c : SpecCall) → slice_get calls.old at ≡ Some c → OnOk result (calls.new ≡ slice_set calls.old at (record c { list = with_entry c.list entry })) }
     ensures err { OnErr result (calls.new ≡ calls.old) }
@@ -363,7 +388,12 @@ fn list_entry(calls: &mut Calls, at: usize, entry: Option<Entry>) -> Result<(), 
 }
 
 /// The next state of the walk at a place, which takes its list where it finishes.
-fn end_walk(alloc: Global, calls: &mut Calls, at: usize, next: CallState) -> Option<Reply>
+fn end_walk<A: Allocator + Copy>(
+    alloc: A,
+    calls: &mut Calls<A>,
+    at: usize,
+    next: CallState,
+) -> Option<Reply<A>>
     requires { at < length calls.old }
     ensures left { (c : SpecCall) → slice_get calls.old at ≡ Some c → calls.new ≡ slice_set calls.old at (record c { list = list_left next.phase c.list; state = next }) }
     ensures told { (c : SpecCall) → slice_get calls.old at ≡ Some c → option_map told_of result ≡ list_told next.phase c.list }
@@ -376,13 +406,13 @@ fn end_walk(alloc: Global, calls: &mut Calls, at: usize, next: CallState) -> Opt
 }
 
 /// The walk at a place reads a bucket.
-fn walk(
-    alloc: Global,
-    table: &Table,
-    calls: &mut Calls,
+fn walk<A: Allocator + Copy>(
+    alloc: A,
+    table: &Table<A>,
+    calls: &mut Calls<A>,
     at: usize,
     answer: Answer,
-) -> Result<Option<Reply>, AllocError>
+) -> Result<Option<Reply<A>>, AllocError>
     requires within { at < length calls.old }
     requires walking { (c : SpecCall) → slice_get calls.old at ≡ Some c → (c.state.phase ≡ Phase.WalkAt) × (fits c.state.phase c.state answer ≡ true) }
     ensures ok { (c : SpecCall) → slice_get calls.old at ≡ Some c → OnOk result (calls.new ≡ slice_set calls.old at (call_after table.now c answer)) }
@@ -395,9 +425,9 @@ fn walk(
     Ok(end_walk(alloc, calls, at, decide(state, answer)))
 }
 
-impl Machine {
+impl<A: Allocator + Copy> Machine<A> {
     /// The call at a place takes its event, if it has a row.
-    fn go(&mut self, at: usize, event: Event) -> Result<Option<Reply>, AllocError>
+    fn go(&mut self, at: usize, event: Event) -> Result<Option<Reply<A>>, AllocError>
         requires within { at < length self.old.calls }
         requires reached { IsReached self.old }
         ensures ok { (c : SpecCall) → slice_get self.old.calls at ≡ Some c → OnOk result (self.new ≡ moved self.old at c event (finds self.old c.state event)) }
@@ -447,7 +477,7 @@ impl Machine {
     }
 
     /// The call of an event that begins none takes it.
-    fn go_on(&mut self, event: Event) -> Result<Option<Finished>, AllocError>
+    fn go_on(&mut self, event: Event) -> Result<Option<Finished<A>>, AllocError>
         requires reached { IsReached self.old }
         requires going { opening event ≡ None }
         ensures ok { OnOk result (self.new ≡ happens self.old event) }
@@ -465,7 +495,7 @@ impl Machine {
     }
 
     /// Takes one event. Where memory is refused the machine is as it was.
-    pub fn step(&mut self, event: Event) -> Result<Option<Finished>, AllocError>
+    pub fn step(&mut self, event: Event) -> Result<Option<Finished<A>>, AllocError>
         requires { IsReached self.old }
         ensures ok { OnOk result (self.new ≡ happens self.old event) }
         ensures told { IfOk result (λ r. r ≡ reply self.old event) }

@@ -1,8 +1,9 @@
+use std::alloc::{Allocator, Global};
 use std::marker::Model;
 
-/// What a call is told when it finishes.
+/// What a call is told when it finishes. The list of a walk is in memory of the table's allocator.
 #[derive(Drop)]
-pub enum Reply {
+pub enum Reply<A: Allocator + Copy = Global> {
     /// The call's value is an entry now.
     Placed(u64),
     /// This entry was accepted, and the call's value comes back.
@@ -17,17 +18,17 @@ pub enum Reply {
     /// So many entries.
     Len(u64),
     /// The entries, in the order in which they were read.
-    Walk(Vec<u64>),
+    Walk(Vec<u64, A>),
 }
 
 /// A call that has finished, and its reply.
 #[derive(Drop)]
-pub struct Finished {
+pub struct Finished<A: Allocator + Copy = Global> {
     pub call: u64,
-    pub reply: Reply,
+    pub reply: Reply<A>,
 }
 
-impl Model for Finished {
+impl<A: Allocator + Copy> Model for Finished<A> {
     ghost use Rattle.table_core.specs.Replies.{Reply, told_of};
 
     ghost Value = { Reply };

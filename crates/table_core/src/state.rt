@@ -6,7 +6,7 @@ ghost use Rattle.table_core.specs.Machine.{empty, happens, reply};
 use crate::event::Event;
 use crate::machine::Machine;
 use crate::reply::Finished;
-use std::alloc::{AllocError, AllocFailed, Global};
+use std::alloc::{AllocError, AllocFailed, Allocator, Global};
 use std::marker::Model;
 
 /// The memory that was asked for was refused.
@@ -25,13 +25,13 @@ impl<T: Drop> From<AllocFailed<T>> for NoMemory {
     }
 }
 
-/// A table with its calls, in a state that some schedule leads to.
+/// A table with its calls, in a state that some schedule leads to. All its memory is of one allocator.
 #[derive(Drop)]
-pub struct State {
-    machine: Machine,
+pub struct State<A: Allocator + Copy = Global> {
+    machine: Machine<A>,
 }
 
-impl Model for State {
+impl<A: Allocator + Copy> Model for State<A> {
     ghost use Rattle.table_core.specs.Machine.{World};
     ghost use Rattle.table_core.specs.Reached.{IsReached};
 
@@ -42,9 +42,9 @@ impl Model for State {
     ghost invariant = { λ s. IsReached s.machine };
 }
 
-impl State {
+impl<A: Allocator + Copy> State<A> {
     /// No generation and no call. The first generation will have 16 buckets. It takes no memory.
-    pub fn new(alloc: Global) -> State
+    pub fn new(alloc: A) -> Self
         ensures { result ≡ empty 16 }
     {
         State::with_first_capacity(alloc, 16)
@@ -52,7 +52,7 @@ impl State {
 
     /// No generation and no call. The first generation will have `first` buckets, a power of two
     /// from 16 to 2^30. It takes no memory.
-    pub fn with_first_capacity(alloc: Global, first: u64) -> State
+    pub fn with_first_capacity(alloc: A, first: u64) -> Self
         requires { IsFirst first }
         ensures { result ≡ empty first }
     {
@@ -63,7 +63,7 @@ impl State {
 
     /// Takes one event: the call that finishes by it, with its reply. An event that isn't enabled
     /// changes nothing. Where memory is refused the state is as it was.
-    pub fn step(&mut self, event: Event) -> Result<Option<Finished>, NoMemory>
+    pub fn step(&mut self, event: Event) -> Result<Option<Finished<A>>, NoMemory>
         ensures ok { OnOk result (self.new ≡ happens self.old event) }
         ensures told { IfOk result (λ r. r ≡ reply self.old event) }
         ensures err { OnErr result (self.new ≡ self.old) }
@@ -81,10 +81,10 @@ impl State {
 }
 
 /// A reply more, if there is one.
-fn push_finished(
-    told: &mut Vec<Finished>,
-    finished: Option<Finished>,
-) -> Result<(), AllocFailed<Finished>>
+fn push_finished<A: Allocator + Copy>(
+    told: &mut Vec<Finished<A>, A>,
+    finished: Option<Finished<A>>,
+) -> Result<(), AllocFailed<Finished<A>>>
     ensures { OnOk result (told.new.items ≡ told.old.items ++ option_to_list finished) }
 {
     match finished {
@@ -95,7 +95,7 @@ fn push_finished(
 
 /// The replies of a schedule, in the order in which its calls finish, on a first generation of 16
 /// buckets.
-pub fn run(alloc: Global, events: &[Event]) -> Result<Vec<Finished>, NoMemory>
+pub fn run<A: Allocator + Copy>(alloc: A, events: &[Event]) -> Result<Vec<Finished<A>, A>, NoMemory>
     ensures { IfOk result (λ v. v.items ≡ replies (empty 16) events.now) }
 {
     run_with(alloc, 16, events)
@@ -103,7 +103,11 @@ pub fn run(alloc: Global, events: &[Event]) -> Result<Vec<Finished>, NoMemory>
 
 /// The replies of a schedule, in the order in which its calls finish. The first generation has
 /// `first` buckets, a power of two from 16 to 2^30.
-pub fn run_with(alloc: Global, first: u64, events: &[Event]) -> Result<Vec<Finished>, NoMemory>
+pub fn run_with<A: Allocator + Copy>(
+    alloc: A,
+    first: u64,
+    events: &[Event],
+) -> Result<Vec<Finished<A>, A>, NoMemory>
     requires { IsFirst first }
     ensures { IfOk result (λ v. v.items ≡ replies (empty first) events.now) }
 {

@@ -9,21 +9,21 @@ ghost use Rattle.table_core.specs.History.{buckets};
 use crate::call::Answer;
 use crate::event::Entry;
 use crate::generation::Generation;
-use std::alloc::{AllocError, Global};
+use std::alloc::{AllocError, Allocator};
 use std::marker::Model;
 
 /// The table: its generations from the first on, and the one being built.
 #[derive(Drop)]
-pub struct Table {
+pub struct Table<A: Allocator + Copy> {
     first: u64,
-    generations: Vec<Generation>,
-    growing: Option<Generation>,
+    generations: Vec<Generation<A>, A>,
+    growing: Option<Generation<A>>,
     /// The entries of the current generation in order, while another one is being built.
-    source: Vec<Entry>,
+    source: Vec<Entry, A>,
     copied: usize,
 }
 
-impl Model for Table {
+impl<A: Allocator + Copy> Model for Table<A> {
     ghost use Rattle.table_core.specs.Generations.{Table};
     ghost use Rattle.table_core.specs.Bound.{build_of};
     ghost use Rattle.table_core.specs.Indexed.{IsTable};
@@ -36,7 +36,10 @@ impl Model for Table {
 }
 
 /// The generation of a number.
-fn generation_of(generations: &[Generation], walked: Option<u64>) -> Option<&Generation>
+fn generation_of<A: Allocator + Copy>(
+    generations: &[Generation<A>],
+    walked: Option<u64>,
+) -> Option<&Generation<A>>
     ensures { option_copied result ≡ gen_of generations.now walked }
 {
     let number = walked?;
@@ -48,7 +51,7 @@ fn generation_of(generations: &[Generation], walked: Option<u64>) -> Option<&Gen
 }
 
 /// The current generation.
-fn current_of(generations: &[Generation]) -> Option<&Generation>
+fn current_of<A: Allocator + Copy>(generations: &[Generation<A>]) -> Option<&Generation<A>>
     ensures { option_copied result ≡ last_of generations.now }
 {
     if generations.is_empty() {
@@ -59,7 +62,7 @@ fn current_of(generations: &[Generation]) -> Option<&Generation>
 }
 
 /// The capacity of the generation after these.
-fn next_capacity(first: u64, generations: &[Generation]) -> u64
+fn next_capacity<A: Allocator + Copy>(first: u64, generations: &[Generation<A>]) -> u64
     requires allowed { IsFirst first }
     requires room { checked (last_of generations.now) true ≡ Answer.Begun }
     ensures value { result ≡ next_capacity first (last_of generations.now) }
@@ -72,7 +75,10 @@ fn next_capacity(first: u64, generations: &[Generation]) -> u64
 }
 
 /// The entries of the last of these generations.
-fn entries_of_last(generations: &[Generation], alloc: Global) -> Result<Vec<Entry>, AllocError>
+fn entries_of_last<A: Allocator + Copy>(
+    generations: &[Generation<A>],
+    alloc: A,
+) -> Result<Vec<Entry, A>, AllocError>
     ensures { IfOk result (λ v. v.items ≡ entries_of (last_of generations.now)) }
 {
     match current_of(generations) {
@@ -82,7 +88,7 @@ fn entries_of_last(generations: &[Generation], alloc: Global) -> Result<Vec<Entr
 }
 
 /// The capacities of some generations together.
-fn capacity_of(generations: &[Generation]) -> u64
+fn capacity_of<A: Allocator + Copy>(generations: &[Generation<A>]) -> u64
     requires { weigh (λ (g : Gen). g.capacity) generations.now < 2 ^ 64 }
     ensures { result ≡ weigh (λ (g : Gen). g.capacity) generations.now }
 {
@@ -93,8 +99,8 @@ fn capacity_of(generations: &[Generation]) -> u64
     buckets
 }
 
-fn fill_walked(
-    generations: &mut Vec<Generation>,
+fn fill_walked<A: Allocator + Copy>(
+    generations: &mut Vec<Generation<A>, A>,
     walked: Option<u64>,
     entry: Entry,
 ) -> Result<(), AllocError>
@@ -112,7 +118,7 @@ fn fill_walked(
     Ok(())
 }
 
-fn count_walked(generations: &mut Vec<Generation>, walked: Option<u64>)
+fn count_walked<A: Allocator + Copy>(generations: &mut Vec<Generation<A>, A>, walked: Option<u64>)
     requires { (g : Gen) → gen_of generations.old.items walked ≡ Some g → g.size < length g.entries }
     ensures { generations.new.items ≡ change generations.old.items walked count }
 {
@@ -125,9 +131,9 @@ fn count_walked(generations: &mut Vec<Generation>, walked: Option<u64>)
     }
 }
 
-impl Table {
+impl<A: Allocator + Copy> Table<A> {
     /// No generation. The first one will have so many buckets. It takes no memory.
-    pub fn new(alloc: Global, first: u64) -> Table
+    pub fn new(alloc: A, first: u64) -> Self
         requires { IsFirst first }
         ensures { result ≡ record { first = first; gens = []; building = None } }
     {
@@ -239,7 +245,7 @@ impl Table {
     }
 
     /// Begins a generation of the first capacity, or of twice the current one.
-    pub fn begin_growth(&mut self, alloc: Global) -> Result<(), AllocError>
+    pub fn begin_growth(&mut self, alloc: A) -> Result<(), AllocError>
         requires { checked (current self.old) true ≡ Answer.Begun }
         ensures ok { OnOk result (self.new ≡ begin_growth self.old) }
         ensures err { OnErr result (self.new ≡ self.old) }
@@ -269,7 +275,7 @@ impl Table {
     }
 
     /// The generation that was built is the current one.
-    pub fn show(&mut self, alloc: Global) -> Result<(), AllocError>
+    pub fn show(&mut self, alloc: A) -> Result<(), AllocError>
         ensures ok { OnOk result (self.new ≡ show_built self.old) }
         ensures err { OnErr result (self.new ≡ self.old) }
     {

@@ -10,12 +10,12 @@ use Rattle.table_core.proofs.CodeSteps.{set_set, still_within}
 use Rattle.table_core.proofs.machine.end_walk.Goals as goal
 
 pub take_list-requires : goal.take_list-requires
-take_list-requires c =
+take_list-requires g c =
     let g = call_within c.args.calls.now c.args.at c.requires in
     still_within c.args.calls.now c.set_state.new.self c.args.at _ (c.set_state.ensures g.0 g.1) c.requires
 
 pub returns-in-Done-clause-left : goal.returns-in-Done-clause-left
-returns-in-Done-clause-left c = λ d h.
+returns-in-Done-clause-left g c = λ d h.
     let e = c.set_state.ensures d h in
     let x : Call = record d { state = c.args.next } in
     let u : slice_get c.set_state.new.self c.args.at ≡ Some x = rw e (get-set_same c.args.calls.now c.args.at d x h) in
@@ -23,7 +23,7 @@ returns-in-Done-clause-left c = λ d h.
     ∙ ap (λ list. slice_set c.args.calls.now c.args.at (record x { list = list })) (ap (λ p. list_left p d.list) (sym c.in-Done.is))
 
 pub returns-in-Done-clause-told : goal.returns-in-Done-clause-told
-returns-in-Done-clause-told c = λ d h.
+returns-in-Done-clause-told g c = λ d h.
     let x : Call = record d { state = c.args.next } in
     let u : slice_get c.set_state.new.self c.args.at ≡ Some x = rw (c.set_state.ensures d h) (get-set_same c.args.calls.now c.args.at d x h) in
     ap (λ list. Some (ToldWalk list)) (c.take_list.ensures.list x u) ∙ ap (λ p. list_told p d.list) (sym c.in-Done.is)

@@ -8,7 +8,7 @@ use Rattle.table_core.proofs.Pasts.{after_snoc, replies_snoc}
 use Rattle.table_core.proofs.state.run_with.Goals as goal
 
 pub loop-event-preserved : goal.loop-event-preserved
-loop-event-preserved c =
+loop-event-preserved g c =
     let x = get_or c.args.events.now c.loop-event.event-index (Insert 0 0 0) in
     let s = take c.loop-event.event-index c.args.events.now in
     let t : take (c.loop-event.event-index + 1) c.args.events.now ≡ s ++ x ∷ [] = rw add-one (take-suc c.args.events.now c.loop-event.event-index (Insert 0 0 0) c.loop-event-test.true) in

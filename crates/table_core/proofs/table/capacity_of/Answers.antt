@@ -7,7 +7,7 @@ use Rattle.table_core.proofs.Lists.{weigh-take_more, weigh-take}
 use Rattle.table_core.proofs.table.capacity_of.Goals as goal
 
 pub overflow_add-buckets : goal.overflow_add-buckets
-overflow_add-buckets c =
+overflow_add-buckets g c =
     let g : slice_get c.args.generations.now c.loop-generation.generation-index ≡ Some c.generation-item.result = slice_get_read c.args.generations.now _ c.loop-generation.generation-index c.generation-item.result refl c.loop-generation-test.true c.generation-item.is in
     let m = weigh-take_more (λ (g : Gen). g.capacity) c.args.generations.now c.loop-generation.generation-index c.generation-item.result g in
     let p = weigh-take (λ (g : Gen). g.capacity) c.args.generations.now (suc c.loop-generation.generation-index) in
@@ -16,7 +16,7 @@ overflow_add-buckets c =
     omega arith
 
 pub loop-generation-preserved : goal.loop-generation-preserved
-loop-generation-preserved c =
+loop-generation-preserved g c =
     let g : slice_get c.args.generations.now c.loop-generation.generation-index ≡ Some c.generation-item.result = slice_get_read c.args.generations.now _ c.loop-generation.generation-index c.generation-item.result refl c.loop-generation-test.true c.generation-item.is in
     let m = weigh-take_more (λ (g : Gen). g.capacity) c.args.generations.now c.loop-generation.generation-index c.generation-item.result g in
     let i : c.loop-generation.buckets ≡ weigh (λ (g : Gen). g.capacity) (take c.loop-generation.generation-index c.args.generations.now) = c.loop-generation.invariant in

@@ -6,7 +6,7 @@ use Rattle.table_core.proofs.CodeCalls.{indexed_push}
 use Rattle.table_core.proofs.calls.Calls.begin.Goals as goal
 
 pub invariant_of-self-2 : goal.invariant_of-self-2
-invariant_of-self-2 c =
+invariant_of-self-2 g c =
     let it : c.reserve.new.self.items ≡ c.self.inside.all.items = c.in_ok-reserve.ensures.items in
     let n : c.len.result ≡ length c.self.inside.all.items = c.len.ensures ∙ c.in_ok-reserve.ensures.len ∙ c.self.inside.all.ok.0 in
     let u : is_used c.args.number c.self.inside.all.items ≡ false = subst (λ (cs : List Call). is_used c.args.number cs ≡ false) (sym c.self.view_is) c.requires.number in

@@ -5,4 +5,4 @@ use Rattle.table_core.proofs.CodeCalls.{any_counts}
 use Rattle.table_core.proofs.calls.Calls.is_owned.Goals as goal
 
 pub returns : goal.returns
-returns c = ap (nat_lt 0) c.self.invariant.owned ∙ sym (any_counts (λ (d : Call). holds_owned d.state.phase) c.self.inside.all.items) ∙ ap is_owned c.self.view_is
+returns g c = ap (nat_lt 0) c.self.invariant.owned ∙ sym (any_counts (λ (d : Call). holds_owned d.state.phase) c.self.inside.all.items) ∙ ap is_owned c.self.view_is

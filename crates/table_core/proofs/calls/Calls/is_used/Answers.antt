@@ -5,4 +5,4 @@ use Rattle.table_core.proofs.CodeCalls.{used_position}
 use Rattle.table_core.proofs.calls.Calls.is_used.Goals as goal
 
 pub returns : goal.returns
-returns c = c.contains_key.ensures ∙ ap is_some (c.self.invariant.numbered c.args.number) ∙ sym (used_position c.args.number c.self.inside.all.items) ∙ ap (is_used c.args.number) c.self.view_is
+returns g c = c.contains_key.ensures ∙ ap is_some (c.self.invariant.numbered c.args.number) ∙ sym (used_position c.args.number c.self.inside.all.items) ∙ ap (is_used c.args.number) c.self.view_is

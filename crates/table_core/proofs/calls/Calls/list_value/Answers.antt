@@ -4,7 +4,7 @@ use Rattle.table_core.proofs.CodeCalls.{call_within, indexed_list}
 use Rattle.table_core.proofs.calls.Calls.list_value.Goals as goal
 
 pub invariant_of-self-2 : goal.invariant_of-self-2
-invariant_of-self-2 c =
+invariant_of-self-2 g c =
     let lt : c.args.at < length c.self.inside.all.items = subst (λ (cs : List Call). c.args.at < length cs) (sym c.self.view_is) c.requires in
     let g = call_within c.self.inside.all.items c.args.at lt in
     rw (c.in_ok-list_value_at.ensures.ok g.0 g.1)

@@ -6,7 +6,7 @@ use Rattle.table_core.proofs.CodeCalls.{call_within, indexed_set, counted_among,
 use Rattle.table_core.proofs.calls.Calls.set_state.Goals as goal
 
 pub recount-self-inside-requires-clause-counted : goal.recount-self-inside-requires-clause-counted
-recount-self-inside-requires-clause-counted c =
+recount-self-inside-requires-clause-counted g c =
     let lt : c.args.at < length c.self.inside.all.items = subst (λ (cs : List Call). c.args.at < length cs) (sym c.self.view_is) c.requires in
     let g = call_within c.self.inside.all.items c.args.at lt in
     let b : slice_get c.as_slice.result.now c.args.at ≡ Some g.0 = rw c.as_slice.ensures.value g.1 in
@@ -14,11 +14,11 @@ recount-self-inside-requires-clause-counted c =
     (c.shares.ensures ∙ ap (λ (s : CallState). holds_shared s.phase) (c.state_at-before.ensures g.0 b))
 
 pub recount-self-inside-requires-clause-small : goal.recount-self-inside-requires-clause-small
-recount-self-inside-requires-clause-small c =
+recount-self-inside-requires-clause-small g c =
     omega (arith, c.self.invariant.shared, ones_within (λ (d : Call). holds_shared d.state.phase) c.self.inside.all.items, c.self.inside.all.small)
 
 pub recount-self-inside-requires-2-clause-counted : goal.recount-self-inside-requires-2-clause-counted
-recount-self-inside-requires-2-clause-counted c =
+recount-self-inside-requires-2-clause-counted g c =
     let lt : c.args.at < length c.self.inside.all.items = subst (λ (cs : List Call). c.args.at < length cs) (sym c.self.view_is) c.requires in
     let g = call_within c.self.inside.all.items c.args.at lt in
     let b : slice_get c.as_slice.result.now c.args.at ≡ Some g.0 = rw c.as_slice.ensures.value g.1 in
@@ -26,11 +26,11 @@ recount-self-inside-requires-2-clause-counted c =
     (c.owns.ensures ∙ ap (λ (s : CallState). holds_owned s.phase) (c.state_at-before.ensures g.0 b))
 
 pub recount-self-inside-requires-2-clause-small : goal.recount-self-inside-requires-2-clause-small
-recount-self-inside-requires-2-clause-small c =
+recount-self-inside-requires-2-clause-small g c =
     omega (arith, c.self.invariant.owned, ones_within (λ (d : Call). holds_owned d.state.phase) c.self.inside.all.items, c.self.inside.all.small)
 
 pub invariant_of-self : goal.invariant_of-self
-invariant_of-self c =
+invariant_of-self g c =
     let lt : c.args.at < length c.self.inside.all.items = subst (λ (cs : List Call). c.args.at < length cs) (sym c.self.view_is) c.requires in
     let g = call_within c.self.inside.all.items c.args.at lt in
     let b : slice_get c.as_slice.result.now c.args.at ≡ Some g.0 = rw c.as_slice.ensures.value g.1 in

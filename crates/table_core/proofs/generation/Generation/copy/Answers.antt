@@ -6,7 +6,7 @@ use Rattle.table_core.proofs.CodeEntries.{fill_counts}
 use Rattle.table_core.proofs.generation.Generation.copy.Goals as goal
 
 pub count-requires : goal.count-requires
-count-requires c =
+count-requires g c =
     let P : Gen → Type 0 = λ g. g.size ≤ length g.entries in
     let counted : c.args.self.now.size ≤ length c.args.self.now.entries = subst P c.self.view_is (omega (arith, length-map c.self.inside.slots.entries entry_of, c.self.invariant.1)) in
     let Q : Gen → Type 0 = λ g. g.size < length g.entries in

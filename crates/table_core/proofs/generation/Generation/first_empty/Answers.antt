@@ -5,7 +5,7 @@ use Rattle.table_core.proofs.Tracks.{place_after}
 use Rattle.table_core.proofs.generation.Generation.first_empty.Goals as goal
 
 pub loop-set-preserved : goal.loop-set-preserved
-loop-set-preserved c =
+loop-set-preserved g c =
     let h : bucket c.args.self.now.entries (at_place c.args.self.now.capacity c.args.hash c.loop-set._set) ≡ Some c.in-Some.field-0 =
     sym (c.in-Some.ensures ∙ ap (bucket c.args.self.now.entries) c.loop-set.invariant.here) in
     let n : suc (length c.args.self.now.entries - (c.loop-set._set + 1)) ≡ length c.args.self.now.entries - c.loop-set._set = omega arith in
@@ -18,7 +18,7 @@ loop-set-preserved c =
     }
 
 pub returns-in-None : goal.returns-in-None
-returns-in-None c =
+returns-in-None g c =
     let h : bucket c.args.self.now.entries (at_place c.args.self.now.capacity c.args.hash c.loop-set._set) ≡ None =
     sym (c.in-None.ensures ∙ ap (bucket c.args.self.now.entries) c.loop-set.invariant.here) in
     c.loop-set.invariant.here ∙ sym (empty_here c.args.self.now.capacity c.args.self.now.entries c.args.hash c.loop-set._set (length c.args.self.now.entries - c.loop-set._set) h)

@@ -8,7 +8,7 @@ use Rattle.table_core.proofs.CodeFits.{found_fits, found_changes, finds_same, go
 use Rattle.table_core.proofs.machine.Machine.go.Goals as goal
 
 pub tell-told-requires : goal.tell-told-requires
-tell-told-requires c =
+tell-told-requires g c =
     let same : c.get.result.now ≡ c.get-call.result.now = (let z : Some c.get.result.now ≡ Some c.get-call.result.now = sym c.get.ensures ∙ c.get-call.ensures in cc) in
     let s : c.state-state.result ≡ c.get-call.result.now.state = c.state-state.ensures ∙ ap (λ (x : Call). x.state) same in
     let w : World = record { table = c.self.inside.table; calls = c.self.inside.calls } in
@@ -19,7 +19,7 @@ tell-told-requires c =
     }
 
 pub change-requires : goal.change-requires
-change-requires c =
+change-requires g c =
     let same : c.get.result.now ≡ c.get-call.result.now = (let z : Some c.get.result.now ≡ Some c.get-call.result.now = sym c.get.ensures ∙ c.get-call.ensures in cc) in
     let s : c.state-state.result ≡ c.get-call.result.now.state = c.state-state.ensures ∙ ap (λ (x : Call). x.state) same in
     let w : World = record { table = c.self.inside.table; calls = c.self.inside.calls } in
@@ -27,7 +27,7 @@ change-requires c =
     found_changes w c.args.at c.get-call.result.now c.args.event c.in-Some.answer (subst IsReached (sym c.self.view_is) c.requires.reached) c.get-call.ensures f
 
 pub walk-requires-clause-walking : goal.walk-requires-clause-walking
-walk-requires-clause-walking c = λ d h.
+walk-requires-clause-walking g c = λ d h.
     let same : c.get.result.now ≡ d = (let z : Some c.get.result.now ≡ Some d = sym c.get.ensures ∙ h in cc) in
     let s : c.state-state.result ≡ d.state = c.state-state.ensures ∙ ap (λ (x : Call). x.state) same in
     let w : World = record { table = c.self.inside.table; calls = c.self.inside.calls } in
@@ -37,7 +37,7 @@ walk-requires-clause-walking c = λ d h.
     )
 
 pub returns-in-WalkAt : goal.returns-in-WalkAt
-returns-in-WalkAt c =
+returns-in-WalkAt g c =
     let w : World = record { table = c.self.inside.table; calls = c.self.inside.calls } in
     record {
       ok = λ d h.
@@ -57,7 +57,7 @@ returns-in-WalkAt c =
     }
 
 pub returns : goal.returns
-returns c =
+returns g c =
     let w : World = record { table = c.self.inside.table; calls = c.self.inside.calls } in
     record {
       ok = λ d h.

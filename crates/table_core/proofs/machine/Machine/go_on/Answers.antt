@@ -8,28 +8,28 @@ use Rattle.table_core.proofs.CodeEvents.{at_position, nothing_there, happens_at,
 use Rattle.table_core.proofs.machine.Machine.go_on.Goals as goal
 
 pub go-requires-clause-within : goal.go-requires-clause-within
-go-requires-clause-within c =
+go-requires-clause-within g c =
     let p : position_of (number_of c.args.event) c.args.self.now.calls ≡ Some c.in-Some.at = ap (position_of (number_of c.args.event)) (ap (λ (w : World). w.calls) (sym c.self.view_is)) ∙ ap (λ n. position_of n c.self.inside.calls) (sym c.call-call.ensures.number) ∙ sym c.in-Some.ensures in
     slice_get_within c.args.self.now.calls c.in-Some.at _ (at_position _ _ _ p).there
 
 pub returns-in_default-clause-ok : goal.returns-in_default-clause-ok
-returns-in_default-clause-ok c =
+returns-in_default-clause-ok g c =
     let p : position_of (number_of c.args.event) c.args.self.now.calls ≡ None = ap (position_of (number_of c.args.event)) (ap (λ (w : World). w.calls) (sym c.self.view_is)) ∙ ap (λ n. position_of n c.self.inside.calls) (sym c.call-call.ensures.number) ∙ sym c.position.ensures ∙ nothing_there c.position.result c.in_default.not-Some in
     happens_none c.args.self.now c.args.event c.call-call.ensures.in_range c.requires.going p
 
 pub returns-in_default-clause-told : goal.returns-in_default-clause-told
-returns-in_default-clause-told c =
+returns-in_default-clause-told g c =
     let p : position_of (number_of c.args.event) c.args.self.now.calls ≡ None = ap (position_of (number_of c.args.event)) (ap (λ (w : World). w.calls) (sym c.self.view_is)) ∙ ap (λ n. position_of n c.self.inside.calls) (sym c.call-call.ensures.number) ∙ sym c.position.ensures ∙ nothing_there c.position.result c.in_default.not-Some in
     reply_none c.args.self.now c.args.event c.call-call.ensures.in_range c.requires.going p
 
 pub returns-in-Some-2-clause-ok : goal.returns-in-Some-2-clause-ok
-returns-in-Some-2-clause-ok c =
+returns-in-Some-2-clause-ok g c =
     let p : position_of (number_of c.args.event) c.args.self.now.calls ≡ Some c.in-Some.at = ap (position_of (number_of c.args.event)) (ap (λ (w : World). w.calls) (sym c.self.view_is)) ∙ ap (λ n. position_of n c.self.inside.calls) (sym c.call-call.ensures.number) ∙ sym c.in-Some.ensures in
     let a = at_position (number_of c.args.event) c.args.self.now.calls c.in-Some.at p in
     c.in_ok-reply.ensures.ok a.call a.there ∙ happens_at c.args.self.now c.args.event c.in-Some.at a c.call-call.ensures.in_range c.requires.going
 
 pub returns-in-Some-2-clause-told : goal.returns-in-Some-2-clause-told
-returns-in-Some-2-clause-told c =
+returns-in-Some-2-clause-told g c =
     let p : position_of (number_of c.args.event) c.args.self.now.calls ≡ Some c.in-Some.at = ap (position_of (number_of c.args.event)) (ap (λ (w : World). w.calls) (sym c.self.view_is)) ∙ ap (λ n. position_of n c.self.inside.calls) (sym c.call-call.ensures.number) ∙ sym c.in-Some.ensures in
     let a = at_position (number_of c.args.event) c.args.self.now.calls c.in-Some.at p in
     ap (λ n. reply_to n (Some (told_of c.in-Some-2.reply))) c.call-call.ensures.number
@@ -37,13 +37,13 @@ returns-in-Some-2-clause-told c =
     ∙ reply_at c.args.self.now c.args.event c.in-Some.at a c.call-call.ensures.in_range c.requires.going
 
 pub returns-in-None-clause-ok : goal.returns-in-None-clause-ok
-returns-in-None-clause-ok c =
+returns-in-None-clause-ok g c =
     let p : position_of (number_of c.args.event) c.args.self.now.calls ≡ Some c.in-Some.at = ap (position_of (number_of c.args.event)) (ap (λ (w : World). w.calls) (sym c.self.view_is)) ∙ ap (λ n. position_of n c.self.inside.calls) (sym c.call-call.ensures.number) ∙ sym c.in-Some.ensures in
     let a = at_position (number_of c.args.event) c.args.self.now.calls c.in-Some.at p in
     c.in_ok-reply.ensures.ok a.call a.there ∙ happens_at c.args.self.now c.args.event c.in-Some.at a c.call-call.ensures.in_range c.requires.going
 
 pub returns-in-None-clause-told : goal.returns-in-None-clause-told
-returns-in-None-clause-told c =
+returns-in-None-clause-told g c =
     let p : position_of (number_of c.args.event) c.args.self.now.calls ≡ Some c.in-Some.at = ap (position_of (number_of c.args.event)) (ap (λ (w : World). w.calls) (sym c.self.view_is)) ∙ ap (λ n. position_of n c.self.inside.calls) (sym c.call-call.ensures.number) ∙ sym c.in-Some.ensures in
     let a = at_position (number_of c.args.event) c.args.self.now.calls c.in-Some.at p in
     ap (reply_to (number_of c.args.event)) (ap (option_map told_of) (sym c.in-None.is) ∙ c.in_ok-reply.ensures.told a.call a.there)

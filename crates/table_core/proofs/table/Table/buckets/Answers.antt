@@ -6,10 +6,10 @@ use Rattle.table_core.proofs.CodeTable.{table_fits}
 use Rattle.table_core.proofs.table.Table.buckets.Goals as goal
 
 pub capacity_of-buckets-requires : goal.capacity_of-buckets-requires
-capacity_of-buckets-requires c = rw c.as_slice.ensures.value (let h = table_fits c.self.inside.first c.self.inside.generations.items c.self.inside.growing c.self.inside.source.items c.self.invariant in omega arith)
+capacity_of-buckets-requires g c = rw c.as_slice.ensures.value (let h = table_fits c.self.inside.first c.self.inside.generations.items c.self.inside.growing c.self.inside.source.items c.self.invariant in omega arith)
 
 pub overflow_add-result : goal.overflow_add-result
-overflow_add-result c =
+overflow_add-result g c =
     let h = table_fits c.self.inside.first c.self.inside.generations.items c.self.inside.growing c.self.inside.source.items c.self.invariant in
     let e : weigh (λ (g : Gen). g.capacity) (option_to_list c.self.inside.growing) ≡ c.in-Some.growing.capacity + 0 = ap (λ o. weigh (λ (g : Gen). g.capacity) (option_to_list o)) c.in-Some.is in
     let q : c.capacity_of-buckets.result ≡ weigh (λ (g : Gen). g.capacity) c.self.inside.generations.items = c.capacity_of-buckets.ensures ∙ ap (weigh (λ (g : Gen). g.capacity)) c.as_slice.ensures.value in
