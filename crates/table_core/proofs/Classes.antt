@@ -8,7 +8,7 @@ use Rattle.table_core.specs.Generations.{Gen, Table, IsFirst, last_of, gen_of, b
 use Rattle.table_core.specs.Calls.{Call, starts, is_pending}
 use Rattle.table_core.specs.Machine.{World, empty, walked_gen, refused, told_of_outcome, told, Act, Begins, acts, reply_to, reply, after}
 use Rattle.table_core.specs.History.{replies, placed_by, placed, given, handed_back, back, kept, runs, running}
-use Rattle.table_core.specs.Steps.{Row, reads_empty, no_room, leaves_refused, small, ends, ends_failed, gives_up, Opens, opens_insert, opens_lookup, opens_len, opens_walk, left}
+use Rattle.table_core.specs.Steps.{Row, reads_empty, memory_refused, leaves_refused, small, ends, ends_failed, gives_up, Opens, opens_insert, opens_lookup, opens_len, opens_walk, left}
 use Rattle.table_core.specs.declared.event.Event.{Event}
 use Rattle.table_core.specs.declared.event.Event.TheVariants.{Insert}
 use Rattle.table_core.specs.declared.event.Entry.{Entry}
@@ -140,7 +140,7 @@ sheltered_row l w m rs i c v (reads_empty _ _ n) e g h k o le z =
     let none : passing (accepts_value l c) m ≡ 0 = fresh_value l w m rs i c g n (ap probing e) (ap stands e) (ap is_asking e) k o in
     let same : passing (l.equal v) m ≡ 0 = rw h at none in
     absurd (omega arith)
-sheltered_row l w m rs i c v (no_room _ _) e g h k o le z = absurd (cc)
+sheltered_row l w m rs i c v (memory_refused _ _) e g h k o le z = absurd (cc)
 sheltered_row l w m rs i c v _ e g h k o le z = refl
 
 sheltered_turn : (l : Law) (n u : ℕ) {w v : World} {x : Event} {a : Option Act} {r : Option Reply} (m : List ℕ) (rs : List Reply) → Turn w x a v r → Inv w m rs → LawOk l w → 1 ≤ passing (l.equal u) m → Sheltered n u w → Sheltered n u v

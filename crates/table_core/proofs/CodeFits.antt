@@ -8,7 +8,7 @@ use Rattle.table_core.specs.Generations.{Gen, Table, IsFirst, current, at_place}
 use Rattle.table_core.specs.Calls.{Call, fits, stands_at_bucket, holds_shared, decided, decide}
 use Rattle.table_core.specs.Machine.{World, empty, finds, finds_in, walked_gen, happens, list_in, changed, call_after, told}
 use Rattle.table_core.specs.History.{replies, placed}
-use Rattle.table_core.specs.Steps.{Row, loads, reads_empty, meets, turns, goes_on, no_room, puts, loses_meets, loses_turns, loses_goes_on, adds, large, small, len_size, begins_first, begins_next, copies, looks, look_empty, look_meets, look_turns, look_goes_on, len_loads, walk_loads, walk_skips_last, walk_takes_last, walk_skips, walk_takes}
+use Rattle.table_core.specs.Steps.{Row, loads, reads_empty, meets, turns, goes_on, memory_refused, puts, loses_meets, loses_turns, loses_goes_on, adds, large, small, len_size, begins_first, begins_next, copies, looks, look_empty, look_meets, look_turns, look_goes_on, len_loads, walk_loads, walk_skips_last, walk_takes_last, walk_skips, walk_takes}
 use Rattle.table_core.specs.Reached.{IsReached, CanChange, moved, told_to}
 use Rattle.table_core.specs.declared.event.Event.{Event}
 use Rattle.table_core.specs.declared.event.Event.TheVariants.{Read}
@@ -53,7 +53,7 @@ fits_row w c (reads_empty _ _ _) e s k = probe_fits w c Probe e refl k
 fits_row w c (meets _ _ _ _ _) e s k = probe_fits w c Probe e refl k
 fits_row w c (turns _ _ _ _ _ _) e s k = probe_fits w c Probe e refl k
 fits_row w c (goes_on _ _ _ _ _ _) e s k = probe_fits w c Probe e refl k
-fits_row w c (no_room _ _) e s k = probe_fits w c AtEmpty e refl k
+fits_row w c (memory_refused _ _) e s k = probe_fits w c AtEmpty e refl k
 fits_row w c (puts _ _ _) e s k = probe_fits w c AtEmpty e refl k
 fits_row w c (loses_meets _ _ _ _ _) e s k = probe_fits w c AtEmpty e refl k
 fits_row w c (loses_turns _ _ _ _ _ _) e s k = probe_fits w c AtEmpty e refl k

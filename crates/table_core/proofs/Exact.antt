@@ -12,7 +12,7 @@ use Rattle.table_core.specs.declared.call.Phase.{Phase}
 use Rattle.table_core.specs.declared.call.Answer.{Answer}
 use Rattle.table_core.specs.declared.call.Answer.TheVariants.{Begun, Failed}
 use Rattle.table_core.specs.Machine.{goes as goes_with}
-use Rattle.table_core.specs.Steps.{IsTheStep, OnlyStep, moves_lock, HoldsAsBefore, LockStays, Row, shares, loads_none, loads, reads_empty, meets, turns, goes_on, no_room, puts, loses_meets, loses_turns, loses_goes_on, adds, leaves_ok, leaves_grow, leaves_refused, large, small, owns, begins_first, fails_first, unwanted, fails_largest, fails_refused, begins_next, copies, shows, ends, starts_over, ends_failed, gives_up, tries_again, looks_none, looks, look_empty, look_meets, look_turns, look_goes_on, len_none, len_loads, len_size, walk_none, walk_loads, walk_skips_last, walk_takes_last, walk_skips, walk_takes, Opens, opens_insert, opens_lookup, opens_len, opens_walk, IsNewValue, left, Takes, Step, moves, stays, begins, goes}
+use Rattle.table_core.specs.Steps.{IsTheStep, OnlyStep, moves_lock, HoldsAsBefore, LockStays, Row, shares, loads_none, loads, reads_empty, meets, turns, goes_on, memory_refused, puts, loses_meets, loses_turns, loses_goes_on, adds, leaves_ok, leaves_grow, leaves_refused, large, small, owns, begins_first, fails_first, unwanted, fails_largest, fails_refused, begins_next, copies, shows, ends, starts_over, ends_failed, gives_up, tries_again, looks_none, looks, look_empty, look_meets, look_turns, look_goes_on, len_none, len_loads, len_size, walk_none, walk_loads, walk_skips_last, walk_takes_last, walk_skips, walk_takes, Opens, opens_insert, opens_lookup, opens_len, opens_walk, IsNewValue, left, Takes, Step, moves, stays, begins, goes}
 use Rattle.table_core.proofs.Rows.{StepsBy, steps, pending_told}
 
 never_begins : (m : Bool) → (if m && not ((2 ^ 63) == (2 ^ 63)) then Begun else Failed) ≡ Failed
@@ -36,7 +36,7 @@ taken {w = w} {c = c} (reads_empty n y h) = record { finds = rw h refl; decides 
 taken {w = w} {c = c} (meets n y e h f) = record { finds = rw h refl; decides = rw f refl; keeps = refl; changes = refl; tells = refl }
 taken {w = w} {c = c} (turns n y e h f g) = record { finds = rw h refl; decides = rw (f, g) refl; keeps = refl; changes = refl; tells = refl }
 taken {w = w} {c = c} (goes_on n y e h f g) = record { finds = rw h refl; decides = rw (f, g) refl; keeps = refl; changes = refl; tells = refl }
-taken {w = w} {c = c} (no_room n y) = record { finds = refl; decides = refl; keeps = refl; changes = refl; tells = refl }
+taken {w = w} {c = c} (memory_refused n y) = record { finds = refl; decides = refl; keeps = refl; changes = refl; tells = refl }
 taken {w = w} {c = c} (puts n y h) = record { finds = rw h refl; decides = refl; keeps = refl; changes = refl; tells = refl }
 taken {w = w} {c = c} (loses_meets n y e h f) = record { finds = rw h refl; decides = rw f refl; keeps = refl; changes = refl; tells = refl }
 taken {w = w} {c = c} (loses_turns n y e h f g) = record { finds = rw h refl; decides = rw (f, g) refl; keeps = refl; changes = refl; tells = refl }

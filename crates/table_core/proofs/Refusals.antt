@@ -8,7 +8,7 @@ use Rattle.table_core.specs.Generations.{Gen, Table, current, bucket_in}
 use Rattle.table_core.specs.Calls.{Call, starts, to}
 use Rattle.table_core.specs.Machine.{World, empty, walked_gen, refused, found_entry, told_of_outcome, Act, Goes, acts, after}
 use Rattle.table_core.specs.History.{replies, placed, picks, TakenEvent, answers_so, has_later}
-use Rattle.table_core.specs.Steps.{Row, shares, no_room, leaves_refused, small, fails_first, fails_largest, fails_refused, ends, ends_failed, gives_up, Opens, opens_insert, left}
+use Rattle.table_core.specs.Steps.{Row, shares, memory_refused, leaves_refused, small, fails_first, fails_largest, fails_refused, ends, ends_failed, gives_up, Opens, opens_insert, left}
 use Rattle.table_core.specs.declared.event.Event.{Event}
 use Rattle.table_core.specs.declared.event.Event.TheVariants.{Put}
 use Rattle.table_core.specs.declared.event.Entry.{Entry}
@@ -17,9 +17,9 @@ use Rattle.table_core.specs.declared.call.Phase.{Phase}
 use Rattle.table_core.specs.declared.call.Phase.TheVariants.{LeaveRefused, LeaveFailed, Done}
 use Rattle.table_core.specs.declared.call.Outcome.{Outcome}
 use Rattle.table_core.specs.declared.call.Outcome.TheVariants.{Pending, New, Existing}
-use Rattle.table_core.specs.declared.call.Answer.TheVariants.{NoRoom}
+use Rattle.table_core.specs.declared.call.Answer.TheVariants.{MemoryRefused}
 use Rattle.table_core.specs.declared.call.Answer.{Answer}
-use Rattle.table_core.specs.declared.call.Answer.TheVariants.{NoRoom}
+use Rattle.table_core.specs.declared.call.Answer.TheVariants.{MemoryRefused}
 use Rattle.table_core.proofs.Lists.{get-set, get-set_same, get-set_other, get-push, get-push_before}
 use Rattle.table_core.proofs.Locks.{more}
 use Rattle.std.proofs.lemmas.Bool.{cases_lt}
@@ -56,12 +56,12 @@ caused_later f s x c h k = record {
 
 -- the cause of a refusal
 
-cause_put : (g : Option Gen) (n : ℕ) (y : Bool) → IsCause g (Put n y false) NoRoom
+cause_put : (g : Option Gen) (n : ℕ) (y : Bool) → IsCause g (Put n y false) MemoryRefused
 cause_put None n y = refl
 cause_put (Some g) n y = refl
 
 row_cause : (w : World) (c : Call) {p : Phase} {x : Event} {a : Answer} {r : CallState} {ls : List ℕ} {t : Table} {q : Option Told} → Row w c p x a r ls t q → refusable r.phase r.outcome ≡ true → IsCause (current w.table) x a
-row_cause w c (no_room n y) h = cause_put (current w.table) n y
+row_cause w c (memory_refused n y) h = cause_put (current w.table) n y
 row_cause w c (fails_first n e) h = rw e refl
 row_cause w c (fails_largest n m g e lt top) h = rw e (inr top)
 row_cause w c (fails_refused n g e lt) h = rw e (inl refl)

@@ -8,7 +8,7 @@ use Rattle.table_core.specs.Generations.{Gen, Table, IsFirst, bucket, at_place, 
 use Rattle.table_core.specs.Calls.{Call, starts}
 use Rattle.table_core.specs.Machine.{World, empty, walked_gen, bucket_at, refused, found_entry, told_of_outcome, Act, Goes, acts, reply_to, run, after}
 use Rattle.table_core.specs.History.{replies, placed_by, placed, TakenEvent, answers_so}
-use Rattle.table_core.specs.Steps.{Row, loads_none, loads, reads_empty, meets, no_room, puts, loses_meets, adds, leaves_refused, small, fails_first, fails_largest, fails_refused, ends, ends_failed, gives_up, looks_none, looks, look_empty, look_meets, look_turns, look_goes_on, len_none, len_loads, len_size, walk_none, walk_loads, walk_skips_last, walk_takes_last, Opens, opens_insert, opens_lookup, opens_len, opens_walk, left}
+use Rattle.table_core.specs.Steps.{Row, loads_none, loads, reads_empty, meets, memory_refused, puts, loses_meets, adds, leaves_refused, small, fails_first, fails_largest, fails_refused, ends, ends_failed, gives_up, looks_none, looks, look_empty, look_meets, look_turns, look_goes_on, len_none, len_loads, len_size, walk_none, walk_loads, walk_skips_last, walk_takes_last, Opens, opens_insert, opens_lookup, opens_len, opens_walk, left}
 use Rattle.table_core.specs.declared.event.Event.{Event}
 use Rattle.table_core.specs.declared.event.Event.TheVariants.{Free, Load, Read, Put, Add, Size, Check}
 use Rattle.table_core.specs.declared.event.Entry.{Entry}
@@ -18,7 +18,7 @@ use Rattle.table_core.specs.declared.call.Phase.TheVariants.{Shared, Probe, AtEm
 use Rattle.table_core.specs.declared.call.Outcome.{Outcome}
 use Rattle.table_core.specs.declared.call.Outcome.TheVariants.{Pending, New, Existing}
 use Rattle.table_core.specs.declared.call.Answer.{Answer}
-use Rattle.table_core.specs.declared.call.Answer.TheVariants.{NoGeneration, Loaded, Empty, Holds, Won, NoRoom, Failed}
+use Rattle.table_core.specs.declared.call.Answer.TheVariants.{NoGeneration, Loaded, Empty, Holds, Won, MemoryRefused, Failed}
 use Rattle.table_core.proofs.Lists.{weigh-get, get-set, get-push, tally}
 use Rattle.table_core.proofs.Locks.{Locked, owners, builders, is_owning, is_building}
 use Rattle.std.specs.Prelude.{Contains}
@@ -300,7 +300,7 @@ refused_row l f s i c (reads_empty n y b) h e iv o k v w z = refused_now l f s (
 refused_row l f s i c (fails_first n b) h e iv o k v w z = refused_now l f s (Check n false) c Failed v h.0 w (moment_failed v c.state.phase e) refl (none_at_first l (after f s) (placed (empty f) s) c b iv.holding)
 refused_row l f s i c (fails_largest n m g b y u) h e iv o k v w z = refused_failed l f s (Check n m) i c g b h e iv o v w z
 refused_row l f s i c (fails_refused n g b y) h e iv o k v w z = refused_failed l f s (Check n false) i c g b h e iv o v w z
-refused_row l f s i c (no_room n y) h e iv o k v w z = right_later l f s (Put n y false) (say c.number (ToldRefused v)) (λ q. ap (λ z. answers_so may_be_refused z c.number) h.0 ∙ not_try c AtEmpty NoRoom c.number e refl) (k.refused v w (rw e refl))
+refused_row l f s i c (memory_refused n y) h e iv o k v w z = right_later l f s (Put n y false) (say c.number (ToldRefused v)) (λ q. ap (λ z. answers_so may_be_refused z c.number) h.0 ∙ not_try c AtEmpty MemoryRefused c.number e refl) (k.refused v w (rw e refl))
 refused_row l f s i c _ h e iv o k v w z = absurd (cc)
 
 -- Look-ups

@@ -7,7 +7,7 @@ use Rattle.table_core.specs.Calls.{Call, starts, is_used, is_used_value, call_nu
 use Rattle.table_core.specs.Machine.{World, takes_unless, loaded, walked_gen, bucket_at, read, exchanged, sized, checked, finds_in, finds, changed, refused, told_of_outcome, by_outcome, look_told, told_in, list_in, number_of, in_range, Act, begins_unless, goes_by, act_of, acts, after_act, reply_by}
 use Rattle.table_core.specs.Calls.{meets as meets_at, looks as looks_at}
 use Rattle.table_core.specs.Machine.{copies as copies_left, shows as shows_left, goes as goes_with}
-use Rattle.table_core.specs.Steps.{accepts, next_bucket, turned, Row, shares, loads_none, loads, reads_empty, meets, turns, goes_on, no_room, puts, loses_meets, loses_turns, loses_goes_on, adds, leaves_ok, leaves_grow, leaves_refused, large, small, owns, begins_first, fails_first, unwanted, fails_largest, fails_refused, begins_next, copies, shows, ends, starts_over, ends_failed, gives_up, tries_again, looks_none, looks, look_empty, look_meets, look_turns, look_goes_on, len_none, len_loads, len_size, walk_none, walk_loads, walk_skips_last, walk_takes_last, walk_skips, walk_takes, Opens, opens_insert, opens_lookup, opens_len, opens_walk, IsNewValue, Takes, begins, goes}
+use Rattle.table_core.specs.Steps.{accepts, next_bucket, turned, Row, shares, loads_none, loads, reads_empty, meets, turns, goes_on, memory_refused, puts, loses_meets, loses_turns, loses_goes_on, adds, leaves_ok, leaves_grow, leaves_refused, large, small, owns, begins_first, fails_first, unwanted, fails_largest, fails_refused, begins_next, copies, shows, ends, starts_over, ends_failed, gives_up, tries_again, looks_none, looks, look_empty, look_meets, look_turns, look_goes_on, len_none, len_loads, len_size, walk_none, walk_loads, walk_skips_last, walk_takes_last, walk_skips, walk_takes, Opens, opens_insert, opens_lookup, opens_len, opens_walk, IsNewValue, Takes, begins, goes}
 use Rattle.table_core.specs.declared.event.Event.{Event}
 use Rattle.table_core.specs.declared.event.Event.TheVariants.{Insert, Lookup, Len, Walk, Share, Own, Free, Load, Read, Put, Add, Size, Check, Copy, Show}
 use Rattle.table_core.specs.declared.event.Entry.{Entry}
@@ -17,7 +17,7 @@ use Rattle.table_core.specs.declared.call.Phase.TheVariants.{WantShared, Shared,
 use Rattle.table_core.specs.declared.call.Outcome.{Outcome}
 use Rattle.table_core.specs.declared.call.Outcome.TheVariants.{Pending, New, Existing}
 use Rattle.table_core.specs.declared.call.Answer.{Answer}
-use Rattle.table_core.specs.declared.call.Answer.TheVariants.{Taken, Released, Empty, Holds, NoRoom, Sized, Begun, Unwanted, Failed}
+use Rattle.table_core.specs.declared.call.Answer.TheVariants.{Taken, Released, Empty, Holds, MemoryRefused, Sized, Begun, Unwanted, Failed}
 use Rattle.table_core.proofs.Truth.{or-false}
 
 -- what a phase makes of an event and its answer is a row
@@ -75,9 +75,9 @@ pub row_exchange : (w : World) (c : Call) (n : ℕ) (y : Bool) (o : Option Entry
 row_exchange w c n y None h = puts n y h
 row_exchange w c n y (Some e) h = lost_meet_row w c n y e h (accepts e c.state y) refl
 
-pub row_put : (w : World) (c : Call) (n : ℕ) (y m : Bool) → Rows w c AtEmpty (Put n y m) (if m then exchanged (bucket_at w.table c.state) c.state.hash y else NoRoom)
+pub row_put : (w : World) (c : Call) (n : ℕ) (y m : Bool) → Rows w c AtEmpty (Put n y m) (if m then exchanged (bucket_at w.table c.state) c.state.hash y else MemoryRefused)
 row_put w c n y true = row_exchange w c n y (bucket_at w.table c.state) refl
-row_put w c n y false = no_room n y
+row_put w c n y false = memory_refused n y
 
 pub look_pass_row : (w : World) (c : Call) (n : ℕ) (y : Bool) (e : Entry) → bucket_at w.table c.state ≡ Some e → accepts e c.state y ≡ false → (b : Bool) → nat_lt (c.state.seen + 1) c.state.capacity ≡ b → Row w c LookProbe (Read n y) (Holds (e.bits == bits_of c.state.hash) y) (if b then next_bucket LookProbe c.state else turned Done c.state) c.list w.table (if b then None else Some ToldNone)
 look_pass_row w c n y e h f true g = look_goes_on n y e h f g

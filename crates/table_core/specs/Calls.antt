@@ -6,7 +6,7 @@ use Rattle.table_core.specs.declared.call.Phase.TheVariants.{WantShared, Shared,
 use Rattle.table_core.specs.declared.call.Outcome.{Outcome}
 use Rattle.table_core.specs.declared.call.Outcome.TheVariants.{Pending, New, Existing}
 use Rattle.table_core.specs.declared.call.Answer.{Answer}
-use Rattle.table_core.specs.declared.call.Answer.TheVariants.{Taken, Released, NoGeneration, Loaded, Empty, Holds, Won, NoRoom, Counted, Sized, Begun, Unwanted, Failed, Copied, Shown}
+use Rattle.table_core.specs.declared.call.Answer.TheVariants.{Taken, Released, NoGeneration, Loaded, Empty, Holds, Won, MemoryRefused, Counted, Sized, Begun, Unwanted, Failed, Copied, Shown}
 use Rattle.table_core.specs.declared.call.CallState.{CallState}
 
 -- a call: its number, the value of an insert, the list so far of a walk, and its state
@@ -126,7 +126,7 @@ decided Shared s NoGeneration = record s { phase = LeaveGrow; walked = None }
 decided Shared s (Loaded g n) = probes Probe s g n
 decided Probe s Empty = to AtEmpty s
 decided Probe s (Holds same accepted) = meets s (same && accepted)
-decided AtEmpty s NoRoom = to LeaveRefused s
+decided AtEmpty s MemoryRefused = to LeaveRefused s
 decided AtEmpty s Won = to Placed s
 decided AtEmpty s (Holds same accepted) = meets s (same && accepted)
 decided Placed s Counted = record s { phase = LeaveOk; outcome = New s.index }
@@ -168,7 +168,7 @@ fits Shared s NoGeneration = true
 fits Shared s (Loaded g n) = nat_lt 0 n
 fits Probe s Empty = stands_at_bucket s
 fits Probe s (Holds _ _) = stands_at_bucket s
-fits AtEmpty s NoRoom = stands_at_bucket s
+fits AtEmpty s MemoryRefused = stands_at_bucket s
 fits AtEmpty s Won = stands_at_bucket s
 fits AtEmpty s (Holds _ _) = stands_at_bucket s
 fits Placed s Counted = stands_at_bucket s

@@ -12,7 +12,7 @@ use Rattle.table_core.specs.declared.call.Phase.TheVariants.{WantShared, Shared,
 use Rattle.table_core.specs.declared.call.Outcome.{Outcome}
 use Rattle.table_core.specs.declared.call.Outcome.TheVariants.{New, Existing}
 use Rattle.table_core.specs.declared.call.Answer.{Answer}
-use Rattle.table_core.specs.declared.call.Answer.TheVariants.{Taken, Released, NoGeneration, Loaded, Empty, Holds, Won, NoRoom, Counted, Sized, Begun, Unwanted, Failed, Copied, Shown}
+use Rattle.table_core.specs.declared.call.Answer.TheVariants.{Taken, Released, NoGeneration, Loaded, Empty, Holds, Won, MemoryRefused, Counted, Sized, Begun, Unwanted, Failed, Copied, Shown}
 
 -- a table and its calls
 pub record World : Type 0 where
@@ -88,7 +88,7 @@ finds_in WantShared w s (Share _) = takes_unless (is_owned w.calls)
 finds_in Shared w s (Load _) = Some (loads w.table)
 finds_in Probe w s (Read _ accepted) = Some (read (bucket_at w.table s) s.hash accepted)
 finds_in AtEmpty w s (Put _ accepted granted) =
-    Some (if granted then exchanged (bucket_at w.table s) s.hash accepted else NoRoom)
+    Some (if granted then exchanged (bucket_at w.table s) s.hash accepted else MemoryRefused)
 finds_in Placed w s (Add _) = Some Counted
 finds_in LeaveOk w s (Free _) = frees w s
 finds_in LeaveGrow w s (Free _) = frees w s

@@ -3,7 +3,7 @@ use Rattle.std.specs.Prelude.{ℕ, ◌+◌, ◌-◌, ◌/◌, ◌%◌, ◌^◌, 
 use Rattle.table_core.specs.Replies.{Told, ToldSome, ToldNone, ToldLen, ToldWalk, Reply}
 use Rattle.table_core.specs.Generations.{Gen, Table, bits_of, current, is_current, next_copied, copy_on}
 use Rattle.table_core.specs.Calls.{Call, starts, is_used, is_used_value, call_numbered, replaced, is_owned, is_locked, holds_shared, holds_owned, to, probes, finds_entry, is_pending}
-use Rattle.table_core.specs.Machine.{World, Act, Begins, Goes, walked_gen, bucket_at, place, add_one, begin_growth, show_built, refused, by_outcome, number_of, in_range, reply_to, acts, happens, reply}
+use Rattle.table_core.specs.Machine.{World, Act, Begins, Goes, holds, walked_gen, bucket_at, place, add_one, begin_growth, show_built, refused, by_outcome, number_of, in_range, reply_to, acts, happens, reply}
 use Rattle.table_core.specs.declared.event.Event.{Event}
 use Rattle.table_core.specs.declared.event.Event.TheVariants.{Insert, Lookup, Len, Walk, Share, Own, Free, Load, Read, Put, Add, Size, Check, Copy, Show}
 use Rattle.table_core.specs.declared.event.Entry.{Entry}
@@ -12,7 +12,7 @@ use Rattle.table_core.specs.declared.call.Phase.{Phase}
 use Rattle.table_core.specs.declared.call.Phase.TheVariants.{WantShared, Shared, Probe, AtEmpty, Placed, LeaveOk, LeaveGrow, LeaveRefused, AskSize, WantOwned, Owned, Building, LeaveOwned, LeaveFailed, LookLoad, LookProbe, LenLoad, LenSize, WalkLoad, WalkAt, Done}
 use Rattle.table_core.specs.declared.call.Outcome.TheVariants.{New}
 use Rattle.table_core.specs.declared.call.Answer.{Answer}
-use Rattle.table_core.specs.declared.call.Answer.TheVariants.{Taken, Released, NoGeneration, Loaded, Empty, Holds, Won, NoRoom, Counted, Sized, Begun, Unwanted, Failed, Copied, Shown}
+use Rattle.table_core.specs.declared.call.Answer.TheVariants.{Taken, Released, NoGeneration, Loaded, Empty, Holds, Won, MemoryRefused, Counted, Sized, Begun, Unwanted, Failed, Copied, Shown}
 
 -- whether the call accepts this entry: its bits agree, and the closure says yes
 abbrev pub accepts : Entry → CallState → Bool → Bool
@@ -32,68 +32,103 @@ pub data Row (w : World) (c : Call) : Phase → Event → Answer → CallState �
   -- WantShared: share
   shares : (n : ℕ) → is_owned w.calls ≡ false → Row w c WantShared (Share n) Taken (to Shared c.state) c.list w.table None
   -- Shared: load
-  loads_none : (n : ℕ) → current w.table ≡ None → Row w c Shared (Load n) NoGeneration (record c.state { phase = LeaveGrow; walked = None }) c.list w.table None
-  loads : (n : ℕ) (g : Gen) → current w.table ≡ Some g → Row w c Shared (Load n) (Loaded (length w.table.gens - 1) g.capacity) (probes Probe c.state (length w.table.gens - 1) g.capacity) c.list w.table None
+  loads_none : (n : ℕ) → current w.table ≡ None →
+      Row w c Shared (Load n) NoGeneration (record c.state { phase = LeaveGrow; walked = None }) c.list w.table None
+  loads : (n : ℕ) (g : Gen) → current w.table ≡ Some g →
+      Row w c Shared (Load n) (Loaded (length w.table.gens - 1) g.capacity) (probes Probe c.state (length w.table.gens - 1) g.capacity) c.list w.table None
   -- Probe: read
   reads_empty : (n : ℕ) (y : Bool) → bucket_at w.table c.state ≡ None → Row w c Probe (Read n y) Empty (to AtEmpty c.state) c.list w.table None
-  meets : (n : ℕ) (y : Bool) (e : Entry) → bucket_at w.table c.state ≡ Some e → accepts e c.state y ≡ true → Row w c Probe (Read n y) (Holds (e.bits == bits_of c.state.hash) y) (finds_entry LeaveOk c.state) c.list w.table None
-  turns : (n : ℕ) (y : Bool) (e : Entry) → bucket_at w.table c.state ≡ Some e → accepts e c.state y ≡ false → nat_lt (c.state.seen + 1) c.state.capacity ≡ false → Row w c Probe (Read n y) (Holds (e.bits == bits_of c.state.hash) y) (turned LeaveGrow c.state) c.list w.table None
-  goes_on : (n : ℕ) (y : Bool) (e : Entry) → bucket_at w.table c.state ≡ Some e → accepts e c.state y ≡ false → nat_lt (c.state.seen + 1) c.state.capacity ≡ true → Row w c Probe (Read n y) (Holds (e.bits == bits_of c.state.hash) y) (next_bucket Probe c.state) c.list w.table None
+  meets : (n : ℕ) (y : Bool) (e : Entry) → bucket_at w.table c.state ≡ Some e → accepts e c.state y ≡ true →
+      Row w c Probe (Read n y) (holds e c.state.hash y) (finds_entry LeaveOk c.state) c.list w.table None
+  turns : (n : ℕ) (y : Bool) (e : Entry) → bucket_at w.table c.state ≡ Some e → accepts e c.state y ≡ false → nat_lt (c.state.seen + 1) c.state.capacity ≡ false →
+      Row w c Probe (Read n y) (holds e c.state.hash y) (turned LeaveGrow c.state) c.list w.table None
+  goes_on : (n : ℕ) (y : Bool) (e : Entry) → bucket_at w.table c.state ≡ Some e → accepts e c.state y ≡ false → nat_lt (c.state.seen + 1) c.state.capacity ≡ true →
+      Row w c Probe (Read n y) (holds e c.state.hash y) (next_bucket Probe c.state) c.list w.table None
   -- AtEmpty: put
-  no_room : (n : ℕ) (y : Bool) → Row w c AtEmpty (Put n y false) NoRoom (to LeaveRefused c.state) c.list w.table None
-  puts : (n : ℕ) (y : Bool) → bucket_at w.table c.state ≡ None → Row w c AtEmpty (Put n y true) Won (to Placed c.state) c.list (place w.table c.state c.value) None
-  loses_meets : (n : ℕ) (y : Bool) (e : Entry) → bucket_at w.table c.state ≡ Some e → accepts e c.state y ≡ true → Row w c AtEmpty (Put n y true) (Holds (e.bits == bits_of c.state.hash) y) (finds_entry LeaveOk c.state) c.list w.table None
-  loses_turns : (n : ℕ) (y : Bool) (e : Entry) → bucket_at w.table c.state ≡ Some e → accepts e c.state y ≡ false → nat_lt (c.state.seen + 1) c.state.capacity ≡ false → Row w c AtEmpty (Put n y true) (Holds (e.bits == bits_of c.state.hash) y) (turned LeaveGrow c.state) c.list w.table None
-  loses_goes_on : (n : ℕ) (y : Bool) (e : Entry) → bucket_at w.table c.state ≡ Some e → accepts e c.state y ≡ false → nat_lt (c.state.seen + 1) c.state.capacity ≡ true → Row w c AtEmpty (Put n y true) (Holds (e.bits == bits_of c.state.hash) y) (next_bucket Probe c.state) c.list w.table None
+  memory_refused : (n : ℕ) (y : Bool) → Row w c AtEmpty (Put n y false) MemoryRefused (to LeaveRefused c.state) c.list w.table None
+  puts : (n : ℕ) (y : Bool) → bucket_at w.table c.state ≡ None →
+      Row w c AtEmpty (Put n y true) Won (to Placed c.state) c.list (place w.table c.state c.value) None
+  loses_meets : (n : ℕ) (y : Bool) (e : Entry) → bucket_at w.table c.state ≡ Some e → accepts e c.state y ≡ true →
+      Row w c AtEmpty (Put n y true) (holds e c.state.hash y) (finds_entry LeaveOk c.state) c.list w.table None
+  loses_turns : (n : ℕ) (y : Bool) (e : Entry) → bucket_at w.table c.state ≡ Some e → accepts e c.state y ≡ false → nat_lt (c.state.seen + 1) c.state.capacity ≡ false →
+      Row w c AtEmpty (Put n y true) (holds e c.state.hash y) (turned LeaveGrow c.state) c.list w.table None
+  loses_goes_on : (n : ℕ) (y : Bool) (e : Entry) → bucket_at w.table c.state ≡ Some e → accepts e c.state y ≡ false → nat_lt (c.state.seen + 1) c.state.capacity ≡ true →
+      Row w c AtEmpty (Put n y true) (holds e c.state.hash y) (next_bucket Probe c.state) c.list w.table None
   -- Placed: add
-  adds : (n : ℕ) → Row w c Placed (Add n) Counted (record c.state { phase = LeaveOk; outcome = New c.state.index }) c.list (add_one w.table c.state) None
+  adds : (n : ℕ) →
+      Row w c Placed (Add n) Counted (record c.state { phase = LeaveOk; outcome = New c.state.index }) c.list (add_one w.table c.state) None
   -- LeaveOk, LeaveGrow, LeaveRefused: free
   leaves_ok : (n : ℕ) → Row w c LeaveOk (Free n) (Released (is_current w.table.gens c.state.walked)) (to AskSize c.state) c.list w.table None
   leaves_grow : (n : ℕ) → Row w c LeaveGrow (Free n) (Released (is_current w.table.gens c.state.walked)) (to WantOwned c.state) c.list w.table None
-  leaves_refused : (n : ℕ) → Row w c LeaveRefused (Free n) (Released (is_current w.table.gens c.state.walked)) (to Done c.state) c.list w.table (refused c.value)
+  leaves_refused : (n : ℕ) →
+      Row w c LeaveRefused (Free n) (Released (is_current w.table.gens c.state.walked)) (to Done c.state) c.list w.table (refused c.value)
   -- AskSize: size
-  large : (n : ℕ) (g : Gen) → walked_gen w.table c.state ≡ Some g → nat_lt g.size (c.state.capacity / 2) ≡ false → Row w c AskSize (Size n) (Sized g.size) (to WantOwned c.state) c.list w.table None
-  small : (n : ℕ) (g : Gen) → walked_gen w.table c.state ≡ Some g → nat_lt g.size (c.state.capacity / 2) ≡ true → Row w c AskSize (Size n) (Sized g.size) (to Done c.state) c.list w.table (by_outcome w.table c)
+  large : (n : ℕ) (g : Gen) → walked_gen w.table c.state ≡ Some g → nat_lt g.size (c.state.capacity / 2) ≡ false →
+      Row w c AskSize (Size n) (Sized g.size) (to WantOwned c.state) c.list w.table None
+  small : (n : ℕ) (g : Gen) → walked_gen w.table c.state ≡ Some g → nat_lt g.size (c.state.capacity / 2) ≡ true →
+      Row w c AskSize (Size n) (Sized g.size) (to Done c.state) c.list w.table (by_outcome w.table c)
   -- WantOwned: own
   owns : (n : ℕ) → is_locked w.calls ≡ false → Row w c WantOwned (Own n) Taken (to Owned c.state) c.list w.table None
   -- Owned: check
   begins_first : (n : ℕ) → current w.table ≡ None → Row w c Owned (Check n true) Begun (to Building c.state) c.list (begin_growth w.table) None
   fails_first : (n : ℕ) → current w.table ≡ None → Row w c Owned (Check n false) Failed (to LeaveFailed c.state) c.list w.table None
-  unwanted : (n : ℕ) (m : Bool) (g : Gen) → current w.table ≡ Some g → nat_lt g.size (g.capacity / 2) ≡ true → Row w c Owned (Check n m) Unwanted (to LeaveOwned c.state) c.list w.table None
-  fails_largest : (n : ℕ) (m : Bool) (g : Gen) → current w.table ≡ Some g → nat_lt g.size (g.capacity / 2) ≡ false → g.capacity ≡ 2 ^ 63 → Row w c Owned (Check n m) Failed (to LeaveFailed c.state) c.list w.table None
-  fails_refused : (n : ℕ) (g : Gen) → current w.table ≡ Some g → nat_lt g.size (g.capacity / 2) ≡ false → Row w c Owned (Check n false) Failed (to LeaveFailed c.state) c.list w.table None
-  begins_next : (n : ℕ) (g : Gen) → current w.table ≡ Some g → nat_lt g.size (g.capacity / 2) ≡ false → (g.capacity == 2 ^ 63) ≡ false → Row w c Owned (Check n true) Begun (to Building c.state) c.list (begin_growth w.table) None
+  unwanted : (n : ℕ) (m : Bool) (g : Gen) → current w.table ≡ Some g → nat_lt g.size (g.capacity / 2) ≡ true →
+      Row w c Owned (Check n m) Unwanted (to LeaveOwned c.state) c.list w.table None
+  fails_largest : (n : ℕ) (m : Bool) (g : Gen) → current w.table ≡ Some g → nat_lt g.size (g.capacity / 2) ≡ false → g.capacity ≡ 2 ^ 63 →
+      Row w c Owned (Check n m) Failed (to LeaveFailed c.state) c.list w.table None
+  fails_refused : (n : ℕ) (g : Gen) → current w.table ≡ Some g → nat_lt g.size (g.capacity / 2) ≡ false →
+      Row w c Owned (Check n false) Failed (to LeaveFailed c.state) c.list w.table None
+  begins_next : (n : ℕ) (g : Gen) → current w.table ≡ Some g → nat_lt g.size (g.capacity / 2) ≡ false → (g.capacity == 2 ^ 63) ≡ false →
+      Row w c Owned (Check n true) Begun (to Building c.state) c.list (begin_growth w.table) None
   -- Building: copy, show
-  copies : (n h : ℕ) (e : Entry) → next_copied w.table ≡ Some e → Row w c Building (Copy n h) Copied (to Building c.state) c.list (record w.table { building = copy_on w.table.building e h }) None
+  copies : (n h : ℕ) (e : Entry) → next_copied w.table ≡ Some e →
+      Row w c Building (Copy n h) Copied (to Building c.state) c.list (record w.table { building = copy_on w.table.building e h }) None
   shows : (n : ℕ) → next_copied w.table ≡ None → Row w c Building (Show n) Shown (to LeaveOwned c.state) c.list (show_built w.table) None
   -- LeaveOwned: free
-  ends : (n : ℕ) → is_pending c.state.outcome ≡ false → Row w c LeaveOwned (Free n) (Released (is_current w.table.gens c.state.walked)) (to Done c.state) c.list w.table (by_outcome w.table c)
-  starts_over : (n : ℕ) → is_pending c.state.outcome ≡ true → Row w c LeaveOwned (Free n) (Released (is_current w.table.gens c.state.walked)) (to WantShared c.state) c.list w.table None
+  ends : (n : ℕ) → is_pending c.state.outcome ≡ false →
+      Row w c LeaveOwned (Free n) (Released (is_current w.table.gens c.state.walked)) (to Done c.state) c.list w.table (by_outcome w.table c)
+  starts_over : (n : ℕ) → is_pending c.state.outcome ≡ true →
+      Row w c LeaveOwned (Free n) (Released (is_current w.table.gens c.state.walked)) (to WantShared c.state) c.list w.table None
   -- LeaveFailed: free
-  ends_failed : (n : ℕ) → is_pending c.state.outcome ≡ false → Row w c LeaveFailed (Free n) (Released (is_current w.table.gens c.state.walked)) (to Done c.state) c.list w.table (by_outcome w.table c)
-  gives_up : (n : ℕ) → is_pending c.state.outcome ≡ true → is_current w.table.gens c.state.walked ≡ true → Row w c LeaveFailed (Free n) (Released true) (to Done c.state) c.list w.table (refused c.value)
-  tries_again : (n : ℕ) → is_pending c.state.outcome ≡ true → is_current w.table.gens c.state.walked ≡ false → Row w c LeaveFailed (Free n) (Released false) (to WantShared c.state) c.list w.table None
+  ends_failed : (n : ℕ) → is_pending c.state.outcome ≡ false →
+      Row w c LeaveFailed (Free n) (Released (is_current w.table.gens c.state.walked)) (to Done c.state) c.list w.table (by_outcome w.table c)
+  gives_up : (n : ℕ) → is_pending c.state.outcome ≡ true → is_current w.table.gens c.state.walked ≡ true →
+      Row w c LeaveFailed (Free n) (Released true) (to Done c.state) c.list w.table (refused c.value)
+  tries_again : (n : ℕ) → is_pending c.state.outcome ≡ true → is_current w.table.gens c.state.walked ≡ false →
+      Row w c LeaveFailed (Free n) (Released false) (to WantShared c.state) c.list w.table None
   -- LookLoad: load
   looks_none : (n : ℕ) → current w.table ≡ None → Row w c LookLoad (Load n) NoGeneration (to Done c.state) c.list w.table (Some ToldNone)
-  looks : (n : ℕ) (g : Gen) → current w.table ≡ Some g → Row w c LookLoad (Load n) (Loaded (length w.table.gens - 1) g.capacity) (probes LookProbe c.state (length w.table.gens - 1) g.capacity) c.list w.table None
+  looks : (n : ℕ) (g : Gen) → current w.table ≡ Some g →
+      Row w c LookLoad (Load n) (Loaded (length w.table.gens - 1) g.capacity) (probes LookProbe c.state (length w.table.gens - 1) g.capacity) c.list w.table None
   -- LookProbe: read
-  look_empty : (n : ℕ) (y : Bool) → bucket_at w.table c.state ≡ None → Row w c LookProbe (Read n y) Empty (to Done c.state) c.list w.table (Some ToldNone)
-  look_meets : (n : ℕ) (y : Bool) (e : Entry) → bucket_at w.table c.state ≡ Some e → accepts e c.state y ≡ true → Row w c LookProbe (Read n y) (Holds (e.bits == bits_of c.state.hash) y) (finds_entry Done c.state) c.list w.table (Some (ToldSome e.value))
-  look_turns : (n : ℕ) (y : Bool) (e : Entry) → bucket_at w.table c.state ≡ Some e → accepts e c.state y ≡ false → nat_lt (c.state.seen + 1) c.state.capacity ≡ false → Row w c LookProbe (Read n y) (Holds (e.bits == bits_of c.state.hash) y) (turned Done c.state) c.list w.table (Some ToldNone)
-  look_goes_on : (n : ℕ) (y : Bool) (e : Entry) → bucket_at w.table c.state ≡ Some e → accepts e c.state y ≡ false → nat_lt (c.state.seen + 1) c.state.capacity ≡ true → Row w c LookProbe (Read n y) (Holds (e.bits == bits_of c.state.hash) y) (next_bucket LookProbe c.state) c.list w.table None
+  look_empty : (n : ℕ) (y : Bool) → bucket_at w.table c.state ≡ None →
+      Row w c LookProbe (Read n y) Empty (to Done c.state) c.list w.table (Some ToldNone)
+  look_meets : (n : ℕ) (y : Bool) (e : Entry) → bucket_at w.table c.state ≡ Some e → accepts e c.state y ≡ true →
+      Row w c LookProbe (Read n y) (holds e c.state.hash y) (finds_entry Done c.state) c.list w.table (Some (ToldSome e.value))
+  look_turns : (n : ℕ) (y : Bool) (e : Entry) → bucket_at w.table c.state ≡ Some e → accepts e c.state y ≡ false → nat_lt (c.state.seen + 1) c.state.capacity ≡ false →
+      Row w c LookProbe (Read n y) (holds e c.state.hash y) (turned Done c.state) c.list w.table (Some ToldNone)
+  look_goes_on : (n : ℕ) (y : Bool) (e : Entry) → bucket_at w.table c.state ≡ Some e → accepts e c.state y ≡ false → nat_lt (c.state.seen + 1) c.state.capacity ≡ true →
+      Row w c LookProbe (Read n y) (holds e c.state.hash y) (next_bucket LookProbe c.state) c.list w.table None
   -- LenLoad: load
   len_none : (n : ℕ) → current w.table ≡ None → Row w c LenLoad (Load n) NoGeneration (to Done c.state) c.list w.table (Some (ToldLen 0))
-  len_loads : (n : ℕ) (g : Gen) → current w.table ≡ Some g → Row w c LenLoad (Load n) (Loaded (length w.table.gens - 1) g.capacity) (record c.state { phase = LenSize; walked = Some (length w.table.gens - 1); capacity = g.capacity }) c.list w.table None
+  len_loads : (n : ℕ) (g : Gen) → current w.table ≡ Some g →
+      Row w c LenLoad (Load n) (Loaded (length w.table.gens - 1) g.capacity) (record c.state { phase = LenSize; walked = Some (length w.table.gens - 1); capacity = g.capacity }) c.list w.table None
   -- LenSize: size
-  len_size : (n : ℕ) (g : Gen) → walked_gen w.table c.state ≡ Some g → Row w c LenSize (Size n) (Sized g.size) (to Done c.state) c.list w.table (Some (ToldLen g.size))
+  len_size : (n : ℕ) (g : Gen) → walked_gen w.table c.state ≡ Some g →
+      Row w c LenSize (Size n) (Sized g.size) (to Done c.state) c.list w.table (Some (ToldLen g.size))
   -- WalkLoad: load
   walk_none : (n : ℕ) → current w.table ≡ None → Row w c WalkLoad (Load n) NoGeneration (to Done c.state) c.list w.table (Some (ToldWalk []))
-  walk_loads : (n : ℕ) (g : Gen) → current w.table ≡ Some g → Row w c WalkLoad (Load n) (Loaded (length w.table.gens - 1) g.capacity) (record c.state { phase = WalkAt; walked = Some (length w.table.gens - 1); capacity = g.capacity; index = 0 }) c.list w.table None
+  walk_loads : (n : ℕ) (g : Gen) → current w.table ≡ Some g →
+      Row w c WalkLoad (Load n) (Loaded (length w.table.gens - 1) g.capacity) (record c.state { phase = WalkAt; walked = Some (length w.table.gens - 1); capacity = g.capacity; index = 0 }) c.list w.table None
   -- WalkAt: read
-  walk_skips_last : (n : ℕ) (y : Bool) → bucket_at w.table c.state ≡ None → nat_lt (c.state.index + 1) c.state.capacity ≡ false → Row w c WalkAt (Read n y) Empty (record c.state { phase = Done; index = c.state.index + 1 }) [] w.table (Some (ToldWalk c.list))
-  walk_takes_last : (n : ℕ) (y : Bool) (e : Entry) → bucket_at w.table c.state ≡ Some e → nat_lt (c.state.index + 1) c.state.capacity ≡ false → Row w c WalkAt (Read n y) (Holds (e.bits == bits_of c.state.hash) y) (record c.state { phase = Done; index = c.state.index + 1 }) [] w.table (Some (ToldWalk (c.list ++ e.value ∷ [])))
-  walk_skips : (n : ℕ) (y : Bool) → bucket_at w.table c.state ≡ None → nat_lt (c.state.index + 1) c.state.capacity ≡ true → Row w c WalkAt (Read n y) Empty (record c.state { phase = WalkAt; index = c.state.index + 1 }) c.list w.table None
-  walk_takes : (n : ℕ) (y : Bool) (e : Entry) → bucket_at w.table c.state ≡ Some e → nat_lt (c.state.index + 1) c.state.capacity ≡ true → Row w c WalkAt (Read n y) (Holds (e.bits == bits_of c.state.hash) y) (record c.state { phase = WalkAt; index = c.state.index + 1 }) (c.list ++ e.value ∷ []) w.table None
+  walk_skips_last : (n : ℕ) (y : Bool) → bucket_at w.table c.state ≡ None → nat_lt (c.state.index + 1) c.state.capacity ≡ false →
+      Row w c WalkAt (Read n y) Empty (record c.state { phase = Done; index = c.state.index + 1 }) [] w.table (Some (ToldWalk c.list))
+  walk_takes_last : (n : ℕ) (y : Bool) (e : Entry) → bucket_at w.table c.state ≡ Some e → nat_lt (c.state.index + 1) c.state.capacity ≡ false →
+      Row w c WalkAt (Read n y) (holds e c.state.hash y) (record c.state { phase = Done; index = c.state.index + 1 }) [] w.table (Some (ToldWalk (c.list ++ e.value ∷ [])))
+  walk_skips : (n : ℕ) (y : Bool) → bucket_at w.table c.state ≡ None → nat_lt (c.state.index + 1) c.state.capacity ≡ true →
+      Row w c WalkAt (Read n y) Empty (record c.state { phase = WalkAt; index = c.state.index + 1 }) c.list w.table None
+  walk_takes : (n : ℕ) (y : Bool) (e : Entry) → bucket_at w.table c.state ≡ Some e → nat_lt (c.state.index + 1) c.state.capacity ≡ true →
+      Row w c WalkAt (Read n y) (holds e c.state.hash y) (record c.state { phase = WalkAt; index = c.state.index + 1 }) (c.list ++ e.value ∷ []) w.table None
 
 -- how a call begins: its event, its number, the value of an insert, its first phase and its hash
 pub data Opens : Event → ℕ → Option ℕ → Phase → ℕ → Type 0 where

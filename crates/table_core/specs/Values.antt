@@ -12,7 +12,7 @@ use Rattle.table_core.specs.declared.event.Entry.{Entry}
 use Rattle.table_core.specs.declared.call.Phase.{Phase}
 use Rattle.table_core.specs.declared.call.Phase.TheVariants.{AtEmpty, Owned}
 use Rattle.table_core.specs.declared.call.Answer.{Answer}
-use Rattle.table_core.specs.declared.call.Answer.TheVariants.{Holds, NoRoom, Failed}
+use Rattle.table_core.specs.declared.call.Answer.TheVariants.{Holds, MemoryRefused, Failed}
 
 -- after this schedule, this event ends a call with this reply
 abbrev pub Ends : ℕ → List Event → Event → Reply → Type 0
@@ -66,7 +66,7 @@ OwnAnswers f s x r = Ends f s x r → IsOwnAnswer f s x r
 
 -- why a call may be refused at an event, by what it found there: its memory was asked for and refused, or there is no greater capacity
 abbrev pub IsCause : Option Gen → Event → Answer → Type 0
-IsCause g (Put n y granted) NoRoom = granted ≡ false
+IsCause g (Put n y granted) MemoryRefused = granted ≡ false
 IsCause None (Check n granted) Failed = granted ≡ false
 IsCause (Some g) (Check n granted) Failed = (granted ≡ false) ⊎ (g.capacity ≡ 2 ^ 63)
 IsCause g _ _ = ⊥

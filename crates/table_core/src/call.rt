@@ -85,16 +85,16 @@ pub enum Answer {
     Released { still_current: bool },
     /// There is no generation yet.
     NoGeneration,
-    /// The current generation and its capacity.
-    Loaded { generation: u64, capacity: u64 },
+    /// The number of the current generation, and its capacity.
+    Loaded { number: u64, capacity: u64 },
     /// The bucket is empty.
     Empty,
-    /// The bucket is set: whether its bits are those of the call's hash, and what the closure said.
-    Holds { same_bits: bool, accepted: bool },
+    /// The bucket is set: whether its bits agree with those of the call's hash, and what the closure said.
+    Holds { agrees: bool, accepted: bool },
     /// The bucket was still empty, and holds the call's value now.
     Won,
     /// The memory for the value was refused.
-    NoRoom,
+    MemoryRefused,
     /// The size has one more.
     Counted,
     /// The size.

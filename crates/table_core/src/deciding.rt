@@ -1,6 +1,8 @@
-ghost use Rattle.std.specs.Prelude.{◌≡◌, true, Some, nat_lt, ◌/◌, if◌then◌else◌};
+ghost use Rattle.std.specs.Prelude.{◌≡◌, true, Some, None, nat_lt, ◌/◌, if◌then◌else◌};
 ghost use Rattle.table_core.specs.Calls.{decide as after_answer, stands_at_bucket, to, probes, meets, looks, passes, walks, finds_entry, ends, fails};
 
+use crate::call::Answer::*;
+use crate::call::Phase::*;
 use crate::call::{Answer, CallState, Outcome, Phase};
 
 /// The state of a call after what its event found.
@@ -12,84 +14,38 @@ pub fn decide(state: CallState, answer: Answer) -> CallState
     ensures { result ≡ after_answer state answer }
 {
     match (state.phase, answer) {
-        (Phase::WantShared, Answer::Taken) => in_phase(state, Phase::Shared),
-        (Phase::Shared, Answer::NoGeneration) => CallState {
-            phase: Phase::LeaveGrow,
-            walked: None,
-            ..state
-        },
-        (
-            Phase::Shared,
-            Answer::Loaded {
-                generation,
-                capacity,
-            },
-        ) => probe(state, Phase::Probe, generation, capacity),
-        (Phase::Probe, Answer::Empty) => at_bucket(state, Phase::AtEmpty),
-        (
-            Phase::Probe,
-            Answer::Holds {
-                same_bits,
-                accepted,
-            },
-        ) => meet(state, same_bits && accepted),
-        (Phase::AtEmpty, Answer::NoRoom) => at_bucket(state, Phase::LeaveRefused),
-        (Phase::AtEmpty, Answer::Won) => at_bucket(state, Phase::Placed),
-        (
-            Phase::AtEmpty,
-            Answer::Holds {
-                same_bits,
-                accepted,
-            },
-        ) => meet(state, same_bits && accepted),
-        (Phase::Placed, Answer::Counted) => counted(state),
-        (Phase::LeaveOk, Answer::Released { .. }) => in_phase(state, Phase::AskSize),
-        (Phase::LeaveGrow, Answer::Released { .. }) => in_phase(state, Phase::WantOwned),
-        (Phase::LeaveRefused, Answer::Released { .. }) => in_phase(state, Phase::Done),
-        (Phase::AskSize, Answer::Sized { size }) => ask(state, size),
-        (Phase::WantOwned, Answer::Taken) => in_phase(state, Phase::Owned),
-        (Phase::Owned, Answer::Begun) => in_phase(state, Phase::Building),
-        (Phase::Owned, Answer::Unwanted) => in_phase(state, Phase::LeaveOwned),
-        (Phase::Owned, Answer::Failed) => in_phase(state, Phase::LeaveFailed),
-        (Phase::Building, Answer::Copied) => in_phase(state, Phase::Building),
-        (Phase::Building, Answer::Shown) => in_phase(state, Phase::LeaveOwned),
-        (Phase::LeaveOwned, Answer::Released { .. }) => end(state),
-        (Phase::LeaveFailed, Answer::Released { still_current }) => fail(state, still_current),
-        (Phase::LookLoad, Answer::NoGeneration) => in_phase(state, Phase::Done),
-        (
-            Phase::LookLoad,
-            Answer::Loaded {
-                generation,
-                capacity,
-            },
-        ) => probe(state, Phase::LookProbe, generation, capacity),
-        (Phase::LookProbe, Answer::Empty) => at_bucket(state, Phase::Done),
-        (
-            Phase::LookProbe,
-            Answer::Holds {
-                same_bits,
-                accepted,
-            },
-        ) => look(state, same_bits && accepted),
-        (Phase::LenLoad, Answer::NoGeneration) => in_phase(state, Phase::Done),
-        (
-            Phase::LenLoad,
-            Answer::Loaded {
-                generation,
-                capacity,
-            },
-        ) => measure(state, generation, capacity),
-        (Phase::LenSize, Answer::Sized { .. }) => measured(state),
-        (Phase::WalkLoad, Answer::NoGeneration) => in_phase(state, Phase::Done),
-        (
-            Phase::WalkLoad,
-            Answer::Loaded {
-                generation,
-                capacity,
-            },
-        ) => walk_from_start(state, generation, capacity),
-        (Phase::WalkAt, Answer::Empty) => walk_on(state),
-        (Phase::WalkAt, Answer::Holds { .. }) => walk_on(state),
+        (WantShared, Taken) => in_phase(state, Shared),
+        (Shared, NoGeneration) => leave_without(state),
+        (Shared, Loaded { number, capacity }) => probe(state, Probe, number, capacity),
+        (Probe, Empty) => at_bucket(state, AtEmpty),
+        (Probe, Holds { agrees, accepted }) => meet(state, agrees && accepted),
+        (AtEmpty, MemoryRefused) => at_bucket(state, LeaveRefused),
+        (AtEmpty, Won) => at_bucket(state, Placed),
+        (AtEmpty, Holds { agrees, accepted }) => meet(state, agrees && accepted),
+        (Placed, Counted) => counted(state),
+        (LeaveOk, Released { .. }) => in_phase(state, AskSize),
+        (LeaveGrow, Released { .. }) => in_phase(state, WantOwned),
+        (LeaveRefused, Released { .. }) => in_phase(state, Done),
+        (AskSize, Sized { size }) => ask(state, size),
+        (WantOwned, Taken) => in_phase(state, Owned),
+        (Owned, Begun) => in_phase(state, Building),
+        (Owned, Unwanted) => in_phase(state, LeaveOwned),
+        (Owned, Failed) => in_phase(state, LeaveFailed),
+        (Building, Copied) => in_phase(state, Building),
+        (Building, Shown) => in_phase(state, LeaveOwned),
+        (LeaveOwned, Released { .. }) => end(state),
+        (LeaveFailed, Released { still_current }) => fail(state, still_current),
+        (LookLoad, NoGeneration) => in_phase(state, Done),
+        (LookLoad, Loaded { number, capacity }) => probe(state, LookProbe, number, capacity),
+        (LookProbe, Empty) => at_bucket(state, Done),
+        (LookProbe, Holds { agrees, accepted }) => look(state, agrees && accepted),
+        (LenLoad, NoGeneration) => in_phase(state, Done),
+        (LenLoad, Loaded { number, capacity }) => measure(state, number, capacity),
+        (LenSize, Sized { .. }) => measured(state),
+        (WalkLoad, NoGeneration) => in_phase(state, Done),
+        (WalkLoad, Loaded { number, capacity }) => walk_from_start(state, number, capacity),
+        (WalkAt, Empty) => walk_on(state),
+        (WalkAt, Holds { .. }) => walk_on(state),
         _ => state,
     }
 }
@@ -118,16 +74,27 @@ fn at_bucket(state: CallState, phase: Phase) -> CallState
     }
 }
 
+/// A call that found no generation.
+fn leave_without(state: CallState) -> CallState
+    ensures { result ≡ record state { phase = Phase.LeaveGrow; walked = None } }
+{
+    CallState {
+        phase: Phase::LeaveGrow,
+        walked: None,
+        ..state
+    }
+}
+
 /// A probe from the bucket of its hash.
-fn probe(state: CallState, phase: Phase, generation: u64, capacity: u64) -> CallState
-    ensures { result ≡ (if nat_lt 0 capacity then probes phase state generation capacity else state) }
+fn probe(state: CallState, phase: Phase, number: u64, capacity: u64) -> CallState
+    ensures { result ≡ (if nat_lt 0 capacity then probes phase state number capacity else state) }
 {
     if capacity == 0 {
         return state;
     }
     CallState {
         phase,
-        walked: Some(generation),
+        walked: Some(number),
         capacity,
         index: state.hash % capacity,
         seen: 0,
@@ -231,30 +198,30 @@ fn look(state: CallState, accepted: bool) -> CallState
 }
 
 /// A length that has its generation.
-fn measure(state: CallState, generation: u64, capacity: u64) -> CallState
-    ensures { result ≡ (if nat_lt 0 capacity then record state { phase = Phase.LenSize; walked = Some generation; capacity = capacity } else state) }
+fn measure(state: CallState, number: u64, capacity: u64) -> CallState
+    ensures { result ≡ (if nat_lt 0 capacity then record state { phase = Phase.LenSize; walked = Some number; capacity = capacity } else state) }
 {
     if capacity == 0 {
         return state;
     }
     CallState {
         phase: Phase::LenSize,
-        walked: Some(generation),
+        walked: Some(number),
         capacity,
         ..state
     }
 }
 
 /// A walk that has its generation.
-fn walk_from_start(state: CallState, generation: u64, capacity: u64) -> CallState
-    ensures { result ≡ (if nat_lt 0 capacity then record state { phase = Phase.WalkAt; walked = Some generation; capacity = capacity; index = 0 } else state) }
+fn walk_from_start(state: CallState, number: u64, capacity: u64) -> CallState
+    ensures { result ≡ (if nat_lt 0 capacity then record state { phase = Phase.WalkAt; walked = Some number; capacity = capacity; index = 0 } else state) }
 {
     if capacity == 0 {
         return state;
     }
     CallState {
         phase: Phase::WalkAt,
-        walked: Some(generation),
+        walked: Some(number),
         capacity,
         index: 0,
         ..state

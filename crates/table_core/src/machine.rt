@@ -40,7 +40,7 @@ fn show_entry(entry: Entry, hash: u64, accepted: bool) -> Answer
     ensures { result ≡ holds entry hash accepted }
 {
     Answer::Holds {
-        same_bits: entry.bits == hash_bits(hash),
+        agrees: entry.bits == hash_bits(hash),
         accepted,
     }
 }
@@ -183,13 +183,11 @@ fn tell<A: Allocator + Copy>(
         }
         (Phase::LookLoad, Answer::NoGeneration) => Some(Reply::None),
         (Phase::LookProbe, Answer::Empty) => Some(Reply::None),
-        (
-            Phase::LookProbe,
-            Answer::Holds {
-                same_bits,
-                accepted,
-            },
-        ) => tell_look(table, state, same_bits && accepted),
+        (Phase::LookProbe, Answer::Holds { agrees, accepted }) => tell_look(
+            table,
+            state,
+            agrees && accepted,
+        ),
         (Phase::LenLoad, Answer::NoGeneration) => Some(Reply::Len(0)),
         (Phase::LenSize, Answer::Sized { size }) => Some(Reply::Len(size)),
         (Phase::WalkLoad, Answer::NoGeneration) => Some(Reply::Walk(Vec::new(alloc))),
@@ -312,12 +310,12 @@ impl<A: Allocator + Copy> Machine<A> {
     }
 
     fn put(&self, state: CallState, accepted: bool, granted: bool) -> Answer
-        ensures { result ≡ (if granted then exchanged (bucket_at self.now.table state) state.hash accepted else Answer.NoRoom) }
+        ensures { result ≡ (if granted then exchanged (bucket_at self.now.table state) state.hash accepted else Answer.MemoryRefused) }
     {
         if granted {
             exchange(bucket_of(&self.table, state), state.hash, accepted)
         } else {
-            Answer::NoRoom
+            Answer::MemoryRefused
         }
     }
 

@@ -153,7 +153,7 @@ impl<A: Allocator + Copy> Table<A> {
         match current_of(self.generations.as_slice()) {
             None => Answer::NoGeneration,
             Some(generation) => Answer::Loaded {
-                generation: (self.generations.len() - 1) as u64,
+                number: (self.generations.len() - 1) as u64,
                 capacity: generation.capacity(),
             },
         }

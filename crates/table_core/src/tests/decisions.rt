@@ -4,12 +4,12 @@ use std::process::Abort;
 use std::test::Fail;
 
 const HOLDS: Answer = Answer::Holds {
-    same_bits: true,
+    agrees: true,
     accepted: true,
 };
 
 const LOADED: Answer = Answer::Loaded {
-    generation: 1,
+    number: 1,
     capacity: 32,
 };
 
@@ -27,7 +27,7 @@ const ANSWERS: [Answer; 15] = [
     Answer::Empty,
     HOLDS,
     Answer::Won,
-    Answer::NoRoom,
+    Answer::MemoryRefused,
     Answer::Counted,
     SIZED,
     Answer::Begun,
@@ -67,7 +67,11 @@ fn answers_that_do_not_fit_change_nothing(rt: HostRuntime) -> Result<(), Fail> {
     check_phase(&rt, Phase::WantShared, &[Answer::Taken]);
     check_phase(&rt, Phase::Shared, &[Answer::NoGeneration, LOADED]);
     check_phase(&rt, Phase::Probe, &[Answer::Empty, HOLDS]);
-    check_phase(&rt, Phase::AtEmpty, &[Answer::NoRoom, Answer::Won, HOLDS]);
+    check_phase(
+        &rt,
+        Phase::AtEmpty,
+        &[Answer::MemoryRefused, Answer::Won, HOLDS],
+    );
     check_phase(&rt, Phase::Placed, &[Answer::Counted]);
     check_phase(&rt, Phase::LeaveOk, &[RELEASED]);
     check_phase(&rt, Phase::LeaveGrow, &[RELEASED]);
@@ -95,7 +99,7 @@ fn answers_that_do_not_fit_change_nothing(rt: HostRuntime) -> Result<(), Fail> {
 #[test]
 fn numbers_that_can_not_be_change_nothing(rt: HostRuntime) -> Result<(), Fail> {
     let nothing = Answer::Loaded {
-        generation: 0,
+        number: 0,
         capacity: 0,
     };
     for phase in [
@@ -111,7 +115,7 @@ fn numbers_that_can_not_be_change_nothing(rt: HostRuntime) -> Result<(), Fail> {
         (Phase::Probe, Answer::Empty),
         (Phase::Probe, HOLDS),
         (Phase::AtEmpty, Answer::Won),
-        (Phase::AtEmpty, Answer::NoRoom),
+        (Phase::AtEmpty, Answer::MemoryRefused),
         (Phase::AtEmpty, HOLDS),
         (Phase::Placed, Answer::Counted),
         (Phase::LookProbe, Answer::Empty),
