@@ -326,13 +326,13 @@ classes l f s i q x =
     let p = l.equal x in
     let kept_placed : passing p (kept (after f s)) ≡ passing p (placed (empty f) s) = kept_is_placed f s i (λ u. one_if (p u)) in
     let none : running (after f s).calls ≡ [] = none_running (after f s).calls q.finished in
-    let stay : passing p (given (after f s).calls) ≡ passing p (back (replies (empty f) s) ++ kept (after f s) ++ running (after f s).calls) = values_stay f s i (λ u. one_if (p u)) in
-    let here : passing p (given (after f s).calls) ≡ passing p ((back (replies (empty f) s) ++ kept (after f s)) ++ []) = rw none at stay in
+    let stay : passing p (given (empty f) s) ≡ passing p (back (replies (empty f) s) ++ kept (after f s) ++ running (after f s).calls) = values_stay f s i (λ u. one_if (p u)) in
+    let here : passing p (given (empty f) s) ≡ passing p ((back (replies (empty f) s) ++ kept (after f s)) ++ []) = rw none at stay in
     let end : passing p ((back (replies (empty f) s) ++ kept (after f s)) ++ []) ≡ passing p (back (replies (empty f) s) ++ kept (after f s)) + 0 = weigh-append (λ u. one_if (p u)) (back (replies (empty f) s) ++ kept (after f s)) [] in
     let split : passing p (back (replies (empty f) s) ++ kept (after f s)) ≡ passing p (back (replies (empty f) s)) + passing p (kept (after f s)) = weigh-append (λ u. one_if (p u)) (back (replies (empty f) s)) (kept (after f s)) in
     let up : passing p (back (replies (empty f) s)) ≡ given_ups p (replies (empty f) s) = back_given_up p (replies (empty f) s) q.unrefused in
-    kept_placed ∙ one_each (list_any p (given (after f s).calls)) (passing p (given (after f s).calls)) (given_ups p (replies (empty f) s)) (passing p (placed (empty f) s))
-    (any_passes p (given (after f s).calls)) (none_passing p (given (after f s).calls)) (omega arith) (given_up_equal l f i s q.lawful x) (placed_apart l f s i q.lawful x)
+    kept_placed ∙ one_each (list_any p (given (empty f) s)) (passing p (given (empty f) s)) (given_ups p (replies (empty f) s)) (passing p (placed (empty f) s))
+    (any_passes p (given (empty f) s)) (none_passing p (given (empty f) s)) (omega arith) (given_up_equal l f i s q.lawful x) (placed_apart l f s i q.lawful x)
 
 same_any : (p q : ℕ → Bool) (xs : List ℕ) → ((u : ℕ) → p u ≡ q u) → list_any p xs ≡ list_any q xs
 same_any p q [] h = refl
@@ -354,6 +354,6 @@ pub same_classes : (l : Law) (f : ℕ) (s : List Event) (k : Law) (g : ℕ) (t :
 same_classes l f s k g t i j q r e b x =
     let here = classes l f s i q x in
     let there = classes k g t j r x in
-    let same : list_any (l.equal x) (given (after f s).calls) ≡ list_any (k.equal x) (given (after g t).calls) =
-    any_bag (l.equal x) (given (after f s).calls) (given (after g t).calls) _ _ refl refl (b (λ u. one_if (l.equal x u))) ∙ same_any (l.equal x) (k.equal x) (given (after g t).calls) (e x) in
+    let same : list_any (l.equal x) (given (empty f) s) ≡ list_any (k.equal x) (given (empty g) t) =
+    any_bag (l.equal x) (given (empty f) s) (given (empty g) t) _ _ refl refl (b (λ u. one_if (l.equal x u))) ∙ same_any (l.equal x) (k.equal x) (given (empty g) t) (e x) in
     here ∙ (ap one_if same ∙ (sym there ∙ sym (same_passing (l.equal x) (k.equal x) (kept (after g t)) (e x))))

@@ -1,14 +1,18 @@
 -- One invariant over whole schedules.
-use Rattle.std.proofs.Common.{ℕ, ◌≡◌, ◌++◌, List, [], ◌∷◌, refl, Option, length, ◌∙◌}
-use Rattle.std.specs.Prelude.{option_to_list}
+use Rattle.std.proofs.Common.{ℕ, ◌≡◌, ◌+◌, ◌++◌, List, [], ◌∷◌, refl, Option, length, arith, ◌∙◌}
+use Rattle.std.specs.Prelude.{option_to_list, slice_set}
+use Rattle.table_core.specs.Bags.{weigh, SameBag}
+use Rattle.table_core.specs.Calls.{Call, starts}
+use Rattle.table_core.specs.Steps.{left}
+use Rattle.table_core.proofs.Lists.{weigh-append, weigh-set, weigh-flat_map}
 use Rattle.table_core.specs.Replies.{Reply}
 use Rattle.table_core.specs.Generations.{IsFirst}
-use Rattle.table_core.specs.Machine.{World, empty, Act, after}
-use Rattle.table_core.specs.History.{replies, placed_by, placed}
+use Rattle.table_core.specs.Machine.{World, empty, Act, acts, happens, run, after}
+use Rattle.table_core.specs.History.{replies, placed_by, placed, given_by, given, back, kept, running}
 use Rattle.table_core.specs.declared.event.Event.{Event}
 use Rattle.table_core.proofs.Locks.{more, keeps_locks, locked_empty}
 use Rattle.table_core.specs.Values.{ValuesStay, KeptIsPlaced, PlacedGrows, FewBuckets}
-use Rattle.table_core.proofs.Turns.{Turn}
+use Rattle.table_core.proofs.Turns.{Turn, rests, opens, takes}
 use Rattle.table_core.proofs.Pasts.{turn_after, placed_snoc, replies_snoc, by_snoc, placed_append}
 use Rattle.table_core.proofs.Standing.{keeps_calls, calls_empty}
 use Rattle.table_core.proofs.Facts.{Inv}
@@ -18,7 +22,7 @@ use Rattle.table_core.proofs.Within.{keeps_within, within_empty}
 use Rattle.table_core.proofs.Sizes.{keeps_sized, sized_empty, keeps_roomy, roomy_empty, few_buckets_at, same_first}
 use Rattle.table_core.proofs.Seats.{keeps_seated, seated_empty}
 use Rattle.table_core.proofs.Tracks.{keeps_tracked, tracked_empty}
-use Rattle.table_core.proofs.Places.{keeps_placing, placing_empty, values_stay_at, kept_is_placed_at}
+use Rattle.table_core.proofs.Places.{carried, keeps_placing, placing_empty, values_stay_at, kept_is_placed_at}
 
 -- each turn keeps all of it
 pub keeps : {w v : World} {x : Event} {a : Option Act} {r : Option Reply} (m : List ℕ) (rs : List Reply) → Turn w x a v r → Inv w m rs → Inv v (m ++ placed_by a) (rs ++ option_to_list r)
@@ -66,8 +70,30 @@ first_stays f s = by_snoc (λ s. (after f s).table.first ≡ f) refl (λ s x e. 
 
 -- What it says of values and buckets
 
+-- what was given is what the calls carry
+
+given_append : (h : ℕ → ℕ) (s more : List Event) (w : World) → weigh h (given w (s ++ more)) ≡ weigh h (given w s) + weigh h (given (run w s) more)
+given_append h [] more w = omega arith
+given_append h (x ∷ s) more w = rw (weigh-append, weigh-append) (omega (arith, given_append h s more (happens w x)))
+
+carried_turn : (h : ℕ → ℕ) {w v : World} {x : Event} {a : Option Act} {r : Option Reply} → Turn w x a v r → weigh h (carried v.calls) ≡ weigh h (carried w.calls) + weigh h (given_by a)
+carried_turn h rests = omega arith
+carried_turn h {w = w} (opens n v p k i o u g) =
+    let all : (cs : List Call) → weigh h (carried cs) ≡ weigh (λ c. weigh h (option_to_list c.value)) cs = weigh-flat_map h (λ (c : Call). option_to_list c.value) in
+    omega (arith, all w.calls, all (w.calls ++ starts n v p k ∷ []), weigh-append (λ (c : Call). weigh h (option_to_list c.value)) w.calls (starts n v p k ∷ []))
+carried_turn h {w = w} (takes i c p a s list t o g e row q) =
+    let all : (cs : List Call) → weigh h (carried cs) ≡ weigh (λ c. weigh h (option_to_list c.value)) cs = weigh-flat_map h (λ (c : Call). option_to_list c.value) in
+    omega (arith, all w.calls, all (slice_set w.calls i (left c s list)), weigh-set (λ (c : Call). weigh h (option_to_list c.value)) w.calls i c (left c s list) g)
+
+given_is_carried : (h : ℕ → ℕ) (f : ℕ) (s : List Event) → weigh h (given (empty f) s) ≡ weigh h (carried (after f s).calls)
+given_is_carried h f s = by_snoc (λ s. weigh h (given (empty f) s) ≡ weigh h (carried (after f s).calls)) refl
+    (λ s x e. omega (arith, e, given_append h s (x ∷ []) (empty f), weigh-append h (given_by (acts (after f s) x)) [], carried_turn h (turn_after f s x))) s
+
+pub carried_stay : (f : ℕ) (s : List Event) → IsFirst f → SameBag (carried (after f s).calls) (back (replies (empty f) s) ++ kept (after f s) ++ running (after f s).calls)
+carried_stay f s h = let i = inv f h s in values_stay_at (after f s) (placed (empty f) s) (replies (empty f) s) i.calls i.holding i.placing
+
 pub values_stay : (f : ℕ) (s : List Event) → IsFirst f → ValuesStay f s
-values_stay f s h = let i = inv f h s in values_stay_at (after f s) (placed (empty f) s) (replies (empty f) s) i.calls i.holding i.placing
+values_stay f s h k = given_is_carried k f s ∙ carried_stay f s h k
 
 pub kept_is_placed : (f : ℕ) (s : List Event) → IsFirst f → KeptIsPlaced f s
 kept_is_placed f s h = kept_is_placed_at (after f s) (placed (empty f) s) (inv f h s).holding

@@ -9,6 +9,7 @@ use Rattle.table_core.specs.Machine.{World, empty, walked_gen, bucket_at, refuse
 use Rattle.table_core.specs.History.{replies, placed, TakenEvent, bucket_then}
 use Rattle.table_core.specs.Steps.{accepts, Row, loads_none, loads, meets, loses_meets, adds, leaves_refused, small, ends, ends_failed, gives_up, looks_none, looks, look_empty, look_meets, look_turns, len_none, len_loads, len_size, walk_none, walk_loads, walk_skips_last, walk_takes_last, left}
 use Rattle.table_core.specs.declared.event.Event.{Event}
+use Rattle.table_core.specs.declared.event.Event.TheVariants.{Read, Put}
 use Rattle.table_core.specs.declared.event.Entry.{Entry}
 use Rattle.table_core.specs.declared.call.CallState.{CallState}
 use Rattle.table_core.specs.declared.call.Phase.{Phase}
@@ -18,9 +19,9 @@ use Rattle.table_core.specs.declared.call.Outcome.TheVariants.{Pending, New, Exi
 use Rattle.table_core.specs.declared.call.Answer.{Answer}
 use Rattle.table_core.specs.declared.call.Answer.TheVariants.{Holds}
 use Rattle.table_core.proofs.Lists.{get-set, get-push}
-use Rattle.std.proofs.lemmas.Bool.{eq-eqb}
+use Rattle.std.proofs.lemmas.Bool.{eq-eqb, eqb-true}
 use Rattle.std.specs.Option.{is_some}
-use Rattle.table_core.specs.Values.{entry_named, value_told, AcceptedEntry, IsOwnAnswer, OwnAnswers}
+use Rattle.table_core.specs.Values.{says_yes, SaysYes, entry_named, value_told, AcceptedEntry, IsOwnAnswer, OwnAnswers}
 use Rattle.table_core.proofs.Turns.{Turn, rests, opens, takes}
 use Rattle.table_core.proofs.Facts.{AllGrew, Inv}
 use Rattle.table_core.proofs.Standing.{fitting}
@@ -50,8 +51,8 @@ numbered_at (x ∷ cs) apart (suc i) c g =
 -- an entry that the call has accepted, which is there still
 record Accepted (f : ℕ) (s : List Event) (gens : List Gen) (c : Call) (k : ℕ) : Type 0 where
   at : TakenEvent f s c.number
-  accepted : at.found ≡ Holds true true
   entry : Entry
+  accepted : SaysYes at.event at.call.state entry
   there : bucket_then f s c.number at ≡ Some entry
   now : bucket_in (gen_of gens c.state.walked) k ≡ Some entry
 
@@ -65,20 +66,24 @@ accepted_later f s x gens now c k grew a = record {
 }
 
 -- how a call comes to an accepted entry: it accepts one now, or it has one
-data Meeting (w : World) (c : Call) (a : Answer) (r : CallState) (k : ℕ) : Type 0 where
-  meets_now : (e : Entry) → a ≡ Holds true true → bucket_at w.table c.state ≡ Some e → bucket_in (gen_of w.table.gens r.walked) k ≡ Some e → Meeting w c a r k
-  met_before : c.state.outcome ≡ Existing k → r.walked ≡ c.state.walked → Meeting w c a r k
+data Meeting (w : World) (c : Call) (x : Event) (r : CallState) (k : ℕ) : Type 0 where
+  meets_now : (e : Entry) → SaysYes x c.state e → bucket_at w.table c.state ≡ Some e → bucket_in (gen_of w.table.gens r.walked) k ≡ Some e → Meeting w c x r k
+  met_before : c.state.outcome ≡ Existing k → r.walked ≡ c.state.walked → Meeting w c x r k
 
-meeting_now : (w : World) (c : Call) (p : Phase) (y : Bool) (e : Entry) (k : ℕ) → bucket_at w.table c.state ≡ Some e → accepts e c.state y ≡ true → Existing c.state.index ≡ Existing k → Meeting w c (Holds (e.bits == bits_of c.state.hash) y) (finds_entry p c.state) k
-meeting_now w c p y e k b h o =
-    let both : ((e.bits == bits_of c.state.hash) ≡ true) × (y ≡ true) = and_both (e.bits == bits_of c.state.hash) y h in
+says_yes_to : (x : Event) (s : CallState) (e : Entry) (y : Bool) → says_yes x ≡ y → accepts e s y ≡ true → SaysYes x s e
+says_yes_to x s e y q h =
+    let both : ((e.bits == bits_of s.hash) ≡ true) × (y ≡ true) = and_both (e.bits == bits_of s.hash) y h in
+    record { yes = q ∙ both.1; bits = eqb-true e.bits (bits_of s.hash) both.0 }
+
+meeting_now : (w : World) (c : Call) (p : Phase) (x : Event) (y : Bool) (e : Entry) (k : ℕ) → says_yes x ≡ y → bucket_at w.table c.state ≡ Some e → accepts e c.state y ≡ true → Existing c.state.index ≡ Existing k → Meeting w c x (finds_entry p c.state) k
+meeting_now w c p x y e k q b h o =
     let i : c.state.index ≡ k = cc in
-    meets_now e (rw (both.0, both.1) refl) b (subst (λ j. bucket_in (gen_of w.table.gens c.state.walked) j ≡ Some e) i b)
+    meets_now e (says_yes_to x c.state e y q h) b (subst (λ j. bucket_in (gen_of w.table.gens c.state.walked) j ≡ Some e) i b)
 
-row_meeting : (w : World) (c : Call) {p : Phase} {x : Event} {a : Answer} {r : CallState} {ls : List ℕ} {t : Table} {q : Option Told} → Row w c p x a r ls t q → fitting (is_some c.value) p c.state.outcome ≡ true → (k : ℕ) → r.outcome ≡ Existing k → Meeting w c a r k
-row_meeting w c (meets n y e b h) f k o = meeting_now w c LeaveOk y e k b h o
-row_meeting w c (loses_meets n y e b h) f k o = meeting_now w c LeaveOk y e k b h o
-row_meeting w c (look_meets n y e b h) f k o = meeting_now w c Done y e k b h o
+row_meeting : (w : World) (c : Call) {p : Phase} {x : Event} {a : Answer} {r : CallState} {ls : List ℕ} {t : Table} {q : Option Told} → Row w c p x a r ls t q → fitting (is_some c.value) p c.state.outcome ≡ true → (k : ℕ) → r.outcome ≡ Existing k → Meeting w c x r k
+row_meeting w c (meets n y e b h) f k o = meeting_now w c LeaveOk (Read n y) y e k refl b h o
+row_meeting w c (loses_meets n y e b h) f k o = meeting_now w c LeaveOk (Put n y true) y e k refl b h o
+row_meeting w c (look_meets n y e b h) f k o = meeting_now w c Done (Read n y) y e k refl b h o
 row_meeting w c (adds _) f k o = absurd (cc)
 row_meeting w c (loads _ _ _) f k o = absurd (load_outcome Shared none_shared (is_some c.value) c.state.outcome f k o)
 row_meeting w c (loads_none _ _) f k o = absurd (load_outcome Shared none_shared (is_some c.value) c.state.outcome f k o)
@@ -91,7 +96,7 @@ module _ (f : ℕ) (inv : (s : List Event) → Inv (after f s) (placed (empty f)
   abbrev AllAccepted : List Event → World → Type 0
   AllAccepted s v = (i : ℕ) (c : Call) → slice_get v.calls i ≡ Some c → (k : ℕ) → c.state.outcome ≡ Existing k → Accepted f s v.table.gens c k
 
-  accepted_moved : (s : List Event) (x : Event) (i : ℕ) (c : Call) (a : Answer) (r : CallState) (ls : List ℕ) (now : List Gen) (k : ℕ) → AllGrew (after f s).table.gens now → AllAccepted s (after f s) → slice_get (after f s).calls i ≡ Some c → acts (after f s) x ≡ Some (Goes c a) → Meeting (after f s) c a r k → Accepted f (s ++ x ∷ []) now (left c r ls) k
+  accepted_moved : (s : List Event) (x : Event) (i : ℕ) (c : Call) (a : Answer) (r : CallState) (ls : List ℕ) (now : List Gen) (k : ℕ) → AllGrew (after f s).table.gens now → AllAccepted s (after f s) → slice_get (after f s).calls i ≡ Some c → acts (after f s) x ≡ Some (Goes c a) → Meeting (after f s) c x r k → Accepted f (s ++ x ∷ []) now (left c r ls) k
   accepted_moved s x i c a r ls now k grew m g took (meets_now e h b there) = record {
     at = taken_now f s x c.number c a took refl;
     accepted = h;
@@ -156,9 +161,9 @@ row_own w c (walk_takes_last n y d k lt) fit q h = none_own c.value _ q h refl (
 row_own w c _ fit q h = absurd (cc)
 
 -- the entry that a call is told: it is accepted now, or it was
-data Names (w : World) (c : Call) (a : Answer) (e : ℕ) : Type 0 where
-  names_now : (d : Entry) → a ≡ Holds true true → bucket_at w.table c.state ≡ Some d → d.value ≡ e → Names w c a e
-  names_met : (k : ℕ) (d : Entry) → c.state.outcome ≡ Existing k → bucket_in (gen_of w.table.gens c.state.walked) k ≡ Some d → d.value ≡ e → Names w c a e
+data Names (w : World) (c : Call) (x : Event) (e : ℕ) : Type 0 where
+  names_now : (d : Entry) → SaysYes x c.state d → bucket_at w.table c.state ≡ Some d → d.value ≡ e → Names w c x e
+  names_met : (k : ℕ) (d : Entry) → c.state.outcome ≡ Existing k → bucket_in (gen_of w.table.gens c.state.walked) k ≡ Some d → d.value ≡ e → Names w c x e
 
 refused_names : (v : Option ℕ) (q : Told) (e : ℕ) → refused v ≡ Some q → entry_named q ≡ Some e → ⊥
 refused_names None q e h n = cc
@@ -168,7 +173,7 @@ found_names : (d : Option Entry) (v : ℕ) (q : Told) (e : ℕ) → found_entry 
 found_names None v q e h n = absurd (cc)
 found_names (Some d) v q e h n = let z : ToldFound d.value v ≡ q = cc in let y : Some d.value ≡ Some e = ap entry_named z ∙ n in (d, refl, cc)
 
-outcome_names : (w : World) (c : Call) (a : Answer) (o : Outcome) (v : Option ℕ) (q : Told) (e : ℕ) → c.state.outcome ≡ o → told_of_outcome o w.table c.state v ≡ Some q → entry_named q ≡ Some e → Names w c a e
+outcome_names : (w : World) (c : Call) (x : Event) (o : Outcome) (v : Option ℕ) (q : Told) (e : ℕ) → c.state.outcome ≡ o → told_of_outcome o w.table c.state v ≡ Some q → entry_named q ≡ Some e → Names w c x e
 outcome_names w c a (Existing k) (Some v) q e o h n = let b = found_names (bucket_in (walked_gen w.table c.state) k) v q e h n in names_met k b.0 o b.1 b.2
 outcome_names w c a (New k) (Some v) q e o h n = absurd (let z : ToldPlaced v ≡ q = cc in let y : None ≡ Some e = ap entry_named z ∙ n in cc)
 outcome_names w c a Pending v q e o h n = absurd (cc)
@@ -178,12 +183,11 @@ outcome_names w c a (Existing k) None q e o h n = absurd (cc)
 no_entry : (q z : Told) (e : ℕ) → Some q ≡ Some z → entry_named q ≡ None → entry_named z ≡ Some e → ⊥
 no_entry q z e h n k = let y : q ≡ z = cc in let j : None ≡ Some e = sym n ∙ ap entry_named y ∙ k in cc
 
-row_names : (w : World) (c : Call) {p : Phase} {x : Event} {a : Answer} {r : CallState} {ls : List ℕ} {t : Table} {o : Option Told} → Row w c p x a r ls t o → (q : Told) → o ≡ Some q → (e : ℕ) → entry_named q ≡ Some e → Names w c a e
+row_names : (w : World) (c : Call) {p : Phase} {x : Event} {a : Answer} {r : CallState} {ls : List ℕ} {t : Table} {o : Option Told} → Row w c p x a r ls t o → (q : Told) → o ≡ Some q → (e : ℕ) → entry_named q ≡ Some e → Names w c x e
 row_names w c (look_meets n y d b h) q k e m =
-    let both : ((d.bits == bits_of c.state.hash) ≡ true) × (y ≡ true) = and_both (d.bits == bits_of c.state.hash) y h in
     let z : ToldSome d.value ≡ q = cc in
     let v : Some d.value ≡ Some e = ap entry_named z ∙ m in
-    names_now d (rw (both.0, both.1) refl) b (cc)
+    names_now d (says_yes_to (Read n y) c.state d y refl h) b (cc)
 row_names w c (small n g k d) q h e m = outcome_names w c _ c.state.outcome c.value q e refl h m
 row_names w c (ends n k) q h e m = outcome_names w c _ c.state.outcome c.value q e refl h m
 row_names w c (ends_failed n k) q h e m = outcome_names w c _ c.state.outcome c.value q e refl h m
@@ -205,7 +209,7 @@ reply_by_row m None r h = absurd (cc)
 reply_by_row m (Some z) r h = let e : record { call = m; told = z } ≡ r = cc in (ap Some (ap (λ (r : Reply). r.told) e), ap (λ (r : Reply). r.call) e)
 
 module _ (f : ℕ) (inv : (s : List Event) → Inv (after f s) (placed (empty f) s) (replies (empty f) s)) where
-  entry_accepted : (s : List Event) (x : Event) (i : ℕ) (c : Call) (a : Answer) (e : ℕ) → slice_get (after f s).calls i ≡ Some c → acts (after f s) x ≡ Some (Goes c a) → Names (after f s) c a e → AcceptedEntry f (s ++ x ∷ []) c.number e
+  entry_accepted : (s : List Event) (x : Event) (i : ℕ) (c : Call) (a : Answer) (e : ℕ) → slice_get (after f s).calls i ≡ Some c → acts (after f s) x ≡ Some (Goes c a) → Names (after f s) c x e → AcceptedEntry f (s ++ x ∷ []) c.number e
   entry_accepted s x i c a e g took (names_now d h b v) = record {
     at = taken_now f s x c.number c a took refl;
     accepted = h;

@@ -1,13 +1,13 @@
 -- Where each value is.
 use Rattle.std.proofs.Common.{ℕ, suc, ◌≡◌, ◌+◌, ◌++◌, List, [], ◌∷◌, Bool, true, false, refl, Option, Some, None, ap, arith, ◌∙◌}
 use Rattle.std.specs.Prelude.{◌&&◌, ◌||◌, slice_set, option_to_list, not}
-use Rattle.std.specs.List.{slice_get}
+use Rattle.std.specs.List.{slice_get, flat_map}
 use Rattle.table_core.specs.Bags.{weigh, SameBag}
 use Rattle.table_core.specs.Replies.{Told, Reply}
 use Rattle.table_core.specs.Generations.{Table, current, bucket_in, entries_of}
 use Rattle.table_core.specs.Calls.{Call, starts, is_pending}
 use Rattle.table_core.specs.Machine.{World, empty, walked_gen, refused, told_of_outcome, Act, Goes, reply_to}
-use Rattle.table_core.specs.History.{placed_by, given, handed_back, back, kept, runs, picks, running}
+use Rattle.table_core.specs.History.{placed_by, handed_back, back, kept, runs, picks, running}
 use Rattle.table_core.specs.Steps.{Row, shares, meets, puts, loses_meets, adds, leaves_refused, small, ends, ends_failed, gives_up, looks_none, look_empty, look_meets, look_turns, len_none, len_size, walk_none, walk_skips_last, walk_takes_last, Opens, opens_insert, opens_lookup, opens_len, opens_walk, left}
 use Rattle.table_core.specs.declared.event.Event.{Event}
 use Rattle.table_core.specs.declared.event.Entry.{Entry}
@@ -194,13 +194,17 @@ pub weigh-three : {X : Type 0} (f a b c : X → ℕ) (xs : List X) → ((i : ℕ
 weigh-three f a b c [] h = omega arith
 weigh-three f a b c (x ∷ xs) h = omega (arith, h 0 x refl, weigh-three f a b c xs (λ i y k. h (suc i) y k))
 
--- the values given are those handed back, those kept and those still running
-pub values_stay_at : (w : World) (m : List ℕ) (rs : List Reply) → CallsOk w → Holding w.table m → Placing w.calls m rs → SameBag (given w.calls) (back rs ++ kept w ++ running w.calls)
+-- the values that the calls carry or carried
+abbrev pub carried : List Call → List ℕ
+carried calls = flat_map (λ c. option_to_list c.value) calls
+
+-- the values that the calls carry are those handed back, those kept and those still running
+pub values_stay_at : (w : World) (m : List ℕ) (rs : List Reply) → CallsOk w → Holding w.table m → Placing w.calls m rs → SameBag (carried w.calls) (back rs ++ kept w ++ running w.calls)
 values_stay_at w m rs i o z h =
     let cs : List Call = w.calls in
     let all : weigh (λ c. weigh h (option_to_list c.value)) cs ≡ weigh (λ c. weigh h (picks (in_table c.state.phase c.state.outcome) c.value)) cs + (weigh (λ c. weigh h (picks (is_back c.state.phase c.state.outcome) c.value)) cs + weigh (λ c. weigh h (picks (runs c.state.phase c.state.outcome) c.value)) cs) =
     weigh-three _ _ _ _ cs (λ j c k. split_call h c.value c.state.phase c.state.outcome (i.at j c k).fits) in
-    let g : weigh h (given cs) ≡ weigh (λ c. weigh h (option_to_list c.value)) cs = weigh-flat_map h (λ (c : Call). option_to_list c.value) cs in
+    let g : weigh h (carried cs) ≡ weigh (λ c. weigh h (option_to_list c.value)) cs = weigh-flat_map h (λ (c : Call). option_to_list c.value) cs in
     let r : weigh h (running cs) ≡ weigh (λ c. weigh h (picks (runs c.state.phase c.state.outcome) c.value)) cs = weigh-flat_map h (λ (c : Call). picks (runs c.state.phase c.state.outcome) c.value) cs in
     let k : weigh h (kept w) ≡ weigh (λ e. h e.value) (entries_of (current w.table)) = weigh-map h (λ (e : Entry). e.value) (entries_of (current w.table)) in
     rw (weigh-append, weigh-append) (omega (arith, all, g, r, k, o.bag h, z.table h, z.back h))

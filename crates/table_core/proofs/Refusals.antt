@@ -1,6 +1,6 @@
 -- A call is refused only for want of memory or of a greater capacity, and its value is placed at no moment.
 use Rattle.std.proofs.Common.{ℕ, ◌≡◌, ◌≤◌, ◌++◌, inl, inr, List, [], ◌∷◌, Bool, true, false, refl, Option, Some, None, sym, subst, ap, arith, ◌∙◌}
-use Rattle.std.specs.Prelude.{◌==◌}
+use Rattle.std.specs.Prelude.{◌==◌, ◌/◌}
 use Rattle.std.specs.List.{slice_get}
 use Rattle.table_core.specs.Bags.{weigh, count_of}
 use Rattle.table_core.specs.Replies.{Told, ToldRefused, Reply}
@@ -22,7 +22,7 @@ use Rattle.table_core.specs.declared.call.Answer.{Answer}
 use Rattle.table_core.specs.declared.call.Answer.TheVariants.{MemoryRefused}
 use Rattle.table_core.proofs.Lists.{get-set, get-set_same, get-set_other, get-push, get-push_before}
 use Rattle.table_core.proofs.Locks.{more}
-use Rattle.std.proofs.lemmas.Bool.{cases_lt}
+use Rattle.std.proofs.lemmas.Bool.{cases_lt, ltb-false}
 use Rattle.std.specs.Option.{is_some}
 use Rattle.table_core.specs.Values.{IsCause, is_put_or_check, IsRefusal, RefusalCauses}
 use Rattle.table_core.proofs.Turns.{Turn, rests, opens, takes}
@@ -63,8 +63,8 @@ cause_put (Some g) n y = refl
 row_cause : (w : World) (c : Call) {p : Phase} {x : Event} {a : Answer} {r : CallState} {ls : List ℕ} {t : Table} {q : Option Told} → Row w c p x a r ls t q → refusable r.phase r.outcome ≡ true → IsCause (current w.table) x a
 row_cause w c (memory_refused n y) h = cause_put (current w.table) n y
 row_cause w c (fails_first n e) h = rw e refl
-row_cause w c (fails_largest n m g e lt top) h = rw e (inr top)
-row_cause w c (fails_refused n g e lt) h = rw e (inl refl)
+row_cause w c (fails_largest n m g e lt top) h = rw e (ltb-false g.size (g.capacity / 2) lt, inr top)
+row_cause w c (fails_refused n g e lt) h = rw e (ltb-false g.size (g.capacity / 2) lt, inl refl)
 row_cause w c _ h = absurd (cc)
 
 begin_refusable : {x : Event} {n : ℕ} {v : Option ℕ} {p : Phase} {h : ℕ} → Opens x n v p h → refusable p Pending ≡ false

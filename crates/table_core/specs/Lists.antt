@@ -189,11 +189,11 @@ pub record IsSettled (l : Law) (f : ℕ) (s : List Event) : Type 0 where
 abbrev pub Classes : Law → ℕ → List Event → Type 0
 Classes l f s =
     IsSettled l f s → (x : ℕ) →
-    weigh (λ e. passes (l.equal x e)) (kept (after f s)) ≡ passes (list_any (l.equal x) (given (after f s).calls))
+    weigh (λ e. passes (l.equal x e)) (kept (after f s)) ≡ passes (list_any (l.equal x) (given (empty f) s))
 
 -- so another such schedule of the same inserts, as one of one thread, has the same classes
 abbrev pub SameClasses : Law → ℕ → List Event → Law → ℕ → List Event → Type 0
 SameClasses l f s k g t =
     IsSettled l f s → IsSettled k g t → ((a b : ℕ) → l.equal a b ≡ k.equal a b) →
-    SameBag (given (after f s).calls) (given (after g t).calls) → (x : ℕ) →
+    SameBag (given (empty f) s) (given (empty g) t) → (x : ℕ) →
     weigh (λ e. passes (l.equal x e)) (kept (after f s)) ≡ weigh (λ e. passes (l.equal x e)) (kept (after g t))

@@ -1,18 +1,19 @@
 -- What holds of every schedule, whatever the closures answer.
-use Rattle.std.specs.Prelude.{ℕ, ◌+◌, ◌-◌, ◌*◌, ◌^◌, ◌≡◌, ◌≤◌, ◌⊎◌, max, Bool, true, false, Option, Some, None, List, [], ◌∷◌, ◌++◌, length}
+use Rattle.std.specs.Prelude.{ℕ, ◌+◌, ◌-◌, ◌*◌, ◌/◌, ◌^◌, ◌≡◌, ◌≤◌, ◌⊎◌, max, Bool, true, false, Option, Some, None, List, [], ◌∷◌, ◌++◌, length}
 use Rattle.table_core.specs.Bags.{SameBag, count_of}
 use Rattle.table_core.specs.Replies.{Told, ToldPlaced, ToldFound, ToldRefused, ToldSome, ToldLen, ToldWalk, Reply}
-use Rattle.table_core.specs.Generations.{Gen, current}
-use Rattle.table_core.specs.Calls.{Call, call_numbered}
+use Rattle.table_core.specs.Generations.{Gen, bits_of, current}
+use Rattle.table_core.specs.Calls.{Call, call_numbered, holds_shared}
 use Rattle.table_core.specs.Machine.{World, empty, Begins, acts, after, reply}
 use Rattle.table_core.specs.History.{replies, placed, given, back, kept, running, buckets, added, reads, generations_loaded, TakenEvent, bucket_then, has_later}
 use Rattle.table_core.specs.declared.event.Event.{Event}
-use Rattle.table_core.specs.declared.event.Event.TheVariants.{Lookup, Load, Put, Check}
+use Rattle.table_core.specs.declared.event.Event.TheVariants.{Lookup, Load, Read, Put, Check}
 use Rattle.table_core.specs.declared.event.Entry.{Entry}
+use Rattle.table_core.specs.declared.call.CallState.{CallState}
 use Rattle.table_core.specs.declared.call.Phase.{Phase}
 use Rattle.table_core.specs.declared.call.Phase.TheVariants.{AtEmpty, Owned}
 use Rattle.table_core.specs.declared.call.Answer.{Answer}
-use Rattle.table_core.specs.declared.call.Answer.TheVariants.{Holds, MemoryRefused, Failed}
+use Rattle.table_core.specs.declared.call.Answer.TheVariants.{MemoryRefused, Failed}
 
 -- after this schedule, this event ends a call with this reply
 abbrev pub Ends : ℕ → List Event → Event → Reply → Type 0
@@ -20,7 +21,7 @@ Ends f s x r = reply (after f s) x ≡ Some r
 
 -- the values of the inserts that have begun are those handed back, those kept and those of calls that still run
 abbrev pub ValuesStay : ℕ → List Event → Type 0
-ValuesStay f s = SameBag (given (after f s).calls) (back (replies (empty f) s) ++ kept (after f s) ++ running (after f s).calls)
+ValuesStay f s = SameBag (given (empty f) s) (back (replies (empty f) s) ++ kept (after f s) ++ running (after f s).calls)
 
 -- the current generation holds what was placed, up to order
 abbrev pub KeptIsPlaced : ℕ → List Event → Type 0
@@ -44,11 +45,22 @@ value_told (ToldFound e v) = Some v
 value_told (ToldRefused v) = Some v
 value_told _ = None
 
+-- the closure's yes that a read or a put carries
+abbrev pub says_yes : Event → Bool
+says_yes (Read n y) = y
+says_yes (Put n y granted) = y
+says_yes _ = false
+
+-- an event of a call in this state says yes to an entry, whose bits are those of the call's hash
+pub record SaysYes (x : Event) (s : CallState) (e : Entry) : Type 0 where
+  pub yes : says_yes x ≡ true
+  pub bits : e.bits ≡ bits_of s.hash
+
 -- call n read or met this entry at an event where its bits agreed and the closure said yes
 pub record AcceptedEntry (f : ℕ) (s : List Event) (n e : ℕ) : Type 0 where
   pub at : TakenEvent f s n
-  pub accepted : at.found ≡ Holds true true
   pub entry : Entry
+  pub accepted : SaysYes at.event at.call.state entry
   pub there : bucket_then f s n at ≡ Some entry
   pub value : entry.value ≡ e
 
@@ -68,7 +80,7 @@ OwnAnswers f s x r = Ends f s x r → IsOwnAnswer f s x r
 abbrev pub IsCause : Option Gen → Event → Answer → Type 0
 IsCause g (Put n y granted) MemoryRefused = granted ≡ false
 IsCause None (Check n granted) Failed = granted ≡ false
-IsCause (Some g) (Check n granted) Failed = (granted ≡ false) ⊎ (g.capacity ≡ 2 ^ 63)
+IsCause (Some g) (Check n granted) Failed = (g.capacity / 2 ≤ g.size) × ((granted ≡ false) ⊎ (g.capacity ≡ 2 ^ 63))
 IsCause g _ _ = ⊥
 
 -- a put or a check
@@ -109,6 +121,12 @@ pub record IsWholeWalk (f : ℕ) (s : List Event) (n : ℕ) (list : List ℕ) : 
 
 abbrev pub WalksWhole : ℕ → List Event → Event → ℕ → List ℕ → Type 0
 WalksWhole f s x n list = Ends f s x (record { call = n; told = ToldWalk list }) → IsWholeWalk f (s ++ x ∷ []) n list
+
+-- Growth
+
+-- while a call holds the lock shared, as each does that puts its value, no generation is being built
+abbrev pub GrowsAlone : ℕ → List Event → ℕ → Call → Type 0
+GrowsAlone f s n c = call_numbered n (after f s).calls ≡ Some c → holds_shared c.state.phase ≡ true → (after f s).table.building ≡ None
 
 -- Bounds
 

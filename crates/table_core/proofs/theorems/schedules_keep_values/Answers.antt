@@ -5,6 +5,9 @@ use Rattle.table_core.proofs.Lengths.{lengths_between}
 use Rattle.table_core.proofs.Walks.{walks_whole}
 use Rattle.table_core.proofs.FewReads.{lookups_read_few}
 use Rattle.table_core.proofs.FewLoads.{inserts_load_once}
+use Rattle.table_core.specs.Machine.{after}
+use Rattle.table_core.proofs.Turns.{slot}
+use Rattle.table_core.proofs.Contents.{nothing_built}
 use Rattle.table_core.proofs.theorems.schedules_keep_values.Goals as goal
 
 pub returns-clause-values_stay : goal.returns-clause-values_stay
@@ -18,6 +21,9 @@ returns-clause-placed_grows c = placed_grows
 
 pub returns-clause-few_buckets : goal.returns-clause-few_buckets
 returns-clause-few_buckets c = few_buckets
+
+pub returns-clause-grows_alone : goal.returns-clause-grows_alone
+returns-clause-grows_alone k f s n c first m h = let i = slot n (after f s).calls c m in nothing_built (after f s) (inv f first s).locked i.at c i.there h
 
 pub returns-clause-own_answers : goal.returns-clause-own_answers
 returns-clause-own_answers c f s x r first = own_answers f (inv f first) s x r
