@@ -10,7 +10,7 @@ use Rattle.table_core.specs.Machine.{World, empty, bucket_at, place, begin_growt
 use Rattle.table_core.specs.History.{replies, placed_by, placed}
 use Rattle.table_core.specs.Steps.{accepts, turned, Row, shares, loads_none, loads, reads_empty, meets, turns, goes_on, puts, loses_meets, loses_turns, loses_goes_on, adds, leaves_grow, large, owns, begins_first, fails_first, unwanted, fails_largest, fails_refused, begins_next, copies, shows, looks, look_meets, look_goes_on, len_loads, walk_loads, Opens, opens_insert, opens_lookup, opens_len, opens_walk, left}
 use Rattle.table_core.specs.declared.event.Event.{Event}
-use Rattle.table_core.specs.declared.event.Event.TheVariants.{Read, Put}
+use Rattle.table_core.specs.declared.event.Event.TheVariants.{Read, Put, Copy}
 use Rattle.table_core.specs.declared.event.Entry.{Entry}
 use Rattle.table_core.specs.declared.call.CallState.{CallState}
 use Rattle.table_core.specs.declared.call.Phase.{Phase}
@@ -20,10 +20,10 @@ use Rattle.table_core.specs.declared.call.Answer.{Answer}
 use Rattle.table_core.specs.declared.call.Answer.TheVariants.{Holds}
 use Rattle.table_core.proofs.Lists.{weigh-append, get-set, get-push}
 use Rattle.table_core.proofs.Locks.{weigh-le, more}
-use Rattle.std.proofs.lemmas.Bool.{ltb-false, eq-eqb}
+use Rattle.std.proofs.lemmas.Bool.{ltb-false, eq-eqb, eqb-true}
 use Rattle.std.proofs.Math.Nat.{mod-lt, add-mod-mod}
 use Rattle.std.specs.Option.{is_some}
-use Rattle.table_core.specs.Law.{Law, AnswersBy, FindsBy, OpensBy, ActsBy, RunsBy, IsLawful}
+use Rattle.table_core.specs.Law.{Law, AsksBy, CopiesBy, UsesBy, OpensBy, ActsBy, RunsBy, IsLawful}
 use Rattle.table_core.specs.Law.{accepts as accepts_value}
 use Rattle.table_core.specs.Lists.{passes as one_if, AllApart, PlacedApart}
 use Rattle.table_core.proofs.Turns.{Turn, rests, opens, takes}
@@ -34,7 +34,7 @@ use Rattle.table_core.proofs.Contents.{order, in_put, in_bucket, in_get, put_sta
 use Rattle.table_core.proofs.Seats.{first_empty_way, copy_room}
 use Rattle.table_core.proofs.Tracks.{growth_from, asking_outcome, load_outcome, none_shared, none_look, none_len, none_walk, tracked_row}
 use Rattle.table_core.proofs.Invariant.{inv}
-use Rattle.table_core.proofs.Truth.{not-true}
+use Rattle.table_core.proofs.Truth.{and_both, not-true}
 use Rattle.table_core.proofs.Sizes.{place_building}
 
 -- What a probe misses
@@ -133,13 +133,14 @@ row_hash w c (shares _ _) = refl
 row_hash w c _ = refl
 
 -- an answer yes where the bits agree: the entry is accepted
-pub accepted_at : (l : Law) (w : World) (c : Call) (p : Phase) (x : Event) (e : Entry) (y b : Bool) → c.state.phase ≡ p → (AnswersBy l p c y e → y ≡ accepts_value l c e.value) → bucket_at w.table c.state ≡ Some e → (b && y) ≡ true → FindsBy l w c x (Holds b y) → accepts_value l c e.value ≡ true
-accepted_at l w c p x e y true k s q f u = sym (s (subst (λ z. AnswersBy l z c y e) k (u e q))) ∙ f
-accepted_at l w c p x e y false k s q f u = absurd (cc)
+pub accepted_at : (l : Law) (w : World) (c : Call) (p : Phase) (x : Event) (e : Entry) (y : Bool) → c.state.phase ≡ p → (UsesBy l w c p x → AsksBy l w c y) → bucket_at w.table c.state ≡ Some e → accepts e c.state y ≡ true → UsesBy l w c c.state.phase x → accepts_value l c e.value ≡ true
+accepted_at l w c p x e y k s q f u =
+    let b : ((e.bits == bits_of c.state.hash) ≡ true) × (y ≡ true) = and_both (e.bits == bits_of c.state.hash) y f in
+    sym (s (subst (λ z. UsesBy l w c z x) k u) e q (eqb-true e.bits (bits_of c.state.hash) b.0)) ∙ b.1
 
 -- an answer no, or other bits: the entry isn't accepted
-pub refused_at : (l : Law) (w : World) (c : Call) (p : Phase) (x : Event) (e : Entry) (y b : Bool) → (e.bits == bits_of c.state.hash) ≡ b → c.state.phase ≡ p → (AnswersBy l p c y e → y ≡ accepts_value l c e.value) → bucket_at w.table c.state ≡ Some e → (b && y) ≡ false → FindsBy l w c x (Holds b y) → e.bits ≡ bits_of (l.hash e.value) → ((x : ℕ) → accepts_value l c x ≡ true → l.hash x ≡ c.state.hash) → accepts_value l c e.value ≡ false
-refused_at l w c p x e y true h k s q f u m t = sym (s (subst (λ z. AnswersBy l z c y e) k (u e q))) ∙ f
+pub refused_at : (l : Law) (w : World) (c : Call) (p : Phase) (x : Event) (e : Entry) (y b : Bool) → (e.bits == bits_of c.state.hash) ≡ b → c.state.phase ≡ p → (UsesBy l w c p x → AsksBy l w c y) → bucket_at w.table c.state ≡ Some e → (b && y) ≡ false → UsesBy l w c c.state.phase x → e.bits ≡ bits_of (l.hash e.value) → ((x : ℕ) → accepts_value l c x ≡ true → l.hash x ≡ c.state.hash) → accepts_value l c e.value ≡ false
+refused_at l w c p x e y true h k s q f u m t = sym (s (subst (λ z. UsesBy l w c z x) k u) e q (eqb-true e.bits (bits_of c.state.hash) h)) ∙ f
 refused_at l w c p x e y false h k s q f u m t = not-true _ (λ z. let n : l.hash e.value ≡ c.state.hash = t e.value z in let v : e.bits ≡ bits_of c.state.hash = rw n at m in let o : eqb e.bits (bits_of c.state.hash) ≡ true = eq-eqb _ _ v in cc)
 
 abbrev pub AllReached : Law → World → Type 0
@@ -149,7 +150,7 @@ abbrev pub HasHash : Law → Call → Type 0
 HasHash l c = (x : ℕ) → accepts_value l c x ≡ true → l.hash x ≡ c.state.hash
 
 -- what a probing call knows where it reads an entry that it doesn't accept
-pub refused_by : (l : Law) (w : World) (c : Call) (p : Phase) (x : Event) (e : Entry) (y : Bool) → AllReached l w → c.state.phase ≡ p → (AnswersBy l p c y e → y ≡ accepts_value l c e.value) → bucket_at w.table c.state ≡ Some e → accepts e c.state y ≡ false → FindsBy l w c x (Holds (e.bits == bits_of c.state.hash) y) → HasHash l c → Probing w.table.gens c → accepts_value l c e.value ≡ false
+pub refused_by : (l : Law) (w : World) (c : Call) (p : Phase) (x : Event) (e : Entry) (y : Bool) → AllReached l w → c.state.phase ≡ p → (UsesBy l w c p x → AsksBy l w c y) → bucket_at w.table c.state ≡ Some e → accepts e c.state y ≡ false → UsesBy l w c c.state.phase x → HasHash l c → Probing w.table.gens c → accepts_value l c e.value ≡ false
 refused_by l w c p x e y r h s b f u t q = refused_at l w c p x e y _ refl h s b f u ((r q.number q.gen q.got).bits e (in_bucket e q.gen.entries c.state.index (bucket_some w.table c.state q.number q.gen e q.walked q.got b))) t
 
 -- the buckets of a probe up to the one that it reads
@@ -179,7 +180,7 @@ missed_as l gens c d n q a b e m k g wa ge =
           rw (a, b) (m.none j f lt z);
     }
 
-pub judged_probes : (l : Law) (w : World) (c : Call) {p : Phase} {x : Event} {a : Answer} {r : CallState} {ls : List ℕ} {t : Table} {q : Option Told} → Row w c p x a r ls t q → c.state.phase ≡ p → FindsBy l w c x a → AllReached l w → (is_asking p ≡ true → HasHash l c) → (probing p ≡ true → Probing w.table.gens c) → (probing p ≡ true → (k : ℕ) (g : Gen) → c.state.walked ≡ Some k → slice_get w.table.gens k ≡ Some g → Missed l c g c.state.seen) → probing r.phase ≡ true → (k : ℕ) (g : Gen) → r.walked ≡ Some k → slice_get w.table.gens k ≡ Some g → Missed l (left c r ls) g r.seen
+pub judged_probes : (l : Law) (w : World) (c : Call) {p : Phase} {x : Event} {a : Answer} {r : CallState} {ls : List ℕ} {t : Table} {q : Option Told} → Row w c p x a r ls t q → c.state.phase ≡ p → UsesBy l w c c.state.phase x → AllReached l w → (is_asking p ≡ true → HasHash l c) → (probing p ≡ true → Probing w.table.gens c) → (probing p ≡ true → (k : ℕ) (g : Gen) → c.state.walked ≡ Some k → slice_get w.table.gens k ≡ Some g → Missed l c g c.state.seen) → probing r.phase ≡ true → (k : ℕ) (g : Gen) → r.walked ≡ Some k → slice_get w.table.gens k ≡ Some g → Missed l (left c r ls) g r.seen
 judged_probes l w c (loads _ _ _) e u r t q m z = λ k g wa ge. record { none = λ j f lt h. absurd (omega arith) }
 judged_probes l w c (looks _ _ _) e u r t q m z = λ k g wa ge. record { none = λ j f lt h. absurd (omega arith) }
 judged_probes l w c (goes_on n y d b f lt) e u r t q m z = missed_as l w.table.gens c _ _ (q refl) refl refl refl (missed_more l w c d (q refl) b (refused_by l w c Probe (Read n y) d y r e (λ x. x) b f u (t refl) (q refl)) (m refl))
@@ -207,7 +208,7 @@ missed_all l w c r ls e q lt m k g wa ge =
 pub missed_same : (l : Law) (gens : List Gen) (c : Call) (s : CallState) (ls : List ℕ) → s.walked ≡ c.state.walked → s.hash ≡ c.state.hash → ((k : ℕ) (g : Gen) → c.state.walked ≡ Some k → slice_get gens k ≡ Some g → Missed l c g g.capacity) → (k : ℕ) (g : Gen) → s.walked ≡ Some k → slice_get gens k ≡ Some g → Missed l (left c s ls) g g.capacity
 missed_same l gens c s ls e h m k g wa ge = record { none = λ j f lt b. let z : bucket g.entries (at_place g.capacity c.state.hash j) ≡ Some f = rw (← h) b in (m k g (sym e ∙ wa) ge).none j f lt z }
 
-pub judged_turned : (l : Law) (w : World) (c : Call) {p : Phase} {x : Event} {a : Answer} {r : CallState} {ls : List ℕ} {t : Table} {q : Option Told} → Row w c p x a r ls t q → c.state.phase ≡ p → fitting (is_some c.value) p c.state.outcome ≡ true → FindsBy l w c x a → AllReached l w → (is_asking p ≡ true → HasHash l c) → (probing p ≡ true → Probing w.table.gens c) → (probing p ≡ true → (k : ℕ) (g : Gen) → c.state.walked ≡ Some k → slice_get w.table.gens k ≡ Some g → Missed l c g c.state.seen) →
+pub judged_turned : (l : Law) (w : World) (c : Call) {p : Phase} {x : Event} {a : Answer} {r : CallState} {ls : List ℕ} {t : Table} {q : Option Told} → Row w c p x a r ls t q → c.state.phase ≡ p → fitting (is_some c.value) p c.state.outcome ≡ true → UsesBy l w c c.state.phase x → AllReached l w → (is_asking p ≡ true → HasHash l c) → (probing p ≡ true → Probing w.table.gens c) → (probing p ≡ true → (k : ℕ) (g : Gen) → c.state.walked ≡ Some k → slice_get w.table.gens k ≡ Some g → Missed l c g c.state.seen) →
     (wants_growth p c.state.outcome ≡ true → (k : ℕ) (g : Gen) → c.state.walked ≡ Some k → slice_get w.table.gens k ≡ Some g → Missed l c g g.capacity) →
     wants_growth r.phase r.outcome ≡ true → (k : ℕ) (g : Gen) → r.walked ≡ Some k → slice_get w.table.gens k ≡ Some g → Missed l (left c r ls) g g.capacity
 judged_turned l w c (loads_none _ _) e f u r t q m v z = λ k g wa ge. absurd (cc)
@@ -233,10 +234,10 @@ met_accepted l w c d b y i e h k =
     let q : d ≡ e = same_entry d e _ z k in
     rw (← q) y
 
-pub judged_met : (l : Law) (w : World) (c : Call) {p : Phase} {x : Event} {a : Answer} {r : CallState} {ls : List ℕ} {t : Table} {q : Option Told} → Row w c p x a r ls t q → c.state.phase ≡ p → fitting (is_some c.value) p c.state.outcome ≡ true → FindsBy l w c x a → ((i : ℕ) (e : Entry) → c.state.outcome ≡ Existing i → bucket_in (gen_of w.table.gens c.state.walked) i ≡ Some e → accepts_value l c e.value ≡ true) → (i : ℕ) (e : Entry) → r.outcome ≡ Existing i → bucket_in (gen_of w.table.gens r.walked) i ≡ Some e → accepts_value l c e.value ≡ true
-judged_met l w c (meets n y d b o) e f u m = met_accepted l w c d b (accepted_at l w c Probe (Read n y) d y _ e (λ x. x) b o u)
-judged_met l w c (loses_meets n y d b o) e f u m = met_accepted l w c d b (accepted_at l w c AtEmpty (Put n y true) d y _ e (λ x. x) b o u)
-judged_met l w c (look_meets n y d b o) e f u m = met_accepted l w c d b (accepted_at l w c LookProbe (Read n y) d y _ e (λ x. x) b o u)
+pub judged_met : (l : Law) (w : World) (c : Call) {p : Phase} {x : Event} {a : Answer} {r : CallState} {ls : List ℕ} {t : Table} {q : Option Told} → Row w c p x a r ls t q → c.state.phase ≡ p → fitting (is_some c.value) p c.state.outcome ≡ true → UsesBy l w c c.state.phase x → ((i : ℕ) (e : Entry) → c.state.outcome ≡ Existing i → bucket_in (gen_of w.table.gens c.state.walked) i ≡ Some e → accepts_value l c e.value ≡ true) → (i : ℕ) (e : Entry) → r.outcome ≡ Existing i → bucket_in (gen_of w.table.gens r.walked) i ≡ Some e → accepts_value l c e.value ≡ true
+judged_met l w c (meets n y d b o) e f u m = met_accepted l w c d b (accepted_at l w c Probe (Read n y) d y e (λ x. x) b o u)
+judged_met l w c (loses_meets n y d b o) e f u m = met_accepted l w c d b (accepted_at l w c AtEmpty (Put n y true) d y e (λ x. x) b o u)
+judged_met l w c (look_meets n y d b o) e f u m = met_accepted l w c d b (accepted_at l w c LookProbe (Read n y) d y e (λ x. x) b o u)
 judged_met l w c (adds _) e f u m = λ i d h k. absurd (cc)
 judged_met l w c (loads _ _ _) e f u m = λ i d h k. absurd (load_outcome Shared none_shared (is_some c.value) c.state.outcome f i h)
 judged_met l w c (loads_none _ _) e f u m = λ i d h k. absurd (load_outcome Shared none_shared (is_some c.value) c.state.outcome f i h)
@@ -245,7 +246,7 @@ judged_met l w c (len_loads _ _ _) e f u m = λ i d h k. absurd (load_outcome Le
 judged_met l w c (walk_loads _ _ _) e f u m = λ i d h k. absurd (load_outcome WalkLoad none_walk (is_some c.value) c.state.outcome f i h)
 judged_met l w c _ e f u m = m
 
-pub judged_row : (l : Law) (w : World) (c : Call) {p : Phase} {x : Event} {a : Answer} {r : CallState} {ls : List ℕ} {t : Table} {q : Option Told} → Row w c p x a r ls t q → c.state.phase ≡ p → CallOk (length w.table.gens) c → FindsBy l w c x a → AllReached l w → Tracked w.table.gens c → Judged l w.table.gens c → Judged l w.table.gens (left c r ls)
+pub judged_row : (l : Law) (w : World) (c : Call) {p : Phase} {x : Event} {a : Answer} {r : CallState} {ls : List ℕ} {t : Table} {q : Option Told} → Row w c p x a r ls t q → c.state.phase ≡ p → CallOk (length w.table.gens) c → UsesBy l w c c.state.phase x → AllReached l w → Tracked w.table.gens c → Judged l w.table.gens c → Judged l w.table.gens (left c r ls)
 judged_row l w c row e k u r t j = record {
   hash = λ h x y. j.hash (ap is_asking e ∙ row_asking w c row h) x y ∙ sym (row_hash w c row);
   probes = judged_probes l w c row e u r (λ h. j.hash (ap is_asking e ∙ h)) (λ h. t.probes (ap probing e ∙ h)) (λ h. j.probes (ap probing e ∙ h));
@@ -324,13 +325,13 @@ copied_in None (Some b) e h = absurd (cc)
 copied_in (Some g) None e h = absurd (cc)
 copied_in (Some g) (Some b) e h = (g, refl, in_get e g.entries b.copied h)
 
-pub built_reach : (l : Law) (w : World) (m : List ℕ) (rs : List Reply) (c : Call) {p : Phase} {x : Event} {a : Answer} {r : CallState} {ls : List ℕ} {t : Table} {q : Option Told} → Row w c p x a r ls t q → FindsBy l w c x a → Inv w m rs → LawOk l w → (d : Build) → t.building ≡ Some d → Reached l d.gen
-built_reach l w m rs c (puts _ _ _) u i o d h = o.built d (sym (place_building w.table c.state c.value) ∙ h)
-built_reach l w m rs c (begins_first _ _) u i o d h = reach_begin l w d h
-built_reach l w m rs c (begins_next _ _ _ _ _) u i o d h = reach_begin l w d h
-built_reach l w m rs c (copies _ k e n) u i o d h = let q = copied_in (current w.table) w.table.building e n in reach_copy l w m rs w.table.building e k refl n (u e n) ((o.gens _ q.0 q.1).bits e q.2) i o.built d h
-built_reach l w m rs c (shows _ _) u i o d h = absurd (cc)
-built_reach l w m rs c _ u i o d h = o.built d h
+pub built_reach : (l : Law) (w : World) (m : List ℕ) (rs : List Reply) (c : Call) {p : Phase} {x : Event} {a : Answer} {r : CallState} {ls : List ℕ} {t : Table} {q : Option Told} → Row w c p x a r ls t q → c.state.phase ≡ p → UsesBy l w c c.state.phase x → Inv w m rs → LawOk l w → (d : Build) → t.building ≡ Some d → Reached l d.gen
+built_reach l w m rs c (puts _ _ _) s u i o d h = o.built d (sym (place_building w.table c.state c.value) ∙ h)
+built_reach l w m rs c (begins_first _ _) s u i o d h = reach_begin l w d h
+built_reach l w m rs c (begins_next _ _ _ _ _) s u i o d h = reach_begin l w d h
+built_reach l w m rs c (copies m2 k e n) s u i o d h = let z : CopiesBy l w k = subst (λ z. UsesBy l w c z (Copy m2 k)) s u in let q = copied_in (current w.table) w.table.building e n in reach_copy l w m rs w.table.building e k refl n (z e n) ((o.gens _ q.0 q.1).bits e q.2) i o.built d h
+built_reach l w m rs c (shows _ _) s u i o d h = absurd (cc)
+built_reach l w m rs c _ s u i o d h = o.built d h
 
 -- Lawful turns
 
@@ -349,7 +350,7 @@ keeps_law l {w = w} m rs (opens n v p h ra b q f) u i o = record {
 }
 keeps_law l {w = w} m rs (takes i c p a s list t o g e row nu) u k z = record {
   gens = reach_row l w c row (λ h. (z.calls i c g).hash (ap is_asking e ∙ h)) (λ h. (k.tracked.at i c g).probes (ap probing e ∙ h)) z;
-  built = built_reach l w m rs c row u k z;
+  built = built_reach l w m rs c row e u k z;
   calls = λ j d q. elim (get-set w.calls i j c (left c s list) d g q) [
     | inl y ↦ rw y.1 (judged_grown l w.table.gens t.gens (left c s list) (row_grew w c row) (tracked_row w c row e (k.calls.at i c g) k.seated (k.tracked.at i c g)) (judged_row l w c row e (k.calls.at i c g) u z.gens (k.tracked.at i c g) (z.calls i c g)))
     | inr y ↦ judged_grown l w.table.gens t.gens d (row_grew w c row) (k.tracked.at j d y.1) (z.calls j d y.1)

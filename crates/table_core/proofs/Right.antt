@@ -25,7 +25,7 @@ use Rattle.std.specs.Prelude.{Contains}
 use Rattle.std.proofs.lemmas.Bool.{ltb-false, eq-eqb, eqb-true}
 use Rattle.std.specs.Option.{is_some}
 use Rattle.table_core.specs.ListObject.{AcceptsNone, Answers}
-use Rattle.table_core.specs.Law.{Law, FindsBy, ActsBy, IsLawful}
+use Rattle.table_core.specs.Law.{Law, UsesBy, ActsBy, IsLawful}
 use Rattle.table_core.specs.Law.{accepts as accepts_value}
 use Rattle.table_core.specs.Values.{Ends, entry_named}
 use Rattle.table_core.specs.Lists.{asked, answered, is_list_reply, is_refusal, is_moment, may_be_refused, Meets, IsRight}
@@ -241,9 +241,9 @@ found_before l f s x gens now c g t k v j e w o b =
     let q : m.0 ≡ e = same_entry m.0 e _ (entry_stays gens now c.state.walked j m.0 g m.1) b in
     rw (← q) (right_later l f s x (say c.number (ToldFound m.0.value v)) (no_refusal _) (k.found v j m.0 w o m.1))
 
-pub found_row : (l : Law) (f : ℕ) (s : List Event) (i : ℕ) (c : Call) {p : Phase} {x : Event} {a : Answer} {r : CallState} {ls : List ℕ} {t : Table} {q : Option Told} → Row (after f s) c p x a r ls t q → AllGrew (after f s).table.gens t.gens → Here l f s x c a i → c.state.phase ≡ p → InvAfter f s → FindsBy l (after f s) c x a → Fated l f s (after f s).table.gens c → (v j : ℕ) (e : Entry) → c.value ≡ Some v → r.outcome ≡ Existing j → bucket_in (gen_of t.gens r.walked) j ≡ Some e → IsRight l f (s ++ x ∷ []) (say c.number (ToldFound e.value v))
-found_row l f s i c (meets n y d b u) g h e iv fb k = found_now l f s (Read n y) i c _ y d h (ap probing e) iv b (accepted_at l (after f s) c Probe (Read n y) d y _ e (λ x. x) b u fb) (λ v. moment_read d.value v c.state.phase _ y e u)
-found_row l f s i c (loses_meets n y d b u) g h e iv fb k = found_now l f s (Put n y true) i c _ y d h (ap probing e) iv b (accepted_at l (after f s) c AtEmpty (Put n y true) d y _ e (λ x. x) b u fb) (λ v. moment_put d.value v c.state.phase _ y e u)
+pub found_row : (l : Law) (f : ℕ) (s : List Event) (i : ℕ) (c : Call) {p : Phase} {x : Event} {a : Answer} {r : CallState} {ls : List ℕ} {t : Table} {q : Option Told} → Row (after f s) c p x a r ls t q → AllGrew (after f s).table.gens t.gens → Here l f s x c a i → c.state.phase ≡ p → InvAfter f s → UsesBy l (after f s) c c.state.phase x → Fated l f s (after f s).table.gens c → (v j : ℕ) (e : Entry) → c.value ≡ Some v → r.outcome ≡ Existing j → bucket_in (gen_of t.gens r.walked) j ≡ Some e → IsRight l f (s ++ x ∷ []) (say c.number (ToldFound e.value v))
+found_row l f s i c (meets n y d b u) g h e iv fb k = found_now l f s (Read n y) i c _ y d h (ap probing e) iv b (accepted_at l (after f s) c Probe (Read n y) d y e (λ x. x) b u fb) (λ v. moment_read d.value v c.state.phase _ y e u)
+found_row l f s i c (loses_meets n y d b u) g h e iv fb k = found_now l f s (Put n y true) i c _ y d h (ap probing e) iv b (accepted_at l (after f s) c AtEmpty (Put n y true) d y e (λ x. x) b u fb) (λ v. moment_put d.value v c.state.phase _ y e u)
 found_row l f s i c (look_meets n y d b u) g h e iv fb k = λ v j d w o b. absurd (let z : c.value ≡ None = no_value LookProbe (refl, λ i. refl, λ i. refl, refl, λ i. refl, λ i. refl) c.value c.state.outcome (fit_at c _ _ (iv.calls.at i c h.1) e) in let q : Some v ≡ None = sym w ∙ z in cc)
 found_row l f s i c (adds _) g h e iv fb k = λ v j d w o b. absurd (cc)
 found_row l f s i c (loads _ _ _) g h e iv fb k = λ v j d w o b. absurd (load_outcome Shared none_shared (is_some c.value) c.state.outcome (fit_at c _ _ (iv.calls.at i c h.1) e) j o)
@@ -325,7 +325,7 @@ looked_row l f s i c (looks n g b) h e iv k z = record {
 looked_row l f s i c (look_goes_on n y d b u lt) h e iv k z = looked_later f s (Read n y) (after f s).table.gens (after f s).table.gens c _ _ refl (same_grew (after f s).table.gens) ((iv.tracked.at i c h.1).probes (ap probing e)) (k.looked e)
 looked_row l f s i c _ h e iv k z = absurd (let q : is_look_probe LookProbe ≡ true = refl in let m = ap is_look_probe z in cc)
 
-pub fated_row : (l : Law) (f : ℕ) (s : List Event) (i : ℕ) (c : Call) {p : Phase} {x : Event} {a : Answer} {r : CallState} {ls : List ℕ} {t : Table} {q : Option Told} → Row (after f s) c p x a r ls t q → AllGrew (after f s).table.gens t.gens → Here l f s x c a i → c.state.phase ≡ p → InvAfter f s → LawOk l (after f s) → FindsBy l (after f s) c x a → Fated l f s (after f s).table.gens c → Fated l f (s ++ x ∷ []) t.gens (left c r ls)
+pub fated_row : (l : Law) (f : ℕ) (s : List Event) (i : ℕ) (c : Call) {p : Phase} {x : Event} {a : Answer} {r : CallState} {ls : List ℕ} {t : Table} {q : Option Told} → Row (after f s) c p x a r ls t q → AllGrew (after f s).table.gens t.gens → Here l f s x c a i → c.state.phase ≡ p → InvAfter f s → LawOk l (after f s) → UsesBy l (after f s) c c.state.phase x → Fated l f s (after f s).table.gens c → Fated l f (s ++ x ∷ []) t.gens (left c r ls)
 fated_row l f s i c row g h e iv o fb k = record {
   placed = placed_row l f s i c row h e iv o k;
   found = found_row l f s i c row g h e iv fb k;
@@ -426,7 +426,7 @@ right_none l f s x c k g v wa ge none q =
       answer = (look_value l c (placed (empty f) q.at.before) v y, q.same);
     }
 
-pub right_row : (l : Law) (f : ℕ) (s : List Event) (i : ℕ) (c : Call) {p : Phase} {x : Event} {a : Answer} {r : CallState} {ls : List ℕ} {t : Table} {q : Option Told} → Row (after f s) c p x a r ls t q → Here l f s x c a i → c.state.phase ≡ p → InvAfter f s → LawOk l (after f s) → FindsBy l (after f s) c x a → Fated l f s (after f s).table.gens c → (b : Told) → q ≡ Some b → is_list_reply b ≡ true → IsRight l f (s ++ x ∷ []) (say c.number b)
+pub right_row : (l : Law) (f : ℕ) (s : List Event) (i : ℕ) (c : Call) {p : Phase} {x : Event} {a : Answer} {r : CallState} {ls : List ℕ} {t : Table} {q : Option Told} → Row (after f s) c p x a r ls t q → Here l f s x c a i → c.state.phase ≡ p → InvAfter f s → LawOk l (after f s) → UsesBy l (after f s) c c.state.phase x → Fated l f s (after f s).table.gens c → (b : Told) → q ≡ Some b → is_list_reply b ≡ true → IsRight l f (s ++ x ∷ []) (say c.number b)
 right_row l f s i c (leaves_refused n) h e iv o fb k b w z =
     let y = refused_told c.value b w in
     right_told l f _ c.number (ToldRefused y.0) b y.2 (right_later l f s (Free n) (say c.number (ToldRefused y.0)) (λ q. ap (λ z. answers_so may_be_refused z c.number) h.0 ∙ not_try c LeaveRefused _ c.number e refl) (k.refused y.0 y.1 (rw e refl)))
@@ -459,7 +459,7 @@ right_row l f s i c (look_turns n y d u nay lt) h e iv o fb k b w z =
     right_told l f _ c.number ToldNone b (let y : ToldNone ≡ b = cc in sym y) (right_none l f s (Read n y) c g.number g.gen v g.walked g.got (misses_at_turn l c g.gen (c.state.seen + 1) (iv.seated.gens g.number g.gen g.got) (o.gens g.number g.gen g.got) all (j.hash (ap is_asking e)) cap) (k.looked e))
 right_row l f s i c (look_meets n y d u ok) h e iv o fb k b w z =
     let v : c.value ≡ None = no_value LookProbe (refl, λ i. refl, λ i. refl, refl, λ i. refl, λ i. refl) c.value c.state.outcome (fit_at c _ _ (iv.calls.at i c h.1) e) in
-    let ac : accepts_value l c d.value ≡ true = accepted_at l (after f s) c LookProbe (Read n y) d y _ e (λ x. x) u ok fb in
+    let ac : accepts_value l c d.value ≡ true = accepted_at l (after f s) c LookProbe (Read n y) d y e (λ x. x) u ok fb in
     let te : l.test c.number d.value ≡ true = rw v at ac in
     right_told l f _ c.number (ToldSome d.value) b (let y : ToldSome d.value ≡ b = cc in sym y) (right_here l f s (Read n y) (say c.number (ToldSome d.value)) c _ h.0 refl (moment_look d.value c.state.phase _ y e ok) (λ n g. (d, u, (let t : d.value ≡ n = cc in t))) (answer_some l (placed (empty f) s) c.number d.value (bucket_placed (after f s) (placed (empty f) s) c d iv.within ((iv.tracked.at i c h.1).probes (ap probing e)) u) te))
 right_row l f s i c (len_none _ _) h e iv o fb k b w z = absurd (let y : ToldLen 0 ≡ b = cc in let m : is_list_reply (ToldLen 0) ≡ true = ap is_list_reply y ∙ z in cc)

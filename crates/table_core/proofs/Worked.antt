@@ -1,20 +1,18 @@
 -- The worked schedules, computed, and a law for each.
 use Rattle.std.proofs.Common.{ℕ, ◌≡◌, ◌-◌, ◌^◌, ◌++◌, List, [], ◌∷◌, Bool, true, false, refl, Option, Some, None, sym, ap, ◌∙◌, eqb-true}
-use Rattle.std.specs.Prelude.{◌==◌, ◌&&◌, nat_lt, if◌then◌else◌}
+use Rattle.std.specs.Prelude.{◌==◌, ◌&&◌, ◌||◌, not, nat_lt, if◌then◌else◌}
 use Rattle.std.proofs.lemmas.Bool.{eq-eqb}
 use Rattle.table_core.specs.Replies.{ToldPlaced, ToldRefused, ToldNone, ToldLen, ToldWalk}
-use Rattle.table_core.specs.Generations.{next_copied}
+use Rattle.table_core.specs.Generations.{bits_of, next_copied}
 use Rattle.table_core.specs.Calls.{Call}
 use Rattle.table_core.specs.Machine.{World, empty, Act, Begins, Goes, acts, happens, bucket_at}
-use Rattle.table_core.specs.Law.{Law, accepts, AnswersBy, CopiesBy, FindsBy, OpensBy, ActsBy, RunsBy}
+use Rattle.table_core.specs.Law.{Law, accepts, AsksBy, CopiesBy, UsesBy, OpensBy, ActsBy, RunsBy}
 use Rattle.table_core.specs.Worked.{IsWorked, LooksForWhatComes, say, all_placed, lost_to_equal, told_lost_to_equal, lost_to_other, told_lost_to_other, refused_put, told_refused_put, uncounted, late_none, told_late_none, stands_late_none, shared_lock, double_growth, two_growers, starts_again, told_starts_again, refused_first, empty_walk, short_walk, other_bits}
 use Rattle.table_core.specs.declared.event.Event.{Event}
-use Rattle.table_core.specs.declared.event.Event.TheVariants.{Insert, Lookup, Copy}
+use Rattle.table_core.specs.declared.event.Event.TheVariants.{Insert, Lookup, Read, Put, Copy}
 use Rattle.table_core.specs.declared.event.Entry.{Entry}
 use Rattle.table_core.specs.declared.call.Phase.{Phase}
-use Rattle.table_core.specs.declared.call.Phase.TheVariants.{Probe, AtEmpty, LookProbe}
-use Rattle.table_core.specs.declared.call.Answer.{Answer}
-use Rattle.table_core.specs.declared.call.Answer.TheVariants.{Holds, Copied}
+use Rattle.table_core.specs.declared.call.Phase.TheVariants.{Probe, AtEmpty, Building, LookProbe}
 use Rattle.table_core.proofs.Truth.{and_both}
 
 -- A test whether a schedule is lawful
@@ -29,36 +27,36 @@ agree_of true b h = sym h
 agree_of false true h = absurd (cc)
 agree_of false false h = refl
 
-abbrev answers_ok : Law → Phase → Call → Bool → Option Entry → Bool
-answers_ok l p c y None = true
-answers_ok l Probe c y (Some e) = agree y (accepts l c e.value)
-answers_ok l AtEmpty c y (Some e) = agree y (accepts l c e.value)
-answers_ok l LookProbe c y (Some e) = agree y (accepts l c e.value)
-answers_ok l _ c y (Some e) = true
+abbrev asks_ok : Law → Call → Bool → Option Entry → Bool
+asks_ok l c y None = true
+asks_ok l c y (Some e) = not (e.bits == bits_of c.state.hash) || agree y (accepts l c e.value)
 
-answers_by : (l : Law) (p : Phase) (c : Call) (y : Bool) (e : Entry) → answers_ok l p c y (Some e) ≡ true → AnswersBy l p c y e
-answers_by l Probe c y e h = agree_of y (accepts l c e.value) h
-answers_by l AtEmpty c y e h = agree_of y (accepts l c e.value) h
-answers_by l LookProbe c y e h = agree_of y (accepts l c e.value) h
-answers_by l _ c y e h = tt
+asks_by : (l : Law) (w : World) (c : Call) (y : Bool) → asks_ok l c y (bucket_at w.table c.state) ≡ true → AsksBy l w c y
+asks_by l w c y h e q b =
+    let k : (not (e.bits == bits_of c.state.hash) || agree y (accepts l c e.value)) ≡ true = rw q at h in
+    let m : (e.bits == bits_of c.state.hash) ≡ true = eq-eqb e.bits (bits_of c.state.hash) b in
+    agree_of y (accepts l c e.value) (rw m at k)
 
-abbrev copies_ok : Law → Event → Option Entry → Bool
-copies_ok l (Copy n h) (Some e) = h == l.hash e.value
-copies_ok l _ _ = true
+abbrev copies_ok : Law → ℕ → Option Entry → Bool
+copies_ok l h (Some e) = h == l.hash e.value
+copies_ok l h None = true
 
-copies_by : (l : Law) (w : World) (x : Event) → copies_ok l x (next_copied w.table) ≡ true → CopiesBy l w x
-copies_by l w (Copy n h) k = λ e q. eqb-true h (l.hash e.value) (rw q at k)
-copies_by l w _ k = tt
+copies_by : (l : Law) (w : World) (h : ℕ) → copies_ok l h (next_copied w.table) ≡ true → CopiesBy l w h
+copies_by l w h k = λ e q. eqb-true h (l.hash e.value) (rw q at k)
 
-abbrev finds_ok : Law → World → Call → Event → Answer → Bool
-finds_ok l w c x (Holds true y) = answers_ok l c.state.phase c y (bucket_at w.table c.state)
-finds_ok l w c x Copied = copies_ok l x (next_copied w.table)
-finds_ok l w c x _ = true
+abbrev uses_ok : Law → World → Call → Phase → Event → Bool
+uses_ok l w c Probe (Read n y) = asks_ok l c y (bucket_at w.table c.state)
+uses_ok l w c AtEmpty (Put n y true) = asks_ok l c y (bucket_at w.table c.state)
+uses_ok l w c LookProbe (Read n y) = asks_ok l c y (bucket_at w.table c.state)
+uses_ok l w c Building (Copy n h) = copies_ok l h (next_copied w.table)
+uses_ok l w c _ x = true
 
-finds_by : (l : Law) (w : World) (c : Call) (x : Event) (a : Answer) → finds_ok l w c x a ≡ true → FindsBy l w c x a
-finds_by l w c x (Holds true y) h = λ e q. answers_by l c.state.phase c y e (rw q at h)
-finds_by l w c x Copied h = copies_by l w x h
-finds_by l w c x _ h = tt
+uses_by : (l : Law) (w : World) (c : Call) (p : Phase) (x : Event) → uses_ok l w c p x ≡ true → UsesBy l w c p x
+uses_by l w c Probe (Read n y) h = asks_by l w c y h
+uses_by l w c AtEmpty (Put n y true) h = asks_by l w c y h
+uses_by l w c LookProbe (Read n y) h = asks_by l w c y h
+uses_by l w c Building (Copy n k) h = copies_by l w k h
+uses_by l w c _ x h = tt
 
 -- each look-up's test accepts only values of this hash
 abbrev opens_ok : Law → (ℕ → ℕ) → Event → Bool
@@ -77,12 +75,12 @@ opens_by l look _ t k = tt
 abbrev acts_ok : Law → (ℕ → ℕ) → World → Event → Option Act → Bool
 acts_ok l look w x None = true
 acts_ok l look w x (Some (Begins c)) = opens_ok l look x
-acts_ok l look w x (Some (Goes c a)) = finds_ok l w c x a
+acts_ok l look w x (Some (Goes c a)) = uses_ok l w c c.state.phase x
 
 acts_by : (l : Law) (look : ℕ → ℕ) (w : World) (x : Event) (a : Option Act) → Tests l look → acts_ok l look w x a ≡ true → ActsBy l w x a
 acts_by l look w x None t h = tt
 acts_by l look w x (Some (Begins c)) t h = opens_by l look x t h
-acts_by l look w x (Some (Goes c a)) t h = finds_by l w c x a h
+acts_by l look w x (Some (Goes c a)) t h = uses_by l w c c.state.phase x h
 
 abbrev runs_ok : Law → (ℕ → ℕ) → World → List Event → Bool
 runs_ok l look w [] = true

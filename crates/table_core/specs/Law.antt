@@ -1,15 +1,13 @@
 -- Lawful schedules: the closures answer by one equality, one hash and one test a look-up.
 use Rattle.std.specs.Prelude.{ℕ, ◌≡◌, Bool, true, Option, Some, None, List, [], ◌∷◌}
-use Rattle.table_core.specs.Generations.{next_copied}
+use Rattle.table_core.specs.Generations.{bits_of, next_copied}
 use Rattle.table_core.specs.Calls.{Call}
 use Rattle.table_core.specs.Machine.{World, empty, Act, Begins, Goes, acts, happens, bucket_at}
 use Rattle.table_core.specs.declared.event.Event.{Event}
-use Rattle.table_core.specs.declared.event.Event.TheVariants.{Insert, Lookup, Copy}
+use Rattle.table_core.specs.declared.event.Event.TheVariants.{Insert, Lookup, Read, Put, Copy}
 use Rattle.table_core.specs.declared.event.Entry.{Entry}
 use Rattle.table_core.specs.declared.call.Phase.{Phase}
-use Rattle.table_core.specs.declared.call.Phase.TheVariants.{Probe, AtEmpty, LookProbe}
-use Rattle.table_core.specs.declared.call.Answer.{Answer}
-use Rattle.table_core.specs.declared.call.Answer.TheVariants.{Holds, Copied}
+use Rattle.table_core.specs.declared.call.Phase.TheVariants.{Probe, AtEmpty, Building, LookProbe}
 
 -- an equality of values, their hash, and for the number of each look-up its test
 pub record Law : Type 0 where
@@ -29,23 +27,21 @@ accepts_by l n None e = l.test n e
 abbrev pub accepts : Law → Call → ℕ → Bool
 accepts l c e = accepts_by l c.number c.value e
 
--- the answers that are used at a set bucket: those of a read or put of an insert, and of a read of a look-up
-abbrev pub AnswersBy : Law → Phase → Call → Bool → Entry → Type 0
-AnswersBy l Probe c y e = y ≡ accepts l c e.value
-AnswersBy l AtEmpty c y e = y ≡ accepts l c e.value
-AnswersBy l LookProbe c y e = y ≡ accepts l c e.value
-AnswersBy l _ c y e = Unit {0}
+-- where the bucket is set and its bits agree the closure is asked, and its answer is the law's
+abbrev pub AsksBy : Law → World → Call → Bool → Type 0
+AsksBy l w c y = (e : Entry) → bucket_at w.table c.state ≡ Some e → e.bits ≡ bits_of c.state.hash → y ≡ accepts l c e.value
 
 -- a copy carries the hash of what it copies
-abbrev pub CopiesBy : Law → World → Event → Type 0
-CopiesBy l w (Copy n hash) = (e : Entry) → next_copied w.table ≡ Some e → hash ≡ l.hash e.value
-CopiesBy l w _ = Unit {0}
+abbrev pub CopiesBy : Law → World → ℕ → Type 0
+CopiesBy l w hash = (e : Entry) → next_copied w.table ≡ Some e → hash ≡ l.hash e.value
 
--- where the bits agree the closure is asked, and its answer is the law's
-abbrev pub FindsBy : Law → World → Call → Event → Answer → Type 0
-FindsBy l w c x (Holds true y) = (e : Entry) → bucket_at w.table c.state ≡ Some e → AnswersBy l c.state.phase c y e
-FindsBy l w c x Copied = CopiesBy l w x
-FindsBy l w c x _ = Unit {0}
+-- the answers that are used: those of a read or put of an insert, of a read of a look-up, and of a copy
+abbrev pub UsesBy : Law → World → Call → Phase → Event → Type 0
+UsesBy l w c Probe (Read n y) = AsksBy l w c y
+UsesBy l w c AtEmpty (Put n y true) = AsksBy l w c y
+UsesBy l w c LookProbe (Read n y) = AsksBy l w c y
+UsesBy l w c Building (Copy n hash) = CopiesBy l w hash
+UsesBy l w c _ x = Unit {0}
 
 -- an insert begins with the hash of its value, a look-up with the one hash of all that its test accepts
 abbrev pub OpensBy : Law → Event → Type 0
@@ -57,7 +53,7 @@ OpensBy l _ = Unit {0}
 abbrev pub ActsBy : Law → World → Event → Option Act → Type 0
 ActsBy l w x None = Unit {0}
 ActsBy l w x (Some (Begins c)) = OpensBy l x
-ActsBy l w x (Some (Goes c a)) = FindsBy l w c x a
+ActsBy l w x (Some (Goes c a)) = UsesBy l w c c.state.phase x
 
 abbrev pub RunsBy : Law → World → List Event → Type 0
 RunsBy l w [] = Unit {0}
