@@ -34,7 +34,7 @@ module _ {T U : Type 0} (target : T → U) (same : U → U → Bool) (hash_of : 
     pub test_is : (e : T) (answer : Bool) → Contains (entries t) e → answers (target e) answer → answer ≡ same (target x) (target e)
     pub told : LooksUpAsList target same hash_of answers t (hash_of (target x)) result
 
-  -- whatever calls came between, a look-up of x shows the entry that lives at the place that its insert named
+  -- on every later table that is still lawful, a look-up of x shows the entry that lives at the place that its insert named
   abbrev pub FindsAgain : (U → U → Bool → Type 0) → (U → ℕ → Type 0) → (U → Bool → Type 0) → Type 0
   FindsAgain eq rehash answers =
       (x : T) (p : Place) (t later : Table T) (result : Option U) →

@@ -12,7 +12,7 @@ use Rattle.lock_free_hashtable.specs.declared.place.Place.{Place}
 pub record Table (T : Type 0) : Type 0 where
   -- the capacity of the first generation
   pub first : ℕ
-  -- what each bucket of the current generation shows; no bucket before the first insert
+  -- what each bucket of the current generation shows; no bucket while there is no generation
   pub buckets : List (Option (Entry T))
   -- generation by generation, the current one last, what each bucket owns
   pub homes : List (List (Option (Entry T)))

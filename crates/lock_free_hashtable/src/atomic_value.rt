@@ -19,6 +19,7 @@ pub trait AtomicValue: Drop {
         ensures { result.now ≡ target self.now };
 }
 
+// `T: Drop`, here and for `Arc`: each can be dropped only where what it holds can be, and a table drops its values.
 impl<T: Drop, A: Allocator> AtomicValue for Box<T, A> {
     type Target = T;
 

@@ -92,7 +92,7 @@ impl<T: AtomicValue, A: Allocator + Copy> HeldRawTable<T, A> {
         self.len_alone() == 0
     }
 
-    /// The buckets of the current generation; 0 before the first insert.
+    /// The buckets of the current generation; 0 while there is no generation.
     pub fn capacity_alone(&self) -> usize
         ensures { result ≡ capacity self.now }
     {
@@ -108,6 +108,8 @@ impl<T: AtomicValue, A: Allocator + Copy> HeldRawTable<T, A> {
         if capacity == 0 {
             return 0;
         }
+        // Each generation is twice the one before, so all together are twice this one less the first; in this order no
+        // sum passes 2^64.
         capacity - self.first + capacity
     }
 
@@ -243,6 +245,7 @@ impl<T: AtomicValue, A: Allocator + Copy> HeldRawTable<T, A> {
     /// `eq` is asked with the target of the value first and that of an entry second. Ok with None: the value is an entry
     /// now. Ok with a value: that value was handed in, and the entry at the place was accepted as its equal. Err: memory
     /// was refused, the value comes back, and the entries are as they were. A refused growth after an Ok keeps the Ok.
+    /// The closures are borrowed, so that generic callers can pass their own on.
     pub fn place_alone<
         L: Law<T::Target>,
         E: Fn(&T::Target, &T::Target) -> bool,

@@ -53,6 +53,7 @@ pub struct Refusing<B: Allocator> {
 }
 
 impl<B: Allocator> Refusing<B> {
+    /// The memory of `inner`, under this rule.
     pub fn new(inner: B, rule: Rule) -> Refusing<B> {
         Refusing { inner, rule }
     }

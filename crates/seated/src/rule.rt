@@ -17,14 +17,14 @@ impl TableRule<(), View, u64> for NumberRule {
     ghost first = { fresh_view };
 }
 
-// Reads a bucket.
+/// Reads a bucket.
 pub(crate) struct Read;
 
 impl Play<(), View> for Read {
     ghost then = { Reads unchanged };
 }
 
-// Reads a bucket and raises the seat's turn.
+/// Reads a bucket and raises the seat's turn.
 pub(crate) struct ReadAndRaise;
 
 impl Play<(), View> for ReadAndRaise {
@@ -33,7 +33,7 @@ impl Play<(), View> for ReadAndRaise {
     ghost then = { Reads with_next_turn };
 }
 
-// Reads a bucket and forgets what was said of a giver, once that was compared.
+/// Reads a bucket and forgets what was said of a giver, once that was compared.
 pub(crate) struct ReadAndForget;
 
 impl Play<(), View> for ReadAndForget {
@@ -42,14 +42,14 @@ impl Play<(), View> for ReadAndForget {
     ghost then = { Reads without_gift };
 }
 
-// Exchanges an empty bucket for a number, or reads the number that is there.
+/// Exchanges an empty bucket for a number, or reads the number that is there.
 pub(crate) struct Claim;
 
 impl Play<(), View> for Claim {
     ghost then = { Claims };
 }
 
-// Cuts off a seat that knows nothing.
+/// Cuts off a seat that knows nothing.
 pub(crate) struct CutNewcomer;
 
 impl Split<View> for CutNewcomer {
@@ -60,7 +60,7 @@ impl Split<View> for CutNewcomer {
     ghost right = { newcomer_of };
 }
 
-// Cuts off a note of what the seat knows.
+/// Cuts off a note of what the seat knows.
 pub(crate) struct CutNote;
 
 impl Split<View> for CutNote {
@@ -71,7 +71,7 @@ impl Split<View> for CutNote {
     ghost right = { note_of };
 }
 
-// Cuts off a gift: what the seat knows, and what it placed so far.
+/// Cuts off a gift: what the seat knows, and what it placed so far.
 pub(crate) struct CutGift;
 
 impl Split<View> for CutGift {
@@ -82,7 +82,7 @@ impl Split<View> for CutGift {
     ghost right = { gift_of };
 }
 
-// Takes in another seat, a note or a gift.
+/// Takes in another seat, a note or a gift.
 pub(crate) struct TakeIn;
 
 impl Join<View> for TakeIn {

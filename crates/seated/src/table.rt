@@ -19,7 +19,7 @@ use std::num::NonZeroU64;
 #[derive(Drop)]
 pub struct NumberTable<A: Allocator + Copy> {
     table: Table<(), View, u64, NumberRule, A>,
-    // As long as the table, for `close`.
+    /// As long as the table, for `close`.
     room: Vec<u64, A>,
     ghost some_words: { 0 < table.shared.table_id.words },
     ghost power: { is_power_of_two table.shared.table_id.words ≡ true },
@@ -59,7 +59,7 @@ impl<A: Allocator + Copy> NumberTable<A> {
         self.table.word_count()
     }
 
-    // Returns 0 where x was placed, and else the number that the bucket holds.
+    /// Returns 0 where x was placed, and else the number that the bucket holds.
     fn claim(&self, seat: &mut Seat, bucket: usize, x: u64) -> u64
         requires table { seat.old.inner.table_id ≡ self.now.table.shared.table_id }
         requires size { seat.old.inner.me.0.size ≡ seat.old.inner.table_id.words }
@@ -168,7 +168,7 @@ impl<A: Allocator + Copy> NumberTable<A> {
         seat
     }
 
-    // Reads each bucket but the first.
+    /// Reads each bucket but the first.
     fn read_rest(&self, seat: &mut Seat)
         requires table { seat.old.inner.table_id ≡ self.now.table.shared.table_id }
         requires size { seat.old.inner.me.0.size ≡ seat.old.inner.table_id.words }
@@ -228,7 +228,7 @@ impl<A: Allocator + Copy> NumberTable<A> {
     }
 }
 
-// The first bucket of a probe for x, among so many.
+/// The first bucket of a probe for x, among so many.
 fn first_bucket(x: u64, count: usize) -> usize
     requires { (0 < count) × (is_power_of_two count ≡ true) }
     ensures { result ≡ bucket_at count x 0 }
@@ -236,7 +236,7 @@ fn first_bucket(x: u64, count: usize) -> usize
     x as usize & (count - 1)
 }
 
-// The bucket after this one, round the end.
+/// The bucket after this one, round the end.
 fn next_bucket(bucket: usize, count: usize) -> usize
     requires { (bucket < count) × (is_power_of_two count ≡ true) }
     ensures { result ≡ (bucket + 1) % count }

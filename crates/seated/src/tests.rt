@@ -138,7 +138,7 @@ fn insert_in_threads<R: Threads + Sync>(
     )
 }
 
-// Each number was placed for one of the seats, and found by all others.
+/// Each number was placed for one of the seats, and found by all others.
 fn assert_placed_once(rt: &impl Abort, all: &[Told], last: u32) {
     let mut placed = 0;
     for told in all {

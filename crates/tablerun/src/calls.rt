@@ -15,7 +15,7 @@ use std::alloc::Allocator;
 use std::io::{Read, Write};
 
 /// Answers the lines of the input, one by one, on a table whose first generation will have `first` buckets. Every reply is
-/// kept in the output at the latest when the next line is asked for.
+/// sent before more input is read.
 pub fn run_calls<A: Allocator + Copy, I: Read, O: Write>(
     alloc: A,
     first: usize,
@@ -25,6 +25,7 @@ pub fn run_calls<A: Allocator + Copy, I: Read, O: Write>(
     requires { IsFirstCapacity first }
 {
     let mut table = PairTable::new(alloc, first);
+    // Counted only so that the loop has an end, and to name a bad line.
     for count in 0..u64::MAX {
         let line = match lines.next_line(output)? {
             Next::Line(text) => parse_line(text),

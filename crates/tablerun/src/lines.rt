@@ -37,6 +37,7 @@ pub struct Lines<R> {
 }
 
 impl<R: Read> Lines<R> {
+    /// The lines of this reader, of which nothing is read yet.
     pub fn new(reader: R) -> Lines<R> {
         Lines {
             reader,
@@ -51,6 +52,7 @@ impl<R: Read> Lines<R> {
 
     /// Takes the next line. The output is flushed before each read, since a read may wait.
     pub fn next_line<W: Write>(&mut self, output: &mut W) -> Result<Next<'_>, Fault> {
+        // Counted only so that the loop has an end.
         for _read in 0..u64::MAX {
             if let Some(line_break) = self.find_break() {
                 let start = self.start;

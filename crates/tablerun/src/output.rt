@@ -15,6 +15,7 @@ pub struct Output<W> {
 }
 
 impl<W: Write> Output<W> {
+    /// Output to this writer, with nothing kept yet.
     pub fn new(writer: W) -> Output<W> {
         Output {
             writer,

@@ -16,8 +16,7 @@ use table_core::reply::Finished;
 use table_core::state::State;
 
 /// Takes the events of the input, one by one, on a table whose first generation will have `first` buckets. A line is
-/// written where a call finishes or the buckets are asked for; it is kept in the output at the latest when the next line is
-/// asked for.
+/// written where a call finishes or the buckets are asked for. Every reply is sent before more input is read.
 pub fn run_core<I: Read, O: Write>(
     alloc: Global,
     first: usize,
@@ -27,6 +26,7 @@ pub fn run_core<I: Read, O: Write>(
     requires { IsFirstCapacity first }
 {
     let mut state = State::with_first_capacity(alloc, first as u64);
+    // Counted only so that the loop has an end, and to name a bad line.
     for count in 0..u64::MAX {
         let line = match lines.next_line(output)? {
             Next::Line(text) => parse_schedule_line(text),

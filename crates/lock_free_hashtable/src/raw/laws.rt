@@ -6,7 +6,7 @@ ghost use Rattle.lock_free_hashtable.specs.Table.{LawfulWithoutEntries};
 use crate::atomic_value::{AtomicValue, Law};
 
 /// A place stays good: from a table to a later one every place keeps its entry, and to be later is reflexive and
-/// transitive. Each call on a table held alone leaves a later one.
+/// transitive. Every `place_alone` leaves a later one.
 pub fn places_stay_good<T: AtomicValue>()
     ensures reflexive { LaterIsReflexive T }
     ensures transitive { LaterIsTransitive T }
@@ -22,9 +22,9 @@ pub fn answers_live<T: AtomicValue, E: Fn(&T::Target, &T::Target) -> bool>(eq: &
     ensures { AnswersLive T.target (FnReturnsAtPair E.Fn eq.now) }
 {}
 
-/// What was inserted is found again. An insert of a value by `eq` and `hash_fn` was lawful and not refused; then every
-/// later look-up by a `test` for "same as the value", on a table that is lawful then, shows the very entry at the
-/// place that the insert named, whatever calls and growth came between.
+/// What was inserted is found again. An insert of a value by `eq` and `hash_fn` was lawful and not refused; then a look-up
+/// by a `test` for "same as the value", on every later table that is still lawful (lawful inserts keep it so), shows the
+/// very entry at the place that the insert named.
 pub fn inserted_is_found_again<
     T: AtomicValue,
     L: Law<T::Target>,
