@@ -57,6 +57,11 @@ impl<B: Allocator> Refusing<B> {
     pub fn new(inner: B, rule: Rule) -> Refusing<B> {
         Refusing { inner, rule }
     }
+
+    /// How many requests the rule is still going to refuse.
+    pub fn refusals_left(&self) -> u64 {
+        self.rule.refused.load(Ordering::SeqCst)
+    }
 }
 
 impl<B: Allocator> Drop for Refusing<B> {

@@ -1,16 +1,17 @@
 //! What the program replies to an event by which a call finishes.
 ghost use Rattle.std.specs.Prelude.{Some};
 
+use std::alloc::Allocator;
 use std::fmt;
 use table_core::reply::{Finished, Reply};
 
 /// The line of a call that has finished.
 #[derive(Clone, Copy)]
-pub struct Answer<'a> {
-    pub finished: &'a Finished,
+pub struct Answer<'a, A: Allocator + Copy> {
+    pub finished: &'a Finished<A>,
 }
 
-impl fmt::Display for Answer<'_> {
+impl<A: Allocator + Copy> fmt::Display for Answer<'_, A> {
     ghost use Rattle.tablerun.specs.Answers.{answer_text};
 
     ghost output = { λ a. Some (answer_text a.finished.now) };

@@ -19,7 +19,7 @@ use std::thread::Threads;
 /// Runs the command that the words after the program's name stand for, and answers the status. Replies go to the output,
 /// the message of a fault goes to `messages`, each on a line of its own. A message that cannot be written is dropped.
 pub fn run_words<
-    R: Threads + Wait + AllocGlobal,
+    R: Threads + Wait,
     A: Allocator + Copy + Send + Sync,
     S: AsStr,
     I: Read + Drop,
@@ -60,7 +60,7 @@ pub fn read_words<R: Env + Alloc>(rt: &R) -> Result<Vec<String<R::A>, R::A>, Fau
 
 /// Runs the command. The replies of the lines before a fault are written.
 fn run_command<
-    R: Threads + Wait + AllocGlobal,
+    R: Threads + Wait,
     A: Allocator + Copy + Send + Sync,
     I: Read + Drop,
     O: Write + Drop,
@@ -71,7 +71,7 @@ fn run_command<
     let mut output = Output::new(output);
     let ended = match command {
         Command::Calls { first } => run_calls(alloc, first, &mut lines, &mut output),
-        Command::Core { first } => run_core(rt.alloc(), first, &mut lines, &mut output),
+        Command::Core { first } => run_core(alloc, first, &mut lines, &mut output),
         Command::Seats { threads } => run_seats(rt, alloc, threads, &mut output),
     };
     output.flush().map_err(|_error| Fault::WriteFailed)?;

@@ -10,15 +10,15 @@ use crate::events::{ScheduleLine, parse_schedule_line};
 use crate::faults::Fault;
 use crate::lines::{Lines, Next};
 use crate::output::Output;
-use std::alloc::Global;
+use std::alloc::Allocator;
 use std::io::{Read, Write};
 use table_core::reply::Finished;
 use table_core::state::State;
 
 /// Takes the events of the input, one by one, on a table whose first generation will have `first` buckets. A line is
 /// written where a call finishes or the buckets are asked for. Every reply is sent before more input is read.
-pub fn run_core<I: Read, O: Write>(
-    alloc: Global,
+pub fn run_core<A: Allocator + Copy, I: Read, O: Write>(
+    alloc: A,
     first: usize,
     lines: &mut Lines<I>,
     output: &mut Output<O>,
@@ -43,7 +43,11 @@ pub fn run_core<I: Read, O: Write>(
 
 /// Takes an event and writes the reply of the call that finishes by it, or writes how many buckets there are. Where memory
 /// is refused the state and the output are as they were.
-fn take_line<W: Write>(state: &mut State, line: ScheduleLine, output: &mut W) -> Result<(), Fault>
+fn take_line<A: Allocator + Copy, W: Write>(
+    state: &mut State<A>,
+    line: ScheduleLine,
+    output: &mut W,
+) -> Result<(), Fault>
     ensures taken { OnOk result (state.new ≡ world_after state.old line) }
     ensures printed { OnOk result (Appends (W.contents output.old) (W.contents output.new) (printed state.old line)) }
     ensures refused { result ≡ Err Fault.NoMemory → (state.new ≡ state.old) × (output.new ≡ output.old) }
@@ -59,7 +63,10 @@ fn take_line<W: Write>(state: &mut State, line: ScheduleLine, output: &mut W) ->
 }
 
 /// Writes the line of a finished call.
-fn write_answer<W: Write>(output: &mut W, finished: &Finished) -> Result<(), Fault>
+fn write_answer<A: Allocator + Copy, W: Write>(
+    output: &mut W,
+    finished: &Finished<A>,
+) -> Result<(), Fault>
     ensures printed { OnOk result (Appends (W.contents output.old) (W.contents output.new) (answer_text finished.now ++ codes "\n")) }
     ensures fault { OnErr result (result ≡ Err Fault.WriteFailed) }
 {

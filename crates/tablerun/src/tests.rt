@@ -1,6 +1,7 @@
 //! The program, run over streams in memory.
 mod faults;
 mod memory;
+mod refusals;
 mod rows;
 mod schedules;
 mod streams;

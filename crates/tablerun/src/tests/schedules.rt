@@ -1,10 +1,6 @@
 //! Worked schedules: the lines that their events print.
 use super::run;
-use crate::commands::run_words;
 use std::alloc::Global;
-use std::cell::Cell;
-use std::io;
-use std::io::Read;
 use std::test::Fail;
 
 /// A schedule in parts, and what it prints.
@@ -29,7 +25,8 @@ const fn prints(parts: &'static [&'static str], output: &'static str) -> Row {
 }
 
 /// Call 2 loses the exchange of an empty bucket to an equal value.
-const LOST_TO_AN_EQUAL: &str = "first 1 10 0; read 1 n; insert 2 11 0; share 2; load 2; read 2 n; \
+pub(super) const LOST_TO_AN_EQUAL: &str =
+    "first 1 10 0; read 1 n; insert 2 11 0; share 2; load 2; read 2 n; \
     put 1 n ok; put 2 y ok; add 1; free 1; free 2; size 1; size 2";
 
 /// Seven values, none of which wants growth.
@@ -217,7 +214,7 @@ fn lines_of(alloc: Global, parts: &[&str]) -> Result<String, Fail> {
 }
 
 /// The lines of a part of a row.
-fn push_events(input: &mut String, part: &str) -> Result<(), Fail> {
+pub(super) fn push_events(input: &mut String, part: &str) -> Result<(), Fail> {
     for event in part.split("; ") {
         match event.split_once(' ') {
             Some(("first", numbers)) => push_first(input, numbers)?,
@@ -399,86 +396,4 @@ fn events_that_are_not_enabled(rt: HostRuntime) -> Result<(), Fail> {
         assert_eq!(rt; ended.status, 0);
     }
     Ok(())
-}
-
-/// The lines of a schedule that asks for memory in each way, and what each line prints.
-const ASKING: [(&str, &str); 24] = [
-    ("insert 1 10 0\n", ""),
-    ("share 1\n", ""),
-    ("load 1\n", ""),
-    ("free 1\n", ""),
-    ("own 1\n", ""),
-    ("check 1 ok\n", ""),
-    ("show 1\n", ""),
-    ("free 1\n", ""),
-    ("b\n", "16\n"),
-    ("share 1\n", ""),
-    ("load 1\n", ""),
-    ("read 1 n\n", ""),
-    ("put 1 n ok\n", ""),
-    ("add 1\n", ""),
-    ("free 1\n", ""),
-    ("size 1\n", "1 placed 10\n"),
-    ("lookup 2 0\n", ""),
-    ("load 2\n", ""),
-    ("read 2 y\n", "2 some 10\n"),
-    ("walk 3\n", ""),
-    ("load 3\n", ""),
-    ("read 3 n\n", ""),
-    ("len 4\n", ""),
-    ("load 4\n", ""),
-];
-
-/// A reader that gives a line at a call, and notes how many it gave.
-#[derive(Drop)]
-struct Lines<'a> {
-    given: &'a Cell<usize>,
-}
-
-impl Read for Lines<'_> {
-    fn read(&mut self, buf: &mut [u8]) -> io::Result<usize> {
-        let given = self.given.get();
-        let Some((line, _)) = ASKING.get(given) else {
-            return Ok(0);
-        };
-        self.given.set(given.saturating_add(1));
-        let count = line.len().min(buf.len());
-        buf[..count].copy_from_slice(&line.as_bytes()[..count]);
-        Ok(count)
-    }
-}
-
-/// What is run here asks for no memory but the schedule's, so where a request is refused it is one of those.
-#[test]
-fn a_request_that_is_refused_ends_the_run(rt: HostRuntime) {
-    let given = Cell::new(0);
-    let mut output = [0; 64];
-    let mut messages = [0; 64];
-    let mut output_left = output.as_mut_slice();
-    let mut messages_left = messages.as_mut_slice();
-    let reader = Lines { given: &given };
-    let status = run_words(
-        &rt,
-        rt.alloc(),
-        &["core"],
-        reader,
-        &mut output_left,
-        &mut messages_left,
-    );
-    let output_room = output_left.len();
-    let told = 64usize.saturating_sub(messages_left.len());
-    let refused = status != 0;
-    let (taken, message) = if refused {
-        (given.get().saturating_sub(1), "no memory\n")
-    } else {
-        (ASKING.len(), "")
-    };
-    assert_eq!(rt; &messages[..told], message.as_bytes());
-    assert!(rt; status < 2);
-    let mut replies = output.as_slice();
-    for (_, reply) in ASKING.iter().take(taken) {
-        assert!(rt; replies.starts_with(reply.as_bytes()));
-        replies = &replies[reply.len()..];
-    }
-    assert_eq!(rt; replies.len(), output_room);
 }
