@@ -1,5 +1,5 @@
--- When two numbers are equal, and the hash of a number.
-use Rattle.std.specs.Prelude.{ℕ, ◌*◌, ◌^◌, ◌%◌, ◌==◌, Bool}
+-- When two numbers are equal, the hash of a number, and the order of look-ups.
+use Rattle.std.specs.Prelude.{ℕ, ◌+◌, ◌*◌, ◌^◌, ◌%◌, ◌==◌, Bool}
 use Rattle.std.proofs.Common.{arith}
 use Rattle.std.proofs.lemmas.Grind.{common_steps}
 use Rattle.lock_free_hashtable.specs.Law.{IsLaw}
@@ -19,3 +19,7 @@ number_lawful = record {
   small = λ a. grind (arith, common_steps);
   agrees = λ a b h. grind (arith, common_steps);
 }
+
+-- the index that has this turn: 7,697 undoes the factor of `turn`, modulo a million
+abbrev pub index_of_turn : ℕ → ℕ
+index_of_turn t = (t + 987655) * 7697 % 1000000

@@ -1,6 +1,6 @@
 //! A set of numbers over the table held alone, and the keys of the measurements.
 ghost use Rattle.std.specs.Prelude.{◌≡◌, ◌<◌};
-ghost use Rattle.bench.specs.Numbers.{number_hash};
+ghost use Rattle.bench.specs.Numbers.{number_hash, index_of_turn};
 
 use lock_free_hashtable::atomic_value::Law;
 use lock_free_hashtable::raw::HeldRawTable;
@@ -40,7 +40,8 @@ pub fn spread(index: u64) -> u64 {
 /// The order of look-ups: a fixed permutation of 0 to `COUNT - 1`.
 pub fn turn(index: u64) -> u64
     requires { index < COUNT }
-    ensures { result < COUNT }
+    ensures below { result < COUNT }
+    ensures one_to_one { index_of_turn result ≡ index }
 {
     (index * 618_033 + 12_345) % COUNT
 }

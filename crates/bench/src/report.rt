@@ -1,4 +1,6 @@
 //! How a measurement is printed.
+ghost use Rattle.std.specs.Prelude.{◌≡◌, OnOk};
+
 use std::io;
 use std::num::nearest_u64_to_f64;
 use std::rt::Clock;
@@ -20,7 +22,9 @@ impl Report<'_> {
         done: u64,
         wanted: u64,
         operations: u64,
-    ) -> io::Result<()> {
+    ) -> io::Result<()>
+        ensures { OnOk result (done ≡ wanted) }
+    {
         if done != wanted {
             return Err(io::Error::from(io::ErrorKind::InvalidData));
         }

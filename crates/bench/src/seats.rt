@@ -1,6 +1,7 @@
 //! Measurements of the number table, with one seat and with four.
-ghost use Rattle.std.specs.Prelude.{◌≡◌, ◌+◌, ◌≤◌, ◌<◌, ◌^◌, All, IfOk};
+ghost use Rattle.std.specs.Prelude.{◌≡◌, ◌+◌, ◌*◌, ◌++◌, [], ◌∷◌, ◌≤◌, ◌<◌, ◌⊎◌, ◌^◌, All, IfOk, IsTrue, IsFalse, length};
 ghost use Rattle.seated.specs.Tables.{IsSeatOf};
+ghost use Rattle.seated.specs.Numbers.{known_pairs, own_numbers, Knows};
 
 use crate::numbers::{COUNT, spread};
 use crate::report::Report;
@@ -189,13 +190,15 @@ struct Part {
     seat: Seat,
 }
 
+/// A part for each thread.
 fn parts_for(
     alloc: Global,
     table: &NumberTable<Global>,
     seat: Seat,
 ) -> Result<Vec<Part>, AllocError>
     requires { IsSeatOf table.now seat }
-    ensures { IfOk result (λ parts. All (λ part. (part.worker < 4) × IsSeatOf table.now part.seat) parts.items) }
+    ensures each { IfOk result (λ parts. length parts.items ≡ THREADS) }
+    ensures fit { IfOk result (λ parts. All (λ part. (part.worker < 4) × IsSeatOf table.now part.seat) parts.items) }
 {
     let mut parts = Vec::with_capacity(alloc, THREADS as usize)?;
     let mut last = seat;
@@ -222,6 +225,8 @@ fn insert_spread<A: Allocator + Copy>(
 ) -> u64
     requires { (from + count ≤ COUNT) × IsSeatOf table.now seat.old }
     ensures seat { IsSeatOf table.now seat.new }
+    ensures placed { length (own_numbers seat.new) ≡ length (own_numbers seat.old) + result }
+    ensures at_most { result ≤ count }
 {
     let mut placed = 0u64;
     for index in from..from + count {
@@ -235,7 +240,8 @@ fn insert_spread<A: Allocator + Copy>(
 /// How many of the keys 1, 2, 3, .. were placed.
 fn insert_in_order<A: Allocator + Copy>(table: &NumberTable<A>, seat: &mut Seat) -> u64
     requires { IsSeatOf table.now seat.old }
-    ensures { IsSeatOf table.now seat.new }
+    ensures seat { IsSeatOf table.now seat.new }
+    ensures placed { length (own_numbers seat.new) ≡ length (own_numbers seat.old) + result }
 {
     let mut placed = 0u64;
     for index in 0..COUNT {
@@ -249,11 +255,12 @@ fn insert_in_order<A: Allocator + Copy>(table: &NumberTable<A>, seat: &mut Seat)
 /// How many of the same keys were placed, in all rounds.
 fn insert_same<A: Allocator + Copy>(table: &NumberTable<A>, seat: &mut Seat) -> u64
     requires { IsSeatOf table.now seat.old }
-    ensures { IsSeatOf table.now seat.new }
+    ensures seat { IsSeatOf table.now seat.new }
+    ensures placed { length (own_numbers seat.new) ≡ length (own_numbers seat.old) + result }
 {
     let mut placed = 0u64;
     for _round in 0..ROUNDS {
-        placed = placed.wrapping_add(insert_spread(table, seat, 0, SAME));
+        placed += insert_spread(table, seat, 0, SAME);
     }
     placed
 }
@@ -295,9 +302,12 @@ fn count_in_order<A: Allocator + Copy>(table: &NumberTable<A>, seat: &mut Seat) 
     found
 }
 
+/// Whether the key was placed. 0 is no key.
 fn insert_key<A: Allocator + Copy>(table: &NumberTable<A>, seat: &mut Seat, key: u64) -> bool
     requires { IsSeatOf table.now seat.old }
-    ensures { IsSeatOf table.now seat.new }
+    ensures seat { IsSeatOf table.now seat.new }
+    ensures placed { IsTrue result → own_numbers seat.new ≡ own_numbers seat.old ++ key ∷ [] }
+    ensures other { IsFalse result → own_numbers seat.new ≡ own_numbers seat.old }
 {
     match NonZeroU64::new(key) {
         Some(number) => matches!(table.insert(seat, number), NumberAnswer::Placed),
@@ -305,9 +315,12 @@ fn insert_key<A: Allocator + Copy>(table: &NumberTable<A>, seat: &mut Seat, key:
     }
 }
 
+/// Whether the key is in the table. 0 is no key.
 fn contains_key<A: Allocator + Copy>(table: &NumberTable<A>, seat: &mut Seat, key: u64) -> bool
     requires { IsSeatOf table.now seat.old }
-    ensures { IsSeatOf table.now seat.new }
+    ensures seat { IsSeatOf table.now seat.new }
+    ensures found { IsTrue result → Knows (known_pairs seat.new) key }
+    ensures none { IsFalse result → (key ≡ 0) ⊎ ¬ Knows (known_pairs seat.new) key }
 {
     match NonZeroU64::new(key) {
         Some(number) => table.contains(seat, number),

@@ -1,8 +1,13 @@
 //! An allocator for tests, which refuses the requests that a rule names.
 #![tactic(auto)]
 
+ghost use Rattle.std.specs.Prelude.{◌≡◌, ◌≤◌, ◌↔◌, IsTrue};
+
 use std::alloc::{AllocError, Allocator};
 use std::sync::atomic::{AtomicU64, Ordering};
+
+#[cfg(test)]
+mod tests;
 
 /// Which requests are refused. Requests of other sizes pass and are not counted.
 pub struct Rule {
@@ -15,7 +20,10 @@ pub struct Rule {
 impl Rule {
     /// Of the requests of `least` to `most` bytes, the first `passing` are granted, the next `refused` are refused, and
     /// all later ones are granted.
-    pub fn new(least: usize, most: usize, passing: u64, refused: u64) -> Rule {
+    pub fn new(least: usize, most: usize, passing: u64, refused: u64) -> Rule
+        ensures least { result.least ≡ least }
+        ensures most { result.most ≡ most }
+    {
         Rule {
             least,
             most,
@@ -23,14 +31,18 @@ impl Rule {
             refused: AtomicU64::new(refused),
         }
     }
+
+    /// Whether requests of this size are counted.
+    fn counts(&self, size: usize) -> bool
+        ensures { IsTrue result ↔ ((self.now.least ≤ size) × (size ≤ self.now.most)) }
+    {
+        self.least <= size && size <= self.most
+    }
 }
 
 /// Whether the rule refuses a request of this size, which it then counts.
 fn refuses(rule: &Rule, size: usize) -> bool {
-    if size < rule.least || size > rule.most {
-        return false;
-    }
-    if take_one(&rule.passing) {
+    if !rule.counts(size) || take_one(&rule.passing) {
         return false;
     }
     take_one(&rule.refused)
@@ -53,8 +65,11 @@ pub struct Refusing<B: Allocator> {
 }
 
 impl<B: Allocator> Refusing<B> {
-    /// The memory of `inner`, under this rule.
-    pub fn new(inner: B, rule: Rule) -> Refusing<B> {
+    /// The memory of `inner`, under the rule.
+    pub fn new(inner: B, rule: Rule) -> Refusing<B>
+        ensures memory { result.inner ≡ inner }
+        ensures rule { result.rule ≡ rule }
+    {
         Refusing { inner, rule }
     }
 
