@@ -2,22 +2,33 @@
 """Measures tables side by side.
 
     tools/speed.py run ROUNDS PROGRAM..     runs each program's tables in turns, and writes docs/speed/raw.txt
-    tools/speed.py show BASE                prints the table of docs/speed/raw.txt, and draws docs/speed/ratios.svg,
-                                            with ratios to the table BASE, as plain-rust
+    tools/speed.py show held BASE           prints the tables held alone in docs/speed/raw.txt, and draws
+                                            docs/speed/ratios.svg, with ratios to the table BASE, as plain-rust
+    tools/speed.py show seats BASE          prints the number tables that threads share, as plain-atomics
 
 A PROGRAM answers `PROGRAM list` with the names of its tables, one a line, and `PROGRAM NAME GROUP` with lines
-`NAME MEASUREMENT NUMBER`. Each group runs in a process of its own. The best of all rounds counts.
+`NAME MEASUREMENT NUMBER`. Each group runs in a process of its own; every second round goes backwards. The best of all
+rounds counts. In brackets stand two ratios to BASE: of the best rounds, and of the middle ones.
 """
 import os
+import statistics
 import subprocess
 import sys
 
 HERE = os.path.join(os.path.dirname(os.path.abspath(__file__)), "..", "docs", "speed")
 RAW = os.path.join(HERE, "raw.txt")
 PLOT = os.path.join(HERE, "ratios.svg")
-GROUPS = ["one", "seq"]
-MEASUREMENTS = ["a_ins1", "b_hit1", "c_miss1", "seq_ins1", "seq_hit1", "g_rss"]
-OURS = "held"
+# Number tables that threads share. Every other table is held alone.
+SEATED = ["seats", "plain-atomics"]
+GROUPS = {"held": ["one", "seq"], "seats": ["one", "seq", "same", "ins"]}
+MEASUREMENTS = {
+    "held": ["a_ins1", "b_hit1", "c_miss1", "seq_ins1", "seq_hit1", "g_rss"],
+    "seats": ["a_ins1", "b_hit1", "c_miss1", "d_same4", "e_ins4", "f_hit4", "seq_ins1", "seq_hit1"],
+}
+
+
+def kind_of(name):
+    return "seats" if name in SEATED else "held"
 
 
 def lines_of(*words):
@@ -25,57 +36,64 @@ def lines_of(*words):
     return done.stdout.splitlines()
 
 
+def measured(program, name):
+    kind = kind_of(name)
+    lines = [line for group in GROUPS[kind] for line in lines_of(program, name, group)]
+    return [line for line in lines if line.split()[1] in MEASUREMENTS[kind]]
+
+
 def run(rounds, programs):
     tables = [(program, name) for program in programs for name in lines_of(program, "list")]
     os.makedirs(HERE, exist_ok=True)
     with open(RAW, "w", encoding="ascii") as raw:
         for round_number in range(rounds):
-            for program, name in tables:
-                for group in GROUPS:
-                    for line in lines_of(program, name, group):
-                        if line.split()[1] in MEASUREMENTS:
-                            print(line, file=raw)
+            for program, name in tables if round_number % 2 == 0 else reversed(tables):
+                for line in measured(program, name):
+                    print(line, file=raw)
             load = os.getloadavg()[0]
             print(f"round {round_number + 1} of {rounds}, load {load:.1f}", file=sys.stderr)
 
 
-def best():
+def numbers_of(kind):
+    """The numbers of all rounds, by table and measurement."""
     found = {}
     with open(RAW, encoding="ascii") as raw:
         for line in raw:
             name, measurement, number = line.split()
-            key = (name, measurement)
-            found[key] = min(float(number), found.get(key, float("inf")))
+            if kind_of(name) == kind:
+                found.setdefault(name, {}).setdefault(measurement, []).append(float(number))
     return found
 
 
-def names_in(found):
-    return list(dict.fromkeys(name for name, _ in found))
+def ratios(numbers, base):
+    return [least(numbers) / least(base) for least in (min, statistics.median)]
 
 
-def table(found, base_name):
-    rows = ["| table | " + " | ".join(MEASUREMENTS) + " |", "|---" * (len(MEASUREMENTS) + 1) + "|"]
-    for name in names_in(found):
-        cells = []
-        for measurement in MEASUREMENTS:
-            number, base = found.get((name, measurement)), found.get((base_name, measurement))
-            ratio = f" ({number / base:.2f})" if number and base else ""
-            cells.append("" if number is None else f"{number:.0f}{ratio}")
+def cell(numbers, base):
+    if not numbers:
+        return ""
+    digits = 0 if min(numbers) >= 30 else 1
+    beside = f" ({', '.join(f'{ratio:.2f}' for ratio in ratios(numbers, base))})" if base else ""
+    return f"{min(numbers):.{digits}f}{beside}"
+
+
+def table(found, kind, base_name):
+    rows = ["| table | " + " | ".join(MEASUREMENTS[kind]) + " |", "|---" * (len(MEASUREMENTS[kind]) + 1) + "|"]
+    base = found.get(base_name, {})
+    for name, numbers in sorted(found.items(), key=lambda row: row[0] != kind):
+        cells = [cell(numbers.get(m), base.get(m)) for m in MEASUREMENTS[kind]]
         rows.append(f"| {name} | " + " | ".join(cells) + " |")
     return "\n".join(rows)
 
 
-def plot(found, base_name):
-    """One bar for each measurement: ours as a ratio to the base."""
-    bars = [
-        (m, found[OURS, m] / found[base_name, m])
-        for m in MEASUREMENTS
-        if (OURS, m) in found and (base_name, m) in found
-    ]
+def plot(found, ours, base_name):
+    """One bar for each measurement: ours as a ratio to the base, of the best rounds."""
+    own, base = found.get(ours, {}), found.get(base_name, {})
+    bars = [(m, ratios(own[m], base[m])[0]) for m in MEASUREMENTS[ours] if m in own and m in base]
     width, height, left, scale = 560, 40 + 34 * len(bars), 110, 280
     parts = [
         f'<svg xmlns="http://www.w3.org/2000/svg" width="{width}" height="{height}" font-family="sans-serif" font-size="13">',
-        f'<text x="{left}" y="18">{OURS} as a ratio to {base_name} (1 is the line; less is better)</text>',
+        f'<text x="{left}" y="18">{ours} as a ratio to {base_name} (1 is the line; less is better)</text>',
     ]
     for row, (measurement, ratio) in enumerate(bars):
         y = 32 + 34 * row
@@ -89,13 +107,18 @@ def plot(found, base_name):
         svg.write("\n".join(parts) + "\n")
 
 
+def show(kind, base_name):
+    found = numbers_of(kind)
+    print(table(found, kind, base_name))
+    if kind == "held":
+        plot(found, kind, base_name)
+
+
 def main():
     if sys.argv[1:2] == ["run"] and len(sys.argv) > 3:
         run(int(sys.argv[2]), sys.argv[3:])
-    elif sys.argv[1:2] == ["show"] and len(sys.argv) == 3:
-        found = best()
-        print(table(found, sys.argv[2]))
-        plot(found, sys.argv[2])
+    elif sys.argv[1:2] == ["show"] and len(sys.argv) == 4 and sys.argv[2] in GROUPS:
+        show(sys.argv[2], sys.argv[3])
     else:
         sys.exit(__doc__)
 

@@ -2,6 +2,9 @@
 //!
 //! A bucket is two words: the plain part, which holds the name of an entry of an earlier generation and its eight bits,
 //! and the block of an own entry. The table is held alone, so no word is atomic and no lock is taken.
+//! `atomics` is another table: numbers that threads share.
+
+pub mod atomics;
 
 struct Block<T> {
     value: Box<T>,

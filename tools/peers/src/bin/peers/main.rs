@@ -1,6 +1,8 @@
-//! The measurements of the crate `bench`, on the plain-Rust table and on std's set.
+//! The measurements of the crate `bench`, on the plain-Rust tables and on std's set.
 //!
-//!     peers list | peers PEER one | peers PEER seq
+//!     peers list | peers PEER one | peers PEER seq | peers plain-atomics same | peers plain-atomics ins
+
+mod seats;
 
 use std::collections::HashSet;
 use std::hash::{BuildHasherDefault, Hasher};
@@ -69,10 +71,14 @@ fn resident_bytes() -> u64 {
     text.split_whitespace().nth(1).unwrap().parse::<u64>().unwrap() * 4096
 }
 
-fn time(name: &str, measurement: &str, run: impl FnOnce()) {
+fn time_of(name: &str, measurement: &str, operations: u64, run: impl FnOnce()) {
     let start = Instant::now();
     run();
-    println!("{name} {measurement} {:.2}", start.elapsed().as_secs_f64() * 1e9 / COUNT as f64);
+    println!("{name} {measurement} {:.2}", start.elapsed().as_secs_f64() * 1e9 / operations as f64);
+}
+
+fn time(name: &str, measurement: &str, run: impl FnOnce()) {
+    time_of(name, measurement, COUNT, run);
 }
 
 fn measure<S: Set>(name: &str, group: &str) {
@@ -97,9 +103,10 @@ fn measure<S: Set>(name: &str, group: &str) {
 fn main() {
     let words: Vec<String> = std::env::args().skip(1).collect();
     match words.iter().map(String::as_str).collect::<Vec<_>>()[..] {
-        ["list"] => println!("plain-rust\nstd-HashSet"),
+        ["list"] => println!("plain-rust\nstd-HashSet\nplain-atomics"),
         ["plain-rust", group] => measure::<peers::Table<u64>>("plain-rust", group),
         ["std-HashSet", group] => measure::<StdSet>("std-HashSet", group),
+        ["plain-atomics", group] => seats::measure(group),
         _ => {}
     }
 }
