@@ -39,6 +39,9 @@ module _ {T : Type 0} (first : ℕ) (gs : List (List (Part T))) (cur : List (Par
         let n : length (set_parts cur) ≡ length (values_of (values (shown_all gs cur))) = set_shown gs cur kept.sound ∙ sym (length-map (values (shown_all gs cur)) (λ e. e.value)) in
         rw (← n) (few_buckets first (length gs) (length cur) _ _ kept.first_is sizes)
 
+    pub buckets_sum : length cur - first + length cur + first ≡ 2 * length (shown_all gs cur)
+    buckets_sum = rw length-map (let fits = first_fits in let e : length cur - first + length cur + first ≡ 2 * length cur = omega arith in e)
+
     pub buckets_fit : length cur < 2 ^ 64 → length cur - first + length cur < 2 ^ 64
     buckets_fit small =
         let most : length cur ≤ 2 ^ 63 = small_capacity first (length gs) (length cur) _ _ kept.first_is sizes small in

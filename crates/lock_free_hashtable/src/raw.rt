@@ -103,6 +103,7 @@ impl<T: AtomicValue, A: Allocator + Copy> HeldRawTable<T, A> {
     pub fn buckets_alone(&self) -> usize
         ensures all { result ≡ all_buckets self.now }
         ensures few { result ≤ max self.now.first (8 * length (entries self.now) - self.now.first) }
+        ensures sum { 0 < capacity self.now → result + self.now.first ≡ 2 * capacity self.now }
     {
         let capacity = self.current.capacity();
         if capacity == 0 {
