@@ -22,6 +22,18 @@ use std::mem;
 /// The capacity of the first generation of a table made by `new`.
 const FIRST_CAPACITY: usize = 16;
 
+/// Whether a table's first generation may have `first` buckets: a power of two from 16 to 2^30.
+pub fn is_first_capacity(first: usize) -> bool
+    ensures { IsTrue result ↔ IsFirstCapacity first }
+{
+    for exponent in 4..31u32 {
+        if first == 1usize << exponent {
+            return true;
+        }
+    }
+    false
+}
+
 /// An insertion-only set that one owner holds alone: no lock, no atomic, no waiting. Values are compared, hashed and
 /// shown by their targets.
 ///
@@ -60,8 +72,7 @@ impl<T: AtomicValue, A: Allocator + Copy> HeldRawTable<T, A> {
         HeldRawTable::with_first_capacity(alloc, FIRST_CAPACITY)
     }
 
-    /// The empty table, whose first generation will have `first` buckets: a power of two from 16 to 2^30. It takes no
-    /// memory.
+    /// The empty table, whose first generation will have `first` buckets: see `is_first_capacity`. It takes no memory.
     pub fn with_first_capacity(alloc: A, first: usize) -> Self
         requires { IsFirstCapacity first }
         ensures empty { result ≡ empty_table first }
