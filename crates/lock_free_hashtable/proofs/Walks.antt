@@ -1,17 +1,13 @@
 -- Steps of a walk over the buckets of a table, and the values that its generations own together.
-use Rattle.std.proofs.Common.{◌≡◌, ℕ, ◌+◌, ◌<◌, ◌≤◌, ◌++◌, List, [], ◌∷◌, length, map, refl, append_assoc, append-nil, add-one, ◌^◌, arith}
-use Rattle.std.specs.Prelude.{Some, None}
+use Rattle.std.proofs.Common.{◌≡◌, ℕ, ◌<◌, ◌++◌, List, [], ◌∷◌, length, map, refl, append_assoc, append-nil, ◌^◌, arith}
 use Rattle.std.specs.List.{flat_map}
 use Rattle.std.specs.List.Sorted.{IsPermutation}
-use Rattle.std.proofs.Math.ListN.{drop_of_length-le}
-use Rattle.std.proofs.Math.Seq.{drop-cons}
 use Rattle.std.proofs.lemmas.List.{map-append, length-map}
 use Rattle.std.proofs.lemmas.List.Sorted.{IsPermutation-refl, IsPermutation-sym, IsPermutation-trans, IsPermutation-map, IsPermutation-append_comm, length_permutation}
-use Rattle.lock_free_hashtable.specs.Buckets.{Part, vacant, values, owned, shown, shown_all, part_at}
+use Rattle.lock_free_hashtable.specs.Buckets.{Part, values, owned, shown_all}
 use Rattle.lock_free_hashtable.specs.Generations.{Bucketed, parts_of}
 use Rattle.lock_free_hashtable.specs.Table.{Table, IsKept, table_of, homes_of, entries, values_of}
-use Rattle.lock_free_hashtable.specs.Walks.{owned_values, all_owned, shown_from, WalksAsList, GivesEntries}
-use Rattle.lock_free_hashtable.specs.declared.cell.Entry.{Entry}
+use Rattle.lock_free_hashtable.specs.Walks.{owned_values, all_owned, WalksAsList, GivesEntries}
 
 module _ {T : Type 0} where
   -- the values that all generations own are those of the entries at home in them

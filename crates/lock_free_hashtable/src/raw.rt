@@ -3,7 +3,7 @@ ghost use Rattle.std.specs.Prelude.{◌≡◌, ◌-◌, ◌+◌, ◌*◌, ◌<�
 ghost use Rattle.std.specs.Prelude.{OnOk, OnErr, IfSome, IfNone, IsSome, IsTrue, option_copied};
 ghost use Rattle.std.specs.Fn.{FnReturnsAt, FnReturnsAtPair};
 ghost use Rattle.lock_free_hashtable.specs.Buckets.{value_at, owned};
-ghost use Rattle.lock_free_hashtable.specs.Capacity.{IsFirstCapacity};
+ghost use Rattle.lock_free_hashtable.specs.Capacity.{IsFirstCapacity, IsDoubled};
 
 mod into_iter;
 mod iter;
@@ -21,7 +21,7 @@ use std::marker::Model;
 use std::mem;
 
 /// The capacity of the first generation of a table made by `new`.
-const FIRST_CAPACITY: usize = 16;
+pub const FIRST_CAPACITY: usize = 16;
 
 /// Whether a table's first generation may have `first` buckets: a power of two from 16 to 2^30.
 pub fn is_first_capacity(first: usize) -> bool
@@ -108,7 +108,8 @@ impl<T: AtomicValue, A: Allocator + Copy> HeldRawTable<T, A> {
 
     /// The buckets of the current generation; 0 before the first insert.
     pub fn capacity_alone(&self) -> usize
-        ensures { result ≡ capacity self.now }
+        ensures current { result ≡ capacity self.now }
+        ensures doubled { IsDoubled self.now.first result }
     {
         self.current.capacity()
     }
