@@ -15,12 +15,6 @@ module _ {X : Type 0} where
   abbrev pub no_values : ℕ → List (Option X)
   no_values n = replicate n None
 
-  -- a place that holds a value is one of the list
-  pub in_range : (ps : List (Option X)) (i : ℕ) (v : X) → value_at ps i ≡ Some v → i < length ps
-  in_range [] i v e = absurd (cc)
-  in_range (p ∷ ps) zero v e = omega arith
-  in_range (p ∷ ps) (suc i) v e = let h = in_range ps i v e in omega arith
-
   pub some_same : (v w : X) (o : Option X) → o ≡ Some v → o ≡ Some w → v ≡ w
   some_same v w o e f = cc
 

@@ -9,7 +9,7 @@ use Rattle.std.proofs.lemmas.List.Sums.{sum_by-append}
 use Rattle.std.proofs.lemmas.List.Sorted.{IsPermutation-refl, IsPermutation-sym, IsPermutation-trans, IsPermutation-append_left, IsPermutation-append_right, length_permutation}
 use Rattle.std.proofs.Math.ListN.{get_or-map}
 use Rattle.lock_free_hashtable.specs.Buckets.{Part, vacant, own, values, value_at, owned, set_parts, shown, shown_all, AllSound}
-use Rattle.lock_free_hashtable.specs.Capacity.{IsFirstCapacity, IsSized}
+use Rattle.lock_free_hashtable.specs.Capacity.{IsFirstCapacity, IsDoubled, IsSized}
 use Rattle.lock_free_hashtable.specs.Generations.{Bucketed, last_of, IsNamedIn, blank}
 use Rattle.lock_free_hashtable.specs.Growth.{IsRehomed, IsGrown, IsOpened, KeepsHomes, with_entry}
 use Rattle.lock_free_hashtable.specs.Table.{table_of, empty_table, homes_of, values_of, IsKept, IsBuilt}
@@ -22,6 +22,12 @@ use Rattle.lock_free_hashtable.proofs.Sizes.{set_shown, total_set, sized_of, non
 module _ {T : Type 0} (first : ℕ) (gs : List (List (Part T))) (cur : List (Part T)) (size : ℕ) (kept : IsKept first gs cur size) where
   set_count : length (set_parts cur) ≡ size
   set_count = set_shown gs cur kept.sound ∙ sym kept.counted
+
+  pub doubled : IsDoubled first (length cur)
+  doubled = elim kept.built [
+    | inl none ↦ inl (rw none.1 refl)
+    | inr sized ↦ inr (length gs, sized.doubled)
+  ]
 
   -- the counts of a table that has a generation
   module _ (some : 0 < length cur) where
@@ -38,6 +44,9 @@ module _ {T : Type 0} (first : ℕ) (gs : List (List (Part T))) (cur : List (Par
     buckets_few =
         let n : length (set_parts cur) ≡ length (values_of (values (shown_all gs cur))) = set_shown gs cur kept.sound ∙ sym (length-map (values (shown_all gs cur)) (λ e. e.value)) in
         rw (← n) (few_buckets first (length gs) (length cur) _ _ kept.first_is sizes)
+
+    pub buckets_sum : length cur - first + length cur + first ≡ 2 * length (shown_all gs cur)
+    buckets_sum = rw length-map (let fits = first_fits in let e : length cur - first + length cur + first ≡ 2 * length cur = omega arith in e)
 
     pub buckets_fit : length cur < 2 ^ 64 → length cur - first + length cur < 2 ^ 64
     buckets_fit small =

@@ -1,31 +1,15 @@
 -- Steps of a walk over the buckets of a table, and the values that its generations own together.
-use Rattle.std.proofs.Common.{◌≡◌, ℕ, ◌+◌, ◌<◌, ◌≤◌, ◌++◌, List, [], ◌∷◌, length, map, refl, append_assoc, append-nil, add-one, ◌^◌, arith}
-use Rattle.std.specs.Prelude.{Some, None}
+use Rattle.std.proofs.Common.{◌≡◌, ℕ, ◌<◌, ◌++◌, List, [], ◌∷◌, length, map, refl, append_assoc, append-nil, ◌^◌, arith}
 use Rattle.std.specs.List.{flat_map}
 use Rattle.std.specs.List.Sorted.{IsPermutation}
-use Rattle.std.proofs.Math.ListN.{drop_of_length-le}
-use Rattle.std.proofs.Math.Seq.{drop-cons}
 use Rattle.std.proofs.lemmas.List.{map-append, length-map}
 use Rattle.std.proofs.lemmas.List.Sorted.{IsPermutation-refl, IsPermutation-sym, IsPermutation-trans, IsPermutation-map, IsPermutation-append_comm, length_permutation}
-use Rattle.lock_free_hashtable.specs.Buckets.{Part, vacant, values, owned, shown, shown_all, part_at}
+use Rattle.lock_free_hashtable.specs.Buckets.{Part, values, owned, shown_all}
 use Rattle.lock_free_hashtable.specs.Generations.{Bucketed, parts_of}
 use Rattle.lock_free_hashtable.specs.Table.{Table, IsKept, table_of, homes_of, entries, values_of}
-use Rattle.lock_free_hashtable.specs.Walks.{owned_values, all_owned, shown_from, WalksAsList, GivesEntries}
-use Rattle.lock_free_hashtable.specs.declared.cell.Entry.{Entry}
+use Rattle.lock_free_hashtable.specs.Walks.{owned_values, all_owned, WalksAsList, GivesEntries}
 
 module _ {T : Type 0} where
-  -- a bucket that shows nothing is passed over
-  pub shown_from-none : (gs : List (List (Part T))) (ps : List (Part T)) (i : ℕ) → i < length ps → shown gs (part_at ps i) ≡ None → shown_from gs ps i ≡ shown_from gs ps (i + 1)
-  shown_from-none gs ps i within none = rw (add-one, drop-cons ps i vacant, none)
-
-  -- a bucket that shows an entry gives its value
-  pub shown_from-some : (gs : List (List (Part T))) (ps : List (Part T)) (i : ℕ) (e : Entry T) → i < length ps → shown gs (part_at ps i) ≡ Some e → shown_from gs ps i ≡ e.value ∷ shown_from gs ps (i + 1)
-  shown_from-some gs ps i e within some = rw (add-one, drop-cons ps i vacant, some)
-
-  -- past the last bucket nothing is left
-  pub shown_from-end : (gs : List (List (Part T))) (ps : List (Part T)) (i : ℕ) → length ps ≤ i → shown_from gs ps i ≡ []
-  shown_from-end gs ps i over = rw (drop_of_length-le ps over)
-
   -- the values that all generations own are those of the entries at home in them
   pub all_owned-homes : (gs : List (Bucketed T)) (current : List (Part T)) → values_of (flat_map values (homes_of (parts_of gs) current)) ≡ all_owned gs ++ owned_values current
   all_owned-homes [] current = rw (append-nil (values (map owned current)))

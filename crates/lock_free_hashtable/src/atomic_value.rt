@@ -1,5 +1,5 @@
 //! Values that a table holds, and laws that tables are used under.
-ghost use Rattle.std.specs.Prelude.{◌≡◌, ◌<◌, ◌^◌, ℕ, Bool, true};
+ghost use Rattle.std.specs.Prelude.{◌≡◌, ◌<◌, ◌^◌, ℕ, Bool};
 ghost use Rattle.lock_free_hashtable.specs.Law.{IsLaw};
 
 use std::alloc::Allocator;

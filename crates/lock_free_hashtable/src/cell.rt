@@ -1,5 +1,5 @@
 //! A bucket that is set at most once.
-ghost use Rattle.std.specs.Prelude.{◌≡◌, ◌<◌, OnOk, IfErr, option_copied, option_map, ⊤};
+ghost use Rattle.std.specs.Prelude.{◌≡◌, ◌<◌, OnOk, IfErr, option_copied, option_map};
 ghost use Rattle.lock_free_hashtable.specs.Buckets.{vacant, own, named, owned};
 
 use std::alloc::{Allocator, Global};

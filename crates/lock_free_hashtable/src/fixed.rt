@@ -1,13 +1,13 @@
 //! One generation: a fixed table of buckets.
-ghost use Rattle.std.specs.Prelude.{◌≡◌, ◌+◌, ◌-◌, ◌*◌, ◌<◌, ◌≤◌, ◌⊎◌, ◌↔◌, ℕ, length, replicate, slice_index_or, slice_set, [], option_copied, IfOk, OnErr, IsSome, ⊤, Some, None, MatchOption, IsTrue, option_map};
+ghost use Rattle.std.specs.Prelude.{◌≡◌, ◌+◌, ◌-◌, ◌*◌, ◌<◌, ◌≤◌, ◌↔◌, length, option_copied, IfOk, IsSome, Some, None, IsTrue};
 ghost use Rattle.std.specs.Fn.{FnReturnsAt, FnReturnsAtPair};
 ghost use Rattle.lock_free_hashtable.specs.Law.{bits_of};
-ghost use Rattle.lock_free_hashtable.specs.Buckets.{vacant, named, owned, home, shown, shown_all, part_at, set_parts, IsSound, AllSound};
+ghost use Rattle.lock_free_hashtable.specs.Buckets.{named, owned, home, shown, shown_all, part_at, set_parts, IsSound, AllSound};
 ghost use Rattle.lock_free_hashtable.specs.Cells.{Sees};
 ghost use Rattle.lock_free_hashtable.specs.Capacity.{IsPowerOfTwo};
 ghost use Rattle.lock_free_hashtable.specs.Probe.{Asked, ProbeGives};
 ghost use Rattle.lock_free_hashtable.specs.Growth.{Inserts, PutsName};
-ghost use Rattle.lock_free_hashtable.specs.Generations.{parts_of, last_of, NamesEntry, CountsInsert};
+ghost use Rattle.lock_free_hashtable.specs.Generations.{parts_of, NamesEntry, CountsInsert};
 
 pub mod owning;
 
@@ -49,7 +49,7 @@ pub struct Name {
 }
 
 /// The eight bits of a hash that a bucket carries: bits 32 to 39.
-pub fn bits_in(hash: u64) -> u8
+fn bits_in(hash: u64) -> u8
     ensures { result ≡ bits_of hash }
 {
     (hash >> 32 & 0xff) as u8
@@ -264,7 +264,8 @@ impl<T: AtomicValue, A: Allocator + Copy> Generation<T, A> {
         requires room { 0 < length self.old.parts }
         requires sound { AllSound (parts_of earlier.now) self.old.parts }
         requires callable { E.IsAlwaysCallable eq.now }
-        ensures inserts { Inserts T.target (FnReturnsAtPair E.Fn eq.now (T.target value)) (parts_of earlier.now) self.old.parts hash value result self.new.parts }
+        ensures inserts { Inserts T.target (FnReturnsAtPair E.Fn eq.now (T.target value)) (parts_of earlier.now)
+            self.old.parts hash value result self.new.parts }
         ensures size { CountsInsert self.old.size result self.new.size }
     {
         match self.probe_same(earlier, hash, value.deref(), eq) {

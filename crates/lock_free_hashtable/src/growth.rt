@@ -1,10 +1,10 @@
 //! A generation made of the entries of the one before.
-ghost use Rattle.std.specs.Prelude.{◌≡◌, ◌+◌, ◌*◌, ◌<◌, ◌≤◌, ℕ, length, IfOk, MatchOption, Some, None};
+ghost use Rattle.std.specs.Prelude.{◌≡◌, ◌+◌, ◌<◌, ◌≤◌, length, IfOk};
 ghost use Rattle.std.specs.Fn.{FnReturnsAt};
-ghost use Rattle.lock_free_hashtable.specs.Buckets.{home, shown, shown_all, part_at, AllSound, set_parts};
+ghost use Rattle.lock_free_hashtable.specs.Buckets.{shown_all, part_at, AllSound, set_parts};
 ghost use Rattle.lock_free_hashtable.specs.Capacity.{IsPowerOfTwo};
 ghost use Rattle.lock_free_hashtable.specs.Growth.{IsRehomed, RehomesOne};
-ghost use Rattle.lock_free_hashtable.specs.Generations.{parts_of, last_of, Leads, IsNamedIn};
+ghost use Rattle.lock_free_hashtable.specs.Generations.{parts_of, last_of, NamesShown, IsNamedIn};
 
 use crate::atomic_value::AtomicValue;
 use crate::cell::{Entry, Look};
@@ -20,7 +20,7 @@ fn name_at<T: AtomicValue, A: Allocator + Copy>(
     requires last { last + 1 ≡ length earlier.now }
     requires place { index < length (last_of (parts_of earlier.now)) }
     requires sound { AllSound (parts_of earlier.now) (last_of (parts_of earlier.now)) }
-    ensures { MatchOption result (shown (parts_of earlier.now) (part_at (last_of (parts_of earlier.now)) index) ≡ None) (λ found. Leads (parts_of earlier.now) found.0 found.1.now × (shown (parts_of earlier.now) (part_at (last_of (parts_of earlier.now)) index) ≡ Some found.1.now)) }
+    ensures { NamesShown (parts_of earlier.now) (part_at (last_of (parts_of earlier.now)) index) result }
 {
     match earlier[last as usize].look_at(index) {
         Look::Vacant => None,
@@ -66,7 +66,8 @@ fn rehome_one<T: AtomicValue, A: Allocator + Copy, H: Fn(&T::Target) -> u64>(
     ensures grown { built.new.size ≤ built.old.size + 1 }
     ensures counted { built.new.size ≡ length (set_parts built.new.parts) }
     ensures names { IsNamedIn (parts_of earlier.now) built.new.parts }
-    ensures step { RehomesOne T.target (FnReturnsAt H.Fn hash_fn.now) (parts_of earlier.now) (shown_all (parts_of earlier.now) (last_of (parts_of earlier.now))) index built.old.parts built.new.parts }
+    ensures step { RehomesOne T.target (FnReturnsAt H.Fn hash_fn.now) (parts_of earlier.now)
+        (shown_all (parts_of earlier.now) (last_of (parts_of earlier.now))) index built.old.parts built.new.parts }
 {
     if let Some((name, entry)) = name_at(earlier, last, index) {
         let hash = hash_fn(entry.value.deref());
@@ -90,7 +91,8 @@ pub fn rehomed<T: AtomicValue, A: Allocator + Copy, H: Fn(&T::Target) -> u64>(
     ensures long { IfOk result (λ built. length built.parts ≡ capacity) }
     ensures counted { IfOk result (λ built. built.size ≡ length (set_parts built.parts)) }
     ensures names { IfOk result (λ built. IsNamedIn (parts_of earlier.now) built.parts) }
-    ensures rehomed { IfOk result (λ built. IsRehomed T.target (FnReturnsAt H.Fn hash_fn.now) (shown_all (parts_of earlier.now) (last_of (parts_of earlier.now))) (shown_all (parts_of earlier.now) built.parts)) }
+    ensures rehomed { IfOk result (λ built. IsRehomed T.target (FnReturnsAt H.Fn hash_fn.now)
+        (shown_all (parts_of earlier.now) (last_of (parts_of earlier.now))) (shown_all (parts_of earlier.now) built.parts)) }
 {
     let mut built = Generation::with_capacity(alloc, capacity)?;
     let old = earlier[last as usize].capacity();

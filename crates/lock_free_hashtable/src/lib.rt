@@ -1,4 +1,8 @@
 //! An insertion-only hash table whose every answer is proved.
+//!
+//! A [`HeldRawTable`] keeps one value for each target: what a value leads to, as its [`AtomicValue`] says. Its calls take
+//! the hash of a target and closures that compare and hash; a [`Law`] says what their caller means by them. A [`Place`]
+//! names the bucket that owns an entry, and stays good over growth.
 #![tactic(auto)]
 
 pub mod atomic_value;
@@ -7,3 +11,7 @@ mod fixed;
 mod growth;
 pub mod place;
 pub mod raw;
+
+pub use atomic_value::{AtomicValue, Law};
+pub use place::Place;
+pub use raw::{FIRST_CAPACITY, HeldRawTable, is_first_capacity};

@@ -1,8 +1,9 @@
 //! The table held alone.
-ghost use Rattle.std.specs.Prelude.{◌≡◌, ◌-◌, ◌+◌, ◌*◌, ◌<◌, ◌≤◌, ◌⊎◌, ◌↔◌, ℕ, max, length, OnOk, OnErr, IfSome, IfNone, IsSome, IsTrue, option_copied, [], map, slice_index_or};
+ghost use Rattle.std.specs.Prelude.{◌≡◌, ◌-◌, ◌+◌, ◌*◌, ◌<◌, ◌≤◌, ◌↔◌, max, length, [], map, slice_index_or};
+ghost use Rattle.std.specs.Prelude.{OnOk, OnErr, IfSome, IfNone, IsSome, IsTrue, option_copied};
 ghost use Rattle.std.specs.Fn.{FnReturnsAt, FnReturnsAtPair};
 ghost use Rattle.lock_free_hashtable.specs.Buckets.{value_at, owned};
-ghost use Rattle.lock_free_hashtable.specs.Capacity.{IsFirstCapacity};
+ghost use Rattle.lock_free_hashtable.specs.Capacity.{IsFirstCapacity, IsDoubled};
 
 mod into_iter;
 mod iter;
@@ -20,7 +21,19 @@ use std::marker::Model;
 use std::mem;
 
 /// The capacity of the first generation of a table made by `new`.
-const FIRST_CAPACITY: usize = 16;
+pub const FIRST_CAPACITY: usize = 16;
+
+/// Whether a table's first generation may have `first` buckets: a power of two from 16 to 2^30.
+pub fn is_first_capacity(first: usize) -> bool
+    ensures { IsTrue result ↔ IsFirstCapacity first }
+{
+    for exponent in 4..31u32 {
+        if first == 1usize << exponent {
+            return true;
+        }
+    }
+    false
+}
 
 /// An insertion-only set that one owner holds alone: no lock, no atomic, no waiting. Values are compared, hashed and
 /// shown by their targets.
@@ -47,9 +60,11 @@ impl<T: AtomicValue, A: Allocator + Copy> Model for HeldRawTable<T, A> {
 }
 
 impl<T: AtomicValue, A: Allocator + Copy> HeldRawTable<T, A> {
-    ghost use Rattle.lock_free_hashtable.specs.Table.{Table, empty_table, entries, marked, capacity, all_buckets, home_at, entry_at, IsLater, IsCounted, IsLawful, IsLawfulForAll, Stands, CountsAsList};
+    ghost use Rattle.lock_free_hashtable.specs.Table.{Table, empty_table, entries, marked, capacity, all_buckets};
+    ghost use Rattle.lock_free_hashtable.specs.Table.{home_at, entry_at, IsLater, IsCounted, IsLawful, IsLawfulForAll, Stands, CountsAsList};
     ghost use Rattle.lock_free_hashtable.specs.Growth.{IsOpened, IsGrown, GrowsIfWanted, Settles, SettlesGrowing};
-    ghost use Rattle.lock_free_hashtable.specs.Held.{ShowsAt, FindsOne, FindsNone, InsertKeeps, InsertMarks, InsertAnswers, PlacesAsList, LooksUpAsList, InsertShows};
+    ghost use Rattle.lock_free_hashtable.specs.Held.{InsertKeeps, InsertMarks, InsertAnswers, PlacesAsList, InsertShows};
+    ghost use Rattle.lock_free_hashtable.specs.Held.{ShowsAt, FindsOne, FindsNone, LooksUpAsList};
 
     /// The empty table, whose first generation will have 16 buckets. It takes no memory.
     pub fn new(alloc: A) -> Self
@@ -60,8 +75,7 @@ impl<T: AtomicValue, A: Allocator + Copy> HeldRawTable<T, A> {
         HeldRawTable::with_first_capacity(alloc, FIRST_CAPACITY)
     }
 
-    /// The empty table, whose first generation will have `first` buckets: a power of two from 16 to 2^30. It takes no
-    /// memory.
+    /// The empty table, whose first generation will have `first` buckets: see `is_first_capacity`. It takes no memory.
     pub fn with_first_capacity(alloc: A, first: usize) -> Self
         requires { IsFirstCapacity first }
         ensures empty { result ≡ empty_table first }
@@ -94,7 +108,8 @@ impl<T: AtomicValue, A: Allocator + Copy> HeldRawTable<T, A> {
 
     /// The buckets of the current generation; 0 while there is no generation.
     pub fn capacity_alone(&self) -> usize
-        ensures { result ≡ capacity self.now }
+        ensures current { result ≡ capacity self.now }
+        ensures doubled { IsDoubled self.now.first result }
     {
         self.current.capacity()
     }
@@ -103,6 +118,7 @@ impl<T: AtomicValue, A: Allocator + Copy> HeldRawTable<T, A> {
     pub fn buckets_alone(&self) -> usize
         ensures all { result ≡ all_buckets self.now }
         ensures few { result ≤ max self.now.first (8 * length (entries self.now) - self.now.first) }
+        ensures sum { 0 < capacity self.now → result + self.now.first ≡ 2 * capacity self.now }
     {
         let capacity = self.current.capacity();
         if capacity == 0 {
@@ -223,7 +239,8 @@ impl<T: AtomicValue, A: Allocator + Copy> HeldRawTable<T, A> {
         requires some { 0 < capacity self.old }
         requires eq_callable { E.IsAlwaysCallable eq.now }
         requires hash_callable { H.IsAlwaysCallable hash_fn.now }
-        ensures { SettlesGrowing T.target (FnReturnsAtPair E.Fn eq.now (T.target value)) (FnReturnsAt H.Fn hash_fn.now) self.old hash value result self.new }
+        ensures { SettlesGrowing T.target (FnReturnsAtPair E.Fn eq.now (T.target value)) (FnReturnsAt H.Fn hash_fn.now)
+            self.old hash value result self.new }
     {
         let value = match self.settle_alone(hash, value, eq) {
             Ok(settled) => return Ok(settled),
@@ -255,15 +272,19 @@ impl<T: AtomicValue, A: Allocator + Copy> HeldRawTable<T, A> {
         requires hash_callable { H.IsAlwaysCallable hash_fn.now }
 
         // with any closures
-        ensures keeps { InsertKeeps T.target (FnReturnsAtPair E.Fn eq.now (T.target value)) (entry_at self.new) (entries self.old) value result (entries self.new) }
+        ensures keeps { InsertKeeps T.target (FnReturnsAtPair E.Fn eq.now (T.target value)) (entry_at self.new)
+            (entries self.old) value result (entries self.new) }
         ensures marks { InsertMarks (marked self.old) hash value result (marked self.new) }
         ensures later { IsLater self.old self.new }
         ensures first { self.new.first ≡ self.old.first }
         ensures counted { IsCounted self.new }
 
         // with lawful ones
-        ensures lawful { InsertAnswers T.target L.same L.hash_of (FnReturnsAtPair E.Fn eq.now) (FnReturnsAt H.Fn hash_fn.now) (IsLawful T.target L.same L.hash_of self.old) (entries self.old) hash value result (IsLawful T.target L.same L.hash_of self.new) }
-        ensures as_list { PlacesAsList T.target L.same L.hash_of (FnReturnsAtPair E.Fn eq.now) (FnReturnsAt H.Fn hash_fn.now) self.old hash value result self.new }
+        ensures lawful { InsertAnswers T.target L.same L.hash_of (FnReturnsAtPair E.Fn eq.now) (FnReturnsAt H.Fn hash_fn.now)
+            (IsLawful T.target L.same L.hash_of self.old) (entries self.old) hash value result
+            (IsLawful T.target L.same L.hash_of self.new) }
+        ensures as_list { PlacesAsList T.target L.same L.hash_of (FnReturnsAtPair E.Fn eq.now) (FnReturnsAt H.Fn hash_fn.now)
+            self.old hash value result self.new }
     {
         if self.open_alone().is_err() {
             return Err(value);
@@ -307,7 +328,8 @@ impl<T: AtomicValue, A: Allocator + Copy> HeldRawTable<T, A> {
     >(&mut self, hash: u64, value: T, eq: E, hash_fn: H) -> Result<(&T::Target, Option<T>), T>
         requires eq_callable { E.IsAlwaysCallable eq }
         requires hash_callable { H.IsAlwaysCallable hash_fn }
-        ensures { InsertShows T.target L.same L.hash_of (FnReturnsAtPair E.Fn eq) (FnReturnsAt H.Fn hash_fn) self.old hash value result }
+        ensures { InsertShows T.target L.same L.hash_of (FnReturnsAtPair E.Fn eq) (FnReturnsAt H.Fn hash_fn)
+            self.old hash value result }
     {
         let (place, back) = self.place_alone::<L, E, H>(hash, value, &eq, &hash_fn)?;
         Ok((self.target_at(place), back))
@@ -324,7 +346,8 @@ impl<T: AtomicValue, A: Allocator + Copy> HeldRawTable<T, A> {
     ) -> Option<&T::Target>
         requires { F.IsAlwaysCallable test }
         ensures accepted { IfSome result (λ found. FindsOne T.target (FnReturnsAt F.Fn test) (entries self.now) found.now) }
-        ensures none { IfNone result (FindsNone T.target L.same L.hash_of (FnReturnsAt F.Fn test) (IsLawful T.target L.same L.hash_of self.now) (entries self.now) hash) }
+        ensures none { IfNone result (FindsNone T.target L.same L.hash_of (FnReturnsAt F.Fn test)
+            (IsLawful T.target L.same L.hash_of self.now) (entries self.now) hash) }
         ensures as_list { LooksUpAsList T.target L.same L.hash_of (FnReturnsAt F.Fn test) self.now hash (option_copied result) }
     {
         if self.current.capacity() == 0 {

@@ -1,5 +1,5 @@
 //! A table of pairs, held alone.
-ghost use Rattle.std.specs.Prelude.{◌≡◌, ◌≤◌, [], List, length, IfOk};
+ghost use Rattle.std.specs.Prelude.{◌≡◌, ◌+◌, ◌*◌, ◌<◌, [], List, length, IfOk};
 ghost use Rattle.lock_free_hashtable.specs.Capacity.{IsFirstCapacity};
 ghost use Rattle.lock_free_hashtable.specs.Table.{capacity, all_buckets};
 
@@ -56,7 +56,8 @@ impl<A: Allocator + Copy> PairTable<A> {
     /// The empty table, whose first generation will have `first` buckets. It takes no memory.
     pub fn new(alloc: A, first: usize) -> Self
         requires { IsFirstCapacity first }
-        ensures { HoldsPairs (λ b. b.value) result [] }
+        ensures empty { HoldsPairs (λ b. b.value) result [] }
+        ensures first { result.first ≡ first }
     {
         PairTable {
             table: HeldRawTable::with_first_capacity(alloc, first),
@@ -66,7 +67,8 @@ impl<A: Allocator + Copy> PairTable<A> {
 
     /// Inserts the pair, unless it is an entry. It is refused only where it is none.
     pub fn insert(&mut self, hash: u64, number: u64) -> Insertion
-        ensures { (ps : List (ℕ × ℕ)) → HoldsPairs (λ b. b.value) self.old ps
+        ensures first { self.new.first ≡ self.old.first }
+        ensures inserts { (ps : List (ℕ × ℕ)) → HoldsPairs (λ b. b.value) self.old ps
             → (qs : List (ℕ × ℕ)) × InsertsPair ps (hash, number) result qs × HoldsPairs (λ b. b.value) self.new qs }
     {
         let Ok(pair) = Box::new(self.alloc, (hash, number)) else {
@@ -115,7 +117,8 @@ impl<A: Allocator + Copy> PairTable<A> {
 
     /// The buckets of all generations.
     pub fn buckets(&self) -> usize
-        ensures { result ≡ all_buckets self.now }
+        ensures all { result ≡ all_buckets self.now }
+        ensures sum { 0 < capacity self.now → result + self.now.first ≡ 2 * capacity self.now }
     {
         self.table.buckets_alone()
     }

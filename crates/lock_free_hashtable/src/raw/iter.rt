@@ -31,7 +31,8 @@ impl<'a, T: AtomicValue, A: Allocator + Copy> Model for HeldIter<'a, T, A> {
 
     ghost view = { λ it. shown_from (parts_of it.earlier.now) it.current.now.parts it.index };
 
-    ghost invariant = { λ it. AllSound (parts_of it.earlier.now) it.current.now.parts × (it.left ≡ length (shown_from (parts_of it.earlier.now) it.current.now.parts it.index)) };
+    ghost invariant = { λ it. AllSound (parts_of it.earlier.now) it.current.now.parts
+        × (it.left ≡ length (shown_from (parts_of it.earlier.now) it.current.now.parts it.index)) };
 }
 
 impl<'a, V: 'a, T: AtomicValue<Target = V>, A: Allocator + Copy> Iterator for HeldIter<'a, T, A> {

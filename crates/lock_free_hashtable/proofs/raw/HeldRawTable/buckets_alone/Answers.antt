@@ -1,5 +1,5 @@
 use Rattle.std.proofs.Common.{arith, ◌<◌, ◌^◌, length}
-use Rattle.lock_free_hashtable.proofs.Kept.{buckets_few, buckets_fit, buckets_are}
+use Rattle.lock_free_hashtable.proofs.Kept.{buckets_few, buckets_sum, buckets_fit, buckets_are}
 use Rattle.lock_free_hashtable.proofs.raw.HeldRawTable.buckets_alone.Goals as goal
 
 pub overflow_add-result : goal.overflow_add-result
@@ -12,3 +12,8 @@ pub returns-clause-few : goal.returns-clause-few
 returns-clause-few g c =
     let some : 0 < length c.self.inside.current.parts = omega arith in
     rw (c.capacity-capacity.ensures, buckets_are _ _ _ _ c.self.invariant some, ← c.self.view_is) (buckets_few _ _ _ _ c.self.invariant some)
+
+pub returns-clause-sum : goal.returns-clause-sum
+returns-clause-sum g c some_buckets =
+    let some : 0 < length c.self.inside.current.parts = omega arith in
+    rw (c.capacity-capacity.ensures, ← c.self.view_is) (buckets_sum _ _ _ _ c.self.invariant some)
