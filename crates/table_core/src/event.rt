@@ -3,7 +3,7 @@
 ///
 /// `accepted` is the closure's answer at a set bucket, and `granted` says whether the memory that
 /// was asked for was there. Where nothing was asked they are not looked at.
-#[derive(Clone, Copy)]
+#[derive(Clone, Copy, Debug, PartialEq, Eq)]
 pub enum Event {
     /// Starts an insert of a value with its hash.
     Insert {
@@ -76,7 +76,7 @@ pub enum Event {
 }
 
 /// What a set bucket holds: its place, a value, and eight bits of the hash of its insert.
-#[derive(Clone, Copy)]
+#[derive(Clone, Copy, Debug, PartialEq, Eq)]
 pub struct Entry {
     pub place: u64,
     pub value: u64,

@@ -1,6 +1,7 @@
 ghost use Rattle.std.specs.Prelude.{◌<◌};
 
 mod decisions;
+mod load;
 
 use crate::event::Event;
 use crate::reply::{Finished, Reply};
