@@ -48,14 +48,13 @@ fn refuses(rule: &Rule, size: usize) -> bool {
     take_one(&rule.refused)
 }
 
-/// Takes one from the count, unless it is 0.
+/// Takes one from the count, unless it is 0. Of threads that ask at once, no two take the same one.
 fn take_one(count: &AtomicU64) -> bool {
-    let left = count.load(Ordering::SeqCst);
-    if left == 0 {
-        return false;
-    }
-    count.store(left - 1, Ordering::SeqCst);
-    true
+    count
+        .fetch_update(Ordering::SeqCst, Ordering::SeqCst, |left: u64| {
+            left.checked_sub(1)
+        })
+        .is_ok()
 }
 
 /// Memory of another allocator, less what the rule refuses.

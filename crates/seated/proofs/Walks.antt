@@ -1,6 +1,6 @@
 -- A seat probes for a number, or meets another: what it has learnt, and what that tells of the answer.
-use Rattle.std.proofs.Common.{IsTrue, true, false, true≢false, ◌↔◌, ◌≡◌, ◌≢◌, ℕ, ◌+◌, ◌<◌, ◌≤◌, List, [], ◌∷◌, ◌++◌, get_or, sym, refl, ap, ◌∙◌, subst, arith, max, append-nil, ⊎_elim}
-use Rattle.std.proofs.lemmas.List.Elements.{Contains-push, Contains-append_left, Contains-append_right, Contains-append_cases}
+use Rattle.std.proofs.Common.{IsTrue, true, false, true≢false, ◌↔◌, ◌≡◌, ◌≢◌, ℕ, ◌+◌, ◌<◌, ◌≤◌, List, [], ◌∷◌, ◌++◌, get_or, sym, refl, ap, ◌∙◌, subst, arith, max, append-nil}
+use Rattle.std.proofs.lemmas.List.Elements.{Contains-push, Contains-append_left, Contains-append_right}
 use Rattle.std.specs.Prelude.{Contains}
 use mathlib.Core.Logic.{dite}
 use mathlib.Core.Option.{none}
@@ -24,9 +24,6 @@ pub record Walked (n x k : ℕ) (v w : View) : Type 0 where
   pub within : Within v.known w.known
   pub passed : HasPassed n x w.known k
   pub sound : 0 < k → (words : List ℕ) × IsLaidOut n words × Fits n words w
-
-pub sets_out : (n x : ℕ) (v : View) → v.size ≡ n → v.giver_own ≡ [] → v.giver_turn ≡ 0 → Walked n x 0 v v
-sets_out n x v size giver_own giver_turn = record { size = size; own = refl; giver_own = giver_own; giver_turn = giver_turn; within = λ p y c. c; passed = λ j l. absurd (omega arith); sound = λ l. absurd (omega arith) }
 
 module _ (n x k : ℕ) (v w : View) (walked : Walked n x k v w) where
   laid_here : (p r : ℕ) → (shows : Shows w p r) → IsLaidOut n shows.words
@@ -98,9 +95,6 @@ apart_once xs ys once x a b = let i = times_in xs x a in let j = times_in ys x b
 pub read_apart : (p r : ℕ) (v : View) (xs ys : List ℕ) → v.own ≡ xs ++ ys → Shows v p r → Disjoint xs ys
 read_apart p r v xs ys is shows = apart_once xs ys (λ x. let sum = times-append x xs ys in let one = shows.once x in let same = ap (times x) is in omega arith)
 
-pub learns_nothing : (v : View) → Learns v v
-learns_nothing v = record { size = refl; known = λ p x c. c; own = refl; turn = refl; giver_own = refl; giver_turn = refl }
-
 pub learns_more : (v : View) (slots p r : ℕ) (me me' : SeatState) → Learns v me.0 → Reads unchanged (step slots p 0 0 none) me r me' → Learns v me'.0
 learns_more v slots p r me me' so told = record {
   size = reads_keep (λ (m : SeatState). m.0.size) unchanged slots p r me me' (λ x. refl) told ∙ so.size;
@@ -130,9 +124,6 @@ second_meets b u w me me' slots r is told so below =
       own,
       apart_once u.own w.own (λ x. let sum = shows.apart (omega arith) x in let same = ap (times x) (own ∙ sym (append-nil b.own)) in omega arith),
     )
-
-pub into_left : (ps qs rs : List (ℕ × ℕ)) → Within ps rs → Within qs rs → Within (ps ++ qs) rs
-into_left ps qs rs a b p x c = ⊎_elim (a p x) (b p x) (Contains-append_cases ps qs (p, x) c)
 
 pub within_right : (ps qs rs : List (ℕ × ℕ)) → Within (ps ++ qs) rs → Within qs rs
 within_right ps qs rs a p x c = a p x (Contains-append_right ps qs (p, x) c)

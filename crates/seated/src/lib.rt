@@ -11,5 +11,5 @@ mod table;
 #[cfg(test)]
 mod tests;
 
-pub use seat::{NumberAnswer, Seat, View};
+pub use seat::{NumberAnswer, Seat};
 pub use table::NumberTable;

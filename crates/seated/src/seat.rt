@@ -2,7 +2,7 @@
 use std::collections::LinkedList;
 
 /// What a seat knows. It stands in contracts alone: no value of it is ever made.
-pub struct View {
+pub(crate) struct View {
     /// How many words the table has.
     pub size: u64,
     /// Pairs of a bucket and the number that it holds.

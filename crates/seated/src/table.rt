@@ -8,7 +8,7 @@ use crate::rule::{
 };
 use crate::seat::{NumberAnswer, Seat, View};
 use atomic_table::Table;
-use std::alloc::{AllocError, Allocator};
+use std::alloc::{AllocError, Allocator, Global};
 use std::num::NonZeroU64;
 
 /// A set of numbers other than 0, which threads share by reference.
@@ -17,7 +17,7 @@ use std::num::NonZeroU64;
 /// number modulo the number of words, and a probe goes on to the next bucket, round the end.
 /// No call waits, and only `new` asks for memory.
 #[derive(Drop)]
-pub struct NumberTable<A: Allocator + Copy> {
+pub struct NumberTable<A: Allocator + Copy = Global> {
     table: Table<(), View, u64, NumberRule, A>,
     /// As long as the table, for `close`.
     room: Vec<u64, A>,
@@ -29,7 +29,7 @@ pub struct NumberTable<A: Allocator + Copy> {
 }
 
 impl<A: Allocator + Copy> NumberTable<A> {
-    ghost use Rattle.std.specs.Prelude.{ℕ, ◌++◌, [], ◌∷◌, IfOk, IsOk, IsTrue, ◌↔◌, All, Contains};
+    ghost use Rattle.std.specs.Prelude.{◌++◌, [], IfOk, IsOk, IsTrue, ◌↔◌, All, Contains};
     ghost use Rattle.std.specs.Int.NonZero.{non_zero_u64_get};
     ghost use mathlib.Core.Option.{none};
     ghost use Rattle.atomic_table.specs.Table.{step};
