@@ -1,3 +1,5 @@
+//! Where a call stands, and what its events find.
+
 /// Where a call stands. The phase says which events have a row for it.
 #[derive(Clone, Copy, Debug, PartialEq, Eq)]
 pub enum Phase {

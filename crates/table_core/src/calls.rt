@@ -1,3 +1,4 @@
+//! The calls that have begun, by number, with who holds the lock.
 ghost use Rattle.std.specs.Prelude.{◌≡◌, ℕ, nat_eq, ◌||◌, ◌≤◌, ◌<◌, ◌+◌, ◌^◌, ◌++◌, ◌∷◌, [], Option, Some, None, false, length, slice_set, vec_len, OnOk, OnErr, IfOk};
 ghost use Rattle.std.specs.HashSet as set;
 ghost use Rattle.std.specs.List.{slice_get};

@@ -1,3 +1,4 @@
+//! Where an answer takes a call: the table of events as code.
 ghost use Rattle.std.specs.Prelude.{◌≡◌, true, Some, None, nat_lt, ◌/◌, if◌then◌else◌};
 ghost use Rattle.table_core.specs.Calls.{decide as after_answer, stands_at_bucket, to, probes, meets, looks, passes, walks, finds_entry, ends, fails};
 

@@ -1,3 +1,5 @@
+//! The events of schedules.
+
 /// One event of a schedule: what a call with this number does next, and what its closure and its
 /// memory answer it.
 ///

@@ -1,3 +1,4 @@
+//! One generation: its set buckets alone, so that memory goes with entries.
 ghost use Rattle.std.specs.Prelude.{◌≡◌, ◌<◌, ◌+◌, ◌%◌, None, map, length, IfOk};
 ghost use Rattle.std.specs.Result.{OnOk, OnErr};
 ghost use Rattle.table_core.specs.Generations.{bucket, bits_of, fresh, fill, count, copy_in, first_empty};

@@ -1,3 +1,4 @@
+//! What each event finds, tells and changes.
 ghost use Rattle.std.specs.Prelude.{◌≡◌, ◌≢◌, ◌<◌, true, false, if◌then◌else◌, Option, Some, None, length, slice_set, OnOk, OnErr, IfOk, IfSome};
 ghost use Rattle.std.specs.Option.{option_map};
 ghost use Rattle.std.specs.List.{slice_get};

@@ -1,3 +1,5 @@
+//! What calls are told.
+
 use std::alloc::{Allocator, Global};
 use std::marker::Model;
 

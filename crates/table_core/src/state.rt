@@ -1,3 +1,4 @@
+//! The machine as its users see it, and whole schedules.
 ghost use Rattle.std.specs.Prelude.{◌≡◌, ◌++◌, option_to_list, OnOk, OnErr, IfOk};
 ghost use Rattle.table_core.specs.Generations.{IsFirst};
 ghost use Rattle.table_core.specs.History.{replies, buckets};

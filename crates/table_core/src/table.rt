@@ -1,3 +1,4 @@
+//! All generations, and the one that is being built.
 ghost use Rattle.std.specs.Prelude.{◌≡◌, ◌<◌, ◌^◌, true, Some, None, [], length, OnOk, OnErr, IfOk, option_copied};
 ghost use Rattle.std.specs.Option.{option_map};
 ghost use Rattle.table_core.specs.Bags.{weigh};

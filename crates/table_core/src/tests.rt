@@ -1,3 +1,4 @@
+//! Schedules, and the lines that their calls are to print.
 ghost use Rattle.std.specs.Prelude.{◌<◌};
 
 mod decisions;

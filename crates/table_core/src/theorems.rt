@@ -1,3 +1,4 @@
+//! What holds of every schedule: contracts of functions that do nothing.
 ghost use Rattle.std.specs.Prelude.{ℕ, List, Option, [], ◌∷◌, ◌++◌};
 ghost use Rattle.table_core.specs.Calls.{Call};
 ghost use Rattle.table_core.specs.Generations.{Table, IsFirst};

@@ -1,3 +1,5 @@
+//! Answers that have no place, or whose numbers can't be.
+
 use crate::call::{Answer, CallState, Outcome, Phase};
 use crate::deciding::decide;
 use std::process::Abort;

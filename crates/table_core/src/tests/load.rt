@@ -1,3 +1,5 @@
+//! Many calls, one after another.
+
 use crate::event::Event;
 use crate::reply::{Finished, Reply};
 use crate::state::State;
