@@ -214,45 +214,49 @@ fn runs_are_whole_or_refused(rt: HostRuntime) -> Result<(), Fail> {
     Ok(())
 }
 
-/// Takes an event, and takes it once more where it is refused. A refused step leaves as many buckets as there were.
+/// Takes an event, and takes it once more where it is refused, which it notes. A refused step leaves as many buckets as there
+/// were.
 fn take_again<R: Abort, A: Allocator + Copy>(
     rt: &R,
     state: &mut State<A>,
     event: Event,
+    refused: &mut bool,
 ) -> Result<Option<Finished<A>>, NoMemory> {
     let buckets = state.buckets();
     match state.step(event) {
         Ok(finished) => Ok(finished),
         Err(_) => {
+            *refused = true;
             assert_eq!(rt; state.buckets(), buckets);
             state.step(event)
         }
     }
 }
 
-/// Takes the schedule's events on memory of which one request is refused: what the calls are told, and how many buckets there
-/// are after each event, is as with ample memory.
+/// Takes the schedule's events on memory of which one request is refused, and answers whether a step was refused: what the
+/// calls are told, and how many buckets there are after each event, is as with ample memory.
 fn take_all<R: Abort + AllocGlobal, A: Allocator + Copy>(
     rt: &R,
     alloc: A,
     first: u64,
     schedule: &Schedule,
-) -> Result<(), Fail>
+) -> Result<bool, Fail>
     requires { IsFirst first }
 {
     let mut ample = State::with_first_capacity(rt.alloc(), first);
     let mut state = State::with_first_capacity(alloc, first);
     let mut lines = String::new(rt.alloc());
+    let mut refused = false;
     for event in &schedule.events {
         ample.step(*event)?;
-        if let Some(finished) = take_again(rt, &mut state, *event)? {
+        if let Some(finished) = take_again(rt, &mut state, *event, &mut refused)? {
             push_line(&mut lines, &finished)?;
         }
         assert_eq!(rt; state.buckets(), ample.buckets());
     }
     assert_eq!(rt; lines.as_str(), schedule.told.as_str());
     assert_eq!(rt; state.buckets(), schedule.buckets);
-    Ok(())
+    Ok(refused)
 }
 
 /// Refuses each request of the schedule's steps in turn.
@@ -262,16 +266,19 @@ fn refuse_steps<R: Abort + AllocGlobal>(rt: &R, first: u64) -> Result<(), Fail>
 {
     let schedule = Schedule::new(rt.alloc(), first)?;
     let mut refusals = 0u64;
+    let mut whole = false;
     for granted in 0..REQUESTS {
         let memory = Refusing::new(rt.alloc(), Rule::new(0, usize::MAX, granted, 1));
-        take_all(rt, &memory, first, &schedule)?;
-        if memory.refusals_left() > 0 {
+        if take_all(rt, &memory, first, &schedule)? {
+            refusals = refusals.saturating_add(1);
+        }
+        whole = memory.refusals_left() > 0;
+        if whole {
             break;
         }
-        refusals = refusals.saturating_add(1);
     }
+    assert!(rt; whole);
     assert!(rt; refusals > 0);
-    assert!(rt; refusals < REQUESTS);
     Ok(())
 }
 
@@ -285,19 +292,22 @@ fn refused_steps_can_be_taken_again(rt: HostRuntime) -> Result<(), Fail> {
 fn the_command_prints_whole_lines_until_it_is_refused(rt: HostRuntime) -> Result<(), Fail> {
     for (words, first) in [(["core", "16"], 16), (["core", "32"], 32)] {
         let schedule = Schedule::new(rt.alloc(), first)?;
-        let mut refusals = 0u64;
+        let mut whole = false;
         for granted in 0..REQUESTS {
             let memory = Refusing::new(rt.alloc(), Rule::new(0, usize::MAX, granted, 1));
             let ended = run_on(&rt, &memory, &words, schedule.input.as_bytes())?;
-            if is_refused(&rt, &ended, schedule.told.as_str()) {
-                refusals = refusals.saturating_add(1);
-                assert!(rt; granted > 0 || ended.output.is_empty());
-            } else if memory.refusals_left() > 0 {
+            let refused = is_refused(&rt, &ended, schedule.told.as_str());
+            if granted == 0 {
+                assert!(rt; refused);
+                assert_eq!(rt; ended.output.as_str(), "");
+            }
+            whole = memory.refusals_left() > 0;
+            if whole {
+                assert!(rt; !refused);
                 break;
             }
         }
-        assert!(rt; refusals > 0);
-        assert!(rt; refusals < REQUESTS);
+        assert!(rt; whole);
     }
     Ok(())
 }
@@ -408,14 +418,17 @@ fn run_asking<R: Threads + Wait + Abort, A: Allocator + Copy + Send + Sync>(
 #[test]
 fn a_request_that_is_refused_ends_the_run(rt: HostRuntime) {
     let mut refusals = 0u64;
+    let mut whole = false;
     for granted in 0..REQUESTS {
         let memory = Refusing::new(rt.alloc(), Rule::new(0, usize::MAX, granted, 1));
         if run_asking(&rt, &memory) {
             refusals = refusals.saturating_add(1);
-        } else if memory.refusals_left() > 0 {
+        }
+        whole = memory.refusals_left() > 0;
+        if whole {
             break;
         }
     }
+    assert!(rt; whole);
     assert!(rt; refusals > 0);
-    assert!(rt; refusals < REQUESTS);
 }
