@@ -6,6 +6,7 @@
 //!     bench               a small check, without a clock
 //!
 //! Each line is the name, the measurement and nanoseconds of wall time an operation (`g_rss`: resident bytes an entry).
+//! Other words print the usage, and the status is 1.
 #![tactic(auto)]
 
 mod measures;
@@ -14,7 +15,7 @@ mod report;
 mod seats;
 
 use crate::measures::{check_held, measure_held};
-use crate::report::Report;
+use crate::report::{Report, refuse_words};
 use crate::seats::{check_seats, measure_seats};
 use std::convert::AsStr;
 use std::{env, io};
@@ -37,6 +38,6 @@ fn main(rt: HostRuntime) -> io::Result<()> {
         [name, group] if name.as_str() == SEATS => {
             measure_seats(&rt, &Report { name: SEATS }, group.as_str())
         }
-        _ => Ok(()),
+        _ => refuse_words(&rt),
     }
 }

@@ -2,7 +2,7 @@
 ghost use Rattle.std.specs.Prelude.{◌≤◌, ◌^◌};
 
 use crate::numbers::{COUNT, NumberSet, spread, turn};
-use crate::report::Report;
+use crate::report::{Report, refuse_words};
 use std::alloc::Allocator;
 use std::num::nearest_u64_to_f64;
 use std::rt::{Clock, Files};
@@ -12,8 +12,8 @@ use std::{fs, io};
 /// The bytes of a page of memory.
 const PAGE: u64 = 4096;
 
-/// Runs a group of measurements. A group that is not known measures nothing.
-pub fn measure_held<R: Print + Clock + Files + AllocGlobal>(
+/// Runs a group of measurements. A group that is not known is refused.
+pub fn measure_held<R: Print + Eprint + Clock + Files + AllocGlobal>(
     rt: &R,
     report: &Report<'_>,
     group: &str,
@@ -21,7 +21,7 @@ pub fn measure_held<R: Print + Clock + Files + AllocGlobal>(
     match group {
         "one" => measure_one(rt, report),
         "seq" => measure_seq(rt, report),
-        _ => Ok(()),
+        _ => refuse_words(rt),
     }
 }
 

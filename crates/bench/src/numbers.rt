@@ -23,7 +23,7 @@ impl Law<u64> for NumberLaw {
 }
 
 /// The hash of a number, the same as that of the tables that this one is compared with.
-pub fn hash_number(number: u64) -> u64
+fn hash_number(number: u64) -> u64
     ensures { result ≡ number_hash number }
 {
     number.wrapping_mul(0x9E37_79B9_7F4A_7C15)

@@ -6,6 +6,12 @@ use std::num::nearest_u64_to_f64;
 use std::rt::Clock;
 use std::time::Instant;
 
+/// Says how the program is called, and fails.
+pub fn refuse_words(rt: &impl Eprint) -> io::Result<()> {
+    eprintln!(rt; "usage: bench [list | held one|seq | seats one|seq|same|ins]")?;
+    Err(io::Error::from(io::ErrorKind::InvalidInput))
+}
+
 /// Who reports a measurement.
 #[derive(Clone, Copy)]
 pub struct Report<'a> {

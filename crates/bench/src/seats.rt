@@ -4,7 +4,7 @@ ghost use Rattle.seated.specs.Tables.{IsSeatOf};
 ghost use Rattle.seated.specs.Numbers.{known_pairs, own_numbers, Knows};
 
 use crate::numbers::{COUNT, spread};
-use crate::report::Report;
+use crate::report::{Report, refuse_words};
 use seated::{NumberAnswer, NumberTable, Seat};
 use std::alloc::{AllocError, Allocator, Global};
 use std::num::NonZeroU64;
@@ -29,8 +29,8 @@ const ROUNDS: u64 = 25;
 /// Those keys.
 const SAME: u64 = 10_000;
 
-/// Runs a group of measurements. A group that is not known measures nothing.
-pub fn measure_seats<R: Print + Clock + Threads + Sync + AllocGlobal>(
+/// Runs a group of measurements. A group that is not known is refused.
+pub fn measure_seats<R: Print + Eprint + Clock + Threads + Sync + AllocGlobal>(
     rt: &R,
     report: &Report<'_>,
     group: &str,
@@ -41,7 +41,7 @@ pub fn measure_seats<R: Print + Clock + Threads + Sync + AllocGlobal>(
         "seq" => measure_seq(rt, report, &table, seat),
         "same" => measure_same(rt, report, &table, seat),
         "ins" => measure_inserts(rt, report, &table, seat),
-        _ => Ok(()),
+        _ => refuse_words(rt),
     }
 }
 

@@ -1,10 +1,11 @@
 //! The command that the program's words name.
-ghost use Rattle.std.specs.Prelude.{◌≡◌, ◌+◌, ◌≤◌, map, IfSome, IfNone, IsTrue, ◌↔◌, ℕ};
+ghost use Rattle.std.specs.Prelude.{map, IfSome, IfNone, ℕ};
 ghost use Rattle.tablerun.specs.Arguments.{NamesFirst, NamesThreads, NamesCommand, IsRunnable, IsThreadCount};
 ghost use Rattle.lock_free_hashtable.specs.Capacity.{IsFirstCapacity};
 ghost use Rattle.tablerun.specs.declared.arguments.Command.{Command as CommandOf};
 
 use crate::spelling::parse_decimal;
+use lock_free_hashtable::raw::{FIRST_CAPACITY, is_first_capacity};
 use std::convert::AsStr;
 
 /// A command.
@@ -18,8 +19,6 @@ pub enum Command {
     Seats { threads: usize },
 }
 
-const FIRST: usize = 16;
-
 /// Reads the words after the program's name. `None` is for words that name no command.
 pub fn parse_command<S: AsStr>(words: &[S]) -> Option<Command>
     ensures named { IfSome result (NamesCommand (map S.text words.now)) }
@@ -27,7 +26,9 @@ pub fn parse_command<S: AsStr>(words: &[S]) -> Option<Command>
     ensures wrong { IfNone result ((command : CommandOf) → ¬ NamesCommand (map S.text words.now) command) }
 {
     match words {
-        [] => Some(Command::Calls { first: FIRST }),
+        [] => Some(Command::Calls {
+            first: FIRST_CAPACITY,
+        }),
         [name, rest @ ..] => match name.as_str().as_bytes() {
             b"calls" => {
                 let first = parse_first(rest)?;
@@ -47,17 +48,17 @@ pub fn parse_command<S: AsStr>(words: &[S]) -> Option<Command>
 }
 
 /// Reads the words after a command's name: a first capacity, or none for 16.
-pub fn parse_first<S: AsStr>(words: &[S]) -> Option<usize>
+fn parse_first<S: AsStr>(words: &[S]) -> Option<usize>
     ensures named { IfSome result (NamesFirst (map S.text words.now)) }
     ensures first { IfSome result IsFirstCapacity }
     ensures wrong { IfNone result ((first : ℕ) → ¬ NamesFirst (map S.text words.now) first) }
 {
     match words {
-        [] => Some(FIRST),
+        [] => Some(FIRST_CAPACITY),
         [word] => {
-            let first = parse_decimal(word.as_str().as_bytes())?;
+            let first = parse_decimal(word.as_str().as_bytes())? as usize;
             if is_first_capacity(first) {
-                Some(first as usize)
+                Some(first)
             } else {
                 None
             }
@@ -67,7 +68,7 @@ pub fn parse_first<S: AsStr>(words: &[S]) -> Option<usize>
 }
 
 /// Reads the words after a command's name: a number of threads, from 2 to 64.
-pub fn parse_threads<S: AsStr>(words: &[S]) -> Option<usize>
+fn parse_threads<S: AsStr>(words: &[S]) -> Option<usize>
     ensures named { IfSome result (NamesThreads (map S.text words.now)) }
     ensures count { IfSome result IsThreadCount }
     ensures wrong { IfNone result ((threads : ℕ) → ¬ NamesThreads (map S.text words.now) threads) }
@@ -79,16 +80,4 @@ pub fn parse_threads<S: AsStr>(words: &[S]) -> Option<usize>
         },
         _ => None,
     }
-}
-
-/// Whether this is a power of two from 16 to 2^30.
-fn is_first_capacity(first: u64) -> bool
-    ensures { IsTrue result ↔ IsFirstCapacity first }
-{
-    for exponent in 4..31u32 {
-        if first == 1u64 << exponent {
-            return true;
-        }
-    }
-    false
 }

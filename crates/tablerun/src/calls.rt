@@ -1,5 +1,5 @@
 //! The command `calls`: lines that are asked of a table held alone.
-ghost use Rattle.std.specs.Prelude.{◌++◌, ℕ, List, OnOk, codes};
+ghost use Rattle.std.specs.Prelude.{◌≡◌, ◌++◌, ℕ, List, OnOk, codes};
 ghost use Rattle.std.specs.Io.KnownBytes.{Appends};
 ghost use Rattle.tablerun.specs.Pairs.{HoldsPairs};
 ghost use Rattle.tablerun.specs.Replies.{AnswersLine, reply_text};
@@ -14,8 +14,7 @@ use crate::spelling::{Line, parse_line};
 use std::alloc::Allocator;
 use std::io::{Read, Write};
 
-/// Answers the lines of the input, one by one, on a table whose first generation will have `first` buckets. Every reply is
-/// sent before more input is read.
+/// Answers the lines of the input on a table whose first generation will have `first` buckets.
 pub fn run_calls<A: Allocator + Copy, I: Read, O: Write>(
     alloc: A,
     first: usize,
@@ -25,6 +24,17 @@ pub fn run_calls<A: Allocator + Copy, I: Read, O: Write>(
     requires { IsFirstCapacity first }
 {
     let mut table = PairTable::new(alloc, first);
+    answer_lines(&mut table, lines, output)
+}
+
+/// Answers the lines of the input, one by one. Every reply is sent before more input is read.
+fn answer_lines<A: Allocator + Copy, I: Read, O: Write>(
+    table: &mut PairTable<A>,
+    lines: &mut Lines<I>,
+    output: &mut Output<O>,
+) -> Result<(), Fault>
+    ensures first { table.new.first ≡ table.old.first }
+{
     // Counted only so that the loop has an end, and to name a bad line.
     for count in 0..u64::MAX {
         let line = match lines.next_line(output)? {
@@ -33,7 +43,7 @@ pub fn run_calls<A: Allocator + Copy, I: Read, O: Write>(
             Next::End => return Ok(()),
         };
         match line {
-            Some(line) => answer(&mut table, line, output)?,
+            Some(line) => answer(table, line, output)?,
             None => return Err(Fault::BadLine(count + 1)),
         }
     }
@@ -46,7 +56,8 @@ fn answer<A: Allocator + Copy, W: Write>(
     line: Line,
     output: &mut W,
 ) -> Result<(), Fault>
-    ensures { OnOk result ((ps : List (ℕ × ℕ)) → HoldsPairs (λ b. b.value) table.old ps
+    ensures first { table.new.first ≡ table.old.first }
+    ensures answered { OnOk result ((ps : List (ℕ × ℕ)) → HoldsPairs (λ b. b.value) table.old ps
         → (text : List ℕ) × (qs : List (ℕ × ℕ)) × AnswersLine table.new ps line text qs × HoldsPairs (λ b. b.value) table.new qs
         × Appends (W.contents output.old) (W.contents output.new) (text ++ codes "\n")) }
 {

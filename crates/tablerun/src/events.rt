@@ -31,7 +31,7 @@ pub fn parse_schedule_line(text: &[u8]) -> Option<ScheduleLine>
 }
 
 /// Reads an event: its word, and what follows it after a space.
-pub fn parse_event(text: &[u8]) -> Option<Event>
+fn parse_event(text: &[u8]) -> Option<Event>
     ensures spelled { IfSome result (SpellsEvent text.now) }
     ensures bad { IfNone result ((event : EventOf) → ¬ SpellsEvent text.now event) }
 {

@@ -1,5 +1,6 @@
 //! The lines of the input, read block by block.
 ghost use Rattle.std.specs.Prelude.{◌≤◌, ◌<◌, IfSome};
+ghost use Rattle.tablerun.specs.declared.blocks.TheConstants.{BLOCK};
 
 use crate::blocks::{BLOCK, empty_block};
 use crate::faults::Fault;
@@ -33,7 +34,7 @@ pub struct Lines<R> {
     at_end: bool,
     ghost begun: { start ≤ searched },
     ghost found: { searched ≤ end },
-    ghost in_block: { end ≤ 16384 },
+    ghost in_block: { end ≤ BLOCK },
 }
 
 impl<R: Read> Lines<R> {
@@ -117,7 +118,7 @@ impl<R: Read> Lines<R> {
     /// The line from `start` to its line break.
     fn ended_line(&mut self, start: usize, line_break: usize) -> Next<'_>
         requires order { start ≤ line_break }
-        requires in_block { line_break ≤ 16384 }
+        requires in_block { line_break ≤ BLOCK }
     {
         if self.too_long {
             self.too_long = false;

@@ -1,5 +1,6 @@
 //! Output that is kept in a block until it is sent.
 ghost use Rattle.std.specs.Prelude.{◌≤◌};
+ghost use Rattle.tablerun.specs.declared.blocks.TheConstants.{BLOCK};
 
 use crate::blocks::{BLOCK, empty_block};
 use std::io;
@@ -11,7 +12,7 @@ pub struct Output<W> {
     writer: W,
     block: [u8; BLOCK],
     kept: usize,
-    ghost in_block: { kept ≤ 16384 },
+    ghost in_block: { kept ≤ BLOCK },
 }
 
 impl<W: Write> Output<W> {

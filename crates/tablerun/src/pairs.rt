@@ -1,6 +1,6 @@
 //! A table of pairs, held alone.
 ghost use Rattle.std.specs.Prelude.{◌≡◌, ◌+◌, ◌*◌, ◌<◌, [], List, length, IfOk};
-ghost use Rattle.lock_free_hashtable.specs.Capacity.{IsFirstCapacity};
+ghost use Rattle.lock_free_hashtable.specs.Capacity.{IsFirstCapacity, IsDoubled};
 ghost use Rattle.lock_free_hashtable.specs.Table.{capacity, all_buckets};
 
 use lock_free_hashtable::atomic_value::Law;
@@ -110,7 +110,8 @@ impl<A: Allocator + Copy> PairTable<A> {
 
     /// The buckets of the current generation.
     pub fn capacity(&self) -> usize
-        ensures { result ≡ capacity self.now }
+        ensures current { result ≡ capacity self.now }
+        ensures doubled { IsDoubled self.now.first result }
     {
         self.table.capacity_alone()
     }

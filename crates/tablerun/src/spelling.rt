@@ -1,5 +1,5 @@
 //! How the lines of the input are spelled.
-ghost use Rattle.std.specs.Prelude.{◌≡◌, ◌⊎◌, ◌≤◌, ◌++◌, ℕ, IfSome, IfNone, codes};
+ghost use Rattle.std.specs.Prelude.{◌≡◌, ◌≤◌, ◌++◌, ℕ, IfSome, IfNone, codes};
 ghost use Rattle.tablerun.specs.Spelling.{Writes, SpellsNumber, SpellsPair, SpellsLine, HasNoSpace};
 ghost use Rattle.tablerun.specs.declared.spelling.Line.{Line as LineOf};
 

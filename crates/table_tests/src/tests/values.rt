@@ -1,7 +1,7 @@
 //! The kinds of values that a table holds.
 use crate::laws::{NumberLaw, spread};
 use lock_free_hashtable::atomic_value::AtomicValue;
-use lock_free_hashtable::raw::HeldRawTable;
+use lock_free_hashtable::raw::{HeldRawTable, is_first_capacity};
 use std::num::{NonZeroU32, NonZeroU64};
 use std::sync::Arc;
 use std::test::Fail;
@@ -117,6 +117,7 @@ fn a_million_numbers(rt: HostRuntime) -> Result<(), Fail> {
 
 #[test]
 fn wide_numbers_come_back(rt: HostRuntime) -> Result<(), Fail> {
+    assert!(rt; is_first_capacity(64) && !is_first_capacity(48));
     let mut table: HeldRawTable<NonZeroU64> = HeldRawTable::with_first_capacity(rt.alloc(), 64);
     let value = NonZeroU64::MAX;
     let hash = spread(value.get());
