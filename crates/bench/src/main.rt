@@ -3,6 +3,7 @@
 //!     bench list          the names of what is measured
 //!     bench held GROUP    the table held alone: runs a group of measurements once, in a fresh process: one or seq
 //!     bench seats GROUP   the number table of seated threads: one, seq, same or ins
+//!     bench core one      the machine of all schedules
 //!     bench               a small check, without a clock
 //!
 //! Each line is the name, the measurement and nanoseconds of wall time an operation (`g_rss`: resident bytes an entry).
@@ -12,10 +13,12 @@
 mod measures;
 mod numbers;
 mod report;
+mod schedules;
 mod seats;
 
 use crate::measures::{check_held, measure_held};
 use crate::report::{Report, refuse_words};
+use crate::schedules::{check_schedules, measure_schedules};
 use crate::seats::{check_seats, measure_seats};
 use std::convert::AsStr;
 use std::{env, io};
@@ -24,19 +27,25 @@ const HELD: &str = "held";
 
 const SEATS: &str = "seats";
 
+const CORE: &str = "core";
+
 fn main(rt: HostRuntime) -> io::Result<()> {
     let words: Vec<String> = env::args(&rt)?.skip(1).collect(rt.alloc())?;
     match words.as_slice() {
         [] => {
             check_held(&rt)?;
-            check_seats(&rt)
+            check_seats(&rt)?;
+            check_schedules(&rt)
         }
-        [word] if word.as_str() == "list" => println!(rt; "{HELD}\n{SEATS}"),
+        [word] if word.as_str() == "list" => println!(rt; "{HELD}\n{SEATS}\n{CORE}"),
         [name, group] if name.as_str() == HELD => {
             measure_held(&rt, &Report { name: HELD }, group.as_str())
         }
         [name, group] if name.as_str() == SEATS => {
             measure_seats(&rt, &Report { name: SEATS }, group.as_str())
+        }
+        [name, group] if name.as_str() == CORE => {
+            measure_schedules(&rt, &Report { name: CORE }, group.as_str())
         }
         _ => refuse_words(&rt),
     }
