@@ -5,6 +5,7 @@
     tools/speed.py show held BASE           prints the tables held alone in docs/speed/raw.txt, and draws
                                             docs/speed/ratios.svg, with ratios to the table BASE, as plain-rust
     tools/speed.py show seats BASE          prints the number tables that threads share, as plain-atomics
+    tools/speed.py show core core           prints the machine of all schedules
 
 A PROGRAM answers `PROGRAM list` with the names of its tables, one a line, and `PROGRAM NAME GROUP` with lines
 `NAME MEASUREMENT NUMBER`. Each group runs in a process of its own; every second round goes backwards. The best of all
@@ -18,21 +19,24 @@ import sys
 HERE = os.path.join(os.path.dirname(os.path.abspath(__file__)), "..", "docs", "speed")
 RAW = os.path.join(HERE, "raw.txt")
 PLOT = os.path.join(HERE, "ratios.svg")
-# Number tables that threads share. Every other table is held alone.
+# Number tables that threads share. Every other table is held alone, but for the machine of all schedules, `core`.
 SEATED = ["seats", "plain-atomics"]
-GROUPS = {"held": ["one", "seq"], "seats": ["one", "seq", "same", "ins"]}
+GROUPS = {"held": ["one", "seq"], "seats": ["one", "seq", "same", "ins"], "core": ["one"]}
 MEASUREMENTS = {
     "held": ["a_ins1", "b_hit1", "c_miss1", "seq_ins1", "seq_hit1", "g_rss"],
     "seats": ["a_ins1", "b_hit1", "c_miss1", "d_same4", "e_ins4", "f_hit4", "seq_ins1", "seq_hit1"],
+    "core": ["event"],
 }
 
 
 def kind_of(name):
+    if name == "core":
+        return "core"
     return "seats" if name in SEATED else "held"
 
 
 def lines_of(*words):
-    done = subprocess.run(words, capture_output=True, text=True, timeout=300, check=False)
+    done = subprocess.run(words, capture_output=True, text=True, timeout=300, check=True)
     return done.stdout.splitlines()
 
 
@@ -45,13 +49,15 @@ def measured(program, name):
 def run(rounds, programs):
     tables = [(program, name) for program in programs for name in lines_of(program, "list")]
     os.makedirs(HERE, exist_ok=True)
-    with open(RAW, "w", encoding="ascii") as raw:
+    fresh = RAW + ".new"
+    with open(fresh, "w", encoding="ascii") as raw:
         for round_number in range(rounds):
             for program, name in tables if round_number % 2 == 0 else reversed(tables):
                 for line in measured(program, name):
                     print(line, file=raw)
             load = os.getloadavg()[0]
             print(f"round {round_number + 1} of {rounds}, load {load:.1f}", file=sys.stderr)
+    os.replace(fresh, RAW)
 
 
 def numbers_of(kind):
