@@ -17,7 +17,7 @@ const LOOKUPS: u64 = 25_000;
 const CALLS: u64 = INSERTS + LOOKUPS;
 
 /// Runs a group of measurements. A group that is not known is refused.
-pub fn measure_schedules<R: Print + Clock + AllocGlobal>(
+pub fn measure_schedules<R: Print + Eprint + Clock + AllocGlobal>(
     rt: &R,
     report: &Report<'_>,
     group: &str,
