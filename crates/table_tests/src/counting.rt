@@ -1,4 +1,6 @@
 //! A value that counts how often it is dropped.
+ghost use Rattle.std.specs.Prelude.{◌≡◌};
+
 use lock_free_hashtable::atomic_value::Law;
 use std::cell::Cell;
 use std::rc::Rc;
@@ -11,7 +13,9 @@ pub struct Counting {
 
 impl Counting {
     /// A value whose drop is counted there.
-    pub fn new(number: u64, drops: Rc<Cell<u64>>) -> Self {
+    pub fn new(number: u64, drops: Rc<Cell<u64>>) -> Self
+        ensures { result.number ≡ number }
+    {
         Counting { number, drops }
     }
 }

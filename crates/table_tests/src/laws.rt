@@ -1,9 +1,14 @@
 //! Laws that the tests use tables under.
+ghost use Rattle.std.specs.Prelude.{◌≡◌};
+ghost use Rattle.table_tests.specs.Laws.{spread};
+
 use lock_free_hashtable::atomic_value::Law;
 use std::num::{NonZeroU32, NonZeroU64};
 
 /// The hash of a number under `NumberLaw`.
-pub fn spread(number: u64) -> u64 {
+pub fn spread(number: u64) -> u64
+    ensures { result ≡ spread number }
+{
     number.wrapping_mul(0x9E37_79B9_7F4A_7C15)
 }
 
