@@ -4,6 +4,7 @@ pub mod Homes
 pub mod Parts
 pub mod Probes
 pub mod Rehomes
+pub mod Windows
 pub mod Sizes
 pub mod Kept
 pub mod Settled
