@@ -5,6 +5,7 @@ pub mod Parts
 pub mod Probes
 pub mod Rehomes
 pub mod Capacities
+pub mod Windows
 pub mod Sizes
 pub mod Kept
 pub mod Settled

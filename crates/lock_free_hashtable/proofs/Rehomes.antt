@@ -1,11 +1,11 @@
 -- A generation that is made of another's entries keeps them, and each is reached.
-use Rattle.std.proofs.Common.{◌≡◌, ℕ, ◌+◌, ◌-◌, ◌<◌, List, [], ◌∷◌, ◌++◌, Some, None, length, take, map, refl, sym, ap, ◌∙◌, arith, replicate}
+use Rattle.std.proofs.Common.{◌≡◌, ℕ, ◌+◌, ◌-◌, ◌<◌, inl, inr, List, [], ◌∷◌, ◌++◌, Some, None, length, take, map, refl, sym, ap, ◌∙◌, arith, replicate}
 use Rattle.std.specs.Prelude.{slice_set, slice_index_or, ⊤}
 use Rattle.std.proofs.lemmas.List.{map-set, append-nil, length-map, get_or-map}
 use Rattle.std.proofs.lemmas.List.Elements.{Contains-append_left, Contains-push}
 use Rattle.std.proofs.lemmas.List.Sorted.{IsPermutation-refl, IsPermutation-trans, IsPermutation-append_left}
 use Rattle.lock_free_hashtable.specs.Buckets.{Part, vacant, named, values, part_at, shown, shown_all}
-use Rattle.lock_free_hashtable.specs.Growth.{IsRehomed, PutsName, RehomesOne}
+use Rattle.lock_free_hashtable.specs.Growth.{IsRehomed, PutsName, PutsShown, RehomesOne}
 use Rattle.lock_free_hashtable.specs.Generations.{Leads}
 use Rattle.lock_free_hashtable.specs.declared.cell.Entry.{Entry}
 use Rattle.lock_free_hashtable.specs.declared.fixed.Name.{Name}
@@ -23,14 +23,14 @@ module _ {T U : Type 0} (target : T → U) (rehash : U → ℕ → Type 0) (gs :
   })
 
   -- an empty bucket adds nothing
-  pub one_skipped : (i : ℕ) (new : List (Part T)) → i < length old → shown gs (part_at old i) ≡ None → RehomesOne target rehash gs (shown_all gs old) i new new
+  one_skipped : (i : ℕ) (new : List (Part T)) → i < length old → shown gs (part_at old i) ≡ None → RehomesOne target rehash gs (shown_all gs old) i new new
   one_skipped i new lt e r =
       let within : i < length (shown_all gs old) = rw length-shown_all lt in
       let same : values (take (i + 1) (shown_all gs old)) ≡ values (take i (shown_all gs old)) = values-take_more (shown_all gs old) i within ∙ rw (shown_at gs old i, e) (append-nil _) in
       record { kept = rw same r.kept; reached = λ hash_of p. r.reached hash_of (λ x h c. p x h (rw same c)) }
 
   -- one entry's name is put where its hash leads
-  pub one_put : (i hash : ℕ) (before after : List (Part T)) (name : Name) (e : Entry T) → i < length old → shown gs (part_at old i) ≡ Some e → Leads gs name e → rehash (target e.value) hash
+  one_put : (i hash : ℕ) (before after : List (Part T)) (name : Name) (e : Entry T) → i < length old → shown gs (part_at old i) ≡ Some e → Leads gs name e → rehash (target e.value) hash
       → PutsName target gs before after hash (named name.bits name.generation name.index) → RehomesOne target rehash gs (shown_all gs old) i before after
   one_put i hash before after name e lt at (leads, marked) asked (j, vac, set_is) r =
       let within : i < length (shown_all gs old) = rw length-shown_all lt in
@@ -43,6 +43,12 @@ module _ {T U : Type 0} (target : T → U) (rehash : U → ℕ → Type 0) (gs :
             (p e hash (rw more (Contains-push _ e)) asked)
             (r.reached hash_of (λ x h c. p x h (rw more (Contains-append_left _ _ x c))));
       })
+
+  -- a bucket was rehomed by a hash of the entry that it shows
+  pub one_hashed : (i hash : ℕ) (before after : List (Part T)) → i < length old → ((e : Entry T) → shown gs (part_at old i) ≡ Some e → rehash (target e.value) hash)
+      → PutsShown target gs old i hash before after → RehomesOne target rehash gs (shown_all gs old) i before after
+  one_hashed i hash before after lt asked (inl (none, same)) = rw same (one_skipped i before lt none)
+  one_hashed i hash before after lt asked (inr (name, e, leads, at, put)) = one_put i hash before after name e lt at leads (asked e at) put
 
 -- the generation read at the end of a row is the row's last
 pub last_read : {X Y : Type 0} (f : X → List Y) (gs : List X) (n : ℕ) (x : X) → n + 1 ≡ length gs → x ≡ slice_index_or gs n x → slice_index_or (map f gs) (length (map f gs) - 1) [] ≡ f x

@@ -1,13 +1,15 @@
 -- What growth does to a table, and what an insert does to one bucket.
-use Rattle.std.specs.Prelude.{◌≡◌, ℕ, ◌-◌, ◌+◌, ◌*◌, ◌<◌, ◌≤◌, ◌++◌, ◌⊎◌, ⊤, Bool, List, [], ◌∷◌, Option, Some, None, Result, Ok, Err, length, slice_index_or, slice_set, replicate, take, Contains}
+use Rattle.std.specs.Prelude.{◌≡◌, ℕ, ◌-◌, ◌+◌, ◌*◌, ◌<◌, ◌≤◌, ◌++◌, ◌⊎◌, ⊤, Bool, List, [], ◌∷◌, Option, Some, None, Result, Ok, Err, length, slice_index, slice_index_or, slice_set, replicate, take, Contains}
 use Rattle.std.specs.List.Sorted.{IsPermutation}
 use Rattle.lock_free_hashtable.specs.Law.{bits_of}
-use Rattle.lock_free_hashtable.specs.Buckets.{Part, own, values, value_at, shown_all}
+use Rattle.lock_free_hashtable.specs.Buckets.{Part, own, named, values, value_at, part_at, shown, shown_all}
+use Rattle.lock_free_hashtable.specs.Generations.{Leads}
 use Rattle.lock_free_hashtable.specs.Ways.{AllReached}
 use Rattle.lock_free_hashtable.specs.Probe.{IsPassed, IsAccepted, IsVacant}
 use Rattle.lock_free_hashtable.specs.Table.{Table, empty_table, home_at}
 use Rattle.lock_free_hashtable.specs.declared.cell.Entry.{Entry}
 use Rattle.lock_free_hashtable.specs.declared.place.Place.{Place}
+use Rattle.lock_free_hashtable.specs.declared.fixed.Name.{Name}
 use Rattle.lock_free_hashtable.specs.declared.fixed.Refusal.{Refusal}
 use Rattle.lock_free_hashtable.specs.declared.fixed.Refusal.TheVariants.{Full, NoMemory}
 
@@ -34,6 +36,16 @@ module _ {T U : Type 0} (target : T → U) (rehash : U → ℕ → Type 0) where
 -- the first empty bucket for this hash was set to a name
 abbrev pub PutsName : {T U : Type 0} (target : T → U) → List (List (Part T)) → List (Part T) → List (Part T) → ℕ → Part T → Type 0
 PutsName target gs old new hash name = (i : ℕ) × IsVacant target (λ _ _. ⊤) (shown_all gs old) hash i × (new ≡ slice_set old i name)
+
+-- the entry that bucket i shows, if there is one, was named in the first empty bucket for this hash
+abbrev pub PutsShown : {T U : Type 0} (target : T → U) → List (List (Part T)) → List (Part T) → ℕ → ℕ → List (Part T) → List (Part T) → Type 0
+PutsShown {T} target gs old i hash before after =
+    ((shown gs (part_at old i) ≡ None) × (after ≡ before))
+    ⊎ ((name : Name) × (e : Entry T) × Leads gs name e × (shown gs (part_at old i) ≡ Some e) × PutsName target gs before after hash (named name.bits name.generation name.index))
+
+-- the first n of these numbers are hashes, as rehash may answer, of the entries that the buckets from this one on show
+abbrev pub AreHashes : {T U : Type 0} (target : T → U) (rehash : U → ℕ → Type 0) → List (List (Part T)) → List (Part T) → ℕ → ℕ → List ℕ → Type 0
+AreHashes {T} target rehash gs old from n hashes = (k : ℕ) → k < n → from + k < length old → (e : Entry T) → shown gs (part_at old (from + k)) ≡ Some e → rehash (target e.value) (slice_index hashes k)
 
 -- where the first i entries of a generation were rehomed, one more is
 abbrev pub RehomesOne : {T U : Type 0} (target : T → U) (rehash : U → ℕ → Type 0) → List (List (Part T)) → List (Option (Entry T)) → ℕ → List (Part T) → List (Part T) → Type 0

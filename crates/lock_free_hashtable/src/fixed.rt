@@ -147,7 +147,7 @@ impl<T: AtomicValue, A: Allocator + Copy> Generation<T, A> {
     {
         let mut cells = Vec::with_capacity(alloc, capacity)?;
         for _made in 0..capacity {
-            cells.push(Cell::new())?;
+            cells.push_reserved(Cell::new());
         }
         Ok(Generation { cells, size: 0 })
     }

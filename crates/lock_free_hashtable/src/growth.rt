@@ -3,13 +3,17 @@ ghost use Rattle.std.specs.Prelude.{◌≡◌, ◌+◌, ◌<◌, ◌≤◌, leng
 ghost use Rattle.std.specs.Fn.{FnReturnsAt};
 ghost use Rattle.lock_free_hashtable.specs.Buckets.{shown_all, part_at, AllSound, set_parts};
 ghost use Rattle.lock_free_hashtable.specs.Capacity.{IsPowerOfTwo};
-ghost use Rattle.lock_free_hashtable.specs.Growth.{IsRehomed, RehomesOne};
+ghost use Rattle.lock_free_hashtable.specs.Growth.{IsRehomed, AreHashes, PutsShown};
 ghost use Rattle.lock_free_hashtable.specs.Generations.{parts_of, last_of, NamesShown, IsNamedIn};
 
 use crate::atomic_value::AtomicValue;
 use crate::cell::{Entry, Look};
 use crate::fixed::{Generation, Name, entry_named};
 use std::alloc::{AllocError, Allocator};
+
+/// So many hashes are asked for before their entries are named. Entries lie far apart in memory, and in a loop that does
+/// nothing else their reads overlap.
+const WINDOW: usize = 64;
 
 /// The name of the entry that a bucket of the last generation shows, and the entry.
 fn name_at<T: AtomicValue, A: Allocator + Copy>(
@@ -47,13 +51,37 @@ fn name_at<T: AtomicValue, A: Allocator + Copy>(
     }
 }
 
+/// Writes the hashes of the entries that the buckets from this one on show. At an empty bucket nothing is written.
+fn hash_window<T: AtomicValue, A: Allocator + Copy, H: Fn(&T::Target) -> u64>(
+    earlier: &[Generation<T, A>],
+    last: u8,
+    from: usize,
+    hash_fn: &H,
+    hashes: &mut [u64; WINDOW],
+)
+    requires last { last + 1 ≡ length earlier.now }
+    requires place { from ≤ length (last_of (parts_of earlier.now)) }
+    requires sound { AllSound (parts_of earlier.now) (last_of (parts_of earlier.now)) }
+    requires callable { H.IsAlwaysCallable hash_fn.now }
+    ensures { AreHashes T.target (FnReturnsAt H.Fn hash_fn.now) (parts_of earlier.now) (last_of (parts_of earlier.now)) from WINDOW hashes.new }
+{
+    let generation = &earlier[last as usize];
+    let left = generation.capacity() - from;
+    let count = if left < WINDOW { left } else { WINDOW };
+    for ahead in 0..count {
+        if let Some(entry) = generation.entry_shown(earlier, from + ahead) {
+            hashes[ahead] = hash_fn(entry.value.deref());
+        }
+    }
+}
+
 /// Names the entry that a bucket of the last generation shows, if there is one, in the generation being built.
-fn rehome_one<T: AtomicValue, A: Allocator + Copy, H: Fn(&T::Target) -> u64>(
+fn rehome_one<T: AtomicValue, A: Allocator + Copy>(
     earlier: &[Generation<T, A>],
     last: u8,
     index: usize,
+    hash: u64,
     built: &mut Generation<T, A>,
-    hash_fn: &H,
 )
     requires last { last + 1 ≡ length earlier.now }
     requires place { index < length (last_of (parts_of earlier.now)) }
@@ -61,16 +89,13 @@ fn rehome_one<T: AtomicValue, A: Allocator + Copy, H: Fn(&T::Target) -> u64>(
     requires room { built.old.size < length built.old.parts }
     requires counted { built.old.size ≡ length (set_parts built.old.parts) }
     requires names { IsNamedIn (parts_of earlier.now) built.old.parts }
-    requires callable { H.IsAlwaysCallable hash_fn.now }
     ensures long { length built.new.parts ≡ length built.old.parts }
     ensures grown { built.new.size ≤ built.old.size + 1 }
     ensures counted { built.new.size ≡ length (set_parts built.new.parts) }
     ensures names { IsNamedIn (parts_of earlier.now) built.new.parts }
-    ensures step { RehomesOne T.target (FnReturnsAt H.Fn hash_fn.now) (parts_of earlier.now)
-        (shown_all (parts_of earlier.now) (last_of (parts_of earlier.now))) index built.old.parts built.new.parts }
+    ensures step { PutsShown T.target (parts_of earlier.now) (last_of (parts_of earlier.now)) index hash built.old.parts built.new.parts }
 {
-    if let Some((name, entry)) = name_at(earlier, last, index) {
-        let hash = hash_fn(entry.value.deref());
+    if let Some((name, _entry)) = name_at(earlier, last, index) {
         built.insert_unique(earlier, hash, name);
     }
 }
@@ -96,8 +121,15 @@ pub fn rehomed<T: AtomicValue, A: Allocator + Copy, H: Fn(&T::Target) -> u64>(
 {
     let mut built = Generation::with_capacity(alloc, capacity)?;
     let old = earlier[last as usize].capacity();
+    let mut hashes = [0u64; WINDOW];
+    let mut from = 0;
+    hash_window(earlier, last, from, hash_fn, &mut hashes);
     for index in 0..old {
-        rehome_one(earlier, last, index, &mut built, hash_fn);
+        if index - from == WINDOW {
+            from = index;
+            hash_window(earlier, last, from, hash_fn, &mut hashes);
+        }
+        rehome_one(earlier, last, index, hashes[index - from], &mut built);
     }
     Ok(built)
 }

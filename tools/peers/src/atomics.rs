@@ -26,6 +26,7 @@ impl NumberTable {
     }
 
     /// The number that the word holds, or 0 where x was placed there: a load, and one exchange if the word is empty.
+    #[inline]
     fn claim(word: &AtomicU64, x: u64) -> u64 {
         match word.load(SeqCst) {
             0 => word.compare_exchange(0, x, SeqCst, SeqCst).unwrap_or_else(|found| found),

@@ -5,4 +5,4 @@ use Rattle.lock_free_hashtable.proofs.fixed.Generation.with_capacity.Goals as go
 pub invariant_of-result : goal.invariant_of-result
 invariant_of-result g c =
     let all : c.loop-made._made ≡ c.args.capacity = omega arith in
-    rw (c.loop-made.invariant, all) (generation-replicate c.args.capacity c.requires)
+    rw (c.loop-made.invariant.0, all) (generation-replicate c.args.capacity c.requires)
