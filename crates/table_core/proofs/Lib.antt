@@ -33,6 +33,7 @@ mod Refusals
 mod Classes
 mod Worked
 mod Callings
+mod Beginnings
 mod Settled
 mod Histories
 mod HistoryRuns
