@@ -38,3 +38,4 @@ mod Settled
 mod Histories
 mod HistoryRuns
 mod OneHistory
+mod ToldOnce

@@ -1,6 +1,6 @@
 -- What holds of every schedule, whatever the closures answer.
-use Rattle.std.specs.Prelude.{ℕ, ◌+◌, ◌-◌, ◌*◌, ◌/◌, ◌^◌, ◌≡◌, ◌≤◌, ◌⊎◌, max, Bool, true, false, Option, Some, None, List, [], ◌∷◌, ◌++◌, length}
-use Rattle.table_core.specs.Bags.{SameBag, count_of}
+use Rattle.std.specs.Prelude.{ℕ, ◌+◌, ◌-◌, ◌*◌, ◌/◌, ◌^◌, ◌==◌, ◌≡◌, ◌≤◌, ◌⊎◌, max, if◌then◌else◌, Bool, true, false, Option, Some, None, List, [], ◌∷◌, ◌++◌, length}
+use Rattle.table_core.specs.Bags.{weigh, SameBag, count_of}
 use Rattle.table_core.specs.Replies.{Told, ToldPlaced, ToldFound, ToldRefused, ToldSome, ToldNone, ToldLen, ToldWalk, Reply}
 use Rattle.table_core.specs.Generations.{Gen, bits_of, current}
 use Rattle.table_core.specs.Calls.{Call, call_numbered, holds_shared}
@@ -82,6 +82,10 @@ pub record IsOwnAnswer (f : ℕ) (s : List Event) (x : Event) (r : Reply) : Type
 
 abbrev pub OwnAnswers : ℕ → List Event → Event → Reply → Type 0
 OwnAnswers f s x r = Ends f s x r → IsOwnAnswer f s x r
+
+-- a call is told at most one thing
+abbrev pub ToldOnce : ℕ → List Event → ℕ → Type 0
+ToldOnce f s n = weigh (λ r. if r.call == n then 1 else 0) (replies (empty f) s) ≤ 1
 
 -- why a call may be refused at an event, by what it found there: its memory was asked for and refused, or there is no greater capacity
 abbrev pub IsCause : Option Gen → Event → Answer → Type 0
