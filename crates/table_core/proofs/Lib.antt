@@ -2,6 +2,7 @@ mod Truth
 mod CodeEvents
 mod CodeFits
 mod CodeSteps
+mod CodeTold
 mod CodeTable
 mod CodeCalls
 mod CodeEntries
