@@ -5,7 +5,7 @@ use Rattle.std.specs.List.{slice_get}
 use Rattle.table_core.specs.Bags.{count_of}
 use Rattle.table_core.specs.Replies.{Told, Reply}
 use Rattle.table_core.specs.Generations.{Gen, Build, Table, count, current, is_current}
-use Rattle.table_core.specs.Calls.{Call, starts, holds_shared, is_pending}
+use Rattle.table_core.specs.Calls.{Call, starts, holds_owned, is_pending}
 use Rattle.table_core.specs.Machine.{World, empty, show_built, Act, Goes, acts, after}
 use Rattle.table_core.specs.History.{replies, placed, loaded_by, generations_loaded}
 use Rattle.table_core.specs.Steps.{Row, shares, loads_none, loads, puts, adds, unwanted, shows, starts_over, tries_again, looks, len_loads, walk_loads, left}
@@ -18,7 +18,7 @@ use Rattle.table_core.specs.declared.call.Outcome.TheVariants.{Pending, New, Exi
 use Rattle.table_core.specs.declared.call.Answer.{Answer}
 use Rattle.table_core.specs.declared.call.Answer.TheVariants.{Loaded}
 use Rattle.table_core.proofs.Lists.{weigh-append, weigh-get, get-set, get-push, tally, length-push}
-use Rattle.table_core.proofs.Locks.{Locked, nobody, alone, sharers, owners, builders, is_owning, is_building, built_count, weigh-le}
+use Rattle.table_core.proofs.Locks.{Locked, builders, is_building, built_count}
 use Rattle.std.proofs.lemmas.Bool.{eq-eqb, ltb-true, cases_eq}
 use Rattle.std.proofs.lemmas.Option.{slice_get_within}
 use Rattle.table_core.specs.Values.{InsertsLoadOnce}
@@ -26,7 +26,7 @@ use Rattle.table_core.proofs.Turns.{Turn, rests, opens, takes}
 use Rattle.table_core.proofs.Facts.{Tracked, Turned, wants_growth, SizesOk, is_placed, placers, Inv}
 use Rattle.table_core.proofs.Standing.{last_number, length-place, length-change, pending_of}
 use Rattle.table_core.proofs.Seats.{many_places}
-use Rattle.table_core.proofs.Sizes.{placed_shares}
+use Rattle.table_core.proofs.Sizes.{no_placers}
 use Rattle.table_core.proofs.Walks.{mark, marks}
 use Rattle.table_core.proofs.FewReads.{other_number, other_loaded, unused_do_nothing}
 use Rattle.table_core.proofs.Pasts.{append-none, turn_after, loads_snoc, by_snoc}
@@ -81,14 +81,6 @@ behind_keep n s r ls w p b = record {
 -- the walked generation is there
 walked_there : (gens : List Gen) (c : Call) (k : ℕ) → Turned gens c → c.state.walked ≡ Some k → k < length gens
 walked_there gens c k t e = let g = t.full k e in slice_get_within gens k g.0 g.1
-
--- while a call holds the lock alone no value waits to be counted
-no_placers_owned : (w : World) (i : ℕ) (c : Call) → Locked w → slice_get w.calls i ≡ Some c → c.state.phase ≡ Owned → placers w.calls ≡ 0
-no_placers_owned w i c l h e =
-    let b : tally (is_owning c.state.phase) ≤ owners w.calls = weigh-get (λ (c : Call). tally (is_owning c.state.phase)) w.calls i c h in
-    let b1 : 1 ≤ owners w.calls = rw e at b in
-    let none : sharers w.calls ≡ 0 = elim l.alone [ nobody x y z ↦ absurd (omega arith) | alone x y z q ↦ q ] in
-    omega (arith, none, weigh-le (λ (c : Call). tally (is_placed c.state.phase)) (λ (c : Call). tally (holds_shared c.state.phase)) (λ c. placed_shares c.state.phase) w.calls)
 
 -- a generation that is full wants growth
 full_wants : (w : World) (c : Call) (g : Gen) (k : ℕ) → SizesOk w → placers w.calls ≡ 0 → Turned w.table.gens c → current w.table ≡ Some g → nat_lt g.size (g.capacity / 2) ≡ true → c.state.walked ≡ Some k → suc k ≡ length w.table.gens → ⊥
@@ -148,7 +140,7 @@ module _ (w : World) (i : ℕ) (c : Call) (locked : Locked w) (sized : SizesOk w
   past_unwanted g e now lt o k n = elim (b.within k n) [
     | inl y ↦ y
     | inr y ↦ behind_last k (length w.table.gens) (wanting_there k o (rw e refl) y)
-        (full_wants w c g k sized (no_placers_owned w i c locked at e) (tracked.turned (rw (e, o) refl)) now lt y)
+        (full_wants w c g k sized (no_placers w i c locked at (ap holds_owned e)) (tracked.turned (rw (e, o) refl)) now lt y)
   ]
 
   past_failed : c.state.phase ≡ LeaveFailed → c.state.outcome ≡ Pending → is_current w.table.gens c.state.walked ≡ false → (k : ℕ) → 1 ≤ count_of k ls → k + 1 < length w.table.gens

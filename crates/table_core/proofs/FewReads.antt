@@ -6,8 +6,8 @@ use Rattle.table_core.specs.Replies.{Told, Reply}
 use Rattle.table_core.specs.Generations.{Table}
 use Rattle.table_core.specs.Calls.{Call, starts, is_used}
 use Rattle.table_core.specs.Machine.{World, empty, Act, Begins, Goes, acts, after}
-use Rattle.table_core.specs.History.{replies, placed_by, placed, is_read, read_by, reads, loaded_by, generations_loaded}
-use Rattle.table_core.specs.Steps.{Row, looks_none, looks, look_empty, look_meets, look_turns, look_goes_on, opens_insert, opens_lookup, opens_len, opens_walk, left}
+use Rattle.table_core.specs.History.{replies, placed_by, placed, is_read, read_by, reads, loaded_by, generations_loaded, begun_by, beginnings}
+use Rattle.table_core.specs.Steps.{Row, Opens, looks_none, looks, look_empty, look_meets, look_turns, look_goes_on, opens_insert, opens_lookup, opens_len, opens_walk, left}
 use Rattle.table_core.specs.declared.event.Event.{Event}
 use Rattle.table_core.specs.declared.event.Event.TheVariants.{Lookup}
 use Rattle.table_core.specs.declared.call.CallState.{CallState}
@@ -24,10 +24,10 @@ use Rattle.table_core.proofs.Turns.{Turn, rests, opens, takes}
 use Rattle.table_core.proofs.Facts.{Inv}
 use Rattle.table_core.proofs.Seats.{many_places}
 use Rattle.table_core.proofs.Numbers.{unused_at}
-use Rattle.table_core.proofs.Pasts.{turn_after, placed_snoc, reads_snoc, loads_snoc, by_snoc, by_snoc_from}
+use Rattle.table_core.proofs.Pasts.{turn_after, placed_snoc, reads_snoc, loads_snoc, beginnings_snoc, by_snoc, by_snoc_from}
 use Rattle.table_core.proofs.Truth.{true_or_false, or-false}
 
--- Before a call has begun it has read and loaded nothing
+-- Before a call has begun it has read and loaded nothing, and no event begins it
 
 other_number_at : (n m : ℕ) (b : Bool) → (n == m) ≡ b → (n ≡ m → ⊥) → (n == m) ≡ false
 other_number_at n m true e h = absurd (h (eqb-true n m e))
@@ -66,26 +66,44 @@ used_set n (x ∷ cs) (suc i) c d g e h =
 pub record Nothing (f : ℕ) (s : List Event) (n : ℕ) : Type 0 where
   pub reads : reads (empty f) s n ≡ 0
   pub loads : generations_loaded (empty f) s n ≡ []
+  pub begun : beginnings (empty f) s n ≡ []
 
 abbrev pub UnusedDoNothing : ℕ → List Event → World → Type 0
 UnusedDoNothing f s v = (n : ℕ) → is_used n v.calls ≡ false → Nothing f s n
 
-nothing_more : (f : ℕ) (s : List Event) (x : Event) (n : ℕ) → Nothing f s n → read_by (acts (after f s) x) x n ≡ 0 → loaded_by (acts (after f s) x) n ≡ [] → Nothing f (s ++ x ∷ []) n
-nothing_more f s x n o r l = record {
+nothing_more : (f : ℕ) (s : List Event) (x : Event) (n : ℕ) → Nothing f s n → read_by (acts (after f s) x) x n ≡ 0 → loaded_by (acts (after f s) x) n ≡ [] → begun_by (acts (after f s) x) x n ≡ [] → Nothing f (s ++ x ∷ []) n
+nothing_more f s x n o r l b = record {
   reads = omega (arith, reads_snoc f s x n, o.reads, r);
   loads = loads_snoc f s x n ∙ rw (o.loads, l) refl;
+  begun = beginnings_snoc f s x n ∙ rw (o.begun, b) refl;
 }
 
+-- an event that begins a call begins that call alone
+pub begins_other : {x : Event} {m : ℕ} {v : Option ℕ} {p : Phase} {h : ℕ} → Opens x m v p h → (n : ℕ) → (m == n) ≡ false → begun_by (Some (Begins (starts m v p h))) x n ≡ []
+begins_other (opens_insert m v h) n e = rw e refl
+begins_other (opens_lookup m h) n e = rw e refl
+begins_other (opens_len m) n e = rw e refl
+begins_other (opens_walk m) n e = rw e refl
+
+pub begins_own : {x : Event} {m : ℕ} {v : Option ℕ} {p : Phase} {h : ℕ} → Opens x m v p h → begun_by (Some (Begins (starts m v p h))) x m ≡ x ∷ []
+begins_own (opens_insert m v h) = rw (eq-eqb m m refl) refl
+begins_own (opens_lookup m h) = rw (eq-eqb m m refl) refl
+begins_own (opens_len m) = rw (eq-eqb m m refl) refl
+begins_own (opens_walk m) = rw (eq-eqb m m refl) refl
+
 nothing_turn : (f : ℕ) (s : List Event) (x : Event) {v : World} {a : Option Act} {r : Option Reply} → Turn (after f s) x a v r → acts (after f s) x ≡ a → UnusedDoNothing f s (after f s) → UnusedDoNothing f (s ++ x ∷ []) v
-nothing_turn f s x rests took o n u = nothing_more f s x n (o n u) (rw took refl) (rw took refl)
-nothing_turn f s x (opens m v p h ra op us nv) took o n u = nothing_more f s x n (o n (used_push n (after f s).calls (starts m v p h) u)) (rw took refl) (rw took refl)
+nothing_turn f s x rests took o n u = nothing_more f s x n (o n u) (rw took refl) (rw took refl) (rw took refl)
+nothing_turn f s x (opens m v p h ra op us nv) took o n u =
+    let d = starts m v p h in
+    let other : (m == n) ≡ false = used_at n ((after f s).calls ++ d ∷ []) u (length (after f s).calls) d (get-push_last (after f s).calls d) in
+    nothing_more f s x n (o n (used_push n (after f s).calls d u)) (rw took refl) (rw took refl) (rw took (begins_other op n other))
 nothing_turn f s x (takes i c p a st list t q g e row nu) took o n u =
     let before : is_used n (after f s).calls ≡ false = used_set n (after f s).calls i c (left c st list) g refl u in
     let other : (c.number == n) ≡ false = used_at n (after f s).calls before i c g in
-    nothing_more f s x n (o n before) (rw took (other_read c a x n other)) (rw took (other_loaded c a n other))
+    nothing_more f s x n (o n before) (rw took (other_read c a x n other)) (rw took (other_loaded c a n other)) (rw took refl)
 
 pub unused_do_nothing : (f : ℕ) (s : List Event) → UnusedDoNothing f s (after f s)
-unused_do_nothing f = by_snoc (λ s. UnusedDoNothing f s (after f s)) (λ n u. record { reads = refl; loads = refl }) (λ s x o. nothing_turn f s x (turn_after f s x) refl o)
+unused_do_nothing f = by_snoc (λ s. UnusedDoNothing f s (after f s)) (λ n u. record { reads = refl; loads = refl; begun = refl }) (λ s x o. nothing_turn f s x (turn_after f s x) refl o)
 
 -- Look-ups
 

@@ -2,6 +2,7 @@ mod Truth
 mod CodeEvents
 mod CodeFits
 mod CodeSteps
+mod CodeTold
 mod CodeTable
 mod CodeCalls
 mod CodeEntries
@@ -33,7 +34,9 @@ mod Refusals
 mod Classes
 mod Worked
 mod Callings
+mod Beginnings
 mod Settled
 mod Histories
 mod HistoryRuns
 mod OneHistory
+mod ToldOnce

@@ -27,8 +27,9 @@ use Rattle.table_core.proofs.Members.{Is, is_left, is_right, is_either, in_of, c
 use Rattle.table_core.proofs.Lawful.{lawful_before}
 use Rattle.table_core.proofs.Right.{right}
 use Rattle.table_core.proofs.Callings.{Took, took_after, Has, Kept, has_after, run_after, IsDone, replied, reply_ends, acts_untold, done_later, find_append_none}
-use Rattle.table_core.specs.Values.{IsOwn, value_told}
-use Rattle.table_core.proofs.OwnAnswers.{own_answers, numbered_at}
+use Rattle.table_core.specs.Values.{IsOwn}
+use Rattle.table_core.proofs.OwnAnswers.{own_answers}
+use Rattle.table_core.proofs.Beginnings.{own_later, placed_own}
 use Rattle.table_core.proofs.Settled.{moment_once}
 use Rattle.table_core.proofs.Pasts.{replies_append, placed_append, after_taken}
 use Rattle.table_core.proofs.Histories.{heads, won_row, apart_moments}
@@ -252,12 +253,9 @@ has_placed f i b x d c a v h w k u =
     let j : Has (HasValue (Some v)) (after f (b ++ x ∷ [])) c.number = rw t.after (record { at = t.at; call = left c t.state t.list; there = get-set_same (after f b).calls t.at c (left c t.state t.list) t.there; number = refl; holds = k }) in
     let g : Has (HasValue (Some v)) (after f ((b ++ x ∷ []) ++ d)) c.number = has_after (HasValue (Some v)) (value_kept (Some v)) f i (b ++ x ∷ []) d c.number j in
     let m : Has (HasValue (Some v)) (after f (b ++ x ∷ d)) c.number = subst (λ z. Has (HasValue (Some v)) (after f z) c.number) (append_assoc b (x ∷ []) d) g in
-    let iv = inv f i (b ++ x ∷ d) in
     record {
-      call = m.call;
-      there = subst (λ n. call_numbered n (after f (b ++ x ∷ d)).calls ≡ Some m.call) m.number (numbered_at (after f (b ++ x ∷ d)).calls iv.numbered.apart m.at m.call m.there);
+      own = subst (λ n. IsOwn f (b ++ x ∷ d) (record { call = n; told = ToldPlaced v })) m.number (placed_own f (b ++ x ∷ d) m.at m.call v m.there m.holds);
       value = v;
-      own = m.holds;
       told = refl;
       placed = (
           let pv : placed_by (acts (after f b) x) ≡ v ∷ [] = ap placed_by h ∙ (ap (λ z. placed_by (Some (Goes c z))) w ∙ ap option_to_list k) in
@@ -335,18 +333,17 @@ rest_unfinished f i s more r c =
 
 -- What stands in it is its call's own
 
-reply_own : (f : ℕ) → IsFirst f → (b : List Event) (x : Event) (d : List Event) (r : Reply) → reply (after f b) x ≡ Some r → IsOwn (after f (b ++ x ∷ d)) r
+reply_own : (f : ℕ) → IsFirst f → (b : List Event) (x : Event) (d : List Event) (r : Reply) → reply (after f b) x ≡ Some r → IsOwn f (b ++ x ∷ d) r
 reply_own f i b x d r h =
-    let o = (own_answers f (inv f i) b x r h).own in
-    let q = slot r.call (after f b).calls o.0 o.1 in
-    let k = has_after (HasValue (value_told r.told)) (value_kept (value_told r.told)) f i b (x ∷ d) r.call (record { at = q.at; call = o.0; there = q.there; number = q.number; holds = o.2 }) in
-    let w = after f (b ++ x ∷ d) in
-    (k.call, subst (λ m. call_numbered m w.calls ≡ Some k.call) k.number (numbered_at w.calls (inv f i (b ++ x ∷ d)).numbered.apart k.at k.call k.there), k.holds)
+    let q = replied f b x r h in
+    let t = took_after f b x q.call q.found q.taken in
+    let k = has_after IsThere there_kept f i b (x ∷ d) r.call (record { at = t.at; call = q.call; there = t.there; number = q.number; holds = tt }) in
+    own_later f b (x ∷ d) r k.at k.call k.there k.number (own_answers f (inv f i) b x r h).own
 
-own_stands : (f : ℕ) → IsFirst f → (s : List Event) (r : Reply) → Contains (history (empty f) s) r → IsOwn (after f s) r
+own_stands : (f : ℕ) → IsFirst f → (s : List Event) (r : Reply) → Contains (history (empty f) s) r → IsOwn f s r
 own_stands f i s r c = elim (only_stands f i s r c) [
-  | inl k ↦ (let g = in_replies s (empty f) r (in_of (replies (empty f) s) r k) in subst (λ z. IsOwn (after f z) r) (sym g.split) (reply_own f i g.before g.event g.rest r g.told))
-  | inr k ↦ (k.call, k.there, k.own ∙ sym (ap value_told k.told))
+  | inl k ↦ (let g = in_replies s (empty f) r (in_of (replies (empty f) s) r k) in subst (λ z. IsOwn f z r) (sym g.split) (reply_own f i g.before g.event g.rest r g.told))
+  | inr k ↦ k.own
 ]
 
 -- The theorems

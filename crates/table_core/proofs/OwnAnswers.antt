@@ -21,7 +21,7 @@ use Rattle.table_core.specs.declared.call.Answer.TheVariants.{Holds}
 use Rattle.table_core.proofs.Lists.{get-set, get-push}
 use Rattle.std.proofs.lemmas.Bool.{eq-eqb, eqb-true}
 use Rattle.std.specs.Option.{is_some}
-use Rattle.table_core.specs.Values.{says_yes, SaysYes, entry_named, value_told, AcceptedEntry, IsOwnAnswer, OwnAnswers}
+use Rattle.table_core.specs.Values.{says_yes, SaysYes, entry_named, AcceptedEntry, IsOwn, IsOwnAnswer, OwnAnswers}
 use Rattle.table_core.proofs.Turns.{Turn, rests, opens, takes}
 use Rattle.table_core.proofs.Facts.{AllGrew, Inv}
 use Rattle.table_core.proofs.Standing.{fitting}
@@ -31,20 +31,8 @@ use Rattle.table_core.proofs.Tracks.{load_outcome, none_shared, none_look, none_
 use Rattle.table_core.proofs.Lawful.{entry_stays}
 use Rattle.table_core.proofs.FewReads.{other_number}
 use Rattle.table_core.proofs.Pasts.{turn_after, by_snoc, taken_now, taken_later}
+use Rattle.table_core.proofs.Beginnings.{row_own}
 use Rattle.table_core.proofs.Truth.{and_both}
-
--- The call of a number
-
--- where no two calls have one number, a call is found by its own
-pub numbered_at : (cs : List Call) → ((i j : ℕ) (c d : Call) → slice_get cs i ≡ Some c → slice_get cs j ≡ Some d → c.number ≡ d.number → i ≡ j) → (i : ℕ) (c : Call) → slice_get cs i ≡ Some c → call_numbered c.number cs ≡ Some c
-numbered_at [] apart i c g = absurd (cc)
-numbered_at (x ∷ cs) apart zero c g =
-    let same : x ≡ c = cc in
-    let q : (x.number == c.number) ≡ true = eq-eqb x.number c.number (ap (λ (d : Call). d.number) same) in
-    rw q g
-numbered_at (x ∷ cs) apart (suc i) c g =
-    let far : (x.number == c.number) ≡ false = other_number x.number c.number (λ e. absurd (let z : 0 ≡ suc i = apart 0 (suc i) x c refl g e in omega arith)) in
-    rw far (numbered_at cs (λ j k d e h m o. (let z : suc j ≡ suc k = apart (suc j) (suc k) d e h m o in omega arith)) i c g)
 
 -- Accepted entries
 
@@ -123,42 +111,7 @@ module _ (f : ℕ) (inv : (s : List Event) → Inv (after f s) (placed (empty f)
   all_accepted : (s : List Event) → AllAccepted s (after f s)
   all_accepted = by_snoc (λ s. AllAccepted s (after f s)) (λ i c g k o. absurd (cc)) (λ s x m. accepted_turn s x (turn_after f s x) refl (turn_grew (turn_after f s x)) m)
 
--- What a row tells
-
-refused_own : (v : Option ℕ) (q : Told) → refused v ≡ Some q → v ≡ value_told q
-refused_own None q h = absurd (cc)
-refused_own (Some v) q h = let z : ToldRefused v ≡ q = cc in ap value_told z
-
-found_own : (d : Option Entry) (v : ℕ) (q : Told) → found_entry d v ≡ Some q → Some v ≡ value_told q
-found_own None v q h = absurd (cc)
-found_own (Some d) v q h = let z : ToldFound d.value v ≡ q = cc in ap value_told z
-
-outcome_own : (o : Outcome) (t : Table) (s : CallState) (v : Option ℕ) (q : Told) → told_of_outcome o t s v ≡ Some q → v ≡ value_told q
-outcome_own (New i) t s (Some v) q h = let z : ToldPlaced v ≡ q = cc in ap value_told z
-outcome_own (Existing i) t s (Some v) q h = found_own (bucket_in (walked_gen t s) i) v q h
-outcome_own Pending t s v q h = absurd (cc)
-outcome_own (New i) t s None q h = absurd (cc)
-outcome_own (Existing i) t s None q h = absurd (cc)
-
-none_own : (v : Option ℕ) (z q : Told) → Some z ≡ Some q → value_told z ≡ None → v ≡ None → v ≡ value_told q
-none_own v z q h n e = let y : z ≡ q = cc in e ∙ sym n ∙ ap value_told y
-
-row_own : (w : World) (c : Call) {p : Phase} {x : Event} {a : Answer} {r : CallState} {ls : List ℕ} {t : Table} {o : Option Told} → Row w c p x a r ls t o → fitting (is_some c.value) p c.state.outcome ≡ true → (q : Told) → o ≡ Some q → c.value ≡ value_told q
-row_own w c (leaves_refused n) fit q h = refused_own c.value q h
-row_own w c (gives_up n k d) fit q h = refused_own c.value q h
-row_own w c (small n g k d) fit q h = outcome_own c.state.outcome w.table c.state c.value q h
-row_own w c (ends n k) fit q h = outcome_own c.state.outcome w.table c.state c.value q h
-row_own w c (ends_failed n k) fit q h = outcome_own c.state.outcome w.table c.state c.value q h
-row_own w c (looks_none n k) fit q h = none_own c.value _ q h refl (no_value LookLoad (refl, λ i. refl, λ i. refl, refl, λ i. refl, λ i. refl) c.value c.state.outcome fit)
-row_own w c (look_empty n y k) fit q h = none_own c.value _ q h refl (no_value LookProbe (refl, λ i. refl, λ i. refl, refl, λ i. refl, λ i. refl) c.value c.state.outcome fit)
-row_own w c (look_meets n y d k b) fit q h = none_own c.value _ q h refl (no_value LookProbe (refl, λ i. refl, λ i. refl, refl, λ i. refl, λ i. refl) c.value c.state.outcome fit)
-row_own w c (look_turns n y d k b lt) fit q h = none_own c.value _ q h refl (no_value LookProbe (refl, λ i. refl, λ i. refl, refl, λ i. refl, λ i. refl) c.value c.state.outcome fit)
-row_own w c (len_none n k) fit q h = none_own c.value _ q h refl (no_value LenLoad (refl, λ i. refl, λ i. refl, refl, λ i. refl, λ i. refl) c.value c.state.outcome fit)
-row_own w c (len_size n g k) fit q h = none_own c.value _ q h refl (no_value LenSize (refl, λ i. refl, λ i. refl, refl, λ i. refl, λ i. refl) c.value c.state.outcome fit)
-row_own w c (walk_none n k) fit q h = none_own c.value _ q h refl (no_value WalkLoad (refl, λ i. refl, λ i. refl, refl, λ i. refl, λ i. refl) c.value c.state.outcome fit)
-row_own w c (walk_skips_last n y k lt) fit q h = none_own c.value _ q h refl (no_value WalkAt (refl, λ i. refl, λ i. refl, refl, λ i. refl, λ i. refl) c.value c.state.outcome fit)
-row_own w c (walk_takes_last n y d k lt) fit q h = none_own c.value _ q h refl (no_value WalkAt (refl, λ i. refl, λ i. refl, refl, λ i. refl, λ i. refl) c.value c.state.outcome fit)
-row_own w c _ fit q h = absurd (cc)
+-- The entry that a row tells
 
 -- the entry that a call is told: it is accepted now, or it was
 data Names (w : World) (c : Call) (x : Event) (e : ℕ) : Type 0 where
@@ -234,7 +187,7 @@ module _ (f : ℕ) (inv : (s : List Event) → Inv (after f s) (placed (empty f)
   own_turn s x r (takes i c p a st ls t o g e row nu) took h =
       let told : (o ≡ Some r.told) × (c.number ≡ r.call) = reply_by_row c.number o r h in
       record {
-        own = (c, subst (λ n. call_numbered n (after f s).calls ≡ Some c) told.1 (numbered_at (after f s).calls (inv s).numbered.apart i c g), row_own (after f s) c row (fit_at c _ p ((inv s).calls.at i c g) e) r.told told.0);
+        own = subst (λ n. IsOwn f s (record { call = n; told = r.told })) told.1 (row_own f s i c row e g r.told told.0);
         accepted = λ e k. subst (λ n. AcceptedEntry f (s ++ x ∷ []) n e) told.1 (entry_accepted s x i c a e g took (row_names (after f s) c row r.told told.0 e k));
       }
 

@@ -3,7 +3,7 @@ use Rattle.std.proofs.Common.{ℕ, ◌≡◌, ◌+◌, ◌++◌, List, [], ◌�
 use Rattle.std.specs.Prelude.{◌||◌, option_to_list}
 use Rattle.table_core.specs.Calls.{Call}
 use Rattle.table_core.specs.Machine.{World, empty, Goes, acts, happens, reply, run, after}
-use Rattle.table_core.specs.History.{replies, placed_by, placed_at, placed, added_by, added, read_by, reads, loaded_by, generations_loaded, TakenEvent, answers_so, has_later}
+use Rattle.table_core.specs.History.{replies, placed_by, placed_at, placed, added_by, added, read_by, reads, loaded_by, generations_loaded, begun_by, beginnings, TakenEvent, answers_so, has_later}
 use Rattle.table_core.specs.declared.event.Event.{Event}
 use Rattle.table_core.specs.declared.call.Phase.{Phase}
 use Rattle.table_core.specs.declared.call.Answer.{Answer}
@@ -38,6 +38,10 @@ pub loads_append : (s more : List Event) (w : World) (n : ℕ) → generations_l
 loads_append [] more w n = refl
 loads_append (e ∷ s) more w n = ap (λ l. loaded_by (acts w e) n ++ l) (loads_append s more (happens w e) n) ∙ sym (append_assoc (loaded_by (acts w e) n) (generations_loaded (happens w e) s n) (generations_loaded (run (happens w e) s) more n))
 
+pub beginnings_append : (s more : List Event) (w : World) (n : ℕ) → beginnings w (s ++ more) n ≡ beginnings w s n ++ beginnings (run w s) more n
+beginnings_append [] more w n = refl
+beginnings_append (e ∷ s) more w n = ap (λ l. begun_by (acts w e) e n ++ l) (beginnings_append s more (happens w e) n) ∙ sym (append_assoc (begun_by (acts w e) e n) (beginnings (happens w e) s n) (beginnings (run (happens w e) s) more n))
+
 pub or_assoc : (a b c : Bool) → (a || (b || c)) ≡ ((a || b) || c)
 or_assoc true b c = refl
 or_assoc false b c = refl
@@ -68,6 +72,9 @@ reads_snoc f s x n = omega (arith, reads_append s (x ∷ []) (empty f) n)
 
 pub loads_snoc : (f : ℕ) (s : List Event) (x : Event) (n : ℕ) → generations_loaded (empty f) (s ++ x ∷ []) n ≡ generations_loaded (empty f) s n ++ loaded_by (acts (after f s) x) n
 loads_snoc f s x n = loads_append s (x ∷ []) (empty f) n ∙ ap (λ l. generations_loaded (empty f) s n ++ l) (append-none (loaded_by (acts (after f s) x) n))
+
+pub beginnings_snoc : (f : ℕ) (s : List Event) (x : Event) (n : ℕ) → beginnings (empty f) (s ++ x ∷ []) n ≡ beginnings (empty f) s n ++ begun_by (acts (after f s) x) x n
+beginnings_snoc f s x n = beginnings_append s (x ∷ []) (empty f) n ∙ ap (λ l. beginnings (empty f) s n ++ l) (append-none (begun_by (acts (after f s) x) x n))
 
 pub or_false : (b : Bool) → (b || false) ≡ b
 or_false true = refl

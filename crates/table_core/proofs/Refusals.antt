@@ -33,6 +33,8 @@ use Rattle.table_core.proofs.Walks.{mark, none_of, picked_own}
 use Rattle.table_core.proofs.FewReads.{other_number}
 use Rattle.table_core.proofs.OwnAnswers.{reply_by_row}
 use Rattle.table_core.proofs.Pasts.{turn_after, by_snoc, by_snoc_from, taken_now, taken_later, after_taken, later_snoc}
+use Rattle.table_core.specs.Lists.{is_done}
+use Rattle.table_core.proofs.Callings.{row_not_done}
 use Rattle.table_core.proofs.Truth.{and-false}
 
 -- a call that may be told that it is refused
@@ -98,10 +100,6 @@ module _ (f : ℕ) (inv : (s : List Event) → Inv (after f s) (placed (empty f)
 
 -- A refused call ends, and stays as it is
 
-row_not_done : (w : World) (c : Call) {p : Phase} {x : Event} {a : Answer} {r : CallState} {ls : List ℕ} {t : Table} {q : Option Told} → Row w c p x a r ls t q → p ≡ Done → ⊥
-row_not_done w c (shares _ _) h = cc
-row_not_done w c _ h = cc
-
 -- what a row does that tells a refusal
 record Refusing (c : Call) (p : Phase) (a : Answer) (r : CallState) (v : ℕ) : Type 0 where
   from : refusable p c.state.outcome ≡ true
@@ -150,7 +148,10 @@ module _ (f : ℕ) (inv : (s : List Event) → Inv (after f s) (placed (empty f)
   done_turn s x i c rests e g = g
   done_turn s x i c (opens n v p h ra op us nv) e g = get-push_before (after f s).calls (starts n v p h ∷ []) i c g
   done_turn s x i c (takes j d p a st list t o at k row nu) e g = get-set_other (after f s).calls j i (left d st list) (λ q.
-      row_not_done (after f s) d row (let same : d ≡ c = (let z : Some d ≡ Some c = sym at ∙ subst (λ m. slice_get (after f s).calls m ≡ Some c) (sym q) g in cc) in sym k ∙ ap (λ (b : Call). b.state.phase) same ∙ e)) ∙ g
+      absurd (let same : d ≡ c = (let z : Some d ≡ Some c = sym at ∙ subst (λ m. slice_get (after f s).calls m ≡ Some c) (sym q) g in cc) in
+      let done : p ≡ Done = sym k ∙ ap (λ (b : Call). b.state.phase) same ∙ e in
+      let z : is_done p ≡ true = ap is_done done in
+      let n : is_done p ≡ false = row_not_done (after f s) d row in cc)) ∙ g
 
   done_stays : (s more : List Event) (i : ℕ) (c : Call) → c.state.phase ≡ Done → slice_get (after f s).calls i ≡ Some c → slice_get (after f (s ++ more)).calls i ≡ Some c
   done_stays s more i c e g = by_snoc_from (λ t. slice_get (after f t).calls i ≡ Some c) (λ t x h. done_turn t x i c (turn_after f t x) e h) more s g

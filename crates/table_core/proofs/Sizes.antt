@@ -5,7 +5,7 @@ use Rattle.std.specs.List.{slice_get}
 use Rattle.table_core.specs.Bags.{weigh}
 use Rattle.table_core.specs.Replies.{Told, Reply}
 use Rattle.table_core.specs.Generations.{Gen, Build, Table, IsFirst, put_in, first_empty, fresh, fill, count, copy_in, last_of, current, change_at, change, next_capacity, copy_on, built}
-use Rattle.table_core.specs.Calls.{Call, starts, holds_shared}
+use Rattle.table_core.specs.Calls.{Call, starts, holds_shared, holds_owned}
 use Rattle.table_core.specs.Machine.{World, empty, place, add_one, begin_growth, Act, Goes}
 use Rattle.table_core.specs.History.{placed_by, buckets}
 use Rattle.table_core.specs.Steps.{Row, puts, adds, begins_first, begins_next, copies, shows, Opens, opens_insert, opens_lookup, opens_len, opens_walk}
@@ -34,7 +34,8 @@ pub placed_shares : (p : Phase) → tally (is_placed p) ≤ tally (holds_shared 
 placed_shares Placed = omega arith
 placed_shares _ = omega arith
 
-pub no_placers : (w : World) (i : ℕ) (c : Call) → Locked w → slice_get w.calls i ≡ Some c → c.state.phase ≡ Building → placers w.calls ≡ 0
+-- while a call holds the lock alone no value waits to be counted
+pub no_placers : (w : World) (i : ℕ) (c : Call) → Locked w → slice_get w.calls i ≡ Some c → holds_owned c.state.phase ≡ true → placers w.calls ≡ 0
 no_placers w i c l g e = omega (arith, no_sharer w l i c g e, weigh-le (λ (c : Call). tally (is_placed c.state.phase)) (λ (c : Call). tally (holds_shared c.state.phase)) (λ c. placed_shares c.state.phase) w.calls)
 
 pub length-put_in : (e : Entry) (es : List Entry) → length (put_in e es) ≡ suc (length es)
@@ -79,7 +80,7 @@ one_value (Some v) o h = refl
 pub size_row : (w : World) (i : ℕ) (c : Call) (n : ℕ) {p : Phase} {x : Event} {a : Answer} {r : CallState} {ls : List ℕ} {t : Table} {q : Option Told} → Row w c p x a r ls t q → c.state.phase ≡ p → slice_get w.calls i ≡ Some c → n + tally (is_placed p) ≡ placers w.calls + tally (is_placed r.phase) → Locked w → CallOk (length w.table.gens) c → SizesOk w → (g : Gen) → current t ≡ Some g → g.size + n ≡ length g.entries
 size_row w i c n (puts _ _ _) e s m l k o = size_place w c c.value n (omega (arith, one_value c.value c.state.outcome (fit_at c _ AtEmpty k e))) (stand_at c _ AtEmpty k e refl) o
 size_row w i c n (adds _) e s m l k o = size_add w c n (omega arith) (stand_at c _ Placed k e refl) o
-size_row w i c n (shows _ _) e s m l k o = size_show w n w.table.building refl (omega (arith, no_placers w i c l s e)) (no_placers w i c l s e) o
+size_row w i c n (shows _ _) e s m l k o = size_show w n w.table.building refl (omega (arith, no_placers w i c l s (ap holds_owned e))) (no_placers w i c l s (ap holds_owned e)) o
 size_row w i c n _ e s m l k o = size_same w n (omega arith) o
 
 pub built_row : (w : World) (c : Call) {p : Phase} {x : Event} {a : Answer} {r : CallState} {ls : List ℕ} {t : Table} {q : Option Told} → Row w c p x a r ls t q → SizesOk w → (b : Build) → t.building ≡ Some b → b.gen.size ≡ length b.gen.entries

@@ -1,10 +1,10 @@
 -- What each call's phase says of its outcome, its value and its generation.
-use Rattle.std.proofs.Common.{ℕ, suc, ◌≡◌, ◌-◌, ◌≤◌, ◌⊎◌, inl, inr, List, [], ◌∷◌, Bool, true, false, refl, Option, Some, None, length, arith, ◌∙◌}
+use Rattle.std.proofs.Common.{ℕ, suc, ◌≡◌, ◌+◌, ◌-◌, ◌≤◌, ◌⊎◌, inl, inr, List, [], ◌∷◌, Bool, true, false, refl, Option, Some, None, length, sym, ap, arith, ◌∙◌}
 use Rattle.std.specs.Prelude.{◌||◌, not}
 use Rattle.std.specs.List.{slice_get}
 use Rattle.table_core.specs.Replies.{Told, Reply}
 use Rattle.table_core.specs.Generations.{Gen, Table, bits_of, fill, count, last_of, change_at, change}
-use Rattle.table_core.specs.Calls.{Call, starts, holds_shared, is_pending}
+use Rattle.table_core.specs.Calls.{Call, starts, holds_shared, holds_owned, is_pending}
 use Rattle.table_core.specs.Machine.{World, empty, place, Act}
 use Rattle.table_core.specs.Steps.{Row, loads, reads_empty, meets, goes_on, puts, loses_meets, loses_goes_on, adds, shows, starts_over, tries_again, look_meets, Opens, opens_insert, opens_lookup, opens_len, opens_walk, left}
 use Rattle.table_core.specs.declared.event.Event.{Event}
@@ -16,7 +16,7 @@ use Rattle.table_core.specs.declared.call.Outcome.TheVariants.{Pending, New, Exi
 use Rattle.table_core.specs.declared.call.Answer.{Answer}
 use Rattle.table_core.proofs.Turns.{Turn, rests, opens, takes}
 use Rattle.table_core.proofs.Lists.{weigh-get, get-set, length-set, get-push, tally, zero-each}
-use Rattle.table_core.proofs.Locks.{Locked, nobody, alone, sharers, builders, is_building}
+use Rattle.table_core.proofs.Locks.{Locked, nobody, alone, sharers, owners, builders, is_owning, is_building, owned_split}
 use Rattle.std.specs.Option.{is_some}
 
 -- which outcomes an insert (true) or another call may have in a phase
@@ -133,10 +133,12 @@ gens_stay w c (adds _) = inl (length-change w.table.gens c.state.walked count)
 gens_stay w c (shows _ _) = inr refl
 gens_stay w c _ = inl refl
 
-pub no_sharer : (w : World) → Locked w → (i : ℕ) (c : Call) → slice_get w.calls i ≡ Some c → c.state.phase ≡ Building → sharers w.calls ≡ 0
+-- while a call holds the lock alone no call shares it
+pub no_sharer : (w : World) → Locked w → (i : ℕ) (c : Call) → slice_get w.calls i ≡ Some c → holds_owned c.state.phase ≡ true → sharers w.calls ≡ 0
 no_sharer w l i c h e =
+    let o : tally (is_owning c.state.phase) ≤ owners w.calls = weigh-get (λ (c : Call). tally (is_owning c.state.phase)) w.calls i c h in
     let b : tally (is_building c.state.phase) ≤ builders w.calls = weigh-get (λ (c : Call). tally (is_building c.state.phase)) w.calls i c h in
-    let b1 : 1 ≤ builders w.calls = rw e at b in
+    let one : tally true ≡ tally (is_owning c.state.phase) + tally (is_building c.state.phase) = ap tally (sym e) ∙ owned_split c.state.phase in
     elim l.alone [ nobody x y z ↦ absurd (omega arith) | alone x y z q ↦ q ]
 
 pub stands_shares : (p : Phase) → stands p ≡ true → holds_shared p ≡ false → ⊥
@@ -156,7 +158,7 @@ pub other_ok : (w : World) → Locked w → (n : ℕ) (i : ℕ) (c : Call) → s
 other_ok w l n i c h (inl e) j d k ok = rw e ok
 other_ok w l n i c h (inr e) j d k ok = record {
   fits = ok.fits;
-  stands = λ q. absurd (stands_shares d.state.phase q (zero-each (λ (c : Call). holds_shared c.state.phase) w.calls j d (no_sharer w l i c h e) k));
+  stands = λ q. absurd (stands_shares d.state.phase q (zero-each (λ (c : Call). holds_shared c.state.phase) w.calls j d (no_sharer w l i c h (ap holds_owned e)) k));
 }
 
 pub shown_stands : (w : World) (c : Call) {p : Phase} {x : Event} {a : Answer} {r : CallState} {ls : List ℕ} {t : Table} {q : Option Told} → Row w c p x a r ls t q → stands r.phase ≡ true → length t.gens ≡ length w.table.gens

@@ -5,7 +5,7 @@ use Rattle.table_core.specs.Bags.{weigh}
 use Rattle.table_core.specs.Replies.{Told, ToldFound, ToldRefused, Reply}
 use Rattle.table_core.specs.Generations.{Table, current, entries_of}
 use Rattle.table_core.specs.Calls.{Call}
-use Rattle.table_core.specs.Machine.{World, Act, Begins, Goes, acts, happens, reply, after, bucket_at}
+use Rattle.table_core.specs.Machine.{World, number_of, Act, Begins, Goes, acts, happens, reply, after, bucket_at}
 use Rattle.table_core.specs.declared.event.Event.{Event}
 use Rattle.table_core.specs.declared.event.Event.TheVariants.{Read}
 use Rattle.table_core.specs.declared.event.Entry.{Entry}
@@ -110,6 +110,15 @@ loaded_by _ n = []
 abbrev pub generations_loaded : World → List Event → ℕ → List ℕ
 generations_loaded w [] n = []
 generations_loaded w (x ∷ xs) n = loaded_by (acts w x) n ++ generations_loaded (happens w x) xs n
+
+-- the events at which call n begins, as they stand in the schedule
+abbrev pub begun_by : Option Act → Event → ℕ → List Event
+begun_by (Some (Begins c)) x n = if number_of x == n then x ∷ [] else []
+begun_by _ x n = []
+
+abbrev pub beginnings : World → List Event → ℕ → List Event
+beginnings w [] n = []
+beginnings w (x ∷ xs) n = begun_by (acts w x) x n ++ beginnings (happens w x) xs n
 
 -- A taken event of call n in a schedule: what came before it, the call as it was, and what it found.
 pub record TakenEvent (f : ℕ) (s : List Event) (n : ℕ) : Type 0 where

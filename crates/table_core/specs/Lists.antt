@@ -6,7 +6,7 @@ use Rattle.table_core.specs.ListObject.{Insert as AskInsert, Lookup as AskLookup
 use Rattle.table_core.specs.ListObject.{Placed as AnswerPlaced, Found as AnswerFound, Refused as AnswerRefused, Shown as AnswerShown, Absent as AnswerAbsent, Counted as AnswerCounted, Walked as AnswerWalked}
 use Rattle.table_core.specs.Bags.{SameBag, weigh}
 use Rattle.table_core.specs.Replies.{Told, ToldPlaced, ToldFound, ToldRefused, ToldSome, ToldNone, ToldLen, ToldWalk, Reply}
-use Rattle.table_core.specs.Calls.{Call, call_numbered, is_used}
+use Rattle.table_core.specs.Calls.{Call, is_used}
 use Rattle.table_core.specs.Machine.{World, empty, Act, Begins, Goes, acts, happens, after, reply}
 use Rattle.table_core.specs.History.{replies, placed, placed_by, given, kept, TakenEvent, bucket_then, has_later}
 use Rattle.table_core.specs.Law.{Law, IsLawful}
@@ -85,9 +85,9 @@ pub record IsRight (l : Law) (f : ℕ) (s : List Event) (r : Reply) : Type 0 whe
   pub meets : Meets r.told (bucket_then f s r.call at)
   pub answer : Answers l.equal (placed (empty f) at.before) (asked l r) (answered r.told) (placed (empty f) (at.before ++ at.event ∷ []))
 
--- each finished insert and look-up is right: what its reply says was asked is what its own call asked, and the answer is the list object's
+-- each finished insert and look-up is right: what its reply says was asked is what its own call asked when it began, and the answer is the list object's
 abbrev pub Right : Law → ℕ → List Event → Event → Reply → Type 0
-Right l f s x r = IsLawful l f (s ++ x ∷ []) → Ends f s x r → is_list_reply r.told ≡ true → IsOwn (after f s) r × IsRight l f (s ++ x ∷ []) r
+Right l f s x r = IsLawful l f (s ++ x ∷ []) → Ends f s x r → is_list_reply r.told ≡ true → IsOwn f s r × IsRight l f (s ++ x ∷ []) r
 
 -- One history
 
@@ -117,10 +117,8 @@ history w (x ∷ xs) = history_at w x xs (acts w x) ++ history (happens w x) xs
 
 -- an insert that has placed its value and isn't finished
 pub record HasPlaced (f : ℕ) (s : List Event) (r : Reply) : Type 0 where
-  pub call : Call
-  pub there : call_numbered r.call (after f s).calls ≡ Some call
+  pub own : IsOwn f s r
   pub value : ℕ
-  pub own : call.value ≡ Some value
   pub told : r.told ≡ ToldPlaced value
   pub placed : Contains (placed (empty f) s) value
   pub unfinished : fate (empty f) s r.call ≡ None
@@ -141,8 +139,8 @@ pub record IsOneHistory (l : Law) (f : ℕ) (s : List Event) : Type 0 where
   pub once : (n : ℕ) → weigh (λ r. if r.call == n then 1 else 0) (history (empty f) s) ≤ 1
   -- what stands in it is finished, or has placed its value
   pub only : (r : Reply) → Contains (history (empty f) s) r → Contains (replies (empty f) s) r ⊎ HasPlaced f s r
-  -- and asks what its own call asked: an insert of its value, a look-up by its test
-  pub own : (r : Reply) → Contains (history (empty f) s) r → IsOwn (after f s) r
+  -- and asks what its own call asked when it began: an insert of its value, a look-up by its test
+  pub own : (r : Reply) → Contains (history (empty f) s) r → IsOwn f s r
 
 -- the finished inserts and look-ups, with the inserts that have placed, are one run of the list object
 abbrev pub OneHistory : Law → ℕ → List Event → Type 0

@@ -1,17 +1,17 @@
 -- The states that schedules lead to, and what one event does to such a state at the place of its call.
-use Rattle.std.specs.Prelude.{ℕ, ◌≡◌, ◌<◌, ◌++◌, ◌||◌, Bool, true, false, Option, Some, None, List, [], ◌∷◌, length, slice_set}
-use Rattle.table_core.specs.Replies.{Told, ToldPlaced, ToldWalk}
+use Rattle.std.specs.Prelude.{ℕ, ◌≡◌, ◌<◌, ◌++◌, ◌&&◌, ◌||◌, Bool, true, false, Option, Some, None, List, [], ◌∷◌, length, slice_set}
+use Rattle.table_core.specs.Replies.{Told, ToldPlaced, ToldNone, ToldLen, ToldWalk}
 use Rattle.table_core.specs.Generations.{Gen, Build, Table, IsFirst, bucket, first_empty, current}
 use Rattle.table_core.specs.Calls.{Call, is_used, is_used_value}
-use Rattle.table_core.specs.Machine.{World, after, walked_gen, bucket_at, checked, changed, call_after, told, found_entry}
+use Rattle.table_core.specs.Machine.{World, after, walked_gen, bucket_at, checked, changed, call_after, told, refused, found_entry, shown_entry, by_outcome, by_failure}
 use Rattle.table_core.specs.declared.event.Entry.{Entry}
 use Rattle.table_core.specs.declared.event.Event.{Event}
 use Rattle.table_core.specs.declared.event.Event.TheVariants.{Put, Add, Check, Copy}
 use Rattle.table_core.specs.declared.call.CallState.{CallState}
 use Rattle.table_core.specs.declared.call.Phase.{Phase}
-use Rattle.table_core.specs.declared.call.Phase.TheVariants.{Done}
+use Rattle.table_core.specs.declared.call.Phase.TheVariants.{LeaveRefused, AskSize, LeaveOwned, LeaveFailed, LookLoad, LookProbe, LenLoad, LenSize, WalkLoad, Done}
 use Rattle.table_core.specs.declared.call.Answer.{Answer}
-use Rattle.table_core.specs.declared.call.Answer.TheVariants.{Holds, Won, Counted, Begun, Copied}
+use Rattle.table_core.specs.declared.call.Answer.TheVariants.{Holds, Won, Counted, Sized, Begun, Copied}
 
 -- some schedule leads to this world
 pub record IsReached (w : World) : Type 0 where
@@ -71,3 +71,22 @@ list_left _ list = list
 abbrev pub list_told : Phase → List ℕ → Option Told
 list_told Done list = Some (ToldWalk list)
 list_told _ list = None
+
+-- what a look-up is told that ends at a set bucket
+abbrev pub look_ended : Table → CallState → Bool → Option Told
+look_ended t s true = shown_entry (bucket_at t s)
+look_ended t s false = Some ToldNone
+
+-- what a call is told that ends in this phase by an answer
+abbrev pub told_ended : Phase → Table → Call → Answer → Option Told
+told_ended LeaveRefused t c _ = refused c.value
+told_ended AskSize t c _ = by_outcome t c
+told_ended LeaveOwned t c _ = by_outcome t c
+told_ended LeaveFailed t c _ = by_failure t c true
+told_ended LookLoad t c _ = Some ToldNone
+told_ended LookProbe t c (Holds same accepted) = look_ended t c.state (same && accepted)
+told_ended LookProbe t c _ = Some ToldNone
+told_ended LenLoad t c _ = Some (ToldLen 0)
+told_ended LenSize t c (Sized k) = Some (ToldLen k)
+told_ended WalkLoad t c _ = Some (ToldWalk [])
+told_ended _ t c _ = None

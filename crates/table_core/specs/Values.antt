@@ -1,13 +1,13 @@
 -- What holds of every schedule, whatever the closures answer.
-use Rattle.std.specs.Prelude.{ℕ, ◌+◌, ◌-◌, ◌*◌, ◌/◌, ◌^◌, ◌≡◌, ◌≤◌, ◌⊎◌, max, Bool, true, false, Option, Some, None, List, [], ◌∷◌, ◌++◌, length}
-use Rattle.table_core.specs.Bags.{SameBag, count_of}
-use Rattle.table_core.specs.Replies.{Told, ToldPlaced, ToldFound, ToldRefused, ToldSome, ToldLen, ToldWalk, Reply}
+use Rattle.std.specs.Prelude.{ℕ, ◌+◌, ◌-◌, ◌*◌, ◌/◌, ◌^◌, ◌==◌, ◌≡◌, ◌≤◌, ◌⊎◌, max, if◌then◌else◌, Bool, true, false, Option, Some, None, List, [], ◌∷◌, ◌++◌, length}
+use Rattle.table_core.specs.Bags.{weigh, SameBag, count_of}
+use Rattle.table_core.specs.Replies.{Told, ToldPlaced, ToldFound, ToldRefused, ToldSome, ToldNone, ToldLen, ToldWalk, Reply}
 use Rattle.table_core.specs.Generations.{Gen, bits_of, current}
 use Rattle.table_core.specs.Calls.{Call, call_numbered, holds_shared}
-use Rattle.table_core.specs.Machine.{World, empty, Begins, acts, after, reply}
-use Rattle.table_core.specs.History.{replies, placed, given, back, kept, running, buckets, added, reads, generations_loaded, TakenEvent, bucket_then, has_later}
+use Rattle.table_core.specs.Machine.{empty, Begins, acts, after, reply}
+use Rattle.table_core.specs.History.{replies, placed, given, back, kept, running, buckets, added, reads, generations_loaded, beginnings, TakenEvent, bucket_then, has_later}
 use Rattle.table_core.specs.declared.event.Event.{Event}
-use Rattle.table_core.specs.declared.event.Event.TheVariants.{Lookup, Load, Read, Put, Check}
+use Rattle.table_core.specs.declared.event.Event.TheVariants.{Insert, Lookup, Len, Walk, Load, Read, Put, Check}
 use Rattle.table_core.specs.declared.event.Entry.{Entry}
 use Rattle.table_core.specs.declared.call.CallState.{CallState}
 use Rattle.table_core.specs.declared.call.Phase.{Phase}
@@ -33,17 +33,11 @@ PlacedGrows f s more = (rest : List ℕ) × (placed (empty f) (s ++ more) ≡ pl
 
 -- Answers
 
--- the entry that a reply names, and the value that it hands back or says is placed
+-- the entry that a reply names
 abbrev pub entry_named : Told → Option ℕ
 entry_named (ToldFound e v) = Some e
 entry_named (ToldSome e) = Some e
 entry_named _ = None
-
-abbrev pub value_told : Told → Option ℕ
-value_told (ToldPlaced v) = Some v
-value_told (ToldFound e v) = Some v
-value_told (ToldRefused v) = Some v
-value_told _ = None
 
 -- the closure's yes that a read or a put carries
 abbrev pub says_yes : Event → Bool
@@ -64,17 +58,34 @@ pub record AcceptedEntry (f : ℕ) (s : List Event) (n e : ℕ) : Type 0 where
   pub there : bucket_then f s n at ≡ Some entry
   pub value : entry.value ≡ e
 
--- a reply is its call's own: an insert is told of its own value, and another call of none
-abbrev pub IsOwn : World → Reply → Type 0
-IsOwn w r = (c : Call) × (call_numbered r.call w.calls ≡ Some c) × (c.value ≡ value_told r.told)
+-- what a call may be told that begins at this event: an insert what became of its own value, each other call what it asked for
+abbrev pub MayTell : Event → Told → Type 0
+MayTell (Insert n v h) (ToldPlaced u) = u ≡ v
+MayTell (Insert n v h) (ToldFound e u) = u ≡ v
+MayTell (Insert n v h) (ToldRefused u) = u ≡ v
+MayTell (Lookup n h) (ToldSome e) = Unit {0}
+MayTell (Lookup n h) ToldNone = Unit {0}
+MayTell (Len n) (ToldLen k) = Unit {0}
+MayTell (Walk n) (ToldWalk es) = Unit {0}
+MayTell _ _ = ⊥
+
+-- a reply is its call's own: the schedule has one taken event at which that call begins, and by that event it may be told this
+pub record IsOwn (f : ℕ) (s : List Event) (r : Reply) : Type 0 where
+  pub start : Event
+  pub once : beginnings (empty f) s r.call ≡ start ∷ []
+  pub told : MayTell start r.told
 
 -- a call is told its own value, and only an entry that it has accepted
 pub record IsOwnAnswer (f : ℕ) (s : List Event) (x : Event) (r : Reply) : Type 0 where
-  pub own : IsOwn (after f s) r
+  pub own : IsOwn f s r
   pub accepted : (e : ℕ) → entry_named r.told ≡ Some e → AcceptedEntry f (s ++ x ∷ []) r.call e
 
 abbrev pub OwnAnswers : ℕ → List Event → Event → Reply → Type 0
 OwnAnswers f s x r = Ends f s x r → IsOwnAnswer f s x r
+
+-- a call is told at most one thing
+abbrev pub ToldOnce : ℕ → List Event → ℕ → Type 0
+ToldOnce f s n = weigh (λ r. if r.call == n then 1 else 0) (replies (empty f) s) ≤ 1
 
 -- why a call may be refused at an event, by what it found there: its memory was asked for and refused, or there is no greater capacity
 abbrev pub IsCause : Option Gen → Event → Answer → Type 0

@@ -5,10 +5,10 @@ ghost use Rattle.std.specs.List.{slice_get};
 ghost use Rattle.table_core.specs.Replies.{told_of};
 ghost use Rattle.table_core.specs.Generations.{IsFirst, next_copied};
 ghost use Rattle.table_core.specs.History.{buckets};
-ghost use Rattle.table_core.specs.Calls.{Call as SpecCall, starts, fits, holds_shared, holds_owned};
-ghost use Rattle.table_core.specs.Machine.{empty, happens, reply, finds, takes_unless, holds, read, exchanged, sized, copies, shows, frees, walked_gen, with_entry, call_after, bucket_at, refused, by_outcome, by_failure, look_told, told, place, changed, number_of, in_range};
+ghost use Rattle.table_core.specs.Calls.{Call as SpecCall, decide as after_answer, starts, fits, holds_shared, holds_owned};
+ghost use Rattle.table_core.specs.Machine.{empty, happens, reply, finds, takes_unless, holds, read, exchanged, sized, copies, shows, frees, walked_gen, with_entry, call_after, bucket_at, refused, by_outcome, by_failure, told, place, changed, number_of, in_range};
 ghost use Rattle.table_core.specs.Openings.{opening};
-ghost use Rattle.table_core.specs.Reached.{IsReached, CanChange, told_placed, told_found, is_taken, begun, moved, told_to, walked_entry, list_left, list_told};
+ghost use Rattle.table_core.specs.Reached.{IsReached, CanChange, told_placed, told_found, is_taken, begun, moved, told_to, walked_entry, list_left, list_told, look_ended, told_ended};
 
 use crate::call::{Answer, CallState, Outcome, Phase};
 use crate::calls::{Call, Calls};
@@ -122,76 +122,78 @@ fn tell_outcome<A: Allocator + Copy>(table: &Table<A>, call: &Call<A>) -> Option
     }
 }
 
-/// What a call is told whose growth has failed.
-fn tell_failure<A: Allocator + Copy>(
-    table: &Table<A>,
-    call: &Call<A>,
-    still_current: bool,
-) -> Option<Reply<A>>
-    ensures { option_map told_of result ≡ by_failure table.now call.now still_current }
+/// What a call is told that ends after its growth has failed: without an outcome it gives its value
+/// back.
+fn tell_failure<A: Allocator + Copy>(table: &Table<A>, call: &Call<A>) -> Option<Reply<A>>
+    ensures { option_map told_of result ≡ by_failure table.now call.now true }
 {
-    match (call.state().outcome, still_current) {
-        (Outcome::Pending, true) => tell_refused(call.value()),
+    match call.state().outcome {
+        Outcome::Pending => tell_refused(call.value()),
         _ => tell_outcome(table, call),
     }
 }
 
-/// What a look-up is told at a set bucket.
+/// What a look-up is told that ends at a set bucket.
 fn tell_look<A: Allocator + Copy>(
     table: &Table<A>,
     state: CallState,
     accepted: bool,
 ) -> Option<Reply<A>>
-    requires { state.seen < state.capacity }
-    ensures { option_map told_of result ≡ look_told table.now state accepted }
+    ensures { option_map told_of result ≡ look_ended table.now state accepted }
 {
-    if accepted {
-        match bucket_of(table, state) {
-            Some(entry) => Some(Reply::Some(entry.value)),
-            None => None,
-        }
-    } else if state.seen + 1 < state.capacity {
-        None
-    } else {
-        Some(Reply::None)
+    if !accepted {
+        return Some(Reply::None);
+    }
+    match bucket_of(table, state) {
+        Some(entry) => Some(Reply::Some(entry.value)),
+        None => None,
     }
 }
 
-/// What a call, other than a walk at a bucket, is told that finishes by an answer.
-fn tell<A: Allocator + Copy>(
+/// What a call, other than a walk at a bucket, is told that ends by an answer.
+fn tell_ended<A: Allocator + Copy>(
     alloc: A,
     table: &Table<A>,
     call: &Call<A>,
     answer: Answer,
 ) -> Option<Reply<A>>
-    requires other { call.now.state.phase ≢ Phase.WalkAt }
-    requires fitting { fits call.now.state.phase call.now.state answer ≡ true }
-    ensures { option_map told_of result ≡ told table.now call.now answer }
+    ensures { option_map told_of result ≡ told_ended call.now.state.phase table.now call.now answer }
 {
-    let state = call.state();
-    match (state.phase, answer) {
-        (Phase::LeaveRefused, Answer::Released { .. }) => tell_refused(call.value()),
-        (Phase::AskSize, Answer::Sized { size }) => {
-            if size < state.capacity / 2 {
-                tell_outcome(table, call)
-            } else {
-                None
-            }
-        }
-        (Phase::LeaveOwned, Answer::Released { .. }) => tell_outcome(table, call),
-        (Phase::LeaveFailed, Answer::Released { still_current }) => {
-            tell_failure(table, call, still_current)
-        }
-        (Phase::LookLoad, Answer::NoGeneration) => Some(Reply::None),
-        (Phase::LookProbe, Answer::Empty) => Some(Reply::None),
+    match (call.state().phase, answer) {
+        (Phase::LeaveRefused, _) => tell_refused(call.value()),
+        (Phase::AskSize, _) => tell_outcome(table, call),
+        (Phase::LeaveOwned, _) => tell_outcome(table, call),
+        (Phase::LeaveFailed, _) => tell_failure(table, call),
+        (Phase::LookLoad, _) => Some(Reply::None),
         (Phase::LookProbe, Answer::Holds { agrees, accepted }) => tell_look(
             table,
-            state,
+            call.state(),
             agrees && accepted,
         ),
-        (Phase::LenLoad, Answer::NoGeneration) => Some(Reply::Len(0)),
+        (Phase::LookProbe, _) => Some(Reply::None),
+        (Phase::LenLoad, _) => Some(Reply::Len(0)),
         (Phase::LenSize, Answer::Sized { size }) => Some(Reply::Len(size)),
-        (Phase::WalkLoad, Answer::NoGeneration) => Some(Reply::Walk(Vec::new(alloc))),
+        (Phase::WalkLoad, _) => Some(Reply::Walk(Vec::new(alloc))),
+        _ => None,
+    }
+}
+
+/// What a call, other than a walk at a bucket, is told whose next state is this: nothing before its
+/// end.
+fn tell<A: Allocator + Copy>(
+    alloc: A,
+    table: &Table<A>,
+    call: &Call<A>,
+    answer: Answer,
+    next: CallState,
+) -> Option<Reply<A>>
+    requires other { call.now.state.phase ≢ Phase.WalkAt }
+    requires fitting { fits call.now.state.phase call.now.state answer ≡ true }
+    requires next { next ≡ after_answer call.now.state answer }
+    ensures { option_map told_of result ≡ told table.now call.now answer }
+{
+    match next.phase {
+        Phase::Done => tell_ended(alloc, table, call, answer),
         _ => None,
     }
 }
@@ -442,9 +444,10 @@ impl<A: Allocator + Copy> Machine<A> {
             return Ok(told);
         }
         let call = self.calls.get(at);
-        let told = tell(self.alloc, &self.table, call, answer);
+        let next = decide(state, answer);
+        let told = tell(self.alloc, &self.table, call, answer, next);
         change(self.alloc, &mut self.table, call, event, answer)?;
-        self.calls.set_state(at, decide(state, answer));
+        self.calls.set_state(at, next);
         Ok(told)
     }
 

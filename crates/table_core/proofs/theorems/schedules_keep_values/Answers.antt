@@ -1,5 +1,6 @@
 use Rattle.table_core.proofs.Invariant.{inv, values_stay, kept_is_placed, placed_grows, few_buckets}
 use Rattle.table_core.proofs.OwnAnswers.{own_answers}
+use Rattle.table_core.proofs.ToldOnce.{told_once}
 use Rattle.table_core.proofs.Refusals.{refusal_causes}
 use Rattle.table_core.proofs.Lengths.{lengths_between}
 use Rattle.table_core.proofs.Walks.{walks_whole}
@@ -27,6 +28,9 @@ returns-clause-grows_alone k f s n c first m h = let i = slot n (after f s).call
 
 pub returns-clause-own_answers : goal.returns-clause-own_answers
 returns-clause-own_answers c f s x r first = own_answers f (inv f first) s x r
+
+pub returns-clause-told_once : goal.returns-clause-told_once
+returns-clause-told_once c = told_once
 
 pub returns-clause-refusal_causes : goal.returns-clause-refusal_causes
 returns-clause-refusal_causes c f s x n v first = refusal_causes f (inv f first) s x n v

@@ -16,6 +16,7 @@ tell-told-requires g c =
     record {
       other = λ e. c.in_default-phase.not-WalkAt (ap (λ (x : CallState). x.phase) s ∙ e);
       fitting = found_fits w c.args.at c.get-call.result.now c.args.event c.in-Some.answer (subst IsReached (sym c.self.view_is) c.requires.reached) c.get-call.ensures f;
+      next = c.decide-next.ensures ∙ ap (λ x. decide x c.in-Some.answer) s;
     }
 
 pub change-requires : goal.change-requires
@@ -66,11 +67,11 @@ returns g c =
           let same2 : c.get.result.now ≡ d = (let z : Some c.get.result.now ≡ Some d = sym c.get.ensures ∙ k in cc) in
           let s : c.state-state.result ≡ d.state = c.state-state.ensures ∙ ap (λ (x : Call). x.state) same2 in
           let f : finds w d.state c.args.event ≡ Some c.in-Some.answer = finds_same w c.args.self.now _ _ c.args.event _ c.in-Some.answer c.self.view_is s c.answer.ensures c.in-Some.is in
-          go_other w c.args.self.now c.args.at d c.args.event c.in-Some.answer c.change.new.table c.set_state.new.self c.decide.result c.self.view_is
+          go_other w c.args.self.now c.args.at d c.args.event c.in-Some.answer c.change.new.table c.set_state.new.self c.decide-next.result c.self.view_is
           (λ e. c.in_default-phase.not-WalkAt (ap (λ (x : CallState). x.phase) s ∙ e)) f
           (found_fits w c.args.at d c.args.event c.in-Some.answer (subst IsReached (sym c.self.view_is) c.requires.reached) k f)
           (c.in_ok-change.ensures.ok ∙ ap (λ x. changed c.self.inside.table x c.args.event c.in-Some.answer) same)
-          (c.decide.ensures ∙ ap (λ x. decide x c.in-Some.answer) s) (c.set_state.ensures d k);
+          (c.decide-next.ensures ∙ ap (λ x. decide x c.in-Some.answer) s) (c.set_state.ensures d k);
       told = λ d h.
           let k : slice_get w.calls c.args.at ≡ Some d = ap (λ (z : World). slice_get z.calls c.args.at) c.self.view_is ∙ h in
           let same : c.get-call.result.now ≡ d = (let z : Some c.get-call.result.now ≡ Some d = sym c.get-call.ensures ∙ k in cc) in
