@@ -1,5 +1,6 @@
 //! Bad lines, and inputs that are cut.
 use super::{run, run_on};
+use crate::blocks::BLOCK;
 use std::test::Fail;
 
 #[test]
@@ -122,6 +123,21 @@ fn a_megabyte_of_one_line(rt: HostRuntime) -> Result<(), Fail> {
         if ended_by_break {
             input.extend_from_slice(b"1\nl 0 1\n")?;
         }
+        let ended = run_on(&rt, rt.alloc(), &[], input.as_slice())?;
+        assert_eq!(rt; ended.output.as_str(), "placed\n");
+        assert_eq!(rt; ended.messages.as_str(), "bad line 2\n");
+        assert_eq!(rt; ended.status, 2);
+    }
+    Ok(())
+}
+
+#[test]
+fn a_long_line_whose_end_is_spelled_well(rt: HostRuntime) -> Result<(), Fail> {
+    for blocks in [1, 2, 3] {
+        let mut input = b"i 0 1\n".to_vec(rt.alloc())?;
+        let long = vec![in rt.alloc(); b'x'; blocks * BLOCK]?;
+        input.extend_from_slice(long.as_slice())?;
+        input.extend_from_slice(b"n\nl 0 1\n")?;
         let ended = run_on(&rt, rt.alloc(), &[], input.as_slice())?;
         assert_eq!(rt; ended.output.as_str(), "placed\n");
         assert_eq!(rt; ended.messages.as_str(), "bad line 2\n");

@@ -4,7 +4,10 @@ use crate::commands::run_words;
 use std::cell::RefCell;
 use std::io;
 use std::io::{ErrorKind, Read, Write};
+use std::process::Abort;
+use std::sync::Wait;
 use std::test::Fail;
+use std::thread::Threads;
 
 /// A reader over memory that gives so many bytes at a call, and fails at a later call.
 #[derive(Drop)]
@@ -75,6 +78,46 @@ fn a_reader_that_fails_at_each_call(rt: HostRuntime) -> Result<(), Fail> {
             );
             assert_eq!(rt; ended.status, status, "{given} reads of {at_once}");
         }
+    }
+    Ok(())
+}
+
+/// A reader that gives so many bytes at a call, and is interrupted before each of them.
+#[derive(Drop)]
+struct Interrupted<'a> {
+    rest: &'a [u8],
+    at_once: usize,
+    is_next: bool,
+}
+
+impl Read for Interrupted<'_> {
+    fn read(&mut self, buf: &mut [u8]) -> io::Result<usize> {
+        self.is_next = !self.is_next;
+        if self.is_next {
+            return Err(io::Error::from(ErrorKind::Interrupted));
+        }
+        let count = self.at_once.min(buf.len()).min(self.rest.len());
+        let (now, later) = self.rest.split_at(count);
+        buf[..count].copy_from_slice(now);
+        self.rest = later;
+        Ok(count)
+    }
+}
+
+#[test]
+fn an_interrupted_read_is_tried_again(rt: HostRuntime) -> Result<(), Fail> {
+    let mut wanted = String::new(rt.alloc());
+    replies_to(&mut wanted, INPUT.len())?;
+    for at_once in [1, 7, 100] {
+        let reader = Interrupted {
+            rest: INPUT.as_bytes(),
+            at_once,
+            is_next: false,
+        };
+        let ended = run_on(&rt, rt.alloc(), &[], reader)?;
+        assert_eq!(rt; ended.output.as_str(), wanted.as_str());
+        assert_eq!(rt; ended.messages.as_str(), "");
+        assert_eq!(rt; ended.status, 0);
     }
     Ok(())
 }
@@ -244,26 +287,48 @@ impl Write for Logged<'_> {
     }
 }
 
-#[test]
-fn each_reply_is_there_when_the_next_line_is_asked_for(rt: HostRuntime) -> Result<(), Fail> {
+/// A writer that takes a byte at a call, and sends what it took when it is flushed.
+#[derive(Drop)]
+struct Keeping<'a> {
+    kept: Vec<u8>,
+    sent: &'a RefCell<Vec<u8>>,
+}
+
+impl Write for Keeping<'_> {
+    fn write(&mut self, buf: &[u8]) -> io::Result<usize> {
+        let Some(byte) = buf.first() else {
+            return Ok(0);
+        };
+        self.kept.push(*byte)?;
+        Ok(1)
+    }
+
+    fn flush(&mut self) -> io::Result<()> {
+        self.sent
+            .try_borrow_mut()
+            .map_err(|_used| busy())?
+            .extend_from_slice(self.kept.as_slice())?;
+        self.kept.clear();
+        Ok(())
+    }
+}
+
+/// Runs five lines, and looks into the log each time that the next one is asked for.
+fn assert_replies_before_reads<R: Threads + Wait + AllocGlobal + Abort, W: Write + Drop>(
+    rt: &R,
+    written: &RefCell<Vec<u8>>,
+    writer: W,
+) -> Result<(), Fail> {
     let lines = ["i 0 1\n", "i 0 1\n", "l 0 1\n", "n\n", "w"];
-    let written = RefCell::new(Vec::new(rt.alloc()));
     let seen = RefCell::new(Vec::new(rt.alloc()));
     let mut messages = Vec::new(rt.alloc());
     let reader = Asking {
         lines: &lines,
         asked: 0,
-        written: &written,
+        written,
         seen: &seen,
     };
-    let status = run_words(
-        &rt,
-        rt.alloc(),
-        &["calls"],
-        reader,
-        Logged(&written),
-        &mut messages,
-    );
+    let status = run_words(rt, rt.alloc(), &["calls"], reader, writer, &mut messages);
     assert_eq!(rt; status, 0);
     // 0 bytes before the first line, then those of one reply more at each call; the last part is no line before the end.
     assert_eq!(rt;
@@ -271,8 +336,24 @@ fn each_reply_is_there_when_the_next_line_is_asked_for(rt: HostRuntime) -> Resul
         [0, 7, 13, 20, 22, 22].as_slice()
     );
     assert_eq!(rt;
-        written.into_inner().as_slice(),
+        written.try_borrow().map_err(|_used| busy())?.as_slice(),
         b"placed\nfound\nsome 1\n1\n[1]\n".as_slice()
     );
     Ok(())
+}
+
+#[test]
+fn each_reply_is_there_when_the_next_line_is_asked_for(rt: HostRuntime) -> Result<(), Fail> {
+    let written = RefCell::new(Vec::new(rt.alloc()));
+    assert_replies_before_reads(&rt, &written, Logged(&written))
+}
+
+#[test]
+fn a_writer_that_keeps_what_it_takes_is_flushed(rt: HostRuntime) -> Result<(), Fail> {
+    let sent = RefCell::new(Vec::new(rt.alloc()));
+    let writer = Keeping {
+        kept: Vec::new(rt.alloc()),
+        sent: &sent,
+    };
+    assert_replies_before_reads(&rt, &sent, writer)
 }
