@@ -13,7 +13,7 @@ use Rattle.table_core.specs.declared.event.Event.TheVariants.{Insert}
 use Rattle.table_core.specs.declared.event.Entry.{Entry}
 use Rattle.table_core.specs.declared.call.CallState.{CallState}
 use Rattle.table_core.specs.declared.call.Phase.{Phase}
-use Rattle.table_core.specs.declared.call.Phase.TheVariants.{WantShared, LookLoad, LookProbe, LenLoad, LenSize, WalkLoad, WalkAt, Done}
+use Rattle.table_core.specs.declared.call.Phase.TheVariants.{WantShared, LookLoad, LookProbe, LenLoad, LenSize, WalkLoad, WalkAt}
 use Rattle.table_core.specs.declared.call.Outcome.{Outcome}
 use Rattle.table_core.specs.declared.call.Outcome.TheVariants.{Pending, New, Existing}
 use Rattle.table_core.specs.declared.call.Answer.{Answer}
@@ -23,7 +23,7 @@ use Rattle.table_core.proofs.Lists.{get-set, get-push}
 use Rattle.table_core.proofs.Turns.{Turn, rests, opens, takes}
 use Rattle.table_core.proofs.Numbers.{unused_at}
 use Rattle.table_core.proofs.FewReads.{other_number, unused_do_nothing, begins_other, begins_own}
-use Rattle.table_core.proofs.Pasts.{append-none, turn_after, beginnings_append, beginnings_snoc, by_snoc}
+use Rattle.table_core.proofs.Pasts.{turn_after, beginnings_append, beginnings_snoc, by_snoc}
 use Rattle.table_core.proofs.Callings.{row_not_done}
 
 -- the phase in which a call in this one began

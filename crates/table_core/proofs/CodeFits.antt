@@ -1,10 +1,10 @@
 -- What an event finds in a world that was reached: the answer fits, and the table can be changed so.
-use Rattle.std.proofs.Common.{ℕ, ◌≡◌, ◌+◌, ◌-◌, ◌<◌, ◌≤◌, ◌++◌, List, [], ◌∷◌, true, refl, Option, Some, length, sym, subst, ap, arith, ◌∙◌}
+use Rattle.std.proofs.Common.{ℕ, ◌≡◌, ◌-◌, ◌<◌, ◌≤◌, ◌++◌, List, [], ◌∷◌, true, refl, Option, Some, length, sym, subst, ap, arith, ◌∙◌}
 use Rattle.std.specs.Prelude.{nat_lt, slice_set}
 use Rattle.std.specs.List.{slice_get}
 use Rattle.std.proofs.lemmas.Bool.{lt-ltb}
 use Rattle.table_core.specs.Replies.{Told, Reply}
-use Rattle.table_core.specs.Generations.{Gen, Table, IsFirst, current, at_place}
+use Rattle.table_core.specs.Generations.{Gen, Table, IsFirst, current}
 use Rattle.table_core.specs.Calls.{Call, fits, stands_at_bucket, holds_shared, decided, decide}
 use Rattle.table_core.specs.Machine.{World, empty, finds, finds_in, walked_gen, happens, list_in, changed, call_after, told}
 use Rattle.table_core.specs.History.{replies, placed}
@@ -16,7 +16,7 @@ use Rattle.table_core.specs.declared.call.CallState.{CallState}
 use Rattle.table_core.specs.declared.call.Phase.{Phase}
 use Rattle.table_core.specs.declared.call.Phase.TheVariants.{Probe, AtEmpty, Placed, AskSize, LookProbe, LenSize, WalkAt}
 use Rattle.table_core.specs.declared.call.Answer.{Answer}
-use Rattle.table_core.proofs.Facts.{Inv, AllSeated, Tracked, Probing, Walking, probing, measuring, is_walking, SizesOk, placers, is_placed}
+use Rattle.table_core.proofs.Facts.{Inv, AllSeated, Tracked, Walking, probing, measuring, is_walking, SizesOk, placers, is_placed}
 use Rattle.table_core.proofs.Lists.{tally, weigh-get}
 use Rattle.table_core.proofs.Standing.{IsLast, CallOk}
 use Rattle.table_core.proofs.Contents.{nothing_built, stand_at}

@@ -1,5 +1,5 @@
 -- A call is told something only where its event ends it.
-use Rattle.std.proofs.Common.{ℕ, ◌≡◌, ◌+◌, ◌/◌, Bool, true, false, refl, Option, Some, None, sym, ap, ◌∙◌}
+use Rattle.std.proofs.Common.{◌≡◌, ◌+◌, ◌/◌, Bool, true, false, refl, Option, Some, None, sym, ap, ◌∙◌}
 use Rattle.std.specs.Prelude.{◌&&◌, nat_lt, if◌then◌else◌}
 use Rattle.table_core.specs.Replies.{Told, ToldNone}
 use Rattle.table_core.specs.Generations.{Table}

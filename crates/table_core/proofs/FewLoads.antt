@@ -23,7 +23,7 @@ use Rattle.std.proofs.lemmas.Bool.{eq-eqb, ltb-true, cases_eq}
 use Rattle.std.proofs.lemmas.Option.{slice_get_within}
 use Rattle.table_core.specs.Values.{InsertsLoadOnce}
 use Rattle.table_core.proofs.Turns.{Turn, rests, opens, takes}
-use Rattle.table_core.proofs.Facts.{Tracked, Turned, wants_growth, SizesOk, is_placed, placers, Inv}
+use Rattle.table_core.proofs.Facts.{Tracked, Turned, wants_growth, SizesOk, placers, Inv}
 use Rattle.table_core.proofs.Standing.{last_number, length-place, length-change, pending_of}
 use Rattle.table_core.proofs.Seats.{many_places}
 use Rattle.table_core.proofs.Sizes.{no_placers}

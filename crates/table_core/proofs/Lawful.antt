@@ -17,7 +17,6 @@ use Rattle.table_core.specs.declared.call.Phase.{Phase}
 use Rattle.table_core.specs.declared.call.Phase.TheVariants.{Shared, Probe, AtEmpty, LeaveGrow, WantOwned, Owned, Building, LeaveOwned, LeaveFailed, LookLoad, LookProbe, LenLoad, WalkLoad}
 use Rattle.table_core.specs.declared.call.Outcome.TheVariants.{Existing}
 use Rattle.table_core.specs.declared.call.Answer.{Answer}
-use Rattle.table_core.specs.declared.call.Answer.TheVariants.{Holds}
 use Rattle.table_core.proofs.Lists.{weigh-append, get-set, get-push}
 use Rattle.table_core.proofs.Locks.{weigh-le, more}
 use Rattle.std.proofs.lemmas.Bool.{ltb-false, eq-eqb, eqb-true}

@@ -1,10 +1,10 @@
 -- A call is told its own value, and only an entry that it has accepted.
-use Rattle.std.proofs.Common.{ℕ, suc, zero, ◌≡◌, ◌++◌, inl, inr, List, [], ◌∷◌, Bool, true, false, refl, Option, Some, None, sym, subst, ap, arith, ◌∙◌}
+use Rattle.std.proofs.Common.{ℕ, ◌≡◌, ◌++◌, inl, inr, List, [], ◌∷◌, Bool, true, refl, Option, Some, None, sym, subst, ap, ◌∙◌}
 use Rattle.std.specs.Prelude.{◌==◌}
 use Rattle.std.specs.List.{slice_get}
 use Rattle.table_core.specs.Replies.{Told, ToldPlaced, ToldFound, ToldRefused, ToldSome, Reply}
 use Rattle.table_core.specs.Generations.{Gen, Table, bits_of, gen_of, bucket_in}
-use Rattle.table_core.specs.Calls.{Call, starts, call_numbered, finds_entry}
+use Rattle.table_core.specs.Calls.{Call, starts, finds_entry}
 use Rattle.table_core.specs.Machine.{World, empty, walked_gen, bucket_at, refused, found_entry, told_of_outcome, Act, Goes, acts, reply_to, after}
 use Rattle.table_core.specs.History.{replies, placed, TakenEvent, bucket_then}
 use Rattle.table_core.specs.Steps.{accepts, Row, loads_none, loads, meets, loses_meets, adds, leaves_refused, small, ends, ends_failed, gives_up, looks_none, looks, look_empty, look_meets, look_turns, len_none, len_loads, len_size, walk_none, walk_loads, walk_skips_last, walk_takes_last, left}
@@ -13,23 +13,20 @@ use Rattle.table_core.specs.declared.event.Event.TheVariants.{Read, Put}
 use Rattle.table_core.specs.declared.event.Entry.{Entry}
 use Rattle.table_core.specs.declared.call.CallState.{CallState}
 use Rattle.table_core.specs.declared.call.Phase.{Phase}
-use Rattle.table_core.specs.declared.call.Phase.TheVariants.{Shared, LeaveOk, LookLoad, LookProbe, LenLoad, LenSize, WalkLoad, WalkAt, Done}
+use Rattle.table_core.specs.declared.call.Phase.TheVariants.{Shared, LeaveOk, LookLoad, LenLoad, WalkLoad, Done}
 use Rattle.table_core.specs.declared.call.Outcome.{Outcome}
 use Rattle.table_core.specs.declared.call.Outcome.TheVariants.{Pending, New, Existing}
 use Rattle.table_core.specs.declared.call.Answer.{Answer}
-use Rattle.table_core.specs.declared.call.Answer.TheVariants.{Holds}
 use Rattle.table_core.proofs.Lists.{get-set, get-push}
-use Rattle.std.proofs.lemmas.Bool.{eq-eqb, eqb-true}
+use Rattle.std.proofs.lemmas.Bool.{eqb-true}
 use Rattle.std.specs.Option.{is_some}
 use Rattle.table_core.specs.Values.{says_yes, SaysYes, entry_named, AcceptedEntry, IsOwn, IsOwnAnswer, OwnAnswers}
 use Rattle.table_core.proofs.Turns.{Turn, rests, opens, takes}
 use Rattle.table_core.proofs.Facts.{AllGrew, Inv}
 use Rattle.table_core.proofs.Standing.{fitting}
-use Rattle.table_core.proofs.Places.{no_value}
 use Rattle.table_core.proofs.Contents.{fit_at, turn_grew}
 use Rattle.table_core.proofs.Tracks.{load_outcome, none_shared, none_look, none_len, none_walk}
 use Rattle.table_core.proofs.Lawful.{entry_stays}
-use Rattle.table_core.proofs.FewReads.{other_number}
 use Rattle.table_core.proofs.Pasts.{turn_after, by_snoc, taken_now, taken_later}
 use Rattle.table_core.proofs.Beginnings.{row_own}
 use Rattle.table_core.proofs.Truth.{and_both}

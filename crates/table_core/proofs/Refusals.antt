@@ -8,7 +8,7 @@ use Rattle.table_core.specs.Generations.{Gen, Table, current, bucket_in}
 use Rattle.table_core.specs.Calls.{Call, starts, to}
 use Rattle.table_core.specs.Machine.{World, empty, walked_gen, refused, found_entry, told_of_outcome, Act, Goes, acts, after}
 use Rattle.table_core.specs.History.{replies, placed, picks, TakenEvent, answers_so, has_later}
-use Rattle.table_core.specs.Steps.{Row, shares, memory_refused, leaves_refused, small, fails_first, fails_largest, fails_refused, ends, ends_failed, gives_up, Opens, opens_insert, left}
+use Rattle.table_core.specs.Steps.{Row, memory_refused, leaves_refused, small, fails_first, fails_largest, fails_refused, ends, ends_failed, gives_up, Opens, opens_insert, left}
 use Rattle.table_core.specs.declared.event.Event.{Event}
 use Rattle.table_core.specs.declared.event.Event.TheVariants.{Put}
 use Rattle.table_core.specs.declared.event.Entry.{Entry}

@@ -13,7 +13,7 @@ use Rattle.table_core.specs.declared.event.Event.{Event}
 use Rattle.table_core.specs.declared.event.Entry.{Entry}
 use Rattle.table_core.specs.declared.call.CallState.{CallState}
 use Rattle.table_core.specs.declared.call.Phase.{Phase}
-use Rattle.table_core.specs.declared.call.Phase.TheVariants.{AtEmpty, Placed, Building}
+use Rattle.table_core.specs.declared.call.Phase.TheVariants.{AtEmpty, Placed}
 use Rattle.table_core.specs.declared.call.Outcome.{Outcome}
 use Rattle.table_core.specs.declared.call.Answer.{Answer}
 use Rattle.table_core.proofs.Lists.{weigh-append, weigh-set, tally, weigh-ones}
