@@ -43,7 +43,7 @@ PutsShown {T} target gs old i hash before after =
     ((shown gs (part_at old i) ≡ None) × (after ≡ before))
     ⊎ ((name : Name) × (e : Entry T) × Leads gs name e × (shown gs (part_at old i) ≡ Some e) × PutsName target gs before after hash (named name.bits name.generation name.index))
 
--- the first n of these numbers are hashes, as rehash may answer, of the entries that the buckets from this one on show
+-- number k, for each k below n, is a hash, as rehash may answer, of the entry that bucket from + k shows, if it shows one
 abbrev pub AreHashes : {T U : Type 0} (target : T → U) (rehash : U → ℕ → Type 0) → List (List (Part T)) → List (Part T) → ℕ → ℕ → List ℕ → Type 0
 AreHashes {T} target rehash gs old from n hashes = (k : ℕ) → k < n → from + k < length old → (e : Entry T) → shown gs (part_at old (from + k)) ≡ Some e → rehash (target e.value) (slice_index hashes k)
 

@@ -1,15 +1,16 @@
 -- One invariant over whole schedules.
-use Rattle.std.proofs.Common.{ℕ, ◌≡◌, ◌+◌, ◌++◌, List, [], ◌∷◌, refl, Option, length, arith, ◌∙◌}
+use Rattle.std.proofs.Common.{ℕ, ◌≡◌, ◌+◌, ◌++◌, List, [], ◌∷◌, refl, Option, Some, length, ap, arith, ◌∙◌}
 use Rattle.std.specs.Prelude.{option_to_list, slice_set}
 use Rattle.table_core.specs.Bags.{weigh, SameBag}
 use Rattle.table_core.specs.Calls.{Call, starts}
-use Rattle.table_core.specs.Steps.{left}
+use Rattle.table_core.specs.Steps.{left, Opens, opens_insert, opens_lookup, opens_len, opens_walk}
 use Rattle.table_core.proofs.Lists.{weigh-append, weigh-set, weigh-flat_map}
 use Rattle.table_core.specs.Replies.{Reply}
 use Rattle.table_core.specs.Generations.{IsFirst}
-use Rattle.table_core.specs.Machine.{World, empty, Act, acts, happens, run, after}
+use Rattle.table_core.specs.Machine.{World, empty, Act, Begins, acts, happens, run, after}
 use Rattle.table_core.specs.History.{replies, placed_by, placed, given_by, given, back, kept, running}
 use Rattle.table_core.specs.declared.event.Event.{Event}
+use Rattle.table_core.specs.declared.call.Phase.{Phase}
 use Rattle.table_core.proofs.Locks.{more, keeps_locks, locked_empty}
 use Rattle.table_core.specs.Values.{ValuesStay, KeptIsPlaced, PlacedGrows, FewBuckets}
 use Rattle.table_core.proofs.Turns.{Turn, rests, opens, takes}
@@ -76,18 +77,24 @@ given_append : (h : ℕ → ℕ) (s more : List Event) (w : World) → weigh h (
 given_append h [] more w = omega arith
 given_append h (x ∷ s) more w = rw (weigh-append, weigh-append) (omega (arith, given_append h s more (happens w x)))
 
-carried_turn : (h : ℕ → ℕ) {w v : World} {x : Event} {a : Option Act} {r : Option Reply} → Turn w x a v r → weigh h (carried v.calls) ≡ weigh h (carried w.calls) + weigh h (given_by a)
+given_opens : (c : Call) {x : Event} {n : ℕ} {v : Option ℕ} {p : Phase} {k : ℕ} → Opens x n v p k → given_by (Some (Begins c)) x ≡ option_to_list v
+given_opens c (opens_insert n v k) = refl
+given_opens c (opens_lookup n k) = refl
+given_opens c (opens_len n) = refl
+given_opens c (opens_walk n) = refl
+
+carried_turn : (h : ℕ → ℕ) {w v : World} {x : Event} {a : Option Act} {r : Option Reply} → Turn w x a v r → weigh h (carried v.calls) ≡ weigh h (carried w.calls) + weigh h (given_by a x)
 carried_turn h rests = omega arith
 carried_turn h {w = w} (opens n v p k i o u g) =
     let all : (cs : List Call) → weigh h (carried cs) ≡ weigh (λ c. weigh h (option_to_list c.value)) cs = weigh-flat_map h (λ (c : Call). option_to_list c.value) in
-    omega (arith, all w.calls, all (w.calls ++ starts n v p k ∷ []), weigh-append (λ (c : Call). weigh h (option_to_list c.value)) w.calls (starts n v p k ∷ []))
+    omega (arith, ap (weigh h) (given_opens (starts n v p k) o), all w.calls, all (w.calls ++ starts n v p k ∷ []), weigh-append (λ (c : Call). weigh h (option_to_list c.value)) w.calls (starts n v p k ∷ []))
 carried_turn h {w = w} (takes i c p a s list t o g e row q) =
     let all : (cs : List Call) → weigh h (carried cs) ≡ weigh (λ c. weigh h (option_to_list c.value)) cs = weigh-flat_map h (λ (c : Call). option_to_list c.value) in
     omega (arith, all w.calls, all (slice_set w.calls i (left c s list)), weigh-set (λ (c : Call). weigh h (option_to_list c.value)) w.calls i c (left c s list) g)
 
 given_is_carried : (h : ℕ → ℕ) (f : ℕ) (s : List Event) → weigh h (given (empty f) s) ≡ weigh h (carried (after f s).calls)
 given_is_carried h f s = by_snoc (λ s. weigh h (given (empty f) s) ≡ weigh h (carried (after f s).calls)) refl
-    (λ s x e. omega (arith, e, given_append h s (x ∷ []) (empty f), weigh-append h (given_by (acts (after f s) x)) [], carried_turn h (turn_after f s x))) s
+    (λ s x e. omega (arith, e, given_append h s (x ∷ []) (empty f), weigh-append h (given_by (acts (after f s) x) x) [], carried_turn h (turn_after f s x))) s
 
 pub carried_stay : (f : ℕ) (s : List Event) → IsFirst f → SameBag (carried (after f s).calls) (back (replies (empty f) s) ++ kept (after f s) ++ running (after f s).calls)
 carried_stay f s h = let i = inv f h s in values_stay_at (after f s) (placed (empty f) s) (replies (empty f) s) i.calls i.holding i.placing

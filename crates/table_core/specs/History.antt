@@ -7,7 +7,7 @@ use Rattle.table_core.specs.Generations.{Table, current, entries_of}
 use Rattle.table_core.specs.Calls.{Call}
 use Rattle.table_core.specs.Machine.{World, number_of, Act, Begins, Goes, acts, happens, reply, after, bucket_at}
 use Rattle.table_core.specs.declared.event.Event.{Event}
-use Rattle.table_core.specs.declared.event.Event.TheVariants.{Read}
+use Rattle.table_core.specs.declared.event.Event.TheVariants.{Insert, Read}
 use Rattle.table_core.specs.declared.event.Entry.{Entry}
 use Rattle.table_core.specs.declared.call.Phase.{Phase}
 use Rattle.table_core.specs.declared.call.Phase.TheVariants.{Placed, Done}
@@ -36,15 +36,15 @@ placed w (x ∷ xs) = placed_at w x ++ placed (happens w x) xs
 
 -- Bags of values
 
--- the value of an insert that begins
-abbrev pub given_by : Option Act → List ℕ
-given_by (Some (Begins c)) = option_to_list c.value
-given_by _ = []
+-- the value of an insert that begins, as its event gives it
+abbrev pub given_by : Option Act → Event → List ℕ
+given_by (Some (Begins c)) (Insert n v h) = v ∷ []
+given_by _ x = []
 
 -- the values of the inserts that have begun, in the order of their starts
 abbrev pub given : World → List Event → List ℕ
 given w [] = []
-given w (x ∷ xs) = given_by (acts w x) ++ given (happens w x) xs
+given w (x ∷ xs) = given_by (acts w x) x ++ given (happens w x) xs
 
 abbrev pub handed_back : Told → List ℕ
 handed_back (ToldFound e v) = v ∷ []

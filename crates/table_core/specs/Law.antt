@@ -35,7 +35,7 @@ AsksBy l w c y = (e : Entry) → bucket_at w.table c.state ≡ Some e → e.bits
 abbrev pub CopiesBy : Law → World → ℕ → Type 0
 CopiesBy l w hash = (e : Entry) → next_copied w.table ≡ Some e → hash ≡ l.hash e.value
 
--- the answers that are used: those of a read or put of an insert, of a read of a look-up, and of a copy
+-- the answers that are used: those of a read or a granted put of an insert, of a read of a look-up, and of a copy
 abbrev pub UsesBy : Law → World → Call → Phase → Event → Type 0
 UsesBy l w c Probe (Read n y) = AsksBy l w c y
 UsesBy l w c AtEmpty (Put n y true) = AsksBy l w c y

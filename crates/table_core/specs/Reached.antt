@@ -77,7 +77,7 @@ abbrev pub look_ended : Table → CallState → Bool → Option Told
 look_ended t s true = shown_entry (bucket_at t s)
 look_ended t s false = Some ToldNone
 
--- what a call is told that ends in this phase by an answer
+-- what a call, other than a walk at a bucket, is told that ends in this phase by an answer that fits
 abbrev pub told_ended : Phase → Table → Call → Answer → Option Told
 told_ended LeaveRefused t c _ = refused c.value
 told_ended AskSize t c _ = by_outcome t c

@@ -39,10 +39,10 @@ entry_named (ToldFound e v) = Some e
 entry_named (ToldSome e) = Some e
 entry_named _ = None
 
--- the closure's yes that a read or a put carries
+-- the closure's yes that a read carries, or a put that is granted its memory
 abbrev pub says_yes : Event → Bool
 says_yes (Read n y) = y
-says_yes (Put n y granted) = y
+says_yes (Put n y true) = y
 says_yes _ = false
 
 -- an event of a call in this state says yes to an entry, whose bits are those of the call's hash
