@@ -6,6 +6,7 @@ mod CodeTold
 mod CodeTable
 mod CodeCalls
 mod CodeEntries
+mod CodeRuns
 mod Lists
 mod Rows
 mod Exact

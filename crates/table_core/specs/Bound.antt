@@ -1,8 +1,8 @@
 -- How the fast structures of the code stand for the machine's lists.
-use Rattle.std.specs.Prelude.{ℕ, suc, ◌*◌, ◌^◌, ◌==◌, ◌≡◌, ◌≤◌, if◌then◌else◌, Bool, true, false, Option, Some, None, List, [], ◌∷◌, ◌++◌, map, option_to_list}
+use Rattle.std.specs.Prelude.{ℕ, suc, ◌+◌, ◌*◌, ◌^◌, ◌==◌, ◌≡◌, ◌≤◌, ◌<◌, length, if◌then◌else◌, Bool, true, false, Option, Some, None, List, [], ◌∷◌, ◌++◌, map, option_to_list}
 use Rattle.table_core.specs.Bags.{weigh}
 use Rattle.std.specs.Option.{option_map}
-use Rattle.table_core.specs.Generations.{Gen, Build}
+use Rattle.table_core.specs.Generations.{Gen, Build, bucket, at_place}
 use Rattle.table_core.specs.Calls.{Call, holds_shared, holds_owned}
 use Rattle.table_core.specs.declared.event.Entry.{Entry}
 use Rattle.table_core.specs.declared.generation.Slot.{Slot}
@@ -10,6 +10,19 @@ use Rattle.table_core.specs.declared.generation.Slot.{Slot}
 -- an entry as a map keeps it, by its place
 abbrev pub entry_of : ℕ × Slot → Entry
 entry_of p = record { place = p.0; value = p.1.value; bits = p.1.bits }
+
+-- so many buckets from a place on, in turn, are set
+abbrev pub AllSet : Gen → ℕ → ℕ → Type 0
+AllSet g place n = (j : ℕ) → j < n → (e : Entry) × (bucket g.entries (at_place g.capacity place j) ≡ Some e)
+
+-- a run of so many buckets from a set one on: there are as many entries, and those after it are set too
+abbrev pub IsRun : ℕ → List Entry → ℕ → ℕ → Type 0
+IsRun capacity es place n = (1 ≤ n) × (n ≤ length es) × ((j : ℕ) → 1 ≤ j → j < n → (e : Entry) × (bucket es (at_place capacity place j) ≡ Some e))
+
+-- what each of these slots keeps is a run among es
+abbrev pub RunsHold : ℕ → List Entry → List (ℕ × Slot) → Type 0
+RunsHold capacity es [] = Unit {0}
+RunsHold capacity es (p ∷ ps) = IsRun capacity es p.0 p.1.run × RunsHold capacity es ps
 
 -- a capacity is a power of two up to 2^63
 abbrev pub IsCapacity : ℕ → Type 0

@@ -1,8 +1,8 @@
 //! One generation: its set buckets alone, so that memory goes with entries.
-ghost use Rattle.std.specs.Prelude.{◌≡◌, ◌<◌, ◌+◌, ◌%◌, None, map, length, IfOk};
+ghost use Rattle.std.specs.Prelude.{◌≡◌, ◌<◌, ◌≤◌, None, map, length, IfOk};
 ghost use Rattle.std.specs.Result.{OnOk, OnErr};
-ghost use Rattle.table_core.specs.Generations.{bucket, bits_of, fresh, fill, count, copy_in, first_empty};
-ghost use Rattle.table_core.specs.Bound.{IsCapacity, entry_of};
+ghost use Rattle.table_core.specs.Generations.{at_place, bucket, bits_of, fresh, fill, count, copy_in, first_empty};
+ghost use Rattle.table_core.specs.Bound.{IsCapacity, entry_of, AllSet};
 
 use crate::event::Entry;
 use std::alloc::{AllocError, Allocator};
@@ -14,6 +14,8 @@ use std::marker::Model;
 pub struct Slot {
     pub value: u64,
     pub bits: u64,
+    /// So many buckets from this one on, in turn, are known to be set; at least this one.
+    pub run: u64,
 }
 
 /// A generation of buckets: its capacity, its size, and its set buckets by their places. Its memory
@@ -28,13 +30,13 @@ pub struct Generation<A: Allocator + Copy> {
 impl<A: Allocator + Copy> Model for Generation<A> {
     ghost use Rattle.std.specs.Prelude.{◌≤◌, map, length};
     ghost use Rattle.table_core.specs.Generations.{Gen};
-    ghost use Rattle.table_core.specs.Bound.{entry_of, IsCapacity};
+    ghost use Rattle.table_core.specs.Bound.{entry_of, IsCapacity, RunsHold};
 
     ghost Value = { Gen };
 
     ghost view = { λ g. record { capacity = g.capacity; size = g.size; entries = map entry_of g.slots.entries } };
 
-    ghost invariant = { λ g. IsCapacity g.capacity × (g.size ≤ length g.slots.entries) };
+    ghost invariant = { λ g. IsCapacity g.capacity × (g.size ≤ length g.slots.entries) × RunsHold g.capacity (map entry_of g.slots.entries) g.slots.entries };
 }
 
 /// The eight bits of a hash that an entry carries.
@@ -61,13 +63,17 @@ fn entries_in<A: Allocator + Copy>(
         .collect(alloc)
 }
 
-/// The bucket after one, round the end.
-fn place_after(place: u64, capacity: u64) -> u64
+/// The bucket so many after one, round the end.
+fn place_after(place: u64, steps: u64, capacity: u64) -> u64
     requires { place < capacity }
-    ensures { result ≡ (place + 1) % capacity }
+    ensures { result ≡ at_place capacity place steps }
 {
-    let next = place + 1;
-    if next < capacity { next } else { 0 }
+    let left = capacity - place;
+    if steps < left {
+        place + steps
+    } else {
+        (steps - left) % capacity
+    }
 }
 
 impl<A: Allocator + Copy> Generation<A> {
@@ -135,6 +141,7 @@ impl<A: Allocator + Copy> Generation<A> {
             Slot {
                 value: entry.value,
                 bits: entry.bits,
+                run: 1,
             },
         )?;
         Ok(())
@@ -150,20 +157,49 @@ impl<A: Allocator + Copy> Generation<A> {
         self.size += 1;
     }
 
-    /// The first empty bucket from a hash's own on. It looks at the buckets in turn, at most at one
-    /// more than there are entries.
-    pub fn first_empty(&self, hash: u64) -> u64
-        ensures { result ≡ first_empty self.now hash }
+    /// How many buckets from this one on, in turn, are known to be set; 0 if it is empty.
+    fn known_run(&self, place: u64) -> u64
+        requires { place < self.now.capacity }
+        ensures set { AllSet self.now place result }
+        ensures few { result ≤ length self.now.entries }
+        ensures empty { result ≡ 0 → bucket self.now.entries place ≡ None }
+    {
+        match self.slots.get(&place) {
+            Some(slot) => slot.run,
+            None => 0,
+        }
+    }
+
+    /// Notes that so many buckets from this one on are set, for later searches.
+    fn note_run(&mut self, place: u64, run: u64)
+        requires some { 1 ≤ run }
+        requires few { run ≤ length self.old.entries }
+        requires set { AllSet self.old place run }
+        ensures { self.new ≡ self.old }
+    {
+        if let Some(slot) = self.slots.get_mut(&place) {
+            slot.run = run;
+        }
+    }
+
+    /// The first empty bucket from a hash's own on. Set buckets that earlier searches passed are passed in runs, and each
+    /// run that is passed takes in the next: no long run is looked through bucket by bucket again.
+    fn first_empty(&mut self, hash: u64) -> u64
+        requires { bucket self.old.entries (first_empty self.old hash) ≡ None }
+        ensures place { result ≡ first_empty self.old hash }
+        ensures same { self.new ≡ self.old }
     {
         let capacity = self.capacity();
         let mut place = hash % capacity;
-        for _set in 0..self.len() {
-            match self.at(place) {
-                None => return place,
-                Some(_) => {
-                    place = place_after(place, capacity);
-                }
+        for _pass in 0..self.len() {
+            let known = self.known_run(place);
+            if known == 0 {
+                return place;
             }
+            let next = place_after(place, known, capacity);
+            let run = known + self.known_run(next);
+            self.note_run(place, run);
+            place = place_after(place, run, capacity);
         }
         place
     }

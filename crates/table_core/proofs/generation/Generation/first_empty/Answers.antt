@@ -1,25 +1,44 @@
-use Rattle.std.proofs.Common.{◌≡◌, ◌-◌, ◌+◌, ◌%◌, ◌∙◌, ap, sym, suc, length, arith, add-one, Some, None}
-use Rattle.table_core.specs.Generations.{at_place, empty_from, bucket}
-use Rattle.table_core.proofs.CodeEntries.{empty_here, empty_further}
-use Rattle.table_core.proofs.Tracks.{place_after}
+use Rattle.std.proofs.Common.{◌≡◌, ◌∙◌, ◌+◌, ◌%◌, ◌≤◌, ap, sym, subst, arith, None, length}
+use Rattle.table_core.specs.Generations.{Gen, bucket}
+use Rattle.table_core.specs.Bound.{AllSet}
+use Rattle.table_core.proofs.CodeRuns.{known_runs, few_passed, ends_there, ends_last, passed_on}
 use Rattle.table_core.proofs.generation.Generation.first_empty.Goals as goal
 
-pub loop-set-preserved : goal.loop-set-preserved
-loop-set-preserved g c =
-    let h : bucket c.args.self.now.entries (at_place c.args.self.now.capacity c.args.hash c.loop-set._set) ≡ Some c.in-Some.field-0 =
-    sym (c.in-Some.ensures ∙ ap (bucket c.args.self.now.entries) c.loop-set.invariant.here) in
-    let n : suc (length c.args.self.now.entries - (c.loop-set._set + 1)) ≡ length c.args.self.now.entries - c.loop-set._set = omega arith in
+pub returns-then-known-eq0-clause-place : goal.returns-then-known-eq0-clause-place
+returns-then-known-eq0-clause-place g c =
+    ends_there c.args.self.now c.args.hash c.loop-pass.place c.loop-pass._pass c.requires c.loop-pass.invariant.passed
+    (subst (λ (g : Gen). bucket g.entries c.loop-pass.place ≡ None) c.loop-pass.invariant.same (c.known_run-known.ensures.empty c.if-known-eq0.true))
+
+pub overflow_add-run : goal.overflow_add-run
+overflow_add-run g c =
+    let all = known_runs c.args.self.now c.loop-pass.self _ c.loop-pass.place c.place_after-next.result c.known_run-known.result c.known_run.result c.loop-pass.invariant.same c.capacity-capacity.ensures.value c.place_after-next.ensures c.known_run-known.ensures.set c.known_run.ensures.set in
+    let few = few_passed c.args.self.now c.args.hash c.loop-pass.place c.loop-pass._pass _ c.requires c.loop-pass.invariant.passed all in
+    let len = c.len-pass-end.ensures in
+    record { fits = omega arith }
+
+pub note_run-requires-clause-few : goal.note_run-requires-clause-few
+note_run-requires-clause-few g c =
+    let all = known_runs c.args.self.now c.loop-pass.self _ c.loop-pass.place c.place_after-next.result c.known_run-known.result c.known_run.result c.loop-pass.invariant.same c.capacity-capacity.ensures.value c.place_after-next.ensures c.known_run-known.ensures.set c.known_run.ensures.set in
+    subst (λ (g : Gen). c.known_run-known.result + c.known_run.result ≤ length g.entries) (sym c.loop-pass.invariant.same)
+    (few_passed c.args.self.now c.args.hash c.loop-pass.place c.loop-pass._pass _ c.requires c.loop-pass.invariant.passed all)
+
+pub note_run-requires-clause-set : goal.note_run-requires-clause-set
+note_run-requires-clause-set g c =
+    subst (λ (g : Gen). AllSet g c.loop-pass.place (c.known_run-known.result + c.known_run.result)) (sym c.loop-pass.invariant.same)
+    (known_runs c.args.self.now c.loop-pass.self _ c.loop-pass.place c.place_after-next.result c.known_run-known.result c.known_run.result c.loop-pass.invariant.same c.capacity-capacity.ensures.value c.place_after-next.ensures c.known_run-known.ensures.set c.known_run.ensures.set)
+
+pub loop-pass-preserved : goal.loop-pass-preserved
+loop-pass-preserved g c =
+    let all = known_runs c.args.self.now c.loop-pass.self _ c.loop-pass.place c.place_after-next.result c.known_run-known.result c.known_run.result c.loop-pass.invariant.same c.capacity-capacity.ensures.value c.place_after-next.ensures c.known_run-known.ensures.set c.known_run.ensures.set in
+    let some = c.if-known-eq0.false in
     record {
-      here = c.place_after-place.ensures ∙ ap (λ n. (c.loop-set.place + 1) % n) c.capacity-capacity.ensures.value
-          ∙ ap (λ p. (p + 1) % c.args.self.now.capacity) c.loop-set.invariant.here ∙ place_after c.args.self.now.capacity c.args.hash c.loop-set._set;
-      left = ap (λ d. empty_from c.args.self.now.capacity c.args.self.now.entries c.args.hash d (length c.args.self.now.entries - (c.loop-set._set + 1))) (add-one c.loop-set._set)
-          ∙ empty_further c.args.self.now.capacity c.args.self.now.entries c.args.hash c.loop-set._set (length c.args.self.now.entries - (c.loop-set._set + 1)) c.in-Some.field-0 h
-          ∙ ap (empty_from c.args.self.now.capacity c.args.self.now.entries c.args.hash c.loop-set._set) n ∙ c.loop-set.invariant.left;
+      same = c.note_run.ensures ∙ c.loop-pass.invariant.same;
+      passed = passed_on c.args.self.now c.args.hash c.loop-pass.place c.loop-pass._pass _ c.place_after-place.result c.loop-pass.invariant.passed (omega arith) all
+          (c.place_after-place.ensures ∙ ap (λ n. (c.loop-pass.place + (c.known_run-known.result + c.known_run.result)) % n) c.capacity-capacity.ensures.value);
     }
 
-pub returns-in-None : goal.returns-in-None
-returns-in-None g c =
-    let h : bucket c.args.self.now.entries (at_place c.args.self.now.capacity c.args.hash c.loop-set._set) ≡ None =
-    sym (c.in-None.ensures ∙ ap (bucket c.args.self.now.entries) c.loop-set.invariant.here) in
-    c.loop-set.invariant.here ∙ sym (empty_here c.args.self.now.capacity c.args.self.now.entries c.args.hash c.loop-set._set (length c.args.self.now.entries - c.loop-set._set) h)
-    ∙ c.loop-set.invariant.left
+pub returns-clause-place : goal.returns-clause-place
+returns-clause-place g c =
+    let len = c.len-pass-end.ensures in
+    let done = c.loop-pass-test.false in
+    ends_last c.args.self.now c.args.hash c.loop-pass.place c.loop-pass._pass c.requires c.loop-pass.invariant.passed (omega arith)
