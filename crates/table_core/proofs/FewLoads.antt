@@ -21,7 +21,7 @@ use Rattle.table_core.proofs.Lists.{weigh-append, weigh-get, get-set, get-push, 
 use Rattle.table_core.proofs.Locks.{Locked, builders, is_building, built_count}
 use Rattle.std.proofs.lemmas.Bool.{eq-eqb, ltb-true, cases_eq}
 use Rattle.std.proofs.lemmas.Option.{slice_get_within}
-use Rattle.table_core.specs.Values.{InsertsLoadOnce}
+use Rattle.table_core.specs.Values.{LoadsOnce}
 use Rattle.table_core.proofs.Turns.{Turn, rests, opens, takes}
 use Rattle.table_core.proofs.Facts.{Tracked, Turned, wants_growth, SizesOk, placers, Inv}
 use Rattle.table_core.proofs.Standing.{last_number, length-place, length-change, pending_of}
@@ -231,5 +231,5 @@ module _ (f : ℕ) (inv : (s : List Event) → Inv (after f s) (placed (empty f)
     | inr y ↦ (let other : (d.number == n) ≡ false = other_number d.number n y in rw (← same_loads s x n (rw took (other_loaded d a n other))) one)
   ]
 
-  pub inserts_load_once : (s : List Event) (n g : ℕ) → InsertsLoadOnce f s n g
-  inserts_load_once s n g = by_snoc (λ s. count_of g (generations_loaded (empty f) s n) ≤ 1) (omega arith) (λ s x one. once_turn s x n g (turn_after f s x) refl one) s
+  pub loads_once : (s : List Event) (n g : ℕ) → LoadsOnce f s n g
+  loads_once s n g = by_snoc (λ s. count_of g (generations_loaded (empty f) s n) ≤ 1) (omega arith) (λ s x one. once_turn s x n g (turn_after f s x) refl one) s

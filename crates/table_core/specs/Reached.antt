@@ -21,9 +21,9 @@ pub record IsReached (w : World) : Type 0 where
   pub leads : after first schedule ≡ w
 
 -- whether a call with this number, or an insert of this value, may not begin
-abbrev pub is_taken : ℕ → Option ℕ → List Call → Bool
-is_taken n None calls = is_used n calls
-is_taken n (Some v) calls = is_used n calls || is_used_value v calls
+abbrev pub may_not_begin : ℕ → Option ℕ → List Call → Bool
+may_not_begin n None calls = is_used n calls
+may_not_begin n (Some v) calls = is_used n calls || is_used_value v calls
 
 -- the world with this call more, unless it may not begin
 abbrev pub begun : World → Bool → Call → World

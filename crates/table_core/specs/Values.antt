@@ -152,5 +152,5 @@ LookupsReadFew f s n h more =
     reads (empty f) (s ++ Lookup n h ∷ more) n ≤ length (placed (empty f) (s ++ Lookup n h ∷ more)) + 1
 
 -- a call loads each generation at most once
-abbrev pub InsertsLoadOnce : ℕ → List Event → ℕ → ℕ → Type 0
-InsertsLoadOnce f s n g = count_of g (generations_loaded (empty f) s n) ≤ 1
+abbrev pub LoadsOnce : ℕ → List Event → ℕ → ℕ → Type 0
+LoadsOnce f s n g = count_of g (generations_loaded (empty f) s n) ≤ 1

@@ -1,6 +1,6 @@
 //! Where a call stands, and what its events find.
 
-/// Where a call stands. The phase says which events have a row for it.
+/// Where a call stands. The phase says which events it can take.
 #[derive(Clone, Copy, Debug, PartialEq, Eq)]
 pub enum Phase {
     /// An insert wants the lock, shared with others.

@@ -1,5 +1,5 @@
 //! The calls that have begun, by number, with who holds the lock.
-ghost use Rattle.std.specs.Prelude.{◌≡◌, ℕ, nat_eq, ◌||◌, ◌≤◌, ◌<◌, ◌+◌, ◌^◌, ◌++◌, ◌∷◌, [], Option, Some, None, false, length, slice_set, vec_len, OnOk, OnErr, IfOk};
+ghost use Rattle.std.specs.Prelude.{◌≡◌, ℕ, nat_eq, ◌||◌, ◌≤◌, ◌<◌, ◌+◌, ◌^◌, ◌++◌, ◌∷◌, [], Option, Some, None, false, length, slice_set, vec_len, OnOk, OnErr};
 ghost use Rattle.std.specs.HashSet as set;
 ghost use Rattle.std.specs.List.{slice_get};
 ghost use Rattle.table_core.specs.Calls.{starts, is_used, is_value, is_used_value, is_owned, is_locked, holds_shared, holds_owned, Call as SpecCall};

@@ -1,4 +1,6 @@
 //! The events of schedules.
+ghost use Rattle.std.specs.Prelude.{◌≡◌, true};
+ghost use Rattle.table_core.specs.Machine.{number_of, in_range};
 
 /// One event of a schedule: what a call with this number does next, and what its closure and its
 /// memory answer it.
@@ -75,6 +77,32 @@ pub enum Event {
     Show {
         call: u64,
     },
+}
+
+impl Event {
+    /// The number of the call that it is of.
+    pub fn call(self) -> u64
+        ensures number { result ≡ number_of self }
+        ensures in_range { in_range self ≡ true }
+    {
+        match self {
+            Event::Insert { call, .. }
+            | Event::Lookup { call, .. }
+            | Event::Len { call }
+            | Event::Walk { call }
+            | Event::Share { call }
+            | Event::Own { call }
+            | Event::Free { call }
+            | Event::Load { call }
+            | Event::Read { call, .. }
+            | Event::Put { call, .. }
+            | Event::Add { call }
+            | Event::Size { call }
+            | Event::Check { call, .. }
+            | Event::Copy { call, .. }
+            | Event::Show { call } => call,
+        }
+    }
 }
 
 /// What a set bucket holds: its place, a value, and eight bits of the hash of its insert.

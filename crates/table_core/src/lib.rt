@@ -14,3 +14,9 @@ mod table;
 #[cfg(test)]
 mod tests;
 pub mod theorems;
+
+pub use call::{Answer, CallState, Outcome, Phase};
+pub use deciding::decide;
+pub use event::{Entry, Event};
+pub use reply::{Finished, Reply};
+pub use state::{NoMemory, State, run, run_with};

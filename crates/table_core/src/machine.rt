@@ -6,9 +6,9 @@ ghost use Rattle.table_core.specs.Replies.{told_of};
 ghost use Rattle.table_core.specs.Generations.{IsFirst, next_copied};
 ghost use Rattle.table_core.specs.History.{buckets};
 ghost use Rattle.table_core.specs.Calls.{Call as SpecCall, decide as after_answer, starts, fits, holds_shared, holds_owned};
-ghost use Rattle.table_core.specs.Machine.{empty, happens, reply, finds, takes_unless, holds, read, exchanged, sized, copies, shows, frees, walked_gen, with_entry, call_after, bucket_at, refused, by_outcome, by_failure, told, place, changed, number_of, in_range};
+ghost use Rattle.table_core.specs.Machine.{empty, happens, reply, finds, takes_unless, holds, read, exchanged, sized, copies, shows, frees, walked_gen, with_entry, call_after, bucket_at, refused, by_outcome, by_failure, told, place, changed};
 ghost use Rattle.table_core.specs.Openings.{opening};
-ghost use Rattle.table_core.specs.Reached.{IsReached, CanChange, told_placed, told_found, is_taken, begun, moved, told_to, walked_entry, list_left, list_told, look_ended, told_ended};
+ghost use Rattle.table_core.specs.Reached.{IsReached, CanChange, told_placed, told_found, may_not_begin, begun, moved, told_to, walked_entry, list_left, list_told, look_ended, told_ended};
 
 use crate::call::{Answer, CallState, Outcome, Phase};
 use crate::calls::{Call, Calls};
@@ -77,20 +77,14 @@ fn take_unless(held: bool) -> Option<Answer>
 fn tell_refused<A: Allocator + Copy>(value: Option<u64>) -> Option<Reply<A>>
     ensures { option_map told_of result ≡ refused value }
 {
-    match value {
-        Some(value) => Some(Reply::Refused(value)),
-        None => None,
-    }
+    Some(Reply::Refused(value?))
 }
 
 /// What an insert is told that has placed its value.
 fn tell_placed<A: Allocator + Copy>(value: Option<u64>) -> Option<Reply<A>>
     ensures { option_map told_of result ≡ told_placed value }
 {
-    match value {
-        Some(value) => Some(Reply::Placed(value)),
-        None => None,
-    }
+    Some(Reply::Placed(value?))
 }
 
 /// What an insert is told that has accepted this entry.
@@ -306,12 +300,14 @@ impl<A: Allocator + Copy> Machine<A> {
         }
     }
 
+    /// What a read finds at the call's bucket.
     fn read(&self, state: CallState, accepted: bool) -> Answer
         ensures { result ≡ read (bucket_at self.now.table state) state.hash accepted }
     {
         read_bucket(bucket_of(&self.table, state), state.hash, accepted)
     }
 
+    /// What an exchange finds there.
     fn put(&self, state: CallState, accepted: bool, granted: bool) -> Answer
         ensures { result ≡ (if granted then exchanged (bucket_at self.now.table state) state.hash accepted else Answer.MemoryRefused) }
     {
@@ -322,6 +318,7 @@ impl<A: Allocator + Copy> Machine<A> {
         }
     }
 
+    /// What a release of the lock finds.
     fn free(&self, state: CallState) -> Answer
         ensures { Some result ≡ frees self.now state }
     {
@@ -330,24 +327,23 @@ impl<A: Allocator + Copy> Machine<A> {
         }
     }
 
+    /// What a look at the size of the walked generation finds.
     fn size(&self, state: CallState) -> Option<Answer>
         ensures { result ≡ sized (walked_gen self.now.table state) }
     {
-        match self.table.size(state.walked) {
-            Some(size) => Some(Answer::Sized { size }),
-            None => None,
-        }
+        let size = self.table.size(state.walked)?;
+        Some(Answer::Sized { size })
     }
 
+    /// Whether an entry is left to copy.
     fn copy(&self) -> Option<Answer>
         ensures { result ≡ copies (next_copied self.now.table) }
     {
-        match self.table.next() {
-            Some(_) => Some(Answer::Copied),
-            None => None,
-        }
+        let _next = self.table.next()?;
+        Some(Answer::Copied)
     }
 
+    /// Whether all entries are copied.
     fn show(&self) -> Option<Answer>
         ensures { result ≡ shows (next_copied self.now.table) }
     {
@@ -454,10 +450,10 @@ impl<A: Allocator + Copy> Machine<A> {
     /// A call begins, unless its number or its value is used.
     fn begin(&mut self, number: u64, opening: Opening) -> Result<(), AllocError>
         requires { (holds_shared opening.phase ≡ false) × (holds_owned opening.phase ≡ false) }
-        ensures ok { OnOk result (self.new ≡ begun self.old (is_taken number opening.value self.old.calls) (starts number opening.value opening.phase opening.hash)) }
+        ensures ok { OnOk result (self.new ≡ begun self.old (may_not_begin number opening.value self.old.calls) (starts number opening.value opening.phase opening.hash)) }
         ensures err { OnErr result (self.new ≡ self.old) }
     {
-        if self.is_taken(number, opening.value) {
+        if self.may_not_begin(number, opening.value) {
             return Ok(());
         }
         self.calls.begin(
@@ -469,8 +465,9 @@ impl<A: Allocator + Copy> Machine<A> {
         )
     }
 
-    fn is_taken(&self, number: u64, value: Option<u64>) -> bool
-        ensures { result ≡ is_taken number value self.now.calls }
+    /// Whether a call of this number, with this value, can't begin: one of them was used.
+    fn may_not_begin(&self, number: u64, value: Option<u64>) -> bool
+        ensures { result ≡ may_not_begin number value self.now.calls }
     {
         match value {
             Some(value) => self.calls.is_used(number) || self.calls.is_used_value(value),
@@ -534,30 +531,4 @@ fn opening_of(event: Event) -> Option<Opening>
         _ => return None,
     };
     Some(Opening { value, phase, hash })
-}
-
-impl Event {
-    /// The number of the call that it is of.
-    pub fn call(self) -> u64
-        ensures number { result ≡ number_of self }
-        ensures in_range { in_range self ≡ true }
-    {
-        match self {
-            Event::Insert { call, .. }
-            | Event::Lookup { call, .. }
-            | Event::Len { call }
-            | Event::Walk { call }
-            | Event::Share { call }
-            | Event::Own { call }
-            | Event::Free { call }
-            | Event::Load { call }
-            | Event::Read { call, .. }
-            | Event::Put { call, .. }
-            | Event::Add { call }
-            | Event::Size { call }
-            | Event::Check { call, .. }
-            | Event::Copy { call, .. }
-            | Event::Show { call } => call,
-        }
-    }
 }

@@ -4,7 +4,7 @@ ghost use Rattle.std.specs.Option.{option_map};
 ghost use Rattle.table_core.specs.Bags.{weigh};
 ghost use Rattle.table_core.specs.Generations.{IsFirst, Gen, Build, bucket, first_empty, gen_of, last_of, bucket_in, current, is_current, next_copied, fill, count, change, next_capacity, entries_of};
 ghost use Rattle.table_core.specs.Bound.{IsCapacity};
-ghost use Rattle.table_core.specs.Machine.{loads, loaded, checked, begin_growth, copy_next, show_built};
+ghost use Rattle.table_core.specs.Machine.{loads, checked, begin_growth, copy_next, show_built};
 ghost use Rattle.table_core.specs.History.{buckets};
 
 use crate::call::Answer;

@@ -5,7 +5,7 @@ use Rattle.table_core.proofs.Refusals.{refusal_causes}
 use Rattle.table_core.proofs.Lengths.{lengths_between}
 use Rattle.table_core.proofs.Walks.{walks_whole}
 use Rattle.table_core.proofs.FewReads.{lookups_read_few}
-use Rattle.table_core.proofs.FewLoads.{inserts_load_once}
+use Rattle.table_core.proofs.FewLoads.{loads_once}
 use Rattle.table_core.specs.Machine.{after}
 use Rattle.table_core.proofs.Turns.{slot}
 use Rattle.table_core.proofs.Contents.{nothing_built}
@@ -44,5 +44,5 @@ returns-clause-walks_whole c f s x n list first = walks_whole f (inv f first) s 
 pub returns-clause-lookups_read_few : goal.returns-clause-lookups_read_few
 returns-clause-lookups_read_few c f s n h more first = lookups_read_few f (inv f first) s n h more
 
-pub returns-clause-inserts_load_once : goal.returns-clause-inserts_load_once
-returns-clause-inserts_load_once c f s n g first = inserts_load_once f (inv f first) s n g
+pub returns-clause-loads_once : goal.returns-clause-loads_once
+returns-clause-loads_once c f s n g first = loads_once f (inv f first) s n g
