@@ -26,6 +26,7 @@ use Rattle.table_core.proofs.Facts.{is_placed, placers, Inv}
 use Rattle.table_core.proofs.Contents.{turn_grew, fit_at}
 use Rattle.table_core.proofs.Sizes.{one_value, begin_placed}
 use Rattle.table_core.proofs.Pasts.{turn_after, placed_snoc, added_snoc, by_snoc, taken_now, taken_later}
+use Rattle.table_core.proofs.Counted.{placed_are_counted}
 use Rattle.std.proofs.lemmas.List.{length-append}
 
 -- a value that is placed is counted by an add, or its call has still to count it
@@ -186,6 +187,7 @@ module _ (f : ℕ) (inv : (s : List Event) → Inv (after f s) (placed (empty f)
     at = taken_now f s x n c a took nu;
     loads = l;
     least = omega (arith, added_none f inv s e);
+    told = omega (arith, added_none f inv s e, placed_are_counted f s);
     most = omega arith;
   }
 
@@ -198,6 +200,7 @@ module _ (f : ℕ) (inv : (s : List Event) → Inv (after f s) (placed (empty f)
         at = taken_later f s c.number m.at x;
         loads = m.loads;
         least = omega (arith, m.least, ap (λ (g : Gen). g.size) same);
+        told = omega (arith, m.least, ap (λ (g : Gen). g.size) same, placed_are_counted f m.at.before);
         most = omega (arith, small, ap length (placed_snoc f s x), length-append (placed (empty f) s) (placed_by (acts (after f s) x)));
       })
 

@@ -26,6 +26,7 @@ mod Invariant
 mod Lawful
 mod Members
 mod Right
+mod Counted
 mod Lengths
 mod Walks
 mod FewReads

@@ -2,7 +2,7 @@
 use Rattle.std.specs.Prelude.{ℕ, ◌+◌, ◌==◌, ◌&&◌, ◌||◌, ◌≡◌, if◌then◌else◌, Bool, true, false, Option, Some, List, [], ◌∷◌, ◌++◌, map, option_to_list}
 use Rattle.std.specs.List.{flat_map}
 use Rattle.table_core.specs.Bags.{weigh}
-use Rattle.table_core.specs.Replies.{Told, ToldFound, ToldRefused, Reply}
+use Rattle.table_core.specs.Replies.{Told, ToldPlaced, ToldFound, ToldRefused, Reply}
 use Rattle.table_core.specs.Generations.{Table, current, entries_of}
 use Rattle.table_core.specs.Calls.{Call}
 use Rattle.table_core.specs.Machine.{World, number_of, Act, Begins, Goes, acts, happens, reply, after, bucket_at}
@@ -88,6 +88,14 @@ added_by _ = 0
 abbrev pub added : World → List Event → ℕ
 added w [] = 0
 added w (x ∷ xs) = added_by (acts w x) + added (happens w x) xs
+
+-- the inserts that were told Placed
+abbrev pub says_placed : Told → ℕ
+says_placed (ToldPlaced v) = 1
+says_placed _ = 0
+
+abbrev pub placed_told : List Reply → ℕ
+placed_told rs = weigh (λ r. says_placed r.told) rs
 
 -- the reads that call n took
 abbrev pub is_read : Event → Bool

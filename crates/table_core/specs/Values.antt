@@ -5,7 +5,7 @@ use Rattle.table_core.specs.Replies.{Told, ToldPlaced, ToldFound, ToldRefused, T
 use Rattle.table_core.specs.Generations.{Gen, bits_of, current}
 use Rattle.table_core.specs.Calls.{Call, call_numbered, holds_shared}
 use Rattle.table_core.specs.Machine.{empty, Begins, acts, after, reply}
-use Rattle.table_core.specs.History.{replies, placed, given, back, kept, running, buckets, added, reads, generations_loaded, beginnings, TakenEvent, bucket_then, has_later}
+use Rattle.table_core.specs.History.{replies, placed, given, back, kept, running, buckets, added, placed_told, reads, generations_loaded, beginnings, TakenEvent, bucket_then, has_later}
 use Rattle.table_core.specs.declared.event.Event.{Event}
 use Rattle.table_core.specs.declared.event.Event.TheVariants.{Insert, Lookup, Len, Walk, Load, Read, Put, Check}
 use Rattle.table_core.specs.declared.event.Entry.{Entry}
@@ -112,15 +112,20 @@ RefusalCauses f s x n v = Ends f s x (record { call = n; told = ToldRefused v })
 
 -- Lengths and walks
 
--- a length lies between the adds taken at its load and what is placed at its end
+-- a length lies between the adds taken at its load and what is placed at its end, and is at least the number of inserts told Placed before its load
 pub record IsBetween (f : ℕ) (s : List Event) (n k : ℕ) : Type 0 where
   pub at : TakenEvent f s n
   pub loads : at.event ≡ Load n
   pub least : added (empty f) at.before ≤ k
+  pub told : placed_told (replies (empty f) at.before) ≤ k
   pub most : k ≤ length (placed (empty f) s)
 
 abbrev pub LengthsBetween : ℕ → List Event → Event → ℕ → ℕ → Type 0
 LengthsBetween f s x n k = Ends f s x (record { call = n; told = ToldLen k }) → IsBetween f (s ++ x ∷ []) n k
+
+-- an insert is counted before it is told Placed: no more are told so than adds were taken
+abbrev pub PlacedAreCounted : ℕ → List Event → Type 0
+PlacedAreCounted f s = placed_told (replies (empty f) s) ≤ added (empty f) s
 
 -- a walk holds no value twice, each that was placed at its load, and only values placed at its end
 pub record IsWholeWalk (f : ℕ) (s : List Event) (n : ℕ) (list : List ℕ) : Type 0 where

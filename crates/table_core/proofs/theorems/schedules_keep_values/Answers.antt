@@ -3,6 +3,7 @@ use Rattle.table_core.proofs.OwnAnswers.{own_answers}
 use Rattle.table_core.proofs.ToldOnce.{told_once}
 use Rattle.table_core.proofs.Refusals.{refusal_causes}
 use Rattle.table_core.proofs.Lengths.{lengths_between}
+use Rattle.table_core.proofs.Counted.{placed_are_counted}
 use Rattle.table_core.proofs.Walks.{walks_whole}
 use Rattle.table_core.proofs.FewReads.{lookups_read_few}
 use Rattle.table_core.proofs.FewLoads.{loads_once}
@@ -37,6 +38,9 @@ returns-clause-refusal_causes c f s x n v first = refusal_causes f (inv f first)
 
 pub returns-clause-lengths_between : goal.returns-clause-lengths_between
 returns-clause-lengths_between c f s x n k first = lengths_between f (inv f first) s x n k
+
+pub returns-clause-placed_are_counted : goal.returns-clause-placed_are_counted
+returns-clause-placed_are_counted c f s first = placed_are_counted f s
 
 pub returns-clause-walks_whole : goal.returns-clause-walks_whole
 returns-clause-walks_whole c f s x n list first = walks_whole f (inv f first) s x n list
