@@ -40,3 +40,4 @@ mod Histories
 mod HistoryRuns
 mod OneHistory
 mod ToldOnce
+mod ToldAtEnd
