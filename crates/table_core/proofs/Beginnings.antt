@@ -4,7 +4,7 @@ use Rattle.std.specs.Prelude.{◌==◌}
 use Rattle.std.specs.List.{slice_get}
 use Rattle.table_core.specs.Replies.{Told, ToldPlaced, ToldFound, ToldRefused, ToldSome, ToldNone, ToldLen, ToldWalk, Reply}
 use Rattle.table_core.specs.Generations.{Table, bucket_in}
-use Rattle.table_core.specs.Calls.{Call, starts}
+use Rattle.table_core.specs.Calls.{Call, starts, is_done}
 use Rattle.table_core.specs.Machine.{World, empty, walked_gen, refused, found_entry, told_of_outcome, Act, acts, after, run}
 use Rattle.table_core.specs.History.{begun_by, beginnings}
 use Rattle.table_core.specs.Steps.{Row, leaves_refused, small, ends, ends_failed, gives_up, looks_none, look_empty, look_meets, look_turns, len_none, len_size, walk_none, walk_skips_last, walk_takes_last, Opens, opens_insert, opens_lookup, opens_len, opens_walk, left}
@@ -18,7 +18,6 @@ use Rattle.table_core.specs.declared.call.Outcome.{Outcome}
 use Rattle.table_core.specs.declared.call.Outcome.TheVariants.{Pending, New, Existing}
 use Rattle.table_core.specs.declared.call.Answer.{Answer}
 use Rattle.table_core.specs.Values.{MayTell, IsOwn}
-use Rattle.table_core.specs.Lists.{is_done}
 use Rattle.table_core.proofs.Lists.{get-set, get-push}
 use Rattle.table_core.proofs.Turns.{Turn, rests, opens, takes}
 use Rattle.table_core.proofs.Numbers.{unused_at}

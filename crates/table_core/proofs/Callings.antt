@@ -4,9 +4,9 @@ use Rattle.std.specs.Prelude.{◌==◌, if◌then◌else◌, slice_set, option_t
 use Rattle.std.specs.List.{slice_get, find}
 use Rattle.table_core.specs.Replies.{Told, Reply}
 use Rattle.table_core.specs.Generations.{Table, IsFirst}
-use Rattle.table_core.specs.Calls.{Call, starts}
+use Rattle.table_core.specs.Calls.{Call, starts, is_done}
 use Rattle.table_core.specs.Machine.{World, empty, Act, Begins, Goes, acts, happens, reply_to, reply_by, reply, run, after}
-use Rattle.table_core.specs.History.{replies, answers_so, has_later}
+use Rattle.table_core.specs.History.{replies, fate, answers_so, has_later}
 use Rattle.table_core.specs.Steps.{Row, shares, leaves_refused, small, ends, ends_failed, gives_up, looks_none, look_empty, look_meets, look_turns, len_none, len_size, walk_none, walk_skips_last, walk_takes_last, left}
 use Rattle.table_core.specs.declared.event.Event.{Event}
 use Rattle.table_core.specs.declared.call.CallState.{CallState}
@@ -16,7 +16,6 @@ use Rattle.table_core.proofs.Lists.{get-set_same, get-set_other, get-push_before
 use Rattle.std.proofs.Common.{append_assoc}
 use Rattle.std.proofs.lemmas.Bool.{eq-eqb, eqb-true}
 use Rattle.std.specs.Option.{is_some}
-use Rattle.table_core.specs.Lists.{fate, is_done}
 use Rattle.table_core.proofs.Turns.{Turn, rests, opens, takes}
 use Rattle.table_core.proofs.Pasts.{append-none, run_append, after_snoc, turn_after}
 use Rattle.table_core.proofs.Standing.{fitting, CallsOk}

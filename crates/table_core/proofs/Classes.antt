@@ -5,7 +5,7 @@ use Rattle.std.specs.List.{slice_get, list_any}
 use Rattle.table_core.specs.Bags.{weigh}
 use Rattle.table_core.specs.Replies.{Told, ToldFound, ToldRefused, Reply}
 use Rattle.table_core.specs.Generations.{Gen, Table, IsFirst, last_of, gen_of, bucket_in, is_current}
-use Rattle.table_core.specs.Calls.{Call, starts, is_pending}
+use Rattle.table_core.specs.Calls.{Call, starts, is_done, is_pending}
 use Rattle.table_core.specs.Machine.{World, empty, walked_gen, refused, told_of_outcome, told, Act, Begins, acts, reply_to, reply, after}
 use Rattle.table_core.specs.History.{replies, placed_by, placed, given, handed_back, back, kept, runs, running}
 use Rattle.table_core.specs.Steps.{Row, reads_empty, memory_refused, leaves_refused, small, ends, ends_failed, gives_up, Opens, opens_insert, opens_lookup, opens_len, opens_walk, left}
@@ -24,7 +24,7 @@ use Rattle.std.specs.List.{list_all}
 use Rattle.std.proofs.lemmas.Bool.{eqb-true}
 use Rattle.std.proofs.lemmas.List.{append_assoc}
 use Rattle.table_core.specs.Law.{Law, accepts as accepts_value, IsLawful}
-use Rattle.table_core.specs.Lists.{is_refusal, NoneRefusedInVain, is_done, Classes, SameClasses, passes as one_if}
+use Rattle.table_core.specs.Lists.{is_refusal, NoneRefusedInVain, Classes, SameClasses, passes as one_if}
 use Rattle.table_core.proofs.Turns.{Turn, rests, opens, takes}
 use Rattle.table_core.proofs.Standing.{stands, pending_of}
 use Rattle.table_core.proofs.Facts.{Within, probing, wants_growth, is_asking, LawOk, Inv}

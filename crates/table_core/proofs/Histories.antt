@@ -5,7 +5,7 @@ use Rattle.table_core.specs.Replies.{Told, ToldPlaced, ToldLen, ToldWalk, Reply}
 use Rattle.table_core.specs.Generations.{Table, IsFirst}
 use Rattle.table_core.specs.Calls.{Call, is_pending}
 use Rattle.table_core.specs.Machine.{World, empty, bucket_at, told_of_outcome, Goes, acts, happens, reply, run, after}
-use Rattle.table_core.specs.History.{replies, placed_by, placed, has_later}
+use Rattle.table_core.specs.History.{replies, fate, placed_by, placed, has_later}
 use Rattle.table_core.specs.Steps.{Row, shares, puts, leaves_refused, small, ends, ends_failed, gives_up, looks_none, look_empty, look_meets, look_turns, len_none, len_size, walk_none, walk_skips_last, walk_takes_last}
 use Rattle.table_core.specs.declared.event.Event.{Event}
 use Rattle.table_core.specs.declared.call.CallState.{CallState}
@@ -20,7 +20,7 @@ use Rattle.std.proofs.Common.{append_assoc}
 use Rattle.std.specs.Option.{is_some}
 use Rattle.table_core.specs.ListObject.{Answers}
 use Rattle.table_core.specs.Law.{Law, IsLawful}
-use Rattle.table_core.specs.Lists.{asked, answered, is_list_reply, fate, is_moment, may_be_refused, is_refusal, IsRight}
+use Rattle.table_core.specs.Lists.{asked, answered, is_list_reply, is_moment, may_be_refused, is_refusal, IsRight}
 use Rattle.table_core.proofs.Pasts.{after_snoc, has_later_append, placed_snoc}
 use Rattle.table_core.proofs.Standing.{fitting, stands, Each, of_each, implies, imply, pending_of}
 use Rattle.table_core.proofs.Facts.{in_table, probing, is_asking}

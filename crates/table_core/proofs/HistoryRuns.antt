@@ -6,7 +6,7 @@ use Rattle.table_core.specs.Replies.{Told, ToldPlaced, Reply}
 use Rattle.table_core.specs.Generations.{Table, IsFirst}
 use Rattle.table_core.specs.Calls.{Call, to}
 use Rattle.table_core.specs.Machine.{World, empty, Act, Begins, Goes, acts, happens, reply_to, reply, run, after}
-use Rattle.table_core.specs.History.{replies, placed_by, placed_at, placed, has_later}
+use Rattle.table_core.specs.History.{replies, fate, placed_by, placed_at, placed, has_later}
 use Rattle.table_core.specs.Steps.{Row, shares, puts, left}
 use Rattle.table_core.specs.declared.event.Event.{Event}
 use Rattle.table_core.specs.declared.call.CallState.{CallState}
@@ -19,7 +19,7 @@ use Rattle.std.proofs.Common.{append_assoc}
 use Rattle.std.proofs.lemmas.Bool.{eqb-true}
 use Rattle.table_core.specs.ListObject.{Answers, IsListRun}
 use Rattle.table_core.specs.Law.{Law, IsLawful}
-use Rattle.table_core.specs.Lists.{asked, answered, fate, placed_here, stands_here, history_at, history, is_moment, may_be_refused, is_refusal}
+use Rattle.table_core.specs.Lists.{asked, answered, placed_here, stands_here, history_at, history, is_moment, may_be_refused, is_refusal}
 use Rattle.table_core.proofs.Pasts.{append-none, after_snoc, placed_snoc}
 use Rattle.table_core.proofs.Facts.{in_table}
 use Rattle.table_core.proofs.Contents.{fit_at}

@@ -42,3 +42,4 @@ mod Histories
 mod HistoryRuns
 mod OneHistory
 mod ToldOnce
+mod ToldAtEnd

@@ -7,7 +7,7 @@ use Rattle.table_core.specs.Replies.{ToldPlaced, Reply}
 use Rattle.table_core.specs.Generations.{IsFirst}
 use Rattle.table_core.specs.Calls.{Call, is_used}
 use Rattle.table_core.specs.Machine.{World, empty, Act, Begins, Goes, acts, happens, reply, run, after}
-use Rattle.table_core.specs.History.{replies, placed_by, placed, has_later}
+use Rattle.table_core.specs.History.{replies, fate, placed_by, placed, has_later}
 use Rattle.table_core.specs.Steps.{left}
 use Rattle.table_core.specs.declared.event.Event.{Event}
 use Rattle.table_core.specs.declared.call.Phase.{Phase}
@@ -19,7 +19,7 @@ use Rattle.std.specs.Prelude.{Contains}
 use Rattle.std.proofs.Common.{append_assoc}
 use Rattle.std.proofs.lemmas.Bool.{eq-eqb, eqb-true}
 use Rattle.table_core.specs.Law.{Law, IsLawful}
-use Rattle.table_core.specs.Lists.{is_list_reply, fate, placed_here, told_here, stands_here, history_at, history, is_moment, may_be_refused, is_refusal, IsRight, HasPlaced, OneHistory, InOrder}
+use Rattle.table_core.specs.Lists.{is_list_reply, placed_here, told_here, stands_here, history_at, history, is_moment, may_be_refused, is_refusal, IsRight, HasPlaced, OneHistory, InOrder}
 use Rattle.table_core.proofs.Pasts.{after_snoc, has_later_append}
 use Rattle.table_core.proofs.Invariant.{inv}
 use Rattle.table_core.proofs.Members.{Is, is_left, is_right, is_either, in_of, contains_of}

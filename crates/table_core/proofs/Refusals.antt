@@ -5,7 +5,7 @@ use Rattle.std.specs.List.{slice_get}
 use Rattle.table_core.specs.Bags.{weigh, count_of}
 use Rattle.table_core.specs.Replies.{Told, ToldRefused, Reply}
 use Rattle.table_core.specs.Generations.{Gen, Table, current, bucket_in}
-use Rattle.table_core.specs.Calls.{Call, starts, to}
+use Rattle.table_core.specs.Calls.{Call, starts, is_done, to}
 use Rattle.table_core.specs.Machine.{World, empty, walked_gen, refused, found_entry, told_of_outcome, Act, Goes, acts, after}
 use Rattle.table_core.specs.History.{replies, placed, picks, TakenEvent, answers_so, has_later}
 use Rattle.table_core.specs.Steps.{Row, memory_refused, leaves_refused, small, fails_first, fails_largest, fails_refused, ends, ends_failed, gives_up, Opens, opens_insert, left}
@@ -33,7 +33,6 @@ use Rattle.table_core.proofs.Walks.{mark, none_of, picked_own}
 use Rattle.table_core.proofs.FewReads.{other_number}
 use Rattle.table_core.proofs.OwnAnswers.{reply_by_row}
 use Rattle.table_core.proofs.Pasts.{turn_after, by_snoc, by_snoc_from, taken_now, taken_later, after_taken, later_snoc}
-use Rattle.table_core.specs.Lists.{is_done}
 use Rattle.table_core.proofs.Callings.{row_not_done}
 use Rattle.table_core.proofs.Truth.{and-false}
 

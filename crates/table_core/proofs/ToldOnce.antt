@@ -16,7 +16,7 @@ use Rattle.table_core.proofs.Callings.{Has, IsDone, done_kept, has_after, done_s
 use Rattle.table_core.proofs.OneHistory.{in_replies, counts, count_none, count_few}
 
 -- a call that was told something is done
-done_after : (f : ℕ) → IsFirst f → (s : List Event) (r : Reply) → Is r (replies (empty f) s) → Has IsDone (after f s) r.call
+pub done_after : (f : ℕ) → IsFirst f → (s : List Event) (r : Reply) → Is r (replies (empty f) s) → Has IsDone (after f s) r.call
 done_after f h s r i =
     let g = in_replies s (empty f) r i in
     let all : Has IsDone (after f ((g.before ++ g.event ∷ []) ++ g.rest)) r.call = has_after IsDone done_kept f h (g.before ++ g.event ∷ []) g.rest r.call (reply_ends f g.before g.event r g.told) in

@@ -14,6 +14,12 @@ pub not_both_ways : (b : Bool) → not b ≡ true → b ≡ true → ⊥
 not_both_ways true h k = cc
 not_both_ways false h k = cc
 
+pub by_both : (a b : Bool) → (a ≡ true → b ≡ true) → (b ≡ true → a ≡ true) → a ≡ b
+by_both true true f g = refl
+by_both true false f g = absurd (let z : false ≡ true = f refl in cc)
+by_both false true f g = g refl
+by_both false false f g = refl
+
 pub and_both : (a b : Bool) → (a && b) ≡ true → (a ≡ true) × (b ≡ true)
 and_both true true h = (refl, refl)
 and_both true false h = absurd (cc)

@@ -44,6 +44,16 @@ abbrev pub replaced : Call → List Call → List Call
 replaced d [] = []
 replaced d (c ∷ calls) = if c.number == d.number then d ∷ calls else c ∷ replaced d calls
 
+-- whether a call has ended
+abbrev pub is_done : Phase → Bool
+is_done Done = true
+is_done _ = false
+
+-- a call that is there, and has ended
+abbrev pub is_finished : Option Call → Bool
+is_finished None = false
+is_finished (Some c) = is_done c.state.phase
+
 -- Locks: who holds the lock is read off the phases
 
 abbrev pub holds_shared : Phase → Bool

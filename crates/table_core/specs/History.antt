@@ -1,6 +1,6 @@
 -- What the calls of a schedule did, and what they were told.
 use Rattle.std.specs.Prelude.{ℕ, ◌+◌, ◌==◌, ◌&&◌, ◌||◌, ◌≡◌, if◌then◌else◌, Bool, true, false, Option, Some, List, [], ◌∷◌, ◌++◌, map, option_to_list}
-use Rattle.std.specs.List.{flat_map}
+use Rattle.std.specs.List.{find, flat_map}
 use Rattle.table_core.specs.Bags.{weigh}
 use Rattle.table_core.specs.Replies.{Told, ToldPlaced, ToldFound, ToldRefused, Reply}
 use Rattle.table_core.specs.Generations.{Table, current, entries_of}
@@ -20,6 +20,10 @@ use Rattle.table_core.specs.declared.call.Answer.TheVariants.{Loaded, Won, Count
 abbrev pub replies : World → List Event → List Reply
 replies w [] = []
 replies w (x ∷ xs) = option_to_list (reply w x) ++ replies (happens w x) xs
+
+-- what call n is told in a schedule
+abbrev pub fate : World → List Event → ℕ → Option Reply
+fate w s n = find (λ r. r.call == n) (replies w s)
 
 -- the value whose exchange succeeds
 abbrev pub placed_by : Option Act → List ℕ

@@ -1,21 +1,21 @@
 -- What holds of every lawful schedule: it is a growing list without equal entries.
 use Rattle.std.specs.Prelude.{ℕ, ◌==◌, ◌&&◌, ◌≡◌, ◌≢◌, ◌≤◌, ◌⊎◌, if◌then◌else◌, Bool, true, false, not, Option, Some, None, List, [], ◌∷◌, ◌++◌, map, Contains}
-use Rattle.std.specs.List.{list_any, list_all, find}
+use Rattle.std.specs.List.{list_any, list_all}
 use Rattle.table_core.specs.ListObject.{ListCall, ListReply, Answers, IsListRun}
 use Rattle.table_core.specs.ListObject.{Insert as AskInsert, Lookup as AskLookup, Length as AskLength, Walk as AskWalk}
 use Rattle.table_core.specs.ListObject.{Placed as AnswerPlaced, Found as AnswerFound, Refused as AnswerRefused, Shown as AnswerShown, Absent as AnswerAbsent, Counted as AnswerCounted, Walked as AnswerWalked}
 use Rattle.table_core.specs.Bags.{SameBag, weigh}
 use Rattle.table_core.specs.Replies.{Told, ToldPlaced, ToldFound, ToldRefused, ToldSome, ToldNone, ToldLen, ToldWalk, Reply}
-use Rattle.table_core.specs.Calls.{Call, is_used}
+use Rattle.table_core.specs.Calls.{Call, is_used, is_done}
 use Rattle.table_core.specs.Machine.{World, empty, Act, Begins, Goes, acts, happens, after, reply}
-use Rattle.table_core.specs.History.{replies, placed, placed_by, given, kept, TakenEvent, bucket_then, has_later}
+use Rattle.table_core.specs.History.{replies, fate, placed, placed_by, given, kept, TakenEvent, bucket_then, has_later}
 use Rattle.table_core.specs.Law.{Law, IsLawful}
 use Rattle.table_core.specs.Values.{Ends, entry_named, IsOwn}
 use Rattle.table_core.specs.declared.event.Event.{Event}
 use Rattle.table_core.specs.declared.event.Event.TheVariants.{Insert}
 use Rattle.table_core.specs.declared.event.Entry.{Entry}
 use Rattle.table_core.specs.declared.call.Phase.{Phase}
-use Rattle.table_core.specs.declared.call.Phase.TheVariants.{Probe, AtEmpty, Owned, LookLoad, LookProbe, Done}
+use Rattle.table_core.specs.declared.call.Phase.TheVariants.{Probe, AtEmpty, Owned, LookLoad, LookProbe}
 use Rattle.table_core.specs.declared.call.Answer.{Answer}
 use Rattle.table_core.specs.declared.call.Answer.TheVariants.{Empty, Holds, Won, Failed}
 
@@ -90,10 +90,6 @@ abbrev pub Right : Law → ℕ → List Event → Event → Reply → Type 0
 Right l f s x r = IsLawful l f (s ++ x ∷ []) → Ends f s x r → is_list_reply r.told ≡ true → IsOwn f s r × IsRight l f (s ++ x ∷ []) r
 
 -- One history
-
--- what call n is told in a schedule
-abbrev pub fate : World → List Event → ℕ → Option Reply
-fate w s n = find (λ r. r.call == n) (replies w s)
 
 -- the insert that places its value here, and isn't told so in this schedule
 abbrev pub placed_here : ℕ → List ℕ → List Reply
@@ -172,10 +168,6 @@ NoneRefusedInVain l f s n v h more x back =
     reply (after f (s ++ Insert n v h ∷ more)) x ≢ Some (record { call = n; told = ToldRefused back })
 
 -- Classes
-
-abbrev pub is_done : Phase → Bool
-is_done Done = true
-is_done _ = false
 
 -- a lawful schedule in which all calls have finished and none was refused
 pub record IsSettled (l : Law) (f : ℕ) (s : List Event) : Type 0 where

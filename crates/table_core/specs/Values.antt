@@ -1,11 +1,12 @@
 -- What holds of every schedule, whatever the closures answer.
 use Rattle.std.specs.Prelude.{ℕ, ◌+◌, ◌-◌, ◌*◌, ◌/◌, ◌^◌, ◌==◌, ◌≡◌, ◌≤◌, ◌⊎◌, max, if◌then◌else◌, Bool, true, false, Option, Some, None, List, [], ◌∷◌, ◌++◌, length}
+use Rattle.std.specs.Option.{is_some}
 use Rattle.table_core.specs.Bags.{weigh, SameBag, count_of}
 use Rattle.table_core.specs.Replies.{Told, ToldPlaced, ToldFound, ToldRefused, ToldSome, ToldNone, ToldLen, ToldWalk, Reply}
 use Rattle.table_core.specs.Generations.{Gen, bits_of, current}
-use Rattle.table_core.specs.Calls.{Call, call_numbered, holds_shared}
+use Rattle.table_core.specs.Calls.{Call, call_numbered, is_finished, holds_shared}
 use Rattle.table_core.specs.Machine.{empty, Begins, acts, after, reply}
-use Rattle.table_core.specs.History.{replies, placed, given, back, kept, running, buckets, added, placed_told, reads, generations_loaded, beginnings, TakenEvent, bucket_then, has_later}
+use Rattle.table_core.specs.History.{replies, fate, placed, given, back, kept, running, buckets, added, placed_told, reads, generations_loaded, beginnings, TakenEvent, bucket_then, has_later}
 use Rattle.table_core.specs.declared.event.Event.{Event}
 use Rattle.table_core.specs.declared.event.Event.TheVariants.{Insert, Lookup, Len, Walk, Load, Read, Put, Check}
 use Rattle.table_core.specs.declared.event.Entry.{Entry}
@@ -86,6 +87,10 @@ OwnAnswers f s x r = Ends f s x r → IsOwnAnswer f s x r
 -- a call is told at most one thing
 abbrev pub ToldOnce : ℕ → List Event → ℕ → Type 0
 ToldOnce f s n = weigh (λ r. if r.call == n then 1 else 0) (replies (empty f) s) ≤ 1
+
+-- a call is finished exactly when it was told its reply
+abbrev pub ToldAtEnd : ℕ → List Event → ℕ → Type 0
+ToldAtEnd f s n = is_finished (call_numbered n (after f s).calls) ≡ is_some (fate (empty f) s n)
 
 -- why a call may be refused at an event, by what it found there: its memory was asked for and refused, or there is no greater capacity
 abbrev pub IsCause : Option Gen → Event → Answer → Type 0

@@ -5,7 +5,7 @@ ghost use Rattle.table_core.specs.Generations.{Table, IsFirst};
 ghost use Rattle.table_core.specs.Machine.{World, Act, acts, happens, reply};
 ghost use Rattle.table_core.specs.Replies.{Told, Reply, ToldPlaced, ToldRefused, ToldNone, ToldLen, ToldWalk};
 ghost use Rattle.table_core.specs.Steps.{Step, OnlyStep, LockStays};
-ghost use Rattle.table_core.specs.Values.{ValuesStay, KeptIsPlaced, PlacedGrows, OwnAnswers, ToldOnce, RefusalCauses, LengthsBetween, PlacedAreCounted, WalksWhole, GrowsAlone, FewBuckets, LookupsReadFew, LoadsOnce};
+ghost use Rattle.table_core.specs.Values.{ValuesStay, KeptIsPlaced, PlacedGrows, OwnAnswers, ToldOnce, ToldAtEnd, RefusalCauses, LengthsBetween, PlacedAreCounted, WalksWhole, GrowsAlone, FewBuckets, LookupsReadFew, LoadsOnce};
 ghost use Rattle.table_core.specs.Law.{Law};
 ghost use Rattle.table_core.specs.Lists.{Right, OneHistory, InOrder, PlacedApart, NoneRefusedInVain, Classes, SameClasses};
 ghost use Rattle.table_core.specs.Worked.{IsWorked, LooksForWhatComes, say, all_placed, lost_to_equal, told_lost_to_equal, lost_to_other, told_lost_to_other, refused_put, told_refused_put, uncounted, late_none, told_late_none, stands_late_none, shared_lock, double_growth, two_growers, starts_again, told_starts_again, refused_first, empty_walk, short_walk, other_bits};
@@ -29,6 +29,7 @@ pub fn schedules_keep_values()
     ensures placed_grows { (f : ℕ) (s more : List Event) → IsFirst f → PlacedGrows f s more }
     ensures own_answers { (f : ℕ) (s : List Event) (x : Event) (r : Reply) → IsFirst f → OwnAnswers f s x r }
     ensures told_once { (f : ℕ) (s : List Event) (n : ℕ) → IsFirst f → ToldOnce f s n }
+    ensures told_at_end { (f : ℕ) (s : List Event) (n : ℕ) → IsFirst f → ToldAtEnd f s n }
     ensures refusal_causes { (f : ℕ) (s : List Event) (x : Event) (n v : ℕ) → IsFirst f → RefusalCauses f s x n v }
     ensures lengths_between { (f : ℕ) (s : List Event) (x : Event) (n k : ℕ) → IsFirst f → LengthsBetween f s x n k }
     ensures placed_are_counted { (f : ℕ) (s : List Event) → IsFirst f → PlacedAreCounted f s }

@@ -1,6 +1,7 @@
 use Rattle.table_core.proofs.Invariant.{inv, values_stay, kept_is_placed, placed_grows, few_buckets}
 use Rattle.table_core.proofs.OwnAnswers.{own_answers}
 use Rattle.table_core.proofs.ToldOnce.{told_once}
+use Rattle.table_core.proofs.ToldAtEnd.{told_at_end}
 use Rattle.table_core.proofs.Refusals.{refusal_causes}
 use Rattle.table_core.proofs.Lengths.{lengths_between}
 use Rattle.table_core.proofs.Counted.{placed_are_counted}
@@ -32,6 +33,9 @@ returns-clause-own_answers c f s x r first = own_answers f (inv f first) s x r
 
 pub returns-clause-told_once : goal.returns-clause-told_once
 returns-clause-told_once c = told_once
+
+pub returns-clause-told_at_end : goal.returns-clause-told_at_end
+returns-clause-told_at_end c = told_at_end
 
 pub returns-clause-refusal_causes : goal.returns-clause-refusal_causes
 returns-clause-refusal_causes c f s x n v first = refusal_causes f (inv f first) s x n v
