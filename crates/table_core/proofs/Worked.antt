@@ -2,12 +2,12 @@
 use Rattle.std.proofs.Common.{ℕ, ◌≡◌, ◌-◌, ◌^◌, ◌++◌, List, [], ◌∷◌, Bool, true, false, refl, Option, Some, None, sym, ap, ◌∙◌, eqb-true}
 use Rattle.std.specs.Prelude.{◌==◌, ◌&&◌, ◌||◌, not, nat_lt, if◌then◌else◌}
 use Rattle.std.proofs.lemmas.Bool.{eq-eqb}
-use Rattle.table_core.specs.Replies.{ToldPlaced, ToldRefused, ToldNone, ToldLen, ToldWalk}
+use Rattle.table_core.specs.Replies.{ToldPlaced, ToldRefused, ToldSome, ToldNone, ToldLen, ToldWalk}
 use Rattle.table_core.specs.Generations.{bits_of, next_copied}
 use Rattle.table_core.specs.Calls.{Call}
 use Rattle.table_core.specs.Machine.{World, empty, Act, Begins, Goes, acts, happens, bucket_at}
 use Rattle.table_core.specs.Law.{Law, accepts, AsksBy, CopiesBy, UsesBy, OpensBy, ActsBy, RunsBy}
-use Rattle.table_core.specs.Worked.{IsWorked, LooksForWhatComes, say, all_placed, lost_to_equal, told_lost_to_equal, lost_to_other, told_lost_to_other, refused_put, told_refused_put, uncounted, late_none, told_late_none, stands_late_none, shared_lock, double_growth, two_growers, starts_again, told_starts_again, refused_first, empty_walk, short_walk, other_bits}
+use Rattle.table_core.specs.Worked.{IsWorked, LooksForWhatComes, say, all_placed, lost_to_equal, told_lost_to_equal, lost_to_other, told_lost_to_other, refused_put, told_refused_put, uncounted, late_none, told_late_none, stands_late_none, shared_lock, double_growth, two_growers, starts_again, told_starts_again, refused_first, empty_walk, short_walk, right_round, told_right_round, past_the_end, told_past_the_end, other_bits}
 use Rattle.table_core.specs.declared.event.Event.{Event}
 use Rattle.table_core.specs.declared.event.Event.TheVariants.{Insert, Lookup, Read, Put, Copy}
 use Rattle.table_core.specs.declared.event.Entry.{Entry}
@@ -117,12 +117,24 @@ one_hash = law_by (λ v. v) (λ c. 0) (λ n e. false)
 no_tests : (l : Law) (look : ℕ → ℕ) → ((n e : ℕ) → l.test n e ≡ false) → Tests l look
 no_tests l look f n e h = absurd (let k : l.test n e ≡ false = f n e in cc)
 
--- no two values are equal, 10 has the hash 0, 11 the hash 1 and so on up to 25, and all tests accept 18 alone
+-- 10 has the hash 0, 11 the hash 1 and so on up to 25
+abbrev place_of : ℕ → ℕ
+place_of v = if nat_lt v 26 then v - 10 else 0
+
+-- no two values are equal, and all tests accept 18 alone
 abbrev by_place : Law
-by_place = law_by (λ v. v) (λ v. if nat_lt v 26 then v - 10 else 0) (λ n e. e == 18)
+by_place = law_by (λ v. v) place_of (λ n e. e == 18)
 
 by_place_tests : Tests by_place (λ n. 8)
 by_place_tests n e h = rw (eqb-true e 18 h) refl
+
+-- no two values are equal, and no test accepts one
+abbrev by_place_alone : Law
+by_place_alone = law_by (λ v. v) place_of (λ n e. false)
+
+-- no two values are equal, all have the hash 31, and all tests accept 10 alone
+abbrev last_in_32 : Law
+last_in_32 = law_by (λ v. v) (λ c. 31) (λ n e. e == 10)
 
 -- the values below 12 are equal, and the test of call 4 accepts them
 abbrev below_12 : ℕ → ℕ
@@ -182,3 +194,9 @@ short_walk_worked = record { replies = refl; history = refl; room = refl; lawful
 
 pub other_bits_worked : IsWorked 16 other_bits (say 1 (ToldPlaced 10) ∷ say 2 ToldNone ∷ []) (say 1 (ToldPlaced 10) ∷ say 2 ToldNone ∷ []) 16
 other_bits_worked = record { replies = refl; history = refl; room = refl; lawful = (one_class, runs_by one_class (λ n. 2 ^ 32) (empty 16) other_bits (no_tests one_class (λ n. 2 ^ 32) (λ n e. refl)) refl) }
+
+pub right_round_worked : IsWorked 16 right_round told_right_round (all_placed 1 16 ++ (say 19 ToldNone ∷ [])) 16
+right_round_worked = record { replies = refl; history = refl; room = refl; lawful = (by_place_alone, runs_by by_place_alone (λ n. 0) (empty 16) right_round (no_tests by_place_alone (λ n. 0) (λ n e. refl)) refl) }
+
+pub past_the_end_worked : IsWorked 16 past_the_end told_past_the_end (all_placed 1 8 ++ (say 21 (ToldSome 10) ∷ [])) 48
+past_the_end_worked = record { replies = refl; history = refl; room = refl; lawful = (last_in_32, runs_by last_in_32 (λ n. 31) (empty 16) past_the_end (λ n e h. refl) refl) }

@@ -1,6 +1,6 @@
 -- Worked schedules, and what their calls are told.
 use Rattle.std.specs.Prelude.{ℕ, suc, zero, ◌+◌, ◌-◌, ◌^◌, ◌≡◌, true, false, List, [], ◌∷◌, ◌++◌}
-use Rattle.table_core.specs.Replies.{Told, ToldPlaced, ToldFound, ToldRefused, ToldSome, ToldNone, Reply}
+use Rattle.table_core.specs.Replies.{Told, ToldPlaced, ToldFound, ToldRefused, ToldSome, ToldNone, ToldLen, ToldWalk, Reply}
 use Rattle.table_core.specs.Machine.{empty, after}
 use Rattle.table_core.specs.History.{replies, buckets}
 use Rattle.table_core.specs.Law.{Law, IsLawful}
@@ -146,6 +146,28 @@ empty_walk = Walk 1 ∷ Load 1 ∷ []
 -- a walk of one value
 abbrev pub short_walk : List Event
 short_walk = lost_to_equal ++ (Walk 3 ∷ Load 3 ∷ times 16 (Read 3 false))
+
+-- in a full generation a look-up goes right round and a walk goes to the end, both up to their sixteenth reads: before
+-- these a length tells 16
+abbrev pub right_round : List Event
+right_round = full ++ (Lookup 19 0 ∷ Load 19 ∷ times 15 (Read 19 false)) ++ (Walk 20 ∷ Load 20 ∷ times 15 (Read 20 false)) ++ (Len 21 ∷ Load 21 ∷ Size 21 ∷ Read 19 false ∷ Read 20 false ∷ [])
+
+abbrev pub told_right_round : List Reply
+told_right_round = all_placed 1 16 ++ (say 21 (ToldLen 16) ∷ say 19 ToldNone ∷ say 20 (ToldWalk (10 ∷ 11 ∷ 12 ∷ 13 ∷ 14 ∷ 15 ∷ 16 ∷ 17 ∷ 18 ∷ 19 ∷ 20 ∷ 21 ∷ 22 ∷ 23 ∷ 24 ∷ 25 ∷ [])) ∷ [])
+
+-- so many inserts of hash 31, of the calls c, c + 1, ..: call 2 passes one bucket, call 3 two, ..
+abbrev pub crowding : ℕ → ℕ → List Event
+crowding c zero = []
+crowding c (suc k) = (Insert c (9 + c) 31 ∷ passing c (c - 1)) ++ crowding (suc c) k
+
+-- all values have hash 31, whose first bucket is the last, of 16 and of 32: the inserts, the copies, all but the first of
+-- each, and a look-up go on from bucket 0
+abbrev pub past_the_end : List Event
+past_the_end = first_insert 1 10 31 ++ (Read 1 false ∷ placing 1) ++ crowding 2 1 ++ (Walk 20 ∷ Load 20 ∷ times 16 (Read 20 false)) ++ crowding 3 6 ++ (Own 8 ∷ Check 8 true ∷ times 8 (Copy 8 31)) ++ (Show 8 ∷ Free 8 ∷ Lookup 21 31 ∷ Load 21 ∷ times 7 (Read 21 false)) ++ (Read 21 true ∷ Walk 22 ∷ Load 22 ∷ times 32 (Read 22 false))
+
+-- 11 is in bucket 0 and 10 in bucket 15, so that 11 is copied first and 10 last: into buckets 31 and 6
+abbrev pub told_past_the_end : List Reply
+told_past_the_end = all_placed 1 2 ++ (say 20 (ToldWalk (11 ∷ 10 ∷ [])) ∷ all_placed 3 6) ++ (say 21 (ToldSome 10) ∷ say 22 (ToldWalk (12 ∷ 13 ∷ 14 ∷ 15 ∷ 16 ∷ 17 ∷ 10 ∷ 11 ∷ [])) ∷ [])
 
 -- a look-up passes an entry of other bits, though its closure would say yes
 abbrev pub other_bits : List Event

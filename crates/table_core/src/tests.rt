@@ -11,25 +11,32 @@ use std::alloc::Global;
 use std::process::Abort;
 use std::test::Fail;
 
-fn number(word: Option<&str>) -> Result<u64, Fail> {
-    let word = word.ok_or("a number is missing")?;
-    Ok(word.parse::<u64>()?)
+fn number(word: Option<&str>) -> Option<u64> {
+    word?.parse::<u64>().ok()
 }
 
-fn is_yes(word: Option<&str>) -> Result<bool, Fail> {
-    Ok(word.ok_or("an answer is missing")? == "y")
+fn is_yes(word: Option<&str>) -> Option<bool> {
+    match word {
+        Some("y") => Some(true),
+        Some("n") => Some(false),
+        _ => None,
+    }
 }
 
-fn is_granted(word: Option<&str>) -> Result<bool, Fail> {
-    Ok(word.ok_or("a grant is missing")? == "ok")
+fn is_granted(word: Option<&str>) -> Option<bool> {
+    match word {
+        Some("ok") => Some(true),
+        Some("no") => Some(false),
+        _ => None,
+    }
 }
 
-/// An event as `insert 1 10 0` or `put 1 n ok`.
-fn event(text: &str) -> Result<Event, Fail> {
+/// An event as `insert 1 10 0` or `put 1 n ok`; none where there is a slip, so that no schedule has one unseen.
+fn event(text: &str) -> Option<Event> {
     let mut words = text.split(' ');
-    let word = words.next().ok_or("an event is missing")?;
+    let word = words.next()?;
     let call = number(words.next())?;
-    Ok(match word {
+    let event = match word {
         "insert" => Event::Insert {
             call,
             value: number(words.next())?,
@@ -65,8 +72,12 @@ fn event(text: &str) -> Result<Event, Fail> {
             hash: number(words.next())?,
         },
         "show" => Event::Show { call },
-        _ => return Err(Fail::from("no such event")),
-    })
+        _ => return None,
+    };
+    match words.next() {
+        Some(_) => None,
+        None => Some(event),
+    }
 }
 
 /// A schedule, and the lines that its calls are to print.
@@ -88,7 +99,7 @@ impl Script {
 
     fn add(&mut self, text: &str) -> Result<(), Fail> {
         for words in text.split("; ") {
-            self.events.push(event(words)?)?;
+            self.events.push(event(words).ok_or("a slip in an event")?)?;
         }
         Ok(())
     }
@@ -181,24 +192,51 @@ fn half_full(script: &mut Script, end: u64) -> Result<(), Fail>
     Ok(())
 }
 
+/// An insert loses its exchange to an equal value, and finds it.
+fn lost_to_equal(script: &mut Script) -> Result<(), Fail> {
+    script.first(1, 10, 0)?;
+    script.add(
+        "read 1 n; insert 2 11 0; share 2; load 2; read 2 n; put 1 n ok; put 2 y ok; add 1; free 1; free 2; size 1; size 2",
+    )?;
+    script.prints("1 placed 10\n2 found 10 back 11")
+}
+
+#[test]
+fn slips_in_a_script_are_refused(rt: HostRuntime) -> Result<(), Fail> {
+    for text in [
+        "read 1",
+        "read 1 yes",
+        "read 1 ok",
+        "read 1 n n",
+        "put 1 n",
+        "put 1 ok",
+        "put 1 ok n",
+        "put 1 n y",
+        "check 1",
+        "check 1 y",
+        "check 1 ok ",
+        "insert 1 2",
+        "copy 1 x",
+        "load",
+        "loads 1",
+        "load 1; size 1",
+        "",
+    ] {
+        assert!(rt; event(text).is_none(), "{text:?}");
+    }
+    Ok(())
+}
+
 #[test]
 fn exchanges_are_lost(rt: HostRuntime) -> Result<(), Fail> {
     let mut equal = Script::new(rt.alloc());
-    equal.first(1, 10, 0)?;
-    equal.add(
-        "read 1 n; insert 2 11 0; share 2; load 2; read 2 n; put 1 n ok; put 2 y ok; add 1; free 1; free 2; size 1; size 2",
-    )?;
-    equal.prints("1 placed 10\n2 found 10 back 11")?;
+    lost_to_equal(&mut equal)?;
     check(&rt, "between equals", &equal, 16)?;
     equal.add(
         "insert 1 13 0; insert 3 12 1; share 3; load 3; read 3 n; put 3 n no; free 3; lookup 4 0; load 4; read 4 y; lookup 5 3; load 5; read 5 n",
     )?;
     equal.prints("3 refused 12\n4 some 10\n5 none")?;
     check(&rt, "a used call number", &equal, 16)?;
-    equal.add("walk 6; load 6")?;
-    equal.times(16, "read 6 n")?;
-    equal.prints("6 walk [10]")?;
-    check(&rt, "a walk", &equal, 16)?;
     let mut apart = Script::new(rt.alloc());
     apart.first(1, 10, 0)?;
     apart.add(
@@ -236,7 +274,13 @@ fn lengths_and_lookups_tell_their_moment(rt: HostRuntime) -> Result<(), Fail> {
     let mut walk = Script::new(rt.alloc());
     walk.add("walk 1; load 1")?;
     walk.prints("1 walk []")?;
-    check(&rt, "a walk of nothing", &walk, 0)
+    check(&rt, "a walk of nothing", &walk, 0)?;
+    let mut short = Script::new(rt.alloc());
+    lost_to_equal(&mut short)?;
+    short.add("walk 3; load 3")?;
+    short.times(16, "read 3 n")?;
+    short.prints("3 walk [10]")?;
+    check(&rt, "a walk of one value", &short, 16)
 }
 
 #[test]
@@ -256,8 +300,7 @@ fn locks_forbid(rt: HostRuntime) -> Result<(), Fail> {
     check(&rt, "two growers", &growers, 48)
 }
 
-/// Sixteen values fill the first generation while its growth is refused, two more calls find it full,
-/// and the first of them makes the next generation.
+/// Sixteen values fill the first generation while its growth is refused, and two more calls find it full.
 fn full(script: &mut Script) -> Result<(), Fail> {
     half_full(script, 8)?;
     for k in 8..=16 {
@@ -275,7 +318,7 @@ fn full(script: &mut Script) -> Result<(), Fail> {
         let free = format!(in script.alloc; "free {k}")?;
         script.add(free.as_str())?;
     }
-    grow(script, 17, 16)
+    Ok(())
 }
 
 /// A call that wants growth copies so many entries.
@@ -294,6 +337,7 @@ fn grow(script: &mut Script, call: u64, entries: u64) -> Result<(), Fail> {
 fn growth_is_bounded_and_may_fail(rt: HostRuntime) -> Result<(), Fail> {
     let mut twice = Script::new(rt.alloc());
     full(&mut twice)?;
+    grow(&mut twice, 17, 16)?;
     grow(&mut twice, 18, 16)?;
     check(&rt, "grown twice", &twice, 112)?;
     twice.add("share 17; load 17")?;
@@ -305,6 +349,7 @@ fn growth_is_bounded_and_may_fail(rt: HostRuntime) -> Result<(), Fail> {
     check(&rt, "double growth at the bound", &twice, 112)?;
     let mut failed = Script::new(rt.alloc());
     full(&mut failed)?;
+    grow(&mut failed, 17, 16)?;
     failed.add("own 18; check 18 no; free 18; share 18; load 18")?;
     failed.times(17, "read 18 n")?;
     failed.add("put 18 n ok; add 18; free 18; size 18; own 18; check 18 no; free 18")?;
@@ -318,13 +363,71 @@ fn growth_is_bounded_and_may_fail(rt: HostRuntime) -> Result<(), Fail> {
     check(&rt, "refused before any generation", &refused, 0)
 }
 
+/// Inserts of hash 31, of the calls from one to another: call 2 passes one bucket, call 3 two, and so on.
+/// With eight values the last of them wants growth.
+fn crowd(script: &mut Script, from: u64, to: u64) -> Result<(), Fail>
+    requires { to < 16 }
+{
+    for k in from..=to {
+        let begin = format!(in script.alloc; "insert {k} {} 31; share {k}; load {k}", 9 + k)?;
+        script.add(begin.as_str())?;
+        let read = format!(in script.alloc; "read {k} n")?;
+        script.times(k, read.as_str())?;
+        let place = format!(in script.alloc; "put {k} n ok; add {k}; free {k}; size {k}")?;
+        script.add(place.as_str())?;
+        if k < 8 {
+            let told = format!(in script.alloc; "{k} placed {}", 9 + k)?;
+            script.prints(told.as_str())?;
+        }
+    }
+    Ok(())
+}
+
+/// A look-up and a walk of a full generation end at their sixteenth reads, after the length.
+#[test]
+fn probes_go_right_round(rt: HostRuntime) -> Result<(), Fail> {
+    let mut round = Script::new(rt.alloc());
+    full(&mut round)?;
+    round.add("lookup 19 0; load 19")?;
+    round.times(15, "read 19 n")?;
+    round.add("walk 20; load 20")?;
+    round.times(15, "read 20 n")?;
+    round.add("len 21; load 21; size 21; read 19 n; read 20 n")?;
+    round.prints("21 len 16\n19 none")?;
+    round.prints("20 walk [10, 11, 12, 13, 14, 15, 16, 17, 18, 19, 20, 21, 22, 23, 24, 25]")?;
+    check(&rt, "right round a full generation", &round, 16)
+}
+
+/// The first bucket of hash 31 is the last of 16, and later the last of 32: inserts, copies and a look-up go on from
+/// bucket 0.
+#[test]
+fn probes_go_past_the_end(rt: HostRuntime) -> Result<(), Fail> {
+    let mut past = Script::new(rt.alloc());
+    past.first(1, 10, 31)?;
+    past.add("read 1 n; put 1 n ok; add 1; free 1; size 1")?;
+    past.prints("1 placed 10")?;
+    crowd(&mut past, 2, 2)?;
+    past.add("walk 20; load 20")?;
+    past.times(16, "read 20 n")?;
+    past.prints("20 walk [11, 10]")?;
+    crowd(&mut past, 3, 8)?;
+    past.add("own 8; check 8 ok")?;
+    past.times(8, "copy 8 31")?;
+    past.add("show 8; free 8")?;
+    past.prints("8 placed 17")?;
+    // The copies went in the order of the buckets: 10, in the last, came last.
+    past.add("lookup 21 31; load 21")?;
+    past.times(7, "read 21 n")?;
+    past.add("read 21 y; walk 22; load 22")?;
+    past.times(32, "read 22 n")?;
+    past.prints("21 some 10\n22 walk [12, 13, 14, 15, 16, 17, 10, 11]")?;
+    check(&rt, "past the last bucket", &past, 48)
+}
+
 #[test]
 fn first_capacity_is_kept(rt: HostRuntime) -> Result<(), Fail> {
     let mut script = Script::new(rt.alloc());
-    script.first(1, 10, 0)?;
-    script.add(
-        "read 1 n; insert 2 11 0; share 2; load 2; read 2 n; put 1 n ok; put 2 y ok; add 1; free 1; free 2; size 1; size 2",
-    )?;
+    lost_to_equal(&mut script)?;
     let replies = run_with(rt.alloc(), 32, script.events.as_slice())?;
     let told = lines(rt.alloc(), replies.as_slice())?;
     assert_eq!(rt; told.as_str(), "1 placed 10\n2 found 10 back 11\n");

@@ -3,12 +3,12 @@ ghost use Rattle.std.specs.Prelude.{ℕ, List, Option, [], ◌∷◌, ◌++◌};
 ghost use Rattle.table_core.specs.Calls.{Call};
 ghost use Rattle.table_core.specs.Generations.{Table, IsFirst};
 ghost use Rattle.table_core.specs.Machine.{World, Act, acts, happens, reply};
-ghost use Rattle.table_core.specs.Replies.{Told, Reply, ToldPlaced, ToldRefused, ToldNone, ToldLen, ToldWalk};
+ghost use Rattle.table_core.specs.Replies.{Told, Reply, ToldPlaced, ToldRefused, ToldSome, ToldNone, ToldLen, ToldWalk};
 ghost use Rattle.table_core.specs.Steps.{Step, OnlyStep, LockStays};
 ghost use Rattle.table_core.specs.Values.{ValuesStay, KeptIsPlaced, PlacedGrows, OwnAnswers, ToldOnce, ToldAtEnd, RefusalCauses, LengthsBetween, PlacedAreCounted, WalksWhole, GrowsAlone, FewBuckets, LookupsReadFew, LoadsOnce};
 ghost use Rattle.table_core.specs.Law.{Law};
 ghost use Rattle.table_core.specs.Lists.{Right, OneHistory, InOrder, PlacedApart, NoneRefusedInVain, Classes, SameClasses};
-ghost use Rattle.table_core.specs.Worked.{IsWorked, LooksForWhatComes, say, all_placed, lost_to_equal, told_lost_to_equal, lost_to_other, told_lost_to_other, refused_put, told_refused_put, uncounted, late_none, told_late_none, stands_late_none, shared_lock, double_growth, two_growers, starts_again, told_starts_again, refused_first, empty_walk, short_walk, other_bits};
+ghost use Rattle.table_core.specs.Worked.{IsWorked, LooksForWhatComes, say, all_placed, lost_to_equal, told_lost_to_equal, lost_to_other, told_lost_to_other, refused_put, told_refused_put, uncounted, late_none, told_late_none, stands_late_none, shared_lock, double_growth, two_growers, starts_again, told_starts_again, refused_first, empty_walk, short_walk, right_round, told_right_round, past_the_end, told_past_the_end, other_bits};
 ghost use Rattle.table_core.specs.declared.call.Answer.{Answer};
 ghost use Rattle.table_core.specs.declared.call.CallState.{CallState};
 ghost use Rattle.table_core.specs.declared.call.Phase.{Phase};
@@ -68,5 +68,7 @@ pub fn worked_schedules()
     ensures refused_first { IsWorked 16 refused_first (say 1 (ToldRefused 10) ∷ say 2 (ToldLen 0) ∷ []) (say 1 (ToldRefused 10) ∷ []) 0 }
     ensures empty_walk { IsWorked 16 empty_walk (say 1 (ToldWalk []) ∷ []) [] 0 }
     ensures short_walk { IsWorked 16 short_walk (told_lost_to_equal ++ (say 3 (ToldWalk (10 ∷ [])) ∷ [])) told_lost_to_equal 16 }
+    ensures right_round { IsWorked 16 right_round told_right_round (all_placed 1 16 ++ (say 19 ToldNone ∷ [])) 16 }
+    ensures past_the_end { IsWorked 16 past_the_end told_past_the_end (all_placed 1 8 ++ (say 21 (ToldSome 10) ∷ [])) 48 }
     ensures other_bits { IsWorked 16 other_bits (say 1 (ToldPlaced 10) ∷ say 2 ToldNone ∷ []) (say 1 (ToldPlaced 10) ∷ say 2 ToldNone ∷ []) 16 }
 {}

@@ -204,6 +204,64 @@ fn growths(rt: HostRuntime) -> Result<(), Fail> {
     Ok(())
 }
 
+/// An insert of hash 31, whose first bucket is the last of 16 and of 32.
+const AT_THE_LAST_BUCKET: &str = "first 1 10 31; read 1 n; put 1 n ok; add 1; free 1; size 1";
+
+/// One more, which goes on from bucket 0.
+const PAST_THE_LAST_BUCKET: &str =
+    "insert 2 11 31; share 2; load 2; 2 times read 2 n; put 2 n ok; add 2; free 2; size 2";
+
+/// Six more, the last of which wants growth.
+const SIX_BEHIND_THEM: &str =
+    "insert 3 12 31; share 3; load 3; 3 times read 3 n; put 3 n ok; add 3; free 3; size 3; \
+    insert 4 13 31; share 4; load 4; 4 times read 4 n; put 4 n ok; add 4; free 4; size 4; \
+    insert 5 14 31; share 5; load 5; 5 times read 5 n; put 5 n ok; add 5; free 5; size 5; \
+    insert 6 15 31; share 6; load 6; 6 times read 6 n; put 6 n ok; add 6; free 6; size 6; \
+    insert 7 16 31; share 7; load 7; 7 times read 7 n; put 7 n ok; add 7; free 7; size 7; \
+    insert 8 17 31; share 8; load 8; 8 times read 8 n; put 8 n ok; add 8; free 8; size 8";
+
+#[test]
+fn probes_that_go_right_round(rt: HostRuntime) -> Result<(), Fail> {
+    let rows = [
+        // A look-up and a walk of a full generation end at their sixteenth reads, behind the length.
+        prints(
+            &[
+                SEVEN,
+                NINE_WITHOUT_GROWTH,
+                TWO_AT_A_FULL_GENERATION,
+                "lookup 19 0; load 19; 15 times read 19 n; walk 20; load 20; 15 times read 20 n",
+                "len 21; load 21; size 21; read 19 n; read 20 n; b",
+            ],
+            "1 placed 10\n2 placed 11\n3 placed 12\n4 placed 13\n5 placed 14\n6 placed 15\n7 placed 16\n\
+            8 placed 17\n9 placed 18\n10 placed 19\n11 placed 20\n12 placed 21\n13 placed 22\n14 placed 23\n\
+            15 placed 24\n16 placed 25\n21 len 16\n19 none\n\
+            20 walk [10, 11, 12, 13, 14, 15, 16, 17, 18, 19, 20, 21, 22, 23, 24, 25]\n16\n",
+        ),
+        // Inserts, copies and a look-up go on from bucket 0; 10, in the last bucket, is copied last.
+        prints(
+            &[
+                AT_THE_LAST_BUCKET,
+                PAST_THE_LAST_BUCKET,
+                "walk 20; load 20; 16 times read 20 n",
+                SIX_BEHIND_THEM,
+                "own 8; check 8 ok; 8 times copy 8 31; show 8; free 8",
+                "lookup 21 31; load 21; 7 times read 21 n; read 21 y",
+                "walk 22; load 22; 32 times read 22 n; b",
+            ],
+            "1 placed 10\n2 placed 11\n20 walk [11, 10]\n3 placed 12\n4 placed 13\n5 placed 14\n6 placed 15\n\
+            7 placed 16\n8 placed 17\n21 some 10\n22 walk [12, 13, 14, 15, 16, 17, 10, 11]\n48\n",
+        ),
+    ];
+    for row in &rows {
+        let input = lines_of(rt.alloc(), row.parts)?;
+        let ended = run(&rt, row.words, input.as_str())?;
+        assert_eq!(rt; ended.output.as_str(), row.output);
+        assert_eq!(rt; ended.messages.as_str(), "");
+        assert_eq!(rt; ended.status, 0);
+    }
+    Ok(())
+}
+
 /// The lines of the parts of a row.
 fn lines_of(alloc: Global, parts: &[&str]) -> Result<String, Fail> {
     let mut input = String::new(alloc);

@@ -1,4 +1,4 @@
-use Rattle.table_core.proofs.Worked.{lost_to_equal_worked, larger_first_worked, lost_to_other_worked, refused_put_worked, uncounted_worked, late_none_worked, looks_for_what_comes, shared_lock_worked, double_growth_worked, two_growers_worked, starts_again_worked, refused_first_worked, empty_walk_worked, short_walk_worked, other_bits_worked}
+use Rattle.table_core.proofs.Worked.{lost_to_equal_worked, larger_first_worked, lost_to_other_worked, refused_put_worked, uncounted_worked, late_none_worked, looks_for_what_comes, shared_lock_worked, double_growth_worked, two_growers_worked, starts_again_worked, refused_first_worked, empty_walk_worked, short_walk_worked, right_round_worked, past_the_end_worked, other_bits_worked}
 use Rattle.table_core.proofs.theorems.worked_schedules.Goals as goal
 
 pub returns-clause-lost_to_equal : goal.returns-clause-lost_to_equal
@@ -39,6 +39,12 @@ returns-clause-empty_walk c = empty_walk_worked
 
 pub returns-clause-short_walk : goal.returns-clause-short_walk
 returns-clause-short_walk c = short_walk_worked
+
+pub returns-clause-right_round : goal.returns-clause-right_round
+returns-clause-right_round c = right_round_worked
+
+pub returns-clause-past_the_end : goal.returns-clause-past_the_end
+returns-clause-past_the_end c = past_the_end_worked
 
 pub returns-clause-other_bits : goal.returns-clause-other_bits
 returns-clause-other_bits c = other_bits_worked
