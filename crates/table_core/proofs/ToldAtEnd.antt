@@ -1,5 +1,5 @@
 -- A call is finished exactly when it was told its reply.
-use Rattle.std.proofs.Common.{ℕ, suc, zero, ◌≡◌, ◌++◌, inl, inr, List, [], ◌∷◌, Bool, true, false, refl, Option, Some, None, sym, subst, ap, ◌∙◌}
+use Rattle.std.proofs.Common.{ℕ, ◌≡◌, ◌++◌, inl, inr, List, [], ◌∷◌, Bool, true, false, refl, Option, Some, None, sym, subst, ap, ◌∙◌}
 use Rattle.std.specs.Prelude.{◌==◌, ◌||◌, if◌then◌else◌, option_to_list}
 use Rattle.std.specs.Option.{is_some}
 use Rattle.std.specs.List.{slice_get}
