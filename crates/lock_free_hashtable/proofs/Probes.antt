@@ -4,16 +4,16 @@ use Rattle.std.proofs.Math.Nat.{mod-add-mod}
 use Rattle.std.proofs.lemmas.Grind.{common_steps}
 use Rattle.std.proofs.lemmas.List.{length-map}
 use Rattle.std.proofs.lemmas.Nat.{and_mask}
-use Rattle.std.specs.Prelude.{IsSome}
 use Rattle.lock_free_hashtable.specs.Law.{bits_of}
-use Rattle.lock_free_hashtable.specs.Buckets.{Part, vacant, named, values, value_at, part_at, home, shown, shown_all, IsSound, AllSound}
+use Rattle.lock_free_hashtable.specs.Buckets.{Part, vacant, named, values, value_at, part_at, shown, shown_all, IsSound, AllSound}
 use Rattle.lock_free_hashtable.specs.Capacity.{IsPowerOfTwo}
 use Rattle.lock_free_hashtable.specs.Ways.{place}
 use Rattle.lock_free_hashtable.specs.Probe.{IsAcceptedBy, IsPassedBy, IsPassed, IsVacant, ProbeGives}
+use Rattle.lock_free_hashtable.specs.Generations.{NamesShown}
 use Rattle.lock_free_hashtable.specs.declared.cell.Entry.{Entry}
+use Rattle.lock_free_hashtable.specs.declared.fixed.Name.{Name}
 use Rattle.lock_free_hashtable.specs.declared.fixed.Spot.{Spot}
 use Rattle.lock_free_hashtable.specs.declared.fixed.Spot.TheVariants.{Accepted, Vacant, Full}
-use Rattle.lock_free_hashtable.proofs.Entries.{some_same}
 use Rattle.lock_free_hashtable.proofs.Parts.{shown_at, shows_none}
 use Rattle.lock_free_hashtable.proofs.Sizes.{full_values}
 
@@ -86,16 +86,11 @@ module _ {T U : Type 0} (target : T → U) (a b : U → Bool → Type 0) (into :
 pub named_shown : {T : Type 0} (gs : List (List (Part T))) (p : Part T) (b g i : ℕ) → IsSound gs p → p ≡ named b g i → (e : Entry T) × (shown gs p ≡ Some e) × (e.bits ≡ b)
 named_shown gs p b g i sound is = rw is (subst (IsSound gs) is sound)
 
--- a sound name leads to some entry
-pub leads_some : {T : Type 0} (gs : List (List (Part T))) (p : Part T) (b g i : ℕ) → IsSound gs p → p ≡ named b g i → IsSome (home gs g i)
-leads_some gs p b g i sound is = let (e, found, marked) = subst (IsSound gs) is sound in rw found refl
-
--- the entry that a sound name leads to is the one that is shown, and carries the bits beside the name
-pub name_leads : {T : Type 0} (gs : List (List (Part T))) (p : Part T) (b g i : ℕ) (e : Entry T) → IsSound gs p → p ≡ named b g i → home gs g i ≡ Some e → (shown gs p ≡ Some e) × (e.bits ≡ b)
-name_leads gs p b g i e sound is leads =
-    let (f, found, marked) = subst (IsSound gs) is sound in
-    let same : f ≡ e = some_same f e (home gs g i) found leads in
-    (rw is leads, rw same at marked)
+-- a sound name leads to the entry that is shown
+pub sound_leads : {T : Type 0} (gs : List (List (Part T))) (p : Part T) (name : Name) → IsSound gs p → p ≡ named name.bits name.generation name.index → NamesShown gs p (Some name)
+sound_leads gs p name sound is =
+    let (e, found, marked) = subst (IsSound gs) is sound in
+    (e, (found, marked), ap (shown gs) is ∙ found)
 
 module _ {T U : Type 0} (target : T → U) (answers : U → Bool → Type 0) where
   -- a probe that nothing is accepted in ends at an empty bucket, if there is one

@@ -4,9 +4,9 @@ use Rattle.std.specs.Prelude.{slice_set, slice_index_or, ⊤}
 use Rattle.std.proofs.lemmas.List.{map-set, append-nil, length-map, get_or-map}
 use Rattle.std.proofs.lemmas.List.Elements.{Contains-append_left, Contains-push}
 use Rattle.std.proofs.lemmas.List.Sorted.{IsPermutation-refl, IsPermutation-trans, IsPermutation-append_left}
-use Rattle.lock_free_hashtable.specs.Buckets.{Part, vacant, named, values, part_at, shown, shown_all}
+use Rattle.lock_free_hashtable.specs.Buckets.{Part, vacant, own, named, values, owned, part_at, home, shown, shown_all}
 use Rattle.lock_free_hashtable.specs.Growth.{IsRehomed, PutsName, PutsShown, RehomesOne}
-use Rattle.lock_free_hashtable.specs.Generations.{Leads}
+use Rattle.lock_free_hashtable.specs.Generations.{Leads, NamesShown, last_of}
 use Rattle.lock_free_hashtable.specs.declared.cell.Entry.{Entry}
 use Rattle.lock_free_hashtable.specs.declared.fixed.Name.{Name}
 use Rattle.lock_free_hashtable.proofs.Entries.{values-set, values-take_more, values-replicate, value_at-replicate, not_both}
@@ -56,3 +56,11 @@ last_read f gs n x long is =
     let end : length (map f gs) - 1 ≡ n = rw length-map (omega arith) in
     let within : n < length gs = omega arith in
     rw end (get_or-map f gs n x [] within ∙ sym (ap f is))
+
+-- an entry that a bucket of the last generation owns lives there
+pub owner_leads : {T : Type 0} (gs : List (List (Part T))) (last index bits : ℕ) (e : Entry T) → last + 1 ≡ length gs → part_at (last_of gs) index ≡ own e → e.bits ≡ bits
+    → NamesShown gs (part_at (last_of gs) index) (Some (record { bits = bits; generation = last; index = index }))
+owner_leads gs last index bits e long owns marked =
+    let end : length gs - 1 ≡ last = omega arith in
+    let lives : home gs (length gs - 1) index ≡ Some e = ap owned owns in
+    (e, (rw end at lives, marked), ap (shown gs) owns)

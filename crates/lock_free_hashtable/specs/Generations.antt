@@ -1,5 +1,4 @@
 -- A generation as the layer above sees it, and a row of generations.
-use Rattle.std.specs.Borrow.{Bor}
 use Rattle.std.specs.Prelude.{◌≡◌, ◌⊎◌, ℕ, ◌-◌, ◌+◌, List, [], Option, Some, None, Result, Ok, Err, length, map, replicate, slice_index_or}
 use Rattle.lock_free_hashtable.specs.Buckets.{Part, vacant, own, named, set_parts, home, shown, part_at}
 use Rattle.lock_free_hashtable.specs.Capacity.{IsPowerOfTwo}
@@ -41,10 +40,10 @@ module _ {T : Type 0} where
   abbrev pub Leads : List (List (Part T)) → Name → Entry T → Type 0
   Leads gs name e = (home gs name.generation name.index ≡ Some e) × (e.bits ≡ name.bits)
 
-  -- the entry that a bucket shows, with a name that leads to it, or nothing where the bucket shows nothing
-  abbrev pub NamesShown : List (List (Part T)) → Part T → Option (Name × Bor (Entry T)) → Type 0
+  -- a name that leads to the entry that a bucket shows, or nothing where the bucket shows nothing
+  abbrev pub NamesShown : List (List (Part T)) → Part T → Option Name → Type 0
   NamesShown gs p None = shown gs p ≡ None
-  NamesShown gs p (Some found) = Leads gs found.0 found.1.now × (shown gs p ≡ Some found.1.now)
+  NamesShown gs p (Some name) = (e : Entry T) × Leads gs name e × (shown gs p ≡ Some e)
 
   -- the bucket is empty, or names an entry
   abbrev pub IsName : List (List (Part T)) → Part T → Type 0

@@ -7,11 +7,12 @@ use std::num::{NonZeroU32, NonZeroU64};
 use std::sync::Arc;
 
 /// A value that a table can hold. The table compares and hashes what the value leads to, its target.
+///
+/// Who implements it promises that the target is one function of the value, `target`, and that `deref` shows it.
 pub trait AtomicValue: Drop {
     /// What is compared, hashed and shown.
     type Target;
 
-    // The target is one function of the value.
     ghost target: { Self → Self.Target };
 
     /// The target of the value.
@@ -60,14 +61,13 @@ impl AtomicValue for NonZeroU32 {
     }
 }
 
-/// What a caller means by equal targets and by the hash of a target. It is named in contracts alone.
+/// What a caller means by equal targets, `same`, and by the hash of a target, `hash_of`. It is named in contracts alone.
+///
+/// Who implements it promises that `same` is an equivalence, and that same targets have the same hash, each below 2^64.
 pub trait Law<V> {
-    // Whether two targets are the same.
     ghost same: { V → V → Bool };
 
-    // The hash of a target, below 2^64.
     ghost hash_of: { V → ℕ };
 
-    // `same` is an equivalence, and same targets have the same hash.
     ghost lawful: { IsLaw same hash_of };
 }

@@ -7,20 +7,20 @@ ghost use Rattle.lock_free_hashtable.specs.Growth.{IsRehomed, AreHashes, PutsSho
 ghost use Rattle.lock_free_hashtable.specs.Generations.{parts_of, last_of, NamesShown, IsNamedIn};
 
 use crate::atomic_value::AtomicValue;
-use crate::cell::{Entry, Look};
-use crate::fixed::{Generation, Name, entry_named};
+use crate::cell::Look;
+use crate::fixed::{Generation, Name};
 use std::alloc::{AllocError, Allocator};
 
 /// So many hashes are asked for before their entries are named. Entries lie far apart in memory, and in a loop that does
 /// nothing else their reads overlap.
 const WINDOW: usize = 64;
 
-/// The name of the entry that a bucket of the last generation shows, and the entry.
+/// The name of the entry that a bucket of the last generation shows. No other bucket is read.
 fn name_at<T: AtomicValue, A: Allocator + Copy>(
     earlier: &[Generation<T, A>],
     last: u8,
     index: usize,
-) -> Option<(Name, &Entry<T>)>
+) -> Option<Name>
     requires last { last + 1 ≡ length earlier.now }
     requires place { index < length (last_of (parts_of earlier.now)) }
     requires sound { AllSound (parts_of earlier.now) (last_of (parts_of earlier.now)) }
@@ -28,26 +28,20 @@ fn name_at<T: AtomicValue, A: Allocator + Copy>(
 {
     match earlier[last as usize].look_at(index) {
         Look::Vacant => None,
-        Look::Own { bits, entry } => Some((
-            Name {
-                bits,
-                generation: last,
-                index,
-            },
-            entry,
-        )),
+        Look::Own { bits, .. } => Some(Name {
+            bits,
+            generation: last,
+            index,
+        }),
         Look::Named {
             bits,
             generation,
             index,
-        } => Some((
-            Name {
-                bits,
-                generation,
-                index,
-            },
-            entry_named(earlier, generation, index),
-        )),
+        } => Some(Name {
+            bits,
+            generation,
+            index,
+        }),
     }
 }
 
@@ -67,7 +61,7 @@ fn hash_window<T: AtomicValue, A: Allocator + Copy, H: Fn(&T::Target) -> u64>(
 {
     let generation = &earlier[last as usize];
     let left = generation.capacity() - from;
-    let count = if left < WINDOW { left } else { WINDOW };
+    let count = left.min(WINDOW);
     for ahead in 0..count {
         if let Some(entry) = generation.entry_shown(earlier, from + ahead) {
             hashes[ahead] = hash_fn(entry.value.deref());
@@ -95,7 +89,7 @@ fn rehome_one<T: AtomicValue, A: Allocator + Copy>(
     ensures names { IsNamedIn (parts_of earlier.now) built.new.parts }
     ensures step { PutsShown T.target (parts_of earlier.now) (last_of (parts_of earlier.now)) index hash built.old.parts built.new.parts }
 {
-    if let Some((name, _entry)) = name_at(earlier, last, index) {
+    if let Some(name) = name_at(earlier, last, index) {
         built.insert_unique(earlier, hash, name);
     }
 }

@@ -14,4 +14,4 @@ pub mod raw;
 
 pub use atomic_value::{AtomicValue, Law};
 pub use place::Place;
-pub use raw::{FIRST_CAPACITY, HeldRawTable, is_first_capacity};
+pub use raw::{FIRST_CAPACITY, HeldIter, HeldRawTable, IntoIter, is_first_capacity};

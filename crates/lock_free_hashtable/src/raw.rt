@@ -39,7 +39,8 @@ pub fn is_first_capacity(first: usize) -> bool
 /// shown by their targets.
 ///
 /// Each call takes the hash and the closures of its caller. With lawful ones (one equivalence, one hash that agrees
-/// with it) the table answers as a growing list without equal entries; with any closures no value is lost or kept twice.
+/// with it, and tests that accept only targets of the hash asked for) the table answers as a growing list without equal
+/// entries; with any closures no value is lost or kept twice.
 #[derive(Drop)]
 pub struct HeldRawTable<T: AtomicValue, A: Allocator + Copy = Global> {
     first: usize,
@@ -153,6 +154,7 @@ impl<T: AtomicValue, A: Allocator + Copy> HeldRawTable<T, A> {
         let Some(doubled) = self.current.capacity().checked_mul(2) else {
             return Err(AllocError);
         };
+        // Each generation is twice the one before, and a capacity is below 2^64: fewer than 60 are earlier ones.
         let last = self.earlier.len() as u8;
         let old = mem::replace(&mut self.current, Generation::none(self.alloc));
         if let Err(refused) = self.earlier.push(old) {
@@ -259,10 +261,13 @@ impl<T: AtomicValue, A: Allocator + Copy> HeldRawTable<T, A> {
 
     /// Inserts the value, unless an entry is accepted as equal, and says where the entry lives: `target_at` shows it.
     ///
-    /// `eq` is asked with the target of the value first and that of an entry second. Ok with None: the value is an entry
-    /// now. Ok with a value: that value was handed in, and the entry at the place was accepted as its equal. Err: memory
-    /// was refused, the value comes back, and the entries are as they were. A refused growth after an Ok keeps the Ok.
-    /// The closures are borrowed, so that generic callers can pass their own on.
+    /// `hash` is that of the value's target. `eq` is asked with the target of the value first and that of an entry
+    /// second. `hash_fn` gives the hash of an entry's target, and is asked in growth. The closures are borrowed, so that
+    /// generic callers can pass their own on. `L` names the law, for contracts alone.
+    ///
+    /// Ok with None: the value is an entry now. Ok with a value: that value was handed in, and the entry at the place was
+    /// accepted as its equal. Err: memory was refused or the capacity can't double; the value comes back, and the entries
+    /// are as they were. A refused growth after an Ok keeps the Ok.
     pub fn place_alone<
         L: Law<T::Target>,
         E: Fn(&T::Target, &T::Target) -> bool,

@@ -6,10 +6,13 @@ use Rattle.lock_free_hashtable.proofs.growth.rehome_one.Goals as goal
 pub returns-in-Some-clause-names : goal.returns-in-Some-clause-names
 returns-in-Some-clause-names g c =
     let (i, vac, put) = c.insert_unique.ensures.put in
-    rw put (named_set (parts_of c.args.earlier.now) c.args.built.now.parts i c.in-Some.name.bits c.in-Some.name.generation c.in-Some.name.index c.requires.names (c.in-Some._entry.now, c.in-Some.ensures.0.0, c.in-Some.ensures.0.1))
+    let (e, leads, shown) = c.in-Some.ensures in
+    rw put (named_set (parts_of c.args.earlier.now) c.args.built.now.parts i c.in-Some.name.bits c.in-Some.name.generation c.in-Some.name.index c.requires.names (e, leads.0, leads.1))
 
 pub returns-in-Some-clause-step : goal.returns-in-Some-clause-step
-returns-in-Some-clause-step g c = inr (c.in-Some.name, c.in-Some._entry.now, c.in-Some.ensures.0, c.in-Some.ensures.1, c.insert_unique.ensures.put)
+returns-in-Some-clause-step g c =
+    let (e, leads, shown) = c.in-Some.ensures in
+    inr (c.in-Some.name, e, leads, shown, c.insert_unique.ensures.put)
 
 pub returns-in_default-clause-step : goal.returns-in_default-clause-step
 returns-in_default-clause-step g c = inl (c.in_default.ensures, refl)
