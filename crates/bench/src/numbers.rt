@@ -9,6 +9,12 @@ use std::alloc::Allocator;
 /// The keys of one measurement.
 pub const COUNT: u64 = 1_000_000;
 
+/// The index that is looked up first.
+pub const START: u64 = 12_345;
+
+/// How far on the next one is, each time, modulo `COUNT`.
+pub const STRIDE: u64 = 618_033;
+
 /// Numbers are compared by themselves, and hashed by `hash_number`.
 pub struct NumberLaw;
 
@@ -43,7 +49,7 @@ pub fn turn(index: u64) -> u64
     ensures below { result < COUNT }
     ensures one_to_one { index_of_turn result ≡ index }
 {
-    (index * 618_033 + 12_345) % COUNT
+    (index * STRIDE + START) % COUNT
 }
 
 /// A set of boxed numbers.

@@ -3,7 +3,7 @@ ghost use Rattle.std.specs.Prelude.{◌≡◌, ◌+◌, ◌*◌, ◌++◌, [], �
 ghost use Rattle.seated.specs.Tables.{IsSeatOf};
 ghost use Rattle.seated.specs.Numbers.{known_pairs, own_numbers, Knows};
 
-use crate::numbers::{COUNT, spread};
+use crate::numbers::{COUNT, START, STRIDE, spread, turn};
 use crate::report::{Report, refuse_words};
 use seated::{NumberAnswer, NumberTable, Seat};
 use std::alloc::{AllocError, Allocator, Global};
@@ -17,11 +17,6 @@ use std::{io, thread};
 const WORDS: usize = 1 << 21;
 
 const THREADS: u64 = 4;
-
-/// Look-ups begin at the key of this number, and go on by so many modulo `COUNT`.
-const START: u64 = 12_345;
-
-const STRIDE: u64 = 618_033;
 
 /// How often each thread inserts the same keys.
 const ROUNDS: u64 = 25;
@@ -66,6 +61,18 @@ fn measure_one<R: Print + Clock + Threads + Sync + AllocGlobal>(
     let hits = count_spread(table, &mut seat, START, 1 << 40);
     report.time(rt, "c_miss1", start, hits, 0, COUNT)?;
 
+    measure_hits(rt, report, table, seat)
+}
+
+/// Four threads look up all of the spread keys each, in an order that begins elsewhere for each.
+fn measure_hits<R: Print + Clock + Threads + Sync + AllocGlobal>(
+    rt: &R,
+    report: &Report<'_>,
+    table: &NumberTable<Global>,
+    seat: Seat,
+) -> io::Result<()>
+    requires { IsSeatOf table.now seat }
+{
     let parts = parts_for(rt.alloc(), table, seat)?;
     let start = Instant::now(rt)?;
     let hits = thread::map_vec(
@@ -295,7 +302,7 @@ fn count_in_order<A: Allocator + Copy>(table: &NumberTable<A>, seat: &mut Seat) 
 {
     let mut found = 0u64;
     for index in 0..COUNT {
-        if contains_key(table, seat, (index * STRIDE + START) % COUNT + 1) {
+        if contains_key(table, seat, turn(index) + 1) {
             found += 1;
         }
     }

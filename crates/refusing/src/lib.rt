@@ -1,7 +1,8 @@
 //! An allocator for tests, which refuses the requests that a rule names.
 #![tactic(auto)]
 
-ghost use Rattle.std.specs.Prelude.{◌≡◌, ◌≤◌, ◌↔◌, IsTrue};
+ghost use Rattle.std.specs.Prelude.{◌≡◌, ◌↔◌, IsTrue};
+ghost use Rattle.refusing.specs.Rules.{least_counted, most_counted, Counts, memory_of, rule_of};
 
 use std::alloc::{AllocError, Allocator};
 use std::sync::atomic::{AtomicU64, Ordering};
@@ -21,8 +22,8 @@ impl Rule {
     /// Of the requests of `least` to `most` bytes, the first `passing` are granted, the next `refused` are refused, and
     /// all later ones are granted.
     pub fn new(least: usize, most: usize, passing: u64, refused: u64) -> Rule
-        ensures least { result.least ≡ least }
-        ensures most { result.most ≡ most }
+        ensures least { least_counted result ≡ least }
+        ensures most { most_counted result ≡ most }
     {
         Rule {
             least,
@@ -34,7 +35,7 @@ impl Rule {
 
     /// Whether requests of this size are counted.
     fn counts(&self, size: usize) -> bool
-        ensures { IsTrue result ↔ ((self.now.least ≤ size) × (size ≤ self.now.most)) }
+        ensures { IsTrue result ↔ Counts self.now size }
     {
         self.least <= size && size <= self.most
     }
@@ -66,8 +67,8 @@ pub struct Refusing<B: Allocator> {
 impl<B: Allocator> Refusing<B> {
     /// The memory of `inner`, under the rule.
     pub fn new(inner: B, rule: Rule) -> Refusing<B>
-        ensures memory { result.inner ≡ inner }
-        ensures rule { result.rule ≡ rule }
+        ensures memory { memory_of result ≡ inner }
+        ensures rule { rule_of result ≡ rule }
     {
         Refusing { inner, rule }
     }
@@ -93,7 +94,7 @@ impl<B: Allocator> Drop for Refusing<B> {
 }
 
 unsafe impl<B: Allocator> Allocator for Refusing<B> {
-    ghost dealloc_token = { λ heap ty ptr. B.dealloc_token heap.inner ty ptr };
+    ghost dealloc_token = { λ heap ty ptr. B.dealloc_token (memory_of heap) ty ptr };
 
     fn allocate(&self, size: usize, align: usize) -> Result<*mut u8, AllocError> {
         if refuses(&self.rule, size) {

@@ -7,7 +7,7 @@ use Rattle.tablerun.specs.declared.pairs.Insertion.TheVariants as insertion
 use Rattle.tablerun.specs.declared.spelling.Line.{Line}
 use Rattle.tablerun.specs.declared.spelling.Line.TheVariants as line
 use Rattle.lock_free_hashtable.specs.Table.{Table, capacity, all_buckets}
-use Rattle.tablerun.specs.Pairs.{InsertsPair, LooksUpPair, ListsNumbers}
+use Rattle.tablerun.specs.Pairs.{InsertsPair, LooksUpPair, ListsNumbers, HoldsPairs}
 
 -- each number after a comma and a space
 abbrev pub further_numbers : List ℕ → List ℕ
@@ -47,3 +47,8 @@ AnswersLine t ps line.Length text qs = (text ≡ decimal (length ps)) × (qs ≡
 AnswersLine t ps line.Walk text qs = (ns : List ℕ) × ListsNumbers ps ns × (text ≡ number_list ns) × (qs ≡ ps)
 AnswersLine t ps line.Capacity text qs = (text ≡ decimal (capacity t)) × (qs ≡ ps)
 AnswersLine t ps line.Buckets text qs = (text ≡ decimal (all_buckets t)) × (qs ≡ ps)
+
+-- on each list of pairs that the old table holds, the line is told this text, and the new table holds the list after
+abbrev pub AnswersAsPairs : {T : Type 0} → (T → ℕ × ℕ) → Table T → Line → List ℕ → Table T → Type 0
+AnswersAsPairs pair_of old line text new =
+    (ps : List (ℕ × ℕ)) → HoldsPairs pair_of old ps → (qs : List (ℕ × ℕ)) × AnswersLine new ps line text qs × HoldsPairs pair_of new qs

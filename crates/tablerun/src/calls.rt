@@ -1,8 +1,7 @@
 //! The command `calls`: lines that are asked of a table held alone.
 ghost use Rattle.std.specs.Prelude.{◌≡◌, ◌++◌, ℕ, List, OnOk, codes};
 ghost use Rattle.std.specs.Io.KnownBytes.{Appends};
-ghost use Rattle.tablerun.specs.Pairs.{HoldsPairs};
-ghost use Rattle.tablerun.specs.Replies.{AnswersLine, reply_text};
+ghost use Rattle.tablerun.specs.Replies.{AnswersAsPairs, reply_text};
 ghost use Rattle.lock_free_hashtable.specs.Capacity.{IsFirstCapacity};
 
 use crate::faults::Fault;
@@ -57,8 +56,7 @@ fn answer<A: Allocator + Copy, W: Write>(
     output: &mut W,
 ) -> Result<(), Fault>
     ensures first { table.new.first ≡ table.old.first }
-    ensures answered { OnOk result ((ps : List (ℕ × ℕ)) → HoldsPairs (λ b. b.value) table.old ps
-        → (text : List ℕ) × (qs : List (ℕ × ℕ)) × AnswersLine table.new ps line text qs × HoldsPairs (λ b. b.value) table.new qs
+    ensures answered { OnOk result ((text : List ℕ) × AnswersAsPairs (λ b. b.value) table.old line text table.new
         × Appends (W.contents output.old) (W.contents output.new) (text ++ codes "\n")) }
 {
     match line {

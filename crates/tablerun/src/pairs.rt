@@ -51,7 +51,7 @@ impl<A: Allocator + Copy> Model for PairTable<A> {
 
 impl<A: Allocator + Copy> PairTable<A> {
     ghost use Rattle.std.specs.Prelude.{ℕ};
-    ghost use Rattle.tablerun.specs.Pairs.{HoldsPairs, InsertsPair, LooksUpPair, ListsNumbers};
+    ghost use Rattle.tablerun.specs.Pairs.{HoldsPairs, InsertsAsPairs, LooksUpPair, ListsNumbers};
 
     /// The empty table, whose first generation will have `first` buckets. It takes no memory.
     pub fn new(alloc: A, first: usize) -> Self
@@ -68,8 +68,7 @@ impl<A: Allocator + Copy> PairTable<A> {
     /// Inserts the pair, unless it is an entry. It is refused only where it is none.
     pub fn insert(&mut self, hash: u64, number: u64) -> Insertion
         ensures first { self.new.first ≡ self.old.first }
-        ensures inserts { (ps : List (ℕ × ℕ)) → HoldsPairs (λ b. b.value) self.old ps
-            → (qs : List (ℕ × ℕ)) × InsertsPair ps (hash, number) result qs × HoldsPairs (λ b. b.value) self.new qs }
+        ensures inserts { InsertsAsPairs (λ b. b.value) self.old (hash, number) result self.new }
     {
         let Ok(pair) = Box::new(self.alloc, (hash, number)) else {
             return match self.lookup(hash, number) {
