@@ -1,5 +1,5 @@
 -- How the fast structures of the code stand for the machine's lists.
-use Rattle.std.specs.Prelude.{ℕ, suc, ◌+◌, ◌*◌, ◌^◌, ◌==◌, ◌≡◌, ◌≤◌, ◌<◌, length, if◌then◌else◌, Bool, true, false, Option, Some, None, List, [], ◌∷◌, ◌++◌, map, option_to_list}
+use Rattle.std.specs.Prelude.{ℕ, suc, ◌*◌, ◌^◌, ◌==◌, ◌≡◌, ◌≤◌, ◌<◌, length, if◌then◌else◌, Bool, true, false, Option, Some, None, List, [], ◌∷◌, ◌++◌, map, option_to_list}
 use Rattle.table_core.specs.Bags.{weigh}
 use Rattle.std.specs.Option.{option_map}
 use Rattle.table_core.specs.Generations.{Gen, Build, bucket, at_place}

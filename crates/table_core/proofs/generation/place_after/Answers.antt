@@ -1,4 +1,4 @@
-use Rattle.std.proofs.Common.{◌≡◌, ◌+◌, ◌-◌, ◌∙◌, ap, sym, arith, ◌%◌}
+use Rattle.std.proofs.Common.{arith}
 use Rattle.table_core.proofs.CodeRuns.{round_the_end}
 use Rattle.table_core.proofs.generation.place_after.Goals as goal
 

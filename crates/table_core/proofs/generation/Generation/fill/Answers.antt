@@ -1,4 +1,4 @@
-use Rattle.std.proofs.Common.{◌∙◌, ap, ◌≡◌, ◌≤◌, None, map, length, arith, subst, sym}
+use Rattle.std.proofs.Common.{◌∙◌, ap, ◌≡◌, None, map, length, arith}
 use Rattle.std.proofs.lemmas.List.{length-map}
 use Rattle.table_core.specs.Generations.{Gen, bucket, fill}
 use Rattle.table_core.specs.Bound.{entry_of}

@@ -1,6 +1,6 @@
-use Rattle.std.proofs.Common.{◌≡◌, ◌<◌, ◌∙◌, ap, sym, subst, arith, suc, zero, Some, map}
+use Rattle.std.proofs.Common.{◌≡◌, ◌∙◌, ap, sym, subst, arith, Some}
 use Rattle.std.specs.Option.{option_map}
-use Rattle.table_core.specs.Generations.{Gen, bucket, at_place}
+use Rattle.table_core.specs.Generations.{Gen, bucket}
 use Rattle.table_core.specs.Bound.{entry_of, IsRun}
 use Rattle.table_core.proofs.CodeEntries.{lookup_bucket}
 use Rattle.table_core.proofs.CodeRuns.{run_of, set_from}

@@ -1,4 +1,4 @@
-use Rattle.std.proofs.Common.{◌≡◌, ◌∙◌, ap, sym, subst, map}
+use Rattle.std.proofs.Common.{sym, subst, map}
 use Rattle.table_core.specs.Generations.{Gen}
 use Rattle.table_core.specs.Bound.{entry_of, IsRun}
 use Rattle.table_core.proofs.CodeRuns.{runs_set, entries_set}
