@@ -1,5 +1,5 @@
 -- The entries of a generation, as a map from places keeps them.
-use Rattle.std.proofs.Common.{ℕ, suc, zero, ◌≡◌, ◌<◌, ◌≤◌, List, [], ◌∷◌, Bool, true, false, refl, Option, Some, None, length, sym, ap, arith, ltb, eqb, cond, ◌∙◌, inl, inr}
+use Rattle.std.proofs.Common.{ℕ, ◌≡◌, ◌<◌, ◌≤◌, List, [], ◌∷◌, Bool, true, false, refl, Option, Some, None, length, sym, ap, arith, ltb, eqb, cond, ◌∙◌, inl, inr}
 use Rattle.std.specs.Prelude.{map}
 use Rattle.std.specs.Option.{option_map}
 use Rattle.std.specs.Ordering.{nat_cmp, is_eq}
@@ -7,7 +7,7 @@ use Rattle.std.specs.declared.cmp.Ordering.TheVariants.{Less, Equal, Greater}
 use Rattle.std.specs.BTreeMap.{is_at, insert_entry}
 use Rattle.std.specs.Map.{lookup}
 use Rattle.std.proofs.lemmas.Bool.{lt-ltb, le-ltb, eq-eqb, ne_eqb, eqb-true, cases_order}
-use Rattle.table_core.specs.Generations.{Gen, fill, bucket, put_in, at_place, empty_from}
+use Rattle.table_core.specs.Generations.{Gen, fill, bucket, put_in}
 use Rattle.table_core.specs.Bound.{entry_of}
 use Rattle.table_core.specs.declared.event.Entry.{Entry}
 use Rattle.table_core.specs.declared.generation.Slot.{Slot}
@@ -53,15 +53,6 @@ insert_put k s (e ∷ es) h = elim (compared k e.0) [
   | same q c ↦ absurd (let z : eqb e.0 k ≡ true = eq-eqb e.0 k (sym q) in let y = rw z at h in cc)
   | above l q c ↦ rw (c, l) (ap (λ xs. entry_of e ∷ xs) (insert_put k s es (rw q at h)))
 ]
-
--- where the first place is empty, it is the one
-pub empty_here : (capacity : ℕ) (es : List Entry) (hash d n : ℕ) → bucket es (at_place capacity hash d) ≡ None → empty_from capacity es hash d n ≡ at_place capacity hash d
-empty_here capacity es hash d zero h = refl
-empty_here capacity es hash d (suc n) h = rw h refl
-
--- where it is set, it is one further on
-pub empty_further : (capacity : ℕ) (es : List Entry) (hash d n : ℕ) (e : Entry) → bucket es (at_place capacity hash d) ≡ Some e → empty_from capacity es hash (suc d) n ≡ empty_from capacity es hash d (suc n)
-empty_further capacity es hash d n e h = rw h refl
 
 pub fill_counts : (g : Gen) (e : Entry) → g.size ≤ length g.entries → g.size < length (fill g e).entries
 fill_counts g e h = omega (arith, length-put_in e g.entries)
