@@ -8,7 +8,8 @@ use Rattle.generations.specs.Ways.{IsLawfulFor}
 use Rattle.terms.specs.Capacities.{IsFirstCapacity}
 use Rattle.lock_free_hashtable.specs.Capacity.{IsSized}
 use Rattle.generations.specs.declared.cell.Entry.{Entry}
-use Rattle.generations.specs.declared.place.Place.{Place}
+-- under the path that callers know
+pub use Rattle.generations.specs.declared.place.Place.{Place}
 
 pub record Table (T : Type 0) : Type 0 where
   -- the capacity of the first generation
