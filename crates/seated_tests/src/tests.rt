@@ -2,7 +2,7 @@
 ghost use Rattle.std.specs.Prelude.{All, IfOk};
 ghost use Rattle.seated.specs.Tables.{IsSeatOf};
 
-use crate::{NumberAnswer, NumberTable, Seat};
+use seated::{NumberAnswer, NumberTable, Seat};
 use refusing::{Refusing, Rule};
 use std::alloc::{AllocError, Allocator, Global};
 use std::num::NonZeroU64;
