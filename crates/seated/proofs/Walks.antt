@@ -143,16 +143,24 @@ affirmed P p = ((λ _. p), (λ _. refl))
 pub denied : (P : Type 0) → ¬ P → IsTrue false ↔ P
 denied P never = ((λ e. absurd (true≢false (sym e))), (λ p. absurd (never p)))
 
+-- where nothing is owned, all of it is known
+pub nothing_owned : (ps : List (ℕ × ℕ)) (xs : List ℕ) → xs ≡ [] → KnowsEach ps xs
+unfolding KnowsEach
+nothing_owned ps xs nothing = subst (KnowsEach ps) (sym nothing) (λ k d inside. absurd (omega (arith, inside)))
+
 -- a seat that owns what it did, and knows no less, knows what it owns
 pub still_known : (ps qs : List (ℕ × ℕ)) (xs ys : List ℕ) → KnowsEach ps xs → Within ps qs → ys ≡ xs → KnowsEach qs ys
+unfolding KnowsEach
 still_known ps qs xs ys each within is = subst (KnowsEach qs) (sym is) (λ k d inside. let known = each k d inside in (known.0, within known.0 (get_or xs k d) known.1))
 
 -- and so a seat that two were joined to
 pub both_known : (ps qs rs : List (ℕ × ℕ)) (xs ys : List ℕ) → KnowsEach ps xs → KnowsEach qs ys → Within (ps ++ qs) rs → KnowsEach rs (xs ++ ys)
+unfolding KnowsEach
 both_known ps qs rs xs ys each_x each_y within = All-append (Knows rs) xs ys (still_known ps rs xs xs each_x (within_left ps qs rs within) refl) (still_known qs rs ys ys each_y (within_right ps qs rs within) refl)
 
 -- and so after an insert
 pub inserted_known : (n x : ℕ) (ps qs : List (ℕ × ℕ)) (xs ys : List ℕ) (r : NumberAnswer) → KnowsEach ps xs → Within ps qs → Inserts n x ps xs r qs ys → KnowsEach qs ys
+unfolding KnowsEach
 inserted_known n x ps qs xs ys Placed each within told = subst (KnowsEach qs) (sym told.0) (All-push (Knows qs) xs x (still_known ps qs xs xs each within refl) told.1)
 inserted_known n x ps qs xs ys Found each within told = still_known ps qs xs ys each within told.0
 inserted_known n x ps qs xs ys Full each within told = still_known ps qs xs ys each within told.0

@@ -17,7 +17,7 @@ abbrev pub Knows : List (ℕ × ℕ) → ℕ → Type 0
 Knows pairs x = (p : ℕ) × Contains pairs (p, x)
 
 -- each of these numbers is in a known pair
-abbrev pub KnowsEach : List (ℕ × ℕ) → List ℕ → Type 0
+unfoldable pub KnowsEach : List (ℕ × ℕ) → List ℕ → Type 0
 KnowsEach pairs numbers = All (Knows pairs) numbers
 
 -- a pair is known for each of the n buckets

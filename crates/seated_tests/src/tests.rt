@@ -1,9 +1,9 @@
-//! What no clause says: that one thread's numbers are there for another, and that each is told Placed once.
+//! That one thread's numbers are there for another, that each is told Placed once, and that no call but an insert writes.
 ghost use Rattle.std.specs.Prelude.{All, IfOk};
 ghost use Rattle.seated.specs.Tables.{IsSeatOf};
 
-use seated::{NumberAnswer, NumberTable, Seat};
 use refusing::{Refusing, Rule};
+use seated::{NumberAnswer, NumberTable, Seat};
 use std::alloc::{AllocError, Allocator, Global};
 use std::num::NonZeroU64;
 use std::process::Abort;
@@ -24,6 +24,12 @@ const NOTHING: Told = Told {
     found: 0,
     full: 0,
 };
+
+/// Numbers of words at which a probe wraps at once, and one past a page.
+const SIZES: [usize; 4] = [1, 2, 4, 8192];
+
+/// The words of a table of 16 after 3, 19, 40, 5, 21 and 1000.
+const HANDED_IN: [u64; 16] = [0, 0, 0, 3, 19, 5, 21, 0, 40, 1000, 0, 0, 0, 0, 0, 0];
 
 /// How often `new` asks for memory.
 const REQUESTS: u64 = 3;
@@ -67,18 +73,62 @@ fn insert_to<A: Allocator + Copy>(table: &NumberTable<A>, mut seat: Seat, last: 
     (seat, told)
 }
 
-/// Inserts numbers that the table has not.
-fn insert_new(rt: &impl Abort, table: &NumberTable<Global>, mut seat: Seat, numbers: &[u64]) -> Seat
+/// Inserts a number that the table has not.
+fn insert_new(rt: &impl Abort, table: &NumberTable<Global>, seat: &mut Seat, n: u64)
+    requires { IsSeatOf table.now seat.old }
+    ensures { IsSeatOf table.now seat.new }
+{
+    if let Some(v) = NonZeroU64::new(n) {
+        assert!(rt; !table.contains(seat, v), "{n} before");
+        assert_eq!(rt; table.insert(seat, v), NumberAnswer::Placed, "{n}");
+        assert!(rt; table.contains(seat, v), "{n} after");
+    }
+}
+
+/// Inserts numbers that the table has not, in order.
+fn insert_each(
+    rt: &impl Abort,
+    table: &NumberTable<Global>,
+    mut seat: Seat,
+    numbers: &[u64],
+) -> Seat
     requires { IsSeatOf table.now seat }
     ensures { IsSeatOf table.entry.now result }
 {
     for &n in numbers {
-        if let Some(v) = NonZeroU64::new(n) {
-            assert!(rt; !table.contains(&mut seat, v));
-            assert_eq!(rt; table.insert(&mut seat, v), NumberAnswer::Placed);
-        }
+        insert_new(rt, table, &mut seat, n);
     }
     seat
+}
+
+/// Inserts 1 to `last`, in order, of which the table has none.
+fn insert_all(rt: &impl Abort, table: &NumberTable<Global>, mut seat: Seat, last: u64) -> Seat
+    requires { IsSeatOf table.now seat }
+    ensures { IsSeatOf table.entry.now result }
+{
+    for n in 1..=last {
+        insert_new(rt, table, &mut seat, n);
+    }
+    seat
+}
+
+/// The table is full, of other numbers.
+fn assert_full(rt: &impl Abort, table: &NumberTable<Global>, seat: &mut Seat, n: u64)
+    requires { IsSeatOf table.now seat.old }
+    ensures { IsSeatOf table.now seat.new }
+{
+    if let Some(v) = NonZeroU64::new(n) {
+        assert_eq!(rt; table.insert(seat, v), NumberAnswer::Full);
+        assert!(rt; !table.contains(seat, v));
+    }
+}
+
+/// So many words, of which each holds its bucket's number and the first, to which a probe for the last number comes, that.
+fn assert_filled(rt: &impl Abort, words: &[u64], count: u64) {
+    assert_eq!(rt; words.len() as u64, count);
+    for (word, bucket) in words.iter().zip(0u64..) {
+        assert_eq!(rt; *word, if bucket == 0 { count } else { bucket });
+    }
 }
 
 /// The numbers up to `last` that the seat finds.
@@ -214,9 +264,37 @@ fn sixty_four_seats_share_a_table(rt: HostRuntime) -> Result<(), Fail> {
 fn a_probe_goes_round_the_end(rt: HostRuntime) -> Result<(), Fail> {
     let (table, seat) = table_of(&rt, rt.alloc(), 8)?;
     assert_eq!(rt; table.word_count(), 8);
-    let seat = insert_new(&rt, &table, seat, [7, 15, 1, 9].as_slice());
+    let seat = insert_each(&rt, &table, seat, [7, 15, 1, 9].as_slice());
     let words = table.close(seat);
     assert_eq!(rt; words.as_slice(), [15, 1, 9, 0, 0, 0, 0, 7].as_slice());
+    Ok(())
+}
+
+#[test]
+fn every_word_was_handed_in(rt: HostRuntime) -> Result<(), Fail> {
+    let (table, seat) = table_of(&rt, rt.alloc(), 16)?;
+    let Ok((first, second)) = table.split(seat) else {
+        unreachable!()
+    };
+    let mut first = insert_each(&rt, &table, first, [3, 19, 40].as_slice());
+    let mut second = insert_each(&rt, &table, second, [5, 21, 1000].as_slice());
+    assert!(rt; table.meet(&mut first, &mut second).is_ok());
+    let joined = table.join(first, second);
+    let Ok((last, _newcomer)) = table.split(joined) else {
+        unreachable!()
+    };
+    assert_eq!(rt; table.close(last).as_slice(), HANDED_IN.as_slice());
+    Ok(())
+}
+
+#[test]
+fn tables_of_other_sizes_are_filled(rt: HostRuntime) -> Result<(), Fail> {
+    for count in SIZES {
+        let (table, seat) = table_of(&rt, rt.alloc(), count)?;
+        let mut seat = insert_all(&rt, &table, seat, count as u64);
+        assert_full(&rt, &table, &mut seat, 3 * 8192);
+        assert_filled(&rt, table.close(seat).as_slice(), count as u64);
+    }
     Ok(())
 }
 
