@@ -1,0 +1,1 @@
+-- What a word holds says the same to every thread.
