@@ -6,17 +6,18 @@
 --     settles      a view becomes a name, and gives its part of the token up
 --     reads        a load of a shared word shows a view of its block
 --     offers       an exchange of a shared word
+use Rattle.std.specs.Prelude.{is_some, IsSome}
 use Rattle.std.proofs.Common.{◌≡◌, ℕ, Bool, true, false, List, [], ◌∷◌, ◌++◌, Option, Some, None, refl, subst, lit<}
 use seplogic.Ra.Ura.{Ura}
 use mir.Raw.{raw as bare}
 use mir.Syntax.{Ty}
 use base.Share
 use base.Fraction.{full_share}
-use base.Logic.{SProp, ent, sep, ex, emp, upd_i, id⊢}
+use base.Logic.{SProp, ent, sep, ex, emp, guard, upd_i, id⊢}
 use base.Fml.{Lft, Share, Fml, ftrue, ffalse, fsep, fex, flft, fdead, fbor, finv, Incl-refl, Incl-trans}
 use base.Before.{before}
 use types.Logic.{Logic, sem}
-use types.Kit.{Item, ‵, ◌⊛◌, raw, some, later, mean, ◌$◌, ◌∵◌, !, qed, by, move, keep, drop, split, split3, group, fsplit, fsplit3, fjoin, fjoin3, fpick, fpack, pick, show, frame, assume, suffices, done, use0, use1, use2, updating, await, now}
+use types.Kit.{Item, ‵, ◌⊛◌, raw, some, given, later, mean, ◌$◌, ◌∵◌, !, qed, by, move, keep, drop, split, split3, group, fsplit, fsplit3, fjoin, fjoin3, fpick, fpack, pick, rewrite, check, show, frame, assume, suffices, done, use0, use1, use2, updating, await, now}
 use types.Tokens.{lft_new, lft_end, bor_new, lent_back, bor_fracture}
 use types.Na.{before-Incl, before_lent}
 use contract.BorrowLft.{◌⊑◌, meet_⊑_left, meet_⊑_right}
@@ -152,3 +153,23 @@ module _ {M : Type 1} {𝓤 : Ura M} (𝓛 : Logic 𝓤) (R : RattleType) (L : L
       pub reads : A.inv (fbor α J) ∗ A.lft α s ⊢ asks_ptr 𝓛 (block_ptr b o) (λ p. p) (λ p. fsep (flft α s) (glimpse unknown p))
       reads = qed 𝓛 (‵ (finv (fbor α J)) ∷ ‵ (flft α s) ∷ []) ∵ use0 𝓛 (raw (emp 𝓤)) (id⊢ 𝓤 (emp 𝓤)) $ move ! (1 ∷ 2 ∷ 0 ∷ []) $
           by ! (borrowed_ptr 𝓛 α s J b o Ptr (λ p. p) (λ p. p) (λ _. ftrue) (glimpse unknown) (emp 𝓤) loaded)
+
+    abbrev IsOff : Bool → Type 0
+    IsOff true = ⊥
+    IsOff false = Unit {0}
+
+    pub not_none : IsSome v → v ≡ None → ⊥
+    not_none set e = subst IsOff (subst (λ (u : Option R.Denot). is_some u ≡ true) e set) tt
+
+    -- the block at p, and that its value is one that the word may show
+    abbrev pub Block : Ptr → Item 𝓤
+    Block p = some (λ (t : ℕ × ℕ × R.Denot). given (p ≡ block_ptr t.0 t.1.0) (given (Q t.1.1) (‵ (boxed R k (block_ptr t.0 t.1.0) t.1.1))))
+
+    abbrev Blocks : Ptr → ℕ × ℕ × R.Denot → Pr
+    Blocks p t = guard 𝓤 (p ≡ block_ptr t.0 t.1.0) (guard 𝓤 (Q t.1.1) ⟦ boxed R k (block_ptr t.0 t.1.0) t.1.1 ⟧)
+
+    pub set_block : (p : Ptr) → IsSome v → y ≡ true → ⟦ fdead home ⟧ ∗ ⟦ Kept p ⟧ ⊢ H.⇛ (mean 𝓛 (Block p))
+    set_block null_ptr set owning = qed 𝓛 (‵ (fdead home) ∷ ‵ unknown ∷ []) ∵ updating ! $ move ! (1 ∷ []) $ fpick ! (λ e. absurd (not_none set e))
+    set_block (block_ptr b o) set owning = let p : Ptr = block_ptr b o in qed 𝓛 (‵ (fdead home) ∷ ‵ (Kept p) ∷ []) ∵ updating ! $ move ! (1 ∷ []) $ fsplit ! $ drop ! $ fpick ! (λ s. fsplit3 ! $ drop ! $ move ! (1 ∷ []) $ fpick ! (λ so. drop ! $
+        rewrite ! 0 (λ (w : Bool). ‵ (right R k h w p s.0 s.1)) owning refl $ move ! (1 ∷ 0 ∷ []) $ use2 𝓛 (later (‵ (boxed R k p s.0))) (comes_home p s.0 s.1) $ await ! tt $ now ! $
+        show ! (Blocks p) (b, (o, s.0)) $ check ! refl $ check ! so $ done !))

@@ -1,5 +1,6 @@
 -- `into_block` has the block back, since its home has ended.
 use Rattle.std.proofs.Common.{◌≡◌, ℕ, ◌+◌, Bool, true, false, Option, Some, None, List, [], ◌∷◌, ◌++◌, refl, sym, ap, ◌∙◌, subst, lit<}
+use Rattle.std.specs.Prelude.{IsSome}
 use mir.Syntax.{a_type, dcons, dnil}
 use mir.Val.{Val, vnull, vptr, vcons, vnil, vunit, has_ty}
 use mir.MapTy.{inst_fn}
@@ -69,4 +70,20 @@ into_block_spec 𝓤 𝓛 𝓜 𝓡 wired T A L LA f fd g d dd homed alloc glued
     move ! (1 ∷ 3 ∷ []) $ heard ! (κT ⊑ T.lives) (λ within. heard ! Asked (λ asked. keep ! (0 ∷ []) $ split ! $ split3 ! $ move ! (3 ∷ []) $ fsplit3 ! $ move ! (1 ∷ []) $ fsplit ! $ drop ! $ unhide ! $ fsplit ! $ drop ! $
     rewrite ! 0 (λ (i : ℕ). ‵ (fdead (i ∷ []))) asked.0 refl $ move ! (1 ∷ []) $ fsplit ! $ fpick ! (λ laid. drop ! $ fpick ! (λ p. fsplit ! $
     word_out P Y (atomic_ptr_holding p) ! refl (LP.lawful 𝓛) z.0.4.0 (λ v gv ws. let w : Val = marked v in
-    let y : k.Ghost = (((κT, tt), (qT, tt), tt, (atomic_ptr_holding p, tt), (v ∷ [], tt)), tt) in ?)))))))
+    let y : k.Ghost = (((κT, tt), (qT, tt), tt, (atomic_ptr_holding p, tt), (v ∷ [], tt)), tt) in 
+    -- [the pointer; beside it; the home's end; nothing; κ's token; T's token; the other tokens]
+    nothing ! $ move ! (1 ∷ 0 ∷ []) $ fjoin ! $ move ! (5 ∷ 3 ∷ []) $ join ! $ join ! $ use0 𝓛 (raw (fact 𝓤 (κT ⊑ T.lives))) (fact_i 𝓤 (κT ⊑ T.lives) (emp 𝓤) within) $ nothing ! $ move ! (1 ∷ 0 ∷ []) $ join ! $ move ! (1 ∷ 0 ∷ []) $ join ! $
+    use1 𝓛 (raw (k.pre y)) (id⊢ 𝓤 _) $
+    let args : List Val = w ∷ vptr cb co ∷ [] in suffices ! (Run args) (subst (λ (us : List Val). ent 𝓤 (Run args) (Run us)) (sym (λ i. ws i ++ (are.1.0.0 i ++ []))) (id⊢ 𝓤 (Run args))) $
+    enter ! 𝓣.C 𝓣.Λ fn args Post $ alloc_all ! (λ l. pass_all ! refl ((subst (Typed W.mir) ws laid).0, ((tt, tt), tt)) $
+    sets ! (of_opd ! (get_in ! (fld ! refl (stop !)) (sub ! 0 refl (whole !)))) refl gv $ sets ! (of_opd ! (get ! refl)) refl gv $ calls_at ! (fm 𝓛 𝓜 𝓡) k (met 𝓤 𝓛 𝓜 𝓡 (code.calls-core::atomic::ptr::AtomicPtr::into_inner 𝓡.env wired) T L) y (and_then ! (get ! refl) (no_more !)) (λ u.
+    use1 𝓛 (later (some (λ (r : Ptr). (tok ⊛ ‵ (RawPtr.own_val r (u ∷ []))) ⊛ some (λ (ls : Lasts (callee.ended T) (κT, tt) y.0.3). ‵ (lasts (callee.ended T) (κT, tt) y.0.3 ls) ⊛ raw (fact 𝓤 (r ≡ p)))))) (id⊢ 𝓤 (k.post y u)) $
+    await ! tt $ pick ! (λ r. split ! $ move ! (1 ∷ []) $ pick ! (λ _. split ! $ drop ! $ heard ! (r ≡ p) (λ same. split ! $ move ! (1 ∷ []) $ feq_l ! (λ e.
+    -- [T's token; beside it; the home's end; κ's token; the other tokens]
+    move ! (2 ∷ 1 ∷ []) $ use2 𝓛 (later (moves.Block 𝓛 R LR (g.dealloc_token a) h wd.owning wd.value (Shows f.fits wd) p)) (moves.set_block 𝓛 R LR (g.dealloc_token a) h wd.owning wd.value (Shows f.fits wd) p asked.1.1 asked.1.0) $ await ! tt $
+    pick ! (λ t. learn ! (λ is. learn ! (λ so. let b = t.0 in let o = t.1.0 in let x = t.1.1 in let d : (Loose R Y g).Denot = record { at = block_ptr b o; marker = record {}; value = x; from = a } in
+    lands_as ! (ap only e ∙ ap ptr_val same ∙ ap ptr_val is) refl (tt, tt) $ sets ! (agg ! (no_more !)) refl (tt, tt) $ sets ! (agg ! (and_then ! (get ! refl) (and_then ! (get ! refl) (no_more !)))) refl (loose_good R Y g b o) $
+    loose_in R Y g ! b o a x $
+    -- [the loose block; T's token; κ's token; the other tokens]
+    move ! (1 ∷ []) $ split ! $ move ! (0 ∷ 4 ∷ []) $ join ! $ move ! (3 ∷ 0 ∷ []) $ join ! $ use0 𝓛 (raw (fact 𝓤 (Told x))) (fact_i 𝓤 (Told x) (emp 𝓤) (refl, so)) $ nothing ! $ nothing ! $ fjoin ! $ nothing ! $ fjoin ! $
+    returns ! (look_at ! 0 refl) $ free_all ! refl $ keep ! (2 ∷ 0 ∷ 4 ∷ 1 ∷ []) $ by ! (leaves 𝓛 En hs c z (marked (vptr b o)) d (tt, (tt, tt)) (tt, (tt, tt)))))))))))))))))
