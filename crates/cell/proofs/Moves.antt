@@ -7,7 +7,7 @@
 --     reads        a load of a shared word shows a view of its block
 --     offers       an exchange of a shared word
 use Rattle.std.specs.Prelude.{is_some, IsSome}
-use Rattle.std.proofs.Common.{◌≡◌, ℕ, Bool, true, false, List, [], ◌∷◌, ◌++◌, Option, Some, None, refl, subst, lit<}
+use Rattle.std.proofs.Common.{◌≡◌, ℕ, Bool, true, false, List, [], ◌∷◌, ◌++◌, Option, Some, None, refl, sym, subst, lit<}
 use seplogic.Ra.Ura.{Ura}
 use mir.Raw.{raw as bare}
 use mir.Syntax.{Ty}
@@ -17,7 +17,7 @@ use base.Logic.{SProp, ent, sep, ex, emp, guard, upd_i, id⊢}
 use base.Fml.{Lft, Share, Fml, ftrue, ffalse, fsep, fex, flft, fdead, fbor, finv, Incl-refl, Incl-trans}
 use base.Before.{before}
 use types.Logic.{Logic, sem}
-use types.Kit.{Item, ‵, ◌⊛◌, raw, some, given, later, mean, ◌$◌, ◌∵◌, !, qed, by, move, keep, drop, split, split3, group, fsplit, fsplit3, fjoin, fjoin3, fpick, fpack, pick, rewrite, check, show, frame, assume, suffices, done, use0, use1, use2, updating, await, now}
+use types.Kit.{Item, Goal, Seq, learn, ‵, ◌⊛◌, raw, some, given, later, mean, ◌$◌, ◌∵◌, !, qed, by, move, keep, drop, split, split3, group, fsplit, fsplit3, fjoin, fjoin3, fpick, fpack, pick, rewrite, check, show, frame, assume, suffices, done, use0, use1, use2, updating, await, now}
 use types.Tokens.{lft_new, lft_end, bor_new, lent_back, bor_fracture}
 use types.Na.{before-Incl, before_lent}
 use contract.BorrowLft.{◌⊑◌, meet_⊑_left, meet_⊑_right}
@@ -31,6 +31,13 @@ use denote.Struct.Lending.{lent_at, lent_at_shr_laws, Lends-first, Lends-lies}
 use Rattle.core.specs.Sync.RawAtomic.Pointer.{cell, alike, asks_ptr, compares}
 use Rattle.core.proofs.raw_atomic.Asked.{borrowed_ptr, borrowed_compares, PtrLies, Compared, alike_null}
 use Rattle.cell.specs.Words.{testable, tested, view, named, boxed, right, held, kept, Held}
+
+abbrev IsOff : Bool → Type 0
+IsOff true = ⊥
+IsOff false = Unit {0}
+
+pub not_none : {X : Type 0} {v : Option X} → IsSome v → v ≡ None → ⊥
+not_none {X} set e = subst IsOff (subst (λ (u : Option X). is_some u ≡ true) e set) tt
 
 module _ {M : Type 1} {𝓤 : Ura M} (𝓛 : Logic 𝓤) (R : RattleType) (L : Laws R) (k : Ty → Ptr → Fml) (h : ℕ) where
   open 𝓛 use {H, A}
@@ -154,22 +161,63 @@ module _ {M : Type 1} {𝓤 : Ura M} (𝓛 : Logic 𝓤) (R : RattleType) (L : L
       reads = qed 𝓛 (‵ (finv (fbor α J)) ∷ ‵ (flft α s) ∷ []) ∵ use0 𝓛 (raw (emp 𝓤)) (id⊢ 𝓤 (emp 𝓤)) $ move ! (1 ∷ 2 ∷ 0 ∷ []) $
           by ! (borrowed_ptr 𝓛 α s J b o Ptr (λ p. p) (λ p. p) (λ _. ftrue) (glimpse unknown) (emp 𝓤) loaded)
 
-    abbrev IsOff : Bool → Type 0
-    IsOff true = ⊥
-    IsOff false = Unit {0}
-
-    pub not_none : IsSome v → v ≡ None → ⊥
-    not_none set e = subst IsOff (subst (λ (u : Option R.Denot). is_some u ≡ true) e set) tt
-
     -- the block at p, and that its value is one that the word may show
     abbrev pub Block : Ptr → Item 𝓤
-    Block p = some (λ (t : ℕ × ℕ × R.Denot). given (p ≡ block_ptr t.0 t.1.0) (given (Q t.1.1) (‵ (boxed R k (block_ptr t.0 t.1.0) t.1.1))))
+    Block p = some (λ (x : R.Denot). given (Q x) (‵ (boxed R k p x)))
 
-    abbrev Blocks : Ptr → ℕ × ℕ × R.Denot → Pr
-    Blocks p t = guard 𝓤 (p ≡ block_ptr t.0 t.1.0) (guard 𝓤 (Q t.1.1) ⟦ boxed R k (block_ptr t.0 t.1.0) t.1.1 ⟧)
-
-    pub set_block : (p : Ptr) → IsSome v → y ≡ true → ⟦ fdead home ⟧ ∗ ⟦ Kept p ⟧ ⊢ H.⇛ (mean 𝓛 (Block p))
-    set_block null_ptr set owning = qed 𝓛 (‵ (fdead home) ∷ ‵ unknown ∷ []) ∵ updating ! $ move ! (1 ∷ []) $ fpick ! (λ e. absurd (not_none set e))
-    set_block (block_ptr b o) set owning = let p : Ptr = block_ptr b o in qed 𝓛 (‵ (fdead home) ∷ ‵ (Kept p) ∷ []) ∵ updating ! $ move ! (1 ∷ []) $ fsplit ! $ drop ! $ fpick ! (λ s. fsplit3 ! $ drop ! $ move ! (1 ∷ []) $ fpick ! (λ so. drop ! $
+    pub held_block : (p : Ptr) → y ≡ true → ⟦ fdead home ⟧ ∗ ⟦ fex Seen (held R k h y v Q p) ⟧ ⊢ H.⇛ (mean 𝓛 (Block p))
+    held_block p owning = qed 𝓛 (‵ (fdead home) ∷ ‵ (fex Seen (held R k h y v Q p)) ∷ []) ∵ updating ! $ move ! (1 ∷ []) $ fpick ! (λ s. fsplit3 ! $ drop ! $ move ! (1 ∷ []) $ fpick ! (λ so. drop ! $
         rewrite ! 0 (λ (w : Bool). ‵ (right R k h w p s.0 s.1)) owning refl $ move ! (1 ∷ 0 ∷ []) $ use2 𝓛 (later (‵ (boxed R k p s.0))) (comes_home p s.0 s.1) $ await ! tt $ now ! $
-        show ! (Blocks p) (b, (o, s.0)) $ check ! refl $ check ! so $ done !))
+        show ! (λ (x : R.Denot). guard 𝓤 (Q x) ⟦ boxed R k p x ⟧) s.0 $ check ! so $ done !))
+
+    low_block : (b o : ℕ) → v ≡ None → ⟦ Kept (block_ptr b o) ⟧ ⊢ guard 𝓤 (Testable (block_ptr b o)) ⟦ Kept (block_ptr b o) ⟧
+    low_block b o unset = let p : Ptr = block_ptr b o in qed 𝓛 (‵ (Kept p) ∷ []) ∵ fsplit ! $ rewrite ! 0 (λ (u : Option R.Denot). ‵ (tested u p)) unset refl $ fpick ! (λ low. check ! low $
+        fpack ! (Testable p) (λ _. ftrue) low $ rewrite ! 0 (λ (u : Option R.Denot). ‵ (tested u p)) (sym unset) refl $ fjoin ! $ done !)
+
+    module _ (α : Lft) (b o : ℕ) (s : Share) (nb no ν : ℕ) (x : R.Denot) (low : Testable (block_ptr nb no)) where
+      abbrev new : Ptr
+      new = block_ptr nb no
+
+      abbrev Word : Fml
+      Word = Held R k h y v Q b o
+
+      abbrev in_word : Ptr → Fml
+      in_word p = fsep (cell b o p) (Kept p)
+
+      abbrev pub won : Ptr → Fml
+      won p = view R h new (x, ν, Share.right full_share)
+
+      abbrev pub lost : Ptr → Fml
+      lost p = fsep (mine new x ν) (glimpse ffalse p)
+
+      abbrev Exchange : Ptr × Bool → Pr
+      Exchange = Compared 𝓛 α s Word b o null_ptr new won lost
+
+      module _ (owning : y ≡ true) (unset : v ≡ None) (fits : Q x) where
+        sets : ⟦ cell b o new ⟧ ∗ ⟦ mine new x ν ⟧ ⊢ ⟦ Word ⟧ ∗ ⟦ won null_ptr ⟧
+        sets = let kept_part : Seen = (x, ν, Share.left full_share) in qed 𝓛 (‵ (cell b o new) ∷ ‵ (mine new x ν) ∷ []) ∵ move ! (1 ∷ []) $ fsplit ! $
+            use1 𝓛 (‵ (view R h new kept_part) ⊛ ‵ (won null_ptr)) (halved new (x, ν, full_share)) $ split ! $ move ! (2 ∷ []) $
+            rewrite ! 0 (λ (w : Bool). ‵ (right R k h w new x ν)) (sym owning) refl $ nothing ! $ fpack ! (Q x) (λ _. ftrue) fits $ move ! (2 ∷ 1 ∷ 0 ∷ []) $ fjoin3 ! $
+            fpack ! Seen (held R k h y v Q new) kept_part $ nothing ! $ fpack ! (Testable new) (λ _. ftrue) low $ rewrite ! 0 (λ (u : Option R.Denot). ‵ (tested u new)) (sym unset) refl $ fjoin ! $
+            move ! (2 ∷ 0 ∷ []) $ fjoin ! $ fpack ! Ptr in_word new $ done !
+
+        compared : (p : Ptr) → ⟦ cell b o p ⟧ ∗ ⟦ Kept p ⟧ ∗ ⟦ mine new x ν ⟧ ⊢ ex 𝓤 Exchange
+        compared null_ptr = let G : Pr = ⟦ Word ⟧ ∗ ⟦ won null_ptr ⟧ in qed 𝓛 (‵ (cell b o null_ptr) ∷ ‵ unknown ∷ ‵ (mine new x ν) ∷ []) ∵ show ! Exchange (null_ptr, true) $ frame ! $
+            use0 𝓛 (‵ (alike null_ptr null_ptr true)) (alike_null 𝓛 null_ptr (lit< tt)) $ frame ! $ assume ! (‵ (cell b o new)) $ suffices ! _ (upd_i 𝓤 G) $ keep ! (0 ∷ 2 ∷ []) $ by ! sets
+        compared (block_ptr pb po) = let p : Ptr = block_ptr pb po in qed 𝓛 (‵ (cell b o p) ∷ ‵ (Kept p) ∷ ‵ (mine new x ν) ∷ []) ∵ show ! Exchange (p, false) $ frame ! $
+            use1 𝓛 (given (Testable p) (‵ (Kept p))) (low_block pb po unset) $ learn ! (λ t. use0 𝓛 (‵ (alike p null_ptr false)) (alike_null 𝓛 p t) $ frame ! $
+            assume ! (‵ (cell b o p)) $ suffices ! _ (upd_i 𝓤 (⟦ Word ⟧ ∗ ⟦ lost p ⟧)) $ move ! (1 ∷ []) $ use1 𝓛 (‵ (Kept p) ⊛ ‵ (glimpse ffalse p)) (glimpsed ffalse pb po) $ split ! $
+            move ! (2 ∷ 0 ∷ []) $ fjoin ! $ fpack ! Ptr in_word p $ frame ! $ move ! (1 ∷ 0 ∷ []) $ fjoin ! $ done !)
+
+        pub offers : A.inv (fbor α Word) ∗ (A.lft α s ∗ ⟦ mine new x ν ⟧) ⊢ compares 𝓛 (block_ptr b o) null_ptr new (λ p. fsep (flft α s) (won p)) (λ p. fsep (flft α s) (lost p))
+        offers = borrowed_compares 𝓛 α s Word b o null_ptr new won lost ⟦ mine new x ν ⟧ (qed 𝓛 (‵ Word ∷ ‵ (mine new x ν) ∷ []) ∵ suffices ! _ (upd_i 𝓤 (ex 𝓤 Exchange)) $ fpick ! (λ p. fsplit ! $ by ! (compared p)))
+
+-- what stands beside a pointer, by cases
+module _ (R : RattleType) (k : Ty → Ptr → Fml) (h : ℕ) (y : Bool) (v : Option R.Denot) (Q : R.Denot → Type 0) {M : Type 1} {𝓤 : Ura M} {𝓛 : Logic 𝓤} {K : Type 0} {Γ : List (Item 𝓤)} {G : Goal 𝓤 𝓛.H} where
+  pub where_set : K → (p : Ptr) → IsSome v → ((b o : ℕ) → p ≡ block_ptr b o → Seq K 𝓛 (‵ (fex (R.Denot × ℕ × Share) (held R k h y v Q (block_ptr b o))) ∷ Γ) G) → Seq K 𝓛 (‵ (kept R k h y v Q p) ∷ Γ) G
+  where_set t null_ptr set one = fpick t (λ e. absurd (not_none set e))
+  where_set t (block_ptr b o) set one = fsplit t $ drop t $ one b o refl
+
+  pub where_unset : K → (p : Ptr) → v ≡ None → (p ≡ null_ptr → Seq K 𝓛 Γ G) → ((b o : ℕ) → p ≡ block_ptr b o → Testable (block_ptr b o) → Seq K 𝓛 (‵ (fex (R.Denot × ℕ × Share) (held R k h y v Q (block_ptr b o))) ∷ Γ) G) → Seq K 𝓛 (‵ (kept R k h y v Q p) ∷ Γ) G
+  where_unset t null_ptr unset none one = drop t $ none refl
+  where_unset t (block_ptr b o) unset none one = fsplit t $ rewrite t 0 (λ (u : Option R.Denot). ‵ (tested u (block_ptr b o))) unset refl $ fpick t (λ low. drop t $ one b o refl low)

@@ -82,7 +82,7 @@ name_spec 𝓤 𝓛 𝓜 𝓡 wired T A L LA f fd g d dd homed alloc glued =
     use2 𝓛 (raw (asks_ptr 𝓛 (block_ptr b (o + 0)) (λ p. p) out₀)) (moves.reads 𝓛 R LR k h wd.owning wd.value Q α b (o + 0) s) $ move ! (2 ∷ 5 ∷ 0 ∷ []) $
     use3 𝓛 (raw (𝓣.C _ (vptr b (o + 0) ∷ seq_cst ∷ []) (λ u. mean 𝓛 (calls.found 𝓛 out u)))) (methods.loads 𝓛 𝓜 𝓡 T L κ (left q) b (o + 0) (code.calls-core::atomic::ptr::AtomicPtr::load 𝓡.env wired) out₀) $
     Calls-last ! (fm 𝓛 𝓜 𝓡) (calls.found 𝓛 out) (and_then ! (get ! refl) (and_then ! (get ! refl) (no_more !))) (λ u. calls.finds_either ! out
-    (fsplit3 ! $ move ! (2 ∷ []) $ fpick ! (λ e. absurd (moves.not_none 𝓛 R LR k h wd.owning wd.value Q asked e)))
+    (fsplit3 ! $ move ! (2 ∷ []) $ fpick ! (λ e. absurd (moves.not_none asked e)))
     (λ pb po. lands_last ! refl (tt, tt) $ exec ! 𝓣.C 𝓣.Λ Ev (after 1 fn.body) (at_ret Ev Post) $ fsplit3 ! $ move ! (1 ∷ 3 ∷ []) $ use2 𝓛 (later (‵ (flft κ (right q)))) (apply∗ 𝓤 (𝓛.A.lft α s) Again) $ await ! tt $ move ! (1 ∷ 0 ∷ []) $ use2 𝓛 (‵ (flft κ q)) (𝓛.lfts.lft_join κ q) $
     -- [κ's token; the view; T's token; the other tokens; nothing]
     move ! (1 ∷ []) $ fsplit ! $ drop ! $ fpick ! (λ t. fsplit ! $ move ! (1 ∷ []) $ fpick ! (λ so. drop ! $

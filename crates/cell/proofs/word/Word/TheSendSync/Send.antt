@@ -1,0 +1,4 @@
+use Rattle.cell.specs.contracts.word.Word.{the_row}
+use Rattle.cell.proofs.Sent.{kept_keyless}
+pub send : ?
+send = ?
