@@ -24,6 +24,7 @@ use denote.Param.Laws.{Laws}
 use denote.Struct.Lending.{lent_at}
 use denote.Struct.Struct.{Struct, within}
 use denote.Struct.Owning.{shape}
+use denote.Struct.Tuple.{Tuple}
 use Rattle.core.specs.declared.alloc.Allocator.{Ghosts}
 use Rattle.core.specs.contracts.marker.PhantomData as marker
 use Rattle.core.proofs.cell.Inside.{Good, one}
@@ -126,3 +127,13 @@ module _ (P Y : RattleType) where
         drop t $ rewrite t 0 (λ (ws : List Val). ‵ (P.own_val x ws)) w.1 refl $ move t (1 ∷ []) $ drop t $
         k w.0 w.2 (subst (λ (ms : List Val). us ≡ vstruct (of_list ((w.0 ∷ []) ++ (ms ++ []))) ∷ []) j.1.0
         (subst (λ (ws : List Val). us ≡ vstruct (of_list (ws ++ (vss.1.0 ++ []))) ∷ []) w.1 e))))))
+
+-- a pair, by value
+abbrev pub both : Val → Val → Val
+both v w = vstruct (vcons v (vcons w vnil))
+
+module _ (P Q : RattleType) {M : Type 1} {𝓤 : Ura M} {𝓛 : Logic 𝓤} {K : Type 0} {Γ : List (Item 𝓤)} {G : Goal 𝓤 𝓛.H} where
+  pub pair_in : K → (x : P.Denot) (y : Q.Denot) (v w : Val)
+      → Step K 𝓛 (‵ ((Tuple (P ∷ Q ∷ [])).own_val (x, y) (both v w ∷ [])) ∷ Γ) G (‵ (P.own_val x (v ∷ [])) ∷ ‵ (Q.own_val y (w ∷ [])) ∷ Γ) G
+  pair_in t x y v w = step (λ s. nothing t $ move t (1 ∷ 2 ∷ 0 ∷ []) $ fjoin3 t $ feq_i t (List Val) (both v w ∷ []) (both v w ∷ []) refl $ fjoin t $
+      fpack t (Valss (P ∷ Q ∷ [])) (within (record { name = []; args = []; types = []; fields = P ∷ Q ∷ [] }) (x, (y, tt)) (both v w ∷ [])) (v ∷ [], (w ∷ [], tt)) $ s)
