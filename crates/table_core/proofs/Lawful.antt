@@ -11,7 +11,7 @@ use Rattle.terms.specs.Capacities.{IsFirstCapacity}
 use Rattle.table_core.specs.Calls.{Call, starts}
 use Rattle.table_core.specs.Machine.{World, empty, bucket_of, place, begin_growth, Act, Goes, happens, run, after}
 use Rattle.table_core.specs.History.{replies, placed_by, placed}
-use Rattle.table_core.specs.Steps.{accepts, turned, Row, shares, loads_none, loads, reads_empty, meets, turns, goes_on, puts, loses_meets, loses_turns, loses_goes_on, adds, leaves_grow, large, owns, begins_first, fails_first, unwanted, fails_largest, fails_refused, begins_next, copies, shows, looks, look_meets, look_goes_on, len_loads, walk_loads, Opens, opens_insert, opens_lookup, opens_len, opens_walk, left}
+use Rattle.table_core.specs.Steps.{accepts, declines, differs, turned, Row, shares, loads_none, loads, reads_empty, meets, turns, turns_unasked, goes_on, goes_on_unasked, puts, loses_meets, loses_turns, loses_turns_unasked, loses_goes_on, loses_goes_on_unasked, adds, leaves_grow, large, owns, begins_first, fails_first, unwanted, fails_largest, fails_refused, begins_next, copies, shows, looks, look_meets, look_goes_on, look_goes_on_unasked, len_loads, walk_loads, Opens, opens_insert, opens_lookup, opens_len, opens_walk, left}
 use Rattle.table_core.specs.declared.event.Event.{Event}
 use Rattle.table_core.specs.declared.event.Event.TheVariants.{Read, Put, Copy}
 use Rattle.table_core.specs.declared.event.Entry.{Entry}
@@ -36,7 +36,7 @@ use Rattle.table_core.proofs.Contents.{order, in_put, in_bucket, in_get, put_sta
 use Rattle.table_core.proofs.Seats.{first_empty_way, copy_room}
 use Rattle.table_core.proofs.Tracks.{growth_from, asking_outcome, load_outcome, none_shared, none_look, none_len, none_walk, tracked_row}
 use Rattle.table_core.proofs.Invariant.{inv}
-use Rattle.table_core.proofs.Truth.{and_both, not-true}
+use Rattle.table_core.proofs.Truth.{and_both, and-not, not-and, not-true}
 use Rattle.table_core.proofs.Sizes.{place_building}
 
 -- What a probe misses
@@ -134,6 +134,13 @@ pub row_hash : (w : World) (c : Call) {p : Phase} {x : Event} {a : Answer} {r : 
 row_hash w c (shares _ _) = refl
 row_hash w c _ = refl
 
+-- an entry that is declined, or whose bits differ, isn't accepted
+pub declined : (e : Entry) (s : CallState) (y : Bool) → declines e s y ≡ true → accepts e s y ≡ false
+declined e s y h = and-not (e.bits == bits_of s.hash) y h
+
+pub differing : (e : Entry) (s : CallState) (y : Bool) → differs e s ≡ true → accepts e s y ≡ false
+differing e s y h = not-and (e.bits == bits_of s.hash) y h
+
 -- an answer yes where the bits agree: the entry is accepted
 pub accepted_at : (l : Law) (w : World) (c : Call) (p : Phase) (x : Event) (e : Entry) (y : Bool) → c.state.phase ≡ p → (UsesBy l w c p x → AsksBy l w c y) → bucket_of w.table c.state ≡ Some e → accepts e c.state y ≡ true → UsesBy l w c c.state.phase x → accepts_value l c e.value ≡ true
 accepted_at l w c p x e y k s q f u =
@@ -185,9 +192,12 @@ missed_as l gens c d n q a b e m k g wa ge =
 pub judged_probes : (l : Law) (w : World) (c : Call) {p : Phase} {x : Event} {a : Answer} {r : CallState} {ls : List ℕ} {t : Table} {q : Option Reply} → Row w c p x a r ls t q → c.state.phase ≡ p → UsesBy l w c c.state.phase x → AllReached l w → (is_asking p ≡ true → HasHash l c) → (probing p ≡ true → Probing w.table.gens c) → (probing p ≡ true → (k : ℕ) (g : Gen) → c.state.walked ≡ Some k → slice_get w.table.gens k ≡ Some g → Missed l c g c.state.seen) → probing r.phase ≡ true → (k : ℕ) (g : Gen) → r.walked ≡ Some k → slice_get w.table.gens k ≡ Some g → Missed l (left c r ls) g r.seen
 judged_probes l w c (loads _ _ _) e u r t q m z = λ k g wa ge. record { none = λ j f lt h. absurd (omega arith) }
 judged_probes l w c (looks _ _ _) e u r t q m z = λ k g wa ge. record { none = λ j f lt h. absurd (omega arith) }
-judged_probes l w c (goes_on n y d b f lt) e u r t q m z = missed_as l w.table.gens c _ _ (q refl) refl refl refl (missed_more l w c d (q refl) b (refused_by l w c Probe (Read n y) d y r e (λ x. x) b f u (t refl) (q refl)) (m refl))
-judged_probes l w c (loses_goes_on n y d b f lt) e u r t q m z = missed_as l w.table.gens c _ _ (q refl) refl refl refl (missed_more l w c d (q refl) b (refused_by l w c AtEmpty (Put n y true) d y r e (λ x. x) b f u (t refl) (q refl)) (m refl))
-judged_probes l w c (look_goes_on n y d b f lt) e u r t q m z = missed_as l w.table.gens c _ _ (q refl) refl refl refl (missed_more l w c d (q refl) b (refused_by l w c LookProbe (Read n y) d y r e (λ x. x) b f u (t refl) (q refl)) (m refl))
+judged_probes l w c (goes_on n y d b f lt) e u r t q m z = missed_as l w.table.gens c _ _ (q refl) refl refl refl (missed_more l w c d (q refl) b (refused_by l w c Probe (Read n y) d y r e (λ x. x) b (declined d c.state y f) u (t refl) (q refl)) (m refl))
+judged_probes l w c (goes_on_unasked n y d b f lt) e u r t q m z = missed_as l w.table.gens c _ _ (q refl) refl refl refl (missed_more l w c d (q refl) b (refused_by l w c Probe (Read n y) d y r e (λ x. x) b (differing d c.state y f) u (t refl) (q refl)) (m refl))
+judged_probes l w c (loses_goes_on n y d b f lt) e u r t q m z = missed_as l w.table.gens c _ _ (q refl) refl refl refl (missed_more l w c d (q refl) b (refused_by l w c AtEmpty (Put n y true) d y r e (λ x. x) b (declined d c.state y f) u (t refl) (q refl)) (m refl))
+judged_probes l w c (loses_goes_on_unasked n y d b f lt) e u r t q m z = missed_as l w.table.gens c _ _ (q refl) refl refl refl (missed_more l w c d (q refl) b (refused_by l w c AtEmpty (Put n y true) d y r e (λ x. x) b (differing d c.state y f) u (t refl) (q refl)) (m refl))
+judged_probes l w c (look_goes_on n y d b f lt) e u r t q m z = missed_as l w.table.gens c _ _ (q refl) refl refl refl (missed_more l w c d (q refl) b (refused_by l w c LookProbe (Read n y) d y r e (λ x. x) b (declined d c.state y f) u (t refl) (q refl)) (m refl))
+judged_probes l w c (look_goes_on_unasked n y d b f lt) e u r t q m z = missed_as l w.table.gens c _ _ (q refl) refl refl refl (missed_more l w c d (q refl) b (refused_by l w c LookProbe (Read n y) d y r e (λ x. x) b (differing d c.state y f) u (t refl) (q refl)) (m refl))
 judged_probes l w c (reads_empty _ _ _) e u r t q m z = λ k g wa ge. record { none = (m refl k g wa ge).none }
 judged_probes l w c _ e u r t q m z = absurd (cc)
 
@@ -214,8 +224,10 @@ pub judged_turned : (l : Law) (w : World) (c : Call) {p : Phase} {x : Event} {a 
     (wants_growth p c.state.outcome ≡ true → (k : ℕ) (g : Gen) → c.state.walked ≡ Some k → slice_get w.table.gens k ≡ Some g → Missed l c g g.capacity) →
     wants_growth r.phase r.outcome ≡ true → (k : ℕ) (g : Gen) → r.walked ≡ Some k → slice_get w.table.gens k ≡ Some g → Missed l (left c r ls) g g.capacity
 judged_turned l w c (loads_none _ _) e f u r t q m v z = λ k g wa ge. absurd (cc)
-judged_turned l w c (turns n y d b o lt) e f u r t q m v z = missed_all l w c _ _ refl (q refl) lt (missed_more l w c d (q refl) b (refused_by l w c Probe (Read n y) d y r e (λ x. x) b o u (t refl) (q refl)) (m refl))
-judged_turned l w c (loses_turns n y d b o lt) e f u r t q m v z = missed_all l w c _ _ refl (q refl) lt (missed_more l w c d (q refl) b (refused_by l w c AtEmpty (Put n y true) d y r e (λ x. x) b o u (t refl) (q refl)) (m refl))
+judged_turned l w c (turns n y d b o lt) e f u r t q m v z = missed_all l w c _ _ refl (q refl) lt (missed_more l w c d (q refl) b (refused_by l w c Probe (Read n y) d y r e (λ x. x) b (declined d c.state y o) u (t refl) (q refl)) (m refl))
+judged_turned l w c (turns_unasked n y d b o lt) e f u r t q m v z = missed_all l w c _ _ refl (q refl) lt (missed_more l w c d (q refl) b (refused_by l w c Probe (Read n y) d y r e (λ x. x) b (differing d c.state y o) u (t refl) (q refl)) (m refl))
+judged_turned l w c (loses_turns n y d b o lt) e f u r t q m v z = missed_all l w c _ _ refl (q refl) lt (missed_more l w c d (q refl) b (refused_by l w c AtEmpty (Put n y true) d y r e (λ x. x) b (declined d c.state y o) u (t refl) (q refl)) (m refl))
+judged_turned l w c (loses_turns_unasked n y d b o lt) e f u r t q m v z = missed_all l w c _ _ refl (q refl) lt (missed_more l w c d (q refl) b (refused_by l w c AtEmpty (Put n y true) d y r e (λ x. x) b (differing d c.state y o) u (t refl) (q refl)) (m refl))
 judged_turned l w c (leaves_grow _) e f u r t q m v z = missed_same l w.table.gens c _ _ refl refl (v refl)
 judged_turned l w c (large _ _ _ _) e f u r t q m v z = absurd (asking_outcome (is_some c.value) c.state.outcome f z)
 judged_turned l w c (owns _ _) e f u r t q m v z = missed_same l w.table.gens c _ _ refl refl (v (growth_from WantOwned Owned refl (λ i. refl) (λ i. refl) c.state.outcome z))

@@ -8,7 +8,7 @@ use Rattle.terms.specs.Hashes.{bits_of}
 use Rattle.table_core.specs.Calls.{Call, starts, finds_entry}
 use Rattle.table_core.specs.Machine.{World, empty, walked_gen, bucket_of, refused, found_entry, reply_of_outcome, Act, Goes, acts, finished_call, after}
 use Rattle.table_core.specs.History.{replies, placed, TakenEvent, bucket_then}
-use Rattle.table_core.specs.Steps.{accepts, Row, loads_none, loads, meets, loses_meets, adds, leaves_refused, small, ends, ends_failed, gives_up, looks_none, looks, look_empty, look_meets, look_turns, len_none, len_loads, len_size, walk_none, walk_loads, walk_skips_last, walk_takes_last, left}
+use Rattle.table_core.specs.Steps.{accepts, Row, loads_none, loads, meets, loses_meets, adds, leaves_refused, small, ends, ends_failed, gives_up, looks_none, looks, look_empty, look_meets, look_turns, look_turns_unasked, len_none, len_loads, len_size, walk_none, walk_loads, walk_skips_last, walk_takes_last, left}
 use Rattle.table_core.specs.declared.event.Event.{Event}
 use Rattle.table_core.specs.declared.event.Event.TheVariants.{Read, Put}
 use Rattle.table_core.specs.declared.event.Entry.{Entry}
@@ -147,6 +147,7 @@ row_names w c (gives_up n k d) q h e m = absurd (refused_names c.value q e h m)
 row_names w c (looks_none n k) q h e m = absurd (no_entry _ q e h refl m)
 row_names w c (look_empty n y k) q h e m = absurd (no_entry _ q e h refl m)
 row_names w c (look_turns n y d k b lt) q h e m = absurd (no_entry _ q e h refl m)
+row_names w c (look_turns_unasked n y d k b lt) q h e m = absurd (no_entry _ q e h refl m)
 row_names w c (len_none n k) q h e m = absurd (no_entry _ q e h refl m)
 row_names w c (len_size n g k) q h e m = absurd (no_entry _ q e h refl m)
 row_names w c (walk_none n k) q h e m = absurd (no_entry _ q e h refl m)

@@ -19,7 +19,6 @@ use Rattle.table_core.proofs.Lists.{get-set, get-push, tally, weigh-plus, weigh-
 use Rattle.table_core.proofs.Locks.{weigh-le}
 use Rattle.std.proofs.lemmas.Bool.{eq-eqb, eqb-true}
 use Rattle.std.proofs.Math.Nat.{mod-lt, mod-add-mod, mod-eq_of_lt, add-mod_right}
-use Rattle.std.proofs.lemmas.Nat.{pow_pos}
 use Rattle.table_core.proofs.Turns.{Turn, rests, opens, takes}
 use Rattle.table_core.proofs.Facts.{values, In, IsSet, Holding, Seated, AllSeated, Roomy, probing, Probing, AllTracked, Way}
 use Rattle.table_core.proofs.Contents.{weigh-put_in, order, put_new, put_stays, in_put, entry_of, bucket_none}

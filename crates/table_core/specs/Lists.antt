@@ -6,9 +6,9 @@ use Rattle.table_core.specs.ListObject.{Insert as AskInsert, Lookup as AskLookup
 use Rattle.table_core.specs.ListObject.{Placed as AnswerPlaced, Found as AnswerFound, Refused as AnswerRefused, Shown as AnswerShown, Absent as AnswerAbsent, Counted as AnswerCounted, Walked as AnswerWalked}
 use Rattle.table_core.specs.Bags.{SameBag, weigh}
 use Rattle.table_core.specs.Replies.{Reply, ReplyPlaced, ReplyFound, ReplyRefused, ReplySome, ReplyNone, ReplyLen, ReplyWalk, Finished}
-use Rattle.table_core.specs.Calls.{Call, is_used, is_done}
+use Rattle.table_core.specs.Calls.{Call, is_done}
 use Rattle.table_core.specs.Machine.{World, empty, Act, Begins, Goes, acts, happens, after, finishes}
-use Rattle.table_core.specs.History.{replies, fate, placed, placed_by, given, kept, TakenEvent, bucket_then, has_later}
+use Rattle.table_core.specs.History.{replies, fate, placed, placed_by, given, kept, beginnings, TakenEvent, bucket_then, has_later}
 use Rattle.table_core.specs.Law.{Law, IsLawful}
 use Rattle.table_core.specs.Values.{Ends, entry_named, IsOwn}
 use Rattle.table_core.specs.declared.event.Event.{Event}
@@ -59,10 +59,10 @@ is_refusal _ = false
 -- entry of a Found, and of a Refused the read of an empty bucket or the failed check
 abbrev pub is_moment : Reply → Phase → Answer → Bool
 is_moment ReplyNone LookLoad a = true
-is_moment (ReplySome e) LookProbe (Holds true true) = true
+is_moment (ReplySome e) LookProbe (Holds true) = true
 is_moment (ReplyPlaced v) AtEmpty Won = true
-is_moment (ReplyFound e v) Probe (Holds true true) = true
-is_moment (ReplyFound e v) AtEmpty (Holds true true) = true
+is_moment (ReplyFound e v) Probe (Holds true) = true
+is_moment (ReplyFound e v) AtEmpty (Holds true) = true
 is_moment (ReplyRefused v) Probe Empty = true
 is_moment (ReplyRefused v) Owned Failed = true
 is_moment _ _ _ = false
@@ -119,11 +119,15 @@ pub record HasPlaced (f : ℕ) (s : List Event) (r : Finished) : Type 0 where
   pub placed : Contains (placed (empty f) s) value
   pub unfinished : fate (empty f) s r.call ≡ None
 
+-- the schedule has one taken event at which this call begins
+abbrev pub HasBegun : ℕ → List Event → ℕ → Type 0
+HasBegun f s n = (start : Event) × (beginnings (empty f) s n ≡ start ∷ [])
+
 -- at any cut of the schedule, what stands before it are calls that have begun, and what stands behind it are calls that haven't finished
 pub record IsInOrder (f : ℕ) (s more : List Event) : Type 0 where
   pub before : List Finished
   pub split : history (empty f) (s ++ more) ≡ before ++ history (after f s) more
-  pub begun : (r : Finished) → Contains before r → is_used r.call (after f s).calls ≡ true
+  pub begun : (r : Finished) → Contains before r → HasBegun f s r.call
   pub unfinished : (r : Finished) → Contains (history (after f s) more) r → fate (empty f) s r.call ≡ None
 
 pub record IsOneHistory (l : Law) (f : ℕ) (s : List Event) : Type 0 where

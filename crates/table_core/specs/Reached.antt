@@ -1,18 +1,15 @@
 -- The states that schedules lead to, and what one event does to such a state at the place of its call.
-use Rattle.std.specs.Prelude.{ℕ, ◌≡◌, ◌<◌, ◌++◌, ◌&&◌, ◌||◌, Bool, true, false, Option, Some, None, List, [], ◌∷◌, length, slice_set}
-use Rattle.table_core.specs.Replies.{Reply, ReplyPlaced, ReplyNone, ReplyLen, ReplyWalk}
+use Rattle.std.specs.Prelude.{ℕ, ◌≡◌, ◌<◌, ◌++◌, ◌||◌, Bool, true, false, Option, Some, None, List, [], ◌∷◌, length, slice_set}
+use Rattle.table_core.specs.Replies.{Reply, ReplyPlaced}
 use Rattle.table_core.specs.Generations.{Gen, Build, Table, bucket, first_empty, current}
 use Rattle.terms.specs.Capacities.{IsFirstCapacity}
 use Rattle.table_core.specs.Calls.{Call, is_used, is_used_value}
-use Rattle.table_core.specs.Machine.{World, after, walked_gen, bucket_of, checked, changed, call_after, reply, refused, found_entry, shown_entry, by_outcome, by_failure}
+use Rattle.table_core.specs.Machine.{World, after, walked_gen, bucket_of, checked, changed, call_after, reply, found_entry}
 use Rattle.table_core.specs.declared.event.Entry.{Entry}
 use Rattle.table_core.specs.declared.event.Event.{Event}
 use Rattle.table_core.specs.declared.event.Event.TheVariants.{Put, Add, Check, Copy}
-use Rattle.table_core.specs.declared.call.CallState.{CallState}
-use Rattle.table_core.specs.declared.call.Phase.{Phase}
-use Rattle.table_core.specs.declared.call.Phase.TheVariants.{LeaveRefused, AskSize, LeaveOwned, LeaveFailed, LookLoad, LookProbe, LenLoad, LenSize, WalkLoad, Done}
 use Rattle.table_core.specs.declared.call.Answer.{Answer}
-use Rattle.table_core.specs.declared.call.Answer.TheVariants.{Holds, Won, Counted, Sized, Begun, Copied}
+use Rattle.table_core.specs.declared.call.Answer.TheVariants.{Won, Counted, Begun, Copied}
 
 -- some schedule leads to this world
 pub record IsReached (w : World) : Type 0 where
@@ -27,9 +24,9 @@ may_not_begin n None calls = is_used n calls
 may_not_begin n (Some v) calls = is_used n calls || is_used_value v calls
 
 -- the world with this call more, unless it may not begin
-abbrev pub begun : World → Bool → Call → World
-begun w true c = w
-begun w false c = record w { calls = w.calls ++ c ∷ [] }
+abbrev pub with_call_unless : World → Bool → Call → World
+with_call_unless w true c = w
+with_call_unless w false c = record w { calls = w.calls ++ c ∷ [] }
 
 -- the world after the call at this place has found this
 abbrev pub moved : World → ℕ → Call → Event → Option Answer → World
@@ -58,36 +55,3 @@ reply_placed (Some v) = Some (ReplyPlaced v)
 abbrev pub reply_found : Option Entry → Option ℕ → Option Reply
 reply_found o None = None
 reply_found o (Some v) = found_entry o v
-
--- the entry that an answer shows to a walk
-abbrev pub walked_entry : Table → CallState → Answer → Option Entry
-walked_entry t s (Holds _ _) = bucket_of t s
-walked_entry t s _ = None
-
--- a walk's list after its next phase: its reply takes it
-abbrev pub list_left : Phase → List ℕ → List ℕ
-list_left Done list = []
-list_left _ list = list
-
-abbrev pub list_reply : Phase → List ℕ → Option Reply
-list_reply Done list = Some (ReplyWalk list)
-list_reply _ list = None
-
--- what a look-up is told that ends at a set bucket
-abbrev pub look_ended : Table → CallState → Bool → Option Reply
-look_ended t s true = shown_entry (bucket_of t s)
-look_ended t s false = Some ReplyNone
-
--- what a call, other than a walk at a bucket, is told that ends in this phase by an answer that fits
-abbrev pub reply_ended : Phase → Table → Call → Answer → Option Reply
-reply_ended LeaveRefused t c _ = refused c.value
-reply_ended AskSize t c _ = by_outcome t c
-reply_ended LeaveOwned t c _ = by_outcome t c
-reply_ended LeaveFailed t c _ = by_failure t c true
-reply_ended LookLoad t c _ = Some ReplyNone
-reply_ended LookProbe t c (Holds same accepted) = look_ended t c.state (same && accepted)
-reply_ended LookProbe t c _ = Some ReplyNone
-reply_ended LenLoad t c _ = Some (ReplyLen 0)
-reply_ended LenSize t c (Sized k) = Some (ReplyLen k)
-reply_ended WalkLoad t c _ = Some (ReplyWalk [])
-reply_ended _ t c _ = None

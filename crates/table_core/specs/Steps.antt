@@ -1,10 +1,10 @@
 -- The table of events, as a relation: one case a row, in the order of the phases.
-use Rattle.std.specs.Prelude.{ℕ, ◌+◌, ◌-◌, ◌/◌, ◌%◌, ◌^◌, ◌==◌, ◌&&◌, ◌≡◌, nat_lt, Bool, true, false, Option, Some, None, List, [], ◌∷◌, ◌++◌, length}
+use Rattle.std.specs.Prelude.{ℕ, ◌+◌, ◌-◌, ◌/◌, ◌%◌, ◌^◌, ◌==◌, ◌&&◌, ◌≡◌, nat_lt, not, Bool, true, false, Option, Some, None, List, [], ◌∷◌, ◌++◌, length}
 use Rattle.table_core.specs.Replies.{Reply, ReplySome, ReplyNone, ReplyLen, ReplyWalk, Finished}
 use Rattle.table_core.specs.Generations.{Gen, Table, current, is_current, next_copied, copy_on}
 use Rattle.terms.specs.Hashes.{bits_of}
 use Rattle.table_core.specs.Calls.{Call, starts, is_used, is_used_value, call_numbered, replaced, is_owned, is_locked, holds_shared, holds_owned, to, probes, finds_entry, is_pending}
-use Rattle.table_core.specs.Machine.{World, Act, Begins, Goes, holds, walked_gen, bucket_of, place, add_one, begin_growth, show_built, refused, by_outcome, number_of, in_range, finished_call, acts, happens, finishes}
+use Rattle.table_core.specs.Machine.{World, Act, Begins, Goes, walked_gen, bucket_of, place, add_one, begin_growth, show_built, refused, by_outcome, number_of, in_range, finished_call, acts, happens, finishes}
 use Rattle.table_core.specs.declared.event.Event.{Event}
 use Rattle.table_core.specs.declared.event.Event.TheVariants.{Insert, Lookup, Len, Walk, Share, Own, Free, Load, Read, Put, Add, Size, Check, Copy, Show}
 use Rattle.table_core.specs.declared.event.Entry.{Entry}
@@ -13,11 +13,19 @@ use Rattle.table_core.specs.declared.call.Phase.{Phase}
 use Rattle.table_core.specs.declared.call.Phase.TheVariants.{WantShared, Shared, Probe, AtEmpty, Placed, LeaveOk, LeaveGrow, LeaveRefused, AskSize, WantOwned, Owned, Building, LeaveOwned, LeaveFailed, LookLoad, LookProbe, LenLoad, LenSize, WalkLoad, WalkAt, Done}
 use Rattle.table_core.specs.declared.call.Outcome.TheVariants.{New}
 use Rattle.table_core.specs.declared.call.Answer.{Answer}
-use Rattle.table_core.specs.declared.call.Answer.TheVariants.{Taken, Released, NoGeneration, Loaded, Empty, Won, MemoryRefused, Counted, Sized, Begun, Unwanted, Failed, Copied, Shown}
+use Rattle.table_core.specs.declared.call.Answer.TheVariants.{Taken, Released, ReleasedAfterFailure, NoGeneration, Loaded, Empty, Holds, HoldsUnasked, Won, MemoryRefused, Counted, Sized, Begun, Unwanted, Failed, Copied, Shown}
 
 -- whether the call accepts this entry: its bits agree, and the closure says yes
 abbrev pub accepts : Entry → CallState → Bool → Bool
 accepts e s y = (e.bits == bits_of s.hash) && y
+
+-- whether it is asked, its bits agreeing, and says no
+abbrev pub declines : Entry → CallState → Bool → Bool
+declines e s y = (e.bits == bits_of s.hash) && not y
+
+-- whether nothing is asked, its bits being others
+abbrev pub differs : Entry → CallState → Bool
+differs e s = not (e.bits == bits_of s.hash)
 
 -- the next bucket of a probe
 abbrev pub next_bucket : Phase → CallState → CallState
@@ -40,29 +48,37 @@ pub data Row (w : World) (c : Call) : Phase → Event → Answer → CallState �
   -- Probe: read
   reads_empty : (n : ℕ) (y : Bool) → bucket_of w.table c.state ≡ None → Row w c Probe (Read n y) Empty (to AtEmpty c.state) c.list w.table None
   meets : (n : ℕ) (y : Bool) (e : Entry) → bucket_of w.table c.state ≡ Some e → accepts e c.state y ≡ true →
-      Row w c Probe (Read n y) (holds e c.state.hash y) (finds_entry LeaveOk c.state) c.list w.table None
-  turns : (n : ℕ) (y : Bool) (e : Entry) → bucket_of w.table c.state ≡ Some e → accepts e c.state y ≡ false → nat_lt (c.state.seen + 1) c.state.capacity ≡ false →
-      Row w c Probe (Read n y) (holds e c.state.hash y) (turned LeaveGrow c.state) c.list w.table None
-  goes_on : (n : ℕ) (y : Bool) (e : Entry) → bucket_of w.table c.state ≡ Some e → accepts e c.state y ≡ false → nat_lt (c.state.seen + 1) c.state.capacity ≡ true →
-      Row w c Probe (Read n y) (holds e c.state.hash y) (next_bucket Probe c.state) c.list w.table None
+      Row w c Probe (Read n y) (Holds true) (finds_entry LeaveOk c.state) c.list w.table None
+  turns : (n : ℕ) (y : Bool) (e : Entry) → bucket_of w.table c.state ≡ Some e → declines e c.state y ≡ true → nat_lt (c.state.seen + 1) c.state.capacity ≡ false →
+      Row w c Probe (Read n y) (Holds false) (turned LeaveGrow c.state) c.list w.table None
+  turns_unasked : (n : ℕ) (y : Bool) (e : Entry) → bucket_of w.table c.state ≡ Some e → differs e c.state ≡ true → nat_lt (c.state.seen + 1) c.state.capacity ≡ false →
+      Row w c Probe (Read n y) HoldsUnasked (turned LeaveGrow c.state) c.list w.table None
+  goes_on : (n : ℕ) (y : Bool) (e : Entry) → bucket_of w.table c.state ≡ Some e → declines e c.state y ≡ true → nat_lt (c.state.seen + 1) c.state.capacity ≡ true →
+      Row w c Probe (Read n y) (Holds false) (next_bucket Probe c.state) c.list w.table None
+  goes_on_unasked : (n : ℕ) (y : Bool) (e : Entry) → bucket_of w.table c.state ≡ Some e → differs e c.state ≡ true → nat_lt (c.state.seen + 1) c.state.capacity ≡ true →
+      Row w c Probe (Read n y) HoldsUnasked (next_bucket Probe c.state) c.list w.table None
   -- AtEmpty: put
   memory_refused : (n : ℕ) (y : Bool) → Row w c AtEmpty (Put n y false) MemoryRefused (to LeaveRefused c.state) c.list w.table None
   puts : (n : ℕ) (y : Bool) → bucket_of w.table c.state ≡ None →
       Row w c AtEmpty (Put n y true) Won (to Placed c.state) c.list (place w.table c.state c.value) None
   loses_meets : (n : ℕ) (y : Bool) (e : Entry) → bucket_of w.table c.state ≡ Some e → accepts e c.state y ≡ true →
-      Row w c AtEmpty (Put n y true) (holds e c.state.hash y) (finds_entry LeaveOk c.state) c.list w.table None
-  loses_turns : (n : ℕ) (y : Bool) (e : Entry) → bucket_of w.table c.state ≡ Some e → accepts e c.state y ≡ false → nat_lt (c.state.seen + 1) c.state.capacity ≡ false →
-      Row w c AtEmpty (Put n y true) (holds e c.state.hash y) (turned LeaveGrow c.state) c.list w.table None
-  loses_goes_on : (n : ℕ) (y : Bool) (e : Entry) → bucket_of w.table c.state ≡ Some e → accepts e c.state y ≡ false → nat_lt (c.state.seen + 1) c.state.capacity ≡ true →
-      Row w c AtEmpty (Put n y true) (holds e c.state.hash y) (next_bucket Probe c.state) c.list w.table None
+      Row w c AtEmpty (Put n y true) (Holds true) (finds_entry LeaveOk c.state) c.list w.table None
+  loses_turns : (n : ℕ) (y : Bool) (e : Entry) → bucket_of w.table c.state ≡ Some e → declines e c.state y ≡ true → nat_lt (c.state.seen + 1) c.state.capacity ≡ false →
+      Row w c AtEmpty (Put n y true) (Holds false) (turned LeaveGrow c.state) c.list w.table None
+  loses_turns_unasked : (n : ℕ) (y : Bool) (e : Entry) → bucket_of w.table c.state ≡ Some e → differs e c.state ≡ true → nat_lt (c.state.seen + 1) c.state.capacity ≡ false →
+      Row w c AtEmpty (Put n y true) HoldsUnasked (turned LeaveGrow c.state) c.list w.table None
+  loses_goes_on : (n : ℕ) (y : Bool) (e : Entry) → bucket_of w.table c.state ≡ Some e → declines e c.state y ≡ true → nat_lt (c.state.seen + 1) c.state.capacity ≡ true →
+      Row w c AtEmpty (Put n y true) (Holds false) (next_bucket Probe c.state) c.list w.table None
+  loses_goes_on_unasked : (n : ℕ) (y : Bool) (e : Entry) → bucket_of w.table c.state ≡ Some e → differs e c.state ≡ true → nat_lt (c.state.seen + 1) c.state.capacity ≡ true →
+      Row w c AtEmpty (Put n y true) HoldsUnasked (next_bucket Probe c.state) c.list w.table None
   -- Placed: add
   adds : (n : ℕ) →
       Row w c Placed (Add n) Counted (record c.state { phase = LeaveOk; outcome = New c.state.index }) c.list (add_one w.table c.state) None
   -- LeaveOk, LeaveGrow, LeaveRefused: free
-  leaves_ok : (n : ℕ) → Row w c LeaveOk (Free n) (Released (is_current w.table.gens c.state.walked)) (to AskSize c.state) c.list w.table None
-  leaves_grow : (n : ℕ) → Row w c LeaveGrow (Free n) (Released (is_current w.table.gens c.state.walked)) (to WantOwned c.state) c.list w.table None
+  leaves_ok : (n : ℕ) → Row w c LeaveOk (Free n) Released (to AskSize c.state) c.list w.table None
+  leaves_grow : (n : ℕ) → Row w c LeaveGrow (Free n) Released (to WantOwned c.state) c.list w.table None
   leaves_refused : (n : ℕ) →
-      Row w c LeaveRefused (Free n) (Released (is_current w.table.gens c.state.walked)) (to Done c.state) c.list w.table (refused c.value)
+      Row w c LeaveRefused (Free n) Released (to Done c.state) c.list w.table (refused c.value)
   -- AskSize: size
   large : (n : ℕ) (g : Gen) → walked_gen w.table c.state ≡ Some g → nat_lt g.size (c.state.capacity / 2) ≡ false →
       Row w c AskSize (Size n) (Sized g.size) (to WantOwned c.state) c.list w.table None
@@ -87,16 +103,16 @@ pub data Row (w : World) (c : Call) : Phase → Event → Answer → CallState �
   shows : (n : ℕ) → next_copied w.table ≡ None → Row w c Building (Show n) Shown (to LeaveOwned c.state) c.list (show_built w.table) None
   -- LeaveOwned: free
   ends : (n : ℕ) → is_pending c.state.outcome ≡ false →
-      Row w c LeaveOwned (Free n) (Released (is_current w.table.gens c.state.walked)) (to Done c.state) c.list w.table (by_outcome w.table c)
+      Row w c LeaveOwned (Free n) Released (to Done c.state) c.list w.table (by_outcome w.table c)
   starts_over : (n : ℕ) → is_pending c.state.outcome ≡ true →
-      Row w c LeaveOwned (Free n) (Released (is_current w.table.gens c.state.walked)) (to WantShared c.state) c.list w.table None
+      Row w c LeaveOwned (Free n) Released (to WantShared c.state) c.list w.table None
   -- LeaveFailed: free
   ends_failed : (n : ℕ) → is_pending c.state.outcome ≡ false →
-      Row w c LeaveFailed (Free n) (Released (is_current w.table.gens c.state.walked)) (to Done c.state) c.list w.table (by_outcome w.table c)
+      Row w c LeaveFailed (Free n) (ReleasedAfterFailure (is_current w.table.gens c.state.walked)) (to Done c.state) c.list w.table (by_outcome w.table c)
   gives_up : (n : ℕ) → is_pending c.state.outcome ≡ true → is_current w.table.gens c.state.walked ≡ true →
-      Row w c LeaveFailed (Free n) (Released true) (to Done c.state) c.list w.table (refused c.value)
+      Row w c LeaveFailed (Free n) (ReleasedAfterFailure true) (to Done c.state) c.list w.table (refused c.value)
   tries_again : (n : ℕ) → is_pending c.state.outcome ≡ true → is_current w.table.gens c.state.walked ≡ false →
-      Row w c LeaveFailed (Free n) (Released false) (to WantShared c.state) c.list w.table None
+      Row w c LeaveFailed (Free n) (ReleasedAfterFailure false) (to WantShared c.state) c.list w.table None
   -- LookLoad: load
   looks_none : (n : ℕ) → current w.table ≡ None → Row w c LookLoad (Load n) NoGeneration (to Done c.state) c.list w.table (Some ReplyNone)
   looks : (n : ℕ) (g : Gen) → current w.table ≡ Some g →
@@ -105,11 +121,15 @@ pub data Row (w : World) (c : Call) : Phase → Event → Answer → CallState �
   look_empty : (n : ℕ) (y : Bool) → bucket_of w.table c.state ≡ None →
       Row w c LookProbe (Read n y) Empty (to Done c.state) c.list w.table (Some ReplyNone)
   look_meets : (n : ℕ) (y : Bool) (e : Entry) → bucket_of w.table c.state ≡ Some e → accepts e c.state y ≡ true →
-      Row w c LookProbe (Read n y) (holds e c.state.hash y) (finds_entry Done c.state) c.list w.table (Some (ReplySome e.value))
-  look_turns : (n : ℕ) (y : Bool) (e : Entry) → bucket_of w.table c.state ≡ Some e → accepts e c.state y ≡ false → nat_lt (c.state.seen + 1) c.state.capacity ≡ false →
-      Row w c LookProbe (Read n y) (holds e c.state.hash y) (turned Done c.state) c.list w.table (Some ReplyNone)
-  look_goes_on : (n : ℕ) (y : Bool) (e : Entry) → bucket_of w.table c.state ≡ Some e → accepts e c.state y ≡ false → nat_lt (c.state.seen + 1) c.state.capacity ≡ true →
-      Row w c LookProbe (Read n y) (holds e c.state.hash y) (next_bucket LookProbe c.state) c.list w.table None
+      Row w c LookProbe (Read n y) (Holds true) (finds_entry Done c.state) c.list w.table (Some (ReplySome e.value))
+  look_turns : (n : ℕ) (y : Bool) (e : Entry) → bucket_of w.table c.state ≡ Some e → declines e c.state y ≡ true → nat_lt (c.state.seen + 1) c.state.capacity ≡ false →
+      Row w c LookProbe (Read n y) (Holds false) (turned Done c.state) c.list w.table (Some ReplyNone)
+  look_turns_unasked : (n : ℕ) (y : Bool) (e : Entry) → bucket_of w.table c.state ≡ Some e → differs e c.state ≡ true → nat_lt (c.state.seen + 1) c.state.capacity ≡ false →
+      Row w c LookProbe (Read n y) HoldsUnasked (turned Done c.state) c.list w.table (Some ReplyNone)
+  look_goes_on : (n : ℕ) (y : Bool) (e : Entry) → bucket_of w.table c.state ≡ Some e → declines e c.state y ≡ true → nat_lt (c.state.seen + 1) c.state.capacity ≡ true →
+      Row w c LookProbe (Read n y) (Holds false) (next_bucket LookProbe c.state) c.list w.table None
+  look_goes_on_unasked : (n : ℕ) (y : Bool) (e : Entry) → bucket_of w.table c.state ≡ Some e → differs e c.state ≡ true → nat_lt (c.state.seen + 1) c.state.capacity ≡ true →
+      Row w c LookProbe (Read n y) HoldsUnasked (next_bucket LookProbe c.state) c.list w.table None
   -- LenLoad: load
   len_none : (n : ℕ) → current w.table ≡ None → Row w c LenLoad (Load n) NoGeneration (to Done c.state) c.list w.table (Some (ReplyLen 0))
   len_loads : (n : ℕ) (g : Gen) → current w.table ≡ Some g →
@@ -125,11 +145,11 @@ pub data Row (w : World) (c : Call) : Phase → Event → Answer → CallState �
   walk_skips_last : (n : ℕ) (y : Bool) → bucket_of w.table c.state ≡ None → nat_lt (c.state.index + 1) c.state.capacity ≡ false →
       Row w c WalkAt (Read n y) Empty (record c.state { phase = Done; index = c.state.index + 1 }) [] w.table (Some (ReplyWalk c.list))
   walk_takes_last : (n : ℕ) (y : Bool) (e : Entry) → bucket_of w.table c.state ≡ Some e → nat_lt (c.state.index + 1) c.state.capacity ≡ false →
-      Row w c WalkAt (Read n y) (holds e c.state.hash y) (record c.state { phase = Done; index = c.state.index + 1 }) [] w.table (Some (ReplyWalk (c.list ++ e.value ∷ [])))
+      Row w c WalkAt (Read n y) HoldsUnasked (record c.state { phase = Done; index = c.state.index + 1 }) [] w.table (Some (ReplyWalk (c.list ++ e.value ∷ [])))
   walk_skips : (n : ℕ) (y : Bool) → bucket_of w.table c.state ≡ None → nat_lt (c.state.index + 1) c.state.capacity ≡ true →
       Row w c WalkAt (Read n y) Empty (record c.state { phase = WalkAt; index = c.state.index + 1 }) c.list w.table None
   walk_takes : (n : ℕ) (y : Bool) (e : Entry) → bucket_of w.table c.state ≡ Some e → nat_lt (c.state.index + 1) c.state.capacity ≡ true →
-      Row w c WalkAt (Read n y) (holds e c.state.hash y) (record c.state { phase = WalkAt; index = c.state.index + 1 }) (c.list ++ e.value ∷ []) w.table None
+      Row w c WalkAt (Read n y) HoldsUnasked (record c.state { phase = WalkAt; index = c.state.index + 1 }) (c.list ++ e.value ∷ []) w.table None
 
 -- how a call begins: its event, its number, the value of an insert, its first phase and its hash
 pub data Opens : Event → ℕ → Option ℕ → Phase → ℕ → Type 0 where
@@ -175,7 +195,8 @@ OnlyStep w x a v r = Takes w x a v r → IsTheStep w x a v r
 -- the lock is taken or let go
 abbrev pub moves_lock : Answer → Bool
 moves_lock Taken = true
-moves_lock (Released _) = true
+moves_lock Released = true
+moves_lock (ReleasedAfterFailure _) = true
 moves_lock _ = false
 
 -- a call in one phase holds the lock as it does in another
