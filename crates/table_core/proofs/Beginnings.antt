@@ -10,7 +10,7 @@ use Rattle.table_core.specs.History.{begun_by, beginnings}
 use Rattle.table_core.specs.Steps.{Row, leaves_refused, small, ends, ends_failed, gives_up, looks_none, look_empty, look_meets, look_turns, look_turns_unasked, len_none, len_size, walk_none, walk_skips_last, walk_takes_last, Opens, opens_insert, opens_lookup, opens_len, opens_walk, left}
 use Rattle.table_core.specs.declared.event.Event.{Event}
 use Rattle.table_core.specs.declared.event.Event.TheVariants.{Insert}
-use Rattle.table_core.specs.declared.event.Entry.{Entry}
+use Rattle.table_core.specs.declared.generation.Entry.{Entry}
 use Rattle.table_core.specs.declared.call.CallState.{CallState}
 use Rattle.table_core.specs.declared.call.Phase.{Phase}
 use Rattle.table_core.specs.declared.call.Phase.TheVariants.{WantShared, LookLoad, LookProbe, LenLoad, LenSize, WalkLoad, WalkAt}

@@ -8,7 +8,7 @@ use Rattle.table_core.specs.declared.reply.Reply.{Reply as RustReply}
 use Rattle.table_core.specs.Generations.{Table}
 use Rattle.table_core.specs.Calls.{Call, decided, decide, fits}
 use Rattle.table_core.specs.Machine.{kept_list, list_in, last_reply, reply_at_end, reply_in, reply, call_after, with_entry, walked_entry, walked_list}
-use Rattle.table_core.specs.declared.event.Entry.{Entry}
+use Rattle.table_core.specs.declared.generation.Entry.{Entry}
 use Rattle.table_core.specs.declared.call.CallState.{CallState}
 use Rattle.table_core.specs.declared.call.Phase.{Phase}
 use Rattle.table_core.specs.declared.call.Phase.TheVariants.{WalkAt, Done}

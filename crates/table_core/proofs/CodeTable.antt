@@ -14,7 +14,7 @@ use Rattle.table_core.specs.Bound.{Doubles, capacities, build_of}
 use Rattle.terms.specs.Capacities.{IsFirstCapacity, IsCapacity}
 use Rattle.table_core.specs.Indexed.{IsTable}
 use Rattle.table_core.proofs.Lists.{weigh-append, weigh-map}
-use Rattle.table_core.specs.declared.event.Entry.{Entry}
+use Rattle.table_core.specs.declared.generation.Entry.{Entry}
 
 pub capacity_le : (n : ℕ) → IsCapacity n → (0 < n) × (n ≤ 2 ^ 63)
 capacity_le n h = (rw h.1 (pow_pos h.0), rw h.1 (pow-le-pow_right {n = 2} (omega arith) h.2))

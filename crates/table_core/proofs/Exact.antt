@@ -12,7 +12,7 @@ use Rattle.table_core.specs.declared.call.CallState.{CallState}
 use Rattle.table_core.specs.declared.call.Phase.{Phase}
 use Rattle.table_core.specs.declared.call.Answer.{Answer}
 use Rattle.table_core.specs.declared.call.Answer.TheVariants.{Holds, HoldsUnasked, Begun, Failed}
-use Rattle.table_core.specs.Machine.{goes as goes_with}
+use Rattle.table_core.specs.Machine.{call_acts}
 use Rattle.table_core.specs.Steps.{IsTheStep, OnlyStep, moves_lock, HoldsAsBefore, LockStays, Row, shares, loads_none, loads, reads_empty, meets, turns, turns_unasked, goes_on, goes_on_unasked, memory_refused, puts, loses_meets, loses_turns, loses_turns_unasked, loses_goes_on, loses_goes_on_unasked, adds, leaves_ok, leaves_grow, leaves_refused, large, small, owns, begins_first, fails_first, unwanted, fails_largest, fails_refused, begins_next, copies, shows, ends, starts_over, ends_failed, gives_up, tries_again, looks_none, looks, look_empty, look_meets, look_turns, look_turns_unasked, look_goes_on, look_goes_on_unasked, len_none, len_loads, len_size, walk_none, walk_loads, walk_skips_last, walk_takes_last, walk_skips, walk_takes, Opens, opens_insert, opens_lookup, opens_len, opens_walk, IsNewValue, left, Takes, Step, moves, stays, begins, goes}
 use Rattle.table_core.proofs.Rows.{StepsBy, steps}
 
@@ -117,7 +117,7 @@ row_moves : (w : World) (c : Call) {p : Phase} {x : Event} {a : Answer} {s : Cal
 row_moves w c (shares n h) = refl
 row_moves w c _ = refl
 
-move_goes : (w : World) (x : Event) → is_move x ≡ true → act_of w x ≡ goes_with w (call_numbered (number_of x) w.calls) x
+move_goes : (w : World) (x : Event) → is_move x ≡ true → act_of w x ≡ call_acts w (call_numbered (number_of x) w.calls) x
 move_goes w (Insert n v h) m = absurd (cc)
 move_goes w (Lookup n h) m = absurd (cc)
 move_goes w (Len n) m = absurd (cc)
@@ -126,7 +126,7 @@ move_goes w _ m = refl
 
 goes_so : (w : World) (c : Call) {p : Phase} {x : Event} {a : Answer} {s : CallState} {ls : List ℕ} {t : Table} {o : Option Reply} → Row w c p x a s ls t o → in_range x ≡ true → call_numbered (number_of x) w.calls ≡ Some c → finds w c.state x ≡ Some a → acts w x ≡ Some (Goes c a)
 goes_so w c {x = x} {a = a} row r h f =
-    let e : goes_with w (call_numbered (number_of x) w.calls) x ≡ Some (Goes c a) = rw (h, f) refl in
+    let e : call_acts w (call_numbered (number_of x) w.calls) x ≡ Some (Goes c a) = rw (h, f) refl in
     rw r (move_goes w x (row_moves w c row) ∙ e)
 
 -- the machine does whatever the table of events says

@@ -6,11 +6,11 @@ use Rattle.table_core.specs.Generations.{Gen, current, is_current, next_copied}
 use Rattle.terms.specs.Hashes.{bits_of}
 use Rattle.table_core.specs.Calls.{Call, starts, is_used, is_used_value, call_numbered, is_owned, is_locked, to, is_pending, decided}
 use Rattle.table_core.specs.Machine.{World, takes_unless, loaded, walked_gen, bucket_of, read, read_unasked, exchanged, sized, checked, finds_in, finds, changed, refused, by_outcome, reply_at_end, reply_in, kept_list, list_in, number_of, in_range, Act, begins_unless, goes_by, act_of, acts, after_act, finished_by}
-use Rattle.table_core.specs.Machine.{copies as copies_left, shows as shows_left, goes as goes_with}
-use Rattle.table_core.specs.Steps.{declines, differs, next_bucket, turned, Row, shares, loads_none, loads, reads_empty, meets, turns, turns_unasked, goes_on, goes_on_unasked, memory_refused, puts, loses_meets, loses_turns, loses_turns_unasked, loses_goes_on, loses_goes_on_unasked, adds, leaves_ok, leaves_grow, leaves_refused, large, small, owns, begins_first, fails_first, unwanted, fails_largest, fails_refused, begins_next, copies, shows, ends, starts_over, ends_failed, gives_up, tries_again, looks_none, looks, look_empty, look_meets, look_turns, look_turns_unasked, look_goes_on, look_goes_on_unasked, len_none, len_loads, len_size, walk_none, walk_loads, walk_skips_last, walk_takes_last, walk_skips, walk_takes, Opens, opens_insert, opens_lookup, opens_len, opens_walk, IsNewValue, Takes, begins, goes}
+use Rattle.table_core.specs.Machine.{finds_copy, finds_show, call_acts}
+use Rattle.table_core.specs.Steps.{is_declined, is_unasked, next_bucket, turned, Row, shares, loads_none, loads, reads_empty, meets, turns, turns_unasked, goes_on, goes_on_unasked, memory_refused, puts, loses_meets, loses_turns, loses_turns_unasked, loses_goes_on, loses_goes_on_unasked, adds, leaves_ok, leaves_grow, leaves_refused, large, small, owns, begins_first, fails_first, unwanted, fails_largest, fails_refused, begins_next, copies, shows, ends, starts_over, ends_failed, gives_up, tries_again, looks_none, looks, look_empty, look_meets, look_turns, look_turns_unasked, look_goes_on, look_goes_on_unasked, len_none, len_loads, len_size, walk_none, walk_loads, walk_skips_last, walk_takes_last, walk_skips, walk_takes, Opens, opens_insert, opens_lookup, opens_len, opens_walk, IsNewValue, Takes, begins, goes}
 use Rattle.table_core.specs.declared.event.Event.{Event}
 use Rattle.table_core.specs.declared.event.Event.TheVariants.{Insert, Lookup, Len, Walk, Share, Own, Free, Load, Read, Put, Add, Size, Check, Copy, Show}
-use Rattle.table_core.specs.declared.event.Entry.{Entry}
+use Rattle.table_core.specs.declared.generation.Entry.{Entry}
 use Rattle.table_core.specs.declared.call.CallState.{CallState}
 use Rattle.table_core.specs.declared.call.Phase.{Phase}
 use Rattle.table_core.specs.declared.call.Phase.TheVariants.{WantShared, Shared, Probe, AtEmpty, Placed, LeaveOk, LeaveGrow, LeaveRefused, AskSize, WantOwned, Owned, Building, LeaveOwned, LeaveFailed, LookLoad, LookProbe, LenLoad, LenSize, WalkLoad, WalkAt, Done}
@@ -53,11 +53,11 @@ row_walk w c n (Some g) h = walk_loads n g h
 abbrev shown : Bool → Bool → Answer
 shown agree y = if agree then Holds y else HoldsUnasked
 
-pub pass_row : (w : World) (c : Call) (n : ℕ) (e : Entry) → bucket_of w.table c.state ≡ Some e → declines e c.state false ≡ true → (b : Bool) → nat_lt (c.state.seen + 1) c.state.capacity ≡ b → Row w c Probe (Read n false) (Holds false) (if b then next_bucket Probe c.state else turned LeaveGrow c.state) c.list w.table (reply_at_end (if b then next_bucket Probe c.state else turned LeaveGrow c.state).phase None)
+pub pass_row : (w : World) (c : Call) (n : ℕ) (e : Entry) → bucket_of w.table c.state ≡ Some e → is_declined e c.state false ≡ true → (b : Bool) → nat_lt (c.state.seen + 1) c.state.capacity ≡ b → Row w c Probe (Read n false) (Holds false) (if b then next_bucket Probe c.state else turned LeaveGrow c.state) c.list w.table (reply_at_end (if b then next_bucket Probe c.state else turned LeaveGrow c.state).phase None)
 pass_row w c n e h f true g = goes_on n false e h f g
 pass_row w c n e h f false g = turns n false e h f g
 
-pub pass_unasked_row : (w : World) (c : Call) (n : ℕ) (y : Bool) (e : Entry) → bucket_of w.table c.state ≡ Some e → differs e c.state ≡ true → (b : Bool) → nat_lt (c.state.seen + 1) c.state.capacity ≡ b → Row w c Probe (Read n y) HoldsUnasked (if b then next_bucket Probe c.state else turned LeaveGrow c.state) c.list w.table (reply_at_end (if b then next_bucket Probe c.state else turned LeaveGrow c.state).phase None)
+pub pass_unasked_row : (w : World) (c : Call) (n : ℕ) (y : Bool) (e : Entry) → bucket_of w.table c.state ≡ Some e → is_unasked e c.state ≡ true → (b : Bool) → nat_lt (c.state.seen + 1) c.state.capacity ≡ b → Row w c Probe (Read n y) HoldsUnasked (if b then next_bucket Probe c.state else turned LeaveGrow c.state) c.list w.table (reply_at_end (if b then next_bucket Probe c.state else turned LeaveGrow c.state).phase None)
 pass_unasked_row w c n y e h f true g = goes_on_unasked n y e h f g
 pass_unasked_row w c n y e h f false g = turns_unasked n y e h f g
 
@@ -70,11 +70,11 @@ pub row_probe : (w : World) (c : Call) (n : ℕ) (y : Bool) (o : Option Entry) �
 row_probe w c n y None h = reads_empty n y h
 row_probe w c n y (Some e) h = meet_row w c n y e h (e.bits == bits_of c.state.hash) refl
 
-pub lost_pass_row : (w : World) (c : Call) (n : ℕ) (e : Entry) → bucket_of w.table c.state ≡ Some e → declines e c.state false ≡ true → (b : Bool) → nat_lt (c.state.seen + 1) c.state.capacity ≡ b → Row w c AtEmpty (Put n false true) (Holds false) (if b then next_bucket Probe c.state else turned LeaveGrow c.state) c.list w.table (reply_at_end (if b then next_bucket Probe c.state else turned LeaveGrow c.state).phase None)
+pub lost_pass_row : (w : World) (c : Call) (n : ℕ) (e : Entry) → bucket_of w.table c.state ≡ Some e → is_declined e c.state false ≡ true → (b : Bool) → nat_lt (c.state.seen + 1) c.state.capacity ≡ b → Row w c AtEmpty (Put n false true) (Holds false) (if b then next_bucket Probe c.state else turned LeaveGrow c.state) c.list w.table (reply_at_end (if b then next_bucket Probe c.state else turned LeaveGrow c.state).phase None)
 lost_pass_row w c n e h f true g = loses_goes_on n false e h f g
 lost_pass_row w c n e h f false g = loses_turns n false e h f g
 
-pub lost_pass_unasked_row : (w : World) (c : Call) (n : ℕ) (y : Bool) (e : Entry) → bucket_of w.table c.state ≡ Some e → differs e c.state ≡ true → (b : Bool) → nat_lt (c.state.seen + 1) c.state.capacity ≡ b → Row w c AtEmpty (Put n y true) HoldsUnasked (if b then next_bucket Probe c.state else turned LeaveGrow c.state) c.list w.table (reply_at_end (if b then next_bucket Probe c.state else turned LeaveGrow c.state).phase None)
+pub lost_pass_unasked_row : (w : World) (c : Call) (n : ℕ) (y : Bool) (e : Entry) → bucket_of w.table c.state ≡ Some e → is_unasked e c.state ≡ true → (b : Bool) → nat_lt (c.state.seen + 1) c.state.capacity ≡ b → Row w c AtEmpty (Put n y true) HoldsUnasked (if b then next_bucket Probe c.state else turned LeaveGrow c.state) c.list w.table (reply_at_end (if b then next_bucket Probe c.state else turned LeaveGrow c.state).phase None)
 lost_pass_unasked_row w c n y e h f true g = loses_goes_on_unasked n y e h f g
 lost_pass_unasked_row w c n y e h f false g = loses_turns_unasked n y e h f g
 
@@ -91,11 +91,11 @@ pub row_put : (w : World) (c : Call) (n : ℕ) (y m : Bool) → Rows w c AtEmpty
 row_put w c n y true = row_exchange w c n y (bucket_of w.table c.state) refl
 row_put w c n y false = memory_refused n y
 
-pub look_pass_row : (w : World) (c : Call) (n : ℕ) (e : Entry) → bucket_of w.table c.state ≡ Some e → declines e c.state false ≡ true → (b : Bool) → nat_lt (c.state.seen + 1) c.state.capacity ≡ b → Row w c LookProbe (Read n false) (Holds false) (if b then next_bucket LookProbe c.state else turned Done c.state) c.list w.table (reply_at_end (if b then next_bucket LookProbe c.state else turned Done c.state).phase (Some ReplyNone))
+pub look_pass_row : (w : World) (c : Call) (n : ℕ) (e : Entry) → bucket_of w.table c.state ≡ Some e → is_declined e c.state false ≡ true → (b : Bool) → nat_lt (c.state.seen + 1) c.state.capacity ≡ b → Row w c LookProbe (Read n false) (Holds false) (if b then next_bucket LookProbe c.state else turned Done c.state) c.list w.table (reply_at_end (if b then next_bucket LookProbe c.state else turned Done c.state).phase (Some ReplyNone))
 look_pass_row w c n e h f true g = look_goes_on n false e h f g
 look_pass_row w c n e h f false g = look_turns n false e h f g
 
-pub look_pass_unasked_row : (w : World) (c : Call) (n : ℕ) (y : Bool) (e : Entry) → bucket_of w.table c.state ≡ Some e → differs e c.state ≡ true → (b : Bool) → nat_lt (c.state.seen + 1) c.state.capacity ≡ b → Row w c LookProbe (Read n y) HoldsUnasked (if b then next_bucket LookProbe c.state else turned Done c.state) c.list w.table (reply_at_end (if b then next_bucket LookProbe c.state else turned Done c.state).phase (Some ReplyNone))
+pub look_pass_unasked_row : (w : World) (c : Call) (n : ℕ) (y : Bool) (e : Entry) → bucket_of w.table c.state ≡ Some e → is_unasked e c.state ≡ true → (b : Bool) → nat_lt (c.state.seen + 1) c.state.capacity ≡ b → Row w c LookProbe (Read n y) HoldsUnasked (if b then next_bucket LookProbe c.state else turned Done c.state) c.list w.table (reply_at_end (if b then next_bucket LookProbe c.state else turned Done c.state).phase (Some ReplyNone))
 look_pass_unasked_row w c n y e h f true g = look_goes_on_unasked n y e h f g
 look_pass_unasked_row w c n y e h f false g = look_turns_unasked n y e h f g
 
@@ -151,11 +151,11 @@ row_check w c n true None h = begins_first n h
 row_check w c n false None h = fails_first n h
 row_check w c n m (Some g) h = check_next w c n g m (nat_lt g.size (g.capacity / 2)) h refl
 
-pub row_copy : (w : World) (c : Call) (n k : ℕ) (o : Option Entry) → next_copied w.table ≡ o → (a : Answer) → copies_left o ≡ Some a → Rows w c Building (Copy n k) a
+pub row_copy : (w : World) (c : Call) (n k : ℕ) (o : Option Entry) → next_copied w.table ≡ o → (a : Answer) → finds_copy o ≡ Some a → Rows w c Building (Copy n k) a
 row_copy w c n k None h a f = absurd (cc)
 row_copy w c n k (Some e) h a f = along (Rows w c Building (Copy n k)) _ a f (rw h (copies n k e h))
 
-pub row_show : (w : World) (c : Call) (n : ℕ) (o : Option Entry) → next_copied w.table ≡ o → (a : Answer) → shows_left o ≡ Some a → Rows w c Building (Show n) a
+pub row_show : (w : World) (c : Call) (n : ℕ) (o : Option Entry) → next_copied w.table ≡ o → (a : Answer) → finds_show o ≡ Some a → Rows w c Building (Show n) a
 row_show w c n None h a f = along (Rows w c Building (Show n)) _ a f (shows n h)
 row_show w c n (Some e) h a f = absurd (cc)
 
@@ -207,7 +207,7 @@ pub step_finds : (w : World) (x : Event) (c : Call) (o : Option Answer) → in_r
 step_finds w x c None r h f = tt
 step_finds w x c (Some a) r h f = goes c c.state.phase a (decided c.state.phase c.state a) (list_in c.state.phase w.table c a) (changed w.table c x a) (reply_in c.state.phase w.table c a) r h refl (row w c c.state.phase x a f)
 
-pub step_goes : (w : World) (x : Event) (o : Option Call) → in_range x ≡ true → call_numbered (number_of x) w.calls ≡ o → StepsBy w x (goes_with w o x)
+pub step_goes : (w : World) (x : Event) (o : Option Call) → in_range x ≡ true → call_numbered (number_of x) w.calls ≡ o → StepsBy w x (call_acts w o x)
 step_goes w x None r h = tt
 step_goes w x (Some c) r h = step_finds w x c (finds w c.state x) r h refl
 

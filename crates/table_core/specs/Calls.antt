@@ -1,12 +1,24 @@
 -- The calls: where each stands, and where an answer takes it.
-use Rattle.std.specs.Prelude.{ℕ, ◌+◌, ◌/◌, ◌%◌, ◌==◌, ◌&&◌, ◌||◌, nat_lt, if◌then◌else◌, Bool, true, false, Option, Some, None, List, [], ◌∷◌}
+use Rattle.std.specs.Prelude.{ℕ, ◌+◌, ◌/◌, ◌%◌, ◌==◌, ◌&&◌, ◌||◌, nat_lt, if◌then◌else◌, Bool}
+use Rattle.std.specs.Prelude.{true, false, Option, Some, None, List, [], ◌∷◌}
 use Rattle.std.specs.List.{find, list_any}
 use Rattle.table_core.specs.declared.call.Phase.{Phase}
-use Rattle.table_core.specs.declared.call.Phase.TheVariants.{WantShared, Shared, Probe, AtEmpty, Placed, LeaveOk, LeaveGrow, LeaveRefused, AskSize, WantOwned, Owned, Building, LeaveOwned, LeaveFailed, LookLoad, LookProbe, LenLoad, LenSize, WalkLoad, WalkAt, Done}
+use Rattle.table_core.specs.declared.call.Phase.TheVariants.{WantShared, Shared, Probe, AtEmpty}
+use Rattle.table_core.specs.declared.call.Phase.TheVariants.{Placed, LeaveOk, LeaveGrow}
+use Rattle.table_core.specs.declared.call.Phase.TheVariants.{LeaveRefused, AskSize, WantOwned}
+use Rattle.table_core.specs.declared.call.Phase.TheVariants.{Owned, Building, LeaveOwned}
+use Rattle.table_core.specs.declared.call.Phase.TheVariants.{LeaveFailed, LookLoad, LookProbe}
+use Rattle.table_core.specs.declared.call.Phase.TheVariants.{LenLoad, LenSize, WalkLoad, WalkAt}
+use Rattle.table_core.specs.declared.call.Phase.TheVariants.{Done}
 use Rattle.table_core.specs.declared.call.Outcome.{Outcome}
 use Rattle.table_core.specs.declared.call.Outcome.TheVariants.{Pending, New, Existing}
 use Rattle.table_core.specs.declared.call.Answer.{Answer}
-use Rattle.table_core.specs.declared.call.Answer.TheVariants.{Taken, Released, ReleasedAfterFailure, NoGeneration, Loaded, Empty, Holds, HoldsUnasked, Won, MemoryRefused, Counted, Sized, Begun, Unwanted, Failed, Copied, Shown}
+use Rattle.table_core.specs.declared.call.Answer.TheVariants.{Taken, Released}
+use Rattle.table_core.specs.declared.call.Answer.TheVariants.{ReleasedAfterFailure, NoGeneration}
+use Rattle.table_core.specs.declared.call.Answer.TheVariants.{Loaded, Empty, Holds, HoldsUnasked}
+use Rattle.table_core.specs.declared.call.Answer.TheVariants.{Won, MemoryRefused, Counted, Sized}
+use Rattle.table_core.specs.declared.call.Answer.TheVariants.{Begun, Unwanted, Failed, Copied}
+use Rattle.table_core.specs.declared.call.Answer.TheVariants.{Shown}
 use Rattle.table_core.specs.declared.call.CallState.{CallState}
 
 -- a call: its number, the value of an insert, the list so far of a walk, and its state
@@ -19,7 +31,8 @@ pub record Call : Type 0 where
 -- the state of a call that starts in this phase, with this hash
 abbrev pub starting : Phase → ℕ → CallState
 starting phase hash =
-    record { phase = phase; hash = hash; walked = None; capacity = 0; index = 0; seen = 0; outcome = Pending }
+    record { phase = phase; hash = hash; walked = None; capacity = 0; index = 0; seen = 0;
+        outcome = Pending }
 
 -- the states in which an insert, a look-up, a length and a walk start
 
@@ -108,7 +121,8 @@ to p s = record s { phase = p }
 -- at the first bucket of a probe
 abbrev pub probes : Phase → CallState → ℕ → ℕ → CallState
 probes p s generation capacity =
-    record s { phase = p; walked = Some generation; capacity = capacity; index = s.hash % capacity; seen = 0 }
+    record s { phase = p; walked = Some generation; capacity = capacity; index = s.hash % capacity;
+        seen = 0 }
 
 -- one set bucket further, or in this other phase once all were seen
 abbrev pub passes : Phase → Phase → CallState → CallState
@@ -149,7 +163,8 @@ growth_ends s = if is_pending s.outcome then to WantShared s else to Done s
 -- growth has failed: a call without an outcome gives up, unless there is another generation by now
 abbrev pub growth_fails : CallState → Bool → CallState
 growth_fails s still_current =
-    if is_pending s.outcome && (if still_current then false else true) then to WantShared s else to Done s
+    if is_pending s.outcome && (if still_current then false else true) then to WantShared s
+        else to Done s
 
 -- the state after an answer, in the phases' order; an answer that has no row changes nothing
 abbrev pub decided : Phase → CallState → Answer → CallState
@@ -185,7 +200,8 @@ decided LenLoad s NoGeneration = to Done s
 decided LenLoad s (Loaded g n) = record s { phase = LenSize; walked = Some g; capacity = n }
 decided LenSize s (Sized k) = to Done s
 decided WalkLoad s NoGeneration = to Done s
-decided WalkLoad s (Loaded g n) = record s { phase = WalkAt; walked = Some g; capacity = n; index = 0 }
+decided WalkLoad s (Loaded g n) =
+    record s { phase = WalkAt; walked = Some g; capacity = n; index = 0 }
 decided WalkAt s Empty = walk_passes s
 decided WalkAt s HoldsUnasked = walk_passes s
 decided _ s _ = s

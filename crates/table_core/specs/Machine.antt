@@ -1,19 +1,37 @@
 -- The machine: what an event finds, what it changes, and what a call is told.
-use Rattle.std.specs.Prelude.{ℕ, ◌/◌, ◌^◌, ◌==◌, ◌&&◌, ◌||◌, nat_lt, if◌then◌else◌, Bool, true, false, not, Option, Some, None, List, [], ◌∷◌, ◌++◌, length, ◌-◌}
-use Rattle.table_core.specs.Replies.{Reply, ReplyPlaced, ReplyFound, ReplyRefused, ReplySome, ReplyNone, ReplyLen, ReplyWalk, Finished}
-use Rattle.table_core.specs.Generations.{Gen, Table, fresh, fill, count, current, gen_of, bucket_in, is_current, change, next_capacity, next_copied, copy_on, built}
+use Rattle.std.specs.Prelude.{ℕ, ◌/◌, ◌^◌, ◌==◌, ◌&&◌, ◌||◌, nat_lt, if◌then◌else◌, Bool, true}
+use Rattle.std.specs.Prelude.{false, not, Option, Some, None, List, [], ◌∷◌, ◌++◌, length, ◌-◌}
+use Rattle.table_core.specs.Replies.{Reply, ReplyPlaced, ReplyFound, ReplyRefused, ReplySome}
+use Rattle.table_core.specs.Replies.{ReplyNone, ReplyLen, ReplyWalk, Finished}
+use Rattle.table_core.specs.Generations.{Gen, Table, fresh, fill, count, current, gen_of}
+use Rattle.table_core.specs.Generations.{bucket_in, is_current, change, next_capacity}
+use Rattle.table_core.specs.Generations.{next_copied, copy_on, built}
 use Rattle.terms.specs.Hashes.{bits_of}
-use Rattle.table_core.specs.Calls.{Call, starts, is_used, is_used_value, call_numbered, replaced, is_owned, is_locked, decided, is_pending}
+use Rattle.table_core.specs.Calls.{Call, starts, is_used, is_used_value, call_numbered, replaced}
+use Rattle.table_core.specs.Calls.{is_owned, is_locked, decided, is_pending}
 use Rattle.table_core.specs.declared.event.Event.{Event}
-use Rattle.table_core.specs.declared.event.Event.TheVariants.{Insert, Lookup, Len, Walk, Share, Own, Free, Load, Read, Put, Add, Size, Check, Copy, Show}
-use Rattle.table_core.specs.declared.event.Entry.{Entry}
+use Rattle.table_core.specs.declared.event.Event.TheVariants.{Insert, Lookup, Len, Walk, Share}
+use Rattle.table_core.specs.declared.event.Event.TheVariants.{Own, Free, Load, Read, Put, Add}
+use Rattle.table_core.specs.declared.event.Event.TheVariants.{Size, Check, Copy, Show}
+use Rattle.table_core.specs.declared.generation.Entry.{Entry}
 use Rattle.table_core.specs.declared.call.CallState.{CallState}
 use Rattle.table_core.specs.declared.call.Phase.{Phase}
-use Rattle.table_core.specs.declared.call.Phase.TheVariants.{WantShared, Shared, Probe, AtEmpty, Placed, LeaveOk, LeaveGrow, LeaveRefused, AskSize, WantOwned, Owned, Building, LeaveOwned, LeaveFailed, LookLoad, LookProbe, LenLoad, LenSize, WalkLoad, WalkAt, Done}
+use Rattle.table_core.specs.declared.call.Phase.TheVariants.{WantShared, Shared, Probe, AtEmpty}
+use Rattle.table_core.specs.declared.call.Phase.TheVariants.{Placed, LeaveOk, LeaveGrow}
+use Rattle.table_core.specs.declared.call.Phase.TheVariants.{LeaveRefused, AskSize, WantOwned}
+use Rattle.table_core.specs.declared.call.Phase.TheVariants.{Owned, Building, LeaveOwned}
+use Rattle.table_core.specs.declared.call.Phase.TheVariants.{LeaveFailed, LookLoad, LookProbe}
+use Rattle.table_core.specs.declared.call.Phase.TheVariants.{LenLoad, LenSize, WalkLoad, WalkAt}
+use Rattle.table_core.specs.declared.call.Phase.TheVariants.{Done}
 use Rattle.table_core.specs.declared.call.Outcome.{Outcome}
 use Rattle.table_core.specs.declared.call.Outcome.TheVariants.{New, Existing}
 use Rattle.table_core.specs.declared.call.Answer.{Answer}
-use Rattle.table_core.specs.declared.call.Answer.TheVariants.{Taken, Released, ReleasedAfterFailure, NoGeneration, Loaded, Empty, Holds, HoldsUnasked, Won, MemoryRefused, Counted, Sized, Begun, Unwanted, Failed, Copied, Shown}
+use Rattle.table_core.specs.declared.call.Answer.TheVariants.{Taken, Released}
+use Rattle.table_core.specs.declared.call.Answer.TheVariants.{ReleasedAfterFailure, NoGeneration}
+use Rattle.table_core.specs.declared.call.Answer.TheVariants.{Loaded, Empty, Holds, HoldsUnasked}
+use Rattle.table_core.specs.declared.call.Answer.TheVariants.{Won, MemoryRefused, Counted, Sized}
+use Rattle.table_core.specs.declared.call.Answer.TheVariants.{Begun, Unwanted, Failed, Copied}
+use Rattle.table_core.specs.declared.call.Answer.TheVariants.{Shown}
 
 -- a table and its calls
 pub record World : Type 0 where
@@ -46,7 +64,8 @@ walked_gen t s = gen_of t.gens s.walked
 abbrev pub bucket_of : Table → CallState → Option Entry
 bucket_of t s = bucket_in (walked_gen t s) s.index
 
--- a set bucket shows the closure's answer where its bits are those of the hash; else nothing is asked
+-- a set bucket shows the closure's answer where its bits are those of the hash; else nothing is
+-- asked
 abbrev pub holds : Entry → ℕ → Bool → Answer
 holds e hash accepted = if e.bits == bits_of hash then Holds accepted else HoldsUnasked
 
@@ -76,16 +95,17 @@ checked (Some g) granted =
     else (if granted && not (g.capacity == 2 ^ 63) then Begun else Failed)
 
 -- one more entry is copied, if there is one left
-abbrev pub copies : Option Entry → Option Answer
-copies (Some e) = Some Copied
-copies None = None
+abbrev pub finds_copy : Option Entry → Option Answer
+finds_copy (Some e) = Some Copied
+finds_copy None = None
 
 -- the generation is shown, if no entry is left
-abbrev pub shows : Option Entry → Option Answer
-shows None = Some Shown
-shows (Some e) = None
+abbrev pub finds_show : Option Entry → Option Answer
+finds_show None = Some Shown
+finds_show (Some e) = None
 
--- after a failed growth the lock's release says whether the walked generation is the current one, or there is none still
+-- after a failed growth the lock's release says whether the walked generation is the current one,
+-- or there is none still
 abbrev pub released_after_failure : Table → CallState → Answer
 released_after_failure t s = ReleasedAfterFailure (is_current t.gens s.walked)
 
@@ -103,8 +123,8 @@ finds_in LeaveRefused w s (Free _) = Some Released
 finds_in AskSize w s (Size _) = sized (walked_gen w.table s)
 finds_in WantOwned w s (Own _) = takes_unless (is_locked w.calls)
 finds_in Owned w s (Check _ granted) = Some (checked (current w.table) granted)
-finds_in Building w s (Copy _ hash) = copies (next_copied w.table)
-finds_in Building w s (Show _) = shows (next_copied w.table)
+finds_in Building w s (Copy _ hash) = finds_copy (next_copied w.table)
+finds_in Building w s (Show _) = finds_show (next_copied w.table)
 finds_in LeaveOwned w s (Free _) = Some Released
 finds_in LeaveFailed w s (Free _) = Some (released_after_failure w.table s)
 finds_in LookLoad w s (Load _) = Some (loads w.table)
@@ -123,14 +143,16 @@ finds w s x = finds_in s.phase w s x
 -- the value of a call in the bucket at which it stands
 abbrev pub place : Table → CallState → Option ℕ → Table
 place t s None = t
-place t s (Some v) = record t { gens = change t.gens s.walked (λ g. fill g (record { index = s.index; value = v; bits = bits_of s.hash })) }
+place t s (Some v) = record t { gens = change t.gens s.walked
+    (λ g. fill g (record { index = s.index; value = v; bits = bits_of s.hash })) }
 
 abbrev pub add_one : Table → CallState → Table
 add_one t s = record t { gens = change t.gens s.walked count }
 
 -- an empty generation, of the first capacity or of twice the current one
 abbrev pub begin_growth : Table → Table
-begin_growth t = record t { building = Some (record { gen = fresh (next_capacity t.first (current t)); copied = 0 }) }
+begin_growth t = record t { building = Some
+    (record { gen = fresh (next_capacity t.first (current t)); copied = 0 }) }
 
 abbrev pub copy_next : Table → Option Entry → ℕ → Table
 copy_next t None hash = t
@@ -233,7 +255,8 @@ list_in _ t c a = c.list
 
 -- the call after an answer
 abbrev pub call_after : Table → Call → Answer → Call
-call_after t c a = record c { list = list_in c.state.phase t c a; state = decided c.state.phase c.state a }
+call_after t c a =
+    record c { list = list_in c.state.phase t c a; state = decided c.state.phase c.state a }
 
 -- One event
 
@@ -277,16 +300,17 @@ abbrev pub goes_by : Call → Option Answer → Option Act
 goes_by c None = None
 goes_by c (Some a) = Some (Goes c a)
 
-abbrev pub goes : World → Option Call → Event → Option Act
-goes w None x = None
-goes w (Some c) x = goes_by c (finds w c.state x)
+abbrev pub call_acts : World → Option Call → Event → Option Act
+call_acts w None x = None
+call_acts w (Some c) x = goes_by c (finds w c.state x)
 
 abbrev pub act_of : World → Event → Option Act
-act_of w (Insert n v h) = begins_unless (is_used n w.calls || is_used_value v w.calls) (starts n (Some v) WantShared h)
+act_of w (Insert n v h) =
+    begins_unless (is_used n w.calls || is_used_value v w.calls) (starts n (Some v) WantShared h)
 act_of w (Lookup n h) = begins_unless (is_used n w.calls) (starts n None LookLoad h)
 act_of w (Len n) = begins_unless (is_used n w.calls) (starts n None LenLoad 0)
 act_of w (Walk n) = begins_unless (is_used n w.calls) (starts n None WalkLoad 0)
-act_of w x = goes w (call_numbered (number_of x) w.calls) x
+act_of w x = call_acts w (call_numbered (number_of x) w.calls) x
 
 -- what an event does, if it is taken
 abbrev pub acts : World → Event → Option Act
@@ -295,7 +319,8 @@ acts w x = if in_range x then act_of w x else None
 abbrev pub after_act : World → Event → Option Act → World
 after_act w x None = w
 after_act w x (Some (Begins c)) = record w { calls = w.calls ++ c ∷ [] }
-after_act w x (Some (Goes c a)) = record { table = changed w.table c x a; calls = replaced (call_after w.table c a) w.calls }
+after_act w x (Some (Goes c a)) =
+    record { table = changed w.table c x a; calls = replaced (call_after w.table c a) w.calls }
 
 -- the world after an event
 abbrev pub happens : World → Event → World

@@ -1,11 +1,14 @@
--- The states that schedules lead to, and what one event does to such a state at the place of its call.
-use Rattle.std.specs.Prelude.{ℕ, ◌≡◌, ◌<◌, ◌++◌, ◌||◌, Bool, true, false, Option, Some, None, List, [], ◌∷◌, length, slice_set}
+-- The states that schedules lead to, and what one event does to such a state at the position of
+-- its call.
+use Rattle.std.specs.Prelude.{ℕ, ◌≡◌, ◌<◌, ◌++◌, ◌||◌, Bool, true, false, Option, Some, None}
+use Rattle.std.specs.Prelude.{List, [], ◌∷◌, length, slice_set}
 use Rattle.table_core.specs.Replies.{Reply, ReplyPlaced}
 use Rattle.table_core.specs.Generations.{Gen, Build, Table, bucket, first_empty, current}
 use Rattle.terms.specs.Capacities.{IsFirstCapacity}
 use Rattle.table_core.specs.Calls.{Call, is_used, is_used_value}
-use Rattle.table_core.specs.Machine.{World, after, walked_gen, bucket_of, checked, changed, call_after, reply, found_entry}
-use Rattle.table_core.specs.declared.event.Entry.{Entry}
+use Rattle.table_core.specs.Machine.{World, after, walked_gen, bucket_of, checked, changed}
+use Rattle.table_core.specs.Machine.{call_after, reply, found_entry}
+use Rattle.table_core.specs.declared.generation.Entry.{Entry}
 use Rattle.table_core.specs.declared.event.Event.{Event}
 use Rattle.table_core.specs.declared.event.Event.TheVariants.{Put, Add, Check, Copy}
 use Rattle.table_core.specs.declared.call.Answer.{Answer}
@@ -28,10 +31,11 @@ abbrev pub with_call_unless : World → Bool → Call → World
 with_call_unless w true c = w
 with_call_unless w false c = record w { calls = w.calls ++ c ∷ [] }
 
--- the world after the call at this place has found this
+-- the world after the call at this position has found this
 abbrev pub moved : World → ℕ → Call → Event → Option Answer → World
 moved w i c x None = w
-moved w i c x (Some a) = record { table = changed w.table c x a; calls = slice_set w.calls i (call_after w.table c a) }
+moved w i c x (Some a) =
+    record { table = changed w.table c x a; calls = slice_set w.calls i (call_after w.table c a) }
 
 -- what it is told
 abbrev pub reply_to : World → Call → Option Answer → Option Reply
@@ -41,9 +45,11 @@ reply_to w c (Some a) = reply w.table c a
 -- the table can be changed so
 abbrev pub CanChange : Table → Call → Event → Answer → Type 0
 CanChange t c (Put _ _ _) Won = (bucket_of t c.state ≡ None) × (t.building ≡ None)
-CanChange t c (Add _) Counted = (t.building ≡ None) × ((g : Gen) → walked_gen t c.state ≡ Some g → g.size < length g.entries)
+CanChange t c (Add _) Counted =
+    (t.building ≡ None) × ((g : Gen) → walked_gen t c.state ≡ Some g → g.size < length g.entries)
 CanChange t c (Check _ _) Begun = checked (current t) true ≡ Begun
-CanChange t c (Copy _ hash) Copied = (b : Build) → t.building ≡ Some b → bucket b.gen.entries (first_empty b.gen hash) ≡ None
+CanChange t c (Copy _ hash) Copied =
+    (b : Build) → t.building ≡ Some b → bucket b.gen.entries (first_empty b.gen hash) ≡ None
 CanChange t c _ _ = Unit {0}
 
 -- what an insert is told that has placed its value

@@ -7,7 +7,7 @@ ghost use Rattle.terms.specs.Capacities.{IsFirstCapacity};
 ghost use Rattle.table_core.specs.Generations.{next_copied};
 ghost use Rattle.table_core.specs.History.{buckets};
 ghost use Rattle.table_core.specs.Calls.{Call as SpecCall, decide as after_answer, new_call, fits, holds_shared, holds_owned};
-ghost use Rattle.table_core.specs.Machine.{empty, happens, finishes, finds, takes_unless, holds, read, read_unasked, exchanged, sized, copies, shows, released_after_failure};
+ghost use Rattle.table_core.specs.Machine.{empty, happens, finishes, finds, takes_unless, holds, read, read_unasked, exchanged, sized, finds_copy, finds_show, released_after_failure};
 ghost use Rattle.table_core.specs.Machine.{walked_gen, walked_entry, with_entry, kept_list, call_after, bucket_of as bucket_stood_at, place, changed};
 ghost use Rattle.table_core.specs.Machine.{refused, by_outcome, by_failure, lookup_reply, last_reply, reply_at_end, reply};
 ghost use Rattle.table_core.specs.Openings.{opening};
@@ -16,7 +16,8 @@ ghost use Rattle.table_core.specs.Reached.{IsReached, CanChange, reply_placed, r
 use crate::call::{Answer, CallState, Outcome, Phase};
 use crate::calls::{Call, Calls};
 use crate::deciding::decide;
-use crate::event::{Entry, Event};
+use crate::event::Event;
+use crate::generation::Entry;
 use crate::reply::{Finished, Reply};
 use crate::table::Table;
 use std::alloc::{AllocError, Allocator};
@@ -357,7 +358,7 @@ impl<A: Allocator + Copy> Machine<A> {
 
     /// Whether an entry is left to copy.
     fn copy(&self) -> Option<Answer>
-        ensures { result ≡ copies (next_copied self.now.table) }
+        ensures { result ≡ finds_copy (next_copied self.now.table) }
     {
         let _next = self.table.next()?;
         Some(Answer::Copied)
@@ -365,7 +366,7 @@ impl<A: Allocator + Copy> Machine<A> {
 
     /// Whether all entries are copied.
     fn show(&self) -> Option<Answer>
-        ensures { result ≡ shows (next_copied self.now.table) }
+        ensures { result ≡ finds_show (next_copied self.now.table) }
     {
         match self.table.next() {
             Some(_) => None,
