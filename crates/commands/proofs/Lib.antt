@@ -1,0 +1,8 @@
+pub mod Digits
+pub mod Spaces
+pub mod LetterCalls
+pub mod NumberLists
+pub mod Capacities
+pub mod PairTables
+pub mod Replied
+pub mod EventPieces
