@@ -2,7 +2,6 @@ pub mod Digits
 pub mod Spaces
 pub mod LetterCalls
 pub mod NumberLists
-pub mod Capacities
 pub mod PairTables
 pub mod Replied
 pub mod EventPieces

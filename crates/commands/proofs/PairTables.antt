@@ -10,8 +10,8 @@ use Rattle.std.specs.Ordering.{nat_cmp}
 use Rattle.std.proofs.Math.ListN.{get_or-map}
 use Rattle.lock_free_hashtable.specs.Table.{Table, Stands, entries, entry_at}
 use Rattle.lock_free_hashtable.specs.Held.{ShowsAt, IsLawfulInsert, PlacesAsList, InsertReplies, equal, LooksUpAsList, LookupReplies, IsLawfulLookup}
-use Rattle.lock_free_hashtable.specs.declared.place.Place.{Place}
-use Rattle.table_core.specs.ListObject.{ListReply, Placed, Found, Refused, Insert, Lookup, Answers, AcceptsNone}
+use Rattle.generations.specs.declared.place.Place.{Place}
+use Rattle.terms.specs.ListObject.{ListReply, Placed, Found, Refused, Insert, Lookup, Answers, AcceptsNone}
 use Rattle.terms.specs.declared.insertion.Insertion.{Insertion}
 use Rattle.terms.specs.declared.insertion.Insertion.TheVariants as insertion
 use Rattle.terms.specs.Laws.{same_pair, pair_hash}

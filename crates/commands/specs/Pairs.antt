@@ -4,20 +4,9 @@ use Rattle.std.specs.List.Sorted.{IsPermutation}
 use Rattle.std.specs.Prelude.{IsSorted}
 use Rattle.std.specs.Ordering.{nat_cmp}
 use Rattle.lock_free_hashtable.specs.Table.{Table, Stands, IsLawful}
-use Rattle.lock_free_hashtable.specs.Law.{IsLaw}
 use Rattle.terms.specs.Laws.{same_pair, pair_hash}
-use Rattle.terms.specs.Laws as law
 use Rattle.terms.specs.declared.insertion.Insertion.{Insertion}
 use Rattle.terms.specs.declared.insertion.Insertion.TheVariants.{Placed, Found, Refused}
-
-pub pair_lawful : IsLaw same_pair pair_hash
-pair_lawful = record {
-  reflexive = law.pair_lawful.reflexive;
-  symmetric = law.pair_lawful.symmetric;
-  transitive = law.pair_lawful.transitive;
-  small = law.pair_lawful.small;
-  agrees = law.pair_lawful.agrees;
-}
 
 -- how an insert of the pair x ends on a list of pairs, and the list after
 abbrev pub InsertsPair : List (ℕ × ℕ) → ℕ × ℕ → Insertion → List (ℕ × ℕ) → Type 0

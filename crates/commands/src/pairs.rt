@@ -1,28 +1,14 @@
-//! A table of pairs, held alone.
+//! A table of pairs, held alone: two pairs are equal if both parts are, and the hash of a pair is its first part.
 ghost use Rattle.std.specs.Prelude.{◌≡◌, ◌+◌, ◌*◌, ◌<◌, [], List, length, IfOk};
 ghost use Rattle.lock_free_hashtable.specs.Capacity.{IsDoubled};
 ghost use Rattle.lock_free_hashtable.specs.Table.{capacity, all_buckets};
 ghost use Rattle.terms.specs.Capacities.{IsFirstCapacity};
 
-use lock_free_hashtable::atomic_value::Law;
 use lock_free_hashtable::raw::HeldRawTable;
 use std::alloc::{AllocError, Allocator};
 use std::marker::Model;
 use terms::insertion::Insertion;
-
-/// Two pairs are equal if both parts are, and the hash of a pair is its first part.
-pub struct PairLaw;
-
-impl Law<(u64, u64)> for PairLaw {
-    ghost use Rattle.terms.specs.Laws.{same_pair, pair_hash};
-    ghost use Rattle.commands.specs.Pairs.{pair_lawful};
-
-    ghost same = { same_pair };
-
-    ghost hash_of = { pair_hash };
-
-    ghost lawful = { pair_lawful };
-}
+use terms::law::PairLaw;
 
 /// A table of pairs that one owner holds alone.
 #[derive(Drop)]

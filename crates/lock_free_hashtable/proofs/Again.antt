@@ -6,14 +6,15 @@ use Rattle.std.proofs.lemmas.Bool.{false≢true}
 use Rattle.std.proofs.lemmas.List.Elements.{Contains-push}
 use Rattle.std.proofs.lemmas.List.Sorted.{IsPermutation-refl, Contains-permutation}
 use Rattle.std.proofs.lemmas.List.Sums.{sum_by-cons}
-use Rattle.table_core.specs.ListObject.{ListReply, Lookup, Answers}
-use Rattle.lock_free_hashtable.specs.Law.{IsLaw}
-use Rattle.lock_free_hashtable.specs.Table.{Table, IsEntryAt, IsLawful, entries, marked, values_of, entry_at}
+use Rattle.terms.specs.ListObject.{ListReply, Lookup, Answers}
+use Rattle.terms.specs.Laws.{IsLaw}
+use Rattle.generations.specs.Buckets.{values_of}
+use Rattle.lock_free_hashtable.specs.Table.{Table, IsEntryAt, IsLawful, entries, marked, entry_at}
 use Rattle.lock_free_hashtable.specs.Held.{IsLawfulInsert, IsLawfulLookup, InsertKeeps, LookupReplies, equal}
 use Rattle.lock_free_hashtable.specs.Again.{AnswersLive, FindsAgain}
 use Rattle.lock_free_hashtable.proofs.Found.{answer_lives}
-use Rattle.lock_free_hashtable.specs.declared.cell.Entry.{Entry}
-use Rattle.lock_free_hashtable.specs.declared.place.Place.{Place}
+use Rattle.generations.specs.declared.cell.Entry.{Entry}
+use Rattle.generations.specs.declared.place.Place.{Place}
 
 module _ {X : Type 0} where
   -- an element of a list is its first or one of the others

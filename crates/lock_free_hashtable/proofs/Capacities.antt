@@ -3,7 +3,7 @@ use Rattle.std.proofs.Common.{◌≡◌, ◌≢◌, ℕ, ◌^◌, ◌<◌, ◌�
 use Rattle.std.proofs.lemmas.Nat.{pow_below}
 use Rattle.std.proofs.lemmas.Bool.{cases_lt}
 use Rattle.std.proofs.Math.Pow.{pow_mono}
-use Rattle.lock_free_hashtable.specs.Capacity.{IsFirstCapacity}
+use Rattle.terms.specs.Capacities.{IsFirstCapacity}
 
 pub is_first : (k f : ℕ) → 4 ≤ k → k < 31 → f ≡ 2 ^ k → IsFirstCapacity f
 is_first k f least greatest e =

@@ -3,11 +3,11 @@ use Rattle.std.proofs.Common.{◌≡◌, ℕ, zero, suc, ◌++◌, ◌≤◌, Ok
 use Rattle.std.proofs.lemmas.List.{length-map}
 use Rattle.std.proofs.lemmas.List.Sorted.{Contains-permutation, length_permutation}
 use Rattle.std.proofs.lemmas.List.Elements.{Contains-push}
-use Rattle.table_core.specs.ListObject.{greatest_length}
-use Rattle.lock_free_hashtable.specs.Buckets.{values, value_at}
+use Rattle.terms.specs.ListObject.{greatest_length}
+use Rattle.generations.specs.Buckets.{values, value_at}
 use Rattle.lock_free_hashtable.specs.Table.{Table, CountsAsList, LawfulWithoutEntries, IsEntryAt, entries, marked, entry_at}
 use Rattle.lock_free_hashtable.specs.Held.{InsertKeeps}
-use Rattle.lock_free_hashtable.specs.declared.place.Place.{Place}
+use Rattle.generations.specs.declared.place.Place.{Place}
 
 module _ {T U : Type 0} (target : T → U) where
   -- the place that an insert answers with shows an entry of the table that it leaves

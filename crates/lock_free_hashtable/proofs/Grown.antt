@@ -2,13 +2,15 @@
 use Rattle.std.proofs.Common.{◌≡◌, ℕ, ◌+◌, ◌*◌, ◌<◌, ◌≤◌, List, [], ◌∷◌, ◌++◌, length, refl, sym, ap, ◌∙◌, arith, add-one}
 use Rattle.std.proofs.Math.Nat.{pow-suc}
 use Rattle.std.proofs.lemmas.List.{length-append, map-append}
-use Rattle.lock_free_hashtable.specs.Buckets.{Part, set_parts, shown_all, AllSound}
-use Rattle.lock_free_hashtable.specs.Capacity.{IsPowerOfTwo}
-use Rattle.lock_free_hashtable.specs.Generations.{Bucketed, parts_of, last_of, IsNamedIn}
-use Rattle.lock_free_hashtable.specs.Growth.{IsRehomed, IsGrown}
+use Rattle.generations.specs.Buckets.{Part, set_parts, shown_all, AllSound}
+use Rattle.std.specs.Int.{IsPowerOfTwo}
+use Rattle.generations.specs.Generations.{Bucketed, parts_of, last_of, IsNamedIn}
+use Rattle.generations.specs.Growth.{IsRehomed}
+use Rattle.lock_free_hashtable.specs.Growth.{IsGrown}
 use Rattle.lock_free_hashtable.specs.Table.{table_of, IsKept}
 use Rattle.lock_free_hashtable.proofs.Homes.{last_more, all_sound_more}
-use Rattle.lock_free_hashtable.proofs.Sizes.{set_shown, capacity_power}
+use Rattle.generations.proofs.Counts.{set_shown}
+use Rattle.lock_free_hashtable.proofs.Sizes.{capacity_power}
 use Rattle.lock_free_hashtable.proofs.Kept.{sizes, kept_grown, table_grown, count_grown, sound_grown}
 
 module _ {T : Type 0} (first : ℕ) (vs ws slice : List (Bucketed T)) (old cur : Bucketed T) (pushed : ws ≡ vs ++ old ∷ []) (same : old ≡ cur) (is : slice ≡ ws) (kept : IsKept first (parts_of vs) cur.parts cur.size) where

@@ -6,11 +6,11 @@ use Rattle.std.proofs.lemmas.List.{get_or_append_left, get_or_past, length-appen
 use Rattle.std.proofs.lemmas.List.{get_or-map as get_or-map-within}
 use Rattle.std.proofs.Math.ListN.{get_or-map}
 use Rattle.std.proofs.Math.Seq.{get_or-append_seam}
-use Rattle.lock_free_hashtable.specs.Buckets.{Part, vacant, own, named, value_at, owned, part_at, home, shown, shown_all, IsSound, AllSound}
-use Rattle.lock_free_hashtable.specs.Generations.{Bucketed, parts_of, last_of, IsName, IsNamedIn}
+use Rattle.generations.specs.Buckets.{Part, vacant, own, named, value_at, owned, part_at, home, shown, shown_all, IsSound, AllSound}
+use Rattle.generations.specs.Generations.{Bucketed, parts_of, last_of, IsName, IsNamedIn}
 use Rattle.lock_free_hashtable.specs.Table.{homes_of}
-use Rattle.lock_free_hashtable.specs.declared.cell.Entry.{Entry}
-use Rattle.lock_free_hashtable.proofs.Entries.{no_values, not_both}
+use Rattle.generations.specs.declared.cell.Entry.{Entry}
+use Rattle.generations.proofs.Entries.{no_values, not_both}
 
 set_last : {X : Type 0} (xs : List X) (y z : X) → slice_set (xs ++ y ∷ []) (length xs) z ≡ xs ++ z ∷ []
 set_last [] y z = refl

@@ -6,16 +6,17 @@ use Rattle.std.proofs.lemmas.Bool.{cases_Bool, false≢true}
 use Rattle.std.proofs.lemmas.List.Sorted.{sum_by-IsPermutation}
 use Rattle.std.proofs.lemmas.List.Sums.{sum_by-append}
 use Rattle.std.proofs.lemmas.List.Elements.{Contains-append_right}
-use Rattle.lock_free_hashtable.specs.Law.{IsLaw, bits_of}
-use Rattle.lock_free_hashtable.specs.Buckets.{value_at}
-use Rattle.lock_free_hashtable.specs.Ways.{IsReached, IsLawfulFor, AllApart}
-use Rattle.lock_free_hashtable.specs.Probe.{IsPassed, IsVacant}
-use Rattle.lock_free_hashtable.specs.Growth.{entry_of}
+use Rattle.terms.specs.Laws.{IsLaw}
+use Rattle.terms.specs.Hashes.{bits_of}
+use Rattle.generations.specs.Buckets.{value_at}
+use Rattle.generations.specs.Ways.{IsReached, IsLawfulFor, AllApart}
+use Rattle.generations.specs.Probe.{IsPassed, IsVacant}
+use Rattle.generations.specs.Growth.{entry_of}
 use Rattle.lock_free_hashtable.specs.Held.{IsLawfulInsert, IsNew}
 use Rattle.lock_free_hashtable.specs.Table.{Table, IsLawful, entries, marked}
-use Rattle.lock_free_hashtable.specs.declared.cell.Entry.{Entry}
-use Rattle.lock_free_hashtable.proofs.Entries.{values-set, place_of, contains_value, entry_with}
-use Rattle.lock_free_hashtable.proofs.Laws.{before_vacant, passed_refuses, reached_after, marked_after}
+use Rattle.generations.specs.declared.cell.Entry.{Entry}
+use Rattle.generations.proofs.Entries.{values-set, place_of, contains_value, entry_with}
+use Rattle.generations.proofs.Laws.{before_vacant, passed_refuses, reached_after, marked_after}
 
 module _ {T U : Type 0} (target : T → U) (same : U → U → Bool) (hash_of : U → ℕ) (law : IsLaw same hash_of) where
   -- no entry of the list is the same as x

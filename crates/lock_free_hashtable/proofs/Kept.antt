@@ -8,16 +8,20 @@ use Rattle.std.proofs.lemmas.List.{length-map, length-append, length-set, length
 use Rattle.std.proofs.lemmas.List.Sums.{sum_by-append}
 use Rattle.std.proofs.lemmas.List.Sorted.{IsPermutation-refl, IsPermutation-sym, IsPermutation-trans, IsPermutation-append_left, IsPermutation-append_right, length_permutation}
 use Rattle.std.proofs.Math.ListN.{get_or-map}
-use Rattle.lock_free_hashtable.specs.Buckets.{Part, vacant, own, values, value_at, owned, set_parts, shown, shown_all, AllSound}
-use Rattle.lock_free_hashtable.specs.Capacity.{IsFirstCapacity, IsDoubled, IsSized}
-use Rattle.lock_free_hashtable.specs.Generations.{Bucketed, last_of, IsNamedIn, blank}
-use Rattle.lock_free_hashtable.specs.Growth.{IsRehomed, IsGrown, IsOpened, KeepsHomes, with_entry}
-use Rattle.lock_free_hashtable.specs.Table.{table_of, empty_table, homes_of, values_of, IsKept, IsBuilt}
-use Rattle.lock_free_hashtable.specs.declared.cell.Entry.{Entry}
-use Rattle.lock_free_hashtable.proofs.Entries.{values-set, values-replicate, no_values}
+use Rattle.generations.specs.Buckets.{Part, vacant, own, values, value_at, owned, set_parts, shown, shown_all, AllSound}
+use Rattle.terms.specs.Capacities.{IsFirstCapacity}
+use Rattle.lock_free_hashtable.specs.Capacity.{IsDoubled, IsSized}
+use Rattle.generations.specs.Generations.{Bucketed, last_of, IsNamedIn, blank}
+use Rattle.generations.specs.Growth.{IsRehomed}
+use Rattle.lock_free_hashtable.specs.Growth.{IsGrown, IsOpened, KeepsHomes, with_entry}
+use Rattle.generations.specs.Buckets.{values_of}
+use Rattle.lock_free_hashtable.specs.Table.{table_of, empty_table, homes_of, IsKept, IsBuilt}
+use Rattle.generations.specs.declared.cell.Entry.{Entry}
+use Rattle.generations.proofs.Entries.{values-set, values-replicate, no_values}
 use Rattle.lock_free_hashtable.proofs.Homes.{homes_in, home-is, homes_set, homes_more, home_kept, last_more, owns_none, shown_all_more, all_sound_named, sound_set, owned_none}
-use Rattle.lock_free_hashtable.proofs.Parts.{named-replicate, shown-replicate}
-use Rattle.lock_free_hashtable.proofs.Sizes.{set_shown, total_set, sized_of, none_of, sized_set, sized_more, sized_first, some_capacity, small_capacity, few_growths, few_buckets}
+use Rattle.generations.proofs.Parts.{named-replicate, shown-replicate}
+use Rattle.generations.proofs.Counts.{set_shown}
+use Rattle.lock_free_hashtable.proofs.Sizes.{total_set, sized_of, none_of, sized_set, sized_more, sized_first, some_capacity, small_capacity, few_growths, few_buckets}
 
 module _ {T : Type 0} (first : ℕ) (gs : List (List (Part T))) (cur : List (Part T)) (size : ℕ) (kept : IsKept first gs cur size) where
   set_count : length (set_parts cur) ≡ size

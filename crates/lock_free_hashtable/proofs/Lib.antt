@@ -1,11 +1,5 @@
-pub mod Entries
-pub mod Laws
 pub mod Homes
-pub mod Parts
-pub mod Probes
-pub mod Rehomes
 pub mod Capacities
-pub mod Windows
 pub mod Sizes
 pub mod Kept
 pub mod Settled

@@ -5,13 +5,15 @@ use Rattle.std.specs.List.Sorted.{IsPermutation}
 use Rattle.std.proofs.lemmas.List.{map-append}
 use Rattle.std.proofs.lemmas.List.Sorted.{IsPermutation-sym, IsPermutation-trans, IsPermutation-append_left, IsPermutation-map, Contains-permutation}
 use Rattle.std.proofs.lemmas.List.Elements.{Contains-append_left}
-use Rattle.table_core.specs.ListObject.{Placed, Found, Refused}
-use Rattle.lock_free_hashtable.specs.Growth.{KeepsHomes, entry_of}
+use Rattle.terms.specs.ListObject.{Placed, Found, Refused}
+use Rattle.generations.specs.Growth.{entry_of}
+use Rattle.lock_free_hashtable.specs.Growth.{KeepsHomes}
 use Rattle.lock_free_hashtable.specs.Held.{InsertKeeps, InsertMarks, InsertAnswers, PlacesAsList, Inserted}
-use Rattle.lock_free_hashtable.specs.Table.{Table, IsLater, IsCounted, IsLawful, entries, entry_at, home_at, marked, values_of}
-use Rattle.lock_free_hashtable.specs.declared.cell.Entry.{Entry}
-use Rattle.lock_free_hashtable.specs.declared.place.Place.{Place}
-use Rattle.lock_free_hashtable.proofs.Entries.{contains_value}
+use Rattle.generations.specs.Buckets.{values_of}
+use Rattle.lock_free_hashtable.specs.Table.{Table, IsLater, IsCounted, IsLawful, entries, entry_at, home_at, marked}
+use Rattle.generations.specs.declared.cell.Entry.{Entry}
+use Rattle.generations.specs.declared.place.Place.{Place}
+use Rattle.generations.proofs.Entries.{contains_value}
 use Rattle.lock_free_hashtable.proofs.Placed.{Keeps, Places}
 
 module _ {T : Type 0} where

@@ -2,19 +2,19 @@
 use Rattle.std.proofs.Common.{◌≡◌, ℕ, ◌<◌, Bool, true, [], Some, None, length, refl, sym, ap, ◌∙◌, subst, arith, inl, inr}
 use Rattle.std.proofs.lemmas.Bool.{cases_Bool}
 use Rattle.std.proofs.lemmas.List.Sorted.{IsPermutation-sym, Contains-permutation}
-use Rattle.table_core.specs.ListObject.{Shown, Absent}
-use Rattle.lock_free_hashtable.specs.Law.{bits_of}
-use Rattle.lock_free_hashtable.specs.Buckets.{value_at}
-use Rattle.lock_free_hashtable.specs.Ways.{IsReached}
-use Rattle.lock_free_hashtable.specs.Probe.{IsPassed, IsAccepted, IsVacant, ProbeGives}
-use Rattle.lock_free_hashtable.specs.declared.fixed.Spot.{Spot}
-use Rattle.lock_free_hashtable.specs.declared.fixed.Spot.TheVariants.{Accepted, Vacant, Full}
+use Rattle.terms.specs.ListObject.{Shown, Absent}
+use Rattle.terms.specs.Hashes.{bits_of}
+use Rattle.generations.specs.Buckets.{value_at}
+use Rattle.generations.specs.Ways.{IsReached}
+use Rattle.generations.specs.Probe.{IsPassed, IsAccepted, IsVacant, ProbeGives}
+use Rattle.generations.specs.declared.fixed.Spot.{Spot}
+use Rattle.generations.specs.declared.fixed.Spot.TheVariants.{Accepted, Vacant, Full}
 use Rattle.std.specs.Borrow.{Bor}
 use Rattle.lock_free_hashtable.specs.Held.{FindsOne, FindsNone, LooksUpAsList}
 use Rattle.lock_free_hashtable.specs.Table.{Table, IsLawful, entries, marked}
-use Rattle.lock_free_hashtable.specs.declared.cell.Entry.{Entry}
-use Rattle.lock_free_hashtable.proofs.Entries.{Contains-values, place_of, some_same, contains_value, entry_with}
-use Rattle.lock_free_hashtable.proofs.Laws.{before_vacant, passed_refuses}
+use Rattle.generations.specs.declared.cell.Entry.{Entry}
+use Rattle.generations.proofs.Entries.{Contains-values, place_of, some_same, contains_value, entry_with}
+use Rattle.generations.proofs.Laws.{before_vacant, passed_refuses}
 
 module _ {T U : Type 0} (target : T → U) (same : U → U → Bool) (hash_of : U → ℕ) (answers : U → Bool → Type 0) (t : Table T) (hash : ℕ) where
   -- no entry is accepted by a lawful test

@@ -5,13 +5,14 @@ use Rattle.std.specs.List.Sorted.{IsPermutation}
 use Rattle.std.proofs.lemmas.List.{length-map}
 use Rattle.std.proofs.lemmas.List.Sorted.{IsPermutation-refl, IsPermutation-sym, IsPermutation-trans, IsPermutation-append_left, IsPermutation-map, Contains-permutation, length_permutation, sum_by-IsPermutation}
 use Rattle.std.proofs.lemmas.List.Elements.{Contains-push_cases}
-use Rattle.lock_free_hashtable.specs.Buckets.{value_at}
-use Rattle.lock_free_hashtable.specs.Growth.{IsGrown, IsOpened, KeepsHomes, entry_of}
+use Rattle.generations.specs.Buckets.{value_at}
+use Rattle.generations.specs.Growth.{entry_of}
+use Rattle.lock_free_hashtable.specs.Growth.{IsGrown, IsOpened, KeepsHomes}
 use Rattle.lock_free_hashtable.specs.Held.{IsLawfulInsert, IsNewUnlessFound}
 use Rattle.lock_free_hashtable.specs.Table.{Table, IsLawful, IsCounted, empty_table, entries, marked, home_at}
-use Rattle.lock_free_hashtable.specs.declared.cell.Entry.{Entry}
-use Rattle.lock_free_hashtable.specs.declared.place.Place.{Place}
-use Rattle.lock_free_hashtable.proofs.Entries.{values-replicate, value_at-replicate, Contains-values, place_of, not_both, contains_value}
+use Rattle.generations.specs.declared.cell.Entry.{Entry}
+use Rattle.generations.specs.declared.place.Place.{Place}
+use Rattle.generations.proofs.Entries.{values-replicate, value_at-replicate, Contains-values, place_of, not_both, contains_value}
 
 -- with one generation more, what lives at a place lives there
 lives_more : {X : Type 0} (hs more : List (List (Option X))) (g i : ℕ) (x : X) → value_at (slice_index_or hs g []) i ≡ Some x → value_at (slice_index_or (hs ++ more) g []) i ≡ Some x

@@ -3,13 +3,14 @@ use Rattle.std.proofs.Common.{◌≡◌, ℕ, ◌+◌, ◌<◌, Bool, [], ◌∷
 use Rattle.std.proofs.lemmas.List.{length-append, length-map}
 use Rattle.std.proofs.lemmas.List.Sorted.{IsPermutation-refl, length_permutation}
 use Rattle.std.specs.List.Sorted.{IsPermutation}
-use Rattle.lock_free_hashtable.specs.Law.{IsLaw}
-use Rattle.lock_free_hashtable.specs.Probe.{IsPassed}
-use Rattle.lock_free_hashtable.specs.Growth.{GrowsIfWanted, IsOpened, SettlesIn, SettlesGrowing, with_entry, entry_of}
+use Rattle.terms.specs.Laws.{IsLaw}
+use Rattle.generations.specs.Probe.{IsPassed}
+use Rattle.generations.specs.Growth.{entry_of}
+use Rattle.lock_free_hashtable.specs.Growth.{GrowsIfWanted, IsOpened, SettlesIn, SettlesGrowing, with_entry}
 use Rattle.lock_free_hashtable.specs.Table.{Table, entries, marked}
-use Rattle.lock_free_hashtable.specs.declared.place.Place.{Place}
-use Rattle.lock_free_hashtable.proofs.Entries.{values-set, Contains-values}
-use Rattle.lock_free_hashtable.proofs.Laws.{vacant_fits}
+use Rattle.generations.specs.declared.place.Place.{Place}
+use Rattle.generations.proofs.Entries.{values-set, Contains-values}
+use Rattle.generations.proofs.Laws.{vacant_fits}
 use Rattle.lock_free_hashtable.proofs.Inserts.{new_at_vacant, new_if_full, lawful_after}
 use Rattle.lock_free_hashtable.proofs.Placed.{Places, carries_grown, carries_opened, places_before, places_after}
 

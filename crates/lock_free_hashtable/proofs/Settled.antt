@@ -1,17 +1,18 @@
 -- What one try to place a value in the current generation does to a table.
 use Rattle.std.proofs.Common.{◌≡◌, ℕ, ◌<◌, Bool, List, Option, Some, None, Result, Ok, Err, length, refl, ◌∙◌, IsSome, get_or-set_same, slice_set}
 use Rattle.std.proofs.lemmas.List.{length-map}
-use Rattle.lock_free_hashtable.specs.Buckets.{Part, own, value_at, shown, shown_all}
-use Rattle.lock_free_hashtable.specs.Generations.{CountsInsert}
-use Rattle.lock_free_hashtable.specs.Growth.{Settles, Inserts, entry_of}
-use Rattle.lock_free_hashtable.specs.Probe.{IsVacant, IsPassed}
+use Rattle.generations.specs.Buckets.{Part, own, value_at, shown, shown_all}
+use Rattle.generations.specs.Generations.{CountsInsert}
+use Rattle.generations.specs.Growth.{Inserts, entry_of}
+use Rattle.lock_free_hashtable.specs.Growth.{Settles}
+use Rattle.generations.specs.Probe.{IsVacant, IsPassed}
 use Rattle.lock_free_hashtable.specs.Table.{Table, table_of, home_at, IsKept}
-use Rattle.lock_free_hashtable.specs.declared.cell.Entry.{Entry}
-use Rattle.lock_free_hashtable.specs.declared.place.Place.{Place}
-use Rattle.lock_free_hashtable.specs.declared.fixed.Refusal.{Refusal}
-use Rattle.lock_free_hashtable.specs.declared.fixed.Refusal.TheVariants.{Full, NoMemory}
-use Rattle.lock_free_hashtable.proofs.Laws.{vacant_fits}
-use Rattle.lock_free_hashtable.proofs.Sizes.{full_values}
+use Rattle.generations.specs.declared.cell.Entry.{Entry}
+use Rattle.generations.specs.declared.place.Place.{Place}
+use Rattle.generations.specs.declared.fixed.Refusal.{Refusal}
+use Rattle.generations.specs.declared.fixed.Refusal.TheVariants.{Full, NoMemory}
+use Rattle.generations.proofs.Laws.{vacant_fits}
+use Rattle.generations.proofs.Counts.{full_values}
 use Rattle.lock_free_hashtable.proofs.Kept.{kept_placed, table_placed, homes_placed, shows_placed}
 
 module _ {T U : Type 0} (target : T → U) (answers : U → Bool → Type 0) (first : ℕ) (gs : List (List (Part T))) (cur : List (Part T)) (size : ℕ) (kept : IsKept first gs cur size)

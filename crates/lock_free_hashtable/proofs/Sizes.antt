@@ -1,35 +1,25 @@
 -- How many buckets and entries a row of generations has.
-use Rattle.std.proofs.Common.{◌≡◌, ℕ, suc, add-one, mul_assoc, ◌+◌, ◌-◌, ◌*◌, ◌%◌, ◌^◌, Bool, mul-pos, ◌<◌, ◌≤◌, inl, inr, max, List, [], ◌∷◌, Option, length, map, refl, sym, ap, ◌∙◌, arith, le-mul_of_pos_right}
+use Rattle.std.proofs.Common.{◌≡◌, ℕ, add-one, mul_assoc, ◌+◌, ◌-◌, ◌*◌, ◌^◌, mul-pos, ◌<◌, ◌≤◌, inl, inr, max, List, [], ◌∷◌, length, map, refl, sym, ◌∙◌, arith, le-mul_of_pos_right}
 use Rattle.std.specs.Prelude.{slice_set}
 use Rattle.std.specs.List.{sum_by}
 use Rattle.std.proofs.lemmas.Bool.{cases_lt}
 use Rattle.std.proofs.lemmas.Nat.{pow-add, pow_pos}
-use Rattle.std.proofs.Math.Nat.{pow-suc, le-max_left, le-max_right, le_trans, mod-add-mod, add-mod_right, mod-eq_of_lt, mod-lt}
+use Rattle.std.proofs.Math.Nat.{pow-suc, le-max_left, le-max_right, le_trans}
 use Rattle.std.proofs.Math.Pow.{pow_mono}
 use Rattle.std.proofs.lemmas.List.{length-map, length-set, map-append}
 use Rattle.std.proofs.lemmas.List.Sums.{sum_by-append}
-use Rattle.lock_free_hashtable.specs.Buckets.{Part, vacant, own, named, values, owned, set_parts, shown_all, AllSound}
-use Rattle.lock_free_hashtable.specs.Capacity.{IsFirstCapacity, IsSized}
+use Rattle.generations.specs.Buckets.{Part, owned, set_parts}
+use Rattle.terms.specs.Capacities.{IsFirstCapacity}
+use Rattle.lock_free_hashtable.specs.Capacity.{IsSized}
 use Rattle.lock_free_hashtable.specs.Table.{homes_of, IsBuilt}
-use Rattle.lock_free_hashtable.specs.Probe.{IsPassed}
-use Rattle.lock_free_hashtable.specs.Ways.{place}
-use Rattle.lock_free_hashtable.specs.declared.cell.Entry.{Entry}
-use Rattle.lock_free_hashtable.proofs.Entries.{all_set}
 use Rattle.lock_free_hashtable.proofs.Homes.{homes_in}
 
 module _ {T : Type 0} where
-  -- as many buckets are set as show an entry
-  pub set_shown : (gs : List (List (Part T))) (ps : List (Part T)) → AllSound gs ps → length (set_parts ps) ≡ length (values (shown_all gs ps))
-  set_shown gs [] s = refl
-  set_shown gs (vacant ∷ ps) s = set_shown gs ps (λ k. s (suc k))
-  set_shown gs (own e ∷ ps) s = ap suc (set_shown gs ps (λ k. s (suc k)))
-  set_shown gs (named b g i ∷ ps) s = rw ((s 0).1) (ap suc (set_shown gs ps (λ k. s (suc k))))
-
-  -- where a bucket is set, each generation has as many buckets as before
   -- the current generation has its buckets beside those of the earlier ones
   total_split : (gs : List (List (Part T))) (cur : List (Part T)) → sum_by length (homes_of gs cur) ≡ sum_by length (homes_in gs) + length cur
   total_split gs cur = rw map-append (sum_by-append length (homes_in gs) (map owned cur ∷ []) ∙ rw length-map (omega arith))
 
+  -- where a bucket is set, each generation has as many buckets as before
   pub total_set : (gs : List (List (Part T))) (cur : List (Part T)) (i : ℕ) (p : Part T) → sum_by length (homes_of gs (slice_set cur i p)) ≡ sum_by length (homes_of gs cur)
   total_set gs cur i p = rw (total_split gs (slice_set cur i p), total_split gs cur, length-set) refl
 
@@ -102,22 +92,3 @@ sized_of first gs cur some (inr sized) = sized
 pub none_of : {T : Type 0} (first : ℕ) (gs : List (List (Part T))) (cur : List (Part T)) → 0 < first → length cur ≡ 0 → IsBuilt first gs cur → (gs ≡ []) × (cur ≡ [])
 none_of first gs cur some e (inl none) = none
 none_of first gs cur some e (inr sized) = absurd (let c = sized.doubled in let p : 0 < first * 2 ^ length gs = mul-pos some (pow_pos (length gs)) in omega arith)
-
-module _ {X : Type 0} (ps : List (Option X)) (hash : ℕ) where
-  -- each bucket lies on the way of each hash
-  way_to : (i : ℕ) → i < length ps → (k : ℕ) × (k < length ps) × (place ps hash k ≡ i)
-  way_to i lt =
-      let n : ℕ = length ps in
-      let r : ℕ = hash % n in
-      let below : r < n = mod-lt hash (let h : 0 < n = omega arith in h) in
-      elim (cases_lt i r) [
-        | inl before ↦ (i + n - r, (omega arith), sym (mod-add-mod hash n (i + n - r)) ∙ (let e : r + (i + n - r) ≡ i + n = omega arith in rw e (add-mod_right i n ∙ mod-eq_of_lt lt)))
-        | inr behind ↦ (i - r, (omega arith), sym (mod-add-mod hash n (i - r)) ∙ (let e : r + (i - r) ≡ i = omega arith in rw e (mod-eq_of_lt lt)))
-      ]
-
--- where a probe passed every bucket, each bucket is set
-pub full_values : {T U : Type 0} (target : T → U) (answers : U → Bool → Type 0) (ps : List (Option (Entry T))) (hash : ℕ) → IsPassed target answers ps hash (length ps) → length (values ps) ≡ length ps
-full_values target answers ps hash passed = all_set ps (λ i lt.
-    let w = way_to ps hash i lt in
-    let a = passed.refused w.0 w.1 in
-    (a.entry, rw w.2 at a.held))

@@ -4,10 +4,12 @@ use Rattle.std.specs.List.{flat_map}
 use Rattle.std.specs.List.Sorted.{IsPermutation}
 use Rattle.std.proofs.lemmas.List.{map-append, length-map}
 use Rattle.std.proofs.lemmas.List.Sorted.{IsPermutation-refl, IsPermutation-sym, IsPermutation-trans, IsPermutation-map, IsPermutation-append_comm, length_permutation}
-use Rattle.lock_free_hashtable.specs.Buckets.{Part, values, owned, shown_all}
-use Rattle.lock_free_hashtable.specs.Generations.{Bucketed, parts_of}
-use Rattle.lock_free_hashtable.specs.Table.{Table, IsKept, table_of, homes_of, entries, values_of}
-use Rattle.lock_free_hashtable.specs.Walks.{owned_values, all_owned, WalksAsList, GivesEntries}
+use Rattle.generations.specs.Buckets.{Part, values, owned, shown_all}
+use Rattle.generations.specs.Generations.{Bucketed, parts_of}
+use Rattle.generations.specs.Buckets.{values_of}
+use Rattle.lock_free_hashtable.specs.Table.{Table, IsKept, table_of, homes_of, entries}
+use Rattle.generations.specs.Buckets.{owned_values}
+use Rattle.lock_free_hashtable.specs.Walks.{all_owned, WalksAsList, GivesEntries}
 
 module _ {T : Type 0} where
   -- the values that all generations own are those of the entries at home in them

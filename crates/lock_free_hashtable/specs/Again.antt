@@ -2,7 +2,7 @@
 use Rattle.std.specs.Prelude.{◌≡◌, ℕ, Bool, true, Option, Some, Ok, Contains}
 use Rattle.lock_free_hashtable.specs.Table.{Table, IsEntryAt, IsLater, IsCounted, IsLawful, entries, entry_at}
 use Rattle.lock_free_hashtable.specs.Held.{IsLawfulInsert, InsertKeeps, Inserted, LooksUpAsList}
-use Rattle.lock_free_hashtable.specs.declared.place.Place.{Place}
+use Rattle.generations.specs.declared.place.Place.{Place}
 
 -- a table is later than itself, and than all that its earlier ones are later than
 abbrev pub LaterIsReflexive : (T : Type 0) → Type 0

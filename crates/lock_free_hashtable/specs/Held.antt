@@ -2,12 +2,12 @@
 -- words of the list object.
 use Rattle.std.specs.Prelude.{◌≡◌, ℕ, ◌++◌, Bool, true, false, List, [], ◌∷◌, Option, Some, None, Result, Ok, Err, Contains}
 use Rattle.std.specs.List.Sorted.{IsPermutation}
-use Rattle.table_core.specs.ListObject.{ListReply, Placed, Found, Refused, Shown, Absent, Insert, Lookup, Answers}
+use Rattle.terms.specs.ListObject.{ListReply, Placed, Found, Refused, Shown, Absent, Insert, Lookup, Answers}
 use Rattle.std.specs.Borrow.{Bor}
-use Rattle.lock_free_hashtable.specs.Growth.{entry_of}
+use Rattle.generations.specs.Growth.{entry_of}
 use Rattle.lock_free_hashtable.specs.Table.{Table, Stands, IsLater, IsCounted, IsLawful, entries, entry_at, marked}
-use Rattle.lock_free_hashtable.specs.declared.cell.Entry.{Entry}
-use Rattle.lock_free_hashtable.specs.declared.place.Place.{Place}
+use Rattle.generations.specs.declared.cell.Entry.{Entry}
+use Rattle.generations.specs.declared.place.Place.{Place}
 
 -- there is a value, and P of it
 abbrev pub ShowsAt : {T : Type 0} → Option T → (T → Type 0) → Type 0

@@ -1,10 +1,5 @@
 pub mod Law
-pub mod Buckets
-pub mod Cells
-pub mod Ways
-pub mod Probe
 pub mod Capacity
-pub mod Generations
 pub mod Table
 pub mod Growth
 pub mod Held

@@ -2,12 +2,14 @@
 use Rattle.std.specs.Prelude.{◌≡◌, ◌⊎◌, ℕ, ◌++◌, Bool, List, [], ◌∷◌, Option, Some, length, map, option_map, Contains, slice_index_or}
 use Rattle.std.specs.List.{sum_by, flat_map}
 use Rattle.std.specs.List.Sorted.{IsPermutation}
-use Rattle.table_core.specs.ListObject.{Length, Counted, Answers}
-use Rattle.lock_free_hashtable.specs.Buckets.{Part, values, value_at, owned, set_parts, shown_all, AllSound}
-use Rattle.lock_free_hashtable.specs.Ways.{IsLawfulFor}
-use Rattle.lock_free_hashtable.specs.Capacity.{IsFirstCapacity, IsSized}
-use Rattle.lock_free_hashtable.specs.declared.cell.Entry.{Entry}
-use Rattle.lock_free_hashtable.specs.declared.place.Place.{Place}
+use Rattle.terms.specs.ListObject.{Length, Counted, Answers}
+use Rattle.generations.specs.Buckets.{Part, values, values_of, value_at, owned, set_parts, shown_all, AllSound}
+use Rattle.generations.specs.Ways.{IsLawfulFor}
+use Rattle.terms.specs.Capacities.{IsFirstCapacity}
+use Rattle.lock_free_hashtable.specs.Capacity.{IsSized}
+use Rattle.generations.specs.declared.cell.Entry.{Entry}
+-- under the path that callers know
+pub use Rattle.generations.specs.declared.place.Place.{Place}
 
 pub record Table (T : Type 0) : Type 0 where
   -- the capacity of the first generation
@@ -23,10 +25,6 @@ module _ {T : Type 0} where
   -- the entries with their eight bits, in the order of the buckets
   abbrev pub marked : Table T → List (Entry T)
   marked t = values t.buckets
-
-  -- the values of a list of entries
-  abbrev pub values_of : List (Entry T) → List T
-  values_of es = map (λ e. e.value) es
 
   -- the entries, in the order of the buckets
   abbrev pub entries : Table T → List T

@@ -1,17 +1,13 @@
 -- What a walk over a table gives, and what a table gives when it is taken apart.
-use Rattle.std.specs.Prelude.{ℕ, ◌^◌, ◌<◌, Bool, List, map, drop, length}
+use Rattle.std.specs.Prelude.{ℕ, ◌^◌, ◌<◌, Bool, List, drop, length}
 use Rattle.std.specs.List.{flat_map}
 use Rattle.std.specs.List.Sorted.{IsPermutation}
-use Rattle.table_core.specs.ListObject.{Walk, Walked, Answers}
-use Rattle.lock_free_hashtable.specs.Buckets.{Part, values, owned, shown_all}
-use Rattle.lock_free_hashtable.specs.Generations.{Bucketed}
-use Rattle.lock_free_hashtable.specs.Table.{Table, Stands, entries, values_of}
+use Rattle.terms.specs.ListObject.{Walk, Walked, Answers}
+use Rattle.generations.specs.Buckets.{Part, values, values_of, owned_values, shown_all}
+use Rattle.generations.specs.Generations.{Bucketed}
+use Rattle.lock_free_hashtable.specs.Table.{Table, Stands, entries}
 
 module _ {T : Type 0} where
-  -- the values that buckets own, in their order
-  abbrev pub owned_values : List (Part T) → List T
-  owned_values ps = values_of (values (map owned ps))
-
   -- the values that the buckets of these generations own
   abbrev pub all_owned : List (Bucketed T) → List T
   all_owned gs = flat_map (λ g. owned_values g.parts) gs

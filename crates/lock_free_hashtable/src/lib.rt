@@ -5,13 +5,9 @@
 //! names the bucket that owns an entry, and stays good over growth.
 #![tactic(auto)]
 
-pub mod atomic_value;
-mod cell;
-mod fixed;
-mod growth;
-pub mod place;
 pub mod raw;
 
-pub use atomic_value::{AtomicValue, Law};
-pub use place::Place;
+pub use generations::atomic_value::{AtomicValue, Law};
+pub use generations::place::Place;
+pub use generations::{atomic_value, place};
 pub use raw::{FIRST_CAPACITY, HeldIter, HeldRawTable, IntoIter, is_first_capacity};

@@ -2,23 +2,25 @@
 ghost use Rattle.std.specs.Prelude.{◌≡◌, ◌-◌, ◌+◌, ◌*◌, ◌<◌, ◌≤◌, ◌↔◌, max, length, [], map, slice_index_or};
 ghost use Rattle.std.specs.Prelude.{OnOk, OnErr, IfSome, IfNone, IsSome, IsTrue, option_copied};
 ghost use Rattle.std.specs.Fn.{FnReturnsAt, FnReturnsAtPair};
-ghost use Rattle.lock_free_hashtable.specs.Buckets.{value_at, owned};
-ghost use Rattle.lock_free_hashtable.specs.Capacity.{IsFirstCapacity, IsDoubled};
+ghost use Rattle.generations.specs.Buckets.{value_at, owned};
+ghost use Rattle.terms.specs.Capacities.{IsFirstCapacity};
+ghost use Rattle.lock_free_hashtable.specs.Capacity.{IsDoubled};
 
 mod into_iter;
 mod iter;
 pub mod laws;
 
-use crate::atomic_value::{AtomicValue, Law};
-use crate::cell::Look;
-use crate::fixed::{Generation, Refusal, Spot};
-use crate::growth::rehomed;
-use crate::place::Place;
+use generations::atomic_value::{AtomicValue, Law};
+use generations::cell::Look;
+use generations::fixed::{Generation, Refusal, Spot};
+use generations::growth::rehomed;
+use generations::place::Place;
 pub use into_iter::IntoIter;
 pub use iter::HeldIter;
 use std::alloc::{AllocError, Allocator, Global};
 use std::marker::Model;
 use std::mem;
+use terms::capacity;
 
 /// The capacity of the first generation of a table made by `new`.
 pub const FIRST_CAPACITY: usize = 16;
@@ -27,12 +29,7 @@ pub const FIRST_CAPACITY: usize = 16;
 pub fn is_first_capacity(first: usize) -> bool
     ensures { IsTrue result ↔ IsFirstCapacity first }
 {
-    for exponent in 4..31u32 {
-        if first == 1usize << exponent {
-            return true;
-        }
-    }
-    false
+    capacity::is_first_capacity(first as u64)
 }
 
 /// An insertion-only set that one owner holds alone: no lock, no atomic, no waiting. Values are compared, hashed and
@@ -51,7 +48,7 @@ pub struct HeldRawTable<T: AtomicValue, A: Allocator + Copy = Global> {
 
 impl<T: AtomicValue, A: Allocator + Copy> Model for HeldRawTable<T, A> {
     ghost use Rattle.lock_free_hashtable.specs.Table.{Table, table_of, IsKept};
-    ghost use Rattle.lock_free_hashtable.specs.Generations.{parts_of};
+    ghost use Rattle.generations.specs.Generations.{parts_of};
 
     ghost Value = { Table T };
 

@@ -1,5 +1,4 @@
 pub mod Counts
-pub mod Masks
 pub mod Probes
 pub mod Keeps
 pub mod Walks

@@ -1,6 +1,6 @@
 -- The buckets that a probe reads, and what they tell of the words.
 use Rattle.std.proofs.Common.{◌≡◌, ◌≢◌, ⊎_elim, ℕ, suc, ◌+◌, ◌-◌, ◌*◌, ◌/◌, ◌%◌, ◌<◌, List, [], ◌∷◌, ◌++◌, get_or, set, sym, ap, ◌∙◌, subst, arith, length-set, get_or-set_same, get_or-set_other, div-add-mod', mod-lt, mod-eq_of_lt, suc-mul}
-use Rattle.std.proofs.Math.Nat.{add-mod-mod, mod-add-mod, add-mul-mod_self_right}
+use Rattle.std.proofs.Math.Nat.{add-mod-mod, add-mul-mod_self_right}
 use Rattle.std.proofs.lemmas.Bool.{cases_order}
 use Rattle.std.proofs.lemmas.List.Elements.{Contains-push, Contains-push_cases, Contains-append_left}
 use Rattle.std.specs.Prelude.{Contains}
@@ -8,7 +8,8 @@ use mathlib.Core.Logic.{dite}
 use native.Mathlib.Decide.{ℕ_discrete}
 use Rattle.seated.specs.declared.seat.View.{View}
 use Rattle.seated.specs.Views.{with_pair}
-use Rattle.seated.specs.Rule.{bucket_at, IsLaidOut, Fits}
+use Rattle.terms.specs.Probes.{bucket_at}
+use Rattle.seated.specs.Rule.{IsLaidOut, Fits}
 use Rattle.seated.specs.Steps.{HasPassed, IsNext}
 
 -- a probe gets to each bucket
@@ -20,9 +21,6 @@ probe_reaches n x p h = let m : ℕ = x % n in let q : ℕ = x / n in let low : 
       mod-lt (p + (n - m)) (omega arith),
       add-mod-mod x (p + (n - m)) n ∙ (ap (λ (z : ℕ). z % n) sum ∙ (add-mul-mod_self_right p (suc q) n ∙ mod-eq_of_lt h)),
     )
-
-pub next-bucket_at : (n x k : ℕ) → (bucket_at n x k + 1) % n ≡ bucket_at n x (k + 1)
-next-bucket_at n x k = mod-add-mod (x + k) n 1 ∙ ap (λ (z : ℕ). z % n) (omega arith)
 
 pub bucket_inside : (n x k : ℕ) → 0 < n → bucket_at n x k < n
 bucket_inside n x k h = mod-lt (x + k) h

@@ -1,18 +1,20 @@
 -- A seat probes for a number, or meets another: what it has learnt, and what that tells of the answer.
 use Rattle.std.proofs.Common.{IsTrue, true, false, true≢false, ◌↔◌, ◌≡◌, ◌≢◌, ℕ, ◌+◌, ◌<◌, ◌≤◌, List, [], ◌∷◌, ◌++◌, get_or, sym, refl, ap, ◌∙◌, subst, arith, max, append-nil}
-use Rattle.std.proofs.lemmas.List.Elements.{Contains-push, Contains-append_left, Contains-append_right}
+use Rattle.std.proofs.lemmas.List.Elements.{All-append, All-push, Contains-push, Contains-append_left, Contains-append_right}
 use Rattle.std.specs.Prelude.{Contains}
 use mathlib.Core.Logic.{dite}
 use mathlib.Core.Option.{none}
 use native.Mathlib.Decide.{ℕ_discrete}
 use Rattle.atomic_table.specs.Table.{step}
+use Rattle.seated.specs.declared.seat.NumberAnswer.{NumberAnswer}
 use Rattle.seated.specs.declared.seat.View.{View}
 use Rattle.seated.proofs.Counts.{times-append, times_in}
-use Rattle.seated.specs.declared.seat.NumberAnswer.TheVariants.{Placed, Found}
+use Rattle.seated.specs.declared.seat.NumberAnswer.TheVariants.{Placed, Found, Full}
 use Rattle.seated.specs.Views.{times, with_pair, with_number, with_next_turn, without_gift, unchanged, note_of, gift_of, join_of}
-use Rattle.seated.specs.Rule.{bucket_at, IsLaidOut, Fits}
+use Rattle.terms.specs.Probes.{bucket_at}
+use Rattle.seated.specs.Rule.{IsLaidOut, Fits}
 use Rattle.seated.specs.Steps.{SeatState, Shows, Reads, HasPassed, IsNext, Learns}
-use Rattle.seated.specs.Numbers.{Knows, KnowsEachBucket, Within, Disjoint, Inserts}
+use Rattle.seated.specs.Numbers.{Knows, KnowsEach, KnowsEachBucket, Within, Disjoint, Inserts}
 use Rattle.seated.proofs.Probes.{bucket_inside, absent, unknown, all_known, none_known, passed_more, fits_with_pair}
 
 -- from the view v the seat has probed the first k buckets for x, and its view is w
@@ -125,6 +127,9 @@ second_meets b u w me me' slots r is told so below =
       apart_once u.own w.own (λ x. let sum = shows.apart (omega arith) x in let same = ap (times x) (own ∙ sym (append-nil b.own)) in omega arith),
     )
 
+pub within_left : (ps qs rs : List (ℕ × ℕ)) → Within (ps ++ qs) rs → Within ps rs
+within_left ps qs rs a p x c = a p x (Contains-append_left ps qs (p, x) c)
+
 pub within_right : (ps qs rs : List (ℕ × ℕ)) → Within (ps ++ qs) rs → Within qs rs
 within_right ps qs rs a p x c = a p x (Contains-append_right ps qs (p, x) c)
 
@@ -137,3 +142,25 @@ affirmed P p = ((λ _. p), (λ _. refl))
 
 pub denied : (P : Type 0) → ¬ P → IsTrue false ↔ P
 denied P never = ((λ e. absurd (true≢false (sym e))), (λ p. absurd (never p)))
+
+-- where nothing is owned, all of it is known
+pub nothing_owned : (ps : List (ℕ × ℕ)) (xs : List ℕ) → xs ≡ [] → KnowsEach ps xs
+unfolding KnowsEach
+nothing_owned ps xs nothing = subst (KnowsEach ps) (sym nothing) (λ k d inside. absurd (omega (arith, inside)))
+
+-- a seat that owns what it did, and knows no less, knows what it owns
+pub still_known : (ps qs : List (ℕ × ℕ)) (xs ys : List ℕ) → KnowsEach ps xs → Within ps qs → ys ≡ xs → KnowsEach qs ys
+unfolding KnowsEach
+still_known ps qs xs ys each within is = subst (KnowsEach qs) (sym is) (λ k d inside. let known = each k d inside in (known.0, within known.0 (get_or xs k d) known.1))
+
+-- and so a seat that two were joined to
+pub both_known : (ps qs rs : List (ℕ × ℕ)) (xs ys : List ℕ) → KnowsEach ps xs → KnowsEach qs ys → Within (ps ++ qs) rs → KnowsEach rs (xs ++ ys)
+unfolding KnowsEach
+both_known ps qs rs xs ys each_x each_y within = All-append (Knows rs) xs ys (still_known ps rs xs xs each_x (within_left ps qs rs within) refl) (still_known qs rs ys ys each_y (within_right ps qs rs within) refl)
+
+-- and so after an insert
+pub inserted_known : (n x : ℕ) (ps qs : List (ℕ × ℕ)) (xs ys : List ℕ) (r : NumberAnswer) → KnowsEach ps xs → Within ps qs → Inserts n x ps xs r qs ys → KnowsEach qs ys
+unfolding KnowsEach
+inserted_known n x ps qs xs ys Placed each within told = subst (KnowsEach qs) (sym told.0) (All-push (Knows qs) xs x (still_known ps qs xs xs each within refl) told.1)
+inserted_known n x ps qs xs ys Found each within told = still_known ps qs xs ys each within told.0
+inserted_known n x ps qs xs ys Full each within told = still_known ps qs xs ys each within told.0

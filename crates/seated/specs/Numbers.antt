@@ -1,5 +1,5 @@
 -- What the calls of a number table promise of the seats that they are passed.
-use Rattle.std.specs.Prelude.{◌≡◌, ℕ, ◌<◌, List, [], ◌∷◌, ◌++◌, length, slice_index, Contains}
+use Rattle.std.specs.Prelude.{◌≡◌, ℕ, ◌<◌, List, [], ◌∷◌, ◌++◌, length, slice_index, All, Contains}
 use Rattle.seated.specs.declared.seat.Seat.{Seat}
 use Rattle.seated.specs.declared.seat.NumberAnswer.{NumberAnswer}
 use Rattle.seated.specs.declared.seat.NumberAnswer.TheVariants.{Placed, Found, Full}
@@ -15,6 +15,10 @@ own_numbers s = s.inner.me.0.own
 -- the number is in a known pair
 abbrev pub Knows : List (ℕ × ℕ) → ℕ → Type 0
 Knows pairs x = (p : ℕ) × Contains pairs (p, x)
+
+-- each of these numbers is in a known pair
+unfoldable pub KnowsEach : List (ℕ × ℕ) → List ℕ → Type 0
+KnowsEach pairs numbers = All (Knows pairs) numbers
 
 -- a pair is known for each of the n buckets
 abbrev pub KnowsEachBucket : ℕ → List (ℕ × ℕ) → Type 0

@@ -1,15 +1,12 @@
 -- The rule of a number table: what holds of its words and of the views of all its seats between any two steps of any threads.
 -- A word is a bucket, and an empty bucket is 0. A seat that was dropped keeps its view, so the rule goes on to hold of it.
-use Rattle.std.specs.Prelude.{◌≡◌, ℕ, ◌+◌, ◌%◌, ◌<◌, ◌≤◌, List, length, slice_index, Contains}
+use Rattle.std.specs.Prelude.{◌≡◌, ℕ, ◌<◌, ◌≤◌, List, length, slice_index, Contains}
 use mathlib.Core.Option.{some}
 use lib.ListN.{get_elem?}
 use Rattle.atomic_table.specs.Table.{State}
 use Rattle.seated.specs.declared.seat.View.{View}
 use Rattle.seated.specs.Views.{times, placings}
-
--- the bucket of a table of n buckets that a probe for x reads after k others
-abbrev pub bucket_at : ℕ → ℕ → ℕ → ℕ
-bucket_at n x k = (x + k) % n
+pub use Rattle.terms.specs.Probes.{bucket_at}
 
 -- the numbers lie on the ways of their probes, and no two are the same
 pub record IsLaidOut (n : ℕ) (words : List ℕ) : Type 0 where

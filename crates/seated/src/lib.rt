@@ -8,8 +8,6 @@
 mod rule;
 mod seat;
 mod table;
-#[cfg(test)]
-mod tests;
 
 pub use seat::{NumberAnswer, Seat};
 pub use table::NumberTable;

@@ -1,7 +1,6 @@
 //! The table and its calls.
-ghost use Rattle.std.specs.Prelude.{◌≡◌, ◌+◌, ◌%◌, ◌<◌, true, length};
+ghost use Rattle.std.specs.Prelude.{◌≡◌, ◌<◌, true, length};
 ghost use Rattle.std.specs.Int.{is_power_of_two};
-ghost use Rattle.seated.specs.Rule.{bucket_at};
 
 use crate::rule::{
     Claim, CutGift, CutNewcomer, CutNote, NumberRule, Read, ReadAndForget, ReadAndRaise, TakeIn,
@@ -10,6 +9,7 @@ use crate::seat::{NumberAnswer, Seat, View};
 use atomic_table::Table;
 use std::alloc::{AllocError, Allocator, Global};
 use std::num::NonZeroU64;
+use terms::probe::{first_bucket, next_bucket};
 
 /// A set of numbers other than 0, which threads share by reference.
 ///
@@ -30,6 +30,7 @@ pub struct NumberTable<A: Allocator + Copy = Global> {
 
 impl<A: Allocator + Copy> NumberTable<A> {
     ghost use Rattle.std.specs.Prelude.{◌++◌, [], IfOk, IsOk, IsTrue, ◌↔◌, All, Contains};
+    ghost use Rattle.std.specs.Int.{IsPowerOfTwo};
     ghost use Rattle.std.specs.Int.NonZero.{non_zero_u64_get};
     ghost use mathlib.Core.Option.{none};
     ghost use Rattle.atomic_table.specs.Table.{step};
@@ -52,9 +53,10 @@ impl<A: Allocator + Copy> NumberTable<A> {
         Ok((NumberTable { table, room }, Seat { inner: seat }))
     }
 
-    /// How many words the table has, and so how many numbers at most.
+    /// How many words the table has, and so how many numbers at most: a power of two.
     pub fn word_count(&self) -> usize
-        ensures { result ≡ word_count self.now }
+        ensures count { result ≡ word_count self.now }
+        ensures power { IsPowerOfTwo result }
     {
         self.table.word_count()
     }
@@ -226,20 +228,4 @@ impl<A: Allocator + Copy> NumberTable<A> {
         closed.free();
         room
     }
-}
-
-/// The first bucket of a probe for x, among so many.
-fn first_bucket(x: u64, count: usize) -> usize
-    requires { (0 < count) × (is_power_of_two count ≡ true) }
-    ensures { result ≡ bucket_at count x 0 }
-{
-    x as usize & (count - 1)
-}
-
-/// The bucket after this one, round the end.
-fn next_bucket(bucket: usize, count: usize) -> usize
-    requires { (bucket < count) × (is_power_of_two count ≡ true) }
-    ensures { result ≡ (bucket + 1) % count }
-{
-    (bucket + 1) & (count - 1)
 }

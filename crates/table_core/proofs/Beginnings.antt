@@ -2,10 +2,10 @@
 use Rattle.std.proofs.Common.{ℕ, ◌≡◌, ◌++◌, ◌⊎◌, inl, inr, List, [], ◌∷◌, true, false, refl, Option, Some, None, sym, subst, ap, ◌∙◌}
 use Rattle.std.specs.Prelude.{◌==◌}
 use Rattle.std.specs.List.{slice_get}
-use Rattle.table_core.specs.Replies.{Told, ToldPlaced, ToldFound, ToldRefused, ToldSome, ToldNone, ToldLen, ToldWalk, Reply}
+use Rattle.table_core.specs.Replies.{Reply, ReplyPlaced, ReplyFound, ReplyRefused, ReplySome, ReplyNone, ReplyLen, ReplyWalk, Finished}
 use Rattle.table_core.specs.Generations.{Table, bucket_in}
 use Rattle.table_core.specs.Calls.{Call, starts, is_done}
-use Rattle.table_core.specs.Machine.{World, empty, walked_gen, refused, found_entry, told_of_outcome, Act, acts, after, run}
+use Rattle.table_core.specs.Machine.{World, empty, walked_gen, refused, found_entry, reply_of_outcome, Act, acts, after, run}
 use Rattle.table_core.specs.History.{begun_by, beginnings}
 use Rattle.table_core.specs.Steps.{Row, leaves_refused, small, ends, ends_failed, gives_up, looks_none, look_empty, look_meets, look_turns, len_none, len_size, walk_none, walk_skips_last, walk_takes_last, Opens, opens_insert, opens_lookup, opens_len, opens_walk, left}
 use Rattle.table_core.specs.declared.event.Event.{Event}
@@ -35,7 +35,7 @@ opening WalkLoad = WalkLoad
 opening WalkAt = WalkLoad
 opening _ = WantShared
 
-row_opening : (w : World) (c : Call) {p : Phase} {x : Event} {a : Answer} {r : CallState} {ls : List ℕ} {t : Table} {q : Option Told} → Row w c p x a r ls t q → (opening r.phase ≡ opening p) ⊎ (is_done r.phase ≡ true)
+row_opening : (w : World) (c : Call) {p : Phase} {x : Event} {a : Answer} {r : CallState} {ls : List ℕ} {t : Table} {q : Option Reply} → Row w c p x a r ls t q → (opening r.phase ≡ opening p) ⊎ (is_done r.phase ≡ true)
 row_opening w c (looks_none _ _) = inr refl
 row_opening w c (look_empty _ _ _) = inr refl
 row_opening w c (look_meets _ _ _ _ _) = inr refl
@@ -86,7 +86,7 @@ began_now f s x n v p h op none own = record {
 }
 
 -- a row keeps a call's number and its value
-began_moved : (f : ℕ) (s : List Event) (w : World) (c : Call) {p : Phase} {x : Event} {a : Answer} {r : CallState} {ls : List ℕ} {t : Table} {q : Option Told} → Row w c p x a r ls t q → c.state.phase ≡ p → Began f s c → Began f s (left c r ls)
+began_moved : (f : ℕ) (s : List Event) (w : World) (c : Call) {p : Phase} {x : Event} {a : Answer} {r : CallState} {ls : List ℕ} {t : Table} {q : Option Reply} → Row w c p x a r ls t q → c.state.phase ≡ p → Began f s c → Began f s (left c r ls)
 began_moved f s w c {p = p} {r = r} row e b = record {
   start = b.start;
   first = b.first;
@@ -99,7 +99,7 @@ began_moved f s w c {p = p} {r = r} row e b = record {
   ];
 }
 
-began_turn : (f : ℕ) (s : List Event) (x : Event) {v : World} {a : Option Act} {r : Option Reply} → Turn (after f s) x a v r → acts (after f s) x ≡ a → AllBegan f s (after f s) → AllBegan f (s ++ x ∷ []) v
+began_turn : (f : ℕ) (s : List Event) (x : Event) {v : World} {a : Option Act} {r : Option Finished} → Turn (after f s) x a v r → acts (after f s) x ≡ a → AllBegan f s (after f s) → AllBegan f (s ++ x ∷ []) v
 began_turn f s x rests took m i c g = began_later f s x c (rw took refl) (m i c g)
 began_turn f s x (opens n v p h ra op us nv) took m i c g = elim (get-push (after f s).calls (starts n v p h) c i g) [
   | inl y ↦ subst (λ d. Began f (s ++ x ∷ []) d) (sym y.1) (began_now f s x n v p h op (unused_do_nothing f s n us).begun (rw took (begins_own op)))
@@ -116,67 +116,67 @@ all_began f = by_snoc (λ s. AllBegan f s (after f s)) (λ i c g. absurd (cc)) (
 
 -- What a row tells
 
-abbrev value_told : Told → Option ℕ
-value_told (ToldPlaced v) = Some v
-value_told (ToldFound e v) = Some v
-value_told (ToldRefused v) = Some v
+abbrev value_told : Reply → Option ℕ
+value_told (ReplyPlaced v) = Some v
+value_told (ReplyFound e v) = Some v
+value_told (ReplyRefused v) = Some v
 value_told _ = None
 
-refused_own : (v : Option ℕ) (q : Told) → refused v ≡ Some q → v ≡ value_told q
+refused_own : (v : Option ℕ) (q : Reply) → refused v ≡ Some q → v ≡ value_told q
 refused_own None q h = absurd (cc)
-refused_own (Some v) q h = let z : ToldRefused v ≡ q = cc in ap value_told z
+refused_own (Some v) q h = let z : ReplyRefused v ≡ q = cc in ap value_told z
 
-found_own : (d : Option Entry) (v : ℕ) (q : Told) → found_entry d v ≡ Some q → Some v ≡ value_told q
+found_own : (d : Option Entry) (v : ℕ) (q : Reply) → found_entry d v ≡ Some q → Some v ≡ value_told q
 found_own None v q h = absurd (cc)
-found_own (Some d) v q h = let z : ToldFound d.value v ≡ q = cc in ap value_told z
+found_own (Some d) v q h = let z : ReplyFound d.value v ≡ q = cc in ap value_told z
 
-outcome_own : (o : Outcome) (t : Table) (s : CallState) (v : Option ℕ) (q : Told) → told_of_outcome o t s v ≡ Some q → v ≡ value_told q
-outcome_own (New i) t s (Some v) q h = let z : ToldPlaced v ≡ q = cc in ap value_told z
+outcome_own : (o : Outcome) (t : Table) (s : CallState) (v : Option ℕ) (q : Reply) → reply_of_outcome o t s v ≡ Some q → v ≡ value_told q
+outcome_own (New i) t s (Some v) q h = let z : ReplyPlaced v ≡ q = cc in ap value_told z
 outcome_own (Existing i) t s (Some v) q h = found_own (bucket_in (walked_gen t s) i) v q h
 outcome_own Pending t s v q h = absurd (cc)
 outcome_own (New i) t s None q h = absurd (cc)
 outcome_own (Existing i) t s None q h = absurd (cc)
 
-insert_tells : (n v h : ℕ) (q : Told) → Some v ≡ value_told q → MayTell (Insert n v h) q
-insert_tells n v h (ToldPlaced u) e = cc
-insert_tells n v h (ToldFound d u) e = cc
-insert_tells n v h (ToldRefused u) e = cc
+insert_tells : (n v h : ℕ) (q : Reply) → Some v ≡ value_told q → MayTell (Insert n v h) q
+insert_tells n v h (ReplyPlaced u) e = cc
+insert_tells n v h (ReplyFound d u) e = cc
+insert_tells n v h (ReplyRefused u) e = cc
 insert_tells n v h _ e = absurd (cc)
 
-tells_value : {x : Event} {n : ℕ} {v : Option ℕ} {p : Phase} {h : ℕ} → Opens x n v p h → WantShared ≡ p → (q : Told) → v ≡ value_told q → MayTell x q
+tells_value : {x : Event} {n : ℕ} {v : Option ℕ} {p : Phase} {h : ℕ} → Opens x n v p h → WantShared ≡ p → (q : Reply) → v ≡ value_told q → MayTell x q
 tells_value (opens_insert n v h) e q k = insert_tells n v h q k
 tells_value (opens_lookup _ _) e q k = absurd (cc)
 tells_value (opens_len _) e q k = absurd (cc)
 tells_value (opens_walk _) e q k = absurd (cc)
 
-tells_none : {x : Event} {n : ℕ} {v : Option ℕ} {p : Phase} {h : ℕ} → Opens x n v p h → LookLoad ≡ p → MayTell x ToldNone
+tells_none : {x : Event} {n : ℕ} {v : Option ℕ} {p : Phase} {h : ℕ} → Opens x n v p h → LookLoad ≡ p → MayTell x ReplyNone
 tells_none (opens_lookup _ _) e = tt
 tells_none (opens_insert _ _ _) e = absurd (cc)
 tells_none (opens_len _) e = absurd (cc)
 tells_none (opens_walk _) e = absurd (cc)
 
-tells_some : {x : Event} {n : ℕ} {v : Option ℕ} {p : Phase} {h : ℕ} → Opens x n v p h → LookLoad ≡ p → (e : ℕ) → MayTell x (ToldSome e)
+tells_some : {x : Event} {n : ℕ} {v : Option ℕ} {p : Phase} {h : ℕ} → Opens x n v p h → LookLoad ≡ p → (e : ℕ) → MayTell x (ReplySome e)
 tells_some (opens_lookup _ _) e d = tt
 tells_some (opens_insert _ _ _) e d = absurd (cc)
 tells_some (opens_len _) e d = absurd (cc)
 tells_some (opens_walk _) e d = absurd (cc)
 
-tells_len : {x : Event} {n : ℕ} {v : Option ℕ} {p : Phase} {h : ℕ} → Opens x n v p h → LenLoad ≡ p → (k : ℕ) → MayTell x (ToldLen k)
+tells_len : {x : Event} {n : ℕ} {v : Option ℕ} {p : Phase} {h : ℕ} → Opens x n v p h → LenLoad ≡ p → (k : ℕ) → MayTell x (ReplyLen k)
 tells_len (opens_len _) e k = tt
 tells_len (opens_insert _ _ _) e k = absurd (cc)
 tells_len (opens_lookup _ _) e k = absurd (cc)
 tells_len (opens_walk _) e k = absurd (cc)
 
-tells_walk : {x : Event} {n : ℕ} {v : Option ℕ} {p : Phase} {h : ℕ} → Opens x n v p h → WalkLoad ≡ p → (es : List ℕ) → MayTell x (ToldWalk es)
+tells_walk : {x : Event} {n : ℕ} {v : Option ℕ} {p : Phase} {h : ℕ} → Opens x n v p h → WalkLoad ≡ p → (es : List ℕ) → MayTell x (ReplyWalk es)
 tells_walk (opens_walk _) e es = tt
 tells_walk (opens_insert _ _ _) e es = absurd (cc)
 tells_walk (opens_lookup _ _) e es = absurd (cc)
 tells_walk (opens_len _) e es = absurd (cc)
 
-told_so : (x : Event) (z q : Told) → Some z ≡ Some q → MayTell x z → MayTell x q
+told_so : (x : Event) (z q : Reply) → Some z ≡ Some q → MayTell x z → MayTell x q
 told_so x z q h k = let e : z ≡ q = cc in subst (MayTell x) e k
 
-pub row_tells : (w : World) (c : Call) {p : Phase} {x : Event} {a : Answer} {r : CallState} {ls : List ℕ} {t : Table} {o : Option Told} → Row w c p x a r ls t o → {y : Event} {n : ℕ} {f : Phase} {h : ℕ} → Opens y n c.value f h → opening p ≡ f → (q : Told) → o ≡ Some q → MayTell y q
+pub row_tells : (w : World) (c : Call) {p : Phase} {x : Event} {a : Answer} {r : CallState} {ls : List ℕ} {t : Table} {o : Option Reply} → Row w c p x a r ls t o → {y : Event} {n : ℕ} {f : Phase} {h : ℕ} → Opens y n c.value f h → opening p ≡ f → (q : Reply) → o ≡ Some q → MayTell y q
 row_tells w c (leaves_refused _) op e q k = tells_value op e q (refused_own c.value q k)
 row_tells w c (gives_up _ _ _) op e q k = tells_value op e q (refused_own c.value q k)
 row_tells w c (small _ _ _ _) op e q k = tells_value op e q (outcome_own c.state.outcome w.table c.state c.value q k)
@@ -193,36 +193,36 @@ row_tells w c (walk_skips_last _ _ _ _) op e q k = told_so _ _ q k (tells_walk o
 row_tells w c (walk_takes_last _ _ d _ _) op e q k = told_so _ _ q k (tells_walk op e (c.list ++ d.value ∷ []))
 row_tells w c _ op e q k = absurd (cc)
 
-tells_placed : {x : Event} {n : ℕ} {o : Option ℕ} {p : Phase} {h : ℕ} → Opens x n o p h → (v : ℕ) → o ≡ Some v → MayTell x (ToldPlaced v)
+tells_placed : {x : Event} {n : ℕ} {o : Option ℕ} {p : Phase} {h : ℕ} → Opens x n o p h → (v : ℕ) → o ≡ Some v → MayTell x (ReplyPlaced v)
 tells_placed (opens_insert n u h) v e = cc
 tells_placed (opens_lookup _ _) v e = absurd (cc)
 tells_placed (opens_len _) v e = absurd (cc)
 tells_placed (opens_walk _) v e = absurd (cc)
 
 -- what a row tells is its call's own
-pub row_own : (f : ℕ) (s : List Event) (i : ℕ) (c : Call) {p : Phase} {x : Event} {a : Answer} {r : CallState} {ls : List ℕ} {t : Table} {o : Option Told} → Row (after f s) c p x a r ls t o → c.state.phase ≡ p → slice_get (after f s).calls i ≡ Some c → (q : Told) → o ≡ Some q → IsOwn f s (record { call = c.number; told = q })
+pub row_own : (f : ℕ) (s : List Event) (i : ℕ) (c : Call) {p : Phase} {x : Event} {a : Answer} {r : CallState} {ls : List ℕ} {t : Table} {o : Option Reply} → Row (after f s) c p x a r ls t o → c.state.phase ≡ p → slice_get (after f s).calls i ≡ Some c → (q : Reply) → o ≡ Some q → IsOwn f s (record { call = c.number; reply = q })
 row_own f s i c {p = p} row e g q k =
     let b = all_began f s i c g in
     let since : opening p ≡ b.first = elim b.since [
       | inl y ↦ subst (λ z. opening z ≡ b.first) e y
       | inr y ↦ absurd (let z : is_done p ≡ true = subst (λ z. is_done z ≡ true) e y in let n : is_done p ≡ false = row_not_done (after f s) c row in cc)
     ] in
-    record { start = b.start; once = b.once; told = row_tells (after f s) c row b.opened since q k }
+    record { start = b.start; once = b.once; reply = row_tells (after f s) c row b.opened since q k }
 
 -- a reply stays its call's own: the call is there, so it has begun once
 one_list : (x y : Event) (more : List Event) → (x ∷ []) ++ more ≡ y ∷ [] → x ∷ [] ≡ y ∷ []
 one_list x y more h = cc
 
-pub own_later : (f : ℕ) (s more : List Event) (r : Reply) (i : ℕ) (c : Call) → slice_get (after f (s ++ more)).calls i ≡ Some c → c.number ≡ r.call → IsOwn f s r → IsOwn f (s ++ more) r
+pub own_later : (f : ℕ) (s more : List Event) (r : Finished) (i : ℕ) (c : Call) → slice_get (after f (s ++ more)).calls i ≡ Some c → c.number ≡ r.call → IsOwn f s r → IsOwn f (s ++ more) r
 own_later f s more r i c g e o =
     let b = all_began f (s ++ more) i c g in
     let once : beginnings (empty f) (s ++ more) r.call ≡ b.start ∷ [] = subst (λ n. beginnings (empty f) (s ++ more) n ≡ b.start ∷ []) e b.once in
     let cut : beginnings (empty f) s r.call ++ beginnings (run (empty f) s) more r.call ≡ b.start ∷ [] = sym (beginnings_append s more (empty f) r.call) ∙ once in
     let same : o.start ∷ [] ≡ b.start ∷ [] = one_list o.start b.start (beginnings (run (empty f) s) more r.call) (rw o.once at cut) in
-    record { start = o.start; once = once ∙ sym same; told = o.told }
+    record { start = o.start; once = once ∙ sym same; reply = o.reply }
 
 -- an insert that is there has begun with its value
-pub placed_own : (f : ℕ) (s : List Event) (i : ℕ) (c : Call) (v : ℕ) → slice_get (after f s).calls i ≡ Some c → c.value ≡ Some v → IsOwn f s (record { call = c.number; told = ToldPlaced v })
+pub placed_own : (f : ℕ) (s : List Event) (i : ℕ) (c : Call) (v : ℕ) → slice_get (after f s).calls i ≡ Some c → c.value ≡ Some v → IsOwn f s (record { call = c.number; reply = ReplyPlaced v })
 placed_own f s i c v g e =
     let b = all_began f s i c g in
-    record { start = b.start; once = b.once; told = tells_placed b.opened v e }
+    record { start = b.start; once = b.once; reply = tells_placed b.opened v e }

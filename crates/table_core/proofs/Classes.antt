@@ -3,10 +3,11 @@ use Rattle.std.proofs.Common.{eqb-true, ℕ, suc, zero, ◌≡◌, ◌+◌, ◌�
 use Rattle.std.specs.Prelude.{◌||◌, option_to_list}
 use Rattle.std.specs.List.{slice_get, list_any}
 use Rattle.table_core.specs.Bags.{weigh}
-use Rattle.table_core.specs.Replies.{Told, ToldFound, ToldRefused, Reply}
-use Rattle.table_core.specs.Generations.{Gen, Table, IsFirst, last_of, gen_of, bucket_in, is_current}
+use Rattle.table_core.specs.Replies.{Reply, ReplyFound, ReplyRefused, Finished}
+use Rattle.table_core.specs.Generations.{Gen, Table, last_of, gen_of, bucket_in, is_current}
+use Rattle.terms.specs.Capacities.{IsFirstCapacity}
 use Rattle.table_core.specs.Calls.{Call, starts, is_done, is_pending}
-use Rattle.table_core.specs.Machine.{World, empty, walked_gen, refused, told_of_outcome, told, Act, Begins, acts, reply_to, reply, after}
+use Rattle.table_core.specs.Machine.{World, empty, walked_gen, refused, reply_of_outcome, reply, Act, Begins, acts, finished_call, finishes, after}
 use Rattle.table_core.specs.History.{replies, placed_by, placed, given, handed_back, back, kept, runs, running}
 use Rattle.table_core.specs.Steps.{Row, reads_empty, memory_refused, leaves_refused, small, ends, ends_failed, gives_up, Opens, opens_insert, opens_lookup, opens_len, opens_walk, left}
 use Rattle.table_core.specs.declared.event.Event.{Event}
@@ -42,7 +43,7 @@ use Rattle.table_core.proofs.Refusals.{outcome_unrefused}
 abbrev pub LeavesRefused : World → Call → Phase → Type 0
 LeavesRefused w c p = (p ≡ LeaveRefused) ⊎ ((p ≡ LeaveFailed) × (is_pending c.state.outcome ≡ true) × (is_current w.table.gens c.state.walked ≡ true))
 
-row_refused : (w : World) (c : Call) {p : Phase} {x : Event} {a : Answer} {r : CallState} {ls : List ℕ} {t : Table} {q : Option Told} → Row w c p x a r ls t q → (k : ℕ) → q ≡ Some (ToldRefused k) → LeavesRefused w c p
+row_refused : (w : World) (c : Call) {p : Phase} {x : Event} {a : Answer} {r : CallState} {ls : List ℕ} {t : Table} {q : Option Reply} → Row w c p x a r ls t q → (k : ℕ) → q ≡ Some (ReplyRefused k) → LeavesRefused w c p
 row_refused w c (leaves_refused n) k h = inl refl
 row_refused w c (gives_up n e d) k h = inr (refl, e, d)
 row_refused w c (small n g e d) k h = absurd (outcome_unrefused c.state.outcome w.table c.state c.value k h)
@@ -59,21 +60,21 @@ record Finding (w : World) (c : Call) (e v : ℕ) : Type 0 where
   value : entry.value ≡ e
   own : c.value ≡ Some v
 
-finds_at : (w : World) (c : Call) (o : Outcome) (v : Option ℕ) (e u : ℕ) → c.state.outcome ≡ o → c.value ≡ v → told_of_outcome o w.table c.state v ≡ Some (ToldFound e u) → Finding w c e u
+finds_at : (w : World) (c : Call) (o : Outcome) (v : Option ℕ) (e u : ℕ) → c.state.outcome ≡ o → c.value ≡ v → reply_of_outcome o w.table c.state v ≡ Some (ReplyFound e u) → Finding w c e u
 finds_at w c (Existing i) (Some v) e u h k q =
-    let f = found_told (bucket_in (walked_gen w.table c.state) i) v (ToldFound e u) q in
-    let same : ToldFound e u ≡ ToldFound f.0.value v = f.2 in
+    let f = found_told (bucket_in (walked_gen w.table c.state) i) v (ReplyFound e u) q in
+    let same : ReplyFound e u ≡ ReplyFound f.0.value v = f.2 in
     record { index = i; entry = f.0; outcome = h; there = f.1; value = (let y : e ≡ f.0.value = cc in sym y); own = (let y : u ≡ v = cc in k ∙ ap Some (sym y)) }
 finds_at w c (New i) (Some v) e u h k q = absurd (cc)
 finds_at w c Pending v e u h k q = absurd (cc)
 finds_at w c (New i) None e u h k q = absurd (cc)
 finds_at w c (Existing i) None e u h k q = absurd (cc)
 
-refused_no_find : (v : Option ℕ) (e u : ℕ) → refused v ≡ Some (ToldFound e u) → ⊥
+refused_no_find : (v : Option ℕ) (e u : ℕ) → refused v ≡ Some (ReplyFound e u) → ⊥
 refused_no_find None e u h = cc
 refused_no_find (Some v) e u h = cc
 
-row_found : (w : World) (c : Call) {p : Phase} {x : Event} {a : Answer} {r : CallState} {ls : List ℕ} {t : Table} {q : Option Told} → Row w c p x a r ls t q → (e v : ℕ) → q ≡ Some (ToldFound e v) → Finding w c e v
+row_found : (w : World) (c : Call) {p : Phase} {x : Event} {a : Answer} {r : CallState} {ls : List ℕ} {t : Table} {q : Option Reply} → Row w c p x a r ls t q → (e v : ℕ) → q ≡ Some (ReplyFound e v) → Finding w c e v
 row_found w c (small n g m d) e v h = finds_at w c c.state.outcome c.value e v refl refl h
 row_found w c (ends n m) e v h = finds_at w c c.state.outcome c.value e v refl refl h
 row_found w c (ends_failed n m) e v h = finds_at w c c.state.outcome c.value e v refl refl h
@@ -105,7 +106,7 @@ last_none [] h = refl
 last_none (x ∷ xs) h = absurd (omega arith)
 
 -- an insert that has turned in the current generation accepts nothing that was placed
-none_at_turn_in : (l : Law) (w : World) (m : List ℕ) (rs : List Reply) (i : ℕ) (c : Call) (o : Option ℕ) → c.state.walked ≡ o → slice_get w.calls i ≡ Some c → wants_growth c.state.phase c.state.outcome ≡ true → is_asking c.state.phase ≡ true → is_current w.table.gens o ≡ true → Inv w m rs → LawOk l w → passing (accepts_value l c) m ≡ 0
+none_at_turn_in : (l : Law) (w : World) (m : List ℕ) (rs : List Finished) (i : ℕ) (c : Call) (o : Option ℕ) → c.state.walked ≡ o → slice_get w.calls i ≡ Some c → wants_growth c.state.phase c.state.outcome ≡ true → is_asking c.state.phase ≡ true → is_current w.table.gens o ≡ true → Inv w m rs → LawOk l w → passing (accepts_value l c) m ≡ 0
 none_at_turn_in l w m rs i c None e g u a h v o =
     let n : length w.table.gens ≡ 0 = eqb-true (length w.table.gens) 0 h in
     let b : 0 ≡ passing (accepts_value l c) m = rw (last_none w.table.gens n) at (v.holding.bag (λ u. one_if (accepts_value l c u))) in
@@ -116,7 +117,7 @@ none_at_turn_in l w m rs i c (Some k) e g u a h v o =
     let j = o.calls i c g in
     none_placed l w m c f.0 (current_at w.table.gens k f.0 (omega arith) f.1) v.holding (misses_at_turn l c f.0 f.0.capacity (v.seated.gens k f.0 f.1) (o.gens k f.0 f.1) (j.turned u k f.0 e f.1) (j.hash a) (omega arith))
 
-pub none_at_turn : (l : Law) (w : World) (m : List ℕ) (rs : List Reply) (i : ℕ) (c : Call) → slice_get w.calls i ≡ Some c → wants_growth c.state.phase c.state.outcome ≡ true → is_asking c.state.phase ≡ true → is_current w.table.gens c.state.walked ≡ true → Inv w m rs → LawOk l w → passing (accepts_value l c) m ≡ 0
+pub none_at_turn : (l : Law) (w : World) (m : List ℕ) (rs : List Finished) (i : ℕ) (c : Call) → slice_get w.calls i ≡ Some c → wants_growth c.state.phase c.state.outcome ≡ true → is_asking c.state.phase ≡ true → is_current w.table.gens c.state.walked ≡ true → Inv w m rs → LawOk l w → passing (accepts_value l c) m ≡ 0
 none_at_turn l w m rs i c g u a h v o = none_at_turn_in l w m rs i c c.state.walked refl g u a h v o
 
 -- a call that has met no empty bucket since it began
@@ -127,15 +128,15 @@ meets_none _ = true
 
 -- this insert of this value is among the calls, and has met no empty bucket
 record Sheltered (n v : ℕ) (w : World) : Type 0 where
-  place : ℕ
+  position : ℕ
   call : Call
-  there : slice_get w.calls place ≡ Some call
+  there : slice_get w.calls position ≡ Some call
   number : call.number ≡ n
   value : call.value ≡ Some v
   full : meets_none call.state.phase ≡ true
 
 -- where an equal entry was placed, it meets none
-sheltered_row : (l : Law) (w : World) (m : List ℕ) (rs : List Reply) (i : ℕ) (c : Call) (v : ℕ) {p : Phase} {x : Event} {a : Answer} {r : CallState} {ls : List ℕ} {t : Table} {q : Option Told} → Row w c p x a r ls t q → c.state.phase ≡ p → slice_get w.calls i ≡ Some c → c.value ≡ Some v → Inv w m rs → LawOk l w → 1 ≤ passing (l.equal v) m → meets_none p ≡ true → meets_none r.phase ≡ true
+sheltered_row : (l : Law) (w : World) (m : List ℕ) (rs : List Finished) (i : ℕ) (c : Call) (v : ℕ) {p : Phase} {x : Event} {a : Answer} {r : CallState} {ls : List ℕ} {t : Table} {q : Option Reply} → Row w c p x a r ls t q → c.state.phase ≡ p → slice_get w.calls i ≡ Some c → c.value ≡ Some v → Inv w m rs → LawOk l w → 1 ≤ passing (l.equal v) m → meets_none p ≡ true → meets_none r.phase ≡ true
 sheltered_row l w m rs i c v (reads_empty _ _ n) e g h k o le z =
     let none : passing (accepts_value l c) m ≡ 0 = fresh_value l w m rs i c g n (ap probing e) (ap stands e) (ap is_asking e) k o in
     let same : passing (l.equal v) m ≡ 0 = rw h at none in
@@ -143,24 +144,24 @@ sheltered_row l w m rs i c v (reads_empty _ _ n) e g h k o le z =
 sheltered_row l w m rs i c v (memory_refused _ _) e g h k o le z = absurd (cc)
 sheltered_row l w m rs i c v _ e g h k o le z = refl
 
-sheltered_turn : (l : Law) (n u : ℕ) {w v : World} {x : Event} {a : Option Act} {r : Option Reply} (m : List ℕ) (rs : List Reply) → Turn w x a v r → Inv w m rs → LawOk l w → 1 ≤ passing (l.equal u) m → Sheltered n u w → Sheltered n u v
+sheltered_turn : (l : Law) (n u : ℕ) {w v : World} {x : Event} {a : Option Act} {r : Option Finished} (m : List ℕ) (rs : List Finished) → Turn w x a v r → Inv w m rs → LawOk l w → 1 ≤ passing (l.equal u) m → Sheltered n u w → Sheltered n u v
 sheltered_turn l n u m rs rests k o le q = q
-sheltered_turn l n u {w = w} m rs (opens _ _ _ _ _ _ _ _) k o le q = record { place = q.place; call = q.call; there = get-push_before w.calls _ q.place q.call q.there; number = q.number; value = q.value; full = q.full }
-sheltered_turn l n u {w = w} m rs (takes i c p a s list t b g e row nu) k o le q = elim (same_number i q.place) [
+sheltered_turn l n u {w = w} m rs (opens _ _ _ _ _ _ _ _) k o le q = record { position = q.position; call = q.call; there = get-push_before w.calls _ q.position q.call q.there; number = q.number; value = q.value; full = q.full }
+sheltered_turn l n u {w = w} m rs (takes i c p a s list t b g e row nu) k o le q = elim (same_number i q.position) [
   | inl y ↦ (
       let g2 : slice_get w.calls i ≡ Some q.call = rw y q.there in
       let d : q.call ≡ c = cc in
       let va : c.value ≡ Some u = ap (λ (z : Call). z.value) (sym d) ∙ q.value in
       let fu : meets_none c.state.phase ≡ true = ap (λ (z : Call). meets_none z.state.phase) (sym d) ∙ q.full in
       record {
-        place = i;
+        position = i;
         call = left c s list;
         there = get-set_same w.calls i c (left c s list) g;
         number = ap (λ (z : Call). z.number) (sym d) ∙ q.number;
         value = va;
         full = sheltered_row l w m rs i c u row e g va k o le (sym (ap meets_none e) ∙ fu);
       })
-  | inr y ↦ record { place = q.place; call = q.call; there = get-set_other w.calls i q.place (left c s list) y ∙ q.there; number = q.number; value = q.value; full = q.full }
+  | inr y ↦ record { position = q.position; call = q.call; there = get-set_other w.calls i q.position (left c s list) y ∙ q.there; number = q.number; value = q.value; full = q.full }
 ]
 
 -- an insert that begins
@@ -170,11 +171,11 @@ begin_insert (opens_lookup n h) m u k e = absurd (cc)
 begin_insert (opens_len n) m u k e = absurd (cc)
 begin_insert (opens_walk n) m u k e = absurd (cc)
 
-sheltered_first : {w v : World} {x : Event} {a : Option Act} {r : Option Reply} → Turn w x a v r → (n u h : ℕ) (c : Call) → x ≡ Insert n u h → a ≡ Some (Begins c) → Sheltered n u v
+sheltered_first : {w v : World} {x : Event} {a : Option Act} {r : Option Finished} → Turn w x a v r → (n u h : ℕ) (c : Call) → x ≡ Insert n u h → a ≡ Some (Begins c) → Sheltered n u v
 sheltered_first rests n u h c e q = absurd (cc)
 sheltered_first {w = w} (opens m v p k ra o us nv) n u h c e q =
     let b = begin_insert o n u h e in
-    record { place = length w.calls; call = starts m v p k; there = get-push_last w.calls (starts m v p k); number = b.0; value = b.1; full = ap meets_none b.2 }
+    record { position = length w.calls; call = starts m v p k; there = get-push_last w.calls (starts m v p k); number = b.0; value = b.1; full = ap meets_none b.2 }
 sheltered_first (takes i d p a s list t o g f row nu) n u h c e q = absurd (cc)
 
 abbrev StaysSheltered : Law → ℕ → ℕ → ℕ → List Event → Type 0
@@ -183,21 +184,21 @@ StaysSheltered l f n v s = IsLawful l f s → (1 ≤ passing (l.equal v) (placed
 placed_more : (l : Law) (f : ℕ) (v : ℕ) (s : List Event) (x : Event) → 1 ≤ passing (l.equal v) (placed (empty f) s) → 1 ≤ passing (l.equal v) (placed (empty f) (s ++ x ∷ []))
 placed_more l f v s x le = rw placed_snoc (omega (arith, le, weigh-append (λ u. one_if (l.equal v u)) (placed (empty f) s) (placed_by (acts (after f s) x))))
 
-sheltered_snoc : (l : Law) (f n v : ℕ) → IsFirst f → (s : List Event) (x : Event) → StaysSheltered l f n v s → StaysSheltered l f n v (s ++ x ∷ [])
+sheltered_snoc : (l : Law) (f n v : ℕ) → IsFirstCapacity f → (s : List Event) (x : Event) → StaysSheltered l f n v s → StaysSheltered l f n v (s ++ x ∷ [])
 sheltered_snoc l f n v i s x k h =
     let b = lawful_before l s (x ∷ []) (empty f) h in
     let q = k b in
     (placed_more l f v s x q.0, sheltered_turn l n v (placed (empty f) s) (replies (empty f) s) (turn_after f s x) (inv f i s) (law_after l f i s b) q.0 q.1)
 
 -- a sheltered insert isn't refused
-sheltered_reply : (l : Law) (n u back : ℕ) {w v : World} {x : Event} {a : Option Act} {r : Option Reply} (m : List ℕ) (rs : List Reply) → Turn w x a v r → Inv w m rs → LawOk l w → 1 ≤ passing (l.equal u) m → Sheltered n u w → r ≡ Some (record { call = n; told = ToldRefused back }) → ⊥
+sheltered_reply : (l : Law) (n u back : ℕ) {w v : World} {x : Event} {a : Option Act} {r : Option Finished} (m : List ℕ) (rs : List Finished) → Turn w x a v r → Inv w m rs → LawOk l w → 1 ≤ passing (l.equal u) m → Sheltered n u w → r ≡ Some (record { call = n; reply = ReplyRefused back }) → ⊥
 sheltered_reply l n u back m rs rests k o le q h = cc
 sheltered_reply l n u back m rs (opens _ _ _ _ _ _ _ _) k o le q h = cc
 sheltered_reply l n u back {w = w} m rs (takes i c p a s list u2 b g e row nu) k o le q h =
-    let t = told_by_reply c.number b (record { call = n; told = ToldRefused back }) h in
-    let own : c.number ≡ n = ap (λ (r : Reply). r.call) t.2 in
-    let said : b ≡ Some (ToldRefused back) = t.1 ∙ ap Some (ap (λ (r : Reply). r.told) t.2) in
-    let y : i ≡ q.place = k.numbered.apart i q.place c q.call g q.there (own ∙ sym q.number) in
+    let t = told_by_reply c.number b (record { call = n; reply = ReplyRefused back }) h in
+    let own : c.number ≡ n = ap (λ (r : Finished). r.call) t.2 in
+    let said : b ≡ Some (ReplyRefused back) = t.1 ∙ ap Some (ap (λ (r : Finished). r.reply) t.2) in
+    let y : i ≡ q.position = k.numbered.apart i q.position c q.call g q.there (own ∙ sym q.number) in
     let g2 : slice_get w.calls i ≡ Some q.call = rw y q.there in
     let d : q.call ≡ c = cc in
     let va : c.value ≡ Some u = ap (λ (z : Call). z.value) (sym d) ∙ q.value in
@@ -216,25 +217,25 @@ within_assoc : (s more : List Event) (y x : Event) → s ++ y ∷ more ++ x ∷ 
 within_assoc [] more y x = refl
 within_assoc (z ∷ s) more y x = ap (λ l. z ∷ l) (within_assoc s more y x)
 
-pub none_refused_in_vain : (l : Law) (f : ℕ) (s : List Event) (n v h : ℕ) (more : List Event) (x : Event) (back : ℕ) → IsFirst f → NoneRefusedInVain l f s n v h more x back
-none_refused_in_vain l f s n v h more x back i c law begun any told =
+pub none_refused_in_vain : (l : Law) (f : ℕ) (s : List Event) (n v h : ℕ) (more : List Event) (x : Event) (back : ℕ) → IsFirstCapacity f → NoneRefusedInVain l f s n v h more x back
+none_refused_in_vain l f s n v h more x back i c law begun any reply =
     let all : s ++ Insert n v h ∷ more ++ x ∷ [] ≡ (s ++ Insert n v h ∷ more) ++ x ∷ [] = within_assoc s more (Insert n v h) x in
     let b : IsLawful l f (s ++ Insert n v h ∷ more) = lawful_before l (s ++ Insert n v h ∷ more) (x ∷ []) (empty f) (subst (IsLawful l f) all law) in
     let first : StaysSheltered l f n v (s ++ Insert n v h ∷ []) = λ z. (placed_more l f v s (Insert n v h) (any_passes (l.equal v) (placed (empty f) s) any), sheltered_first (turn_after f s (Insert n v h)) n v h c refl begun) in
     let later : StaysSheltered l f n v ((s ++ Insert n v h ∷ []) ++ more) = by_snoc_from (StaysSheltered l f n v) (sheltered_snoc l f n v i) more (s ++ Insert n v h ∷ []) first in
     let now : StaysSheltered l f n v (s ++ Insert n v h ∷ more) = subst (StaysSheltered l f n v) (append_assoc s (Insert n v h ∷ []) more) later in
     let q = now b in
-    sheltered_reply l n v back (placed (empty f) (s ++ Insert n v h ∷ more)) (replies (empty f) (s ++ Insert n v h ∷ more)) (turn_after f (s ++ Insert n v h ∷ more) x) (inv f i (s ++ Insert n v h ∷ more)) (law_after l f i (s ++ Insert n v h ∷ more) b) q.0 q.1 told
+    sheltered_reply l n v back (placed (empty f) (s ++ Insert n v h ∷ more)) (replies (empty f) (s ++ Insert n v h ∷ more)) (turn_after f (s ++ Insert n v h ∷ more) x) (inv f i (s ++ Insert n v h ∷ more)) (law_after l f i (s ++ Insert n v h ∷ more) b) q.0 q.1 reply
 
 -- What is handed back is equal to an entry
 
 -- the value of an insert that has found an entry
-abbrev given_up : Told → List ℕ
-given_up (ToldFound e v) = v ∷ []
+abbrev given_up : Reply → List ℕ
+given_up (ReplyFound e v) = v ∷ []
 given_up _ = []
 
-abbrev given_ups : (ℕ → Bool) → List Reply → ℕ
-given_ups p rs = weigh (λ r. passing p (given_up r.told)) rs
+abbrev given_ups : (ℕ → Bool) → List Finished → ℕ
+given_ups p rs = weigh (λ r. passing p (given_up r.reply)) rs
 
 gen_passes : (p : ℕ → Bool) (w : World) (m : List ℕ) (k i : ℕ) (o : Option Gen) (e : Entry) → slice_get w.table.gens k ≡ o → bucket_in o i ≡ Some e → Within w m → p e.value ≡ true → 1 ≤ passing p m
 gen_passes p w m k i None e h b n y = absurd (cc)
@@ -246,7 +247,7 @@ bucket_passes p w m None i e b n y = absurd (cc)
 bucket_passes p w m (Some k) i e b n y = gen_passes p w m k i (slice_get w.table.gens k) e refl b n y
 
 -- a value that was given up has an equal among those placed
-found_equal : (l : Law) (w : World) (m : List ℕ) (rs : List Reply) (i : ℕ) (c : Call) (e v : ℕ) → slice_get w.calls i ≡ Some c → Finding w c e v → Inv w m rs → LawOk l w → 1 ≤ passing (l.equal v) m
+found_equal : (l : Law) (w : World) (m : List ℕ) (rs : List Finished) (i : ℕ) (c : Call) (e v : ℕ) → slice_get w.calls i ≡ Some c → Finding w c e v → Inv w m rs → LawOk l w → 1 ≤ passing (l.equal v) m
 found_equal l w m rs i c e v g f k o =
     let a : accepts_value l c f.entry.value ≡ true = (o.calls i c g).met f.index f.entry f.outcome f.there in
     let b : l.equal v f.entry.value ≡ true = rw f.own at a in
@@ -256,15 +257,15 @@ equal_more_at : (l : Law) (m : List ℕ) (x v : ℕ) (b : Bool) → l.equal x v 
 equal_more_at l m x v false h y z = absurd (omega arith)
 equal_more_at l m x v true h y z = omega (arith, z, weigh-le (λ u. one_if (l.equal v u)) (λ u. one_if (l.equal x u)) (λ u. passes_le (l.equal v u) (l.equal x u) (λ q. l.transitive x v u h q)) m)
 
-told_equal : (l : Law) (w : World) (m : List ℕ) (rs : List Reply) (i : ℕ) (c : Call) (t : Told) (x : ℕ) {p : Phase} {y : Event} {a : Answer} {r : CallState} {ls : List ℕ} {u : Table} {q : Option Told} → Row w c p y a r ls u q → q ≡ Some t → slice_get w.calls i ≡ Some c → Inv w m rs → LawOk l w → 1 ≤ passing (l.equal x) (given_up t) → 1 ≤ passing (l.equal x) m
-told_equal l w m rs i c (ToldFound e v) x row h g k o z = equal_more_at l m x v (l.equal x v) refl z (found_equal l w m rs i c e v g (row_found w c row e v h) k o)
+told_equal : (l : Law) (w : World) (m : List ℕ) (rs : List Finished) (i : ℕ) (c : Call) (t : Reply) (x : ℕ) {p : Phase} {y : Event} {a : Answer} {r : CallState} {ls : List ℕ} {u : Table} {q : Option Reply} → Row w c p y a r ls u q → q ≡ Some t → slice_get w.calls i ≡ Some c → Inv w m rs → LawOk l w → 1 ≤ passing (l.equal x) (given_up t) → 1 ≤ passing (l.equal x) m
+told_equal l w m rs i c (ReplyFound e v) x row h g k o z = equal_more_at l m x v (l.equal x v) refl z (found_equal l w m rs i c e v g (row_found w c row e v h) k o)
 told_equal l w m rs i c _ x row h g k o z = absurd (omega arith)
 
-reply_equal : (l : Law) (w : World) (m : List ℕ) (rs : List Reply) (i : ℕ) (c : Call) (b : Option Told) (x : ℕ) {p : Phase} {y : Event} {a : Answer} {r : CallState} {ls : List ℕ} {u : Table} {q : Option Told} → Row w c p y a r ls u q → q ≡ b → slice_get w.calls i ≡ Some c → Inv w m rs → LawOk l w → 1 ≤ given_ups (l.equal x) (option_to_list (reply_to c.number b)) → 1 ≤ passing (l.equal x) m
+reply_equal : (l : Law) (w : World) (m : List ℕ) (rs : List Finished) (i : ℕ) (c : Call) (b : Option Reply) (x : ℕ) {p : Phase} {y : Event} {a : Answer} {r : CallState} {ls : List ℕ} {u : Table} {q : Option Reply} → Row w c p y a r ls u q → q ≡ b → slice_get w.calls i ≡ Some c → Inv w m rs → LawOk l w → 1 ≤ given_ups (l.equal x) (option_to_list (finished_call c.number b)) → 1 ≤ passing (l.equal x) m
 reply_equal l w m rs i c None x row h g k o z = absurd (omega arith)
 reply_equal l w m rs i c (Some t) x row h g k o z = told_equal l w m rs i c t x row h g k o (omega arith)
 
-turn_equal : (l : Law) {w v : World} {y : Event} {a : Option Act} {r : Option Reply} (m : List ℕ) (rs : List Reply) → Turn w y a v r → Inv w m rs → LawOk l w → (x : ℕ) → 1 ≤ given_ups (l.equal x) (option_to_list r) → 1 ≤ passing (l.equal x) m
+turn_equal : (l : Law) {w v : World} {y : Event} {a : Option Act} {r : Option Finished} (m : List ℕ) (rs : List Finished) → Turn w y a v r → Inv w m rs → LawOk l w → (x : ℕ) → 1 ≤ given_ups (l.equal x) (option_to_list r) → 1 ≤ passing (l.equal x) m
 turn_equal l m rs rests k o x z = absurd (omega arith)
 turn_equal l m rs (opens _ _ _ _ _ _ _ _) k o x z = absurd (omega arith)
 turn_equal l {w = w} m rs (takes i c p a s list t b g e row nu) k o x z = reply_equal l w m rs i c b x row refl g k o z
@@ -276,32 +277,32 @@ equal_or : (a b m : ℕ) → (1 ≤ a → 1 ≤ m) → (1 ≤ b → 1 ≤ m) →
 equal_or zero b m f g h = g (omega arith)
 equal_or (suc a) b m f g h = f (omega arith)
 
-given_up_snoc : (l : Law) (f : ℕ) → IsFirst f → (s : List Event) (y : Event) → GivenUpEqual l f s → GivenUpEqual l f (s ++ y ∷ [])
+given_up_snoc : (l : Law) (f : ℕ) → IsFirstCapacity f → (s : List Event) (y : Event) → GivenUpEqual l f s → GivenUpEqual l f (s ++ y ∷ [])
 given_up_snoc l f i s y k h x z =
     let b = lawful_before l s (y ∷ []) (empty f) h in
     let old = replies (empty f) s in
-    let new = option_to_list (reply (after f s) y) in
-    let split : given_ups (l.equal x) (old ++ new) ≡ given_ups (l.equal x) old + given_ups (l.equal x) new = weigh-append (λ (r : Reply). passing (l.equal x) (given_up r.told)) old new in
+    let new = option_to_list (finishes (after f s) y) in
+    let split : given_ups (l.equal x) (old ++ new) ≡ given_ups (l.equal x) old + given_ups (l.equal x) new = weigh-append (λ (r : Finished). passing (l.equal x) (given_up r.reply)) old new in
     let all : 1 ≤ given_ups (l.equal x) (old ++ new) = rw (replies_snoc f s y) at z in
     placed_more l f x s y (equal_or (given_ups (l.equal x) old) (given_ups (l.equal x) new) (passing (l.equal x) (placed (empty f) s)) (k b x)
     (turn_equal l (placed (empty f) s) old (turn_after f s y) (inv f i s) (law_after l f i s b) x) (omega arith))
 
-given_up_equal : (l : Law) (f : ℕ) → IsFirst f → (s : List Event) → GivenUpEqual l f s
+given_up_equal : (l : Law) (f : ℕ) → IsFirstCapacity f → (s : List Event) → GivenUpEqual l f s
 given_up_equal l f i s = by_snoc (GivenUpEqual l f) (λ h x z. absurd (omega arith)) (given_up_snoc l f i) s
 
 -- Classes
 
-told_given_up : (p : ℕ → Bool) (t : Told) → is_refusal t ≡ false → passing p (handed_back t) ≡ passing p (given_up t)
-told_given_up p (ToldRefused v) h = absurd (cc)
-told_given_up p (ToldFound e v) h = refl
+told_given_up : (p : ℕ → Bool) (t : Reply) → is_refusal t ≡ false → passing p (handed_back t) ≡ passing p (given_up t)
+told_given_up p (ReplyRefused v) h = absurd (cc)
+told_given_up p (ReplyFound e v) h = refl
 told_given_up p _ h = refl
 
 -- where no reply is a refusal, what was handed back was given up
-back_given_up : (p : ℕ → Bool) (rs : List Reply) → list_any (λ (r : Reply). is_refusal r.told) rs ≡ false → passing p (back rs) ≡ given_ups p rs
+back_given_up : (p : ℕ → Bool) (rs : List Finished) → list_any (λ (r : Finished). is_refusal r.reply) rs ≡ false → passing p (back rs) ≡ given_ups p rs
 back_given_up p [] h = refl
 back_given_up p (r ∷ rs) h =
-    let k : (is_refusal r.told ≡ false) × (list_any (λ (r : Reply). is_refusal r.told) rs ≡ false) = or-false _ _ h in
-    omega (arith, weigh-append (λ u. one_if (p u)) (handed_back r.told) (back rs), back_given_up p rs k.1, told_given_up p r.told k.0)
+    let k : (is_refusal r.reply ≡ false) × (list_any (λ (r : Finished). is_refusal r.reply) rs ≡ false) = or-false _ _ h in
+    omega (arith, weigh-append (λ u. one_if (p u)) (handed_back r.reply) (back rs), back_given_up p rs k.1, told_given_up p r.reply k.0)
 
 done_runs : (p : Phase) (o : Outcome) → is_done p ≡ true → runs p o ≡ false
 done_runs Done o h = refl
@@ -321,7 +322,7 @@ one_each true given zero placed f g e h le = omega (arith, f refl, e)
 one_each true given (suc back) placed f g e h le = omega (arith, h (omega arith))
 
 -- each class of the values handed in has exactly one entry, and there are no other entries
-pub classes : (l : Law) (f : ℕ) (s : List Event) → IsFirst f → Classes l f s
+pub classes : (l : Law) (f : ℕ) (s : List Event) → IsFirstCapacity f → Classes l f s
 classes l f s i q x =
     let p = l.equal x in
     let kept_placed : passing p (kept (after f s)) ≡ passing p (placed (empty f) s) = kept_is_placed f s i (λ u. one_if (p u)) in
@@ -350,7 +351,7 @@ any_bag p xs ys true false h k e = absurd (omega (arith, any_passes p xs h, none
 any_bag p xs ys false true h k e = absurd (omega (arith, any_passes p ys k, none_passing p xs h))
 
 -- two such schedules of the same inserts have the same classes
-pub same_classes : (l : Law) (f : ℕ) (s : List Event) (k : Law) (g : ℕ) (t : List Event) → IsFirst f → IsFirst g → SameClasses l f s k g t
+pub same_classes : (l : Law) (f : ℕ) (s : List Event) (k : Law) (g : ℕ) (t : List Event) → IsFirstCapacity f → IsFirstCapacity g → SameClasses l f s k g t
 same_classes l f s k g t i j q r e b x =
     let here = classes l f s i q x in
     let there = classes k g t j r x in

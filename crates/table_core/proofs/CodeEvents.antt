@@ -5,10 +5,10 @@ use Rattle.std.specs.List.{slice_get}
 use Rattle.std.specs.Option.{option_map}
 use Rattle.std.proofs.lemmas.Bool.{eqb-true}
 use Rattle.table_core.specs.Calls.{Call, call_numbered, replaced}
-use Rattle.table_core.specs.Machine.{World, finds, goes, goes_by, act_of, acts, after_act, happens, reply, reply_by, reply_to, number_of, in_range, call_after}
+use Rattle.table_core.specs.Machine.{World, finds, goes, goes_by, act_of, acts, after_act, happens, finishes, finished_by, finished_call, number_of, in_range, call_after}
 use Rattle.table_core.specs.Bound.{position_of}
 use Rattle.table_core.specs.Openings.{opening}
-use Rattle.table_core.specs.Reached.{moved, told_to}
+use Rattle.table_core.specs.Reached.{moved, reply_to}
 use Rattle.table_core.specs.declared.event.Event.{Event}
 use Rattle.table_core.specs.declared.event.Event.TheVariants.{Insert, Lookup, Len, Walk}
 use Rattle.table_core.specs.declared.call.Answer.{Answer}
@@ -72,21 +72,21 @@ moved_by : (w : World) (x : Event) (i : ℕ) (a : At (number_of x) w.calls i) (o
 moved_by w x i a None = refl
 moved_by w x i a (Some b) = rw (a.set (call_after w.table a.call b) a.number) refl
 
-told_by : (w : World) (c : Call) (n : ℕ) (o : Option Answer) → c.number ≡ n → reply_by w (goes_by c o) ≡ reply_to n (told_to w c o)
+told_by : (w : World) (c : Call) (n : ℕ) (o : Option Answer) → c.number ≡ n → finished_by w (goes_by c o) ≡ finished_call n (reply_to w c o)
 told_by w c n None e = refl
 told_by w c n (Some b) e = rw e refl
 
 pub happens_at : (w : World) (x : Event) (i : ℕ) (a : At (number_of x) w.calls i) → in_range x ≡ true → opening x ≡ None → moved w i a.call x (finds w a.call.state x) ≡ happens w x
 happens_at w x i a r e = sym (ap (after_act w x) (going w x (Some a.call) r e a.numbered) ∙ moved_by w x i a (finds w a.call.state x))
 
-pub reply_at : (w : World) (x : Event) (i : ℕ) (a : At (number_of x) w.calls i) → in_range x ≡ true → opening x ≡ None → reply_to (number_of x) (told_to w a.call (finds w a.call.state x)) ≡ reply w x
-reply_at w x i a r e = sym (ap (reply_by w) (going w x (Some a.call) r e a.numbered) ∙ told_by w a.call (number_of x) (finds w a.call.state x) a.number)
+pub reply_at : (w : World) (x : Event) (i : ℕ) (a : At (number_of x) w.calls i) → in_range x ≡ true → opening x ≡ None → finished_call (number_of x) (reply_to w a.call (finds w a.call.state x)) ≡ finishes w x
+reply_at w x i a r e = sym (ap (finished_by w) (going w x (Some a.call) r e a.numbered) ∙ told_by w a.call (number_of x) (finds w a.call.state x) a.number)
 
 pub happens_none : (w : World) (x : Event) → in_range x ≡ true → opening x ≡ None → position_of (number_of x) w.calls ≡ None → w ≡ happens w x
 happens_none w x r e h = sym (ap (after_act w x) (going w x None r e (no_position (number_of x) w.calls h)))
 
-pub reply_none : (w : World) (x : Event) → in_range x ≡ true → opening x ≡ None → position_of (number_of x) w.calls ≡ None → None ≡ reply w x
-reply_none w x r e h = sym (ap (reply_by w) (going w x None r e (no_position (number_of x) w.calls h)))
+pub reply_none : (w : World) (x : Event) → in_range x ≡ true → opening x ≡ None → position_of (number_of x) w.calls ≡ None → None ≡ finishes w x
+reply_none w x r e h = sym (ap (finished_by w) (going w x None r e (no_position (number_of x) w.calls h)))
 
 pub nothing_there : (o : Option ℕ) → ((i : ℕ) → o ≡ Some i → ⊥) → o ≡ None
 nothing_there None f = refl

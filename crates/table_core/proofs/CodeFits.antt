@@ -3,13 +3,14 @@ use Rattle.std.proofs.Common.{ℕ, ◌≡◌, ◌-◌, ◌<◌, ◌≤◌, ◌++
 use Rattle.std.specs.Prelude.{nat_lt, slice_set}
 use Rattle.std.specs.List.{slice_get}
 use Rattle.std.proofs.lemmas.Bool.{lt-ltb}
-use Rattle.table_core.specs.Replies.{Told, Reply}
-use Rattle.table_core.specs.Generations.{Gen, Table, IsFirst, current}
+use Rattle.table_core.specs.Replies.{Reply, Finished}
+use Rattle.table_core.specs.Generations.{Gen, Table, current}
+use Rattle.terms.specs.Capacities.{IsFirstCapacity}
 use Rattle.table_core.specs.Calls.{Call, fits, stands_at_bucket, holds_shared, decided, decide}
-use Rattle.table_core.specs.Machine.{World, empty, finds, finds_in, walked_gen, happens, list_in, changed, call_after, told}
+use Rattle.table_core.specs.Machine.{World, empty, finds, finds_in, walked_gen, happens, list_in, changed, call_after, reply}
 use Rattle.table_core.specs.History.{replies, placed}
 use Rattle.table_core.specs.Steps.{Row, loads, reads_empty, meets, turns, goes_on, memory_refused, puts, loses_meets, loses_turns, loses_goes_on, adds, large, small, len_size, begins_first, begins_next, copies, looks, look_empty, look_meets, look_turns, look_goes_on, len_loads, walk_loads, walk_skips_last, walk_takes_last, walk_skips, walk_takes}
-use Rattle.table_core.specs.Reached.{IsReached, CanChange, moved, told_to}
+use Rattle.table_core.specs.Reached.{IsReached, CanChange, moved, reply_to}
 use Rattle.table_core.specs.declared.event.Event.{Event}
 use Rattle.table_core.specs.declared.event.Event.TheVariants.{Read}
 use Rattle.table_core.specs.declared.call.CallState.{CallState}
@@ -44,7 +45,7 @@ loaded_fits : (w : World) (g : Gen) → AllSeated w → current w.table ≡ Some
 loaded_fits w g s h = lt-ltb 0 g.capacity (s.gens (length w.table.gens - 1) g h).roomy
 
 -- what a row finds fits
-fits_row : (w : World) (c : Call) {p : Phase} {x : Event} {a : Answer} {r : CallState} {ls : List ℕ} {t : Table} {q : Option Told} → Row w c p x a r ls t q → c.state.phase ≡ p → AllSeated w → Tracked w.table.gens c → fits p c.state a ≡ true
+fits_row : (w : World) (c : Call) {p : Phase} {x : Event} {a : Answer} {r : CallState} {ls : List ℕ} {t : Table} {q : Option Reply} → Row w c p x a r ls t q → c.state.phase ≡ p → AllSeated w → Tracked w.table.gens c → fits p c.state a ≡ true
 fits_row w c (loads n g h) e s k = loaded_fits w g s h
 fits_row w c (looks n g h) e s k = loaded_fits w g s h
 fits_row w c (len_loads n g h) e s k = loaded_fits w g s h
@@ -84,7 +85,7 @@ uncounted w i c h p k z g e =
     omega (arith, z.counted g q)
 
 -- a row's change can be made
-change_row : (w : World) (m : List ℕ) (rs : List Reply) (i : ℕ) (c : Call) {p : Phase} {x : Event} {a : Answer} {r : CallState} {ls : List ℕ} {t : Table} {q : Option Told} → Row w c p x a r ls t q → c.state.phase ≡ p → slice_get w.calls i ≡ Some c → Inv w m rs → CanChange w.table c x a
+change_row : (w : World) (m : List ℕ) (rs : List Finished) (i : ℕ) (c : Call) {p : Phase} {x : Event} {a : Answer} {r : CallState} {ls : List ℕ} {t : Table} {q : Option Reply} → Row w c p x a r ls t q → c.state.phase ≡ p → slice_get w.calls i ≡ Some c → Inv w m rs → CanChange w.table c x a
 change_row w m rs i c (puts n y h) e g v = (h, nothing_built w v.locked i c g (ap holds_shared e))
 change_row w m rs i c (adds n) e g v = (nothing_built w v.locked i c g (ap holds_shared e), uncounted w i c g e (v.calls.at i c g) v.sized)
 change_row w m rs i c (begins_first n h) e g v = rw h refl
@@ -111,7 +112,7 @@ reached_next w x r = record {
   leads = run_append r.schedule (x ∷ []) (empty r.first) ∙ ap (λ z. happens z x) r.leads;
 }
 
-pub reached_empty : (f : ℕ) → IsFirst f → IsReached (empty f)
+pub reached_empty : (f : ℕ) → IsFirstCapacity f → IsReached (empty f)
 reached_empty f h = record { first = f; allowed = h; schedule = []; leads = refl }
 
 -- One event at the place of its call
@@ -136,8 +137,8 @@ go_walk w v i c x a now q e f n =
     ap (λ cs. record { table = w.table; calls = cs }) n ∙ ap (λ t. record { table = t; calls = slice_set w.calls i (call_after w.table c a) }) (sym k)
     ∙ ap (moved w i c x) (sym f) ∙ ap (λ z. moved z i c x (finds z c.state x)) q
 
-pub go_told : (w v : World) (c : Call) (x : Event) (a : Answer) (o : Option Told) → w ≡ v → finds w c.state x ≡ Some a → o ≡ told w.table c a → o ≡ told_to v c (finds v c.state x)
-go_told w v c x a o q f e = e ∙ ap (told_to w c) (sym f) ∙ ap (λ z. told_to z c (finds z c.state x)) q
+pub go_told : (w v : World) (c : Call) (x : Event) (a : Answer) (o : Option Reply) → w ≡ v → finds w c.state x ≡ Some a → o ≡ reply w.table c a → o ≡ reply_to v c (finds v c.state x)
+go_told w v c x a o q f e = e ∙ ap (reply_to w c) (sym f) ∙ ap (λ z. reply_to z c (finds z c.state x)) q
 
 -- another call has moved
 pub go_other : (w v : World) (i : ℕ) (c : Call) (x : Event) (a : Answer) (table : Table) (calls : List Call) (n : CallState) → w ≡ v → (c.state.phase ≡ WalkAt → ⊥) → finds w c.state x ≡ Some a → fits c.state.phase c.state a ≡ true →

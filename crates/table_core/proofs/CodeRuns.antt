@@ -7,8 +7,9 @@ use Rattle.std.specs.Map.{lookup, set_value}
 use Rattle.std.proofs.lemmas.Bool.{eqb-true}
 use Rattle.std.proofs.lemmas.Nat.{mod_below}
 use Rattle.std.proofs.Math.Nat.{mod-add-mod, mod-eq_of_lt, add-mod_left}
-use Rattle.table_core.specs.Generations.{Gen, bucket, at_place, if_empty, empty_from, first_empty}
+use Rattle.table_core.specs.Generations.{Gen, bucket, if_empty, empty_from, first_empty}
 use Rattle.table_core.specs.Bound.{entry_of, AllSet, IsRun, RunsHold}
+use Rattle.terms.specs.Probes.{bucket_at}
 use Rattle.table_core.specs.declared.event.Entry.{Entry}
 use Rattle.table_core.specs.declared.generation.Slot.{Slot}
 use Rattle.table_core.proofs.CodeEntries.{below, same, above, compared, at_place_test}
@@ -70,32 +71,32 @@ entries_set p run s (e ∷ ps) h = entries_set_at p run s e ps (is_at (nat_cmp p
 -- Buckets on the way from a hash's own
 
 -- from one bucket of the way, and from the hash's own
-pub on_from : (capacity hash d j : ℕ) → at_place capacity (at_place capacity hash d) j ≡ at_place capacity hash (d + j)
+pub on_from : (capacity hash d j : ℕ) → bucket_at capacity (bucket_at capacity hash d) j ≡ bucket_at capacity hash (d + j)
 on_from capacity hash d j = mod-add-mod (hash + d) capacity j ∙ ap (λ x. x % capacity) (let e : hash + d + j ≡ hash + (d + j) = omega arith in e)
 
 -- a step past the last bucket comes round to the first
-pub round_the_end : (capacity place steps : ℕ) → place < capacity → capacity - place ≤ steps → (steps - (capacity - place)) % capacity ≡ at_place capacity place steps
-round_the_end capacity place steps lt le =
-    let e : capacity + (steps - (capacity - place)) ≡ place + steps = omega arith in
-    sym (add-mod_left capacity (steps - (capacity - place))) ∙ ap (λ x. x % capacity) e
+pub round_the_end : (capacity index steps : ℕ) → index < capacity → capacity - index ≤ steps → (steps - (capacity - index)) % capacity ≡ bucket_at capacity index steps
+round_the_end capacity index steps lt le =
+    let e : capacity + (steps - (capacity - index)) ≡ index + steps = omega arith in
+    sym (add-mod_left capacity (steps - (capacity - index))) ∙ ap (λ x. x % capacity) e
 
 -- a run from a set bucket of the generation on is all set
-pub set_from : (g : Gen) (place n : ℕ) → place < g.capacity → IsSet g.entries place → IsRun g.capacity g.entries place n → AllSet g place n
-set_from g place n in_place s r zero lt =
-    let e : place + 0 ≡ place = omega arith in
-    (s.0, ap (bucket g.entries) (ap (λ x. x % g.capacity) e ∙ mod-eq_of_lt in_place) ∙ s.1)
-set_from g place n in_place s r (suc j) lt = r.2 (suc j) (omega arith) lt
+pub set_from : (g : Gen) (index n : ℕ) → index < g.capacity → IsSet g.entries index → IsRun g.capacity g.entries index n → AllSet g index n
+set_from g index n in_index s r zero lt =
+    let e : index + 0 ≡ index = omega arith in
+    (s.0, ap (bucket g.entries) (ap (λ x. x % g.capacity) e ∙ mod-eq_of_lt in_index) ∙ s.1)
+set_from g index n in_index s r (suc j) lt = r.2 (suc j) (omega arith) lt
 
 -- the first empty bucket from some steps on: how far it is, and that those before it are set
-pub record Ends (capacity : ℕ) (es : List Entry) (hash from most place : ℕ) : Type 0 where
+pub record Ends (capacity : ℕ) (es : List Entry) (hash from most index : ℕ) : Type 0 where
   pub steps : ℕ
-  pub there : place ≡ at_place capacity hash steps
+  pub there : index ≡ bucket_at capacity hash steps
   pub least : from ≤ steps
   pub near : steps ≤ from + most
-  pub set : (j : ℕ) → from ≤ j → j < steps → IsSet es (at_place capacity hash j)
+  pub set : (j : ℕ) → from ≤ j → j < steps → IsSet es (bucket_at capacity hash j)
 
-ends_further : (capacity hash d n : ℕ) (es : List Entry) (place : ℕ) → IsSet es (at_place capacity hash d) → Ends capacity es hash (suc d) n place → Ends capacity es hash d (suc n) place
-ends_further capacity hash d n es place h e = record {
+ends_further : (capacity hash d n : ℕ) (es : List Entry) (index : ℕ) → IsSet es (bucket_at capacity hash d) → Ends capacity es hash (suc d) n index → Ends capacity es hash d (suc n) index
+ends_further capacity hash d n es index h e = record {
   steps = e.steps;
   there = e.there;
   least = let l = e.least in omega arith;
@@ -103,8 +104,8 @@ ends_further capacity hash d n es place h e = record {
   set = λ j le lt. elim (order j d) [ inl k ↦ absurd (omega arith) | inr o ↦ elim o [ inl q ↦ (h.0, rw q h.1) | inr k ↦ e.set j (omega arith) lt ] ];
 }
 
-ends_at : (capacity hash d n : ℕ) (es : List Entry) (o : Option Entry) → bucket es (at_place capacity hash d) ≡ o → Ends capacity es hash (suc d) n (empty_from capacity es hash (suc d) n) →
-    Ends capacity es hash d (suc n) (if_empty o (at_place capacity hash d) (empty_from capacity es hash (suc d) n))
+ends_at : (capacity hash d n : ℕ) (es : List Entry) (o : Option Entry) → bucket es (bucket_at capacity hash d) ≡ o → Ends capacity es hash (suc d) n (empty_from capacity es hash (suc d) n) →
+    Ends capacity es hash d (suc n) (if_empty o (bucket_at capacity hash d) (empty_from capacity es hash (suc d) n))
 ends_at capacity hash d n es None h e = record { steps = d; there = refl; least = omega arith; near = omega arith; set = λ j le lt. absurd (omega arith) }
 ends_at capacity hash d n es (Some x) h e = ends_further capacity hash d n es _ (x, h) e
 
@@ -113,21 +114,21 @@ ends capacity hash d zero es = record { steps = d; there = refl; least = omega a
 ends capacity hash d (suc n) es = ends_at capacity hash d n es _ refl (ends capacity hash (suc d) n es)
 
 -- the buckets after a run are those of the next
-pub joined : (g : Gen) (place m n : ℕ) → AllSet g place m → AllSet g (at_place g.capacity place m) n → AllSet g place (m + n)
-joined g place m n f h j lt = elim (order j m) [
+pub joined : (g : Gen) (index m n : ℕ) → AllSet g index m → AllSet g (bucket_at g.capacity index m) n → AllSet g index (m + n)
+joined g index m n f h j lt = elim (order j m) [
   | inl k ↦ f j k
   | inr k ↦
       let s = h (j - m) (omega (arith, k)) in
       let e : m + (j - m) ≡ j = omega (arith, k) in
-      (s.0, ap (bucket g.entries) (ap (at_place g.capacity place) (sym e) ∙ sym (on_from g.capacity place m (j - m))) ∙ s.1)
+      (s.0, ap (bucket g.entries) (ap (bucket_at g.capacity index) (sym e) ∙ sym (on_from g.capacity index m (j - m))) ∙ s.1)
 ]
 
 -- a search that has come so far, past set buckets alone
-pub record Passed (g : Gen) (hash place passes : ℕ) : Type 0 where
+pub record Passed (g : Gen) (hash index passes : ℕ) : Type 0 where
   pub steps : ℕ
-  pub here : place ≡ at_place g.capacity hash steps
+  pub here : index ≡ bucket_at g.capacity hash steps
   pub far : passes ≤ steps
-  pub below : place < g.capacity
+  pub below : index < g.capacity
   pub set : AllSet g hash steps
 
 -- an empty place lies no nearer than the set buckets that were passed
@@ -135,54 +136,54 @@ pub not_passed : (g : Gen) (hash n : ℕ) → bucket g.entries (first_empty g ha
 not_passed g hash n h f =
     let e = ends g.capacity hash 0 (length g.entries) g.entries in
     elim (order e.steps n) [
-      | inl k ↦ absurd (let s = f e.steps k in let x : bucket g.entries (at_place g.capacity hash e.steps) ≡ None = rw e.there at h in let y : Some s.0 ≡ None = sym s.1 ∙ x in cc)
+      | inl k ↦ absurd (let s = f e.steps k in let x : bucket g.entries (bucket_at g.capacity hash e.steps) ≡ None = rw e.there at h in let y : Some s.0 ≡ None = sym s.1 ∙ x in cc)
       | inr o ↦ elim o [ inl q ↦ omega arith | inr k ↦ omega arith ]
     ]
 
 -- a search passes no more buckets than there are entries
-pub few_passed : (g : Gen) (hash place passes n : ℕ) → bucket g.entries (first_empty g hash) ≡ None → Passed g hash place passes → AllSet g place n → n ≤ length g.entries
-few_passed g hash place passes n h p f =
+pub few_passed : (g : Gen) (hash index passes n : ℕ) → bucket g.entries (first_empty g hash) ≡ None → Passed g hash index passes → AllSet g index n → n ≤ length g.entries
+few_passed g hash index passes n h p f =
     let e = ends g.capacity hash 0 (length g.entries) g.entries in
     let l = not_passed g hash (p.steps + n) h (joined g hash p.steps n p.set (subst (λ x. AllSet g x n) p.here f)) in
     let m = e.near in
     omega arith
 
 -- it ends at the first empty bucket
-pub ends_there : (g : Gen) (hash place passes : ℕ) → bucket g.entries (first_empty g hash) ≡ None → Passed g hash place passes → bucket g.entries place ≡ None → place ≡ first_empty g hash
-ends_there g hash place passes h p n =
+pub ends_there : (g : Gen) (hash index passes : ℕ) → bucket g.entries (first_empty g hash) ≡ None → Passed g hash index passes → bucket g.entries index ≡ None → index ≡ first_empty g hash
+ends_there g hash index passes h p n =
     let e = ends g.capacity hash 0 (length g.entries) g.entries in
     let l = not_passed g hash p.steps h p.set in
     elim (order p.steps e.steps) [
-      | inl k ↦ absurd (let s = e.set p.steps (omega arith) k in let x : bucket g.entries (at_place g.capacity hash p.steps) ≡ None = rw p.here at n in let y : Some s.0 ≡ None = sym s.1 ∙ x in cc)
-      | inr o ↦ elim o [ inl q ↦ p.here ∙ ap (at_place g.capacity hash) q ∙ sym e.there | inr k ↦ absurd (omega arith) ]
+      | inl k ↦ absurd (let s = e.set p.steps (omega arith) k in let x : bucket g.entries (bucket_at g.capacity hash p.steps) ≡ None = rw p.here at n in let y : Some s.0 ≡ None = sym s.1 ∙ x in cc)
+      | inr o ↦ elim o [ inl q ↦ p.here ∙ ap (bucket_at g.capacity hash) q ∙ sym e.there | inr k ↦ absurd (omega arith) ]
     ]
 
 -- where it passed as many buckets as there are entries too
-pub ends_last : (g : Gen) (hash place passes : ℕ) → bucket g.entries (first_empty g hash) ≡ None → Passed g hash place passes → length g.entries ≤ passes → place ≡ first_empty g hash
-ends_last g hash place passes h p le =
+pub ends_last : (g : Gen) (hash index passes : ℕ) → bucket g.entries (first_empty g hash) ≡ None → Passed g hash index passes → length g.entries ≤ passes → index ≡ first_empty g hash
+ends_last g hash index passes h p le =
     let e = ends g.capacity hash 0 (length g.entries) g.entries in
     let l = not_passed g hash p.steps h p.set in
     let m = e.near in
     let f = p.far in
     let q : p.steps ≡ e.steps = omega arith in
-    p.here ∙ ap (at_place g.capacity hash) q ∙ sym e.there
+    p.here ∙ ap (bucket_at g.capacity hash) q ∙ sym e.there
 
 -- and goes on behind a run
-pub passed_on : (g : Gen) (hash place passes n next : ℕ) → Passed g hash place passes → 1 ≤ n → AllSet g place n → next ≡ at_place g.capacity place n → Passed g hash next (passes + 1)
-passed_on g hash place passes n next p some f e =
+pub passed_on : (g : Gen) (hash index passes n next : ℕ) → Passed g hash index passes → 1 ≤ n → AllSet g index n → next ≡ bucket_at g.capacity index n → Passed g hash next (passes + 1)
+passed_on g hash index passes n next p some f e =
     let lt = p.below in
     let far = p.far in
     record {
       steps = p.steps + n;
-      here = e ∙ ap (λ x. at_place g.capacity x n) p.here ∙ on_from g.capacity hash p.steps n;
+      here = e ∙ ap (λ x. bucket_at g.capacity x n) p.here ∙ on_from g.capacity hash p.steps n;
       far = omega arith;
-      below = rw e (mod_below (place + n) g.capacity (omega arith));
+      below = rw e (mod_below (index + n) g.capacity (omega arith));
       set = joined g hash p.steps n p.set (subst (λ x. AllSet g x n) p.here f);
     }
 
 -- two runs that the code knows of are one
-pub known_runs : (g d : Gen) (capacity place next m n : ℕ) → d ≡ g → capacity ≡ g.capacity → next ≡ at_place capacity place m → AllSet d place m → AllSet d next n → AllSet g place (m + n)
-known_runs g d capacity place next m n alike e there f h =
-    let x : AllSet g place m = subst (λ g. AllSet g place m) alike f in
+pub known_runs : (g d : Gen) (capacity index next m n : ℕ) → d ≡ g → capacity ≡ g.capacity → next ≡ bucket_at capacity index m → AllSet d index m → AllSet d next n → AllSet g index (m + n)
+known_runs g d capacity index next m n alike e there f h =
+    let x : AllSet g index m = subst (λ g. AllSet g index m) alike f in
     let y : AllSet g next n = subst (λ g. AllSet g next n) alike h in
-    joined g place m n x (subst (λ x. AllSet g x n) (there ∙ ap (λ c. at_place c place m) e) y)
+    joined g index m n x (subst (λ x. AllSet g x n) (there ∙ ap (λ c. bucket_at c index m) e) y)

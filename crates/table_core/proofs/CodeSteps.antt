@@ -3,12 +3,12 @@ use Rattle.std.proofs.Common.{ℕ, suc, zero, ◌≡◌, ◌+◌, ◌<◌, List,
 use Rattle.std.specs.Prelude.{nat_lt, if◌then◌else◌, slice_set}
 use Rattle.std.specs.List.{slice_get}
 use Rattle.std.specs.Option.{option_map}
-use Rattle.table_core.specs.Replies.{ToldWalk, told_of}
+use Rattle.table_core.specs.Replies.{ReplyWalk, reply_of}
 use Rattle.table_core.specs.declared.reply.Reply.{Reply as RustReply}
 use Rattle.table_core.specs.Generations.{Table}
 use Rattle.table_core.specs.Calls.{Call, decided, decide, fits}
-use Rattle.table_core.specs.Machine.{list_in, told_in, told, call_after, with_entry}
-use Rattle.table_core.specs.Reached.{walked_entry, list_left, list_told}
+use Rattle.table_core.specs.Machine.{list_in, reply_in, reply, call_after, with_entry}
+use Rattle.table_core.specs.Reached.{walked_entry, list_left, list_reply}
 use Rattle.table_core.specs.declared.event.Entry.{Entry}
 use Rattle.table_core.specs.declared.call.CallState.{CallState}
 use Rattle.table_core.specs.declared.call.Phase.TheVariants.{WalkAt, Done}
@@ -34,7 +34,7 @@ left_if : (b : Bool) (s r : CallState) (list : List ℕ) → s.phase ≡ WalkAt 
 left_if true s r list e f = rw e refl
 left_if false s r list e f = rw f refl
 
-told_if : (b : Bool) (s r : CallState) (list : List ℕ) → s.phase ≡ WalkAt → r.phase ≡ Done → (if b then None else Some (ToldWalk list)) ≡ list_told (if b then s else r).phase list
+told_if : (b : Bool) (s r : CallState) (list : List ℕ) → s.phase ≡ WalkAt → r.phase ≡ Done → (if b then None else Some (ReplyWalk list)) ≡ list_reply (if b then s else r).phase list
 told_if true s r list e f = rw e refl
 told_if false s r list e f = rw f refl
 
@@ -43,7 +43,7 @@ walk_left t c Empty h = left_if (nat_lt (c.state.index + 1) c.state.capacity) _ 
 walk_left t c (Holds _ _) h = left_if (nat_lt (c.state.index + 1) c.state.capacity) _ _ _ refl refl
 walk_left t c _ h = absurd (cc)
 
-walk_tells : (t : Table) (c : Call) (a : Answer) → fits WalkAt c.state a ≡ true → told_in WalkAt t c a ≡ list_told (decided WalkAt c.state a).phase (with_entry c.list (walked_entry t c.state a))
+walk_tells : (t : Table) (c : Call) (a : Answer) → fits WalkAt c.state a ≡ true → reply_in WalkAt t c a ≡ list_reply (decided WalkAt c.state a).phase (with_entry c.list (walked_entry t c.state a))
 walk_tells t c Empty h = told_if (nat_lt (c.state.index + 1) c.state.capacity) _ _ c.list refl refl
 walk_tells t c (Holds _ _) h = told_if (nat_lt (c.state.index + 1) c.state.capacity) _ _ _ refl refl
 walk_tells t c _ h = absurd (cc)
@@ -64,10 +64,10 @@ walk_after t c a e h =
     ap (λ list. record c { list = list; state = decide c.state a }) l ∙ ap (λ s. record c { list = list_in c.state.phase t c a; state = s }) (decide_fits c.state a h)
 
 pub walk_is_told : (t : Table) (c : Call) (a : Answer) → c.state.phase ≡ WalkAt → fits c.state.phase c.state a ≡ true →
-    list_told (decide c.state a).phase (with_entry c.list (walked_entry t c.state a)) ≡ told t c a
+    list_reply (decide c.state a).phase (with_entry c.list (walked_entry t c.state a)) ≡ reply t c a
 walk_is_told t c a e h =
-    ap (λ (s : CallState). list_told s.phase (with_entry c.list (walked_entry t c.state a))) (decide_at c a e h)
-    ∙ sym (walk_tells t c a (fits_at c a e h)) ∙ ap (λ p. told_in p t c a) (sym e)
+    ap (λ (s : CallState). list_reply s.phase (with_entry c.list (walked_entry t c.state a))) (decide_at c a e h)
+    ∙ sym (walk_tells t c a (fits_at c a e h)) ∙ ap (λ p. reply_in p t c a) (sym e)
 
 -- a walk whose list takes an entry and whose state is the next
 pub walk_moves : (t : Table) (cs mid now : List Call) (i : ℕ) (c : Call) (a : Answer) (s n : CallState) (o : Option Entry) → slice_get cs i ≡ Some c → c.state.phase ≡ WalkAt → fits c.state.phase c.state a ≡ true →
@@ -82,12 +82,12 @@ walk_moves t cs mid now i c a s n o g e h p q r x y =
 
 pub walk_tells_now : {A : Type 0} (t : Table) (cs mid : List Call) (i : ℕ) (c : Call) (a : Answer) (s n : CallState) (o : Option Entry) (r : Option (RustReply A)) → slice_get cs i ≡ Some c → c.state.phase ≡ WalkAt → fits c.state.phase c.state a ≡ true →
     s ≡ c.state → o ≡ walked_entry t s a → n ≡ decide s a → mid ≡ slice_set cs i (record c { list = with_entry c.list o }) →
-    ((d : Call) → slice_get mid i ≡ Some d → option_map told_of r ≡ list_told n.phase d.list) →
-    option_map told_of r ≡ told t c a
+    ((d : Call) → slice_get mid i ≡ Some d → option_map reply_of r ≡ list_reply n.phase d.list) →
+    option_map reply_of r ≡ reply t c a
 walk_tells_now t cs mid i c a s n o k g e h p q r x y =
     let d : Call = record c { list = with_entry c.list o } in
     let u : slice_get mid i ≡ Some d = rw x (get-set_same cs i c d g) in
-    let v : list_told n.phase d.list ≡ told t c a = rw (r, q, p) (walk_is_told t c a e h) in
+    let v : list_reply n.phase d.list ≡ reply t c a = rw (r, q, p) (walk_is_told t c a e h) in
     y d u ∙ v
 
 -- a write leaves as many

@@ -5,12 +5,13 @@ use Rattle.std.specs.List.{slice_get}
 use Rattle.std.proofs.lemmas.Nat.{pow_pos}
 use Rattle.std.proofs.lemmas.Option.{slice_get_within}
 use Rattle.std.proofs.Math.Nat.{pow-le-pow_right, pow-suc}
-use Rattle.std.proofs.lemmas.Bool.{cases_eq, eq-eqb}
+use Rattle.std.proofs.lemmas.Bool.{cases_eq, cases_order, eq-eqb}
 use Rattle.table_core.specs.Machine.{checked}
 use Rattle.table_core.specs.declared.call.Answer.TheVariants.{Begun, Unwanted, Failed}
 use Rattle.table_core.specs.Bags.{weigh}
-use Rattle.table_core.specs.Generations.{Gen, IsFirst, last_of, change, change_at, next_copied, next_capacity, fresh}
-use Rattle.table_core.specs.Bound.{IsCapacity, Doubles, capacities, build_of}
+use Rattle.table_core.specs.Generations.{Gen, last_of, change, change_at, next_copied, next_capacity, fresh}
+use Rattle.table_core.specs.Bound.{Doubles, capacities, build_of}
+use Rattle.terms.specs.Capacities.{IsFirstCapacity, IsCapacity}
 use Rattle.table_core.specs.Indexed.{IsTable}
 use Rattle.table_core.proofs.Lists.{weigh-append, weigh-map}
 use Rattle.table_core.specs.declared.event.Entry.{Entry}
@@ -32,8 +33,22 @@ doubles_fit n cs p d = elim (doubles_sum n cs d) [ inl e ↦ omega arith | inr h
 pub capacities_sum : (gens : List Gen) (growing : Option Gen) → weigh (λ c. c) (capacities gens growing) ≡ weigh (λ (g : Gen). g.capacity) gens + weigh (λ (g : Gen). g.capacity) (option_to_list growing)
 capacities_sum gens growing = weigh-map (λ c. c) (λ (g : Gen). g.capacity) (gens ++ option_to_list growing) ∙ weigh-append (λ (g : Gen). g.capacity) gens (option_to_list growing)
 
-pub first_is : (f : ℕ) → IsFirst f → 0 < f
-first_is f h = rw h.1 (pow_pos h.0)
+-- a power of two up to 2^30 has an exponent up to 63
+small_exponent : (k f : ℕ) → f ≡ 2 ^ k → f ≤ 2 ^ 30 → k ≤ 63
+small_exponent k f e le = elim (cases_order 63 k) [
+  | inl same ↦ omega arith
+  | inr h ↦ elim h [
+    | inl lt ↦ absurd (let more : 2 ^ 31 ≤ 2 ^ k = pow-le-pow_right {n = 2} (omega arith) (omega arith) in omega (arith, e, le))
+    | inr gt ↦ omega arith
+  ]
+]
+
+pub first_is : (f : ℕ) → IsFirstCapacity f → 0 < f
+first_is f h = omega (arith, h.1)
+
+-- a first capacity is a capacity
+pub first_capacity : (f : ℕ) → IsFirstCapacity f → IsCapacity f
+first_capacity f h = (h.0.0, h.0.1, small_exponent h.0.0 f h.0.1 h.2)
 
 -- all buckets together fit
 pub table_fits : (f : ℕ) (gens : List Gen) (growing : Option Gen) (source : List Entry) → IsTable f gens growing source → weigh (λ (g : Gen). g.capacity) gens + weigh (λ (g : Gen). g.capacity) (option_to_list growing) < 2 ^ 64

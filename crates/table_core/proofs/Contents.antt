@@ -3,10 +3,11 @@ use Rattle.std.proofs.Common.{eqb-true, ℕ, suc, zero, ◌≡◌, ◌+◌, ◌-
 use Rattle.std.specs.Prelude.{nat_lt, if◌then◌else◌, option_to_list}
 use Rattle.std.specs.List.{slice_get}
 use Rattle.table_core.specs.Bags.{weigh}
-use Rattle.table_core.specs.Replies.{Told, Reply}
-use Rattle.table_core.specs.Generations.{Gen, Build, Table, bits_of, bucket, put_in, first_empty, fresh, fill, count, copy_in, last_of, current, change_at, change, next_capacity, entries_of, entry_left, next_copied, copy_on, built}
+use Rattle.table_core.specs.Replies.{Reply, Finished}
+use Rattle.table_core.specs.Generations.{Gen, Build, Table, bucket, put_in, first_empty, fresh, fill, count, copy_in, last_of, current, change_at, change, next_capacity, entries_of, entry_left, next_copied, copy_on, built}
+use Rattle.terms.specs.Hashes.{bits_of}
 use Rattle.table_core.specs.Calls.{Call, holds_shared}
-use Rattle.table_core.specs.Machine.{World, empty, bucket_at, place, add_one, begin_growth, show_built, Act, Goes}
+use Rattle.table_core.specs.Machine.{World, empty, bucket_of, place, add_one, begin_growth, show_built, Act, Goes}
 use Rattle.table_core.specs.History.{placed_by}
 use Rattle.table_core.specs.Steps.{Row, puts, adds, begins_first, begins_next, copies, shows}
 use Rattle.table_core.specs.declared.event.Event.{Event}
@@ -32,7 +33,7 @@ put_in_at f e x xs false h = omega arith
 
 pub weigh-put_in : (f : Entry → ℕ) (e : Entry) (es : List Entry) → weigh f (put_in e es) ≡ f e + weigh f es
 weigh-put_in f e [] = refl
-weigh-put_in f e (x ∷ xs) = put_in_at f e x xs (nat_lt e.place x.place) (weigh-put_in f e xs)
+weigh-put_in f e (x ∷ xs) = put_in_at f e x xs (nat_lt e.index x.index) (weigh-put_in f e xs)
 
 pub take-past : (es : List Entry) (k : ℕ) → slice_get es k ≡ None → take k es ≡ es
 take-past [] zero h = refl
@@ -71,26 +72,26 @@ order zero (suc b) = inl (omega arith)
 order (suc a) zero = inr (inr (omega arith))
 order (suc a) (suc b) = elim (order a b) [ inl h ↦ inl (omega arith) | inr h ↦ elim h [ inl e ↦ inr (inl (ap suc e)) | inr e ↦ inr (inr (omega arith)) ] ]
 
-pub put_kept_at : (e d x : Entry) (xs : List Entry) (i : ℕ) (b c : Bool) → nat_lt e.place x.place ≡ b → eqb x.place i ≡ c → (eqb e.place i ≡ true → ⊥) → (bucket (put_in e xs) i ≡ bucket xs i) → bucket (if b then e ∷ x ∷ xs else x ∷ put_in e xs) i ≡ bucket (x ∷ xs) i
+pub put_kept_at : (e d x : Entry) (xs : List Entry) (i : ℕ) (b c : Bool) → nat_lt e.index x.index ≡ b → eqb x.index i ≡ c → (eqb e.index i ≡ true → ⊥) → (bucket (put_in e xs) i ≡ bucket xs i) → bucket (if b then e ∷ x ∷ xs else x ∷ put_in e xs) i ≡ bucket (x ∷ xs) i
 put_kept_at e d x xs i true c h k n q = rw (not-true _ n) refl
 put_kept_at e d x xs i false true h k n q = rw k refl
 put_kept_at e d x xs i false false h k n q = rw k q
 
-pub put_kept : (e : Entry) (es : List Entry) (i : ℕ) → (eqb e.place i ≡ true → ⊥) → bucket (put_in e es) i ≡ bucket es i
+pub put_kept : (e : Entry) (es : List Entry) (i : ℕ) → (eqb e.index i ≡ true → ⊥) → bucket (put_in e es) i ≡ bucket es i
 put_kept e [] i n = rw (not-true _ n) refl
 put_kept e (x ∷ xs) i n = put_kept_at e x x xs i _ _ refl refl n (put_kept e xs i n)
 
-pub tail_none : (x : Entry) (xs : List Entry) (i : ℕ) (b : Bool) → eqb x.place i ≡ b → bucket (x ∷ xs) i ≡ None → (b ≡ false) × (bucket xs i ≡ None)
+pub tail_none : (x : Entry) (xs : List Entry) (i : ℕ) (b : Bool) → eqb x.index i ≡ b → bucket (x ∷ xs) i ≡ None → (b ≡ false) × (bucket xs i ≡ None)
 tail_none x xs i true h n = absurd (let k : Some x ≡ None = rw h at n in cc)
 tail_none x xs i false h n = (refl, rw h at n)
 
-pub put_new_at : (e x : Entry) (xs : List Entry) (b : Bool) → nat_lt e.place x.place ≡ b → eqb e.place e.place ≡ true → eqb x.place e.place ≡ false → bucket (put_in e xs) e.place ≡ Some e → bucket (if b then e ∷ x ∷ xs else x ∷ put_in e xs) e.place ≡ Some e
+pub put_new_at : (e x : Entry) (xs : List Entry) (b : Bool) → nat_lt e.index x.index ≡ b → eqb e.index e.index ≡ true → eqb x.index e.index ≡ false → bucket (put_in e xs) e.index ≡ Some e → bucket (if b then e ∷ x ∷ xs else x ∷ put_in e xs) e.index ≡ Some e
 put_new_at e x xs true h s n q = rw s refl
 put_new_at e x xs false h s n q = rw n q
 
-pub put_new : (e : Entry) (es : List Entry) → bucket es e.place ≡ None → bucket (put_in e es) e.place ≡ Some e
-put_new e [] n = rw (eq-eqb e.place e.place refl) refl
-put_new e (x ∷ xs) n = let t = tail_none x xs e.place _ refl n in put_new_at e x xs _ refl (eq-eqb e.place e.place refl) t.0 (put_new e xs t.1)
+pub put_new : (e : Entry) (es : List Entry) → bucket es e.index ≡ None → bucket (put_in e es) e.index ≡ Some e
+put_new e [] n = rw (eq-eqb e.index e.index refl) refl
+put_new e (x ∷ xs) n = let t = tail_none x xs e.index _ refl n in put_new_at e x xs _ refl (eq-eqb e.index e.index refl) t.0 (put_new e xs t.1)
 
 pub in_put_at : (d e x : Entry) (xs : List Entry) (b : Bool) → (In d (put_in e xs) → (e ≡ d) ⊎ In d xs) → In d (if b then e ∷ x ∷ xs else x ∷ put_in e xs) → (e ≡ d) ⊎ ((x ≡ d) ⊎ In d xs)
 in_put_at d e x xs true f h = h
@@ -99,15 +100,15 @@ in_put_at d e x xs false f (inr h) = elim (f h) [ inl k ↦ inl k | inr k ↦ in
 
 pub in_put : (d e : Entry) (es : List Entry) → In d (put_in e es) → (e ≡ d) ⊎ In d es
 in_put d e [] h = h
-in_put d e (x ∷ xs) h = in_put_at d e x xs (nat_lt e.place x.place) (in_put d e xs) h
+in_put d e (x ∷ xs) h = in_put_at d e x xs (nat_lt e.index x.index) (in_put d e xs) h
 
-pub eqb_place : (a b : ℕ) → eqb a b ≡ true → a ≡ b
-eqb_place a b h = eqb-true a b h
+pub eqb_index : (a b : ℕ) → eqb a b ≡ true → a ≡ b
+eqb_index a b h = eqb-true a b h
 
-pub put_stays : (e d : Entry) (es : List Entry) (i : ℕ) → bucket es e.place ≡ None → bucket es i ≡ Some d → bucket (put_in e es) i ≡ Some d
-put_stays e d es i n h = put_kept e es i (λ q. let s : e.place ≡ i = eqb_place e.place i q in let m : bucket es i ≡ None = rw s at n in cc) ∙ h
+pub put_stays : (e d : Entry) (es : List Entry) (i : ℕ) → bucket es e.index ≡ None → bucket es i ≡ Some d → bucket (put_in e es) i ≡ Some d
+put_stays e d es i n h = put_kept e es i (λ q. let s : e.index ≡ i = eqb_index e.index i q in let m : bucket es i ≡ None = rw s at n in cc) ∙ h
 
-pub in_bucket_at : (e x : Entry) (xs : List Entry) (i : ℕ) (b : Bool) → eqb x.place i ≡ b → (bucket xs i ≡ Some e → In e xs) → bucket (x ∷ xs) i ≡ Some e → In e (x ∷ xs)
+pub in_bucket_at : (e x : Entry) (xs : List Entry) (i : ℕ) (b : Bool) → eqb x.index i ≡ b → (bucket xs i ≡ Some e → In e xs) → bucket (x ∷ xs) i ≡ Some e → In e (x ∷ xs)
 in_bucket_at e x xs i true h f k = inl (let q : Some x ≡ Some e = rw h at k in cc)
 in_bucket_at e x xs i false h f k = inr (f (rw h at k))
 
@@ -128,7 +129,7 @@ weigh-fill h g e = omega (arith, weigh-put_in (λ e. h e.value) e g.entries)
 pub grew_same : (g : Gen) → Grew g g
 grew_same g = record { capacity = refl; size = omega arith; kept = λ i e h. h; more = λ h. omega arith }
 
-pub grew_fill : (g : Gen) (e : Entry) → bucket g.entries e.place ≡ None → Grew g (fill g e)
+pub grew_fill : (g : Gen) (e : Entry) → bucket g.entries e.index ≡ None → Grew g (fill g e)
 grew_fill g e n = record { capacity = refl; size = omega arith; kept = λ i d q. put_stays e d g.entries i n q; more = λ h. weigh-fill h g e }
 
 pub grew_count : (g : Gen) → Grew g (count g)
@@ -160,28 +161,28 @@ change_grew gens None f q = same_grew gens
 change_grew gens (Some k) f q = set_grew_at gens k f (slice_get gens k) refl (λ g h. q k g refl h)
 
 -- the bucket of a call that is empty
-pub bucket_none : (t : Table) (s : CallState) (k : ℕ) (g : Gen) → s.walked ≡ Some k → slice_get t.gens k ≡ Some g → bucket_at t s ≡ None → bucket g.entries s.index ≡ None
+pub bucket_none : (t : Table) (s : CallState) (k : ℕ) (g : Gen) → s.walked ≡ Some k → slice_get t.gens k ≡ Some g → bucket_of t s ≡ None → bucket g.entries s.index ≡ None
 bucket_none t s k g e h n = rw (e, h) at n
 
-pub bucket_some : (t : Table) (s : CallState) (k : ℕ) (g : Gen) (d : Entry) → s.walked ≡ Some k → slice_get t.gens k ≡ Some g → bucket_at t s ≡ Some d → bucket g.entries s.index ≡ Some d
+pub bucket_some : (t : Table) (s : CallState) (k : ℕ) (g : Gen) (d : Entry) → s.walked ≡ Some k → slice_get t.gens k ≡ Some g → bucket_of t s ≡ Some d → bucket g.entries s.index ≡ Some d
 bucket_some t s k g d e h n = rw (e, h) at n
 
 -- what a call puts into its bucket
 abbrev pub entry_of : CallState → ℕ → Entry
-entry_of s v = record { place = s.index; value = v; bits = bits_of s.hash }
+entry_of s v = record { index = s.index; value = v; bits = bits_of s.hash }
 
-pub place_grew : (t : Table) (s : CallState) (v : Option ℕ) → bucket_at t s ≡ None → AllGrew t.gens (place t s v).gens
+pub place_grew : (t : Table) (s : CallState) (v : Option ℕ) → bucket_of t s ≡ None → AllGrew t.gens (place t s v).gens
 place_grew t s None n = same_grew t.gens
 place_grew t s (Some v) n = change_grew t.gens s.walked (λ g. fill g (entry_of s v)) (λ k g e h. grew_fill g (entry_of s v) (bucket_none t s k g e h n))
 
 -- no turn takes an entry out of a generation
-pub row_grew : (w : World) (c : Call) {p : Phase} {x : Event} {a : Answer} {r : CallState} {ls : List ℕ} {t : Table} {q : Option Told} → Row w c p x a r ls t q → AllGrew w.table.gens t.gens
+pub row_grew : (w : World) (c : Call) {p : Phase} {x : Event} {a : Answer} {r : CallState} {ls : List ℕ} {t : Table} {q : Option Reply} → Row w c p x a r ls t q → AllGrew w.table.gens t.gens
 row_grew w c (puts _ _ n) = place_grew w.table c.state c.value n
 row_grew w c (adds _) = change_grew w.table.gens c.state.walked count (λ k g e h. grew_count g)
 row_grew w c (shows _ _) = push_grew w.table.gens _
 row_grew w c _ = same_grew w.table.gens
 
-pub turn_grew : {w v : World} {x : Event} {a : Option Act} {r : Option Reply} → Turn w x a v r → AllGrew w.table.gens v.table.gens
+pub turn_grew : {w v : World} {x : Event} {a : Option Act} {r : Option Finished} → Turn w x a v r → AllGrew w.table.gens v.table.gens
 turn_grew {w = w} rests = same_grew w.table.gens
 turn_grew {w = w} (opens n v p h r k u f) = same_grew w.table.gens
 turn_grew {w = w} (takes i c p a s list t o g e row nu) = row_grew w c row
@@ -263,7 +264,7 @@ fit_at c n p o e = rw e at o.fits
 pub stand_at : (c : Call) (n : ℕ) (p : Phase) → CallOk n c → c.state.phase ≡ p → stands p ≡ true → IsLast n c.state.walked
 stand_at c n p o e h = (rw e at o.stands) h
 
-pub hold_row : (w : World) (i : ℕ) (c : Call) (m : List ℕ) {p : Phase} {x : Event} {a : Answer} {r : CallState} {ls : List ℕ} {t : Table} {q : Option Told} → Row w c p x a r ls t q → c.state.phase ≡ p → slice_get w.calls i ≡ Some c → Locked w → CallOk (length w.table.gens) c → Holding w.table m → Holding t (m ++ placed_by (Some (Goes c a)))
+pub hold_row : (w : World) (i : ℕ) (c : Call) (m : List ℕ) {p : Phase} {x : Event} {a : Answer} {r : CallState} {ls : List ℕ} {t : Table} {q : Option Reply} → Row w c p x a r ls t q → c.state.phase ≡ p → slice_get w.calls i ≡ Some c → Locked w → CallOk (length w.table.gens) c → Holding w.table m → Holding t (m ++ placed_by (Some (Goes c a)))
 hold_row w i c m (puts _ _ _) e g l k o = hold_put w m c c.value (nothing_built w l i c g (shares_of _ _ e refl)) (stand_at c _ AtEmpty k e refl) o
 hold_row w i c m (adds _) e g l k o = rw append-none (hold_count w m c (nothing_built w l i c g (shares_of _ _ e refl)) (stand_at c _ Placed k e refl) o)
 hold_row w i c m (begins_first _ _) e g l k o = rw append-none (hold_begin w.table m o)
@@ -272,7 +273,7 @@ hold_row w i c m (copies _ j x n) e g l k o = rw append-none (hold_copy w.table 
 hold_row w i c m (shows _ n) e g l k o = rw append-none (hold_show w.table m n o)
 hold_row w i c m _ e g l k o = rw append-none o
 
-pub keeps_holding : {w v : World} {x : Event} {a : Option Act} {r : Option Reply} (m : List ℕ) → Turn w x a v r → Locked w → CallsOk w → Holding w.table m → Holding v.table (m ++ placed_by a)
+pub keeps_holding : {w v : World} {x : Event} {a : Option Act} {r : Option Finished} (m : List ℕ) → Turn w x a v r → Locked w → CallsOk w → Holding w.table m → Holding v.table (m ++ placed_by a)
 keeps_holding m rests l k o = rw append-none o
 keeps_holding m (opens n v p h r b u f) l k o = rw append-none o
 keeps_holding {w = w} m (takes i c p a s list t o g e row nu) l k h = hold_row w i c m row e g l (k.at i c g) h

@@ -1,10 +1,10 @@
 -- Each row of the table of events is what the machine does.
 use Rattle.std.proofs.Common.{ℕ, ◌≡◌, ◌^◌, ◌++◌, List, [], ◌∷◌, Bool, true, false, refl, Option, Some, None, ap, ◌∙◌}
 use Rattle.std.specs.Prelude.{◌==◌, ◌&&◌, if◌then◌else◌, not}
-use Rattle.table_core.specs.Replies.{Told, Reply}
+use Rattle.table_core.specs.Replies.{Reply, Finished}
 use Rattle.table_core.specs.Generations.{Table}
 use Rattle.table_core.specs.Calls.{Call, starts, is_used, call_numbered, replaced, decided}
-use Rattle.table_core.specs.Machine.{World, finds_in, finds, changed, told_in, list_in, number_of, in_range, Act, Begins, Goes, act_of, acts, after_act, happens, reply_to, reply_by, reply}
+use Rattle.table_core.specs.Machine.{World, finds_in, finds, changed, reply_in, list_in, number_of, in_range, Act, Begins, Goes, act_of, acts, after_act, happens, finished_call, finished_by, finishes}
 use Rattle.table_core.specs.declared.event.Event.{Event}
 use Rattle.table_core.specs.declared.event.Event.TheVariants.{Insert, Lookup, Len, Walk}
 use Rattle.table_core.specs.declared.call.CallState.{CallState}
@@ -20,15 +20,15 @@ never_begins true = refl
 never_begins false = refl
 
 -- what an event finds where a row takes the call, and by it the call, its list, the table and what is told
-pub record IsTaken (w : World) (c : Call) (p : Phase) (x : Event) (a : Answer) (s : CallState) (list : List ℕ) (t : Table) (o : Option Told) : Type 0 where
+pub record IsTaken (w : World) (c : Call) (p : Phase) (x : Event) (a : Answer) (s : CallState) (list : List ℕ) (t : Table) (o : Option Reply) : Type 0 where
   pub finds : finds_in p w c.state x ≡ Some a
   pub decides : decided p c.state a ≡ s
   pub keeps : list_in p w.table c a ≡ list
   pub changes : changed w.table c x a ≡ t
-  pub tells : told_in p w.table c a ≡ o
+  pub tells : reply_in p w.table c a ≡ o
 
 -- the machine takes each row of the table of events
-pub taken : {w : World} {c : Call} {p : Phase} {x : Event} {a : Answer} {s : CallState} {list : List ℕ} {t : Table} {o : Option Told} → Row w c p x a s list t o → IsTaken w c p x a s list t o
+pub taken : {w : World} {c : Call} {p : Phase} {x : Event} {a : Answer} {s : CallState} {list : List ℕ} {t : Table} {o : Option Reply} → Row w c p x a s list t o → IsTaken w c p x a s list t o
 taken {w = w} {c = c} (shares n h) = record { finds = rw h refl; decides = refl; keeps = refl; changes = refl; tells = refl }
 taken {w = w} {c = c} (loads_none n h) = record { finds = rw h refl; decides = refl; keeps = refl; changes = refl; tells = refl }
 taken {w = w} {c = c} (loads n g h) = record { finds = rw h refl; decides = refl; keeps = refl; changes = refl; tells = refl }
@@ -91,7 +91,7 @@ is_move (Len _) = false
 is_move (Walk _) = false
 is_move _ = true
 
-row_moves : (w : World) (c : Call) {p : Phase} {x : Event} {a : Answer} {s : CallState} {ls : List ℕ} {t : Table} {o : Option Told} → Row w c p x a s ls t o → is_move x ≡ true
+row_moves : (w : World) (c : Call) {p : Phase} {x : Event} {a : Answer} {s : CallState} {ls : List ℕ} {t : Table} {o : Option Reply} → Row w c p x a s ls t o → is_move x ≡ true
 row_moves w c (shares n h) = refl
 row_moves w c _ = refl
 
@@ -102,44 +102,44 @@ move_goes w (Len n) m = absurd (cc)
 move_goes w (Walk n) m = absurd (cc)
 move_goes w _ m = refl
 
-goes_so : (w : World) (c : Call) {p : Phase} {x : Event} {a : Answer} {s : CallState} {ls : List ℕ} {t : Table} {o : Option Told} → Row w c p x a s ls t o → in_range x ≡ true → call_numbered (number_of x) w.calls ≡ Some c → finds w c.state x ≡ Some a → acts w x ≡ Some (Goes c a)
+goes_so : (w : World) (c : Call) {p : Phase} {x : Event} {a : Answer} {s : CallState} {ls : List ℕ} {t : Table} {o : Option Reply} → Row w c p x a s ls t o → in_range x ≡ true → call_numbered (number_of x) w.calls ≡ Some c → finds w c.state x ≡ Some a → acts w x ≡ Some (Goes c a)
 goes_so w c {x = x} {a = a} row r h f =
     let e : goes_with w (call_numbered (number_of x) w.calls) x ≡ Some (Goes c a) = rw (h, f) refl in
     rw r (move_goes w x (row_moves w c row) ∙ e)
 
 -- the machine does whatever the table of events says
-pub acts_so : (w : World) {x : Event} {a : Act} {v : World} {r : Option Reply} → Takes w x a v r → acts w x ≡ Some a
+pub acts_so : (w : World) {x : Event} {a : Act} {v : World} {r : Option Finished} → Takes w x a v r → acts w x ≡ Some a
 acts_so w (begins n v p h r o u f) = begins_so w o r u f
 acts_so w {x = x} (goes c p a s ls t o r h e row) = goes_so w c row r h (ap (λ z. finds_in z w c.state x) e ∙ (taken row).finds)
 
-step_as : (w : World) (x : Event) (o : Option Act) → acts w x ≡ o → StepsBy w x o → Step w x o (after_act w x o) (reply_by w o)
+step_as : (w : World) (x : Event) (o : Option Act) → acts w x ≡ o → StepsBy w x o → Step w x o (after_act w x o) (finished_by w o)
 step_as w x None e t = stays (λ a v r k. let z : acts w x ≡ Some a = acts_so w k in absurd (cc))
 step_as w x (Some a) e t = moves a _ _ t
 
 -- the machine takes exactly the steps of the table of events
-pub step : (w : World) (x : Event) → Step w x (acts w x) (happens w x) (reply w x)
+pub step : (w : World) (x : Event) → Step w x (acts w x) (happens w x) (finishes w x)
 step w x = step_as w x (acts w x) refl (steps w x)
 
 pub only_begins : (w : World) {x : Event} {n : ℕ} {v : Option ℕ} {p : Phase} {h : ℕ} → acts w x ≡ Some (Begins (starts n v p h)) → IsTheStep w x (Begins (starts n v p h)) (record w { calls = w.calls ++ starts n v p h ∷ [] }) None
-only_begins w {x = x} e = record { does = e; leads = ap (after_act w x) e; tells = ap (reply_by w) e }
+only_begins w {x = x} e = record { does = e; leads = ap (after_act w x) e; tells = ap (finished_by w) e }
 
-pub only_goes : (w : World) {c : Call} {p : Phase} {x : Event} {a : Answer} {s : CallState} {list : List ℕ} {t : Table} {o : Option Told} → c.state.phase ≡ p → acts w x ≡ Some (Goes c a) → IsTaken w c p x a s list t o → IsTheStep w x (Goes c a) (record { table = t; calls = replaced (left c s list) w.calls }) (reply_to c.number o)
+pub only_goes : (w : World) {c : Call} {p : Phase} {x : Event} {a : Answer} {s : CallState} {list : List ℕ} {t : Table} {o : Option Reply} → c.state.phase ≡ p → acts w x ≡ Some (Goes c a) → IsTaken w c p x a s list t o → IsTheStep w x (Goes c a) (record { table = t; calls = replaced (left c s list) w.calls }) (finished_call c.number o)
 only_goes w {c = c} {x = x} {a = a} ph e k =
     let d : decided c.state.phase c.state a ≡ _ = ap (λ z. decided z c.state a) ph ∙ k.decides in
     let l : list_in c.state.phase w.table c a ≡ _ = ap (λ z. list_in z w.table c a) ph ∙ k.keeps in
-    let q : told_in c.state.phase w.table c a ≡ _ = ap (λ z. told_in z w.table c a) ph ∙ k.tells in
+    let q : reply_in c.state.phase w.table c a ≡ _ = ap (λ z. reply_in z w.table c a) ph ∙ k.tells in
     record {
       does = e;
       leads = ap (after_act w x) e ∙ rw (k.changes, l, d) refl;
-      tells = ap (reply_by w) e ∙ ap (reply_to c.number) q;
+      tells = ap (finished_by w) e ∙ ap (finished_call c.number) q;
     }
 
 -- what the table of events says is what happens
-pub only_step : (w : World) (x : Event) (a : Act) (v : World) (r : Option Reply) → OnlyStep w x a v r
+pub only_step : (w : World) (x : Event) (a : Act) (v : World) (r : Option Finished) → OnlyStep w x a v r
 only_step w x a v r (begins n u p h ra o us f) = only_begins w (acts_so w (begins n u p h ra o us f))
 only_step w x a v r (goes c p b s list t o ra h e row) = only_goes w e (acts_so w (goes c p b s list t o ra h e row)) (taken row)
 
-pub holds_so : {w : World} {c : Call} {p : Phase} {x : Event} {a : Answer} {s : CallState} {list : List ℕ} {t : Table} {o : Option Told} → Row w c p x a s list t o → moves_lock a ≡ false → HoldsAsBefore p s.phase
+pub holds_so : {w : World} {c : Call} {p : Phase} {x : Event} {a : Answer} {s : CallState} {list : List ℕ} {t : Table} {o : Option Reply} → Row w c p x a s list t o → moves_lock a ≡ false → HoldsAsBefore p s.phase
 holds_so (shares _ _) h = absurd (cc)
 holds_so (leaves_ok _) h = absurd (cc)
 holds_so (leaves_grow _) h = absurd (cc)
@@ -153,5 +153,5 @@ holds_so (tries_again _ _ _) h = absurd (cc)
 holds_so _ h = record { shared = refl; owned = refl }
 
 -- who holds the lock changes only by taking it and letting it go
-pub lock_stays : (w : World) (c : Call) (p : Phase) (x : Event) (a : Answer) (s : CallState) (list : List ℕ) (t : Table) (o : Option Told) → LockStays w c p x a s list t o
+pub lock_stays : (w : World) (c : Call) (p : Phase) (x : Event) (a : Answer) (s : CallState) (list : List ℕ) (t : Table) (o : Option Reply) → LockStays w c p x a s list t o
 lock_stays w c p x a s list t o row = holds_so row

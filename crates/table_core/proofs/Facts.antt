@@ -3,8 +3,10 @@ use Rattle.std.proofs.Common.{ℕ, ◌≡◌, ◌+◌, ◌*◌, ◌<◌, ◌≤�
 use Rattle.std.specs.Prelude.{◌==◌}
 use Rattle.std.specs.List.{slice_get}
 use Rattle.table_core.specs.Bags.{weigh}
-use Rattle.table_core.specs.Replies.{Reply}
-use Rattle.table_core.specs.Generations.{Gen, Build, Table, bits_of, bucket, at_place, current, gen_of, bucket_in, entries_of}
+use Rattle.table_core.specs.Replies.{Finished}
+use Rattle.table_core.specs.Generations.{Gen, Build, Table, bucket, current, gen_of, bucket_in, entries_of}
+use Rattle.terms.specs.Hashes.{bits_of}
+use Rattle.terms.specs.Probes.{bucket_at}
 use Rattle.table_core.specs.Calls.{Call, stands_at_bucket}
 use Rattle.table_core.specs.Machine.{World}
 use Rattle.table_core.specs.History.{back, picks}
@@ -53,9 +55,9 @@ pub record AllGrew (gens now : List Gen) : Type 0 where
 -- the entries of a generation have places of their own below its capacity
 pub record Seated (g : Gen) : Type 0 where
   pub roomy : 0 < g.capacity
-  pub own : (e : Entry) → In e g.entries → bucket g.entries e.place ≡ Some e
-  pub once : (i : ℕ) → weigh (λ e. tally (e.place == i)) g.entries ≤ 1
-  pub below : (e : Entry) → In e g.entries → e.place < g.capacity
+  pub own : (e : Entry) → In e g.entries → bucket g.entries e.index ≡ Some e
+  pub once : (i : ℕ) → weigh (λ e. tally (e.index == i)) g.entries ≤ 1
+  pub below : (e : Entry) → In e g.entries → e.index < g.capacity
 
 pub record AllSeated (w : World) : Type 0 where
   pub first : 0 < w.table.first
@@ -112,9 +114,9 @@ pub record Probing (gens : List Gen) (c : Call) : Type 0 where
   pub walked : c.state.walked ≡ Some number
   pub got : slice_get gens number ≡ Some gen
   pub capacity : c.state.capacity ≡ gen.capacity
-  pub index : c.state.index ≡ at_place gen.capacity c.state.hash c.state.seen
+  pub index : c.state.index ≡ bucket_at gen.capacity c.state.hash c.state.seen
   pub below : c.state.seen < gen.capacity
-  pub passed : (j : ℕ) → j < c.state.seen → IsSet gen.entries (at_place gen.capacity c.state.hash j)
+  pub passed : (j : ℕ) → j < c.state.seen → IsSet gen.entries (bucket_at gen.capacity c.state.hash j)
 
 -- a call that walks: its generation, and a bucket of it
 pub record Walking (gens : List Gen) (c : Call) : Type 0 where
@@ -141,7 +143,7 @@ wants_growth _ o = false
 
 -- it has found no generation, or every bucket of its generation set
 pub record Turned (gens : List Gen) (c : Call) : Type 0 where
-  pub full : (k : ℕ) → c.state.walked ≡ Some k → (g : Gen) × (slice_get gens k ≡ Some g) × ((j : ℕ) → j < g.capacity → IsSet g.entries (at_place g.capacity c.state.hash j))
+  pub full : (k : ℕ) → c.state.walked ≡ Some k → (g : Gen) × (slice_get gens k ≡ Some g) × ((j : ℕ) → j < g.capacity → IsSet g.entries (bucket_at g.capacity c.state.hash j))
 
 -- an accepted entry stays in its bucket
 pub record Met (gens : List Gen) (c : Call) : Type 0 where
@@ -180,26 +182,26 @@ is_back Done (Existing _) = true
 is_back _ _ = false
 
 -- what lies in the table is what was placed; what was handed back stands in the replies
-pub record Placing (cs : List Call) (m : List ℕ) (rs : List Reply) : Type 0 where
+pub record Placing (cs : List Call) (m : List ℕ) (rs : List Finished) : Type 0 where
   pub table : (h : ℕ → ℕ) → weigh (λ c. weigh h (picks (in_table c.state.phase c.state.outcome) c.value)) cs ≡ weigh h m
   pub back : (h : ℕ → ℕ) → weigh (λ c. weigh h (picks (is_back c.state.phase c.state.outcome) c.value)) cs ≡ weigh h (back rs)
 
 -- Lawful schedules
 
 -- each bucket on the cyclic way from the hash's own place to this one is set
-pub record Way (capacity : ℕ) (es : List Entry) (hash place : ℕ) : Type 0 where
+pub record Way (capacity : ℕ) (es : List Entry) (hash index : ℕ) : Type 0 where
   pub steps : ℕ
-  pub there : place ≡ at_place capacity hash steps
-  pub set : (j : ℕ) → j < steps → IsSet es (at_place capacity hash j)
+  pub there : index ≡ bucket_at capacity hash steps
+  pub set : (j : ℕ) → j < steps → IsSet es (bucket_at capacity hash j)
 
 -- each entry carries the bits of its hash, and is reached from its hash's own place
 pub record Reached (l : Law) (g : Gen) : Type 0 where
   pub bits : (e : Entry) → In e g.entries → e.bits ≡ bits_of (l.hash e.value)
-  pub way : (e : Entry) → In e g.entries → Way g.capacity g.entries (l.hash e.value) e.place
+  pub way : (e : Entry) → In e g.entries → Way g.capacity g.entries (l.hash e.value) e.index
 
 -- a call accepts none of the entries in the first n buckets of its probe
 pub record Missed (l : Law) (c : Call) (g : Gen) (n : ℕ) : Type 0 where
-  pub none : (j : ℕ) (e : Entry) → j < n → bucket g.entries (at_place g.capacity c.state.hash j) ≡ Some e → accepts_value l c e.value ≡ false
+  pub none : (j : ℕ) (e : Entry) → j < n → bucket g.entries (bucket_at g.capacity c.state.hash j) ≡ Some e → accepts_value l c e.value ≡ false
 
 -- a call in a phase that it has before its reply
 abbrev pub is_asking : Phase → Bool
@@ -223,7 +225,7 @@ pub record LawOk (l : Law) (w : World) : Type 0 where
   pub calls : (i : ℕ) (c : Call) → slice_get w.calls i ≡ Some c → Judged l w.table.gens c
 
 -- The invariant of each moment: m is what was placed, rs are the replies
-pub record Inv (w : World) (m : List ℕ) (rs : List Reply) : Type 0 where
+pub record Inv (w : World) (m : List ℕ) (rs : List Finished) : Type 0 where
   pub locked : Locked w
   pub calls : CallsOk w
   pub numbered : Numbered w

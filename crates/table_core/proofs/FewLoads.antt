@@ -3,7 +3,7 @@ use Rattle.std.proofs.Common.{ℕ, suc, ◌≡◌, ◌+◌, ◌-◌, ◌/◌, �
 use Rattle.std.specs.Prelude.{◌==◌, nat_lt}
 use Rattle.std.specs.List.{slice_get}
 use Rattle.table_core.specs.Bags.{count_of}
-use Rattle.table_core.specs.Replies.{Told, Reply}
+use Rattle.table_core.specs.Replies.{Reply, Finished}
 use Rattle.table_core.specs.Generations.{Gen, Build, Table, count, current, is_current}
 use Rattle.table_core.specs.Calls.{Call, starts, holds_owned, is_pending}
 use Rattle.table_core.specs.Machine.{World, empty, show_built, Act, Goes, acts, after}
@@ -25,7 +25,7 @@ use Rattle.table_core.specs.Values.{LoadsOnce}
 use Rattle.table_core.proofs.Turns.{Turn, rests, opens, takes}
 use Rattle.table_core.proofs.Facts.{Tracked, Turned, wants_growth, SizesOk, placers, Inv}
 use Rattle.table_core.proofs.Standing.{last_number, length-place, length-change, pending_of}
-use Rattle.table_core.proofs.Seats.{many_places}
+use Rattle.table_core.proofs.Seats.{many_buckets}
 use Rattle.table_core.proofs.Sizes.{no_placers}
 use Rattle.table_core.proofs.Walks.{mark, marks}
 use Rattle.table_core.proofs.FewReads.{other_number, other_loaded, unused_do_nothing}
@@ -87,7 +87,7 @@ full_wants : (w : World) (c : Call) (g : Gen) (k : ℕ) → SizesOk w → placer
 full_wants w c g k z n t e lt wk last =
     let f = t.full k wk in
     let same : f.0 ≡ g = (let at : slice_get w.table.gens (length w.table.gens - 1) ≡ Some f.0 = subst (λ j. slice_get w.table.gens j ≡ Some f.0) (omega arith) f.1 in let y : Some f.0 ≡ Some g = sym at ∙ e in cc) in
-    let many : f.0.capacity ≤ length f.0.entries = many_places f.0.capacity c.state.hash f.0.capacity f.0.entries (omega arith) f.2 in
+    let many : f.0.capacity ≤ length f.0.entries = many_buckets f.0.capacity c.state.hash f.0.capacity f.0.entries (omega arith) f.2 in
     let many_now : g.capacity ≤ length g.entries = subst (λ (g : Gen). g.capacity ≤ length g.entries) same many in
     let small : g.size < g.capacity / 2 = ltb-true g.size (g.capacity / 2) lt in
     omega (arith, many_now, small, z.counted g e, n)
@@ -125,7 +125,7 @@ not_current : (g n : ℕ) → (g + 1 == n) ≡ false → suc g ≡ n → ⊥
 not_current g n h e = let q : (g + 1 == n) ≡ true = eq-eqb (g + 1) n (omega arith) in cc
 
 -- no turn takes a generation away
-gens_more : (w : World) (i : ℕ) (c : Call) → Locked w → slice_get w.calls i ≡ Some c → {p : Phase} {x : Event} {a : Answer} {r : CallState} {ls : List ℕ} {t : Table} {q : Option Told} → Row w c p x a r ls t q → c.state.phase ≡ p → length w.table.gens ≤ length t.gens
+gens_more : (w : World) (i : ℕ) (c : Call) → Locked w → slice_get w.calls i ≡ Some c → {p : Phase} {x : Event} {a : Answer} {r : CallState} {ls : List ℕ} {t : Table} {q : Option Reply} → Row w c p x a r ls t q → c.state.phase ≡ p → length w.table.gens ≤ length t.gens
 gens_more w i c l at (shows n none) e = let d = building_there w i c l at e in omega (arith, length-show w.table d.0 d.1)
 gens_more w i c l at (puts n y h) e = omega (arith, length-place w.table c.state c.value)
 gens_more w i c l at (adds n) e = omega (arith, length-change w.table.gens c.state.walked count)
@@ -155,7 +155,7 @@ module _ (w : World) (i : ℕ) (c : Call) (locked : Locked w) (sized : SizesOk w
     | inr y ↦ (let there = wanting_there k o (rw e refl) y in omega arith)
   ]
 
-  row_behind : {p : Phase} {x : Event} {a : Answer} {r : CallState} {list : List ℕ} {t : Table} {q : Option Told} → Row w c p x a r list t q → c.state.phase ≡ p → Behind (length t.gens) r (ls ++ loaded_own a)
+  row_behind : {p : Phase} {x : Event} {a : Answer} {r : CallState} {list : List ℕ} {t : Table} {q : Option Reply} → Row w c p x a r list t q → c.state.phase ≡ p → Behind (length t.gens) r (ls ++ loaded_own a)
   row_behind (loads n g now) e = behind_load (length w.table.gens) (length w.table.gens - 1) c.state _ ls (last_number w.table.gens g now) (rw e refl) refl refl b
   row_behind (looks n g now) e = behind_load (length w.table.gens) (length w.table.gens - 1) c.state _ ls (last_number w.table.gens g now) (rw e refl) refl refl b
   row_behind (len_loads n g now) e = behind_load (length w.table.gens) (length w.table.gens - 1) c.state _ ls (last_number w.table.gens g now) (rw e refl) refl refl b
@@ -182,7 +182,7 @@ module _ (w : World) (i : ℕ) (c : Call) (locked : Locked w) (sized : SizesOk w
     | inr y ↦ omega (arith, one, y, weigh-append (mark g) ls ((length w.table.gens - 1) ∷ []))
   ]
 
-  row_loads_new : {p : Phase} {x : Event} {a : Answer} {r : CallState} {list : List ℕ} {t : Table} {q : Option Told} → Row w c p x a r list t q → c.state.phase ≡ p → (g : ℕ) → count_of g ls ≤ 1 → count_of g (ls ++ loaded_own a) ≤ 1
+  row_loads_new : {p : Phase} {x : Event} {a : Answer} {r : CallState} {list : List ℕ} {t : Table} {q : Option Reply} → Row w c p x a r list t q → c.state.phase ≡ p → (g : ℕ) → count_of g ls ≤ 1 → count_of g (ls ++ loaded_own a) ≤ 1
   row_loads_new (loads n d now) e g one = one_more g one (last_number w.table.gens d now) (rw e refl)
   row_loads_new (looks n d now) e g one = one_more g one (last_number w.table.gens d now) (rw e refl)
   row_loads_new (len_loads n d now) e g one = one_more g one (last_number w.table.gens d now) (rw e refl)
@@ -200,7 +200,7 @@ module _ (f : ℕ) (inv : (s : List Event) → Inv (after f s) (placed (empty f)
   same_loads : (s : List Event) (x : Event) (n : ℕ) → loaded_by (acts (after f s) x) n ≡ [] → generations_loaded (empty f) s n ≡ generations_loaded (empty f) (s ++ x ∷ []) n
   same_loads s x n z = sym (loads_snoc f s x n ∙ rw z (append-none _))
 
-  behind_turn : (s : List Event) (x : Event) {v : World} {a : Option Act} {r : Option Reply} → Turn (after f s) x a v r → acts (after f s) x ≡ a → AllBehind s (after f s) → AllBehind (s ++ x ∷ []) v
+  behind_turn : (s : List Event) (x : Event) {v : World} {a : Option Act} {r : Option Finished} → Turn (after f s) x a v r → acts (after f s) x ≡ a → AllBehind s (after f s) → AllBehind (s ++ x ∷ []) v
   behind_turn s x rests took m i c g = subst (λ l. Behind (length (after f s).table.gens) c.state l) (same_loads s x c.number (rw took refl)) (m i c g)
   behind_turn s x (opens n v p h ra op us nv) took m i c g = elim (get-push (after f s).calls (starts n v p h) c i g) [
     | inl y ↦ behind_nothing (length (after f s).table.gens) c.state (generations_loaded (empty f) (s ++ x ∷ []) c.number) (
@@ -221,7 +221,7 @@ module _ (f : ℕ) (inv : (s : List Event) → Inv (after f s) (placed (empty f)
   all_behind : (s : List Event) → AllBehind s (after f s)
   all_behind = by_snoc (λ s. AllBehind s (after f s)) (λ i c g. absurd (cc)) (λ s x m. behind_turn s x (turn_after f s x) refl m)
 
-  once_turn : (s : List Event) (x : Event) (n g : ℕ) {v : World} {a : Option Act} {r : Option Reply} → Turn (after f s) x a v r → acts (after f s) x ≡ a → count_of g (generations_loaded (empty f) s n) ≤ 1 → count_of g (generations_loaded (empty f) (s ++ x ∷ []) n) ≤ 1
+  once_turn : (s : List Event) (x : Event) (n g : ℕ) {v : World} {a : Option Act} {r : Option Finished} → Turn (after f s) x a v r → acts (after f s) x ≡ a → count_of g (generations_loaded (empty f) s n) ≤ 1 → count_of g (generations_loaded (empty f) (s ++ x ∷ []) n) ≤ 1
   once_turn s x n g rests took one = rw (← same_loads s x n (rw took refl)) one
   once_turn s x n g (opens m v p h ra op us nv) took one = rw (← same_loads s x n (rw took refl)) one
   once_turn s x n g (takes i d p a st list t o at e row nu) took one = elim (cases_eq d.number n) [

@@ -2,7 +2,7 @@
 use Rattle.std.proofs.Common.{eqb-true, ℕ, suc, zero, ◌≡◌, ◌+◌, ◌≤◌, ◌++◌, inl, inr, List, [], ◌∷◌, Bool, true, false, refl, Option, Some, None, length, sym, subst, ap, arith, ◌∙◌}
 use Rattle.std.specs.Prelude.{◌==◌, if◌then◌else◌, slice_set}
 use Rattle.std.specs.List.{slice_get}
-use Rattle.table_core.specs.Replies.{Told, Reply}
+use Rattle.table_core.specs.Replies.{Reply, Finished}
 use Rattle.table_core.specs.Generations.{Table}
 use Rattle.table_core.specs.Calls.{Call, starts, is_used}
 use Rattle.table_core.specs.Machine.{World, empty, Act, Begins, Goes, acts, after}
@@ -22,7 +22,7 @@ use Rattle.std.proofs.lemmas.Bool.{eq-eqb, cases_eq}
 use Rattle.table_core.specs.Values.{LookupsReadFew}
 use Rattle.table_core.proofs.Turns.{Turn, rests, opens, takes}
 use Rattle.table_core.proofs.Facts.{Inv}
-use Rattle.table_core.proofs.Seats.{many_places}
+use Rattle.table_core.proofs.Seats.{many_buckets}
 use Rattle.table_core.proofs.Numbers.{unused_at}
 use Rattle.table_core.proofs.Pasts.{turn_after, placed_snoc, reads_snoc, loads_snoc, beginnings_snoc, by_snoc, by_snoc_from}
 use Rattle.table_core.proofs.Truth.{true_or_false, or-false}
@@ -91,7 +91,7 @@ begins_own (opens_lookup m h) = rw (eq-eqb m m refl) refl
 begins_own (opens_len m) = rw (eq-eqb m m refl) refl
 begins_own (opens_walk m) = rw (eq-eqb m m refl) refl
 
-nothing_turn : (f : ℕ) (s : List Event) (x : Event) {v : World} {a : Option Act} {r : Option Reply} → Turn (after f s) x a v r → acts (after f s) x ≡ a → UnusedDoNothing f s (after f s) → UnusedDoNothing f (s ++ x ∷ []) v
+nothing_turn : (f : ℕ) (s : List Event) (x : Event) {v : World} {a : Option Act} {r : Option Finished} → Turn (after f s) x a v r → acts (after f s) x ≡ a → UnusedDoNothing f s (after f s) → UnusedDoNothing f (s ++ x ∷ []) v
 nothing_turn f s x rests took o n u = nothing_more f s x n (o n u) (rw took refl) (rw took refl) (rw took refl)
 nothing_turn f s x (opens m v p h ra op us nv) took o n u =
     let d = starts m v p h in
@@ -124,7 +124,7 @@ one_if_read x = if is_read x then 1 else 0
 own_read : (c : Call) (a : Answer) (x : Event) (n : ℕ) → c.number ≡ n → read_by (Some (Goes c a)) x n ≡ one_if_read x
 own_read c a x n e = let q : (c.number == n) ≡ true = eq-eqb c.number n e in elim (true_or_false (is_read x)) [ inl y ↦ rw (y, q) refl | inr y ↦ rw y refl ]
 
-row_few : (w : World) (c : Call) {p : Phase} {x : Event} {a : Answer} {r : CallState} {ls : List ℕ} {t : Table} {q : Option Told} → Row w c p x a r ls t q → (reads n : ℕ) → (p ≡ LookProbe → c.state.seen ≤ n) → Few p c.state.seen reads n → Few r.phase r.seen (reads + one_if_read x) n
+row_few : (w : World) (c : Call) {p : Phase} {x : Event} {a : Answer} {r : CallState} {ls : List ℕ} {t : Table} {q : Option Reply} → Row w c p x a r ls t q → (reads n : ℕ) → (p ≡ LookProbe → c.state.seen ≤ n) → Few p c.state.seen reads n → Few r.phase r.seen (reads + one_if_read x) n
 row_few w c (looks_none m e) reads n s f = omega arith
 row_few w c (looks m g e) reads n s f = omega arith
 row_few w c (look_empty m y e) reads n s f = let le = s refl in omega arith
@@ -138,7 +138,7 @@ module _ (f : ℕ) (inv : (s : List Event) → Inv (after f s) (placed (empty f)
   seen_placed : (s : List Event) (i : ℕ) (c : Call) → slice_get (after f s).calls i ≡ Some c → c.state.phase ≡ LookProbe → c.state.seen ≤ length (placed (empty f) s)
   seen_placed s i c g e =
       let p = ((inv s).tracked.at i c g).probes (rw e refl) in
-      omega (arith, many_places p.gen.capacity c.state.hash c.state.seen p.gen.entries (omega (arith, p.below)) p.passed, (inv s).within.each p.number p.gen p.got (λ v. 1), weigh-ones p.gen.entries, weigh-ones (placed (empty f) s))
+      omega (arith, many_buckets p.gen.capacity c.state.hash c.state.seen p.gen.entries (omega (arith, p.below)) p.passed, (inv s).within.each p.number p.gen p.got (λ v. 1), weigh-ones p.gen.entries, weigh-ones (placed (empty f) s))
 
   -- a look-up that has begun
   record LooksUp (s : List Event) (v : World) (n : ℕ) : Type 0 where
@@ -163,7 +163,7 @@ module _ (f : ℕ) (inv : (s : List Event) → Inv (after f s) (placed (empty f)
   }
 
   -- its own turn
-  looks_own : (s : List Event) (x : Event) (n : ℕ) (l : LooksUp s (after f s) n) {p : Phase} {a : Answer} {r : CallState} {ls : List ℕ} {t : Table} {q : Option Told} → acts (after f s) x ≡ Some (Goes l.call a) → l.call.state.phase ≡ p → Row (after f s) l.call p x a r ls t q → LooksUp (s ++ x ∷ []) (record { table = t; calls = slice_set (after f s).calls l.at (left l.call r ls) }) n
+  looks_own : (s : List Event) (x : Event) (n : ℕ) (l : LooksUp s (after f s) n) {p : Phase} {a : Answer} {r : CallState} {ls : List ℕ} {t : Table} {q : Option Reply} → acts (after f s) x ≡ Some (Goes l.call a) → l.call.state.phase ≡ p → Row (after f s) l.call p x a r ls t q → LooksUp (s ++ x ∷ []) (record { table = t; calls = slice_set (after f s).calls l.at (left l.call r ls) }) n
   looks_own s x n l {a = a} {r = r} {ls = ls} took e row = record {
     at = l.at;
     call = left l.call r ls;
@@ -175,7 +175,7 @@ module _ (f : ℕ) (inv : (s : List Event) → Inv (after f s) (placed (empty f)
         subst (λ k. Few r.phase r.seen k (length (placed (empty f) (s ++ x ∷ [])))) same (few_more r.phase r.seen (reads (empty f) s n + one_if_read x) (length (placed (empty f) s)) (length (placed (empty f) (s ++ x ∷ []))) (more_placed s x) now));
   }
 
-  looks_turn : (s : List Event) (x : Event) (n : ℕ) {v : World} {a : Option Act} {r : Option Reply} → Turn (after f s) x a v r → acts (after f s) x ≡ a → LooksUp s (after f s) n → LooksUp (s ++ x ∷ []) v n
+  looks_turn : (s : List Event) (x : Event) (n : ℕ) {v : World} {a : Option Act} {r : Option Finished} → Turn (after f s) x a v r → acts (after f s) x ≡ a → LooksUp s (after f s) n → LooksUp (s ++ x ∷ []) v n
   looks_turn s x n rests took l = looks_on s x (after f s) n l l.got (rw took refl)
   looks_turn s x n (opens m v p h ra o us nv) took l = looks_on s x _ n l (get-push_before (after f s).calls (starts m v p h ∷ []) l.at l.call l.got) (rw took refl)
   looks_turn s x n (takes i c p a st list t o g e row nu) took l = elim (cases_eq i l.at) [
@@ -187,7 +187,7 @@ module _ (f : ℕ) (inv : (s : List Event) → Inv (after f s) (placed (empty f)
   ]
 
   -- a look-up that begins now
-  looks_first : (s : List Event) (x : Event) (n h : ℕ) (c : Call) {v : World} {a : Option Act} {r : Option Reply} → Turn (after f s) x a v r → acts (after f s) x ≡ a → x ≡ Lookup n h → a ≡ Some (Begins c) → LooksUp (s ++ x ∷ []) v n
+  looks_first : (s : List Event) (x : Event) (n h : ℕ) (c : Call) {v : World} {a : Option Act} {r : Option Finished} → Turn (after f s) x a v r → acts (after f s) x ≡ a → x ≡ Lookup n h → a ≡ Some (Begins c) → LooksUp (s ++ x ∷ []) v n
   looks_first s x n h c rests took e b = absurd (cc)
   looks_first s x n h c (takes i d p a st list t o g k row nu) took e b = absurd (cc)
   looks_first s _ n h c (opens m v p k ra (opens_lookup _ _) us nv) took e b =

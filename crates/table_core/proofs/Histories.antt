@@ -1,10 +1,11 @@
 -- The finished inserts and look-ups are one run of the list object.
 use Rattle.std.proofs.Common.{ℕ, ◌≡◌, ◌++◌, ◌⊎◌, inl, inr, List, [], ◌∷◌, Bool, true, false, refl, Option, Some, None, sym, subst, ap, ◌∙◌}
 use Rattle.std.specs.Prelude.{◌&&◌, option_to_list, not}
-use Rattle.table_core.specs.Replies.{Told, ToldPlaced, ToldLen, ToldWalk, Reply}
-use Rattle.table_core.specs.Generations.{Table, IsFirst}
+use Rattle.table_core.specs.Replies.{Reply, ReplyPlaced, ReplyLen, ReplyWalk, Finished}
+use Rattle.table_core.specs.Generations.{Table}
+use Rattle.terms.specs.Capacities.{IsFirstCapacity}
 use Rattle.table_core.specs.Calls.{Call, is_pending}
-use Rattle.table_core.specs.Machine.{World, empty, bucket_at, told_of_outcome, Goes, acts, happens, reply, run, after}
+use Rattle.table_core.specs.Machine.{World, empty, bucket_of, reply_of_outcome, Goes, acts, happens, finishes, run, after}
 use Rattle.table_core.specs.History.{replies, fate, placed_by, placed, has_later}
 use Rattle.table_core.specs.Steps.{Row, shares, puts, leaves_refused, small, ends, ends_failed, gives_up, looks_none, look_empty, look_meets, look_turns, len_none, len_size, walk_none, walk_skips_last, walk_takes_last}
 use Rattle.table_core.specs.declared.event.Event.{Event}
@@ -57,9 +58,9 @@ cut (z ∷ m) x r (y ∷ m2) x2 r2 h = let k = heads z y (m ++ x ∷ r) (m2 ++ x
 -- an event that places a value
 pub record PlacesHere (w : World) (c : Call) (p : Phase) : Type 0 where
   pub phase : p ≡ AtEmpty
-  pub empty : bucket_at w.table c.state ≡ None
+  pub empty : bucket_of w.table c.state ≡ None
 
-pub won_row : (w : World) (c : Call) {p : Phase} {x : Event} {a : Answer} {r : CallState} {ls : List ℕ} {t : Table} {q : Option Told} → Row w c p x a r ls t q → a ≡ Won → PlacesHere w c p
+pub won_row : (w : World) (c : Call) {p : Phase} {x : Event} {a : Answer} {r : CallState} {ls : List ℕ} {t : Table} {q : Option Reply} → Row w c p x a r ls t q → a ≡ Won → PlacesHere w c p
 won_row w c (puts _ _ n) h = record { phase = refl; empty = n }
 won_row w c (shares _ _) h = absurd (cc)
 won_row w c _ h = absurd (cc)
@@ -72,21 +73,21 @@ pub placed_or_none : (c : Call) (a : Answer) → (placed_by (Some (Goes c a)) �
 placed_or_none c Won = placed_of c c.value refl
 placed_or_none c _ = inl refl
 
-pub data StandsHere (l : Law) (f : ℕ) (s : List Event) (h : List Reply) (v : List ℕ) : Type 0 where
+pub data StandsHere (l : Law) (f : ℕ) (s : List Event) (h : List Finished) (v : List ℕ) : Type 0 where
   nothing : h ≡ [] → v ≡ [] → StandsHere l f s h v
-  one : (r : Reply) → h ≡ r ∷ [] → Answers l.equal (placed (empty f) s) (asked l r) (answered r.told) (placed (empty f) s ++ v) → StandsHere l f s h v
+  one : (r : Finished) → h ≡ r ∷ [] → Answers l.equal (placed (empty f) s) (asked l r) (answered r.reply) (placed (empty f) s ++ v) → StandsHere l f s h v
 
 -- the put of a value is its moment
-pub put_answer : (l : Law) (f : ℕ) → IsFirst f → (s : List Event) (x : Event) (c : Call) (a : Answer) (v : ℕ) → IsLawful l f s → acts (after f s) x ≡ Some (Goes c a) → a ≡ Won → c.value ≡ Some v → Answers l.equal (placed (empty f) s) (asked l (say c.number (ToldPlaced v))) (answered (ToldPlaced v)) (placed (empty f) s ++ option_to_list c.value)
+pub put_answer : (l : Law) (f : ℕ) → IsFirstCapacity f → (s : List Event) (x : Event) (c : Call) (a : Answer) (v : ℕ) → IsLawful l f s → acts (after f s) x ≡ Some (Goes c a) → a ≡ Won → c.value ≡ Some v → Answers l.equal (placed (empty f) s) (asked l (say c.number (ReplyPlaced v))) (answered (ReplyPlaced v)) (placed (empty f) s ++ option_to_list c.value)
 put_answer l f i s x c a v u h e k =
     let t = took_after f s x c a h in
     let p = won_row (after f s) c t.row e in
     let ph : c.state.phase ≡ AtEmpty = t.was ∙ p.phase in
     place_answer l (placed (empty f) s) c v k (fresh_value l (after f s) (placed (empty f) s) (replies (empty f) s) t.at c t.there p.empty (ap probing ph) (ap stands ph) (ap is_asking ph) (inv f i s) (law_after l f i s u))
 
-pub moment_of_list : (t : Told) (p : Phase) (a : Answer) → is_moment t p a ≡ true → is_list_reply t ≡ true
-moment_of_list (ToldLen k) p a h = absurd (cc)
-moment_of_list (ToldWalk es) p a h = absurd (cc)
+pub moment_of_list : (t : Reply) (p : Phase) (a : Answer) → is_moment t p a ≡ true → is_list_reply t ≡ true
+moment_of_list (ReplyLen k) p a h = absurd (cc)
+moment_of_list (ReplyWalk es) p a h = absurd (cc)
 moment_of_list _ p a h = refl
 
 pub not_both : (a b : Bool) → not (a && b) ≡ true → a ≡ true → b ≡ false
@@ -100,19 +101,19 @@ pub record SameMoment (m : List Event) (x : Event) (r : List Event) (m2 : List E
   pub event : x ≡ x2
   pub rest : r ≡ r2
 
-pub refused_before : (f : ℕ) (t : Told) (s : List Event) (x : Event) (d : List Event) (y : Event) (more : List Event) (n : ℕ) (c : Call) (a : Answer) → acts (after f (s ++ x ∷ d)) y ≡ Some (Goes c a) → c.number ≡ n → is_moment t c.state.phase a ≡ true → is_refusal t ≡ true → has_later may_be_refused (after f (s ++ x ∷ [])) (d ++ y ∷ more) n ≡ false → ⊥
+pub refused_before : (f : ℕ) (t : Reply) (s : List Event) (x : Event) (d : List Event) (y : Event) (more : List Event) (n : ℕ) (c : Call) (a : Answer) → acts (after f (s ++ x ∷ d)) y ≡ Some (Goes c a) → c.number ≡ n → is_moment t c.state.phase a ≡ true → is_refusal t ≡ true → has_later may_be_refused (after f (s ++ x ∷ [])) (d ++ y ∷ more) n ≡ false → ⊥
 refused_before f t s x d y more n c a h e m u k =
     let g : acts (after f ((s ++ x ∷ []) ++ d)) y ≡ Some (Goes c a) = rw (append_assoc s (x ∷ []) d) h in
     let z : has_later may_be_refused (after f (s ++ x ∷ [])) (d ++ y ∷ more) n ≡ true = later_found may_be_refused f (s ++ x ∷ []) d y more n c a g e (refusal_try t c.state.phase a m u) in
     cc
 
-pub apart_moments : (f : ℕ) → IsFirst f → (t : Told) (s : List Event) (x : Event) (d : List Event) (y : Event) (more : List Event) (n : ℕ) (c e : Call) (a b : Answer) → acts (after f s) x ≡ Some (Goes c a) → c.number ≡ n → is_moment t c.state.phase a ≡ true → acts (after f (s ++ x ∷ d)) y ≡ Some (Goes e b) → e.number ≡ n → is_moment t e.state.phase b ≡ true → (is_refusal t ≡ true → has_later may_be_refused (after f (s ++ x ∷ [])) (d ++ y ∷ more) n ≡ false) → ⊥
+pub apart_moments : (f : ℕ) → IsFirstCapacity f → (t : Reply) (s : List Event) (x : Event) (d : List Event) (y : Event) (more : List Event) (n : ℕ) (c e : Call) (a b : Answer) → acts (after f s) x ≡ Some (Goes c a) → c.number ≡ n → is_moment t c.state.phase a ≡ true → acts (after f (s ++ x ∷ d)) y ≡ Some (Goes e b) → e.number ≡ n → is_moment t e.state.phase b ≡ true → (is_refusal t ≡ true → has_later may_be_refused (after f (s ++ x ∷ [])) (d ++ y ∷ more) n ≡ false) → ⊥
 apart_moments f i t s x d y more n c e a b h k m g o u z = elim (true_or_false (is_refusal t)) [
   | inl q ↦ refused_before f t s x d y more n e b g o u q (z q)
   | inr q ↦ moment_once f i t s x d y n c e a b h k m g o u q
 ]
 
-pub same_moment : (f : ℕ) → IsFirst f → (t : Told) (n : ℕ) (m : List Event) (x : Event) (r : List Event) (m2 : List Event) (x2 : Event) (r2 : List Event) (c e : Call) (a b : Answer) → m ++ x ∷ r ≡ m2 ++ x2 ∷ r2 →
+pub same_moment : (f : ℕ) → IsFirstCapacity f → (t : Reply) (n : ℕ) (m : List Event) (x : Event) (r : List Event) (m2 : List Event) (x2 : Event) (r2 : List Event) (c e : Call) (a b : Answer) → m ++ x ∷ r ≡ m2 ++ x2 ∷ r2 →
     acts (after f m) x ≡ Some (Goes c a) → c.number ≡ n → is_moment t c.state.phase a ≡ true → (is_refusal t ≡ true → has_later may_be_refused (after f (m ++ x ∷ [])) r n ≡ false) →
     acts (after f m2) x2 ≡ Some (Goes e b) → e.number ≡ n → is_moment t e.state.phase b ≡ true → (is_refusal t ≡ true → has_later may_be_refused (after f (m2 ++ x2 ∷ [])) r2 n ≡ false) →
     Cut m x r m2 x2 r2 → SameMoment m x r m2 x2 r2
@@ -121,17 +122,17 @@ same_moment f i t n m x r m2 x2 r2 c e a b eq h k o u g j v w (later d p q) = ab
 same_moment f i t n m x r m2 x2 r2 c e a b eq h k o u g j v w (earlier d p q) = absurd (apart_moments f i t m2 x2 d x r n e c b a g j v (rw p at h) k o (λ z. rw q at (w z)))
 
 -- the reply that a call will be told, with the schedule up to it
-pub record Ending (f : ℕ) (s : List Event) (x : Event) (xs : List Event) (r : Reply) : Type 0 where
+pub record Ending (f : ℕ) (s : List Event) (x : Event) (xs : List Event) (r : Finished) : Type 0 where
   pub inner : List Event
   pub event : Event
   pub last : List Event
   pub till : s ++ x ∷ inner ≡ last ++ event ∷ []
-  pub told : reply (after f last) event ≡ Some r
+  pub reply : finishes (after f last) event ≡ Some r
   pub rest : List Event
   pub split : xs ≡ inner ++ rest
 
-pub ending_at : (f : ℕ) (s : List Event) (x : Event) (xs : List Event) (r : Reply) (b : List Event) (y : Event) (d : List Event) → x ∷ xs ≡ b ++ y ∷ d → reply (run (after f s) b) y ≡ Some r → Ending f s x xs r
-ending_at f s x xs r [] y d e h = let k = heads x y xs d e in record { inner = []; event = y; last = s; till = rw k.0 refl; told = h; rest = d; split = k.1 }
+pub ending_at : (f : ℕ) (s : List Event) (x : Event) (xs : List Event) (r : Finished) (b : List Event) (y : Event) (d : List Event) → x ∷ xs ≡ b ++ y ∷ d → finishes (run (after f s) b) y ≡ Some r → Ending f s x xs r
+ending_at f s x xs r [] y d e h = let k = heads x y xs d e in record { inner = []; event = y; last = s; till = rw k.0 refl; reply = h; rest = d; split = k.1 }
 ending_at f s x xs r (z ∷ b) y d e h =
     let k = heads x z xs (b ++ y ∷ d) e in
     record {
@@ -139,13 +140,13 @@ ending_at f s x xs r (z ∷ b) y d e h =
       event = y;
       last = s ++ z ∷ b;
       till = rw k.0 (sym (append_assoc s (z ∷ b) (y ∷ [])));
-      told = rw (run_after f s (z ∷ b)) at h;
+      reply = rw (run_after f s (z ∷ b)) at h;
       rest = d;
       split = k.1 ∙ sym (append_assoc b (y ∷ []) d);
     }
 
-pub ending : (f : ℕ) (s : List Event) (x : Event) (xs : List Event) (n : ℕ) (r : Reply) → fate (after f s) (x ∷ xs) n ≡ Some r → Ending f s x xs r × (r.call ≡ n)
-ending f s x xs n r h = let t = telling (x ∷ xs) (after f s) n r h in (ending_at f s x xs r t.before t.event t.rest t.split t.told, t.number)
+pub ending : (f : ℕ) (s : List Event) (x : Event) (xs : List Event) (n : ℕ) (r : Finished) → fate (after f s) (x ∷ xs) n ≡ Some r → Ending f s x xs r × (r.call ≡ n)
+ending f s x xs n r h = let t = telling (x ∷ xs) (after f s) n r h in (ending_at f s x xs r t.before t.event t.rest t.split t.reply, t.number)
 
 pub lawful_till : (l : Law) (f : ℕ) (s : List Event) (x : Event) (xs inner rest : List Event) (last : List Event) (y : Event) → s ++ x ∷ inner ≡ last ++ y ∷ [] → xs ≡ inner ++ rest → IsLawful l f (s ++ x ∷ xs) → IsLawful l f (last ++ y ∷ [])
 lawful_till l f s x xs inner rest last y e h u =
@@ -153,32 +154,32 @@ lawful_till l f s x xs inner rest last y e h u =
     let v : IsLawful l f ((s ++ x ∷ inner) ++ rest) = subst (λ z. IsLawful l f z) q u in
     subst (λ z. IsLawful l f z) e (lawful_before l (s ++ x ∷ inner) rest (empty f) v)
 
-pub answer_at : (l : Law) (f : ℕ) (r : Reply) (m : List Event) (x : Event) (b : List Event) (y : Event) → m ≡ b → x ≡ y → Answers l.equal (placed (empty f) b) (asked l r) (answered r.told) (placed (empty f) (b ++ y ∷ [])) → Answers l.equal (placed (empty f) m) (asked l r) (answered r.told) (placed (empty f) (m ++ x ∷ []))
+pub answer_at : (l : Law) (f : ℕ) (r : Finished) (m : List Event) (x : Event) (b : List Event) (y : Event) → m ≡ b → x ≡ y → Answers l.equal (placed (empty f) b) (asked l r) (answered r.reply) (placed (empty f) (b ++ y ∷ [])) → Answers l.equal (placed (empty f) m) (asked l r) (answered r.reply) (placed (empty f) (m ++ x ∷ []))
 answer_at l f r m x b y e g k = rw (e, g) k
 
 -- at the moment of its reply a call has the list object's answer
-pub answer_here : (l : Law) (f : ℕ) → IsFirst f → (s : List Event) (x : Event) (xs : List Event) (c : Call) (a : Answer) (r : Reply) → IsLawful l f (s ++ x ∷ xs) → acts (after f s) x ≡ Some (Goes c a) → fate (after f s) (x ∷ xs) c.number ≡ Some r → is_moment r.told c.state.phase a ≡ true → (is_refusal r.told ≡ true → has_later may_be_refused (happens (after f s) x) xs c.number ≡ false) → Answers l.equal (placed (empty f) s) (asked l r) (answered r.told) (placed (empty f) s ++ placed_by (Some (Goes c a)))
+pub answer_here : (l : Law) (f : ℕ) → IsFirstCapacity f → (s : List Event) (x : Event) (xs : List Event) (c : Call) (a : Answer) (r : Finished) → IsLawful l f (s ++ x ∷ xs) → acts (after f s) x ≡ Some (Goes c a) → fate (after f s) (x ∷ xs) c.number ≡ Some r → is_moment r.reply c.state.phase a ≡ true → (is_refusal r.reply ≡ true → has_later may_be_refused (happens (after f s) x) xs c.number ≡ false) → Answers l.equal (placed (empty f) s) (asked l r) (answered r.reply) (placed (empty f) s ++ placed_by (Some (Goes c a)))
 answer_here l f i s x xs c a r u h e m z =
     let t = ending f s x xs c.number r e in
     let g = t.0 in
-    let k : IsRight l f (g.last ++ g.event ∷ []) r = right l f g.last g.event r i (lawful_till l f s x xs g.inner g.rest g.last g.event g.till g.split u) g.told (moment_of_list r.told c.state.phase a m) in
+    let k : IsRight l f (g.last ++ g.event ∷ []) r = right l f g.last g.event r i (lawful_till l f s x xs g.inner g.rest g.last g.event g.till g.split u) g.reply (moment_of_list r.reply c.state.phase a m) in
     let eq : s ++ x ∷ g.inner ≡ k.at.before ++ k.at.event ∷ k.at.rest = g.till ∙ k.at.split in
-    let early : is_refusal r.told ≡ true → has_later may_be_refused (after f (s ++ x ∷ [])) g.inner r.call ≡ false = λ q. (
+    let early : is_refusal r.reply ≡ true → has_later may_be_refused (after f (s ++ x ∷ [])) g.inner r.call ≡ false = λ q. (
     let y : has_later may_be_refused (happens (after f s) x) (g.inner ++ g.rest) c.number ≡ false = rw g.split at (z q) in
     let y2 : has_later may_be_refused (after f (s ++ x ∷ [])) (g.inner ++ g.rest) c.number ≡ false = rw (after_snoc f s x) y in
     let y3 = or-false _ _ (sym (has_later_append may_be_refused g.inner g.rest (after f (s ++ x ∷ [])) c.number) ∙ y2) in
     subst (λ n. has_later may_be_refused (after f (s ++ x ∷ [])) g.inner n ≡ false) (sym t.1) y3.0) in
-    let w = same_moment f i r.told r.call s x g.inner k.at.before k.at.event k.at.rest c k.at.call a k.at.found eq h (sym t.1) m early k.at.taken k.at.own k.moment k.last (cut s x g.inner k.at.before k.at.event k.at.rest eq) in
-    let ans : Answers l.equal (placed (empty f) s) (asked l r) (answered r.told) (placed (empty f) (s ++ x ∷ [])) = answer_at l f r s x k.at.before k.at.event w.before w.event k.answer in
-    subst (λ v. Answers l.equal (placed (empty f) s) (asked l r) (answered r.told) v) (placed_snoc f s x ∙ ap (λ o. placed (empty f) s ++ placed_by o) h) ans
+    let w = same_moment f i r.reply r.call s x g.inner k.at.before k.at.event k.at.rest c k.at.call a k.at.found eq h (sym t.1) m early k.at.taken k.at.own k.moment k.last (cut s x g.inner k.at.before k.at.event k.at.rest eq) in
+    let ans : Answers l.equal (placed (empty f) s) (asked l r) (answered r.reply) (placed (empty f) (s ++ x ∷ [])) = answer_at l f r s x k.at.before k.at.event w.before w.event k.answer in
+    subst (λ v. Answers l.equal (placed (empty f) s) (asked l r) (answered r.reply) v) (placed_snoc f s x ∙ ap (λ o. placed (empty f) s ++ placed_by o) h) ans
 
 -- A call that has placed its value is told so
 
-pub placed_told_at : (t : Table) (s : CallState) (p : Phase) (o : Outcome) (v : Option ℕ) (b : Told) → told_of_outcome o t s v ≡ Some b → ((i : ℕ) → in_table p (Existing i) ≡ false) → in_table p o ≡ true → (u : ℕ) × (b ≡ ToldPlaced u)
+pub placed_told_at : (t : Table) (s : CallState) (p : Phase) (o : Outcome) (v : Option ℕ) (b : Reply) → reply_of_outcome o t s v ≡ Some b → ((i : ℕ) → in_table p (Existing i) ≡ false) → in_table p o ≡ true → (u : ℕ) × (b ≡ ReplyPlaced u)
 placed_told_at t s p Pending None b h n k = absurd (cc)
 placed_told_at t s p Pending (Some v) b h n k = absurd (cc)
 placed_told_at t s p (New i) None b h n k = absurd (cc)
-placed_told_at t s p (New i) (Some v) b h n k = (v, (let z : ToldPlaced v ≡ b = cc in sym z))
+placed_told_at t s p (New i) (Some v) b h n k = (v, (let z : ReplyPlaced v ≡ b = cc in sym z))
 placed_told_at t s p (Existing i) v b h n k = absurd (let z : in_table p (Existing i) ≡ false = n i in cc)
 
 abbrev not_in_table : Phase → Bool → Outcome → Bool
@@ -190,7 +191,7 @@ never_placed p h b o f k = not_both_ways (in_table p o) (imply (fitting b p o) _
 pub pending_not_placed : (p : Phase) (o : Outcome) → (in_table p Pending ≡ false) → is_pending o ≡ true → in_table p o ≡ true → ⊥
 pending_not_placed p o n h k = let e : o ≡ Pending = pending_of o h in let z : in_table p Pending ≡ true = rw e at k in cc
 
-pub placed_told : (w : World) (c : Call) {p : Phase} {x : Event} {a : Answer} {r : CallState} {ls : List ℕ} {t : Table} {q : Option Told} → Row w c p x a r ls t q → fitting (is_some c.value) p c.state.outcome ≡ true → in_table p c.state.outcome ≡ true → (b : Told) → q ≡ Some b → (u : ℕ) × (b ≡ ToldPlaced u)
+pub placed_told : (w : World) (c : Call) {p : Phase} {x : Event} {a : Answer} {r : CallState} {ls : List ℕ} {t : Table} {q : Option Reply} → Row w c p x a r ls t q → fitting (is_some c.value) p c.state.outcome ≡ true → in_table p c.state.outcome ≡ true → (b : Reply) → q ≡ Some b → (u : ℕ) × (b ≡ ReplyPlaced u)
 placed_told w c (leaves_refused _) f k b h = absurd (never_placed LeaveRefused (refl, λ i. refl, λ i. refl, refl, λ i. refl, λ i. refl) (is_some c.value) c.state.outcome f k)
 placed_told w c (small _ _ _ _) f k b h = placed_told_at w.table c.state AskSize c.state.outcome c.value b h (λ i. refl) k
 placed_told w c (ends _ _) f k b h = placed_told_at w.table c.state LeaveOwned c.state.outcome c.value b h (λ i. refl) k

@@ -5,8 +5,8 @@ use Rattle.table_core.specs.Bags.{weigh, SameBag}
 use Rattle.table_core.specs.Calls.{Call, starts}
 use Rattle.table_core.specs.Steps.{left, Opens, opens_insert, opens_lookup, opens_len, opens_walk}
 use Rattle.table_core.proofs.Lists.{weigh-append, weigh-set, weigh-flat_map}
-use Rattle.table_core.specs.Replies.{Reply}
-use Rattle.table_core.specs.Generations.{IsFirst}
+use Rattle.table_core.specs.Replies.{Finished}
+use Rattle.terms.specs.Capacities.{IsFirstCapacity}
 use Rattle.table_core.specs.Machine.{World, empty, Act, Begins, acts, happens, run, after}
 use Rattle.table_core.specs.History.{replies, placed_by, placed, given_by, given, back, kept, running}
 use Rattle.table_core.specs.declared.event.Event.{Event}
@@ -26,7 +26,7 @@ use Rattle.table_core.proofs.Tracks.{keeps_tracked, tracked_empty}
 use Rattle.table_core.proofs.Places.{carried, keeps_placing, placing_empty, values_stay_at, kept_is_placed_at}
 
 -- each turn keeps all of it
-pub keeps : {w v : World} {x : Event} {a : Option Act} {r : Option Reply} (m : List ℕ) (rs : List Reply) → Turn w x a v r → Inv w m rs → Inv v (m ++ placed_by a) (rs ++ option_to_list r)
+pub keeps : {w v : World} {x : Event} {a : Option Act} {r : Option Finished} (m : List ℕ) (rs : List Finished) → Turn w x a v r → Inv w m rs → Inv v (m ++ placed_by a) (rs ++ option_to_list r)
 keeps m rs s i = record {
   locked = keeps_locks s i.locked;
   calls = keeps_calls s i.locked i.calls;
@@ -41,7 +41,7 @@ keeps m rs s i = record {
   placing = keeps_placing m rs s i.calls i.tracked i.placing;
 }
 
-pub inv_empty : (f : ℕ) → IsFirst f → Inv (empty f) [] []
+pub inv_empty : (f : ℕ) → IsFirstCapacity f → Inv (empty f) [] []
 inv_empty f h = record {
   locked = locked_empty f;
   calls = calls_empty f;
@@ -63,7 +63,7 @@ pub inv_snoc : (f : ℕ) (s : List Event) (x : Event) → InvAfter f s → InvAf
 inv_snoc f s x i = rw (placed_snoc f s x, replies_snoc f s x) (keeps (placed (empty f) s) (replies (empty f) s) (turn_after f s x) i)
 
 -- the invariant of each moment
-pub inv : (f : ℕ) → IsFirst f → (s : List Event) → InvAfter f s
+pub inv : (f : ℕ) → IsFirstCapacity f → (s : List Event) → InvAfter f s
 inv f h s = by_snoc (InvAfter f) (inv_empty f h) (inv_snoc f) s
 
 pub first_stays : (f : ℕ) (s : List Event) → (after f s).table.first ≡ f
@@ -83,7 +83,7 @@ given_opens c (opens_lookup n k) = refl
 given_opens c (opens_len n) = refl
 given_opens c (opens_walk n) = refl
 
-carried_turn : (h : ℕ → ℕ) {w v : World} {x : Event} {a : Option Act} {r : Option Reply} → Turn w x a v r → weigh h (carried v.calls) ≡ weigh h (carried w.calls) + weigh h (given_by a x)
+carried_turn : (h : ℕ → ℕ) {w v : World} {x : Event} {a : Option Act} {r : Option Finished} → Turn w x a v r → weigh h (carried v.calls) ≡ weigh h (carried w.calls) + weigh h (given_by a x)
 carried_turn h rests = omega arith
 carried_turn h {w = w} (opens n v p k i o u g) =
     let all : (cs : List Call) → weigh h (carried cs) ≡ weigh (λ c. weigh h (option_to_list c.value)) cs = weigh-flat_map h (λ (c : Call). option_to_list c.value) in
@@ -96,17 +96,17 @@ given_is_carried : (h : ℕ → ℕ) (f : ℕ) (s : List Event) → weigh h (giv
 given_is_carried h f s = by_snoc (λ s. weigh h (given (empty f) s) ≡ weigh h (carried (after f s).calls)) refl
     (λ s x e. omega (arith, e, given_append h s (x ∷ []) (empty f), weigh-append h (given_by (acts (after f s) x) x) [], carried_turn h (turn_after f s x))) s
 
-pub carried_stay : (f : ℕ) (s : List Event) → IsFirst f → SameBag (carried (after f s).calls) (back (replies (empty f) s) ++ kept (after f s) ++ running (after f s).calls)
+pub carried_stay : (f : ℕ) (s : List Event) → IsFirstCapacity f → SameBag (carried (after f s).calls) (back (replies (empty f) s) ++ kept (after f s) ++ running (after f s).calls)
 carried_stay f s h = let i = inv f h s in values_stay_at (after f s) (placed (empty f) s) (replies (empty f) s) i.calls i.holding i.placing
 
-pub values_stay : (f : ℕ) (s : List Event) → IsFirst f → ValuesStay f s
+pub values_stay : (f : ℕ) (s : List Event) → IsFirstCapacity f → ValuesStay f s
 values_stay f s h k = given_is_carried k f s ∙ carried_stay f s h k
 
-pub kept_is_placed : (f : ℕ) (s : List Event) → IsFirst f → KeptIsPlaced f s
+pub kept_is_placed : (f : ℕ) (s : List Event) → IsFirstCapacity f → KeptIsPlaced f s
 kept_is_placed f s h = kept_is_placed_at (after f s) (placed (empty f) s) (inv f h s).holding
 
-pub placed_grows : (f : ℕ) (s more : List Event) → IsFirst f → PlacedGrows f s more
+pub placed_grows : (f : ℕ) (s more : List Event) → IsFirstCapacity f → PlacedGrows f s more
 placed_grows f s more h = (placed (after f s) more, placed_append s more (empty f))
 
-pub few_buckets : (f : ℕ) (s : List Event) → IsFirst f → FewBuckets f s
+pub few_buckets : (f : ℕ) (s : List Event) → IsFirstCapacity f → FewBuckets f s
 few_buckets f s h = rw (first_stays f s) at (few_buckets_at (after f s).table (length (placed (empty f) s)) (inv f h s).roomy)

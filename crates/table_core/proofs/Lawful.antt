@@ -3,10 +3,13 @@ use Rattle.std.proofs.Common.{ℕ, suc, ◌≡◌, ◌+◌, ◌-◌, ◌%◌, �
 use Rattle.std.specs.Prelude.{◌==◌, ◌&&◌, nat_lt, option_to_list}
 use Rattle.std.specs.List.{slice_get}
 use Rattle.table_core.specs.Bags.{weigh}
-use Rattle.table_core.specs.Replies.{Told, Reply}
-use Rattle.table_core.specs.Generations.{Gen, Build, Table, IsFirst, bits_of, bucket, put_in, at_place, first_empty, fresh, fill, count, copy_in, last_of, current, gen_of, bucket_in, change_at, change, next_capacity, entries_of, entry_left, copy_on, built}
+use Rattle.table_core.specs.Replies.{Reply, Finished}
+use Rattle.table_core.specs.Generations.{Gen, Build, Table, bucket, put_in, first_empty, fresh, fill, count, copy_in, last_of, current, gen_of, bucket_in, change_at, change, next_capacity, entries_of, entry_left, copy_on, built}
+use Rattle.terms.specs.Hashes.{bits_of}
+use Rattle.terms.specs.Probes.{bucket_at}
+use Rattle.terms.specs.Capacities.{IsFirstCapacity}
 use Rattle.table_core.specs.Calls.{Call, starts}
-use Rattle.table_core.specs.Machine.{World, empty, bucket_at, place, begin_growth, Act, Goes, happens, run, after}
+use Rattle.table_core.specs.Machine.{World, empty, bucket_of, place, begin_growth, Act, Goes, happens, run, after}
 use Rattle.table_core.specs.History.{replies, placed_by, placed}
 use Rattle.table_core.specs.Steps.{accepts, turned, Row, shares, loads_none, loads, reads_empty, meets, turns, goes_on, puts, loses_meets, loses_turns, loses_goes_on, adds, leaves_grow, large, owns, begins_first, fails_first, unwanted, fails_largest, fails_refused, begins_next, copies, shows, looks, look_meets, look_goes_on, len_loads, walk_loads, Opens, opens_insert, opens_lookup, opens_len, opens_walk, left}
 use Rattle.table_core.specs.declared.event.Event.{Event}
@@ -39,22 +42,22 @@ use Rattle.table_core.proofs.Sizes.{place_building}
 -- What a probe misses
 
 -- an accepted entry would be among those passed
-pub passed_all : (l : Law) (c : Call) (g : Gen) (seen d : ℕ) (e : Entry) → Seated g → Missed l c g seen → In e g.entries → e.place ≡ at_place g.capacity c.state.hash d → d < seen → accepts_value l c e.value ≡ true → ⊥
+pub passed_all : (l : Law) (c : Call) (g : Gen) (seen d : ℕ) (e : Entry) → Seated g → Missed l c g seen → In e g.entries → e.index ≡ bucket_at g.capacity c.state.hash d → d < seen → accepts_value l c e.value ≡ true → ⊥
 passed_all l c g seen d e s p i t lt y =
-    let a : bucket g.entries (at_place g.capacity c.state.hash d) ≡ Some e = rw (← t) (s.own e i) in
+    let a : bucket g.entries (bucket_at g.capacity c.state.hash d) ≡ Some e = rw (← t) (s.own e i) in
     let z : accepts_value l c e.value ≡ false = p.none d e lt a in
     cc
 
 -- where the probe meets an empty bucket, no entry is accepted
-pub misses_at_empty : (l : Law) (c : Call) (g : Gen) (seen : ℕ) → Seated g → Reached l g → Missed l c g seen → ((x : ℕ) → accepts_value l c x ≡ true → l.hash x ≡ c.state.hash) → bucket g.entries (at_place g.capacity c.state.hash seen) ≡ None → (e : Entry) → In e g.entries → accepts_value l c e.value ≡ false
+pub misses_at_empty : (l : Law) (c : Call) (g : Gen) (seen : ℕ) → Seated g → Reached l g → Missed l c g seen → ((x : ℕ) → accepts_value l c x ≡ true → l.hash x ≡ c.state.hash) → bucket g.entries (bucket_at g.capacity c.state.hash seen) ≡ None → (e : Entry) → In e g.entries → accepts_value l c e.value ≡ false
 misses_at_empty l c g seen u r p t n e i = not-true _ (λ y.
     let h : l.hash e.value ≡ c.state.hash = t e.value y in
-    let k : Way g.capacity g.entries c.state.hash e.place = rw h at (r.way e i) in
+    let k : Way g.capacity g.entries c.state.hash e.index = rw h at (r.way e i) in
     elim (order k.steps seen) [
       | inl lt ↦ passed_all l c g seen k.steps e u p i k.there lt y
       | inr o ↦ elim o [
-        | inl q ↦ (let a : bucket g.entries e.place ≡ Some e = u.own e i in let b : bucket g.entries e.place ≡ None = rw (k.there, q) n in cc)
-        | inr gt ↦ (let s = k.set seen gt in let a : bucket g.entries (at_place g.capacity c.state.hash seen) ≡ Some s.0 = s.1 in cc)
+        | inl q ↦ (let a : bucket g.entries e.index ≡ Some e = u.own e i in let b : bucket g.entries e.index ≡ None = rw (k.there, q) n in cc)
+        | inr gt ↦ (let s = k.set seen gt in let a : bucket g.entries (bucket_at g.capacity c.state.hash seen) ≡ Some s.0 = s.1 in cc)
       ]
     ])
 
@@ -62,10 +65,10 @@ misses_at_empty l c g seen u r p t n e i = not-true _ (λ y.
 pub misses_at_turn : (l : Law) (c : Call) (g : Gen) (seen : ℕ) → Seated g → Reached l g → Missed l c g seen → ((x : ℕ) → accepts_value l c x ≡ true → l.hash x ≡ c.state.hash) → g.capacity ≤ seen → (e : Entry) → In e g.entries → accepts_value l c e.value ≡ false
 misses_at_turn l c g seen u r p t n e i = not-true _ (λ y.
     let h : l.hash e.value ≡ c.state.hash = t e.value y in
-    let k : Way g.capacity g.entries c.state.hash e.place = rw h at (r.way e i) in
+    let k : Way g.capacity g.entries c.state.hash e.index = rw h at (r.way e i) in
     let pos : 0 < g.capacity = u.roomy in
     let lt : k.steps % g.capacity < g.capacity = mod-lt k.steps pos in
-    let there : e.place ≡ at_place g.capacity c.state.hash (k.steps % g.capacity) = k.there ∙ sym (add-mod-mod c.state.hash k.steps g.capacity) in
+    let there : e.index ≡ bucket_at g.capacity c.state.hash (k.steps % g.capacity) = k.there ∙ sym (add-mod-mod c.state.hash k.steps g.capacity) in
     passed_all l c g seen (k.steps % g.capacity) e u p i there (omega arith) y)
 
 -- Generations that have grown
@@ -73,11 +76,11 @@ misses_at_turn l c g seen u r p t n e i = not-true _ (λ y.
 pub same_entry : (d e : Entry) (o : Option Entry) → o ≡ Some d → o ≡ Some e → d ≡ e
 same_entry d e o h k = let x : Some d ≡ Some e = sym h ∙ k in cc
 
-pub missed_grown : (l : Law) (c : Call) (g h : Gen) (n : ℕ) → Grew g h → ((j : ℕ) → j < n → IsSet g.entries (at_place g.capacity c.state.hash j)) → Missed l c g n → Missed l c h n
+pub missed_grown : (l : Law) (c : Call) (g h : Gen) (n : ℕ) → Grew g h → ((j : ℕ) → j < n → IsSet g.entries (bucket_at g.capacity c.state.hash j)) → Missed l c g n → Missed l c h n
 missed_grown l c g h n w s m = record {
   none = λ j e lt b.
       let f = s j lt in
-      let k : bucket h.entries (at_place h.capacity c.state.hash j) ≡ Some f.0 = rw w.capacity (w.kept _ _ f.1) in
+      let k : bucket h.entries (bucket_at h.capacity c.state.hash j) ≡ Some f.0 = rw w.capacity (w.kept _ _ f.1) in
       let q : f.0 ≡ e = same_entry f.0 e _ k b in
       rw (← q) (m.none j f.0 lt f.1);
 }
@@ -123,22 +126,22 @@ judged_grown l gens now c g t j = record {
 
 -- A call that moves
 
-pub row_asking : (w : World) (c : Call) {p : Phase} {x : Event} {a : Answer} {r : CallState} {ls : List ℕ} {t : Table} {q : Option Told} → Row w c p x a r ls t q → is_asking r.phase ≡ true → is_asking p ≡ true
+pub row_asking : (w : World) (c : Call) {p : Phase} {x : Event} {a : Answer} {r : CallState} {ls : List ℕ} {t : Table} {q : Option Reply} → Row w c p x a r ls t q → is_asking r.phase ≡ true → is_asking p ≡ true
 row_asking w c (shares _ _) h = refl
 row_asking w c _ h = cc
 
-pub row_hash : (w : World) (c : Call) {p : Phase} {x : Event} {a : Answer} {r : CallState} {ls : List ℕ} {t : Table} {q : Option Told} → Row w c p x a r ls t q → r.hash ≡ c.state.hash
+pub row_hash : (w : World) (c : Call) {p : Phase} {x : Event} {a : Answer} {r : CallState} {ls : List ℕ} {t : Table} {q : Option Reply} → Row w c p x a r ls t q → r.hash ≡ c.state.hash
 row_hash w c (shares _ _) = refl
 row_hash w c _ = refl
 
 -- an answer yes where the bits agree: the entry is accepted
-pub accepted_at : (l : Law) (w : World) (c : Call) (p : Phase) (x : Event) (e : Entry) (y : Bool) → c.state.phase ≡ p → (UsesBy l w c p x → AsksBy l w c y) → bucket_at w.table c.state ≡ Some e → accepts e c.state y ≡ true → UsesBy l w c c.state.phase x → accepts_value l c e.value ≡ true
+pub accepted_at : (l : Law) (w : World) (c : Call) (p : Phase) (x : Event) (e : Entry) (y : Bool) → c.state.phase ≡ p → (UsesBy l w c p x → AsksBy l w c y) → bucket_of w.table c.state ≡ Some e → accepts e c.state y ≡ true → UsesBy l w c c.state.phase x → accepts_value l c e.value ≡ true
 accepted_at l w c p x e y k s q f u =
     let b : ((e.bits == bits_of c.state.hash) ≡ true) × (y ≡ true) = and_both (e.bits == bits_of c.state.hash) y f in
     sym (s (subst (λ z. UsesBy l w c z x) k u) e q (eqb-true e.bits (bits_of c.state.hash) b.0)) ∙ b.1
 
 -- an answer no, or other bits: the entry isn't accepted
-pub refused_at : (l : Law) (w : World) (c : Call) (p : Phase) (x : Event) (e : Entry) (y b : Bool) → (e.bits == bits_of c.state.hash) ≡ b → c.state.phase ≡ p → (UsesBy l w c p x → AsksBy l w c y) → bucket_at w.table c.state ≡ Some e → (b && y) ≡ false → UsesBy l w c c.state.phase x → e.bits ≡ bits_of (l.hash e.value) → ((x : ℕ) → accepts_value l c x ≡ true → l.hash x ≡ c.state.hash) → accepts_value l c e.value ≡ false
+pub refused_at : (l : Law) (w : World) (c : Call) (p : Phase) (x : Event) (e : Entry) (y b : Bool) → (e.bits == bits_of c.state.hash) ≡ b → c.state.phase ≡ p → (UsesBy l w c p x → AsksBy l w c y) → bucket_of w.table c.state ≡ Some e → (b && y) ≡ false → UsesBy l w c c.state.phase x → e.bits ≡ bits_of (l.hash e.value) → ((x : ℕ) → accepts_value l c x ≡ true → l.hash x ≡ c.state.hash) → accepts_value l c e.value ≡ false
 refused_at l w c p x e y true h k s q f u m t = sym (s (subst (λ z. UsesBy l w c z x) k u) e q (eqb-true e.bits (bits_of c.state.hash) h)) ∙ f
 refused_at l w c p x e y false h k s q f u m t = not-true _ (λ z. let n : l.hash e.value ≡ c.state.hash = t e.value z in let v : e.bits ≡ bits_of c.state.hash = rw n at m in let o : eqb e.bits (bits_of c.state.hash) ≡ true = eq-eqb _ _ v in cc)
 
@@ -149,18 +152,18 @@ abbrev pub HasHash : Law → Call → Type 0
 HasHash l c = (x : ℕ) → accepts_value l c x ≡ true → l.hash x ≡ c.state.hash
 
 -- what a probing call knows where it reads an entry that it doesn't accept
-pub refused_by : (l : Law) (w : World) (c : Call) (p : Phase) (x : Event) (e : Entry) (y : Bool) → AllReached l w → c.state.phase ≡ p → (UsesBy l w c p x → AsksBy l w c y) → bucket_at w.table c.state ≡ Some e → accepts e c.state y ≡ false → UsesBy l w c c.state.phase x → HasHash l c → Probing w.table.gens c → accepts_value l c e.value ≡ false
+pub refused_by : (l : Law) (w : World) (c : Call) (p : Phase) (x : Event) (e : Entry) (y : Bool) → AllReached l w → c.state.phase ≡ p → (UsesBy l w c p x → AsksBy l w c y) → bucket_of w.table c.state ≡ Some e → accepts e c.state y ≡ false → UsesBy l w c c.state.phase x → HasHash l c → Probing w.table.gens c → accepts_value l c e.value ≡ false
 refused_by l w c p x e y r h s b f u t q = refused_at l w c p x e y _ refl h s b f u ((r q.number q.gen q.got).bits e (in_bucket e q.gen.entries c.state.index (bucket_some w.table c.state q.number q.gen e q.walked q.got b))) t
 
 -- the buckets of a probe up to the one that it reads
-pub missed_more : (l : Law) (w : World) (c : Call) (e : Entry) → (q : Probing w.table.gens c) → bucket_at w.table c.state ≡ Some e → accepts_value l c e.value ≡ false → ((k : ℕ) (g : Gen) → c.state.walked ≡ Some k → slice_get w.table.gens k ≡ Some g → Missed l c g c.state.seen) → Missed l c q.gen (c.state.seen + 1)
+pub missed_more : (l : Law) (w : World) (c : Call) (e : Entry) → (q : Probing w.table.gens c) → bucket_of w.table c.state ≡ Some e → accepts_value l c e.value ≡ false → ((k : ℕ) (g : Gen) → c.state.walked ≡ Some k → slice_get w.table.gens k ≡ Some g → Missed l c g c.state.seen) → Missed l c q.gen (c.state.seen + 1)
 missed_more l w c e q b n m = record {
   none = λ j d lt h. elim (order j c.state.seen) [
     | inl k ↦ (m q.number q.gen q.walked q.got).none j d k h
     | inr o ↦ elim o [
       | inl s ↦ (
-          let at : bucket q.gen.entries (at_place q.gen.capacity c.state.hash c.state.seen) ≡ Some e = rw (← q.index) (bucket_some w.table c.state q.number q.gen e q.walked q.got b) in
-          let at2 : bucket q.gen.entries (at_place q.gen.capacity c.state.hash j) ≡ Some e = rw s at in
+          let at : bucket q.gen.entries (bucket_at q.gen.capacity c.state.hash c.state.seen) ≡ Some e = rw (← q.index) (bucket_some w.table c.state q.number q.gen e q.walked q.got b) in
+          let at2 : bucket q.gen.entries (bucket_at q.gen.capacity c.state.hash j) ≡ Some e = rw s at in
           let z : e ≡ d = same_entry e d _ at2 h in
           rw (← z) n)
       | inr k ↦ absurd (omega arith)
@@ -175,11 +178,11 @@ missed_as l gens c d n q a b e m k g wa ge =
     let s : q.gen ≡ g = same_gen gens k q.gen g y ge in
     record {
       none = λ j f lt h.
-          let z : bucket q.gen.entries (at_place q.gen.capacity c.state.hash j) ≡ Some f = rw (s, ← e) h in
+          let z : bucket q.gen.entries (bucket_at q.gen.capacity c.state.hash j) ≡ Some f = rw (s, ← e) h in
           rw (a, b) (m.none j f lt z);
     }
 
-pub judged_probes : (l : Law) (w : World) (c : Call) {p : Phase} {x : Event} {a : Answer} {r : CallState} {ls : List ℕ} {t : Table} {q : Option Told} → Row w c p x a r ls t q → c.state.phase ≡ p → UsesBy l w c c.state.phase x → AllReached l w → (is_asking p ≡ true → HasHash l c) → (probing p ≡ true → Probing w.table.gens c) → (probing p ≡ true → (k : ℕ) (g : Gen) → c.state.walked ≡ Some k → slice_get w.table.gens k ≡ Some g → Missed l c g c.state.seen) → probing r.phase ≡ true → (k : ℕ) (g : Gen) → r.walked ≡ Some k → slice_get w.table.gens k ≡ Some g → Missed l (left c r ls) g r.seen
+pub judged_probes : (l : Law) (w : World) (c : Call) {p : Phase} {x : Event} {a : Answer} {r : CallState} {ls : List ℕ} {t : Table} {q : Option Reply} → Row w c p x a r ls t q → c.state.phase ≡ p → UsesBy l w c c.state.phase x → AllReached l w → (is_asking p ≡ true → HasHash l c) → (probing p ≡ true → Probing w.table.gens c) → (probing p ≡ true → (k : ℕ) (g : Gen) → c.state.walked ≡ Some k → slice_get w.table.gens k ≡ Some g → Missed l c g c.state.seen) → probing r.phase ≡ true → (k : ℕ) (g : Gen) → r.walked ≡ Some k → slice_get w.table.gens k ≡ Some g → Missed l (left c r ls) g r.seen
 judged_probes l w c (loads _ _ _) e u r t q m z = λ k g wa ge. record { none = λ j f lt h. absurd (omega arith) }
 judged_probes l w c (looks _ _ _) e u r t q m z = λ k g wa ge. record { none = λ j f lt h. absurd (omega arith) }
 judged_probes l w c (goes_on n y d b f lt) e u r t q m z = missed_as l w.table.gens c _ _ (q refl) refl refl refl (missed_more l w c d (q refl) b (refused_by l w c Probe (Read n y) d y r e (λ x. x) b f u (t refl) (q refl)) (m refl))
@@ -200,14 +203,14 @@ missed_all l w c r ls e q lt m k g wa ge =
     let cap : c.state.capacity ≡ g.capacity = rw s at q.capacity in
     record {
       none = λ j f k2 b.
-          let z : bucket q.gen.entries (at_place q.gen.capacity c.state.hash j) ≡ Some f = rw (s, ← h) b in
+          let z : bucket q.gen.entries (bucket_at q.gen.capacity c.state.hash j) ≡ Some f = rw (s, ← h) b in
           m.none j f (omega arith) z;
     }
 
 pub missed_same : (l : Law) (gens : List Gen) (c : Call) (s : CallState) (ls : List ℕ) → s.walked ≡ c.state.walked → s.hash ≡ c.state.hash → ((k : ℕ) (g : Gen) → c.state.walked ≡ Some k → slice_get gens k ≡ Some g → Missed l c g g.capacity) → (k : ℕ) (g : Gen) → s.walked ≡ Some k → slice_get gens k ≡ Some g → Missed l (left c s ls) g g.capacity
-missed_same l gens c s ls e h m k g wa ge = record { none = λ j f lt b. let z : bucket g.entries (at_place g.capacity c.state.hash j) ≡ Some f = rw (← h) b in (m k g (sym e ∙ wa) ge).none j f lt z }
+missed_same l gens c s ls e h m k g wa ge = record { none = λ j f lt b. let z : bucket g.entries (bucket_at g.capacity c.state.hash j) ≡ Some f = rw (← h) b in (m k g (sym e ∙ wa) ge).none j f lt z }
 
-pub judged_turned : (l : Law) (w : World) (c : Call) {p : Phase} {x : Event} {a : Answer} {r : CallState} {ls : List ℕ} {t : Table} {q : Option Told} → Row w c p x a r ls t q → c.state.phase ≡ p → fitting (is_some c.value) p c.state.outcome ≡ true → UsesBy l w c c.state.phase x → AllReached l w → (is_asking p ≡ true → HasHash l c) → (probing p ≡ true → Probing w.table.gens c) → (probing p ≡ true → (k : ℕ) (g : Gen) → c.state.walked ≡ Some k → slice_get w.table.gens k ≡ Some g → Missed l c g c.state.seen) →
+pub judged_turned : (l : Law) (w : World) (c : Call) {p : Phase} {x : Event} {a : Answer} {r : CallState} {ls : List ℕ} {t : Table} {q : Option Reply} → Row w c p x a r ls t q → c.state.phase ≡ p → fitting (is_some c.value) p c.state.outcome ≡ true → UsesBy l w c c.state.phase x → AllReached l w → (is_asking p ≡ true → HasHash l c) → (probing p ≡ true → Probing w.table.gens c) → (probing p ≡ true → (k : ℕ) (g : Gen) → c.state.walked ≡ Some k → slice_get w.table.gens k ≡ Some g → Missed l c g c.state.seen) →
     (wants_growth p c.state.outcome ≡ true → (k : ℕ) (g : Gen) → c.state.walked ≡ Some k → slice_get w.table.gens k ≡ Some g → Missed l c g g.capacity) →
     wants_growth r.phase r.outcome ≡ true → (k : ℕ) (g : Gen) → r.walked ≡ Some k → slice_get w.table.gens k ≡ Some g → Missed l (left c r ls) g g.capacity
 judged_turned l w c (loads_none _ _) e f u r t q m v z = λ k g wa ge. absurd (cc)
@@ -226,14 +229,14 @@ judged_turned l w c (copies _ _ _ _) e f u r t q m v z = missed_same l w.table.g
 judged_turned l w c (shows _ _) e f u r t q m v z = missed_same l w.table.gens c _ _ refl refl (v (growth_from Building LeaveOwned refl (λ i. refl) (λ i. refl) c.state.outcome z))
 judged_turned l w c _ e f u r t q m v z = absurd (cc)
 
-pub met_accepted : (l : Law) (w : World) (c : Call) (d : Entry) → bucket_at w.table c.state ≡ Some d → accepts_value l c d.value ≡ true → (i : ℕ) (e : Entry) → Existing c.state.index ≡ Existing i → bucket_in (gen_of w.table.gens c.state.walked) i ≡ Some e → accepts_value l c e.value ≡ true
+pub met_accepted : (l : Law) (w : World) (c : Call) (d : Entry) → bucket_of w.table c.state ≡ Some d → accepts_value l c d.value ≡ true → (i : ℕ) (e : Entry) → Existing c.state.index ≡ Existing i → bucket_in (gen_of w.table.gens c.state.walked) i ≡ Some e → accepts_value l c e.value ≡ true
 met_accepted l w c d b y i e h k =
     let x : c.state.index ≡ i = cc in
     let z : bucket_in (gen_of w.table.gens c.state.walked) i ≡ Some d = rw (← x) b in
     let q : d ≡ e = same_entry d e _ z k in
     rw (← q) y
 
-pub judged_met : (l : Law) (w : World) (c : Call) {p : Phase} {x : Event} {a : Answer} {r : CallState} {ls : List ℕ} {t : Table} {q : Option Told} → Row w c p x a r ls t q → c.state.phase ≡ p → fitting (is_some c.value) p c.state.outcome ≡ true → UsesBy l w c c.state.phase x → ((i : ℕ) (e : Entry) → c.state.outcome ≡ Existing i → bucket_in (gen_of w.table.gens c.state.walked) i ≡ Some e → accepts_value l c e.value ≡ true) → (i : ℕ) (e : Entry) → r.outcome ≡ Existing i → bucket_in (gen_of w.table.gens r.walked) i ≡ Some e → accepts_value l c e.value ≡ true
+pub judged_met : (l : Law) (w : World) (c : Call) {p : Phase} {x : Event} {a : Answer} {r : CallState} {ls : List ℕ} {t : Table} {q : Option Reply} → Row w c p x a r ls t q → c.state.phase ≡ p → fitting (is_some c.value) p c.state.outcome ≡ true → UsesBy l w c c.state.phase x → ((i : ℕ) (e : Entry) → c.state.outcome ≡ Existing i → bucket_in (gen_of w.table.gens c.state.walked) i ≡ Some e → accepts_value l c e.value ≡ true) → (i : ℕ) (e : Entry) → r.outcome ≡ Existing i → bucket_in (gen_of w.table.gens r.walked) i ≡ Some e → accepts_value l c e.value ≡ true
 judged_met l w c (meets n y d b o) e f u m = met_accepted l w c d b (accepted_at l w c Probe (Read n y) d y e (λ x. x) b o u)
 judged_met l w c (loses_meets n y d b o) e f u m = met_accepted l w c d b (accepted_at l w c AtEmpty (Put n y true) d y e (λ x. x) b o u)
 judged_met l w c (look_meets n y d b o) e f u m = met_accepted l w c d b (accepted_at l w c LookProbe (Read n y) d y e (λ x. x) b o u)
@@ -245,7 +248,7 @@ judged_met l w c (len_loads _ _ _) e f u m = λ i d h k. absurd (load_outcome Le
 judged_met l w c (walk_loads _ _ _) e f u m = λ i d h k. absurd (load_outcome WalkLoad none_walk (is_some c.value) c.state.outcome f i h)
 judged_met l w c _ e f u m = m
 
-pub judged_row : (l : Law) (w : World) (c : Call) {p : Phase} {x : Event} {a : Answer} {r : CallState} {ls : List ℕ} {t : Table} {q : Option Told} → Row w c p x a r ls t q → c.state.phase ≡ p → CallOk (length w.table.gens) c → UsesBy l w c c.state.phase x → AllReached l w → Tracked w.table.gens c → Judged l w.table.gens c → Judged l w.table.gens (left c r ls)
+pub judged_row : (l : Law) (w : World) (c : Call) {p : Phase} {x : Event} {a : Answer} {r : CallState} {ls : List ℕ} {t : Table} {q : Option Reply} → Row w c p x a r ls t q → c.state.phase ≡ p → CallOk (length w.table.gens) c → UsesBy l w c c.state.phase x → AllReached l w → Tracked w.table.gens c → Judged l w.table.gens c → Judged l w.table.gens (left c r ls)
 judged_row l w c row e k u r t j = record {
   hash = λ h x y. j.hash (ap is_asking e ∙ row_asking w c row h) x y ∙ sym (row_hash w c row);
   probes = judged_probes l w c row e u r (λ h. j.hash (ap is_asking e ∙ h)) (λ h. t.probes (ap probing e ∙ h)) (λ h. j.probes (ap probing e ∙ h));
@@ -255,11 +258,11 @@ judged_row l w c row e k u r t j = record {
 
 -- Entries that are put
 
-pub way_put : (capacity hash place : ℕ) (e : Entry) (es : List Entry) → bucket es e.place ≡ None → Way capacity es hash place → Way capacity (put_in e es) hash place
+pub way_put : (capacity hash place : ℕ) (e : Entry) (es : List Entry) → bucket es e.index ≡ None → Way capacity es hash place → Way capacity (put_in e es) hash place
 way_put capacity hash place e es n w = record { steps = w.steps; there = w.there; set = λ j lt. ((w.set j lt).0, put_stays e (w.set j lt).0 es _ n (w.set j lt).1) }
 
 -- an entry put where its way ends keeps all entries reached
-pub reached_put : (l : Law) (g : Gen) (e : Entry) → bucket g.entries e.place ≡ None → e.bits ≡ bits_of (l.hash e.value) → Way g.capacity g.entries (l.hash e.value) e.place → Reached l g → Reached l (fill g e)
+pub reached_put : (l : Law) (g : Gen) (e : Entry) → bucket g.entries e.index ≡ None → e.bits ≡ bits_of (l.hash e.value) → Way g.capacity g.entries (l.hash e.value) e.index → Reached l g → Reached l (fill g e)
 reached_put l g e n b w r = record {
   bits = λ d i. elim (in_put d e g.entries i) [ inl q ↦ rw (← q) b | inr q ↦ r.bits d q ];
   way = λ d i. elim (in_put d e g.entries i) [ inl q ↦ rw (← q) (way_put g.capacity _ _ e g.entries n w) | inr q ↦ way_put g.capacity _ _ e g.entries n (r.way d q) ];
@@ -284,7 +287,7 @@ reach_push l gens (Some b) r q j h x = elim (get-push gens b.gen h j x) [ inl p 
 pub own_hash : (l : Law) (c : Call) (v : ℕ) → c.value ≡ Some v → HasHash l c → l.hash v ≡ c.state.hash
 own_hash l c v e t = t v (rw e (l.reflexive v))
 
-pub reach_put : (l : Law) (w : World) (c : Call) (v : ℕ) → bucket_at w.table c.state ≡ None → c.value ≡ Some v → HasHash l c → Probing w.table.gens c → (k : ℕ) (g : Gen) → c.state.walked ≡ Some k → slice_get w.table.gens k ≡ Some g → Reached l g → Reached l (fill g (entry_of c.state v))
+pub reach_put : (l : Law) (w : World) (c : Call) (v : ℕ) → bucket_of w.table c.state ≡ None → c.value ≡ Some v → HasHash l c → Probing w.table.gens c → (k : ℕ) (g : Gen) → c.state.walked ≡ Some k → slice_get w.table.gens k ≡ Some g → Reached l g → Reached l (fill g (entry_of c.state v))
 reach_put l w c v n e t q k g wa ge r =
     let m : q.number ≡ k = same_walk c.state.walked q.number k q.walked wa in
     let y : slice_get w.table.gens k ≡ Some q.gen = rw m at q.got in
@@ -294,11 +297,11 @@ reach_put l w c v n e t q k g wa ge r =
     let z : Way g.capacity g.entries c.state.hash c.state.index = subst (λ x. Way x.capacity x.entries c.state.hash c.state.index) d s in
     reached_put l g (entry_of c.state v) (bucket_none w.table c.state k g wa ge n) (ap bits_of (sym o)) (subst (λ x. Way g.capacity g.entries x c.state.index) (sym o) z) r
 
-pub reach_place : (l : Law) (w : World) (c : Call) (v : Option ℕ) → bucket_at w.table c.state ≡ None → c.value ≡ v → HasHash l c → Probing w.table.gens c → AllReached l w → (j : ℕ) (h : Gen) → slice_get (place w.table c.state v).gens j ≡ Some h → Reached l h
+pub reach_place : (l : Law) (w : World) (c : Call) (v : Option ℕ) → bucket_of w.table c.state ≡ None → c.value ≡ v → HasHash l c → Probing w.table.gens c → AllReached l w → (j : ℕ) (h : Gen) → slice_get (place w.table c.state v).gens j ≡ Some h → Reached l h
 reach_place l w c None n e t q r = r
 reach_place l w c (Some v) n e t q r = reach_change l w.table.gens c.state.walked (λ g. fill g (entry_of c.state v)) r (λ k g wa ge. reach_put l w c v n e t q k g wa ge (r k g ge))
 
-pub reach_row : (l : Law) (w : World) (c : Call) {p : Phase} {x : Event} {a : Answer} {r : CallState} {ls : List ℕ} {t : Table} {q : Option Told} → Row w c p x a r ls t q → (is_asking p ≡ true → HasHash l c) → (probing p ≡ true → Probing w.table.gens c) → LawOk l w → (j : ℕ) (h : Gen) → slice_get t.gens j ≡ Some h → Reached l h
+pub reach_row : (l : Law) (w : World) (c : Call) {p : Phase} {x : Event} {a : Answer} {r : CallState} {ls : List ℕ} {t : Table} {q : Option Reply} → Row w c p x a r ls t q → (is_asking p ≡ true → HasHash l c) → (probing p ≡ true → Probing w.table.gens c) → LawOk l w → (j : ℕ) (h : Gen) → slice_get t.gens j ≡ Some h → Reached l h
 reach_row l w c (puts _ _ n) t q o = reach_place l w c c.value n refl (t refl) (q refl) o.gens
 reach_row l w c (adds _) t q o = reach_change l w.table.gens c.state.walked count o.gens (λ k g wa ge. reached_count l g (o.gens k g ge))
 reach_row l w c (shows _ _) t q o = reach_push l w.table.gens w.table.building o.gens o.built
@@ -310,13 +313,13 @@ reached_fresh l n = record { bits = λ e i. absurd i; way = λ e i. absurd i }
 pub reach_begin : (l : Law) (w : World) (b : Build) → (begin_growth w.table).building ≡ Some b → Reached l b.gen
 reach_begin l w b e = let z : record { gen = fresh (next_capacity w.table.first (current w.table)); copied = 0 } ≡ b = cc in rw (← z) (reached_fresh l (next_capacity w.table.first (current w.table)))
 
-pub reach_copy : (l : Law) (w : World) (m : List ℕ) (rs : List Reply) (o : Option Build) (e : Entry) (hash : ℕ) → w.table.building ≡ o → entry_left (entries_of (current w.table)) o ≡ Some e → hash ≡ l.hash e.value → e.bits ≡ bits_of (l.hash e.value) → Inv w m rs → ((b : Build) → w.table.building ≡ Some b → Reached l b.gen) → (d : Build) → copy_on o e hash ≡ Some d → Reached l d.gen
+pub reach_copy : (l : Law) (w : World) (m : List ℕ) (rs : List Finished) (o : Option Build) (e : Entry) (hash : ℕ) → w.table.building ≡ o → entry_left (entries_of (current w.table)) o ≡ Some e → hash ≡ l.hash e.value → e.bits ≡ bits_of (l.hash e.value) → Inv w m rs → ((b : Build) → w.table.building ≡ Some b → Reached l b.gen) → (d : Build) → copy_on o e hash ≡ Some d → Reached l d.gen
 reach_copy l w m rs None e hash h k q b i r d x = absurd (cc)
 reach_copy l w m rs (Some c) e hash h k q b i r d x =
     let y : record { gen = copy_in c.gen e (first_empty c.gen hash); copied = c.copied + 1 } ≡ d = cc in
     let lt = copy_room w.table m (length m) (current w.table) c e refl h k i.holding i.roomy (λ d z. i.seated.gens _ d z) in
     let f = first_empty_way c.gen hash lt in
-    rw (← y) (reached_count l _ (reached_put l c.gen (record e { place = first_empty c.gen hash }) f.1 b (subst (λ z. Way c.gen.capacity c.gen.entries z (first_empty c.gen hash)) q f.0) (r c h)))
+    rw (← y) (reached_count l _ (reached_put l c.gen (record e { index = first_empty c.gen hash }) f.1 b (subst (λ z. Way c.gen.capacity c.gen.entries z (first_empty c.gen hash)) q f.0) (r c h)))
 
 pub copied_in : (g : Option Gen) (b : Option Build) (e : Entry) → entry_left (entries_of g) b ≡ Some e → (d : Gen) × (g ≡ Some d) × In e d.entries
 copied_in None None e h = absurd (cc)
@@ -324,7 +327,7 @@ copied_in None (Some b) e h = absurd (cc)
 copied_in (Some g) None e h = absurd (cc)
 copied_in (Some g) (Some b) e h = (g, refl, in_get e g.entries b.copied h)
 
-pub built_reach : (l : Law) (w : World) (m : List ℕ) (rs : List Reply) (c : Call) {p : Phase} {x : Event} {a : Answer} {r : CallState} {ls : List ℕ} {t : Table} {q : Option Told} → Row w c p x a r ls t q → c.state.phase ≡ p → UsesBy l w c c.state.phase x → Inv w m rs → LawOk l w → (d : Build) → t.building ≡ Some d → Reached l d.gen
+pub built_reach : (l : Law) (w : World) (m : List ℕ) (rs : List Finished) (c : Call) {p : Phase} {x : Event} {a : Answer} {r : CallState} {ls : List ℕ} {t : Table} {q : Option Reply} → Row w c p x a r ls t q → c.state.phase ≡ p → UsesBy l w c c.state.phase x → Inv w m rs → LawOk l w → (d : Build) → t.building ≡ Some d → Reached l d.gen
 built_reach l w m rs c (puts _ _ _) s u i o d h = o.built d (sym (place_building w.table c.state c.value) ∙ h)
 built_reach l w m rs c (begins_first _ _) s u i o d h = reach_begin l w d h
 built_reach l w m rs c (begins_next _ _ _ _ _) s u i o d h = reach_begin l w d h
@@ -340,7 +343,7 @@ begin_judged l gens (opens_lookup n h) o = record { hash = λ q x y. o x y; prob
 begin_judged l gens (opens_len n) o = record { hash = λ q x y. absurd (cc); probes = λ q. absurd (cc); turned = λ q. absurd (cc); met = λ i e q. absurd (cc) }
 begin_judged l gens (opens_walk n) o = record { hash = λ q x y. absurd (cc); probes = λ q. absurd (cc); turned = λ q. absurd (cc); met = λ i e q. absurd (cc) }
 
-pub keeps_law : (l : Law) {w v : World} {x : Event} {a : Option Act} {r : Option Reply} (m : List ℕ) (rs : List Reply) → Turn w x a v r → ActsBy l w x a → Inv w m rs → LawOk l w → LawOk l v
+pub keeps_law : (l : Law) {w v : World} {x : Event} {a : Option Act} {r : Option Finished} (m : List ℕ) (rs : List Finished) → Turn w x a v r → ActsBy l w x a → Inv w m rs → LawOk l w → LawOk l v
 keeps_law l m rs rests u i o = o
 keeps_law l {w = w} m rs (opens n v p h ra b q f) u i o = record {
   gens = o.gens;
@@ -371,11 +374,11 @@ lawful_then l (x ∷ s) more w u = lawful_then l s more (happens w x) u.1
 abbrev LawAfter : Law → ℕ → List Event → Type 0
 LawAfter l f s = IsLawful l f s → LawOk l (after f s)
 
-pub law_snoc : (l : Law) (f : ℕ) → IsFirst f → (s : List Event) (x : Event) → LawAfter l f s → LawAfter l f (s ++ x ∷ [])
+pub law_snoc : (l : Law) (f : ℕ) → IsFirstCapacity f → (s : List Event) (x : Event) → LawAfter l f s → LawAfter l f (s ++ x ∷ [])
 law_snoc l f h s x k u = keeps_law l (placed (empty f) s) (replies (empty f) s) (turn_after f s x) (lawful_then l s (x ∷ []) (empty f) u).0 (inv f h s) (k (lawful_before l s (x ∷ []) (empty f) u))
 
 -- what a lawful schedule leaves
-pub law_after : (l : Law) (f : ℕ) → IsFirst f → (s : List Event) → IsLawful l f s → LawOk l (after f s)
+pub law_after : (l : Law) (f : ℕ) → IsFirstCapacity f → (s : List Event) → IsLawful l f s → LawOk l (after f s)
 law_after l f h s = by_snoc (LawAfter l f) (λ u. law_empty l f) (law_snoc l f h) s
 
 -- No two placed values are equal
@@ -395,7 +398,7 @@ none_placed l w m c g h o f =
     sym b ∙ z
 
 -- where an insert meets an empty bucket of the current generation, it accepts nothing that was placed
-pub fresh_value : (l : Law) (w : World) (m : List ℕ) (rs : List Reply) (i : ℕ) (c : Call) → slice_get w.calls i ≡ Some c → bucket_at w.table c.state ≡ None → probing c.state.phase ≡ true → stands c.state.phase ≡ true → is_asking c.state.phase ≡ true → Inv w m rs → LawOk l w → weigh (λ u. one_if (accepts_value l c u)) m ≡ 0
+pub fresh_value : (l : Law) (w : World) (m : List ℕ) (rs : List Finished) (i : ℕ) (c : Call) → slice_get w.calls i ≡ Some c → bucket_of w.table c.state ≡ None → probing c.state.phase ≡ true → stands c.state.phase ≡ true → is_asking c.state.phase ≡ true → Inv w m rs → LawOk l w → weigh (λ u. one_if (accepts_value l c u)) m ≡ 0
 fresh_value l w m rs i c gc n pr st ask v o =
     let k = (v.calls.at i c gc).stands st in
     let q = (v.tracked.at i c gc).probes pr in
@@ -403,7 +406,7 @@ fresh_value l w m rs i c gc n pr st ask v o =
     let s : q.number ≡ k.0 = same_walk c.state.walked q.number k.0 q.walked k.1 in
     let y : suc q.number ≡ length w.table.gens = rw s k.2 in
     let g : current w.table ≡ Some q.gen = current_at w.table.gens q.number q.gen y q.got in
-    let b : bucket q.gen.entries (at_place q.gen.capacity c.state.hash c.state.seen) ≡ None = rw (← q.index) (bucket_none w.table c.state q.number q.gen q.walked q.got n) in
+    let b : bucket q.gen.entries (bucket_at q.gen.capacity c.state.hash c.state.seen) ≡ None = rw (← q.index) (bucket_none w.table c.state q.number q.gen q.walked q.got n) in
     none_placed l w m c q.gen g v.holding (misses_at_empty l c q.gen c.state.seen (v.seated.gens q.number q.gen q.got) (o.gens q.number q.gen q.got) (j.probes pr q.number q.gen q.walked q.got) (j.hash ask) b)
 
 pub passes_le : (a b : Bool) → (a ≡ true → b ≡ true) → one_if a ≤ one_if b
@@ -418,24 +421,24 @@ apart_more_at l m v x true h z o = omega (arith, weigh-le (λ u. one_if (l.equal
 pub apart_more : (l : Law) (m : List ℕ) (v : ℕ) → weigh (λ u. one_if (l.equal v u)) m ≡ 0 → AllApart l.equal m → AllApart l.equal (m ++ v ∷ [])
 apart_more l m v z o x = rw weigh-append (apart_more_at l m v x (l.equal x v) refl z (o x))
 
-pub apart_place : (l : Law) (w : World) (m : List ℕ) (rs : List Reply) (i : ℕ) (c : Call) (v : Option ℕ) → c.value ≡ v → weigh (λ u. one_if (accepts_value l c u)) m ≡ 0 → AllApart l.equal m → AllApart l.equal (m ++ option_to_list v)
+pub apart_place : (l : Law) (w : World) (m : List ℕ) (rs : List Finished) (i : ℕ) (c : Call) (v : Option ℕ) → c.value ≡ v → weigh (λ u. one_if (accepts_value l c u)) m ≡ 0 → AllApart l.equal m → AllApart l.equal (m ++ option_to_list v)
 apart_place l w m rs i c None e z q = rw append-none q
 apart_place l w m rs i c (Some v) e z q = apart_more l m v (rw e at z) q
 
-pub apart_row : (l : Law) (w : World) (m : List ℕ) (rs : List Reply) (i : ℕ) (c : Call) {p : Phase} {x : Event} {a : Answer} {r : CallState} {ls : List ℕ} {t : Table} {q : Option Told} → Row w c p x a r ls t q → c.state.phase ≡ p → slice_get w.calls i ≡ Some c → Inv w m rs → LawOk l w → AllApart l.equal m → AllApart l.equal (m ++ placed_by (Some (Goes c a)))
+pub apart_row : (l : Law) (w : World) (m : List ℕ) (rs : List Finished) (i : ℕ) (c : Call) {p : Phase} {x : Event} {a : Answer} {r : CallState} {ls : List ℕ} {t : Table} {q : Option Reply} → Row w c p x a r ls t q → c.state.phase ≡ p → slice_get w.calls i ≡ Some c → Inv w m rs → LawOk l w → AllApart l.equal m → AllApart l.equal (m ++ placed_by (Some (Goes c a)))
 apart_row l w m rs i c (puts _ _ n) e g v o q = apart_place l w m rs i c c.value refl (fresh_value l w m rs i c g n (ap probing e) (ap stands e) (ap is_asking e) v o) q
 apart_row l w m rs i c (shares _ _) e g v o q = rw append-none q
 apart_row l w m rs i c _ e g v o q = rw append-none q
 
-pub keeps_apart : (l : Law) {w v : World} {x : Event} {a : Option Act} {r : Option Reply} (m : List ℕ) (rs : List Reply) → Turn w x a v r → Inv w m rs → LawOk l w → AllApart l.equal m → AllApart l.equal (m ++ placed_by a)
+pub keeps_apart : (l : Law) {w v : World} {x : Event} {a : Option Act} {r : Option Finished} (m : List ℕ) (rs : List Finished) → Turn w x a v r → Inv w m rs → LawOk l w → AllApart l.equal m → AllApart l.equal (m ++ placed_by a)
 keeps_apart l m rs rests k o q = rw append-none q
 keeps_apart l m rs (opens _ _ _ _ _ _ _ _) k o q = rw append-none q
 keeps_apart l {w = w} m rs (takes i c p a s list t o g e row nu) k z q = apart_row l w m rs i c row e g k z q
 
-pub apart_snoc : (l : Law) (f : ℕ) → IsFirst f → (s : List Event) (x : Event) → PlacedApart l f s → PlacedApart l f (s ++ x ∷ [])
+pub apart_snoc : (l : Law) (f : ℕ) → IsFirstCapacity f → (s : List Event) (x : Event) → PlacedApart l f s → PlacedApart l f (s ++ x ∷ [])
 apart_snoc l f h s x k u =
     let b = lawful_before l s (x ∷ []) (empty f) u in
     rw (placed_snoc f s x) (keeps_apart l (placed (empty f) s) (replies (empty f) s) (turn_after f s x) (inv f h s) (law_after l f h s b) (k b))
 
-pub placed_apart : (l : Law) (f : ℕ) (s : List Event) → IsFirst f → PlacedApart l f s
+pub placed_apart : (l : Law) (f : ℕ) (s : List Event) → IsFirstCapacity f → PlacedApart l f s
 placed_apart l f s h = by_snoc (PlacedApart l f) (λ u x. omega arith) (apart_snoc l f h) s

@@ -3,7 +3,7 @@ use Rattle.std.proofs.Common.{ℕ, suc, zero, ◌≡◌, ◌+◌, ◌≤◌, ◌
 use Rattle.std.specs.Prelude.{◌||◌, slice_set}
 use Rattle.std.specs.List.{slice_get}
 use Rattle.table_core.specs.Bags.{weigh}
-use Rattle.table_core.specs.Replies.{Told, Reply}
+use Rattle.table_core.specs.Replies.{Reply, Finished}
 use Rattle.table_core.specs.Generations.{Build, Table, copy_on}
 use Rattle.table_core.specs.Calls.{Call, starts, holds_shared, holds_owned, is_owned, is_locked}
 use Rattle.table_core.specs.Machine.{World, empty, place, Act}
@@ -49,7 +49,7 @@ pub fewer : (s o t u : ℕ) → t ≤ s → u ≤ o → Alone s o → Alone t u
 fewer s o t u a b (nobody _ _ z) = nobody t u (omega arith)
 fewer s o t u a b (alone _ _ z y) = fewer_of t u (omega arith) (omega arith)
 
-pub move_locks : (w : World) (c : Call) {p : Phase} {ev : Event} {a : Answer} {r : CallState} {ls : List ℕ} {t : Table} {q : Option Told} → Row w c p ev a r ls t q → (x n b x' n' b' : ℕ) →
+pub move_locks : (w : World) (c : Call) {p : Phase} {ev : Event} {a : Answer} {r : CallState} {ls : List ℕ} {t : Table} {q : Option Reply} → Row w c p ev a r ls t q → (x n b x' n' b' : ℕ) →
     x' + tally (holds_shared p) ≡ x + tally (holds_shared r.phase) →
     n' + tally (is_owning p) ≡ n + tally (is_owning r.phase) →
     b' + tally (is_building p) ≡ b + tally (is_building r.phase) →
@@ -113,7 +113,7 @@ pub le_one : (s o : ℕ) → Alone s o → o ≤ 1
 le_one s o (nobody _ _ z) = omega arith
 le_one s o (alone _ _ z y) = omega arith
 
-pub move_building : (w : World) (c : Call) {p : Phase} {ev : Event} {a : Answer} {r : CallState} {ls : List ℕ} {t : Table} {q : Option Told} → Row w c p ev a r ls t q → (n b n' b' : ℕ) →
+pub move_building : (w : World) (c : Call) {p : Phase} {ev : Event} {a : Answer} {r : CallState} {ls : List ℕ} {t : Table} {q : Option Reply} → Row w c p ev a r ls t q → (n b n' b' : ℕ) →
     n' + tally (is_owning p) ≡ n + tally (is_owning r.phase) →
     b' + tally (is_building p) ≡ b + tally (is_building r.phase) →
     n + b ≤ 1 → b ≡ built_count w.table.building →
@@ -141,7 +141,7 @@ pub begin_locks : {x : Event} {n : ℕ} {v : Option ℕ} {p : Phase} {h : ℕ} �
 begin_locks (opens_insert n v h) = (refl, refl, refl)
 begin_locks _ = (refl, refl, refl)
 
-pub keeps_locks : {w v : World} {x : Event} {m : Option Act} {r : Option Reply} → Turn w x m v r → Locked w → Locked v
+pub keeps_locks : {w v : World} {x : Event} {m : Option Act} {r : Option Finished} → Turn w x m v r → Locked w → Locked v
 keeps_locks rests l = l
 keeps_locks {w = w} (opens n v p h r k u f) l = record {
   alone = fewer _ _ _ _ (omega (arith, more (λ p. tally (holds_shared p)) w.calls (starts n v p h), begin_locks k)) (omega (arith, more (λ p. tally (is_owning p)) w.calls (starts n v p h), more (λ p. tally (is_building p)) w.calls (starts n v p h), begin_locks k)) l.alone;

@@ -1,7 +1,7 @@
 -- Numbers and values are used once.
 use Rattle.std.proofs.Common.{ℕ, suc, zero, ◌≡◌, inl, inr, List, [], ◌∷◌, true, false, refl, Option, Some, None, sym, ap, eqb, ◌∙◌}
 use Rattle.std.specs.List.{slice_get}
-use Rattle.table_core.specs.Replies.{Reply}
+use Rattle.table_core.specs.Replies.{Finished}
 use Rattle.table_core.specs.Calls.{Call, starts, is_used, is_value, is_used_value}
 use Rattle.table_core.specs.Machine.{World, empty, Act}
 use Rattle.table_core.specs.Steps.{IsNewValue, left}
@@ -17,7 +17,7 @@ unused_at n [] i c u h e = cc
 unused_at n (x ∷ cs) zero c u h e = let k : x ≡ c = cc in let q : eqb x.number n ≡ true = eq-eqb x.number n (ap (λ (z : Call). z.number) k ∙ e) in let o : (eqb x.number n ≡ false) × (is_used n cs ≡ false) = or-false _ _ u in let z : eqb x.number n ≡ false = o.0 in cc
 unused_at n (x ∷ cs) (suc i) c u h e = unused_at n cs i c (or-false _ _ u).1 h e
 
-pub keeps_numbered : {w v : World} {x : Event} {a : Option Act} {r : Option Reply} → Turn w x a v r → Numbered w → Numbered v
+pub keeps_numbered : {w v : World} {x : Event} {a : Option Act} {r : Option Finished} → Turn w x a v r → Numbered w → Numbered v
 keeps_numbered rests o = o
 keeps_numbered {w = w} (opens n v p h ra b u f) o = record {
   apart = λ i j c d g k e. elim (get-push w.calls (starts n v p h) c i g) [
@@ -44,7 +44,7 @@ pub new_value_at : (v u : Option ℕ) (n : ℕ) (cs : List Call) (i : ℕ) (c : 
 new_value_at None u n cs i c f h e k = cc
 new_value_at (Some v) u n cs i c f h e k = unused_value_at v cs i c f h (k ∙ sym e)
 
-pub keeps_valued : {w v : World} {x : Event} {a : Option Act} {r : Option Reply} → Turn w x a v r → Valued w → Valued v
+pub keeps_valued : {w v : World} {x : Event} {a : Option Act} {r : Option Finished} → Turn w x a v r → Valued w → Valued v
 keeps_valued rests o = o
 keeps_valued {w = w} (opens n v p h ra b u f) o = record {
   apart = λ i j c d m g k e q. elim (get-push w.calls (starts n v p h) c i g) [

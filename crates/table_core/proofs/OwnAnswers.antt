@@ -2,10 +2,11 @@
 use Rattle.std.proofs.Common.{ℕ, ◌≡◌, ◌++◌, inl, inr, List, [], ◌∷◌, Bool, true, refl, Option, Some, None, sym, subst, ap, ◌∙◌}
 use Rattle.std.specs.Prelude.{◌==◌}
 use Rattle.std.specs.List.{slice_get}
-use Rattle.table_core.specs.Replies.{Told, ToldPlaced, ToldFound, ToldRefused, ToldSome, Reply}
-use Rattle.table_core.specs.Generations.{Gen, Table, bits_of, gen_of, bucket_in}
+use Rattle.table_core.specs.Replies.{Reply, ReplyPlaced, ReplyFound, ReplyRefused, ReplySome, Finished}
+use Rattle.table_core.specs.Generations.{Gen, Table, gen_of, bucket_in}
+use Rattle.terms.specs.Hashes.{bits_of}
 use Rattle.table_core.specs.Calls.{Call, starts, finds_entry}
-use Rattle.table_core.specs.Machine.{World, empty, walked_gen, bucket_at, refused, found_entry, told_of_outcome, Act, Goes, acts, reply_to, after}
+use Rattle.table_core.specs.Machine.{World, empty, walked_gen, bucket_of, refused, found_entry, reply_of_outcome, Act, Goes, acts, finished_call, after}
 use Rattle.table_core.specs.History.{replies, placed, TakenEvent, bucket_then}
 use Rattle.table_core.specs.Steps.{accepts, Row, loads_none, loads, meets, loses_meets, adds, leaves_refused, small, ends, ends_failed, gives_up, looks_none, looks, look_empty, look_meets, look_turns, len_none, len_loads, len_size, walk_none, walk_loads, walk_skips_last, walk_takes_last, left}
 use Rattle.table_core.specs.declared.event.Event.{Event}
@@ -52,7 +53,7 @@ accepted_later f s x gens now c k grew a = record {
 
 -- how a call comes to an accepted entry: it accepts one now, or it has one
 data Meeting (w : World) (c : Call) (x : Event) (r : CallState) (k : ℕ) : Type 0 where
-  meets_now : (e : Entry) → SaysYes x c.state e → bucket_at w.table c.state ≡ Some e → bucket_in (gen_of w.table.gens r.walked) k ≡ Some e → Meeting w c x r k
+  meets_now : (e : Entry) → SaysYes x c.state e → bucket_of w.table c.state ≡ Some e → bucket_in (gen_of w.table.gens r.walked) k ≡ Some e → Meeting w c x r k
   met_before : c.state.outcome ≡ Existing k → r.walked ≡ c.state.walked → Meeting w c x r k
 
 says_yes_to : (x : Event) (s : CallState) (e : Entry) (y : Bool) → says_yes x ≡ y → accepts e s y ≡ true → SaysYes x s e
@@ -60,12 +61,12 @@ says_yes_to x s e y q h =
     let both : ((e.bits == bits_of s.hash) ≡ true) × (y ≡ true) = and_both (e.bits == bits_of s.hash) y h in
     record { yes = q ∙ both.1; bits = eqb-true e.bits (bits_of s.hash) both.0 }
 
-meeting_now : (w : World) (c : Call) (p : Phase) (x : Event) (y : Bool) (e : Entry) (k : ℕ) → says_yes x ≡ y → bucket_at w.table c.state ≡ Some e → accepts e c.state y ≡ true → Existing c.state.index ≡ Existing k → Meeting w c x (finds_entry p c.state) k
+meeting_now : (w : World) (c : Call) (p : Phase) (x : Event) (y : Bool) (e : Entry) (k : ℕ) → says_yes x ≡ y → bucket_of w.table c.state ≡ Some e → accepts e c.state y ≡ true → Existing c.state.index ≡ Existing k → Meeting w c x (finds_entry p c.state) k
 meeting_now w c p x y e k q b h o =
     let i : c.state.index ≡ k = cc in
     meets_now e (says_yes_to x c.state e y q h) b (subst (λ j. bucket_in (gen_of w.table.gens c.state.walked) j ≡ Some e) i b)
 
-row_meeting : (w : World) (c : Call) {p : Phase} {x : Event} {a : Answer} {r : CallState} {ls : List ℕ} {t : Table} {q : Option Told} → Row w c p x a r ls t q → fitting (is_some c.value) p c.state.outcome ≡ true → (k : ℕ) → r.outcome ≡ Existing k → Meeting w c x r k
+row_meeting : (w : World) (c : Call) {p : Phase} {x : Event} {a : Answer} {r : CallState} {ls : List ℕ} {t : Table} {q : Option Reply} → Row w c p x a r ls t q → fitting (is_some c.value) p c.state.outcome ≡ true → (k : ℕ) → r.outcome ≡ Existing k → Meeting w c x r k
 row_meeting w c (meets n y e b h) f k o = meeting_now w c LeaveOk (Read n y) y e k refl b h o
 row_meeting w c (loses_meets n y e b h) f k o = meeting_now w c LeaveOk (Put n y true) y e k refl b h o
 row_meeting w c (look_meets n y e b h) f k o = meeting_now w c Done (Read n y) y e k refl b h o
@@ -93,7 +94,7 @@ module _ (f : ℕ) (inv : (s : List Event) → Inv (after f s) (placed (empty f)
       let old = accepted_later f s x (after f s).table.gens now c k grew (m i c g k o) in
       record { at = old.at; accepted = old.accepted; entry = old.entry; there = old.there; now = subst (λ v. bucket_in (gen_of now v) k ≡ Some old.entry) (sym w) old.now }
 
-  accepted_turn : (s : List Event) (x : Event) {v : World} {a : Option Act} {r : Option Reply} → Turn (after f s) x a v r → acts (after f s) x ≡ a → AllGrew (after f s).table.gens v.table.gens → AllAccepted s (after f s) → AllAccepted (s ++ x ∷ []) v
+  accepted_turn : (s : List Event) (x : Event) {v : World} {a : Option Act} {r : Option Finished} → Turn (after f s) x a v r → acts (after f s) x ≡ a → AllGrew (after f s).table.gens v.table.gens → AllAccepted s (after f s) → AllAccepted (s ++ x ∷ []) v
   accepted_turn s x rests took grew m i c g k o = accepted_later f s x _ _ c k grew (m i c g k o)
   accepted_turn s x (opens n v p h ra op us nv) took grew m i c g k o = elim (get-push (after f s).calls (starts n v p h) c i g) [
     | inl y ↦ absurd (let z : c.state.outcome ≡ Pending = ap (λ (d : Call). d.state.outcome) y.1 in let q : Pending ≡ Existing k = sym z ∙ o in cc)
@@ -112,30 +113,30 @@ module _ (f : ℕ) (inv : (s : List Event) → Inv (after f s) (placed (empty f)
 
 -- the entry that a call is told: it is accepted now, or it was
 data Names (w : World) (c : Call) (x : Event) (e : ℕ) : Type 0 where
-  names_now : (d : Entry) → SaysYes x c.state d → bucket_at w.table c.state ≡ Some d → d.value ≡ e → Names w c x e
+  names_now : (d : Entry) → SaysYes x c.state d → bucket_of w.table c.state ≡ Some d → d.value ≡ e → Names w c x e
   names_met : (k : ℕ) (d : Entry) → c.state.outcome ≡ Existing k → bucket_in (gen_of w.table.gens c.state.walked) k ≡ Some d → d.value ≡ e → Names w c x e
 
-refused_names : (v : Option ℕ) (q : Told) (e : ℕ) → refused v ≡ Some q → entry_named q ≡ Some e → ⊥
+refused_names : (v : Option ℕ) (q : Reply) (e : ℕ) → refused v ≡ Some q → entry_named q ≡ Some e → ⊥
 refused_names None q e h n = cc
-refused_names (Some v) q e h n = let z : ToldRefused v ≡ q = cc in let y : None ≡ Some e = ap entry_named z ∙ n in cc
+refused_names (Some v) q e h n = let z : ReplyRefused v ≡ q = cc in let y : None ≡ Some e = ap entry_named z ∙ n in cc
 
-found_names : (d : Option Entry) (v : ℕ) (q : Told) (e : ℕ) → found_entry d v ≡ Some q → entry_named q ≡ Some e → (b : Entry) × (d ≡ Some b) × (b.value ≡ e)
+found_names : (d : Option Entry) (v : ℕ) (q : Reply) (e : ℕ) → found_entry d v ≡ Some q → entry_named q ≡ Some e → (b : Entry) × (d ≡ Some b) × (b.value ≡ e)
 found_names None v q e h n = absurd (cc)
-found_names (Some d) v q e h n = let z : ToldFound d.value v ≡ q = cc in let y : Some d.value ≡ Some e = ap entry_named z ∙ n in (d, refl, cc)
+found_names (Some d) v q e h n = let z : ReplyFound d.value v ≡ q = cc in let y : Some d.value ≡ Some e = ap entry_named z ∙ n in (d, refl, cc)
 
-outcome_names : (w : World) (c : Call) (x : Event) (o : Outcome) (v : Option ℕ) (q : Told) (e : ℕ) → c.state.outcome ≡ o → told_of_outcome o w.table c.state v ≡ Some q → entry_named q ≡ Some e → Names w c x e
+outcome_names : (w : World) (c : Call) (x : Event) (o : Outcome) (v : Option ℕ) (q : Reply) (e : ℕ) → c.state.outcome ≡ o → reply_of_outcome o w.table c.state v ≡ Some q → entry_named q ≡ Some e → Names w c x e
 outcome_names w c a (Existing k) (Some v) q e o h n = let b = found_names (bucket_in (walked_gen w.table c.state) k) v q e h n in names_met k b.0 o b.1 b.2
-outcome_names w c a (New k) (Some v) q e o h n = absurd (let z : ToldPlaced v ≡ q = cc in let y : None ≡ Some e = ap entry_named z ∙ n in cc)
+outcome_names w c a (New k) (Some v) q e o h n = absurd (let z : ReplyPlaced v ≡ q = cc in let y : None ≡ Some e = ap entry_named z ∙ n in cc)
 outcome_names w c a Pending v q e o h n = absurd (cc)
 outcome_names w c a (New k) None q e o h n = absurd (cc)
 outcome_names w c a (Existing k) None q e o h n = absurd (cc)
 
-no_entry : (q z : Told) (e : ℕ) → Some q ≡ Some z → entry_named q ≡ None → entry_named z ≡ Some e → ⊥
+no_entry : (q z : Reply) (e : ℕ) → Some q ≡ Some z → entry_named q ≡ None → entry_named z ≡ Some e → ⊥
 no_entry q z e h n k = let y : q ≡ z = cc in let j : None ≡ Some e = sym n ∙ ap entry_named y ∙ k in cc
 
-row_names : (w : World) (c : Call) {p : Phase} {x : Event} {a : Answer} {r : CallState} {ls : List ℕ} {t : Table} {o : Option Told} → Row w c p x a r ls t o → (q : Told) → o ≡ Some q → (e : ℕ) → entry_named q ≡ Some e → Names w c x e
+row_names : (w : World) (c : Call) {p : Phase} {x : Event} {a : Answer} {r : CallState} {ls : List ℕ} {t : Table} {o : Option Reply} → Row w c p x a r ls t o → (q : Reply) → o ≡ Some q → (e : ℕ) → entry_named q ≡ Some e → Names w c x e
 row_names w c (look_meets n y d b h) q k e m =
-    let z : ToldSome d.value ≡ q = cc in
+    let z : ReplySome d.value ≡ q = cc in
     let v : Some d.value ≡ Some e = ap entry_named z ∙ m in
     names_now d (says_yes_to (Read n y) c.state d y refl h) b (cc)
 row_names w c (small n g k d) q h e m = outcome_names w c _ c.state.outcome c.value q e refl h m
@@ -154,9 +155,9 @@ row_names w c (walk_takes_last n y d k lt) q h e m = absurd (no_entry _ q e h re
 row_names w c _ q h e m = absurd (cc)
 
 -- a reply tells its call what the row tells
-pub reply_by_row : (m : ℕ) (o : Option Told) (r : Reply) → reply_to m o ≡ Some r → (o ≡ Some r.told) × (m ≡ r.call)
+pub reply_by_row : (m : ℕ) (o : Option Reply) (r : Finished) → finished_call m o ≡ Some r → (o ≡ Some r.reply) × (m ≡ r.call)
 reply_by_row m None r h = absurd (cc)
-reply_by_row m (Some z) r h = let e : record { call = m; told = z } ≡ r = cc in (ap Some (ap (λ (r : Reply). r.told) e), ap (λ (r : Reply). r.call) e)
+reply_by_row m (Some z) r h = let e : record { call = m; reply = z } ≡ r = cc in (ap Some (ap (λ (r : Finished). r.reply) e), ap (λ (r : Finished). r.call) e)
 
 module _ (f : ℕ) (inv : (s : List Event) → Inv (after f s) (placed (empty f) s) (replies (empty f) s)) where
   entry_accepted : (s : List Event) (x : Event) (i : ℕ) (c : Call) (a : Answer) (e : ℕ) → slice_get (after f s).calls i ≡ Some c → acts (after f s) x ≡ Some (Goes c a) → Names (after f s) c x e → AcceptedEntry f (s ++ x ∷ []) c.number e
@@ -178,15 +179,15 @@ module _ (f : ℕ) (inv : (s : List Event) → Inv (after f s) (placed (empty f)
         value = ap (λ (z : Entry). z.value) same ∙ v;
       }
 
-  own_turn : (s : List Event) (x : Event) (r : Reply) {v : World} {a : Option Act} {o : Option Reply} → Turn (after f s) x a v o → acts (after f s) x ≡ a → o ≡ Some r → IsOwnAnswer f s x r
+  own_turn : (s : List Event) (x : Event) (r : Finished) {v : World} {a : Option Act} {o : Option Finished} → Turn (after f s) x a v o → acts (after f s) x ≡ a → o ≡ Some r → IsOwnAnswer f s x r
   own_turn s x r rests took h = absurd (cc)
   own_turn s x r (opens _ _ _ _ _ _ _ _) took h = absurd (cc)
   own_turn s x r (takes i c p a st ls t o g e row nu) took h =
-      let told : (o ≡ Some r.told) × (c.number ≡ r.call) = reply_by_row c.number o r h in
+      let reply : (o ≡ Some r.reply) × (c.number ≡ r.call) = reply_by_row c.number o r h in
       record {
-        own = subst (λ n. IsOwn f s (record { call = n; told = r.told })) told.1 (row_own f s i c row e g r.told told.0);
-        accepted = λ e k. subst (λ n. AcceptedEntry f (s ++ x ∷ []) n e) told.1 (entry_accepted s x i c a e g took (row_names (after f s) c row r.told told.0 e k));
+        own = subst (λ n. IsOwn f s (record { call = n; reply = r.reply })) reply.1 (row_own f s i c row e g r.reply reply.0);
+        accepted = λ e k. subst (λ n. AcceptedEntry f (s ++ x ∷ []) n e) reply.1 (entry_accepted s x i c a e g took (row_names (after f s) c row r.reply reply.0 e k));
       }
 
-  pub own_answers : (s : List Event) (x : Event) (r : Reply) → OwnAnswers f s x r
+  pub own_answers : (s : List Event) (x : Event) (r : Finished) → OwnAnswers f s x r
   own_answers s x r h = own_turn s x r (turn_after f s x) refl h

@@ -2,7 +2,7 @@
 use Rattle.std.proofs.Common.{ℕ, ◌≡◌, ◌+◌, ◌++◌, List, [], ◌∷◌, Bool, true, false, refl, Some, sym, subst, ap, arith, ◌∙◌}
 use Rattle.std.specs.Prelude.{◌||◌, option_to_list}
 use Rattle.table_core.specs.Calls.{Call}
-use Rattle.table_core.specs.Machine.{World, empty, Goes, acts, happens, reply, run, after}
+use Rattle.table_core.specs.Machine.{World, empty, Goes, acts, happens, finishes, run, after}
 use Rattle.table_core.specs.History.{replies, placed_by, placed_at, placed, added_by, added, read_by, reads, loaded_by, generations_loaded, begun_by, beginnings, TakenEvent, answers_so, has_later}
 use Rattle.table_core.specs.declared.event.Event.{Event}
 use Rattle.table_core.specs.declared.call.Phase.{Phase}
@@ -24,7 +24,7 @@ placed_append (e ∷ s) more w = ap (λ l. placed_at w e ++ l) (placed_append s 
 
 pub replies_append : (s more : List Event) (w : World) → replies w (s ++ more) ≡ replies w s ++ replies (run w s) more
 replies_append [] more w = refl
-replies_append (e ∷ s) more w = ap (λ l. option_to_list (reply w e) ++ l) (replies_append s more (happens w e)) ∙ sym (append_assoc (option_to_list (reply w e)) (replies (happens w e) s) (replies (run (happens w e) s) more))
+replies_append (e ∷ s) more w = ap (λ l. option_to_list (finishes w e) ++ l) (replies_append s more (happens w e)) ∙ sym (append_assoc (option_to_list (finishes w e)) (replies (happens w e) s) (replies (run (happens w e) s) more))
 
 pub added_append : (s more : List Event) (w : World) → added w (s ++ more) ≡ added w s + added (run w s) more
 added_append [] more w = omega arith
@@ -55,14 +55,14 @@ has_later_append k (e ∷ s) more w n = ap (λ l. answers_so k (acts w e) n || l
 pub after_snoc : (f : ℕ) (s : List Event) (x : Event) → after f (s ++ x ∷ []) ≡ happens (after f s) x
 after_snoc f s x = run_append s (x ∷ []) (empty f)
 
-pub turn_after : (f : ℕ) (s : List Event) (x : Event) → Turn (after f s) x (acts (after f s) x) (after f (s ++ x ∷ [])) (reply (after f s) x)
+pub turn_after : (f : ℕ) (s : List Event) (x : Event) → Turn (after f s) x (acts (after f s) x) (after f (s ++ x ∷ [])) (finishes (after f s) x)
 turn_after f s x = rw (after_snoc f s x) (turn (after f s) x)
 
 pub placed_snoc : (f : ℕ) (s : List Event) (x : Event) → placed (empty f) (s ++ x ∷ []) ≡ placed (empty f) s ++ placed_by (acts (after f s) x)
 placed_snoc f s x = placed_append s (x ∷ []) (empty f) ∙ ap (λ l. placed (empty f) s ++ l) (append-none (placed_by (acts (after f s) x)))
 
-pub replies_snoc : (f : ℕ) (s : List Event) (x : Event) → replies (empty f) (s ++ x ∷ []) ≡ replies (empty f) s ++ option_to_list (reply (after f s) x)
-replies_snoc f s x = replies_append s (x ∷ []) (empty f) ∙ ap (λ l. replies (empty f) s ++ l) (append-none (option_to_list (reply (after f s) x)))
+pub replies_snoc : (f : ℕ) (s : List Event) (x : Event) → replies (empty f) (s ++ x ∷ []) ≡ replies (empty f) s ++ option_to_list (finishes (after f s) x)
+replies_snoc f s x = replies_append s (x ∷ []) (empty f) ∙ ap (λ l. replies (empty f) s ++ l) (append-none (option_to_list (finishes (after f s) x)))
 
 pub added_snoc : (f : ℕ) (s : List Event) (x : Event) → added (empty f) (s ++ x ∷ []) ≡ added (empty f) s + added_by (acts (after f s) x)
 added_snoc f s x = omega (arith, added_append s (x ∷ []) (empty f))

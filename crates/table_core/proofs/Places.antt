@@ -3,10 +3,10 @@ use Rattle.std.proofs.Common.{ℕ, suc, ◌≡◌, ◌+◌, ◌++◌, List, [], 
 use Rattle.std.specs.Prelude.{◌&&◌, ◌||◌, slice_set, option_to_list, not}
 use Rattle.std.specs.List.{slice_get, flat_map}
 use Rattle.table_core.specs.Bags.{weigh, SameBag}
-use Rattle.table_core.specs.Replies.{Told, Reply}
+use Rattle.table_core.specs.Replies.{Reply, Finished}
 use Rattle.table_core.specs.Generations.{Table, current, bucket_in, entries_of}
 use Rattle.table_core.specs.Calls.{Call, starts, is_pending}
-use Rattle.table_core.specs.Machine.{World, empty, walked_gen, refused, told_of_outcome, Act, Goes, reply_to}
+use Rattle.table_core.specs.Machine.{World, empty, walked_gen, refused, reply_of_outcome, Act, Goes, finished_call}
 use Rattle.table_core.specs.History.{placed_by, handed_back, back, kept, runs, picks, running}
 use Rattle.table_core.specs.Steps.{Row, shares, meets, puts, loses_meets, adds, leaves_refused, small, ends, ends_failed, gives_up, looks_none, look_empty, look_meets, look_turns, len_none, len_size, walk_none, walk_skips_last, walk_takes_last, Opens, opens_insert, opens_lookup, opens_len, opens_walk, left}
 use Rattle.table_core.specs.declared.event.Event.{Event}
@@ -43,7 +43,7 @@ in_put b o k = same_of false _ (imply (fitting b AtEmpty o) _ (of_each (λ b o. 
 pub same_weight : (h : ℕ → ℕ) (v : Option ℕ) (a b : Bool) → b ≡ a → weigh h (picks b v) ≡ weigh h (picks a v) + 0
 same_weight h v a b e = rw e (omega arith)
 
-pub move_table : (w : World) (c : Call) {p : Phase} {x : Event} {a : Answer} {r : CallState} {ls : List ℕ} {t : Table} {q : Option Told} → Row w c p x a r ls t q → (b : Bool) → fitting b p c.state.outcome ≡ true → (h : ℕ → ℕ) → weigh h (picks (in_table r.phase r.outcome) c.value) ≡ weigh h (picks (in_table p c.state.outcome) c.value) + weigh h (placed_by (Some (Goes c a)))
+pub move_table : (w : World) (c : Call) {p : Phase} {x : Event} {a : Answer} {r : CallState} {ls : List ℕ} {t : Table} {q : Option Reply} → Row w c p x a r ls t q → (b : Bool) → fitting b p c.state.outcome ≡ true → (h : ℕ → ℕ) → weigh h (picks (in_table r.phase r.outcome) c.value) ≡ weigh h (picks (in_table p c.state.outcome) c.value) + weigh h (placed_by (Some (Goes c a)))
 move_table w c (puts _ _ _) b f h = let e : in_table AtEmpty c.state.outcome ≡ false = in_put b c.state.outcome f in rw e (omega arith)
 move_table w c (meets _ _ _ _ _) b f h = same_weight h c.value _ _ (by_class Probe LeaveOk (λ _. Existing c.state.index) (refl, λ i. refl, λ i. refl, refl, λ i. refl, λ i. refl) b c.state.outcome f)
 move_table w c (loses_meets _ _ _ _ _) b f h = same_weight h c.value _ _ (by_class AtEmpty LeaveOk (λ _. Existing c.state.index) (refl, λ i. refl, λ i. refl, refl, λ i. refl, λ i. refl) b c.state.outcome f)
@@ -63,13 +63,13 @@ pub none_back : (h : ℕ → ℕ) (b : Bool) (v : Option ℕ) → v ≡ None →
 none_back h true v e = rw e refl
 none_back h false v e = refl
 
-pub refused_back : (h : ℕ → ℕ) (n : ℕ) (o : Outcome) (v : Option ℕ) → is_pending o ≡ true → weigh h (picks (is_back Done o) v) ≡ weigh h (back (option_to_list (reply_to n (refused v))))
+pub refused_back : (h : ℕ → ℕ) (n : ℕ) (o : Outcome) (v : Option ℕ) → is_pending o ≡ true → weigh h (picks (is_back Done o) v) ≡ weigh h (back (option_to_list (finished_call n (refused v))))
 refused_back h n Pending None e = refl
 refused_back h n Pending (Some v) e = omega arith
 refused_back h n (New i) v e = absurd (cc)
 refused_back h n (Existing i) v e = absurd (cc)
 
-pub outcome_back : (h : ℕ → ℕ) (n : ℕ) (t : Table) (s : CallState) (o : Outcome) (v : Option ℕ) → is_pending o ≡ false → ((i : ℕ) → o ≡ Existing i → (e : Entry) × (bucket_in (walked_gen t s) i ≡ Some e)) → weigh h (picks (is_back Done o) v) ≡ weigh h (back (option_to_list (reply_to n (told_of_outcome o t s v))))
+pub outcome_back : (h : ℕ → ℕ) (n : ℕ) (t : Table) (s : CallState) (o : Outcome) (v : Option ℕ) → is_pending o ≡ false → ((i : ℕ) → o ≡ Existing i → (e : Entry) × (bucket_in (walked_gen t s) i ≡ Some e)) → weigh h (picks (is_back Done o) v) ≡ weigh h (back (option_to_list (finished_call n (reply_of_outcome o t s v))))
 outcome_back h n t s Pending v e m = absurd (cc)
 outcome_back h n t s (New i) None e m = refl
 outcome_back h n t s (New i) (Some v) e m = refl
@@ -85,7 +85,7 @@ asks_known b o k = same_of false _ (imply (fitting b AskSize o) _ (of_each is_kn
 abbrev is_refusing : Bool → Outcome → Bool
 is_refusing b o = implies (fitting b LeaveRefused o) (is_pending o)
 
-pub move_back : (w : World) (c : Call) {p : Phase} {x : Event} {a : Answer} {r : CallState} {ls : List ℕ} {t : Table} {q : Option Told} → Row w c p x a r ls t q → fitting (is_some c.value) p c.state.outcome ≡ true → Met w.table.gens c → (h : ℕ → ℕ) → weigh h (picks (is_back r.phase r.outcome) c.value) ≡ weigh h (back (option_to_list (reply_to c.number q)))
+pub move_back : (w : World) (c : Call) {p : Phase} {x : Event} {a : Answer} {r : CallState} {ls : List ℕ} {t : Table} {q : Option Reply} → Row w c p x a r ls t q → fitting (is_some c.value) p c.state.outcome ≡ true → Met w.table.gens c → (h : ℕ → ℕ) → weigh h (picks (is_back r.phase r.outcome) c.value) ≡ weigh h (back (option_to_list (finished_call c.number q)))
 move_back w c (leaves_refused _) f m h = refused_back h c.number c.state.outcome c.value (imply (fitting (is_some c.value) LeaveRefused c.state.outcome) _ (of_each is_refusing (refl, λ i. refl, λ i. refl, refl, λ i. refl, λ i. refl) (is_some c.value) c.state.outcome) f)
 move_back w c (small _ _ _ _) f m h = outcome_back h c.number w.table c.state c.state.outcome c.value (asks_known (is_some c.value) c.state.outcome f) m.there
 move_back w c (ends _ n) f m h = outcome_back h c.number w.table c.state c.state.outcome c.value n m.there
@@ -103,7 +103,7 @@ move_back w c (walk_takes_last _ _ _ _ _) f m h = none_back h _ c.value (no_valu
 move_back w c _ f m h = refl
 
 -- a call that takes a row isn't done
-pub row_running : (w : World) (c : Call) {p : Phase} {x : Event} {a : Answer} {r : CallState} {ls : List ℕ} {t : Table} {q : Option Told} → Row w c p x a r ls t q → (o : Outcome) → is_back p o ≡ false
+pub row_running : (w : World) (c : Call) {p : Phase} {x : Event} {a : Answer} {r : CallState} {ls : List ℕ} {t : Table} {q : Option Reply} → Row w c p x a r ls t q → (o : Outcome) → is_back p o ≡ false
 row_running w c (shares _ _) o = refl
 row_running w c _ o = refl
 
@@ -118,9 +118,9 @@ moved_sum h f cs i c p ws r x g e k =
     let q : weigh h (picks (f c.state.phase c.state.outcome) c.value) ≡ weigh h (picks (f p c.state.outcome) c.value) = ap (λ z. weigh h (picks (f z c.state.outcome) c.value)) e in
     omega arith
 
-pub flat_push : (rs : List Reply) (r : Option Reply) (h : ℕ → ℕ) → weigh h (back (rs ++ option_to_list r)) ≡ weigh h (back rs) + weigh h (back (option_to_list r))
+pub flat_push : (rs : List Finished) (r : Option Finished) (h : ℕ → ℕ) → weigh h (back (rs ++ option_to_list r)) ≡ weigh h (back rs) + weigh h (back (option_to_list r))
 flat_push [] r h = omega arith
-flat_push (x ∷ rs) r h = omega (arith, weigh-append h (handed_back x.told) (back (rs ++ option_to_list r)), weigh-append h (handed_back x.told) (back rs), flat_push rs r h)
+flat_push (x ∷ rs) r h = omega (arith, weigh-append h (handed_back x.reply) (back (rs ++ option_to_list r)), weigh-append h (handed_back x.reply) (back rs), flat_push rs r h)
 
 pub begin_places : {x : Event} {n : ℕ} {v : Option ℕ} {p : Phase} {h : ℕ} → Opens x n v p h → (in_table p Pending ≡ false) × (is_back p Pending ≡ false)
 begin_places (opens_insert n v h) = (refl, refl)
@@ -128,7 +128,7 @@ begin_places (opens_lookup n h) = (refl, refl)
 begin_places (opens_len n) = (refl, refl)
 begin_places (opens_walk n) = (refl, refl)
 
-pub keeps_placing : {w v : World} {x : Event} {a : Option Act} {r : Option Reply} (m : List ℕ) (rs : List Reply) → Turn w x a v r → CallsOk w → AllTracked w → Placing w.calls m rs → Placing v.calls (m ++ placed_by a) (rs ++ option_to_list r)
+pub keeps_placing : {w v : World} {x : Event} {a : Option Act} {r : Option Finished} (m : List ℕ) (rs : List Finished) → Turn w x a v r → CallsOk w → AllTracked w → Placing w.calls m rs → Placing v.calls (m ++ placed_by a) (rs ++ option_to_list r)
 keeps_placing m rs rests k y o = record { table = λ h. rw append-none (o.table h); back = λ h. rw append-none (o.back h) }
 keeps_placing {w = w} m rs (opens n v p u ra b e f) k y o = record {
   table = λ h. omega (arith, o.table h, weigh-append h m [], weigh-append (λ (c : Call). weigh h (picks (in_table c.state.phase c.state.outcome) c.value)) w.calls (starts n v p u ∷ []), ap (λ z. weigh h (picks z v)) (begin_places b).0);
@@ -136,7 +136,7 @@ keeps_placing {w = w} m rs (opens n v p u ra b e f) k y o = record {
 }
 keeps_placing {w = w} m rs (takes i c p a s list t o g e row nu) k y z = record {
   table = λ h. omega (arith, z.table h, weigh-append h m (placed_by (Some (Goes c a))), moved_sum h in_table w.calls i c p list s _ g e (move_table w c row (is_some c.value) (fit_at c _ p (k.at i c g) e) h));
-  back = λ h. omega (arith, z.back h, flat_push rs (reply_to c.number o) h, moved_sum h is_back w.calls i c p list s _ g e (from_nothing h c.value _ _ _ (row_running w c row c.state.outcome) (move_back w c row (fit_at c _ p (k.at i c g) e) (y.at i c g).met h)));
+  back = λ h. omega (arith, z.back h, flat_push rs (finished_call c.number o) h, moved_sum h is_back w.calls i c p list s _ g e (from_nothing h c.value _ _ _ (row_running w c row c.state.outcome) (move_back w c row (fit_at c _ p (k.at i c g) e) (y.at i c g).met h)));
 }
 
 pub placing_empty : (first : ℕ) → Placing (empty first).calls [] []
@@ -199,7 +199,7 @@ abbrev pub carried : List Call → List ℕ
 carried calls = flat_map (λ c. option_to_list c.value) calls
 
 -- the values that the calls carry are those handed back, those kept and those still running
-pub values_stay_at : (w : World) (m : List ℕ) (rs : List Reply) → CallsOk w → Holding w.table m → Placing w.calls m rs → SameBag (carried w.calls) (back rs ++ kept w ++ running w.calls)
+pub values_stay_at : (w : World) (m : List ℕ) (rs : List Finished) → CallsOk w → Holding w.table m → Placing w.calls m rs → SameBag (carried w.calls) (back rs ++ kept w ++ running w.calls)
 values_stay_at w m rs i o z h =
     let cs : List Call = w.calls in
     let all : weigh (λ c. weigh h (option_to_list c.value)) cs ≡ weigh (λ c. weigh h (picks (in_table c.state.phase c.state.outcome) c.value)) cs + (weigh (λ c. weigh h (picks (is_back c.state.phase c.state.outcome) c.value)) cs + weigh (λ c. weigh h (picks (runs c.state.phase c.state.outcome) c.value)) cs) =

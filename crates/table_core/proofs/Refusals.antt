@@ -3,10 +3,10 @@ use Rattle.std.proofs.Common.{ℕ, ◌≡◌, ◌≤◌, ◌++◌, inl, inr, Lis
 use Rattle.std.specs.Prelude.{◌==◌, ◌/◌}
 use Rattle.std.specs.List.{slice_get}
 use Rattle.table_core.specs.Bags.{weigh, count_of}
-use Rattle.table_core.specs.Replies.{Told, ToldRefused, Reply}
+use Rattle.table_core.specs.Replies.{Reply, ReplyRefused, Finished}
 use Rattle.table_core.specs.Generations.{Gen, Table, current, bucket_in}
 use Rattle.table_core.specs.Calls.{Call, starts, is_done, to}
-use Rattle.table_core.specs.Machine.{World, empty, walked_gen, refused, found_entry, told_of_outcome, Act, Goes, acts, after}
+use Rattle.table_core.specs.Machine.{World, empty, walked_gen, refused, found_entry, reply_of_outcome, Act, Goes, acts, after}
 use Rattle.table_core.specs.History.{replies, placed, picks, TakenEvent, answers_so, has_later}
 use Rattle.table_core.specs.Steps.{Row, memory_refused, leaves_refused, small, fails_first, fails_largest, fails_refused, ends, ends_failed, gives_up, Opens, opens_insert, left}
 use Rattle.table_core.specs.declared.event.Event.{Event}
@@ -61,7 +61,7 @@ cause_put : (g : Option Gen) (n : ℕ) (y : Bool) → IsCause g (Put n y false) 
 cause_put None n y = refl
 cause_put (Some g) n y = refl
 
-row_cause : (w : World) (c : Call) {p : Phase} {x : Event} {a : Answer} {r : CallState} {ls : List ℕ} {t : Table} {q : Option Told} → Row w c p x a r ls t q → refusable r.phase r.outcome ≡ true → IsCause (current w.table) x a
+row_cause : (w : World) (c : Call) {p : Phase} {x : Event} {a : Answer} {r : CallState} {ls : List ℕ} {t : Table} {q : Option Reply} → Row w c p x a r ls t q → refusable r.phase r.outcome ≡ true → IsCause (current w.table) x a
 row_cause w c (memory_refused n y) h = cause_put (current w.table) n y
 row_cause w c (fails_first n e) h = rw e refl
 row_cause w c (fails_largest n m g e lt top) h = rw e (ltb-false g.size (g.capacity / 2) lt, inr top)
@@ -82,7 +82,7 @@ module _ (f : ℕ) (inv : (s : List Event) → Inv (after f s) (placed (empty f)
   caused_now : (s : List Event) (x : Event) (c : Call) (a : Answer) (r : CallState) (ls : List ℕ) → acts (after f s) x ≡ Some (Goes c a) → IsCause (current (after f s).table) x a → Caused f (s ++ x ∷ []) (left c r ls)
   caused_now s x c a r ls took k = record { at = taken_now f s x c.number c a took refl; cause = k; last = refl }
 
-  caused_turn : (s : List Event) (x : Event) {v : World} {a : Option Act} {r : Option Reply} → Turn (after f s) x a v r → acts (after f s) x ≡ a → AllCaused s (after f s) → AllCaused (s ++ x ∷ []) v
+  caused_turn : (s : List Event) (x : Event) {v : World} {a : Option Act} {r : Option Finished} → Turn (after f s) x a v r → acts (after f s) x ≡ a → AllCaused s (after f s) → AllCaused (s ++ x ∷ []) v
   caused_turn s x rests took m i c g h = caused_later f s x c (rw took refl) (m i c g h)
   caused_turn s x (opens n v p k ra op us nv) took m i c g h = elim (get-push (after f s).calls (starts n v p k) c i g) [
     | inl y ↦ absurd (let z : refusable p Pending ≡ false = begin_refusable op in let q : refusable p Pending ≡ true = subst (λ (d : Call). refusable d.state.phase d.state.outcome ≡ true) y.1 h in cc)
@@ -107,9 +107,9 @@ record Refusing (c : Call) (p : Phase) (a : Answer) (r : CallState) (v : ℕ) : 
   ended : r ≡ to Done c.state
   leaves : is_put_or_check p a ≡ false
 
-refused_value : (o : Option ℕ) (v : ℕ) → refused o ≡ Some (ToldRefused v) → o ≡ Some v
+refused_value : (o : Option ℕ) (v : ℕ) → refused o ≡ Some (ReplyRefused v) → o ≡ Some v
 refused_value None v h = absurd (cc)
-refused_value (Some u) v h = let z : ToldRefused u ≡ ToldRefused v = cc in cc
+refused_value (Some u) v h = let z : ReplyRefused u ≡ ReplyRefused v = cc in cc
 
 refused_pending : (b : Bool) (o : Outcome) → fitting b LeaveRefused o ≡ true → o ≡ Pending
 refused_pending true Pending h = refl
@@ -122,18 +122,18 @@ refused_pending false (Existing i) h = absurd (cc)
 failed_refusable : (o : Outcome) → o ≡ Pending → refusable LeaveFailed o ≡ true
 failed_refusable o e = rw e refl
 
-pub found_unrefused : (d : Option Entry) (u v : ℕ) → found_entry d u ≡ Some (ToldRefused v) → ⊥
+pub found_unrefused : (d : Option Entry) (u v : ℕ) → found_entry d u ≡ Some (ReplyRefused v) → ⊥
 found_unrefused None u v h = cc
 found_unrefused (Some d) u v h = cc
 
-pub outcome_unrefused : (o : Outcome) (t : Table) (s : CallState) (u : Option ℕ) (v : ℕ) → told_of_outcome o t s u ≡ Some (ToldRefused v) → ⊥
+pub outcome_unrefused : (o : Outcome) (t : Table) (s : CallState) (u : Option ℕ) (v : ℕ) → reply_of_outcome o t s u ≡ Some (ReplyRefused v) → ⊥
 outcome_unrefused (New i) t s (Some u) v h = cc
 outcome_unrefused (Existing i) t s (Some u) v h = found_unrefused (bucket_in (walked_gen t s) i) u v h
 outcome_unrefused Pending t s u v h = cc
 outcome_unrefused (New i) t s None v h = cc
 outcome_unrefused (Existing i) t s None v h = cc
 
-row_refusing : (w : World) (c : Call) {p : Phase} {x : Event} {a : Answer} {r : CallState} {ls : List ℕ} {t : Table} {o : Option Told} → Row w c p x a r ls t o → fitting (is_some c.value) p c.state.outcome ≡ true → (v : ℕ) → o ≡ Some (ToldRefused v) → Refusing c p a r v
+row_refusing : (w : World) (c : Call) {p : Phase} {x : Event} {a : Answer} {r : CallState} {ls : List ℕ} {t : Table} {o : Option Reply} → Row w c p x a r ls t o → fitting (is_some c.value) p c.state.outcome ≡ true → (v : ℕ) → o ≡ Some (ReplyRefused v) → Refusing c p a r v
 row_refusing w c (leaves_refused n) f v h = record { from = refl; own = refused_value c.value v h; pending = refused_pending (is_some c.value) c.state.outcome f; ended = refl; leaves = refl }
 row_refusing w c (gives_up n e d) f v h = let o = pending_of c.state.outcome e in record { from = failed_refusable c.state.outcome o; own = refused_value c.value v h; pending = o; ended = refl; leaves = refl }
 row_refusing w c (small n g k d) f v h = absurd (outcome_unrefused c.state.outcome w.table c.state c.value v h)
@@ -143,7 +143,7 @@ row_refusing w c _ f v h = absurd (cc)
 
 module _ (f : ℕ) (inv : (s : List Event) → Inv (after f s) (placed (empty f) s) (replies (empty f) s)) where
   -- a finished call stays as it is
-  done_turn : (s : List Event) (x : Event) (i : ℕ) (c : Call) {v : World} {a : Option Act} {r : Option Reply} → Turn (after f s) x a v r → c.state.phase ≡ Done → slice_get (after f s).calls i ≡ Some c → slice_get v.calls i ≡ Some c
+  done_turn : (s : List Event) (x : Event) (i : ℕ) (c : Call) {v : World} {a : Option Act} {r : Option Finished} → Turn (after f s) x a v r → c.state.phase ≡ Done → slice_get (after f s).calls i ≡ Some c → slice_get v.calls i ≡ Some c
   done_turn s x i c rests e g = g
   done_turn s x i c (opens n v p h ra op us nv) e g = get-push_before (after f s).calls (starts n v p h ∷ []) i c g
   done_turn s x i c (takes j d p a st list t o at k row nu) e g = get-set_other (after f s).calls j i (left d st list) (λ q.
@@ -170,16 +170,16 @@ module _ (f : ℕ) (inv : (s : List Event) → Inv (after f s) (placed (empty f)
       rw (call, e, o) refl)) in
       omega (arith, none, (inv s).placing.table (mark v))
 
-  refusal_turn : (s : List Event) (x : Event) (n u : ℕ) {v : World} {a : Option Act} {o : Option Reply} → Turn (after f s) x a v o → acts (after f s) x ≡ a → v ≡ after f (s ++ x ∷ []) → o ≡ Some (record { call = n; told = ToldRefused u }) → IsRefusal f (s ++ x ∷ []) n u
+  refusal_turn : (s : List Event) (x : Event) (n u : ℕ) {v : World} {a : Option Act} {o : Option Finished} → Turn (after f s) x a v o → acts (after f s) x ≡ a → v ≡ after f (s ++ x ∷ []) → o ≡ Some (record { call = n; reply = ReplyRefused u }) → IsRefusal f (s ++ x ∷ []) n u
   refusal_turn s x n u rests took next h = absurd (cc)
   refusal_turn s x n u (opens _ _ _ _ _ _ _ _) took next h = absurd (cc)
   refusal_turn s x n u (takes i c p a st ls t o g e row nu) took next h =
-      let told : (o ≡ Some (ToldRefused u)) × (c.number ≡ n) = reply_by_row c.number o (record { call = n; told = ToldRefused u }) h in
-      let r : Refusing c p a st u = row_refusing (after f s) c row (fit_at c _ p ((inv s).calls.at i c g) e) u told.0 in
+      let reply : (o ≡ Some (ReplyRefused u)) × (c.number ≡ n) = reply_by_row c.number o (record { call = n; reply = ReplyRefused u }) h in
+      let r : Refusing c p a st u = row_refusing (after f s) c row (fit_at c _ p ((inv s).calls.at i c g) e) u reply.0 in
       let leaves : answers_so is_put_or_check (acts (after f s) x) c.number ≡ false = rw (took, e, r.leaves) refl in
       let k : Caused f (s ++ x ∷ []) c = caused_later f s x c leaves (all_caused f inv s i c g (rw e r.from)) in
       let after_it : slice_get (after f (s ++ x ∷ [])).calls i ≡ Some (left c (to Done c.state) ls) = subst (λ (w : World). slice_get w.calls i ≡ Some (left c (to Done c.state) ls)) next (rw r.ended (get-set_same (after f s).calls i c (left c (to Done c.state) ls) g)) in
-      subst (λ m. IsRefusal f (s ++ x ∷ []) m u) told.1 (record {
+      subst (λ m. IsRefusal f (s ++ x ∷ []) m u) reply.1 (record {
         at = k.at;
         cause = k.cause;
         last = k.last;

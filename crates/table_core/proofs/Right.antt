@@ -3,10 +3,12 @@ use Rattle.std.proofs.Common.{eqb-true, ℕ, ◌≡◌, ◌+◌, ◌-◌, ◌≤
 use Rattle.std.specs.Prelude.{◌==◌, ◌&&◌, if◌then◌else◌, option_to_list}
 use Rattle.std.specs.List.{slice_get}
 use Rattle.table_core.specs.Bags.{weigh}
-use Rattle.table_core.specs.Replies.{Told, ToldPlaced, ToldFound, ToldRefused, ToldSome, ToldNone, ToldLen, ToldWalk, Reply}
-use Rattle.table_core.specs.Generations.{Gen, Table, IsFirst, bucket, at_place, last_of, current, gen_of, bucket_in, is_current}
+use Rattle.table_core.specs.Replies.{Reply, ReplyPlaced, ReplyFound, ReplyRefused, ReplySome, ReplyNone, ReplyLen, ReplyWalk, Finished}
+use Rattle.table_core.specs.Generations.{Gen, Table, bucket, last_of, current, gen_of, bucket_in, is_current}
+use Rattle.terms.specs.Probes.{bucket_at}
+use Rattle.terms.specs.Capacities.{IsFirstCapacity}
 use Rattle.table_core.specs.Calls.{Call, starts}
-use Rattle.table_core.specs.Machine.{World, empty, walked_gen, bucket_at, refused, found_entry, told_of_outcome, Act, Goes, acts, reply_to, run, after}
+use Rattle.table_core.specs.Machine.{World, empty, walked_gen, bucket_of, refused, found_entry, reply_of_outcome, Act, Goes, acts, finished_call, run, after}
 use Rattle.table_core.specs.History.{replies, placed_by, placed, TakenEvent, answers_so}
 use Rattle.table_core.specs.Steps.{Row, loads_none, loads, reads_empty, meets, memory_refused, puts, loses_meets, adds, leaves_refused, small, fails_first, fails_largest, fails_refused, ends, ends_failed, gives_up, looks_none, looks, look_empty, look_meets, look_turns, look_goes_on, len_none, len_loads, len_size, walk_none, walk_loads, walk_skips_last, walk_takes_last, Opens, opens_insert, opens_lookup, opens_len, opens_walk, left}
 use Rattle.table_core.specs.declared.event.Event.{Event}
@@ -43,40 +45,40 @@ use Rattle.table_core.proofs.Members.{none_in, counted, contains_of}
 use Rattle.table_core.proofs.Invariant.{InvAfter, inv}
 use Rattle.table_core.proofs.Truth.{not-true, and-false}
 
-abbrev pub say : ℕ → Told → Reply
-say n t = record { call = n; told = t }
+abbrev pub say : ℕ → Reply → Finished
+say n t = record { call = n; reply = t }
 
 -- What the list object answers
 
-pub answer_none : (l : Law) (m : List ℕ) (n : ℕ) → AcceptsNone (l.test n) m → Answers l.equal m (asked l (say n ToldNone)) (answered ToldNone) (m ++ [])
+pub answer_none : (l : Law) (m : List ℕ) (n : ℕ) → AcceptsNone (l.test n) m → Answers l.equal m (asked l (say n ReplyNone)) (answered ReplyNone) (m ++ [])
 answer_none l m n h = (h, append-none m)
 
-pub answer_some : (l : Law) (m : List ℕ) (n e : ℕ) → Contains m e → l.test n e ≡ true → Answers l.equal m (asked l (say n (ToldSome e))) (answered (ToldSome e)) (m ++ [])
+pub answer_some : (l : Law) (m : List ℕ) (n e : ℕ) → Contains m e → l.test n e ≡ true → Answers l.equal m (asked l (say n (ReplySome e))) (answered (ReplySome e)) (m ++ [])
 answer_some l m n e c h = ((c, h), append-none m)
 
-pub answer_found : (l : Law) (m : List ℕ) (n e v : ℕ) → Contains m e → l.equal v e ≡ true → Answers l.equal m (asked l (say n (ToldFound e v))) (answered (ToldFound e v)) (m ++ [])
+pub answer_found : (l : Law) (m : List ℕ) (n e v : ℕ) → Contains m e → l.equal v e ≡ true → Answers l.equal m (asked l (say n (ReplyFound e v))) (answered (ReplyFound e v)) (m ++ [])
 answer_found l m n e v c h = ((c, h), refl, append-none m)
 
-pub answer_refused : (l : Law) (m : List ℕ) (n v : ℕ) → AcceptsNone (l.equal v) m → Answers l.equal m (asked l (say n (ToldRefused v))) (answered (ToldRefused v)) (m ++ [])
+pub answer_refused : (l : Law) (m : List ℕ) (n v : ℕ) → AcceptsNone (l.equal v) m → Answers l.equal m (asked l (say n (ReplyRefused v))) (answered (ReplyRefused v)) (m ++ [])
 answer_refused l m n v h = (h, refl, append-none m)
 
-pub answer_placed : (l : Law) (m : List ℕ) (n v : ℕ) → AcceptsNone (l.equal v) m → Answers l.equal m (asked l (say n (ToldPlaced v))) (answered (ToldPlaced v)) (m ++ v ∷ [])
+pub answer_placed : (l : Law) (m : List ℕ) (n v : ℕ) → AcceptsNone (l.equal v) m → Answers l.equal m (asked l (say n (ReplyPlaced v))) (answered (ReplyPlaced v)) (m ++ v ∷ [])
 answer_placed l m n v h = (h, refl, refl)
 
 -- Moments
 
 -- an event that is a reply's moment
-pub right_here : (l : Law) (f : ℕ) (s : List Event) (x : Event) (r : Reply) (c : Call) (a : Answer) → acts (after f s) x ≡ Some (Goes c a) → c.number ≡ r.call → is_moment r.told c.state.phase a ≡ true → Meets r.told (bucket_at (after f s).table c.state) → Answers l.equal (placed (empty f) s) (asked l r) (answered r.told) (placed (empty f) s ++ placed_by (Some (Goes c a))) → IsRight l f (s ++ x ∷ []) r
+pub right_here : (l : Law) (f : ℕ) (s : List Event) (x : Event) (r : Finished) (c : Call) (a : Answer) → acts (after f s) x ≡ Some (Goes c a) → c.number ≡ r.call → is_moment r.reply c.state.phase a ≡ true → Meets r.reply (bucket_of (after f s).table c.state) → Answers l.equal (placed (empty f) s) (asked l r) (answered r.reply) (placed (empty f) s ++ placed_by (Some (Goes c a))) → IsRight l f (s ++ x ∷ []) r
 right_here l f s x r c a h e m b w = record {
   at = taken_now f s x r.call c a h e;
   moment = m;
   last = λ q. refl;
   meets = b;
-  answer = (let z : placed (empty f) (s ++ x ∷ []) ≡ placed (empty f) s ++ placed_by (Some (Goes c a)) = placed_snoc f s x ∙ ap (λ o. placed (empty f) s ++ placed_by o) h in subst (λ n. Answers l.equal (placed (empty f) s) (asked l r) (answered r.told) n) (sym z) w);
+  answer = (let z : placed (empty f) (s ++ x ∷ []) ≡ placed (empty f) s ++ placed_by (Some (Goes c a)) = placed_snoc f s x ∙ ap (λ o. placed (empty f) s ++ placed_by o) h in subst (λ n. Answers l.equal (placed (empty f) s) (asked l r) (answered r.reply) n) (sym z) w);
 }
 
 -- a moment stays the reply's, unless the call may be refused once more
-pub right_later : (l : Law) (f : ℕ) (s : List Event) (x : Event) (r : Reply) → (is_refusal r.told ≡ true → answers_so may_be_refused (acts (after f s) x) r.call ≡ false) → IsRight l f s r → IsRight l f (s ++ x ∷ []) r
+pub right_later : (l : Law) (f : ℕ) (s : List Event) (x : Event) (r : Finished) → (is_refusal r.reply ≡ true → answers_so may_be_refused (acts (after f s) x) r.call ≡ false) → IsRight l f s r → IsRight l f (s ++ x ∷ []) r
 right_later l f s x r u k = record {
   at = taken_later f s r.call k.at x;
   moment = k.moment;
@@ -107,7 +109,7 @@ entry_placed w m k g e v h i =
     let b : 1 ≤ values (λ x. if x == e.value then 1 else 0) g.entries = rw q at a in
     contains_of m e.value (counted e.value m (omega (arith, v.each k g h (λ x. if x == e.value then 1 else 0))))
 
-pub bucket_placed : (w : World) (m : List ℕ) (c : Call) (e : Entry) → Within w m → Probing w.table.gens c → bucket_at w.table c.state ≡ Some e → Contains m e.value
+pub bucket_placed : (w : World) (m : List ℕ) (c : Call) (e : Entry) → Within w m → Probing w.table.gens c → bucket_of w.table c.state ≡ Some e → Contains m e.value
 bucket_placed w m c e v p b = entry_placed w m p.number p.gen e v p.got (in_bucket e p.gen.entries c.state.index (bucket_some w.table c.state p.number p.gen e p.walked p.got b))
 
 -- What a call will be told
@@ -127,9 +129,9 @@ may_refuse LeaveFailed Pending true = true
 may_refuse _ o b = false
 
 pub record Fated (l : Law) (f : ℕ) (s : List Event) (gens : List Gen) (c : Call) : Type 0 where
-  pub placed : (v : ℕ) → c.value ≡ Some v → in_table c.state.phase c.state.outcome ≡ true → IsRight l f s (say c.number (ToldPlaced v))
-  pub found : (v i : ℕ) (e : Entry) → c.value ≡ Some v → c.state.outcome ≡ Existing i → bucket_in (gen_of gens c.state.walked) i ≡ Some e → IsRight l f s (say c.number (ToldFound e.value v))
-  pub refused : (v : ℕ) → c.value ≡ Some v → may_refuse c.state.phase c.state.outcome (is_current gens c.state.walked) ≡ true → IsRight l f s (say c.number (ToldRefused v))
+  pub placed : (v : ℕ) → c.value ≡ Some v → in_table c.state.phase c.state.outcome ≡ true → IsRight l f s (say c.number (ReplyPlaced v))
+  pub found : (v i : ℕ) (e : Entry) → c.value ≡ Some v → c.state.outcome ≡ Existing i → bucket_in (gen_of gens c.state.walked) i ≡ Some e → IsRight l f s (say c.number (ReplyFound e.value v))
+  pub refused : (v : ℕ) → c.value ≡ Some v → may_refuse c.state.phase c.state.outcome (is_current gens c.state.walked) ≡ true → IsRight l f s (say c.number (ReplyRefused v))
   pub looked : c.state.phase ≡ LookProbe → LookedAt f s gens c
 
 abbrev pub AllFated : Law → ℕ → List Event → World → Type 0
@@ -165,12 +167,12 @@ refuse_same _ o b c e h = absurd (cc)
 -- the turn changes no generation's number while this call leaves a failed growth
 pub fated_other : (l : Law) (f : ℕ) (s : List Event) (x : Event) (gens now : List Gen) (c : Call) → AllGrew gens now → Tracked gens c → answers_so may_be_refused (acts (after f s) x) c.number ≡ false → (c.state.phase ≡ LeaveFailed → length now ≡ length gens) → Fated l f s gens c → Fated l f (s ++ x ∷ []) now c
 fated_other l f s x gens now c g t n e k = record {
-  placed = λ v h y. right_later l f s x (say c.number (ToldPlaced v)) (no_refusal _) (k.placed v h y);
+  placed = λ v h y. right_later l f s x (say c.number (ReplyPlaced v)) (no_refusal _) (k.placed v h y);
   found = λ v i d h o b.
       let m = t.met.there i o in
       let q : m.0 ≡ d = same_entry m.0 d _ (entry_stays gens now c.state.walked i m.0 g m.1) b in
-      rw (← q) (right_later l f s x (say c.number (ToldFound m.0.value v)) (no_refusal _) (k.found v i m.0 h o m.1));
-  refused = λ v h y. right_later l f s x (say c.number (ToldRefused v)) (λ q. n) (k.refused v h (refuse_same c.state.phase c.state.outcome _ _ (λ q. current_same gens now c.state.walked (e q)) y));
+      rw (← q) (right_later l f s x (say c.number (ReplyFound m.0.value v)) (no_refusal _) (k.found v i m.0 h o m.1));
+  refused = λ v h y. right_later l f s x (say c.number (ReplyRefused v)) (λ q. n) (k.refused v h (refuse_same c.state.phase c.state.outcome _ _ (λ q. current_same gens now c.state.walked (e q)) y));
   looked = λ h. looked_later f s x gens now c c.state c.list refl g (t.probes (ap probing h)) (k.looked h);
 }
 
@@ -182,32 +184,32 @@ not_try c p a n e h = let z : may_be_refused c.state.phase a ≡ false = ap (λ 
 pub value_none : (l : Law) (c : Call) (v : ℕ) (m : List ℕ) → c.value ≡ Some v → weigh (λ u. one_if (accepts_value l c u)) m ≡ 0 → AcceptsNone (l.equal v) m
 value_none l c v m e z = none_in (l.equal v) m (rw e at z)
 
-pub place_answer : (l : Law) (m : List ℕ) (c : Call) (v : ℕ) → c.value ≡ Some v → weigh (λ u. one_if (accepts_value l c u)) m ≡ 0 → Answers l.equal m (asked l (say c.number (ToldPlaced v))) (answered (ToldPlaced v)) (m ++ option_to_list c.value)
-place_answer l m c v e z = subst (λ o. Answers l.equal m (asked l (say c.number (ToldPlaced v))) (answered (ToldPlaced v)) (m ++ option_to_list o)) (sym e) (answer_placed l m c.number v (value_none l c v m e z))
+pub place_answer : (l : Law) (m : List ℕ) (c : Call) (v : ℕ) → c.value ≡ Some v → weigh (λ u. one_if (accepts_value l c u)) m ≡ 0 → Answers l.equal m (asked l (say c.number (ReplyPlaced v))) (answered (ReplyPlaced v)) (m ++ option_to_list c.value)
+place_answer l m c v e z = subst (λ o. Answers l.equal m (asked l (say c.number (ReplyPlaced v))) (answered (ReplyPlaced v)) (m ++ option_to_list o)) (sym e) (answer_placed l m c.number v (value_none l c v m e z))
 
-pub moment_placed : (v : ℕ) (p : Phase) → p ≡ AtEmpty → is_moment (ToldPlaced v) p Won ≡ true
+pub moment_placed : (v : ℕ) (p : Phase) → p ≡ AtEmpty → is_moment (ReplyPlaced v) p Won ≡ true
 moment_placed v p e = rw e refl
 
-pub moment_read : (e v : ℕ) (p : Phase) (a b : Bool) → p ≡ Probe → (a && b) ≡ true → is_moment (ToldFound e v) p (Holds a b) ≡ true
+pub moment_read : (e v : ℕ) (p : Phase) (a b : Bool) → p ≡ Probe → (a && b) ≡ true → is_moment (ReplyFound e v) p (Holds a b) ≡ true
 moment_read e v p true true h k = rw h refl
 moment_read e v p true false h k = absurd (cc)
 moment_read e v p false b h k = absurd (cc)
 
-pub moment_put : (e v : ℕ) (p : Phase) (a b : Bool) → p ≡ AtEmpty → (a && b) ≡ true → is_moment (ToldFound e v) p (Holds a b) ≡ true
+pub moment_put : (e v : ℕ) (p : Phase) (a b : Bool) → p ≡ AtEmpty → (a && b) ≡ true → is_moment (ReplyFound e v) p (Holds a b) ≡ true
 moment_put e v p true true h k = rw h refl
 moment_put e v p true false h k = absurd (cc)
 moment_put e v p false b h k = absurd (cc)
 
-pub moment_look : (e : ℕ) (p : Phase) (a b : Bool) → p ≡ LookProbe → (a && b) ≡ true → is_moment (ToldSome e) p (Holds a b) ≡ true
+pub moment_look : (e : ℕ) (p : Phase) (a b : Bool) → p ≡ LookProbe → (a && b) ≡ true → is_moment (ReplySome e) p (Holds a b) ≡ true
 moment_look e p true true h k = rw h refl
 moment_look e p true false h k = absurd (cc)
 moment_look e p false b h k = absurd (cc)
 
-pub meets_none : (t : Told) (o : Option Entry) → entry_named t ≡ None → Meets t o
+pub meets_none : (t : Reply) (o : Option Entry) → entry_named t ≡ None → Meets t o
 meets_none t o h e k = absurd (let z : None ≡ Some e = sym h ∙ k in cc)
 
-pub later_placed : (l : Law) (f : ℕ) (s : List Event) (x : Event) (gens : List Gen) (c : Call) (b : Bool) → b ≡ in_table c.state.phase c.state.outcome → Fated l f s gens c → (v : ℕ) → c.value ≡ Some v → b ≡ true → IsRight l f (s ++ x ∷ []) (say c.number (ToldPlaced v))
-later_placed l f s x gens c b e k v h y = right_later l f s x (say c.number (ToldPlaced v)) (no_refusal _) (k.placed v h (sym e ∙ y))
+pub later_placed : (l : Law) (f : ℕ) (s : List Event) (x : Event) (gens : List Gen) (c : Call) (b : Bool) → b ≡ in_table c.state.phase c.state.outcome → Fated l f s gens c → (v : ℕ) → c.value ≡ Some v → b ≡ true → IsRight l f (s ++ x ∷ []) (say c.number (ReplyPlaced v))
+later_placed l f s x gens c b e k v h y = right_later l f s x (say c.number (ReplyPlaced v)) (no_refusal _) (k.placed v h (sym e ∙ y))
 
 abbrev Here : Law → ℕ → List Event → Event → Call → Answer → ℕ → Type 0
 Here l f s x c a i = (acts (after f s) x ≡ Some (Goes c a)) × (slice_get (after f s).calls i ≡ Some c)
@@ -216,8 +218,8 @@ Here l f s x c a i = (acts (after f s) x ≡ Some (Goes c a)) × (slice_get (aft
 pub class_at : (c : Call) (p : Phase) (b : Bool) → c.state.phase ≡ p → b ≡ in_table p c.state.outcome → b ≡ in_table c.state.phase c.state.outcome
 class_at c p b e h = h ∙ ap (λ z. in_table z c.state.outcome) (sym e)
 
-pub placed_row : (l : Law) (f : ℕ) (s : List Event) (i : ℕ) (c : Call) {p : Phase} {x : Event} {a : Answer} {r : CallState} {ls : List ℕ} {t : Table} {q : Option Told} → Row (after f s) c p x a r ls t q → Here l f s x c a i → c.state.phase ≡ p → InvAfter f s → LawOk l (after f s) → Fated l f s (after f s).table.gens c → (v : ℕ) → c.value ≡ Some v → in_table r.phase r.outcome ≡ true → IsRight l f (s ++ x ∷ []) (say c.number (ToldPlaced v))
-placed_row l f s i c (puts n y b) h e iv o k v w z = right_here l f s (Put n y true) (say c.number (ToldPlaced v)) c Won h.0 refl (moment_placed v c.state.phase e) (meets_none (ToldPlaced v) _ refl) (place_answer l (placed (empty f) s) c v w (fresh_value l (after f s) (placed (empty f) s) (replies (empty f) s) i c h.1 b (ap probing e) (ap stands e) (ap is_asking e) iv o))
+pub placed_row : (l : Law) (f : ℕ) (s : List Event) (i : ℕ) (c : Call) {p : Phase} {x : Event} {a : Answer} {r : CallState} {ls : List ℕ} {t : Table} {q : Option Reply} → Row (after f s) c p x a r ls t q → Here l f s x c a i → c.state.phase ≡ p → InvAfter f s → LawOk l (after f s) → Fated l f s (after f s).table.gens c → (v : ℕ) → c.value ≡ Some v → in_table r.phase r.outcome ≡ true → IsRight l f (s ++ x ∷ []) (say c.number (ReplyPlaced v))
+placed_row l f s i c (puts n y b) h e iv o k v w z = right_here l f s (Put n y true) (say c.number (ReplyPlaced v)) c Won h.0 refl (moment_placed v c.state.phase e) (meets_none (ReplyPlaced v) _ refl) (place_answer l (placed (empty f) s) c v w (fresh_value l (after f s) (placed (empty f) s) (replies (empty f) s) i c h.1 b (ap probing e) (ap stands e) (ap is_asking e) iv o))
 placed_row l f s i c (meets n y d b u) h e iv o k v w z = later_placed l f s (Read n y) (after f s).table.gens c _ (class_at c Probe _ e (by_class Probe LeaveOk (λ _. Existing c.state.index) (refl, λ i. refl, λ i. refl, refl, λ i. refl, λ i. refl) (is_some c.value) c.state.outcome (fit_at c _ _ (iv.calls.at i c h.1) e))) k v w z
 placed_row l f s i c (loses_meets n y d b u) h e iv o k v w z = later_placed l f s (Put n y true) (after f s).table.gens c _ (class_at c AtEmpty _ e (by_class AtEmpty LeaveOk (λ _. Existing c.state.index) (refl, λ i. refl, λ i. refl, refl, λ i. refl, λ i. refl) (is_some c.value) c.state.outcome (fit_at c _ _ (iv.calls.at i c h.1) e))) k v w z
 placed_row l f s i c (adds n) h e iv o k v w z = later_placed l f s (Add n) (after f s).table.gens c _ (class_at c Placed _ e (by_class Placed LeaveOk (λ _. New c.state.index) (refl, λ i. refl, λ i. refl, refl, λ i. refl, λ i. refl) (is_some c.value) c.state.outcome (fit_at c _ _ (iv.calls.at i c h.1) e))) k v w z
@@ -225,23 +227,23 @@ placed_row l f s i c (look_meets n y d b u) h e iv o k v w z = later_placed l f 
 placed_row l f s i c {p = p} {x = x} {r = r} _ h e iv o k v w z = later_placed l f s x (after f s).table.gens c _ (class_at c p _ e (by_class p r.phase (λ o. o) (refl, λ i. refl, λ i. refl, refl, λ i. refl, λ i. refl) (is_some c.value) c.state.outcome (fit_at c _ _ (iv.calls.at i c h.1) e))) k v w z
 
 -- an entry that this very event accepts
-pub found_now : (l : Law) (f : ℕ) (s : List Event) (x : Event) (i : ℕ) (c : Call) (b y : Bool) (d : Entry) → Here l f s x c (Holds b y) i → probing c.state.phase ≡ true → InvAfter f s → bucket_at (after f s).table c.state ≡ Some d → accepts_value l c d.value ≡ true → ((v : ℕ) → is_moment (ToldFound d.value v) c.state.phase (Holds b y) ≡ true) → (v j : ℕ) (e : Entry) → c.value ≡ Some v → Existing c.state.index ≡ Existing j → bucket_in (gen_of (after f s).table.gens c.state.walked) j ≡ Some e → IsRight l f (s ++ x ∷ []) (say c.number (ToldFound e.value v))
+pub found_now : (l : Law) (f : ℕ) (s : List Event) (x : Event) (i : ℕ) (c : Call) (b y : Bool) (d : Entry) → Here l f s x c (Holds b y) i → probing c.state.phase ≡ true → InvAfter f s → bucket_of (after f s).table c.state ≡ Some d → accepts_value l c d.value ≡ true → ((v : ℕ) → is_moment (ReplyFound d.value v) c.state.phase (Holds b y) ≡ true) → (v j : ℕ) (e : Entry) → c.value ≡ Some v → Existing c.state.index ≡ Existing j → bucket_in (gen_of (after f s).table.gens c.state.walked) j ≡ Some e → IsRight l f (s ++ x ∷ []) (say c.number (ReplyFound e.value v))
 found_now l f s x i c b y d h pr iv at ac mo v j e w o k =
     let q : c.state.index ≡ j = cc in
     let z : bucket_in (gen_of (after f s).table.gens c.state.walked) j ≡ Some d = rw (← q) at in
     let u : d ≡ e = same_entry d e _ z k in
     let eq : l.equal v d.value ≡ true = rw w at ac in
-    let r : IsRight l f (s ++ x ∷ []) (say c.number (ToldFound d.value v)) = right_here l f s x (say c.number (ToldFound d.value v)) c (Holds b y) h.0 refl (mo v) (λ n g. (d, at, (let t : d.value ≡ n = cc in t))) (answer_found l (placed (empty f) s) c.number d.value v (bucket_placed (after f s) (placed (empty f) s) c d iv.within ((iv.tracked.at i c h.1).probes pr) at) eq) in
+    let r : IsRight l f (s ++ x ∷ []) (say c.number (ReplyFound d.value v)) = right_here l f s x (say c.number (ReplyFound d.value v)) c (Holds b y) h.0 refl (mo v) (λ n g. (d, at, (let t : d.value ≡ n = cc in t))) (answer_found l (placed (empty f) s) c.number d.value v (bucket_placed (after f s) (placed (empty f) s) c d iv.within ((iv.tracked.at i c h.1).probes pr) at) eq) in
     rw (← u) r
 
 -- an entry that was accepted before
-pub found_before : (l : Law) (f : ℕ) (s : List Event) (x : Event) (gens now : List Gen) (c : Call) → AllGrew gens now → Met gens c → Fated l f s gens c → (v j : ℕ) (e : Entry) → c.value ≡ Some v → c.state.outcome ≡ Existing j → bucket_in (gen_of now c.state.walked) j ≡ Some e → IsRight l f (s ++ x ∷ []) (say c.number (ToldFound e.value v))
+pub found_before : (l : Law) (f : ℕ) (s : List Event) (x : Event) (gens now : List Gen) (c : Call) → AllGrew gens now → Met gens c → Fated l f s gens c → (v j : ℕ) (e : Entry) → c.value ≡ Some v → c.state.outcome ≡ Existing j → bucket_in (gen_of now c.state.walked) j ≡ Some e → IsRight l f (s ++ x ∷ []) (say c.number (ReplyFound e.value v))
 found_before l f s x gens now c g t k v j e w o b =
     let m = t.there j o in
     let q : m.0 ≡ e = same_entry m.0 e _ (entry_stays gens now c.state.walked j m.0 g m.1) b in
-    rw (← q) (right_later l f s x (say c.number (ToldFound m.0.value v)) (no_refusal _) (k.found v j m.0 w o m.1))
+    rw (← q) (right_later l f s x (say c.number (ReplyFound m.0.value v)) (no_refusal _) (k.found v j m.0 w o m.1))
 
-pub found_row : (l : Law) (f : ℕ) (s : List Event) (i : ℕ) (c : Call) {p : Phase} {x : Event} {a : Answer} {r : CallState} {ls : List ℕ} {t : Table} {q : Option Told} → Row (after f s) c p x a r ls t q → AllGrew (after f s).table.gens t.gens → Here l f s x c a i → c.state.phase ≡ p → InvAfter f s → UsesBy l (after f s) c c.state.phase x → Fated l f s (after f s).table.gens c → (v j : ℕ) (e : Entry) → c.value ≡ Some v → r.outcome ≡ Existing j → bucket_in (gen_of t.gens r.walked) j ≡ Some e → IsRight l f (s ++ x ∷ []) (say c.number (ToldFound e.value v))
+pub found_row : (l : Law) (f : ℕ) (s : List Event) (i : ℕ) (c : Call) {p : Phase} {x : Event} {a : Answer} {r : CallState} {ls : List ℕ} {t : Table} {q : Option Reply} → Row (after f s) c p x a r ls t q → AllGrew (after f s).table.gens t.gens → Here l f s x c a i → c.state.phase ≡ p → InvAfter f s → UsesBy l (after f s) c c.state.phase x → Fated l f s (after f s).table.gens c → (v j : ℕ) (e : Entry) → c.value ≡ Some v → r.outcome ≡ Existing j → bucket_in (gen_of t.gens r.walked) j ≡ Some e → IsRight l f (s ++ x ∷ []) (say c.number (ReplyFound e.value v))
 found_row l f s i c (meets n y d b u) g h e iv fb k = found_now l f s (Read n y) i c _ y d h (ap probing e) iv b (accepted_at l (after f s) c Probe (Read n y) d y e (λ x. x) b u fb) (λ v. moment_read d.value v c.state.phase _ y e u)
 found_row l f s i c (loses_meets n y d b u) g h e iv fb k = found_now l f s (Put n y true) i c _ y d h (ap probing e) iv b (accepted_at l (after f s) c AtEmpty (Put n y true) d y e (λ x. x) b u fb) (λ v. moment_put d.value v c.state.phase _ y e u)
 found_row l f s i c (look_meets n y d b u) g h e iv fb k = λ v j d w o b. absurd (let z : c.value ≡ None = no_value LookProbe (refl, λ i. refl, λ i. refl, refl, λ i. refl, λ i. refl) c.value c.state.outcome (fit_at c _ _ (iv.calls.at i c h.1) e) in let q : Some v ≡ None = sym w ∙ z in cc)
@@ -261,10 +263,10 @@ refuses_pending Pending false h = absurd (cc)
 refuses_pending (New i) b h = absurd (cc)
 refuses_pending (Existing i) b h = absurd (cc)
 
-pub moment_empty : (v : ℕ) (p : Phase) → p ≡ Probe → is_moment (ToldRefused v) p Empty ≡ true
+pub moment_empty : (v : ℕ) (p : Phase) → p ≡ Probe → is_moment (ReplyRefused v) p Empty ≡ true
 moment_empty v p e = rw e refl
 
-pub moment_failed : (v : ℕ) (p : Phase) → p ≡ Owned → is_moment (ToldRefused v) p Failed ≡ true
+pub moment_failed : (v : ℕ) (p : Phase) → p ≡ Owned → is_moment (ReplyRefused v) p Failed ≡ true
 moment_failed v p e = rw e refl
 
 -- there is nothing yet
@@ -287,20 +289,20 @@ none_at_failure l f s i c g gc e p cu h iv o =
     let w : wants_growth c.state.phase c.state.outcome ≡ true = rw (e, p) refl in
     none_placed l (after f s) (placed (empty f) s) c g h iv.holding (misses_at_turn l c g g.capacity (iv.seated.gens q.0 g q.2) (o.gens q.0 g q.2) (j.turned w q.0 g q.1 q.2) (j.hash (ap is_asking e)) (omega arith))
 
-pub refused_now : (l : Law) (f : ℕ) (s : List Event) (x : Event) (c : Call) (a : Answer) (v : ℕ) → acts (after f s) x ≡ Some (Goes c a) → c.value ≡ Some v → is_moment (ToldRefused v) c.state.phase a ≡ true → placed_by (Some (Goes c a)) ≡ [] → weigh (λ u. one_if (accepts_value l c u)) (placed (empty f) s) ≡ 0 → IsRight l f (s ++ x ∷ []) (say c.number (ToldRefused v))
-refused_now l f s x c a v h w m n z = right_here l f s x (say c.number (ToldRefused v)) c a h refl m (meets_none (ToldRefused v) _ refl) (subst (λ b. Answers l.equal (placed (empty f) s) (asked l (say c.number (ToldRefused v))) (answered (ToldRefused v)) (placed (empty f) s ++ b)) (sym n) (answer_refused l (placed (empty f) s) c.number v (value_none l c v (placed (empty f) s) w z)))
+pub refused_now : (l : Law) (f : ℕ) (s : List Event) (x : Event) (c : Call) (a : Answer) (v : ℕ) → acts (after f s) x ≡ Some (Goes c a) → c.value ≡ Some v → is_moment (ReplyRefused v) c.state.phase a ≡ true → placed_by (Some (Goes c a)) ≡ [] → weigh (λ u. one_if (accepts_value l c u)) (placed (empty f) s) ≡ 0 → IsRight l f (s ++ x ∷ []) (say c.number (ReplyRefused v))
+refused_now l f s x c a v h w m n z = right_here l f s x (say c.number (ReplyRefused v)) c a h refl m (meets_none (ReplyRefused v) _ refl) (subst (λ b. Answers l.equal (placed (empty f) s) (asked l (say c.number (ReplyRefused v))) (answered (ReplyRefused v)) (placed (empty f) s ++ b)) (sym n) (answer_refused l (placed (empty f) s) c.number v (value_none l c v (placed (empty f) s) w z)))
 
-pub refused_failed : (l : Law) (f : ℕ) (s : List Event) (x : Event) (i : ℕ) (c : Call) (g : Gen) → current (after f s).table ≡ Some g → Here l f s x c Failed i → c.state.phase ≡ Owned → InvAfter f s → LawOk l (after f s) → (v : ℕ) → c.value ≡ Some v → may_refuse LeaveFailed c.state.outcome (is_current (after f s).table.gens c.state.walked) ≡ true → IsRight l f (s ++ x ∷ []) (say c.number (ToldRefused v))
+pub refused_failed : (l : Law) (f : ℕ) (s : List Event) (x : Event) (i : ℕ) (c : Call) (g : Gen) → current (after f s).table ≡ Some g → Here l f s x c Failed i → c.state.phase ≡ Owned → InvAfter f s → LawOk l (after f s) → (v : ℕ) → c.value ≡ Some v → may_refuse LeaveFailed c.state.outcome (is_current (after f s).table.gens c.state.walked) ≡ true → IsRight l f (s ++ x ∷ []) (say c.number (ReplyRefused v))
 refused_failed l f s x i c g cu h e iv o v w z =
     let y = refuses_pending c.state.outcome _ z in
     refused_now l f s x c Failed v h.0 w (moment_failed v c.state.phase e) refl (none_at_failure l f s i c g h.1 e y.0 y.1 cu iv o)
 
-pub refused_row : (l : Law) (f : ℕ) (s : List Event) (i : ℕ) (c : Call) {p : Phase} {x : Event} {a : Answer} {r : CallState} {ls : List ℕ} {t : Table} {q : Option Told} → Row (after f s) c p x a r ls t q → Here l f s x c a i → c.state.phase ≡ p → InvAfter f s → LawOk l (after f s) → Fated l f s (after f s).table.gens c → (v : ℕ) → c.value ≡ Some v → may_refuse r.phase r.outcome (is_current t.gens r.walked) ≡ true → IsRight l f (s ++ x ∷ []) (say c.number (ToldRefused v))
+pub refused_row : (l : Law) (f : ℕ) (s : List Event) (i : ℕ) (c : Call) {p : Phase} {x : Event} {a : Answer} {r : CallState} {ls : List ℕ} {t : Table} {q : Option Reply} → Row (after f s) c p x a r ls t q → Here l f s x c a i → c.state.phase ≡ p → InvAfter f s → LawOk l (after f s) → Fated l f s (after f s).table.gens c → (v : ℕ) → c.value ≡ Some v → may_refuse r.phase r.outcome (is_current t.gens r.walked) ≡ true → IsRight l f (s ++ x ∷ []) (say c.number (ReplyRefused v))
 refused_row l f s i c (reads_empty n y b) h e iv o k v w z = refused_now l f s (Read n y) c Empty v h.0 w (moment_empty v c.state.phase e) refl (fresh_value l (after f s) (placed (empty f) s) (replies (empty f) s) i c h.1 b (ap probing e) (ap stands e) (ap is_asking e) iv o)
 refused_row l f s i c (fails_first n b) h e iv o k v w z = refused_now l f s (Check n false) c Failed v h.0 w (moment_failed v c.state.phase e) refl (none_at_first l (after f s) (placed (empty f) s) c b iv.holding)
 refused_row l f s i c (fails_largest n m g b y u) h e iv o k v w z = refused_failed l f s (Check n m) i c g b h e iv o v w z
 refused_row l f s i c (fails_refused n g b y) h e iv o k v w z = refused_failed l f s (Check n false) i c g b h e iv o v w z
-refused_row l f s i c (memory_refused n y) h e iv o k v w z = right_later l f s (Put n y false) (say c.number (ToldRefused v)) (λ q. ap (λ z. answers_so may_be_refused z c.number) h.0 ∙ not_try c AtEmpty MemoryRefused c.number e refl) (k.refused v w (rw e refl))
+refused_row l f s i c (memory_refused n y) h e iv o k v w z = right_later l f s (Put n y false) (say c.number (ReplyRefused v)) (λ q. ap (λ z. answers_so may_be_refused z c.number) h.0 ∙ not_try c AtEmpty MemoryRefused c.number e refl) (k.refused v w (rw e refl))
 refused_row l f s i c _ h e iv o k v w z = absurd (cc)
 
 -- Look-ups
@@ -309,7 +311,7 @@ abbrev is_look_probe : Phase → Bool
 is_look_probe LookProbe = true
 is_look_probe _ = false
 
-pub looked_row : (l : Law) (f : ℕ) (s : List Event) (i : ℕ) (c : Call) {p : Phase} {x : Event} {a : Answer} {r : CallState} {ls : List ℕ} {t : Table} {q : Option Told} → Row (after f s) c p x a r ls t q → Here l f s x c a i → c.state.phase ≡ p → InvAfter f s → Fated l f s (after f s).table.gens c → r.phase ≡ LookProbe → LookedAt f (s ++ x ∷ []) t.gens (left c r ls)
+pub looked_row : (l : Law) (f : ℕ) (s : List Event) (i : ℕ) (c : Call) {p : Phase} {x : Event} {a : Answer} {r : CallState} {ls : List ℕ} {t : Table} {q : Option Reply} → Row (after f s) c p x a r ls t q → Here l f s x c a i → c.state.phase ≡ p → InvAfter f s → Fated l f s (after f s).table.gens c → r.phase ≡ LookProbe → LookedAt f (s ++ x ∷ []) t.gens (left c r ls)
 looked_row l f s i c (looks n g b) h e iv k z = record {
   at = taken_now f s (Load n) c.number c (Loaded (length (after f s).table.gens - 1) g.capacity) h.0 refl;
   load = e;
@@ -325,7 +327,7 @@ looked_row l f s i c (looks n g b) h e iv k z = record {
 looked_row l f s i c (look_goes_on n y d b u lt) h e iv k z = looked_later f s (Read n y) (after f s).table.gens (after f s).table.gens c _ _ refl (same_grew (after f s).table.gens) ((iv.tracked.at i c h.1).probes (ap probing e)) (k.looked e)
 looked_row l f s i c _ h e iv k z = absurd (let q : is_look_probe LookProbe ≡ true = refl in let m = ap is_look_probe z in cc)
 
-pub fated_row : (l : Law) (f : ℕ) (s : List Event) (i : ℕ) (c : Call) {p : Phase} {x : Event} {a : Answer} {r : CallState} {ls : List ℕ} {t : Table} {q : Option Told} → Row (after f s) c p x a r ls t q → AllGrew (after f s).table.gens t.gens → Here l f s x c a i → c.state.phase ≡ p → InvAfter f s → LawOk l (after f s) → UsesBy l (after f s) c c.state.phase x → Fated l f s (after f s).table.gens c → Fated l f (s ++ x ∷ []) t.gens (left c r ls)
+pub fated_row : (l : Law) (f : ℕ) (s : List Event) (i : ℕ) (c : Call) {p : Phase} {x : Event} {a : Answer} {r : CallState} {ls : List ℕ} {t : Table} {q : Option Reply} → Row (after f s) c p x a r ls t q → AllGrew (after f s).table.gens t.gens → Here l f s x c a i → c.state.phase ≡ p → InvAfter f s → LawOk l (after f s) → UsesBy l (after f s) c c.state.phase x → Fated l f s (after f s).table.gens c → Fated l f (s ++ x ∷ []) t.gens (left c r ls)
 fated_row l f s i c row g h e iv o fb k = record {
   placed = placed_row l f s i c row h e iv o k;
   found = found_row l f s i c row g h e iv fb k;
@@ -357,7 +359,7 @@ not_both w i j c d l g h e k =
     let m : owners w.calls + builders w.calls ≤ 1 = le_one _ _ l.alone in
     absurd (omega arith)
 
-pub fated_turn : (l : Law) (f : ℕ) (s : List Event) (x : Event) {v : World} {a : Option Act} {r : Option Reply} → Turn (after f s) x a v r → acts (after f s) x ≡ a → InvAfter f s → LawOk l (after f s) → ActsBy l (after f s) x a → AllFated l f s (after f s) → AllFated l f (s ++ x ∷ []) v
+pub fated_turn : (l : Law) (f : ℕ) (s : List Event) (x : Event) {v : World} {a : Option Act} {r : Option Finished} → Turn (after f s) x a v r → acts (after f s) x ≡ a → InvAfter f s → LawOk l (after f s) → ActsBy l (after f s) x a → AllFated l f s (after f s) → AllFated l f (s ++ x ∷ []) v
 fated_turn l f s x rests h iv o u k = λ i c g. fated_other l f s x (after f s).table.gens (after f s).table.gens c (same_grew (after f s).table.gens) (iv.tracked.at i c g) (rw h refl) (λ q. refl) (k i c g)
 fated_turn l f s x (opens n v p y ra b q z) h iv o u k = λ i c g. elim (get-push (after f s).calls (starts n v p y) c i g) [
   | inl m ↦ rw m.1 (fated_begin l f (s ++ x ∷ []) (after f s).table.gens b)
@@ -371,37 +373,37 @@ fated_turn l f s x (takes i c p a r list t q g e row nu) h iv o u k = λ j d m. 
 abbrev FatedAfter : Law → ℕ → List Event → Type 0
 FatedAfter l f s = IsLawful l f s → AllFated l f s (after f s)
 
-pub fated_snoc : (l : Law) (f : ℕ) → IsFirst f → (s : List Event) (x : Event) → FatedAfter l f s → FatedAfter l f (s ++ x ∷ [])
+pub fated_snoc : (l : Law) (f : ℕ) → IsFirstCapacity f → (s : List Event) (x : Event) → FatedAfter l f s → FatedAfter l f (s ++ x ∷ [])
 fated_snoc l f h s x k u =
     let b = lawful_before l s (x ∷ []) (empty f) u in
     fated_turn l f s x (turn_after f s x) refl (inv f h s) (law_after l f h s b) (lawful_then l s (x ∷ []) (empty f) u).0 (k b)
 
 -- what the calls of a lawful schedule will be told is right
-pub fated_after : (l : Law) (f : ℕ) → IsFirst f → (s : List Event) → IsLawful l f s → AllFated l f s (after f s)
+pub fated_after : (l : Law) (f : ℕ) → IsFirstCapacity f → (s : List Event) → IsLawful l f s → AllFated l f s (after f s)
 fated_after l f h s = by_snoc (FatedAfter l f) (λ u i c g. absurd (cc)) (fated_snoc l f h) s
 
 -- The event that ends a call
 
-pub refused_told : (v : Option ℕ) (b : Told) → refused v ≡ Some b → (u : ℕ) × (v ≡ Some u) × (b ≡ ToldRefused u)
+pub refused_told : (v : Option ℕ) (b : Reply) → refused v ≡ Some b → (u : ℕ) × (v ≡ Some u) × (b ≡ ReplyRefused u)
 refused_told None b h = absurd (cc)
-refused_told (Some u) b h = (u, refl, (let z : ToldRefused u ≡ b = cc in sym z))
+refused_told (Some u) b h = (u, refl, (let z : ReplyRefused u ≡ b = cc in sym z))
 
-pub right_told : (l : Law) (f : ℕ) (s : List Event) (n : ℕ) (a b : Told) → b ≡ a → IsRight l f s (say n a) → IsRight l f s (say n b)
+pub right_told : (l : Law) (f : ℕ) (s : List Event) (n : ℕ) (a b : Reply) → b ≡ a → IsRight l f s (say n a) → IsRight l f s (say n b)
 right_told l f s n a b e k = rw e k
 
-pub found_told : (o : Option Entry) (u : ℕ) (b : Told) → found_entry o u ≡ Some b → (e : Entry) × (o ≡ Some e) × (b ≡ ToldFound e.value u)
+pub found_told : (o : Option Entry) (u : ℕ) (b : Reply) → found_entry o u ≡ Some b → (e : Entry) × (o ≡ Some e) × (b ≡ ReplyFound e.value u)
 found_told None u b h = absurd (cc)
-found_told (Some e) u b h = (e, refl, (let z : ToldFound e.value u ≡ b = cc in sym z))
+found_told (Some e) u b h = (e, refl, (let z : ReplyFound e.value u ≡ b = cc in sym z))
 
-pub right_outcome_at : (l : Law) (f : ℕ) (s : List Event) (x : Event) (c : Call) (o : Outcome) (v : Option ℕ) → c.state.outcome ≡ o → c.value ≡ v → ((i : ℕ) → in_table c.state.phase (New i) ≡ true) → Fated l f s (after f s).table.gens c → (b : Told) → told_of_outcome o (after f s).table c.state v ≡ Some b → IsRight l f (s ++ x ∷ []) (say c.number b)
+pub right_outcome_at : (l : Law) (f : ℕ) (s : List Event) (x : Event) (c : Call) (o : Outcome) (v : Option ℕ) → c.state.outcome ≡ o → c.value ≡ v → ((i : ℕ) → in_table c.state.phase (New i) ≡ true) → Fated l f s (after f s).table.gens c → (b : Reply) → reply_of_outcome o (after f s).table c.state v ≡ Some b → IsRight l f (s ++ x ∷ []) (say c.number b)
 right_outcome_at l f s x c Pending None e w n k b h = absurd (cc)
 right_outcome_at l f s x c Pending (Some v) e w n k b h = absurd (cc)
 right_outcome_at l f s x c (New i) None e w n k b h = absurd (cc)
-right_outcome_at l f s x c (New i) (Some v) e w n k b h = right_told l f (s ++ x ∷ []) c.number (ToldPlaced v) b (let z : ToldPlaced v ≡ b = cc in sym z) (right_later l f s x (say c.number (ToldPlaced v)) (no_refusal _) (k.placed v w (ap (in_table c.state.phase) e ∙ n i)))
+right_outcome_at l f s x c (New i) (Some v) e w n k b h = right_told l f (s ++ x ∷ []) c.number (ReplyPlaced v) b (let z : ReplyPlaced v ≡ b = cc in sym z) (right_later l f s x (say c.number (ReplyPlaced v)) (no_refusal _) (k.placed v w (ap (in_table c.state.phase) e ∙ n i)))
 right_outcome_at l f s x c (Existing i) None e w n k b h = absurd (cc)
 right_outcome_at l f s x c (Existing i) (Some v) e w n k b h =
     let q = found_told (bucket_in (walked_gen (after f s).table c.state) i) v b h in
-    right_told l f (s ++ x ∷ []) c.number (ToldFound q.0.value v) b q.2 (right_later l f s x (say c.number (ToldFound q.0.value v)) (no_refusal _) (k.found v i q.0 w e q.1))
+    right_told l f (s ++ x ∷ []) c.number (ReplyFound q.0.value v) b q.2 (right_later l f s x (say c.number (ReplyFound q.0.value v)) (no_refusal _) (k.found v i q.0 w e q.1))
 
 pub new_in_table : (p q : Phase) → q ≡ p → ((i : ℕ) → in_table p (New i) ≡ true) → (i : ℕ) → in_table q (New i) ≡ true
 new_in_table p q e h i = ap (λ z. in_table z (New i)) e ∙ h i
@@ -409,11 +411,11 @@ new_in_table p q e h i = ap (λ z. in_table z (New i)) e ∙ h i
 pub look_value : (l : Law) (c : Call) (m : List ℕ) → c.value ≡ None → weigh (λ u. one_if (accepts_value l c u)) m ≡ 0 → AcceptsNone (l.test c.number) m
 look_value l c m e z = none_in (l.test c.number) m (rw e at z)
 
-pub moment_none : (p : Phase) (a : Answer) → p ≡ LookLoad → is_moment ToldNone p a ≡ true
+pub moment_none : (p : Phase) (a : Answer) → p ≡ LookLoad → is_moment ReplyNone p a ≡ true
 moment_none p a e = rw e refl
 
 -- a look-up that accepts nothing in its generation accepted nothing that was placed at its load
-pub right_none : (l : Law) (f : ℕ) (s : List Event) (x : Event) (c : Call) (k : ℕ) (g : Gen) → c.value ≡ None → c.state.walked ≡ Some k → slice_get (after f s).table.gens k ≡ Some g → ((e : Entry) → In e g.entries → accepts_value l c e.value ≡ false) → LookedAt f s (after f s).table.gens c → IsRight l f (s ++ x ∷ []) (say c.number ToldNone)
+pub right_none : (l : Law) (f : ℕ) (s : List Event) (x : Event) (c : Call) (k : ℕ) (g : Gen) → c.value ≡ None → c.state.walked ≡ Some k → slice_get (after f s).table.gens k ≡ Some g → ((e : Entry) → In e g.entries → accepts_value l c e.value ≡ false) → LookedAt f s (after f s).table.gens c → IsRight l f (s ++ x ∷ []) (say c.number ReplyNone)
 right_none l f s x c k g v wa ge none q =
     let z : weigh (λ e. one_if (accepts_value l c e.value)) g.entries ≡ 0 = none_passes (accepts_value l c) g.entries none in
     let m : weigh (λ u. one_if (accepts_value l c u)) (placed (empty f) q.at.before) ≤ values (λ u. one_if (accepts_value l c u)) g.entries = q.bound k g wa ge (λ u. one_if (accepts_value l c u)) in
@@ -422,31 +424,31 @@ right_none l f s x c k g v wa ge none q =
       at = taken_later f s c.number q.at x;
       moment = moment_none q.at.call.state.phase q.at.found q.load;
       last = λ h. absurd (cc);
-      meets = meets_none ToldNone _ refl;
+      meets = meets_none ReplyNone _ refl;
       answer = (look_value l c (placed (empty f) q.at.before) v y, q.same);
     }
 
-pub right_row : (l : Law) (f : ℕ) (s : List Event) (i : ℕ) (c : Call) {p : Phase} {x : Event} {a : Answer} {r : CallState} {ls : List ℕ} {t : Table} {q : Option Told} → Row (after f s) c p x a r ls t q → Here l f s x c a i → c.state.phase ≡ p → InvAfter f s → LawOk l (after f s) → UsesBy l (after f s) c c.state.phase x → Fated l f s (after f s).table.gens c → (b : Told) → q ≡ Some b → is_list_reply b ≡ true → IsRight l f (s ++ x ∷ []) (say c.number b)
+pub right_row : (l : Law) (f : ℕ) (s : List Event) (i : ℕ) (c : Call) {p : Phase} {x : Event} {a : Answer} {r : CallState} {ls : List ℕ} {t : Table} {q : Option Reply} → Row (after f s) c p x a r ls t q → Here l f s x c a i → c.state.phase ≡ p → InvAfter f s → LawOk l (after f s) → UsesBy l (after f s) c c.state.phase x → Fated l f s (after f s).table.gens c → (b : Reply) → q ≡ Some b → is_list_reply b ≡ true → IsRight l f (s ++ x ∷ []) (say c.number b)
 right_row l f s i c (leaves_refused n) h e iv o fb k b w z =
     let y = refused_told c.value b w in
-    right_told l f _ c.number (ToldRefused y.0) b y.2 (right_later l f s (Free n) (say c.number (ToldRefused y.0)) (λ q. ap (λ z. answers_so may_be_refused z c.number) h.0 ∙ not_try c LeaveRefused _ c.number e refl) (k.refused y.0 y.1 (rw e refl)))
+    right_told l f _ c.number (ReplyRefused y.0) b y.2 (right_later l f s (Free n) (say c.number (ReplyRefused y.0)) (λ q. ap (λ z. answers_so may_be_refused z c.number) h.0 ∙ not_try c LeaveRefused _ c.number e refl) (k.refused y.0 y.1 (rw e refl)))
 right_row l f s i c (small n g u lt) h e iv o fb k b w z = right_outcome_at l f s (Size n) c c.state.outcome c.value refl refl (new_in_table AskSize c.state.phase e (λ i. refl)) k b w
 right_row l f s i c (ends n u) h e iv o fb k b w z = right_outcome_at l f s (Free n) c c.state.outcome c.value refl refl (new_in_table LeaveOwned c.state.phase e (λ i. refl)) k b w
 right_row l f s i c (ends_failed n u) h e iv o fb k b w z = right_outcome_at l f s (Free n) c c.state.outcome c.value refl refl (new_in_table LeaveFailed c.state.phase e (λ i. refl)) k b w
 right_row l f s i c (gives_up n u cu) h e iv o fb k b w z =
     let y = refused_told c.value b w in
     let po : c.state.outcome ≡ Pending = pending_of c.state.outcome u in
-    right_told l f _ c.number (ToldRefused y.0) b y.2 (right_later l f s (Free n) (say c.number (ToldRefused y.0)) (λ q. ap (λ z. answers_so may_be_refused z c.number) h.0 ∙ not_try c LeaveFailed _ c.number e refl) (k.refused y.0 y.1 (rw (e, po, cu) refl)))
+    right_told l f _ c.number (ReplyRefused y.0) b y.2 (right_later l f s (Free n) (say c.number (ReplyRefused y.0)) (λ q. ap (λ z. answers_so may_be_refused z c.number) h.0 ∙ not_try c LeaveFailed _ c.number e refl) (k.refused y.0 y.1 (rw (e, po, cu) refl)))
 right_row l f s i c (looks_none n u) h e iv o fb k b w z =
     let v : c.value ≡ None = no_value LookLoad (refl, λ i. refl, λ i. refl, refl, λ i. refl, λ i. refl) c.value c.state.outcome (fit_at c _ _ (iv.calls.at i c h.1) e) in
-    right_told l f _ c.number ToldNone b (let y : ToldNone ≡ b = cc in sym y) (right_here l f s (Load n) (say c.number ToldNone) c NoGeneration h.0 refl (moment_none c.state.phase NoGeneration e) (meets_none ToldNone _ refl) (answer_none l (placed (empty f) s) c.number (look_value l c (placed (empty f) s) v (none_at_first l (after f s) (placed (empty f) s) c u iv.holding))))
+    right_told l f _ c.number ReplyNone b (let y : ReplyNone ≡ b = cc in sym y) (right_here l f s (Load n) (say c.number ReplyNone) c NoGeneration h.0 refl (moment_none c.state.phase NoGeneration e) (meets_none ReplyNone _ refl) (answer_none l (placed (empty f) s) c.number (look_value l c (placed (empty f) s) v (none_at_first l (after f s) (placed (empty f) s) c u iv.holding))))
 right_row l f s i c (look_empty n y u) h e iv o fb k b w z =
     let v : c.value ≡ None = no_value LookProbe (refl, λ i. refl, λ i. refl, refl, λ i. refl, λ i. refl) c.value c.state.outcome (fit_at c _ _ (iv.calls.at i c h.1) e) in
     let pr : probing c.state.phase ≡ true = ap probing e in
     let g = (iv.tracked.at i c h.1).probes pr in
     let j = o.calls i c h.1 in
-    let em : bucket g.gen.entries (at_place g.gen.capacity c.state.hash c.state.seen) ≡ None = rw (← g.index) (bucket_none (after f s).table c.state g.number g.gen g.walked g.got u) in
-    right_told l f _ c.number ToldNone b (let y : ToldNone ≡ b = cc in sym y) (right_none l f s (Read n y) c g.number g.gen v g.walked g.got (misses_at_empty l c g.gen c.state.seen (iv.seated.gens g.number g.gen g.got) (o.gens g.number g.gen g.got) (j.probes pr g.number g.gen g.walked g.got) (j.hash (ap is_asking e)) em) (k.looked e))
+    let em : bucket g.gen.entries (bucket_at g.gen.capacity c.state.hash c.state.seen) ≡ None = rw (← g.index) (bucket_none (after f s).table c.state g.number g.gen g.walked g.got u) in
+    right_told l f _ c.number ReplyNone b (let y : ReplyNone ≡ b = cc in sym y) (right_none l f s (Read n y) c g.number g.gen v g.walked g.got (misses_at_empty l c g.gen c.state.seen (iv.seated.gens g.number g.gen g.got) (o.gens g.number g.gen g.got) (j.probes pr g.number g.gen g.walked g.got) (j.hash (ap is_asking e)) em) (k.looked e))
 right_row l f s i c (look_turns n y d u nay lt) h e iv o fb k b w z =
     let v : c.value ≡ None = no_value LookProbe (refl, λ i. refl, λ i. refl, refl, λ i. refl, λ i. refl) c.value c.state.outcome (fit_at c _ _ (iv.calls.at i c h.1) e) in
     let pr : probing c.state.phase ≡ true = ap probing e in
@@ -456,32 +458,32 @@ right_row l f s i c (look_turns n y d u nay lt) h e iv o fb k b w z =
     let all = missed_more l (after f s) c d g u ref (j.probes pr) in
     let full : c.state.capacity ≤ c.state.seen + 1 = ltb-false (c.state.seen + 1) c.state.capacity lt in
     let cap : g.gen.capacity ≤ c.state.seen + 1 = rw g.capacity at full in
-    right_told l f _ c.number ToldNone b (let y : ToldNone ≡ b = cc in sym y) (right_none l f s (Read n y) c g.number g.gen v g.walked g.got (misses_at_turn l c g.gen (c.state.seen + 1) (iv.seated.gens g.number g.gen g.got) (o.gens g.number g.gen g.got) all (j.hash (ap is_asking e)) cap) (k.looked e))
+    right_told l f _ c.number ReplyNone b (let y : ReplyNone ≡ b = cc in sym y) (right_none l f s (Read n y) c g.number g.gen v g.walked g.got (misses_at_turn l c g.gen (c.state.seen + 1) (iv.seated.gens g.number g.gen g.got) (o.gens g.number g.gen g.got) all (j.hash (ap is_asking e)) cap) (k.looked e))
 right_row l f s i c (look_meets n y d u ok) h e iv o fb k b w z =
     let v : c.value ≡ None = no_value LookProbe (refl, λ i. refl, λ i. refl, refl, λ i. refl, λ i. refl) c.value c.state.outcome (fit_at c _ _ (iv.calls.at i c h.1) e) in
     let ac : accepts_value l c d.value ≡ true = accepted_at l (after f s) c LookProbe (Read n y) d y e (λ x. x) u ok fb in
     let te : l.test c.number d.value ≡ true = rw v at ac in
-    right_told l f _ c.number (ToldSome d.value) b (let y : ToldSome d.value ≡ b = cc in sym y) (right_here l f s (Read n y) (say c.number (ToldSome d.value)) c _ h.0 refl (moment_look d.value c.state.phase _ y e ok) (λ n g. (d, u, (let t : d.value ≡ n = cc in t))) (answer_some l (placed (empty f) s) c.number d.value (bucket_placed (after f s) (placed (empty f) s) c d iv.within ((iv.tracked.at i c h.1).probes (ap probing e)) u) te))
-right_row l f s i c (len_none _ _) h e iv o fb k b w z = absurd (let y : ToldLen 0 ≡ b = cc in let m : is_list_reply (ToldLen 0) ≡ true = ap is_list_reply y ∙ z in cc)
-right_row l f s i c (len_size n g u) h e iv o fb k b w z = absurd (let y : ToldLen g.size ≡ b = cc in let m : is_list_reply (ToldLen g.size) ≡ true = ap is_list_reply y ∙ z in cc)
-right_row l f s i c (walk_none _ _) h e iv o fb k b w z = absurd (let y : ToldWalk [] ≡ b = cc in let m : is_list_reply (ToldWalk []) ≡ true = ap is_list_reply y ∙ z in cc)
-right_row l f s i c (walk_skips_last _ _ _ _) h e iv o fb k b w z = absurd (let y : ToldWalk c.list ≡ b = cc in let m : is_list_reply (ToldWalk c.list) ≡ true = ap is_list_reply y ∙ z in cc)
-right_row l f s i c (walk_takes_last _ _ d _ _) h e iv o fb k b w z = absurd (let y : ToldWalk (c.list ++ d.value ∷ []) ≡ b = cc in let m : is_list_reply (ToldWalk (c.list ++ d.value ∷ [])) ≡ true = ap is_list_reply y ∙ z in cc)
+    right_told l f _ c.number (ReplySome d.value) b (let y : ReplySome d.value ≡ b = cc in sym y) (right_here l f s (Read n y) (say c.number (ReplySome d.value)) c _ h.0 refl (moment_look d.value c.state.phase _ y e ok) (λ n g. (d, u, (let t : d.value ≡ n = cc in t))) (answer_some l (placed (empty f) s) c.number d.value (bucket_placed (after f s) (placed (empty f) s) c d iv.within ((iv.tracked.at i c h.1).probes (ap probing e)) u) te))
+right_row l f s i c (len_none _ _) h e iv o fb k b w z = absurd (let y : ReplyLen 0 ≡ b = cc in let m : is_list_reply (ReplyLen 0) ≡ true = ap is_list_reply y ∙ z in cc)
+right_row l f s i c (len_size n g u) h e iv o fb k b w z = absurd (let y : ReplyLen g.size ≡ b = cc in let m : is_list_reply (ReplyLen g.size) ≡ true = ap is_list_reply y ∙ z in cc)
+right_row l f s i c (walk_none _ _) h e iv o fb k b w z = absurd (let y : ReplyWalk [] ≡ b = cc in let m : is_list_reply (ReplyWalk []) ≡ true = ap is_list_reply y ∙ z in cc)
+right_row l f s i c (walk_skips_last _ _ _ _) h e iv o fb k b w z = absurd (let y : ReplyWalk c.list ≡ b = cc in let m : is_list_reply (ReplyWalk c.list) ≡ true = ap is_list_reply y ∙ z in cc)
+right_row l f s i c (walk_takes_last _ _ d _ _) h e iv o fb k b w z = absurd (let y : ReplyWalk (c.list ++ d.value ∷ []) ≡ b = cc in let m : is_list_reply (ReplyWalk (c.list ++ d.value ∷ [])) ≡ true = ap is_list_reply y ∙ z in cc)
 right_row l f s i c _ h e iv o fb k b w z = absurd (cc)
 
-pub told_by_reply : (n : ℕ) (o : Option Told) (r : Reply) → reply_to n o ≡ Some r → (b : Told) × (o ≡ Some b) × (say n b ≡ r)
+pub told_by_reply : (n : ℕ) (o : Option Reply) (r : Finished) → finished_call n o ≡ Some r → (b : Reply) × (o ≡ Some b) × (say n b ≡ r)
 told_by_reply n None r h = absurd (cc)
 told_by_reply n (Some b) r h = (b, refl, (let z : say n b ≡ r = cc in z))
 
-pub right_turn : (l : Law) (f : ℕ) (s : List Event) (x : Event) {v : World} {a : Option Act} {q : Option Reply} → Turn (after f s) x a v q → acts (after f s) x ≡ a → InvAfter f s → LawOk l (after f s) → ActsBy l (after f s) x a → AllFated l f s (after f s) → (r : Reply) → q ≡ Some r → is_list_reply r.told ≡ true → IsRight l f (s ++ x ∷ []) r
+pub right_turn : (l : Law) (f : ℕ) (s : List Event) (x : Event) {v : World} {a : Option Act} {q : Option Finished} → Turn (after f s) x a v q → acts (after f s) x ≡ a → InvAfter f s → LawOk l (after f s) → ActsBy l (after f s) x a → AllFated l f s (after f s) → (r : Finished) → q ≡ Some r → is_list_reply r.reply ≡ true → IsRight l f (s ++ x ∷ []) r
 right_turn l f s x rests h iv o u k r w z = absurd (cc)
 right_turn l f s x (opens _ _ _ _ _ _ _ _) h iv o u k r w z = absurd (cc)
 right_turn l f s x (takes i c p a st list t q g e row nu) h iv o u k r w z =
     let y = told_by_reply c.number q r w in
-    rw (← y.2) (right_row l f s i c row (h, g) e iv o u (k i c g) y.0 y.1 (ap (λ (m : Reply). is_list_reply m.told) y.2 ∙ z))
+    rw (← y.2) (right_row l f s i c row (h, g) e iv o u (k i c g) y.0 y.1 (ap (λ (m : Finished). is_list_reply m.reply) y.2 ∙ z))
 
 -- each finished insert and look-up is right
-pub right : (l : Law) (f : ℕ) (s : List Event) (x : Event) (r : Reply) → IsFirst f → IsLawful l f (s ++ x ∷ []) → Ends f s x r → is_list_reply r.told ≡ true → IsRight l f (s ++ x ∷ []) r
+pub right : (l : Law) (f : ℕ) (s : List Event) (x : Event) (r : Finished) → IsFirstCapacity f → IsLawful l f (s ++ x ∷ []) → Ends f s x r → is_list_reply r.reply ≡ true → IsRight l f (s ++ x ∷ []) r
 right l f s x r h u e z =
     let b = lawful_before l s (x ∷ []) (empty f) u in
     right_turn l f s x (turn_after f s x) refl (inv f h s) (law_after l f h s b) (lawful_then l s (x ∷ []) (empty f) u).0 (fated_after l f h s b) r e z

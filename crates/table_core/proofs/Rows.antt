@@ -1,10 +1,11 @@
 -- The machine takes exactly the rows of the table of events.
 use Rattle.std.proofs.Common.{eqb-true, ℕ, ◌≡◌, ◌+◌, ◌/◌, ◌^◌, ◌++◌, [], ◌∷◌, Bool, true, false, refl, Option, Some, None, length, subst}
 use Rattle.std.specs.Prelude.{◌==◌, ◌&&◌, ◌||◌, nat_lt, if◌then◌else◌, not}
-use Rattle.table_core.specs.Replies.{ToldNone, ToldWalk}
-use Rattle.table_core.specs.Generations.{Gen, Table, bits_of, current, is_current, next_copied}
+use Rattle.table_core.specs.Replies.{ReplyNone, ReplyWalk}
+use Rattle.table_core.specs.Generations.{Gen, Table, current, is_current, next_copied}
+use Rattle.terms.specs.Hashes.{bits_of}
 use Rattle.table_core.specs.Calls.{Call, starts, is_used, is_used_value, call_numbered, is_owned, is_locked, to, is_pending, decided}
-use Rattle.table_core.specs.Machine.{World, takes_unless, loaded, walked_gen, bucket_at, read, exchanged, sized, checked, finds_in, finds, changed, refused, told_of_outcome, by_outcome, look_told, told_in, list_in, number_of, in_range, Act, begins_unless, goes_by, act_of, acts, after_act, reply_by}
+use Rattle.table_core.specs.Machine.{World, takes_unless, loaded, walked_gen, bucket_of, read, exchanged, sized, checked, finds_in, finds, changed, refused, reply_of_outcome, by_outcome, look_reply, reply_in, list_in, number_of, in_range, Act, begins_unless, goes_by, act_of, acts, after_act, finished_by}
 use Rattle.table_core.specs.Calls.{meets as meets_at, looks as looks_at}
 use Rattle.table_core.specs.Machine.{copies as copies_left, shows as shows_left, goes as goes_with}
 use Rattle.table_core.specs.Steps.{accepts, next_bucket, turned, Row, shares, loads_none, loads, reads_empty, meets, turns, goes_on, memory_refused, puts, loses_meets, loses_turns, loses_goes_on, adds, leaves_ok, leaves_grow, leaves_refused, large, small, owns, begins_first, fails_first, unwanted, fails_largest, fails_refused, begins_next, copies, shows, ends, starts_over, ends_failed, gives_up, tries_again, looks_none, looks, look_empty, look_meets, look_turns, look_goes_on, len_none, len_loads, len_size, walk_none, walk_loads, walk_skips_last, walk_takes_last, walk_skips, walk_takes, Opens, opens_insert, opens_lookup, opens_len, opens_walk, IsNewValue, Takes, begins, goes}
@@ -22,7 +23,7 @@ use Rattle.table_core.proofs.Truth.{or-false}
 
 -- what a phase makes of an event and its answer is a row
 abbrev Rows : World → Call → Phase → Event → Answer → Type 0
-Rows w c p x a = Row w c p x a (decided p c.state a) (list_in p w.table c a) (changed w.table c x a) (told_in p w.table c a)
+Rows w c p x a = Row w c p x a (decided p c.state a) (list_in p w.table c a) (changed w.table c x a) (reply_in p w.table c a)
 
 pub along : (P : Answer → Type 0) (x a : Answer) → Some x ≡ Some a → P x → P a
 along P x a h px = let e : x ≡ a = cc in subst P e px
@@ -51,55 +52,55 @@ pub row_walk : (w : World) (c : Call) (n : ℕ) (o : Option Gen) → current w.t
 row_walk w c n None h = walk_none n h
 row_walk w c n (Some g) h = walk_loads n g h
 
-pub pass_row : (w : World) (c : Call) (n : ℕ) (y : Bool) (e : Entry) → bucket_at w.table c.state ≡ Some e → accepts e c.state y ≡ false → (b : Bool) → nat_lt (c.state.seen + 1) c.state.capacity ≡ b → Row w c Probe (Read n y) (Holds (e.bits == bits_of c.state.hash) y) (if b then next_bucket Probe c.state else turned LeaveGrow c.state) c.list w.table None
+pub pass_row : (w : World) (c : Call) (n : ℕ) (y : Bool) (e : Entry) → bucket_of w.table c.state ≡ Some e → accepts e c.state y ≡ false → (b : Bool) → nat_lt (c.state.seen + 1) c.state.capacity ≡ b → Row w c Probe (Read n y) (Holds (e.bits == bits_of c.state.hash) y) (if b then next_bucket Probe c.state else turned LeaveGrow c.state) c.list w.table None
 pass_row w c n y e h f true g = goes_on n y e h f g
 pass_row w c n y e h f false g = turns n y e h f g
 
-pub meet_row : (w : World) (c : Call) (n : ℕ) (y : Bool) (e : Entry) → bucket_at w.table c.state ≡ Some e → (b : Bool) → accepts e c.state y ≡ b → Row w c Probe (Read n y) (Holds (e.bits == bits_of c.state.hash) y) (meets_at c.state b) c.list w.table None
+pub meet_row : (w : World) (c : Call) (n : ℕ) (y : Bool) (e : Entry) → bucket_of w.table c.state ≡ Some e → (b : Bool) → accepts e c.state y ≡ b → Row w c Probe (Read n y) (Holds (e.bits == bits_of c.state.hash) y) (meets_at c.state b) c.list w.table None
 meet_row w c n y e h true f = meets n y e h f
 meet_row w c n y e h false f = pass_row w c n y e h f (nat_lt (c.state.seen + 1) c.state.capacity) refl
 
-pub row_probe : (w : World) (c : Call) (n : ℕ) (y : Bool) (o : Option Entry) → bucket_at w.table c.state ≡ o → Rows w c Probe (Read n y) (read o c.state.hash y)
+pub row_probe : (w : World) (c : Call) (n : ℕ) (y : Bool) (o : Option Entry) → bucket_of w.table c.state ≡ o → Rows w c Probe (Read n y) (read o c.state.hash y)
 row_probe w c n y None h = reads_empty n y h
 row_probe w c n y (Some e) h = meet_row w c n y e h (accepts e c.state y) refl
 
-pub lost_pass_row : (w : World) (c : Call) (n : ℕ) (y : Bool) (e : Entry) → bucket_at w.table c.state ≡ Some e → accepts e c.state y ≡ false → (b : Bool) → nat_lt (c.state.seen + 1) c.state.capacity ≡ b → Row w c AtEmpty (Put n y true) (Holds (e.bits == bits_of c.state.hash) y) (if b then next_bucket Probe c.state else turned LeaveGrow c.state) c.list w.table None
+pub lost_pass_row : (w : World) (c : Call) (n : ℕ) (y : Bool) (e : Entry) → bucket_of w.table c.state ≡ Some e → accepts e c.state y ≡ false → (b : Bool) → nat_lt (c.state.seen + 1) c.state.capacity ≡ b → Row w c AtEmpty (Put n y true) (Holds (e.bits == bits_of c.state.hash) y) (if b then next_bucket Probe c.state else turned LeaveGrow c.state) c.list w.table None
 lost_pass_row w c n y e h f true g = loses_goes_on n y e h f g
 lost_pass_row w c n y e h f false g = loses_turns n y e h f g
 
-pub lost_meet_row : (w : World) (c : Call) (n : ℕ) (y : Bool) (e : Entry) → bucket_at w.table c.state ≡ Some e → (b : Bool) → accepts e c.state y ≡ b → Row w c AtEmpty (Put n y true) (Holds (e.bits == bits_of c.state.hash) y) (meets_at c.state b) c.list w.table None
+pub lost_meet_row : (w : World) (c : Call) (n : ℕ) (y : Bool) (e : Entry) → bucket_of w.table c.state ≡ Some e → (b : Bool) → accepts e c.state y ≡ b → Row w c AtEmpty (Put n y true) (Holds (e.bits == bits_of c.state.hash) y) (meets_at c.state b) c.list w.table None
 lost_meet_row w c n y e h true f = loses_meets n y e h f
 lost_meet_row w c n y e h false f = lost_pass_row w c n y e h f (nat_lt (c.state.seen + 1) c.state.capacity) refl
 
-pub row_exchange : (w : World) (c : Call) (n : ℕ) (y : Bool) (o : Option Entry) → bucket_at w.table c.state ≡ o → Rows w c AtEmpty (Put n y true) (exchanged o c.state.hash y)
+pub row_exchange : (w : World) (c : Call) (n : ℕ) (y : Bool) (o : Option Entry) → bucket_of w.table c.state ≡ o → Rows w c AtEmpty (Put n y true) (exchanged o c.state.hash y)
 row_exchange w c n y None h = puts n y h
 row_exchange w c n y (Some e) h = lost_meet_row w c n y e h (accepts e c.state y) refl
 
-pub row_put : (w : World) (c : Call) (n : ℕ) (y m : Bool) → Rows w c AtEmpty (Put n y m) (if m then exchanged (bucket_at w.table c.state) c.state.hash y else MemoryRefused)
-row_put w c n y true = row_exchange w c n y (bucket_at w.table c.state) refl
+pub row_put : (w : World) (c : Call) (n : ℕ) (y m : Bool) → Rows w c AtEmpty (Put n y m) (if m then exchanged (bucket_of w.table c.state) c.state.hash y else MemoryRefused)
+row_put w c n y true = row_exchange w c n y (bucket_of w.table c.state) refl
 row_put w c n y false = memory_refused n y
 
-pub look_pass_row : (w : World) (c : Call) (n : ℕ) (y : Bool) (e : Entry) → bucket_at w.table c.state ≡ Some e → accepts e c.state y ≡ false → (b : Bool) → nat_lt (c.state.seen + 1) c.state.capacity ≡ b → Row w c LookProbe (Read n y) (Holds (e.bits == bits_of c.state.hash) y) (if b then next_bucket LookProbe c.state else turned Done c.state) c.list w.table (if b then None else Some ToldNone)
+pub look_pass_row : (w : World) (c : Call) (n : ℕ) (y : Bool) (e : Entry) → bucket_of w.table c.state ≡ Some e → accepts e c.state y ≡ false → (b : Bool) → nat_lt (c.state.seen + 1) c.state.capacity ≡ b → Row w c LookProbe (Read n y) (Holds (e.bits == bits_of c.state.hash) y) (if b then next_bucket LookProbe c.state else turned Done c.state) c.list w.table (if b then None else Some ReplyNone)
 look_pass_row w c n y e h f true g = look_goes_on n y e h f g
 look_pass_row w c n y e h f false g = look_turns n y e h f g
 
-pub look_meet_row : (w : World) (c : Call) (n : ℕ) (y : Bool) (e : Entry) → bucket_at w.table c.state ≡ Some e → (b : Bool) → accepts e c.state y ≡ b → Row w c LookProbe (Read n y) (Holds (e.bits == bits_of c.state.hash) y) (looks_at c.state b) c.list w.table (look_told w.table c.state b)
+pub look_meet_row : (w : World) (c : Call) (n : ℕ) (y : Bool) (e : Entry) → bucket_of w.table c.state ≡ Some e → (b : Bool) → accepts e c.state y ≡ b → Row w c LookProbe (Read n y) (Holds (e.bits == bits_of c.state.hash) y) (looks_at c.state b) c.list w.table (look_reply w.table c.state b)
 look_meet_row w c n y e h true f = rw h (look_meets n y e h f)
 look_meet_row w c n y e h false f = look_pass_row w c n y e h f (nat_lt (c.state.seen + 1) c.state.capacity) refl
 
-pub row_look_probe : (w : World) (c : Call) (n : ℕ) (y : Bool) (o : Option Entry) → bucket_at w.table c.state ≡ o → Rows w c LookProbe (Read n y) (read o c.state.hash y)
+pub row_look_probe : (w : World) (c : Call) (n : ℕ) (y : Bool) (o : Option Entry) → bucket_of w.table c.state ≡ o → Rows w c LookProbe (Read n y) (read o c.state.hash y)
 row_look_probe w c n y None h = look_empty n y h
 row_look_probe w c n y (Some e) h = look_meet_row w c n y e h (accepts e c.state y) refl
 
-pub walk_skip_row : (w : World) (c : Call) (n : ℕ) (y : Bool) → bucket_at w.table c.state ≡ None → (b : Bool) → nat_lt (c.state.index + 1) c.state.capacity ≡ b → Row w c WalkAt (Read n y) Empty (if b then record c.state { phase = WalkAt; index = c.state.index + 1 } else record c.state { phase = Done; index = c.state.index + 1 }) (if b then c.list else []) w.table (if b then None else Some (ToldWalk c.list))
+pub walk_skip_row : (w : World) (c : Call) (n : ℕ) (y : Bool) → bucket_of w.table c.state ≡ None → (b : Bool) → nat_lt (c.state.index + 1) c.state.capacity ≡ b → Row w c WalkAt (Read n y) Empty (if b then record c.state { phase = WalkAt; index = c.state.index + 1 } else record c.state { phase = Done; index = c.state.index + 1 }) (if b then c.list else []) w.table (if b then None else Some (ReplyWalk c.list))
 walk_skip_row w c n y h true g = walk_skips n y h g
 walk_skip_row w c n y h false g = walk_skips_last n y h g
 
-pub walk_take_row : (w : World) (c : Call) (n : ℕ) (y : Bool) (e : Entry) → bucket_at w.table c.state ≡ Some e → (b : Bool) → nat_lt (c.state.index + 1) c.state.capacity ≡ b → Row w c WalkAt (Read n y) (Holds (e.bits == bits_of c.state.hash) y) (if b then record c.state { phase = WalkAt; index = c.state.index + 1 } else record c.state { phase = Done; index = c.state.index + 1 }) (if b then c.list ++ e.value ∷ [] else []) w.table (if b then None else Some (ToldWalk (c.list ++ e.value ∷ [])))
+pub walk_take_row : (w : World) (c : Call) (n : ℕ) (y : Bool) (e : Entry) → bucket_of w.table c.state ≡ Some e → (b : Bool) → nat_lt (c.state.index + 1) c.state.capacity ≡ b → Row w c WalkAt (Read n y) (Holds (e.bits == bits_of c.state.hash) y) (if b then record c.state { phase = WalkAt; index = c.state.index + 1 } else record c.state { phase = Done; index = c.state.index + 1 }) (if b then c.list ++ e.value ∷ [] else []) w.table (if b then None else Some (ReplyWalk (c.list ++ e.value ∷ [])))
 walk_take_row w c n y e h true g = walk_takes n y e h g
 walk_take_row w c n y e h false g = walk_takes_last n y e h g
 
-pub row_walk_read : (w : World) (c : Call) (n : ℕ) (y : Bool) (o : Option Entry) → bucket_at w.table c.state ≡ o → Rows w c WalkAt (Read n y) (read o c.state.hash y)
+pub row_walk_read : (w : World) (c : Call) (n : ℕ) (y : Bool) (o : Option Entry) → bucket_of w.table c.state ≡ o → Rows w c WalkAt (Read n y) (read o c.state.hash y)
 row_walk_read w c n y None h = walk_skip_row w c n y h (nat_lt (c.state.index + 1) c.state.capacity) refl
 row_walk_read w c n y (Some e) h = rw h (walk_take_row w c n y e h (nat_lt (c.state.index + 1) c.state.capacity) refl)
 
@@ -138,7 +139,7 @@ pub row_show : (w : World) (c : Call) (n : ℕ) (o : Option Entry) → next_copi
 row_show w c n None h a f = along (Rows w c Building (Show n)) _ a f (shows n h)
 row_show w c n (Some e) h a f = absurd (cc)
 
-pub pending_told : (t : Table) (s : CallState) (v : Option ℕ) (o : Outcome) → is_pending o ≡ true → told_of_outcome o t s v ≡ None
+pub pending_told : (t : Table) (s : CallState) (v : Option ℕ) (o : Outcome) → is_pending o ≡ true → reply_of_outcome o t s v ≡ None
 pending_told t s None Pending h = refl
 pending_told t s (Some v) Pending h = refl
 pending_told t s v (New i) h = absurd (cc)
@@ -158,7 +159,7 @@ fail_row w c n false false h k = rw (← k) (ends_failed n h)
 pub row : (w : World) (c : Call) (p : Phase) (x : Event) (a : Answer) → finds_in p w c.state x ≡ Some a → Rows w c p x a
 row w c WantShared (Share n) a f = row_share w c n (is_owned w.calls) refl a f
 row w c Shared (Load n) a f = along (Rows w c Shared (Load n)) _ a f (row_load w c n (current w.table) refl)
-row w c Probe (Read n y) a f = along (Rows w c Probe (Read n y)) _ a f (row_probe w c n y (bucket_at w.table c.state) refl)
+row w c Probe (Read n y) a f = along (Rows w c Probe (Read n y)) _ a f (row_probe w c n y (bucket_of w.table c.state) refl)
 row w c AtEmpty (Put n y m) a f = along (Rows w c AtEmpty (Put n y m)) _ a f (row_put w c n y m)
 row w c Placed (Add n) a f = along (Rows w c Placed (Add n)) _ a f (adds n)
 row w c LeaveOk (Free n) a f = along (Rows w c LeaveOk (Free n)) _ a f (leaves_ok n)
@@ -172,17 +173,17 @@ row w c Building (Show n) a f = row_show w c n (next_copied w.table) refl a f
 row w c LeaveOwned (Free n) a f = along (Rows w c LeaveOwned (Free n)) _ a f (end_row w c n (is_pending c.state.outcome) refl)
 row w c LeaveFailed (Free n) a f = along (Rows w c LeaveFailed (Free n)) _ a f (fail_row w c n (is_pending c.state.outcome) (is_current w.table.gens c.state.walked) refl refl)
 row w c LookLoad (Load n) a f = along (Rows w c LookLoad (Load n)) _ a f (row_look w c n (current w.table) refl)
-row w c LookProbe (Read n y) a f = along (Rows w c LookProbe (Read n y)) _ a f (row_look_probe w c n y (bucket_at w.table c.state) refl)
+row w c LookProbe (Read n y) a f = along (Rows w c LookProbe (Read n y)) _ a f (row_look_probe w c n y (bucket_of w.table c.state) refl)
 row w c LenLoad (Load n) a f = along (Rows w c LenLoad (Load n)) _ a f (row_len w c n (current w.table) refl)
 row w c LenSize (Size n) a f = row_len_size w c n (walked_gen w.table c.state) refl a f
 row w c WalkLoad (Load n) a f = along (Rows w c WalkLoad (Load n)) _ a f (row_walk w c n (current w.table) refl)
-row w c WalkAt (Read n y) a f = along (Rows w c WalkAt (Read n y)) _ a f (row_walk_read w c n y (bucket_at w.table c.state) refl)
+row w c WalkAt (Read n y) a f = along (Rows w c WalkAt (Read n y)) _ a f (row_walk_read w c n y (bucket_of w.table c.state) refl)
 row w c _ x a f = absurd (cc)
 
 -- what is done is taken by the table of events
 abbrev pub StepsBy : World → Event → Option Act → Type 0
 StepsBy w x None = Unit {0}
-StepsBy w x (Some a) = Takes w x a (after_act w x (Some a)) (reply_by w (Some a))
+StepsBy w x (Some a) = Takes w x a (after_act w x (Some a)) (finished_by w (Some a))
 
 pub step_begins : (w : World) (x : Event) (n : ℕ) (v : Option ℕ) (p : Phase) (h : ℕ) (b : Bool) → in_range x ≡ true → Opens x n v p h → (b ≡ false → (is_used n w.calls ≡ false) × IsNewValue w.calls v) → StepsBy w x (begins_unless b (starts n v p h))
 step_begins w x n v p h true r o f = tt
@@ -190,7 +191,7 @@ step_begins w x n v p h false r o f = begins n v p h r o (f refl).0 (f refl).1
 
 pub step_finds : (w : World) (x : Event) (c : Call) (o : Option Answer) → in_range x ≡ true → call_numbered (number_of x) w.calls ≡ Some c → finds w c.state x ≡ o → StepsBy w x (goes_by c o)
 step_finds w x c None r h f = tt
-step_finds w x c (Some a) r h f = goes c c.state.phase a (decided c.state.phase c.state a) (list_in c.state.phase w.table c a) (changed w.table c x a) (told_in c.state.phase w.table c a) r h refl (row w c c.state.phase x a f)
+step_finds w x c (Some a) r h f = goes c c.state.phase a (decided c.state.phase c.state a) (list_in c.state.phase w.table c a) (changed w.table c x a) (reply_in c.state.phase w.table c a) r h refl (row w c c.state.phase x a f)
 
 pub step_goes : (w : World) (x : Event) (o : Option Call) → in_range x ≡ true → call_numbered (number_of x) w.calls ≡ o → StepsBy w x (goes_with w o x)
 step_goes w x None r h = tt

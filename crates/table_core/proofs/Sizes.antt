@@ -3,8 +3,9 @@ use Rattle.std.proofs.Common.{ℕ, suc, ◌≡◌, ◌+◌, ◌-◌, ◌*◌, �
 use Rattle.std.specs.Prelude.{option_to_list}
 use Rattle.std.specs.List.{slice_get}
 use Rattle.table_core.specs.Bags.{weigh}
-use Rattle.table_core.specs.Replies.{Told, Reply}
-use Rattle.table_core.specs.Generations.{Gen, Build, Table, IsFirst, put_in, first_empty, fresh, fill, count, copy_in, last_of, current, change_at, change, next_capacity, copy_on, built}
+use Rattle.table_core.specs.Replies.{Reply, Finished}
+use Rattle.table_core.specs.Generations.{Gen, Build, Table, put_in, first_empty, fresh, fill, count, copy_in, last_of, current, change_at, change, next_capacity, copy_on, built}
+use Rattle.terms.specs.Capacities.{IsFirstCapacity}
 use Rattle.table_core.specs.Calls.{Call, starts, holds_shared, holds_owned}
 use Rattle.table_core.specs.Machine.{World, empty, place, add_one, begin_growth, Act, Goes}
 use Rattle.table_core.specs.History.{placed_by, buckets}
@@ -77,13 +78,13 @@ pub one_value : (v : Option ℕ) (o : Outcome) → fitting (is_some v) AtEmpty o
 one_value None o h = absurd (cc)
 one_value (Some v) o h = refl
 
-pub size_row : (w : World) (i : ℕ) (c : Call) (n : ℕ) {p : Phase} {x : Event} {a : Answer} {r : CallState} {ls : List ℕ} {t : Table} {q : Option Told} → Row w c p x a r ls t q → c.state.phase ≡ p → slice_get w.calls i ≡ Some c → n + tally (is_placed p) ≡ placers w.calls + tally (is_placed r.phase) → Locked w → CallOk (length w.table.gens) c → SizesOk w → (g : Gen) → current t ≡ Some g → g.size + n ≡ length g.entries
+pub size_row : (w : World) (i : ℕ) (c : Call) (n : ℕ) {p : Phase} {x : Event} {a : Answer} {r : CallState} {ls : List ℕ} {t : Table} {q : Option Reply} → Row w c p x a r ls t q → c.state.phase ≡ p → slice_get w.calls i ≡ Some c → n + tally (is_placed p) ≡ placers w.calls + tally (is_placed r.phase) → Locked w → CallOk (length w.table.gens) c → SizesOk w → (g : Gen) → current t ≡ Some g → g.size + n ≡ length g.entries
 size_row w i c n (puts _ _ _) e s m l k o = size_place w c c.value n (omega (arith, one_value c.value c.state.outcome (fit_at c _ AtEmpty k e))) (stand_at c _ AtEmpty k e refl) o
 size_row w i c n (adds _) e s m l k o = size_add w c n (omega arith) (stand_at c _ Placed k e refl) o
 size_row w i c n (shows _ _) e s m l k o = size_show w n w.table.building refl (omega (arith, no_placers w i c l s (ap holds_owned e))) (no_placers w i c l s (ap holds_owned e)) o
 size_row w i c n _ e s m l k o = size_same w n (omega arith) o
 
-pub built_row : (w : World) (c : Call) {p : Phase} {x : Event} {a : Answer} {r : CallState} {ls : List ℕ} {t : Table} {q : Option Told} → Row w c p x a r ls t q → SizesOk w → (b : Build) → t.building ≡ Some b → b.gen.size ≡ length b.gen.entries
+pub built_row : (w : World) (c : Call) {p : Phase} {x : Event} {a : Answer} {r : CallState} {ls : List ℕ} {t : Table} {q : Option Reply} → Row w c p x a r ls t q → SizesOk w → (b : Build) → t.building ≡ Some b → b.gen.size ≡ length b.gen.entries
 built_row w c (puts _ _ _) o b h = o.built b (sym (place_building w.table c.state c.value) ∙ h)
 built_row w c (begins_first _ _) o b h = let x : record { gen = fresh (next_capacity w.table.first (current w.table)); copied = 0 } ≡ b = cc in rw (← x) refl
 built_row w c (begins_next _ _ _ _ _) o b h = let x : record { gen = fresh (next_capacity w.table.first (current w.table)); copied = 0 } ≡ b = cc in rw (← x) refl
@@ -100,7 +101,7 @@ begin_placed (opens_walk n) = refl
 pub size_within : (g : Gen) (n : ℕ) → g.size + n ≡ length g.entries → g.size ≤ length g.entries
 size_within g n h = omega arith
 
-pub keeps_sized : {w v : World} {x : Event} {a : Option Act} {r : Option Reply} → Turn w x a v r → Locked w → CallsOk w → SizesOk w → SizesOk v
+pub keeps_sized : {w v : World} {x : Event} {a : Option Act} {r : Option Finished} → Turn w x a v r → Locked w → CallsOk w → SizesOk w → SizesOk v
 keeps_sized rests l k o = o
 keeps_sized {w = w} (opens n v p h r b u f) l k o = record { counted = λ g q. omega (arith, o.counted g q, more (λ p. tally (is_placed p)) w.calls (starts n v p h), begin_placed b); built = o.built; within = o.within }
 keeps_sized {w = w} (takes i c p a s list t o g e row nu) l k z =
@@ -206,7 +207,7 @@ pub roomy_place : (w : World) (c : Call) (v : Option ℕ) (m : List ℕ) → w.t
 roomy_place w c None m n l o = rw append-none o
 roomy_place w c (Some v) m n l o = roomy_change w c _ (λ g. fill g (entry_of c.state v)) _ _ (length-more m _) refl (λ g. refl) n l o
 
-pub roomy_row : (w : World) (i : ℕ) (c : Call) (m : List ℕ) {p : Phase} {x : Event} {a : Answer} {r : CallState} {ls : List ℕ} {t : Table} {q : Option Told} → Row w c p x a r ls t q → c.state.phase ≡ p → slice_get w.calls i ≡ Some c → Locked w → CallOk (length w.table.gens) c → SizesOk w → Holding w.table m → Roomy w.table (length m) → Roomy t (length (m ++ placed_by (Some (Goes c a))))
+pub roomy_row : (w : World) (i : ℕ) (c : Call) (m : List ℕ) {p : Phase} {x : Event} {a : Answer} {r : CallState} {ls : List ℕ} {t : Table} {q : Option Reply} → Row w c p x a r ls t q → c.state.phase ≡ p → slice_get w.calls i ≡ Some c → Locked w → CallOk (length w.table.gens) c → SizesOk w → Holding w.table m → Roomy w.table (length m) → Roomy t (length (m ++ placed_by (Some (Goes c a))))
 roomy_row w i c m (puts _ _ _) e s l k z h o = roomy_place w c c.value m (nothing_built w l i c s (shares_of _ _ e refl)) (stand_at c _ AtEmpty k e refl) o
 roomy_row w i c m (adds _) e s l k z h o = rw append-none (roomy_change w c _ count _ _ (omega arith) refl (λ g. refl) (nothing_built w l i c s (shares_of _ _ e refl)) (stand_at c _ Placed k e refl) o)
 roomy_row w i c m (begins_first _ x) e s l k z h o = rw append-none (roomy_begin w.table (length m) None x (λ g q. absurd (cc)) o)
@@ -215,7 +216,7 @@ roomy_row w i c m (copies _ k2 e2 _) e s l k z h o = rw append-none (roomy_copy 
 roomy_row w i c m (shows _ _) e s l k z h o = rw append-none (roomy_show w.table (length m) w.table.building (current w.table) refl refl o)
 roomy_row w i c m _ e s l k z h o = rw append-none o
 
-pub keeps_roomy : {w v : World} {x : Event} {a : Option Act} {r : Option Reply} (m : List ℕ) → Turn w x a v r → Locked w → CallsOk w → SizesOk w → Holding w.table m → Roomy w.table (length m) → Roomy v.table (length (m ++ placed_by a))
+pub keeps_roomy : {w v : World} {x : Event} {a : Option Act} {r : Option Finished} (m : List ℕ) → Turn w x a v r → Locked w → CallsOk w → SizesOk w → Holding w.table m → Roomy w.table (length m) → Roomy v.table (length (m ++ placed_by a))
 keeps_roomy m rests l k z h o = rw append-none o
 keeps_roomy m (opens n v p q r b u f) l k z h o = rw append-none o
 keeps_roomy {w = w} m (takes i c p a s list t o g e row nu) l k z h q = roomy_row w i c m row e g l (k.at i c g) z h q
@@ -239,10 +240,14 @@ few_buckets_at t n r = under _ _ _ (bounded t n r (current t) t.building refl re
 pub power_more : (k : ℕ) → 2 ^ (k + 1) ≡ 2 * 2 ^ k
 power_more k = let e : k + 1 ≡ suc k = omega arith in ap (λ z. 2 ^ z) e ∙ pow-succ' 2 k
 
-pub even_first : (f : ℕ) → IsFirst f → (m : ℕ) × (f ≡ 2 * m)
-even_first f h = (2 ^ (h.0 - 1), (let e : h.0 ≡ (h.0 - 1) + 1 = omega (arith, h.2) in h.1 ∙ (ap (λ z. 2 ^ z) e ∙ power_more (h.0 - 1))))
+even_power : (k f : ℕ) → f ≡ 2 ^ k → 16 ≤ f → (m : ℕ) × (f ≡ 2 * m)
+even_power zero f e le = absurd (omega (arith, e, le))
+even_power (suc k) f e le = (2 ^ k, e ∙ pow-succ' 2 k)
 
-pub roomy_empty : (first : ℕ) → IsFirst first → Roomy (empty first).table 0
+pub even_first : (f : ℕ) → IsFirstCapacity f → (m : ℕ) × (f ≡ 2 * m)
+even_first f h = even_power h.0.0 f h.0.1 h.1
+
+pub roomy_empty : (first : ℕ) → IsFirstCapacity first → Roomy (empty first).table 0
 roomy_empty first h = record { even = even_first first h; begun = λ b x y. absurd (cc); now = λ g x. absurd (cc); next = λ g b x y. absurd (cc); none = λ x. refl }
 
 -- the first capacity stays
@@ -251,11 +256,11 @@ pub place_first : (t : Table) (s : CallState) (v : Option ℕ) → (place t s v)
 place_first t s None = refl
 place_first t s (Some v) = refl
 
-pub first_row : (w : World) (c : Call) {p : Phase} {x : Event} {a : Answer} {r : CallState} {ls : List ℕ} {t : Table} {q : Option Told} → Row w c p x a r ls t q → t.first ≡ w.table.first
+pub first_row : (w : World) (c : Call) {p : Phase} {x : Event} {a : Answer} {r : CallState} {ls : List ℕ} {t : Table} {q : Option Reply} → Row w c p x a r ls t q → t.first ≡ w.table.first
 first_row w c (puts _ _ _) = place_first w.table c.state c.value
 first_row w c _ = refl
 
-pub same_first : {w v : World} {x : Event} {a : Option Act} {r : Option Reply} → Turn w x a v r → v.table.first ≡ w.table.first
+pub same_first : {w v : World} {x : Event} {a : Option Act} {r : Option Finished} → Turn w x a v r → v.table.first ≡ w.table.first
 same_first rests = refl
 same_first (opens _ _ _ _ _ _ _ _) = refl
 same_first {w = w} (takes i c p a s list t o g e row nu) = first_row w c row

@@ -2,8 +2,9 @@
 use Rattle.std.proofs.Common.{ℕ, suc, ◌≡◌, ◌+◌, ◌-◌, ◌≤◌, ◌⊎◌, inl, inr, List, [], ◌∷◌, Bool, true, false, refl, Option, Some, None, length, sym, ap, arith, ◌∙◌}
 use Rattle.std.specs.Prelude.{◌||◌, not}
 use Rattle.std.specs.List.{slice_get}
-use Rattle.table_core.specs.Replies.{Told, Reply}
-use Rattle.table_core.specs.Generations.{Gen, Table, bits_of, fill, count, last_of, change_at, change}
+use Rattle.table_core.specs.Replies.{Reply, Finished}
+use Rattle.table_core.specs.Generations.{Gen, Table, fill, count, last_of, change_at, change}
+use Rattle.terms.specs.Hashes.{bits_of}
 use Rattle.table_core.specs.Calls.{Call, starts, holds_shared, holds_owned, is_pending}
 use Rattle.table_core.specs.Machine.{World, empty, place, Act}
 use Rattle.table_core.specs.Steps.{Row, loads, reads_empty, meets, goes_on, puts, loses_meets, loses_goes_on, adds, shows, starts_over, tries_again, look_meets, Opens, opens_insert, opens_lookup, opens_len, opens_walk, left}
@@ -83,7 +84,7 @@ by_table p q f h b o k = imply (fitting b p o) (fitting b q (f o)) (of_each (goe
 pub restarts_fitting : (p : Phase) → Each (λ b o. implies (fitting b p o) (implies (is_pending o) (fitting b WantShared o))) → (b : Bool) (o : Outcome) → is_pending o ≡ true → fitting b p o ≡ true → fitting b WantShared o ≡ true
 restarts_fitting p h b o n k = imply (is_pending o) (fitting b WantShared o) (imply (fitting b p o) _ (of_each (λ b o. implies (fitting b p o) (implies (is_pending o) (fitting b WantShared o))) h b o) k) n
 
-pub move_fitting : (w : World) (c : Call) {p : Phase} {x : Event} {a : Answer} {r : CallState} {ls : List ℕ} {t : Table} {q : Option Told} → Row w c p x a r ls t q → (b : Bool) → fitting b p c.state.outcome ≡ true → fitting b r.phase r.outcome ≡ true
+pub move_fitting : (w : World) (c : Call) {p : Phase} {x : Event} {a : Answer} {r : CallState} {ls : List ℕ} {t : Table} {q : Option Reply} → Row w c p x a r ls t q → (b : Bool) → fitting b p c.state.outcome ≡ true → fitting b r.phase r.outcome ≡ true
 move_fitting w c (meets _ _ _ _ _) b h = by_table Probe LeaveOk (λ _. Existing c.state.index) (refl, λ i. refl, λ i. refl, refl, λ i. refl, λ i. refl) b c.state.outcome h
 move_fitting w c (loses_meets _ _ _ _ _) b h = by_table AtEmpty LeaveOk (λ _. Existing c.state.index) (refl, λ i. refl, λ i. refl, refl, λ i. refl, λ i. refl) b c.state.outcome h
 move_fitting w c (adds _) b h = by_table Placed LeaveOk (λ _. New c.state.index) (refl, λ i. refl, λ i. refl, refl, λ i. refl, λ i. refl) b c.state.outcome h
@@ -106,7 +107,7 @@ pub last_number : (gens : List Gen) (g : Gen) → last_of gens ≡ Some g → su
 last_number [] g h = absurd (cc)
 last_number (x ∷ xs) g h = omega arith
 
-pub move_stands : (w : World) (c : Call) {p : Phase} {x : Event} {a : Answer} {r : CallState} {ls : List ℕ} {t : Table} {q : Option Told} → Row w c p x a r ls t q → (stands p ≡ true → IsLast (length w.table.gens) c.state.walked) → stands r.phase ≡ true → IsLast (length w.table.gens) r.walked
+pub move_stands : (w : World) (c : Call) {p : Phase} {x : Event} {a : Answer} {r : CallState} {ls : List ℕ} {t : Table} {q : Option Reply} → Row w c p x a r ls t q → (stands p ≡ true → IsLast (length w.table.gens) c.state.walked) → stands r.phase ≡ true → IsLast (length w.table.gens) r.walked
 move_stands w c (loads n g h) l k = (length w.table.gens - 1, refl, last_number w.table.gens g h)
 move_stands w c (goes_on _ _ _ _ _ _) l k = l refl
 move_stands w c (loses_goes_on _ _ _ _ _ _) l k = l refl
@@ -124,10 +125,10 @@ length-change gens (Some k) f = length-change_at gens k (slice_get gens k) f
 
 pub length-place : (t : Table) (s : CallState) (v : Option ℕ) → length (place t s v).gens ≡ length t.gens
 length-place t s None = refl
-length-place t s (Some v) = length-change t.gens s.walked (λ g. fill g (record { place = s.index; value = v; bits = bits_of s.hash }))
+length-place t s (Some v) = length-change t.gens s.walked (λ g. fill g (record { index = s.index; value = v; bits = bits_of s.hash }))
 
 -- only the end of a growth adds a generation
-pub gens_stay : (w : World) (c : Call) {p : Phase} {x : Event} {a : Answer} {r : CallState} {ls : List ℕ} {t : Table} {q : Option Told} → Row w c p x a r ls t q → (length t.gens ≡ length w.table.gens) ⊎ (p ≡ Building)
+pub gens_stay : (w : World) (c : Call) {p : Phase} {x : Event} {a : Answer} {r : CallState} {ls : List ℕ} {t : Table} {q : Option Reply} → Row w c p x a r ls t q → (length t.gens ≡ length w.table.gens) ⊎ (p ≡ Building)
 gens_stay w c (puts _ _ _) = inl (length-place w.table c.state c.value)
 gens_stay w c (adds _) = inl (length-change w.table.gens c.state.walked count)
 gens_stay w c (shows _ _) = inr refl
@@ -161,13 +162,13 @@ other_ok w l n i c h (inr e) j d k ok = record {
   stands = λ q. absurd (stands_shares d.state.phase q (zero-each (λ (c : Call). holds_shared c.state.phase) w.calls j d (no_sharer w l i c h (ap holds_owned e)) k));
 }
 
-pub shown_stands : (w : World) (c : Call) {p : Phase} {x : Event} {a : Answer} {r : CallState} {ls : List ℕ} {t : Table} {q : Option Told} → Row w c p x a r ls t q → stands r.phase ≡ true → length t.gens ≡ length w.table.gens
+pub shown_stands : (w : World) (c : Call) {p : Phase} {x : Event} {a : Answer} {r : CallState} {ls : List ℕ} {t : Table} {q : Option Reply} → Row w c p x a r ls t q → stands r.phase ≡ true → length t.gens ≡ length w.table.gens
 shown_stands w c (puts _ _ _) h = length-place w.table c.state c.value
 shown_stands w c (adds _) h = absurd (cc)
 shown_stands w c (shows _ _) h = absurd (cc)
 shown_stands w c _ h = refl
 
-pub moved_ok : (w : World) (c : Call) {p : Phase} {x : Event} {a : Answer} {r : CallState} {ls : List ℕ} {t : Table} {q : Option Told} → c.state.phase ≡ p → Row w c p x a r ls t q → CallOk (length w.table.gens) c → CallOk (length t.gens) (left c r ls)
+pub moved_ok : (w : World) (c : Call) {p : Phase} {x : Event} {a : Answer} {r : CallState} {ls : List ℕ} {t : Table} {q : Option Reply} → c.state.phase ≡ p → Row w c p x a r ls t q → CallOk (length w.table.gens) c → CallOk (length t.gens) (left c r ls)
 moved_ok w c e row ok = record {
   fits = move_fitting w c row (is_some c.value) (rw e at ok.fits);
   stands = λ h. rw (shown_stands w c row h) (move_stands w c row (rw e at ok.stands) h);
@@ -179,7 +180,7 @@ begin_fitting (opens_lookup n h) = (refl, refl)
 begin_fitting (opens_len n) = (refl, refl)
 begin_fitting (opens_walk n) = (refl, refl)
 
-pub keeps_calls : {w v : World} {x : Event} {m : Option Act} {r : Option Reply} → Turn w x m v r → Locked w → CallsOk w → CallsOk v
+pub keeps_calls : {w v : World} {x : Event} {m : Option Act} {r : Option Finished} → Turn w x m v r → Locked w → CallsOk w → CallsOk v
 keeps_calls rests l o = o
 keeps_calls {w = w} (opens n v p h r k u f) l o = record {
   at = λ i d g. elim (get-push w.calls (starts n v p h) d i g) [

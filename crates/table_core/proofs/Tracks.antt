@@ -2,10 +2,11 @@
 use Rattle.std.proofs.Common.{ℕ, ◌≡◌, ◌+◌, ◌-◌, ◌%◌, ◌<◌, ◌≤◌, inl, inr, List, Bool, true, false, refl, Option, Some, None, length, sym, ap, arith, ◌∙◌}
 use Rattle.std.specs.Prelude.{nat_lt}
 use Rattle.std.specs.List.{slice_get}
-use Rattle.table_core.specs.Replies.{Told, Reply}
-use Rattle.table_core.specs.Generations.{Gen, Table, bucket, at_place, current, gen_of, bucket_in}
+use Rattle.table_core.specs.Replies.{Reply, Finished}
+use Rattle.table_core.specs.Generations.{Gen, Table, bucket, current, gen_of, bucket_in}
+use Rattle.terms.specs.Probes.{bucket_at}
 use Rattle.table_core.specs.Calls.{Call, starts, probes, finds_entry, stands_at_bucket}
-use Rattle.table_core.specs.Machine.{World, empty, bucket_at, Act}
+use Rattle.table_core.specs.Machine.{World, empty, bucket_of, Act}
 use Rattle.table_core.specs.Steps.{next_bucket, turned, Row, loads_none, loads, reads_empty, meets, turns, goes_on, puts, loses_meets, loses_turns, loses_goes_on, adds, leaves_ok, leaves_grow, large, owns, begins_first, fails_first, unwanted, fails_largest, fails_refused, begins_next, copies, shows, looks, look_meets, look_goes_on, len_loads, walk_loads, walk_skips, walk_takes, Opens, opens_insert, opens_lookup, opens_len, opens_walk, left}
 use Rattle.table_core.specs.declared.event.Event.{Event}
 use Rattle.table_core.specs.declared.event.Entry.{Entry}
@@ -47,7 +48,7 @@ at_bucket gens c p =
     let q = p.below in
     let e = p.capacity in
     let i = p.index in
-    let m : at_place p.gen.capacity c.state.hash c.state.seen < p.gen.capacity = mod_below (c.state.hash + c.state.seen) p.gen.capacity (omega arith) in
+    let m : bucket_at p.gen.capacity c.state.hash c.state.seen < p.gen.capacity = mod_below (c.state.hash + c.state.seen) p.gen.capacity (omega arith) in
     and_from _ _ (lt-ltb c.state.index c.state.capacity (omega arith)) (lt-ltb c.state.seen c.state.capacity (omega arith))
 
 pub walking_grown : (gens now : List Gen) (c : Call) → AllGrew gens now → Walking gens c → Walking now c
@@ -96,31 +97,31 @@ probing_first t c g on ls h pos = record {
   passed = λ j lt. absurd (omega arith);
 }
 
-pub passed_more : (g : Gen) (hash seen : ℕ) (e : Entry) → bucket g.entries (at_place g.capacity hash seen) ≡ Some e → ((j : ℕ) → j < seen → IsSet g.entries (at_place g.capacity hash j)) → (j : ℕ) → j < seen + 1 → IsSet g.entries (at_place g.capacity hash j)
+pub passed_more : (g : Gen) (hash seen : ℕ) (e : Entry) → bucket g.entries (bucket_at g.capacity hash seen) ≡ Some e → ((j : ℕ) → j < seen → IsSet g.entries (bucket_at g.capacity hash j)) → (j : ℕ) → j < seen + 1 → IsSet g.entries (bucket_at g.capacity hash j)
 passed_more g hash seen e b p j lt = elim (order j seen) [ inl k ↦ p j k | inr o ↦ elim o [ inl q ↦ (e, rw q b) | inr k ↦ absurd (omega arith) ] ]
 
 -- the bucket of a probe
-pub probe_bucket : (w : World) (c : Call) (e : Entry) → (p : Probing w.table.gens c) → bucket_at w.table c.state ≡ Some e → bucket p.gen.entries (at_place p.gen.capacity c.state.hash c.state.seen) ≡ Some e
+pub probe_bucket : (w : World) (c : Call) (e : Entry) → (p : Probing w.table.gens c) → bucket_of w.table c.state ≡ Some e → bucket p.gen.entries (bucket_at p.gen.capacity c.state.hash c.state.seen) ≡ Some e
 probe_bucket w c e p b = rw (← p.index) (bucket_some w.table c.state p.number p.gen e p.walked p.got b)
 
 -- the place after
-pub place_after : (capacity hash seen : ℕ) → (at_place capacity hash seen + 1) % capacity ≡ at_place capacity hash (seen + 1)
-place_after capacity hash seen = mod-add-mod (hash + seen) capacity 1 ∙ ap (λ x. x % capacity) (let e : hash + seen + 1 ≡ hash + (seen + 1) = omega arith in e)
+pub index_after : (capacity hash seen : ℕ) → (bucket_at capacity hash seen + 1) % capacity ≡ bucket_at capacity hash (seen + 1)
+index_after capacity hash seen = mod-add-mod (hash + seen) capacity 1 ∙ ap (λ x. x % capacity) (let e : hash + seen + 1 ≡ hash + (seen + 1) = omega arith in e)
 
 -- one bucket further
-pub probing_on : (w : World) (c : Call) (on : Phase) (ls : List ℕ) (e : Entry) → bucket_at w.table c.state ≡ Some e → nat_lt (c.state.seen + 1) c.state.capacity ≡ true → Probing w.table.gens c → Probing w.table.gens (left c (next_bucket on c.state) ls)
+pub probing_on : (w : World) (c : Call) (on : Phase) (ls : List ℕ) (e : Entry) → bucket_of w.table c.state ≡ Some e → nat_lt (c.state.seen + 1) c.state.capacity ≡ true → Probing w.table.gens c → Probing w.table.gens (left c (next_bucket on c.state) ls)
 probing_on w c on ls e b lt p = record {
   number = p.number;
   gen = p.gen;
   walked = p.walked;
   got = p.got;
   capacity = p.capacity;
-  index = rw (p.capacity, p.index) (place_after p.gen.capacity c.state.hash c.state.seen);
+  index = rw (p.capacity, p.index) (index_after p.gen.capacity c.state.hash c.state.seen);
   below = let l : c.state.seen + 1 < c.state.capacity = ltb-true (c.state.seen + 1) c.state.capacity lt in rw p.capacity at l;
   passed = passed_more p.gen c.state.hash c.state.seen e (probe_bucket w c e p b) p.passed;
 }
 
-pub probing_row : (w : World) (c : Call) {p : Phase} {x : Event} {a : Answer} {r : CallState} {ls : List ℕ} {t : Table} {q : Option Told} → Row w c p x a r ls t q → AllSeated w → (probing p ≡ true → Probing w.table.gens c) → probing r.phase ≡ true → Probing w.table.gens (left c r ls)
+pub probing_row : (w : World) (c : Call) {p : Phase} {x : Event} {a : Answer} {r : CallState} {ls : List ℕ} {t : Table} {q : Option Reply} → Row w c p x a r ls t q → AllSeated w → (probing p ≡ true → Probing w.table.gens c) → probing r.phase ≡ true → Probing w.table.gens (left c r ls)
 probing_row w c (loads n g h) s q z = probing_first w.table c g Probe _ h (s.gens _ g h).roomy
 probing_row w c (looks n g h) s q z = probing_first w.table c g LookProbe _ h (s.gens _ g h).roomy
 probing_row w c (goes_on _ _ e b f lt) s q z = probing_on w c Probe _ e b lt (q refl)
@@ -130,7 +131,7 @@ probing_row w c (reads_empty _ _ _) s q z = let o = q refl in record { number = 
 probing_row w c _ s q z = absurd (cc)
 
 -- a value has come into the bucket of its call's probe
-pub stands_row : (w : World) (c : Call) {p : Phase} {x : Event} {a : Answer} {r : CallState} {ls : List ℕ} {t : Table} {q : Option Told} → Row w c p x a r ls t q → (probing p ≡ true → Probing w.table.gens c) → is_placed r.phase ≡ true → stands_at_bucket r ≡ true
+pub stands_row : (w : World) (c : Call) {p : Phase} {x : Event} {a : Answer} {r : CallState} {ls : List ℕ} {t : Table} {q : Option Reply} → Row w c p x a r ls t q → (probing p ≡ true → Probing w.table.gens c) → is_placed r.phase ≡ true → stands_at_bucket r ≡ true
 stands_row w c (puts _ _ _) q z = at_bucket w.table.gens c (q refl)
 stands_row w c _ q z = absurd (cc)
 
@@ -142,7 +143,7 @@ bucket_room : (s : CallState) → stands_at_bucket s ≡ true → 0 < s.capacity
 bucket_room s h = let l : s.index < s.capacity = ltb-true s.index s.capacity (and_parts _ _ h).0 in omega arith
 
 -- what is measured has buckets
-pub measures_row : (w : World) (c : Call) {p : Phase} {x : Event} {a : Answer} {r : CallState} {ls : List ℕ} {t : Table} {q : Option Told} → Row w c p x a r ls t q → AllSeated w → (probing p ≡ true → Probing w.table.gens c) → (is_placed p ≡ true → stands_at_bucket c.state ≡ true) → (measuring p ≡ true → 0 < c.state.capacity) → measuring r.phase ≡ true → 0 < r.capacity
+pub measures_row : (w : World) (c : Call) {p : Phase} {x : Event} {a : Answer} {r : CallState} {ls : List ℕ} {t : Table} {q : Option Reply} → Row w c p x a r ls t q → AllSeated w → (probing p ≡ true → Probing w.table.gens c) → (is_placed p ≡ true → stands_at_bucket c.state ≡ true) → (measuring p ≡ true → 0 < c.state.capacity) → measuring r.phase ≡ true → 0 < r.capacity
 measures_row w c (meets _ _ _ _ _) s q o m z = probe_room w.table.gens c (q refl)
 measures_row w c (loses_meets _ _ _ _ _) s q o m z = probe_room w.table.gens c (q refl)
 measures_row w c (adds _) s q o m z = bucket_room c.state (o refl)
@@ -153,14 +154,14 @@ measures_row w c _ s q o m z = absurd (cc)
 pub walking_on : (w : World) (c : Call) (r : CallState) (ls : List ℕ) → r ≡ record c.state { phase = WalkAt; index = c.state.index + 1 } → nat_lt (c.state.index + 1) c.state.capacity ≡ true → Walking w.table.gens c → Walking w.table.gens (left c r ls)
 walking_on w c r ls e lt p = rw e (record { number = p.number; gen = p.gen; walked = p.walked; got = p.got; capacity = p.capacity; below = let l : c.state.index + 1 < c.state.capacity = ltb-true (c.state.index + 1) c.state.capacity lt in rw p.capacity at l })
 
-pub walking_row : (w : World) (c : Call) {p : Phase} {x : Event} {a : Answer} {r : CallState} {ls : List ℕ} {t : Table} {q : Option Told} → Row w c p x a r ls t q → AllSeated w → (is_walking p ≡ true → Walking w.table.gens c) → is_walking r.phase ≡ true → Walking w.table.gens (left c r ls)
+pub walking_row : (w : World) (c : Call) {p : Phase} {x : Event} {a : Answer} {r : CallState} {ls : List ℕ} {t : Table} {q : Option Reply} → Row w c p x a r ls t q → AllSeated w → (is_walking p ≡ true → Walking w.table.gens c) → is_walking r.phase ≡ true → Walking w.table.gens (left c r ls)
 walking_row w c (walk_loads n g h) s q z = record { number = length w.table.gens - 1; gen = g; walked = refl; got = h; capacity = refl; below = (s.gens _ g h).roomy }
 walking_row w c (walk_skips _ _ _ lt) s q z = walking_on w c _ _ refl lt (q refl)
 walking_row w c (walk_takes _ _ _ _ lt) s q z = walking_on w c _ _ refl lt (q refl)
 walking_row w c _ s q z = absurd (cc)
 
 -- a probe that has seen its last bucket
-pub turned_now : (w : World) (c : Call) (ls : List ℕ) (e : Entry) → bucket_at w.table c.state ≡ Some e → nat_lt (c.state.seen + 1) c.state.capacity ≡ false → Probing w.table.gens c → Turned w.table.gens (left c (turned LeaveGrow c.state) ls)
+pub turned_now : (w : World) (c : Call) (ls : List ℕ) (e : Entry) → bucket_of w.table c.state ≡ Some e → nat_lt (c.state.seen + 1) c.state.capacity ≡ false → Probing w.table.gens c → Turned w.table.gens (left c (turned LeaveGrow c.state) ls)
 turned_now w c ls e b lt p = record {
   full = λ k h.
       let m : p.number ≡ k = (let x : Some p.number ≡ Some k = sym p.walked ∙ h in cc) in
@@ -185,7 +186,7 @@ asking_outcome false Pending f h = cc
 asking_outcome b (New i) f h = cc
 asking_outcome b (Existing i) f h = cc
 
-pub turned_row : (w : World) (c : Call) {p : Phase} {x : Event} {a : Answer} {r : CallState} {ls : List ℕ} {t : Table} {q : Option Told} → Row w c p x a r ls t q → fitting (is_some c.value) p c.state.outcome ≡ true → (probing p ≡ true → Probing w.table.gens c) → (wants_growth p c.state.outcome ≡ true → Turned w.table.gens c) → wants_growth r.phase r.outcome ≡ true → Turned w.table.gens (left c r ls)
+pub turned_row : (w : World) (c : Call) {p : Phase} {x : Event} {a : Answer} {r : CallState} {ls : List ℕ} {t : Table} {q : Option Reply} → Row w c p x a r ls t q → fitting (is_some c.value) p c.state.outcome ≡ true → (probing p ≡ true → Probing w.table.gens c) → (wants_growth p c.state.outcome ≡ true → Turned w.table.gens c) → wants_growth r.phase r.outcome ≡ true → Turned w.table.gens (left c r ls)
 turned_row w c (loads_none _ _) f q u z = record { full = λ k h. absurd (cc) }
 turned_row w c (turns _ _ e b _ lt) f q u z = turned_now w c _ e b lt (q refl)
 turned_row w c (loses_turns _ _ e b _ lt) f q u z = turned_now w c _ e b lt (q refl)
@@ -204,7 +205,7 @@ turned_row w c _ f q u z = absurd (cc)
 
 -- an accepted entry
 
-pub met_now : (w : World) (c : Call) (p : Phase) (ls : List ℕ) (e : Entry) → bucket_at w.table c.state ≡ Some e → Met w.table.gens (left c (finds_entry p c.state) ls)
+pub met_now : (w : World) (c : Call) (p : Phase) (ls : List ℕ) (e : Entry) → bucket_of w.table c.state ≡ Some e → Met w.table.gens (left c (finds_entry p c.state) ls)
 met_now w c p ls e b = record { there = λ i h. let x : c.state.index ≡ i = cc in (e, rw (← x) b) }
 
 pub met_same : (gens : List Gen) (c : Call) (s : CallState) (ls : List ℕ) → s.walked ≡ c.state.walked → s.outcome ≡ c.state.outcome → Met gens c → Met gens (left c s ls)
@@ -230,7 +231,7 @@ pub none_walk : (b : Bool) (i : ℕ) → fitting b WalkLoad (Existing i) ≡ fal
 none_walk true i = refl
 none_walk false i = refl
 
-pub met_row : (w : World) (c : Call) {p : Phase} {x : Event} {a : Answer} {r : CallState} {ls : List ℕ} {t : Table} {q : Option Told} → Row w c p x a r ls t q → fitting (is_some c.value) p c.state.outcome ≡ true → Met w.table.gens c → Met w.table.gens (left c r ls)
+pub met_row : (w : World) (c : Call) {p : Phase} {x : Event} {a : Answer} {r : CallState} {ls : List ℕ} {t : Table} {q : Option Reply} → Row w c p x a r ls t q → fitting (is_some c.value) p c.state.outcome ≡ true → Met w.table.gens c → Met w.table.gens (left c r ls)
 met_row w c (meets _ _ e b _) f m = met_now w c LeaveOk _ e b
 met_row w c (loses_meets _ _ e b _) f m = met_now w c LeaveOk _ e b
 met_row w c (look_meets _ _ e b _) f m = met_now w c Done _ e b
@@ -242,7 +243,7 @@ met_row w c (len_loads _ _ _) f m = record { there = λ i h. absurd (load_outcom
 met_row w c (walk_loads _ _ _) f m = record { there = λ i h. absurd (load_outcome WalkLoad none_walk (is_some c.value) c.state.outcome f i h) }
 met_row w c _ f m = met_same w.table.gens c _ _ refl refl m
 
-pub tracked_row : (w : World) (c : Call) {p : Phase} {x : Event} {a : Answer} {r : CallState} {ls : List ℕ} {t : Table} {q : Option Told} → Row w c p x a r ls t q → c.state.phase ≡ p → CallOk (length w.table.gens) c → AllSeated w → Tracked w.table.gens c → Tracked w.table.gens (left c r ls)
+pub tracked_row : (w : World) (c : Call) {p : Phase} {x : Event} {a : Answer} {r : CallState} {ls : List ℕ} {t : Table} {q : Option Reply} → Row w c p x a r ls t q → c.state.phase ≡ p → CallOk (length w.table.gens) c → AllSeated w → Tracked w.table.gens c → Tracked w.table.gens (left c r ls)
 tracked_row w c row e k s t = record {
   probes = probing_row w c row s (λ h. t.probes (ap probing e ∙ h));
   stands = stands_row w c row (λ h. t.probes (ap probing e ∙ h));
@@ -258,7 +259,7 @@ begin_tracks gens (opens_lookup n h) = record { probes = λ e. absurd (cc); stan
 begin_tracks gens (opens_len n) = record { probes = λ e. absurd (cc); stands = λ e. absurd (cc); measures = λ e. absurd (cc); walks = λ e. absurd (cc); turned = λ e. absurd (cc); met = record { there = λ i e. absurd (cc) } }
 begin_tracks gens (opens_walk n) = record { probes = λ e. absurd (cc); stands = λ e. absurd (cc); measures = λ e. absurd (cc); walks = λ e. absurd (cc); turned = λ e. absurd (cc); met = record { there = λ i e. absurd (cc) } }
 
-pub keeps_tracked : {w v : World} {x : Event} {a : Option Act} {r : Option Reply} → Turn w x a v r → CallsOk w → AllSeated w → AllTracked w → AllTracked v
+pub keeps_tracked : {w v : World} {x : Event} {a : Option Act} {r : Option Finished} → Turn w x a v r → CallsOk w → AllSeated w → AllTracked w → AllTracked v
 keeps_tracked rests k s t = t
 keeps_tracked {w = w} (opens n v p h ra b u f) k s t = record { at = λ i c g. elim (get-push w.calls (starts n v p h) c i g) [ inl q ↦ rw q.1 (begin_tracks w.table.gens b) | inr q ↦ t.at i c q ] }
 keeps_tracked {w = w} (takes i c p a s list t o g e row nu) k z y = record {

@@ -3,10 +3,10 @@ use Rattle.std.proofs.Common.{eqb-true, ℕ, suc, zero, ◌≡◌, ◌+◌, ◌-
 use Rattle.std.specs.Prelude.{◌==◌, nat_lt, if◌then◌else◌}
 use Rattle.std.specs.List.{slice_get}
 use Rattle.table_core.specs.Bags.{weigh, count_of}
-use Rattle.table_core.specs.Replies.{Told, ToldWalk, Reply}
+use Rattle.table_core.specs.Replies.{Reply, ReplyWalk, Finished}
 use Rattle.table_core.specs.Generations.{Gen, Table, bucket, current, gen_of, bucket_in}
 use Rattle.table_core.specs.Calls.{Call, starts}
-use Rattle.table_core.specs.Machine.{World, empty, walked_gen, bucket_at, refused, found_entry, told_of_outcome, number_of, Act, Goes, acts, after}
+use Rattle.table_core.specs.Machine.{World, empty, walked_gen, bucket_of, refused, found_entry, reply_of_outcome, number_of, Act, Goes, acts, after}
 use Rattle.table_core.specs.History.{replies, placed_by, placed, picks, TakenEvent}
 use Rattle.table_core.specs.Steps.{Row, leaves_refused, small, ends, ends_failed, gives_up, walk_none, walk_loads, walk_skips_last, walk_takes_last, walk_skips, walk_takes, Opens, opens_insert, left}
 use Rattle.table_core.specs.declared.event.Event.{Event}
@@ -55,9 +55,9 @@ counted v e (x ∷ es) (inl y) h = omega (arith, mark_own v x.value (ap (λ (z :
 counted v e (x ∷ es) (inr y) h = omega (arith, counted v e es y h)
 
 -- two entries at different places are counted twice
-counted_twice : (v : ℕ) (e d : Entry) (es : List Entry) → In e es → In d es → (e.place ≡ d.place → ⊥) → e.value ≡ v → d.value ≡ v → 2 ≤ values (mark v) es
+counted_twice : (v : ℕ) (e d : Entry) (es : List Entry) → In e es → In d es → (e.index ≡ d.index → ⊥) → e.value ≡ v → d.value ≡ v → 2 ≤ values (mark v) es
 counted_twice v e d [] i j n h k = absurd i
-counted_twice v e d (x ∷ es) (inl y) (inl z) n h k = absurd (n (ap (λ (z : Entry). z.place) (sym y ∙ z)))
+counted_twice v e d (x ∷ es) (inl y) (inl z) n h k = absurd (n (ap (λ (z : Entry). z.index) (sym y ∙ z)))
 counted_twice v e d (x ∷ es) (inl y) (inr z) n h k = omega (arith, mark_own v x.value (ap (λ (z : Entry). z.value) y ∙ h), counted v d es z k)
 counted_twice v e d (x ∷ es) (inr y) (inl z) n h k = omega (arith, mark_own v x.value (ap (λ (z : Entry). z.value) z ∙ k), counted v e es y h)
 counted_twice v e d (x ∷ es) (inr y) (inr z) n h k = omega (arith, counted_twice v e d es y z n h k)
@@ -98,7 +98,7 @@ picked_own v true None h = absurd (omega arith)
 picked_own v true (Some x) h = elim (marks v x) [ inl y ↦ ap Some y.0 | inr y ↦ absurd (omega (arith, y)) ]
 
 -- no value is placed twice
-pub placed_once : {w : World} {m : List ℕ} {rs : List Reply} → Inv w m rs → (v : ℕ) → count_of v m ≤ 1
+pub placed_once : {w : World} {m : List ℕ} {rs : List Finished} → Inv w m rs → (v : ℕ) → count_of v m ≤ 1
 placed_once {w = w} {m = m} inv v =
     let f : Call → ℕ = λ c. weigh (mark v) (picks (in_table c.state.phase c.state.outcome) c.value) in
     let small : weigh f w.calls ≤ 1 = one_of f (λ c. picked v (in_table c.state.phase c.state.outcome) c.value) w.calls (λ i j c d g k y z.
@@ -114,8 +114,8 @@ is_walk _ = false
 -- a walk over a generation that was so at its load and is so now, before bucket i: it holds what lay in the buckets
 -- before i at its load, only what lies there now, and nothing twice
 record Listed (was now : Gen) (i : ℕ) (list : List ℕ) : Type 0 where
-  all : (e : Entry) → In e was.entries → e.place < i → 1 ≤ count_of e.value list
-  only : (v : ℕ) → 1 ≤ count_of v list → (e : Entry) × In e now.entries × (e.value ≡ v) × (e.place < i)
+  all : (e : Entry) → In e was.entries → e.index < i → 1 ≤ count_of e.value list
+  only : (v : ℕ) → 1 ≤ count_of v list → (e : Entry) × In e now.entries × (e.value ≡ v) × (e.index < i)
   once : (v : ℕ) → count_of v list ≤ 1
 
 listed_none : (was now : Gen) → Listed was now 0 []
@@ -127,7 +127,7 @@ listed_none was now = record {
 
 -- an entry of a seated generation stays where it is
 stays_in : (g h : Gen) (e : Entry) → Seated g → Grew g h → In e g.entries → In e h.entries
-stays_in g h e s grew i = in_bucket e h.entries e.place (grew.kept e.place e (s.own e i))
+stays_in g h e s grew i = in_bucket e h.entries e.index (grew.kept e.index e (s.own e i))
 
 listed_grows : (was now next : Gen) (i : ℕ) (list : List ℕ) → Seated now → Grew now next → Listed was now i list → Listed was next i list
 listed_grows was now next i list s grew l = record {
@@ -142,22 +142,22 @@ below_next p i h = elim (cases_lt p i) [ inl y ↦ inl y | inr y ↦ inr (omega 
 -- an empty bucket adds nothing
 listed_skip : (was now : Gen) (i : ℕ) (list : List ℕ) → Seated was → Grew was now → bucket now.entries i ≡ None → Listed was now i list → Listed was now (i + 1) list
 listed_skip was now i list s grew none l = record {
-  all = λ e h lt. elim (below_next e.place i lt) [
+  all = λ e h lt. elim (below_next e.index i lt) [
     | inl y ↦ l.all e h y
-    | inr y ↦ absurd (let k : bucket now.entries i ≡ Some e = subst (λ p. bucket now.entries p ≡ Some e) y (grew.kept e.place e (s.own e h)) in let z : None ≡ Some e = sym none ∙ k in cc)
+    | inr y ↦ absurd (let k : bucket now.entries i ≡ Some e = subst (λ p. bucket now.entries p ≡ Some e) y (grew.kept e.index e (s.own e h)) in let z : None ≡ Some e = sym none ∙ k in cc)
   ];
   only = λ v h. (let z = l.only v h in (z.0, z.1, z.2, omega (arith, z.3)));
   once = l.once;
 }
 
 -- a bucket finds an entry of its place
-bucket_place_at : (x : Entry) (es : List Entry) (i : ℕ) (e : Entry) (b : Bool) → (x.place == i) ≡ b → (bucket es i ≡ Some e → e.place ≡ i) → bucket (x ∷ es) i ≡ Some e → e.place ≡ i
-bucket_place_at x es i e true q f h = let k : x ≡ e = (let y : Some x ≡ Some e = rw q at h in cc) in sym (ap (λ (z : Entry). z.place) k) ∙ eqb-true x.place i q
-bucket_place_at x es i e false q f h = f (rw q at h)
+bucket_index_at : (x : Entry) (es : List Entry) (i : ℕ) (e : Entry) (b : Bool) → (x.index == i) ≡ b → (bucket es i ≡ Some e → e.index ≡ i) → bucket (x ∷ es) i ≡ Some e → e.index ≡ i
+bucket_index_at x es i e true q f h = let k : x ≡ e = (let y : Some x ≡ Some e = rw q at h in cc) in sym (ap (λ (z : Entry). z.index) k) ∙ eqb-true x.index i q
+bucket_index_at x es i e false q f h = f (rw q at h)
 
-bucket_place : (es : List Entry) (i : ℕ) (e : Entry) → bucket es i ≡ Some e → e.place ≡ i
-bucket_place [] i e h = absurd (cc)
-bucket_place (x ∷ es) i e h = bucket_place_at x es i e (x.place == i) refl (bucket_place es i e) h
+bucket_index : (es : List Entry) (i : ℕ) (e : Entry) → bucket es i ≡ Some e → e.index ≡ i
+bucket_index [] i e h = absurd (cc)
+bucket_index (x ∷ es) i e h = bucket_index_at x es i e (x.index == i) refl (bucket_index es i e) h
 
 count-push : (v x : ℕ) (list : List ℕ) → count_of v (list ++ x ∷ []) ≡ count_of v list + mark v x
 count-push v x list = omega (arith, weigh-append (mark v) list (x ∷ []))
@@ -165,25 +165,25 @@ count-push v x list = omega (arith, weigh-append (mark v) list (x ∷ []))
 -- a set bucket adds its entry
 module _ (was now : Gen) (i : ℕ) (list : List ℕ) (b : Entry) (s : Seated was) (grew : Grew was now) (single : (v : ℕ) → values (mark v) now.entries ≤ 1)
     (here : bucket now.entries i ≡ Some b) (l : Listed was now i list) where
-  at_bucket : (e : Entry) → In e was.entries → e.place ≡ i → e ≡ b
-  at_bucket e h y = let k : bucket now.entries i ≡ Some e = subst (λ p. bucket now.entries p ≡ Some e) y (grew.kept e.place e (s.own e h)) in let z : Some e ≡ Some b = sym k ∙ here in cc
+  at_bucket : (e : Entry) → In e was.entries → e.index ≡ i → e ≡ b
+  at_bucket e h y = let k : bucket now.entries i ≡ Some e = subst (λ p. bucket now.entries p ≡ Some e) y (grew.kept e.index e (s.own e h)) in let z : Some e ≡ Some b = sym k ∙ here in cc
 
   no_second : 1 ≤ count_of b.value list → ⊥
   no_second h =
       let z = l.only b.value h in
-      let p : b.place ≡ i = bucket_place now.entries i b here in
-      let two : 2 ≤ values (mark b.value) now.entries = counted_twice b.value z.0 b now.entries z.1 (in_bucket b now.entries i here) (λ e. let lt : z.0.place < i = z.3 in omega (arith, e, p, lt)) z.2 refl in
+      let p : b.index ≡ i = bucket_index now.entries i b here in
+      let two : 2 ≤ values (mark b.value) now.entries = counted_twice b.value z.0 b now.entries z.1 (in_bucket b now.entries i here) (λ e. let lt : z.0.index < i = z.3 in omega (arith, e, p, lt)) z.2 refl in
       let one : values (mark b.value) now.entries ≤ 1 = single b.value in
       omega arith
 
   listed_take : Listed was now (i + 1) (list ++ b.value ∷ [])
   listed_take = record {
-    all = λ e h lt. elim (below_next e.place i lt) [
+    all = λ e h lt. elim (below_next e.index i lt) [
       | inl y ↦ omega (arith, l.all e h y, count-push e.value b.value list)
       | inr y ↦ omega (arith, mark_own e.value b.value (ap (λ (z : Entry). z.value) (sym (at_bucket e h y))), count-push e.value b.value list)
     ];
     only = λ v h. elim (marks v b.value) [
-      | inl y ↦ (b, in_bucket b now.entries i here, y.0, (let p : b.place ≡ i = bucket_place now.entries i b here in omega arith))
+      | inl y ↦ (b, in_bucket b now.entries i here, y.0, (let p : b.index ≡ i = bucket_index now.entries i b here in omega arith))
       | inr y ↦ (let z = l.only v (omega (arith, h, y, count-push v b.value list)) in (z.0, z.1, z.2, omega (arith, z.3)))
     ];
     once = λ v. elim (marks v b.value) [
@@ -198,7 +198,7 @@ module _ (was now : Gen) (i : ℕ) (list : List ℕ) (b : Entry) (s : Seated was
 -- Calls that walk
 
 -- only a walk under way has a list
-row_list : (w : World) (c : Call) {p : Phase} {x : Event} {a : Answer} {r : CallState} {ls : List ℕ} {t : Table} {q : Option Told} → Row w c p x a r ls t q → (is_walk p ≡ false → c.list ≡ []) → is_walk r.phase ≡ false → ls ≡ []
+row_list : (w : World) (c : Call) {p : Phase} {x : Event} {a : Answer} {r : CallState} {ls : List ℕ} {t : Table} {q : Option Reply} → Row w c p x a r ls t q → (is_walk p ≡ false → c.list ≡ []) → is_walk r.phase ≡ false → ls ≡ []
 row_list w c (walk_skips_last _ _ _ _) h k = refl
 row_list w c (walk_takes_last _ _ _ _ _) h k = refl
 row_list w c (walk_skips _ _ _ _) h k = absurd (cc)
@@ -209,7 +209,7 @@ row_list w c _ h k = h refl
 abbrev NoLists : World → Type 0
 NoLists w = (i : ℕ) (c : Call) → slice_get w.calls i ≡ Some c → is_walk c.state.phase ≡ false → c.list ≡ []
 
-keeps_lists : {w v : World} {x : Event} {a : Option Act} {r : Option Reply} → Turn w x a v r → NoLists w → NoLists v
+keeps_lists : {w v : World} {x : Event} {a : Option Act} {r : Option Finished} → Turn w x a v r → NoLists w → NoLists v
 keeps_lists rests n i c g k = n i c g k
 keeps_lists {w = w} (opens m v p h ra o u nv) n i c g k = elim (get-push w.calls (starts m v p h) c i g) [
   | inl y ↦ ap (λ (z : Call). z.list) y.1
@@ -256,10 +256,10 @@ under_way_later f s x c inv u =
 -- how a call comes to walk: it loads, or it has read a bucket
 data Walks (w : World) (c : Call) : Event → CallState → List ℕ → Type 0 where
   walks_from : (n : ℕ) (g : Gen) (s : CallState) → current w.table ≡ Some g → s.walked ≡ Some (length w.table.gens - 1) → s.index ≡ 0 → c.state.phase ≡ WalkLoad → Walks w c (Load n) s c.list
-  walks_past : (n : ℕ) (y : Bool) (s : CallState) → bucket_at w.table c.state ≡ None → s.walked ≡ c.state.walked → s.index ≡ c.state.index + 1 → c.state.phase ≡ WalkAt → Walks w c (Read n y) s c.list
-  walks_over : (n : ℕ) (y : Bool) (s : CallState) (e : Entry) → bucket_at w.table c.state ≡ Some e → s.walked ≡ c.state.walked → s.index ≡ c.state.index + 1 → c.state.phase ≡ WalkAt → Walks w c (Read n y) s (c.list ++ e.value ∷ [])
+  walks_past : (n : ℕ) (y : Bool) (s : CallState) → bucket_of w.table c.state ≡ None → s.walked ≡ c.state.walked → s.index ≡ c.state.index + 1 → c.state.phase ≡ WalkAt → Walks w c (Read n y) s c.list
+  walks_over : (n : ℕ) (y : Bool) (s : CallState) (e : Entry) → bucket_of w.table c.state ≡ Some e → s.walked ≡ c.state.walked → s.index ≡ c.state.index + 1 → c.state.phase ≡ WalkAt → Walks w c (Read n y) s (c.list ++ e.value ∷ [])
 
-row_walks : (w : World) (c : Call) {p : Phase} {x : Event} {a : Answer} {r : CallState} {ls : List ℕ} {t : Table} {q : Option Told} → Row w c p x a r ls t q → c.state.phase ≡ p → is_walk r.phase ≡ true → Walks w c x r ls
+row_walks : (w : World) (c : Call) {p : Phase} {x : Event} {a : Answer} {r : CallState} {ls : List ℕ} {t : Table} {q : Option Reply} → Row w c p x a r ls t q → c.state.phase ≡ p → is_walk r.phase ≡ true → Walks w c x r ls
 row_walks w c (walk_loads n g e) k h = walks_from n g _ e refl refl k
 row_walks w c (walk_skips n y e lt) k h = walks_past n y _ e refl refl k
 row_walks w c (walk_takes n y d e lt) k h = walks_over n y _ d e refl refl k
@@ -277,12 +277,12 @@ module _ (f : ℕ) (inv : (s : List Event) → Inv (after f s) (placed (empty f)
   was_seated s g e = (inv s).seated.gens (length (after f s).table.gens - 1) g e
 
   -- the list after one more bucket
-  listed_past : (s : List Event) (c : Call) (u : UnderWay f s c) → bucket_at (after f s).table c.state ≡ None → Listed u.was u.now (c.state.index + 1) c.list
+  listed_past : (s : List Event) (c : Call) (u : UnderWay f s c) → bucket_of (after f s).table c.state ≡ None → Listed u.was u.now (c.state.index + 1) c.list
   listed_past s c u e =
       let none : bucket u.now.entries c.state.index ≡ None = subst (λ o. bucket_in o c.state.index ≡ None) u.got (subst (λ w. bucket_in (gen_of (after f s).table.gens w) c.state.index ≡ None) u.walked e) in
       listed_skip u.was u.now c.state.index c.list (was_seated u.at.before u.was u.loaded) u.grew none u.list
 
-  listed_over : (s : List Event) (c : Call) (u : UnderWay f s c) (d : Entry) → bucket_at (after f s).table c.state ≡ Some d → Listed u.was u.now (c.state.index + 1) (c.list ++ d.value ∷ [])
+  listed_over : (s : List Event) (c : Call) (u : UnderWay f s c) (d : Entry) → bucket_of (after f s).table c.state ≡ Some d → Listed u.was u.now (c.state.index + 1) (c.list ++ d.value ∷ [])
   listed_over s c u d e =
       let here : bucket u.now.entries c.state.index ≡ Some d = subst (λ o. bucket_in o c.state.index ≡ Some d) u.got (subst (λ w. bucket_in (gen_of (after f s).table.gens w) c.state.index ≡ Some d) u.walked e) in
       listed_take u.was u.now c.state.index c.list d (was_seated u.at.before u.was u.loaded) u.grew (single s u.number u.now u.got) here u.list
@@ -332,7 +332,7 @@ module _ (f : ℕ) (inv : (s : List Event) → Inv (after f s) (placed (empty f)
       let u = m i c g (rw p refl) in
       under_way_later f s x (left c r ls) (inv s) (under_way_on s c u r ls w z (listed_over s c u d e))
 
-  under_way_turn : (s : List Event) (x : Event) {v : World} {a : Option Act} {r : Option Reply} → Turn (after f s) x a v r → acts (after f s) x ≡ a → AllUnderWay s (after f s) → AllUnderWay (s ++ x ∷ []) v
+  under_way_turn : (s : List Event) (x : Event) {v : World} {a : Option Act} {r : Option Finished} → Turn (after f s) x a v r → acts (after f s) x ≡ a → AllUnderWay s (after f s) → AllUnderWay (s ++ x ∷ []) v
   under_way_turn s x rests took m i c g h = under_way_later f s x c (inv s) (m i c g h)
   under_way_turn s x (opens n v p k ra o u nv) took m i c g h = elim (get-push (after f s).calls (starts n v p k) c i g) [
     | inl y ↦ absurd (let q : is_walk p ≡ true = (rw y.1 at h) in let z : is_walk p ≡ false = begin_walk o in cc)
@@ -347,15 +347,15 @@ module _ (f : ℕ) (inv : (s : List Event) → Inv (after f s) (placed (empty f)
   under_way = by_snoc (λ s. AllUnderWay s (after f s)) (λ i c g h. absurd (cc)) (λ s x m. under_way_turn s x (turn_after f s x) refl m)
 
 -- no call but a walk is told a list
-refused_no_walk : (v : Option ℕ) (l : List ℕ) → refused v ≡ Some (ToldWalk l) → ⊥
+refused_no_walk : (v : Option ℕ) (l : List ℕ) → refused v ≡ Some (ReplyWalk l) → ⊥
 refused_no_walk None l h = cc
 refused_no_walk (Some v) l h = cc
 
-found_no_walk : (e : Option Entry) (v : ℕ) (l : List ℕ) → found_entry e v ≡ Some (ToldWalk l) → ⊥
+found_no_walk : (e : Option Entry) (v : ℕ) (l : List ℕ) → found_entry e v ≡ Some (ReplyWalk l) → ⊥
 found_no_walk None v l h = cc
 found_no_walk (Some e) v l h = cc
 
-told_no_walk : (o : Outcome) (t : Table) (s : CallState) (v : Option ℕ) (l : List ℕ) → told_of_outcome o t s v ≡ Some (ToldWalk l) → ⊥
+told_no_walk : (o : Outcome) (t : Table) (s : CallState) (v : Option ℕ) (l : List ℕ) → reply_of_outcome o t s v ≡ Some (ReplyWalk l) → ⊥
 told_no_walk (New i) t s (Some v) l h = cc
 told_no_walk (Existing i) t s (Some v) l h = found_no_walk (bucket_in (walked_gen t s) i) v l h
 told_no_walk Pending t s v l h = cc
@@ -365,13 +365,13 @@ told_no_walk (Existing i) t s None l h = cc
 -- a walk is told nothing where there is no generation, or its list after its last bucket
 data TellsWalk (w : World) (c : Call) : Event → List ℕ → Type 0 where
   tells_none : (n : ℕ) → current w.table ≡ None → TellsWalk w c (Load n) []
-  tells_past : (n : ℕ) (y : Bool) → bucket_at w.table c.state ≡ None → c.state.phase ≡ WalkAt → nat_lt (c.state.index + 1) c.state.capacity ≡ false → TellsWalk w c (Read n y) c.list
-  tells_over : (n : ℕ) (y : Bool) (e : Entry) → bucket_at w.table c.state ≡ Some e → c.state.phase ≡ WalkAt → nat_lt (c.state.index + 1) c.state.capacity ≡ false → TellsWalk w c (Read n y) (c.list ++ e.value ∷ [])
+  tells_past : (n : ℕ) (y : Bool) → bucket_of w.table c.state ≡ None → c.state.phase ≡ WalkAt → nat_lt (c.state.index + 1) c.state.capacity ≡ false → TellsWalk w c (Read n y) c.list
+  tells_over : (n : ℕ) (y : Bool) (e : Entry) → bucket_of w.table c.state ≡ Some e → c.state.phase ≡ WalkAt → nat_lt (c.state.index + 1) c.state.capacity ≡ false → TellsWalk w c (Read n y) (c.list ++ e.value ∷ [])
 
-row_tells : (w : World) (c : Call) {p : Phase} {x : Event} {a : Answer} {r : CallState} {ls : List ℕ} {t : Table} {q : Option Told} → Row w c p x a r ls t q → c.state.phase ≡ p → (list : List ℕ) → q ≡ Some (ToldWalk list) → TellsWalk w c x list
-row_tells w c (walk_none n e) k list h = subst (λ l. TellsWalk w c (Load n) l) (let z : ToldWalk [] ≡ ToldWalk list = cc in cc) (tells_none n e)
-row_tells w c (walk_skips_last n y e lt) k list h = subst (λ l. TellsWalk w c (Read n y) l) (let z : ToldWalk c.list ≡ ToldWalk list = cc in cc) (tells_past n y e k lt)
-row_tells w c (walk_takes_last n y d e lt) k list h = subst (λ l. TellsWalk w c (Read n y) l) (let z : ToldWalk (c.list ++ d.value ∷ []) ≡ ToldWalk list = cc in cc) (tells_over n y d e k lt)
+row_tells : (w : World) (c : Call) {p : Phase} {x : Event} {a : Answer} {r : CallState} {ls : List ℕ} {t : Table} {q : Option Reply} → Row w c p x a r ls t q → c.state.phase ≡ p → (list : List ℕ) → q ≡ Some (ReplyWalk list) → TellsWalk w c x list
+row_tells w c (walk_none n e) k list h = subst (λ l. TellsWalk w c (Load n) l) (let z : ReplyWalk [] ≡ ReplyWalk list = cc in cc) (tells_none n e)
+row_tells w c (walk_skips_last n y e lt) k list h = subst (λ l. TellsWalk w c (Read n y) l) (let z : ReplyWalk c.list ≡ ReplyWalk list = cc in cc) (tells_past n y e k lt)
+row_tells w c (walk_takes_last n y d e lt) k list h = subst (λ l. TellsWalk w c (Read n y) l) (let z : ReplyWalk (c.list ++ d.value ∷ []) ≡ ReplyWalk list = cc in cc) (tells_over n y d e k lt)
 row_tells w c (leaves_refused n) k list h = absurd (refused_no_walk c.value list h)
 row_tells w c (gives_up n e d) k list h = absurd (refused_no_walk c.value list h)
 row_tells w c (small n g e d) k list h = absurd (told_no_walk c.state.outcome w.table c.state c.value list h)
@@ -427,12 +427,12 @@ module _ (f : ℕ) (inv : (s : List Event) → Inv (after f s) (placed (empty f)
       let u = under_way f inv s i c g (rw p refl) in
       subst (λ k. IsWholeWalk f (s ++ x ∷ []) k list) own (whole_at s x i c u list g p lt (listed_over f inv s c u d e))
 
-  whole_turn : (s : List Event) (x : Event) (n : ℕ) (list : List ℕ) {v : World} {a : Option Act} {r : Option Reply} → Turn (after f s) x a v r → acts (after f s) x ≡ a → r ≡ Some (record { call = n; told = ToldWalk list }) → IsWholeWalk f (s ++ x ∷ []) n list
+  whole_turn : (s : List Event) (x : Event) (n : ℕ) (list : List ℕ) {v : World} {a : Option Act} {r : Option Finished} → Turn (after f s) x a v r → acts (after f s) x ≡ a → r ≡ Some (record { call = n; reply = ReplyWalk list }) → IsWholeWalk f (s ++ x ∷ []) n list
   whole_turn s x n list rests took h = absurd (cc)
   whole_turn s x n list (opens _ _ _ _ _ _ _ _) took h = absurd (cc)
   whole_turn s x n list (takes i c p a st ls t o g e row nu) took h =
-      let told : (o ≡ Some (ToldWalk list)) × (c.number ≡ n) = reply_told c.number o n (ToldWalk list) h in
-      whole_told s x n i c a list g took nu told.1 (row_tells (after f s) c row e list told.0)
+      let reply : (o ≡ Some (ReplyWalk list)) × (c.number ≡ n) = reply_told c.number o n (ReplyWalk list) h in
+      whole_told s x n i c a list g took nu reply.1 (row_tells (after f s) c row e list reply.0)
 
   pub walks_whole : (s : List Event) (x : Event) (n : ℕ) (list : List ℕ) → WalksWhole f s x n list
   walks_whole s x n list h = whole_turn s x n list (turn_after f s x) refl h

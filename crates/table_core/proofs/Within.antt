@@ -3,7 +3,7 @@ use Rattle.std.proofs.Common.{ℕ, suc, ◌≡◌, ◌-◌, ◌++◌, ◌⊎◌,
 use Rattle.std.specs.Prelude.{slice_set}
 use Rattle.std.specs.List.{slice_get}
 use Rattle.table_core.specs.Bags.{weigh}
-use Rattle.table_core.specs.Replies.{Told, Reply}
+use Rattle.table_core.specs.Replies.{Reply, Finished}
 use Rattle.table_core.specs.Generations.{Gen, Build, Table, fill, count, last_of, current, change_at, change, entries_of, built}
 use Rattle.table_core.specs.Calls.{Call}
 use Rattle.table_core.specs.Machine.{World, empty, place, Act, Goes}
@@ -42,13 +42,13 @@ place_within t s None l j d x = inl x
 place_within t s (Some v) l j d x = change_within t.gens s.walked (λ g. fill g (entry_of s v)) l j d x
 
 -- a generation is as it was, or it is the current one
-pub gen_after : (w : World) (c : Call) {p : Phase} {x : Event} {a : Answer} {r : CallState} {ls : List ℕ} {t : Table} {q : Option Told} → Row w c p x a r ls t q → c.state.phase ≡ p → CallOk (length w.table.gens) c → (j : ℕ) (d : Gen) → slice_get t.gens j ≡ Some d → (slice_get w.table.gens j ≡ Some d) ⊎ (current t ≡ Some d)
+pub gen_after : (w : World) (c : Call) {p : Phase} {x : Event} {a : Answer} {r : CallState} {ls : List ℕ} {t : Table} {q : Option Reply} → Row w c p x a r ls t q → c.state.phase ≡ p → CallOk (length w.table.gens) c → (j : ℕ) (d : Gen) → slice_get t.gens j ≡ Some d → (slice_get w.table.gens j ≡ Some d) ⊎ (current t ≡ Some d)
 gen_after w c (puts _ _ _) e k j d x = place_within w.table c.state c.value (stand_at c _ AtEmpty k e refl) j d x
 gen_after w c (adds _) e k j d x = change_within w.table.gens c.state.walked count (stand_at c _ Placed k e refl) j d x
 gen_after w c (shows _ _) e k j d x = push_within w.table.gens w.table.building j d x
 gen_after w c _ e k j d x = inl x
 
-pub keeps_within : {w v : World} {x : Event} {a : Option Act} {r : Option Reply} (m : List ℕ) → Turn w x a v r → Locked w → CallsOk w → Holding w.table m → Within w m → Within v (m ++ placed_by a)
+pub keeps_within : {w v : World} {x : Event} {a : Option Act} {r : Option Finished} (m : List ℕ) → Turn w x a v r → Locked w → CallsOk w → Holding w.table m → Within w m → Within v (m ++ placed_by a)
 keeps_within m rests l k h o = record { each = λ j g y f. omega (arith, o.each j g y f, weigh-append f m []) }
 keeps_within m (opens _ _ _ _ _ _ _ _) l k h o = record { each = λ j g y f. omega (arith, o.each j g y f, weigh-append f m []) }
 keeps_within {w = w} m (takes i c p a s list t o g e row nu) l k h q = record {

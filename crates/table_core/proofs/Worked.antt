@@ -2,10 +2,11 @@
 use Rattle.std.proofs.Common.{ℕ, ◌≡◌, ◌-◌, ◌^◌, ◌++◌, List, [], ◌∷◌, Bool, true, false, refl, Option, Some, None, sym, ap, ◌∙◌, eqb-true}
 use Rattle.std.specs.Prelude.{◌==◌, ◌&&◌, ◌||◌, not, nat_lt, if◌then◌else◌}
 use Rattle.std.proofs.lemmas.Bool.{eq-eqb}
-use Rattle.table_core.specs.Replies.{ToldPlaced, ToldRefused, ToldSome, ToldNone, ToldLen, ToldWalk}
-use Rattle.table_core.specs.Generations.{bits_of, next_copied}
+use Rattle.table_core.specs.Replies.{ReplyPlaced, ReplyRefused, ReplySome, ReplyNone, ReplyLen, ReplyWalk}
+use Rattle.table_core.specs.Generations.{next_copied}
+use Rattle.terms.specs.Hashes.{bits_of}
 use Rattle.table_core.specs.Calls.{Call}
-use Rattle.table_core.specs.Machine.{World, empty, Act, Begins, Goes, acts, happens, bucket_at}
+use Rattle.table_core.specs.Machine.{World, empty, Act, Begins, Goes, acts, happens, bucket_of}
 use Rattle.table_core.specs.Law.{Law, accepts, AsksBy, CopiesBy, UsesBy, OpensBy, ActsBy, RunsBy}
 use Rattle.table_core.specs.Worked.{IsWorked, LooksForWhatComes, say, all_placed, lost_to_equal, told_lost_to_equal, lost_to_other, told_lost_to_other, refused_put, told_refused_put, uncounted, late_none, told_late_none, stands_late_none, shared_lock, double_growth, two_growers, starts_again, told_starts_again, refused_first, empty_walk, short_walk, right_round, told_right_round, past_the_end, told_past_the_end, other_bits}
 use Rattle.table_core.specs.declared.event.Event.{Event}
@@ -31,7 +32,7 @@ abbrev asks_ok : Law → Call → Bool → Option Entry → Bool
 asks_ok l c y None = true
 asks_ok l c y (Some e) = not (e.bits == bits_of c.state.hash) || agree y (accepts l c e.value)
 
-asks_by : (l : Law) (w : World) (c : Call) (y : Bool) → asks_ok l c y (bucket_at w.table c.state) ≡ true → AsksBy l w c y
+asks_by : (l : Law) (w : World) (c : Call) (y : Bool) → asks_ok l c y (bucket_of w.table c.state) ≡ true → AsksBy l w c y
 asks_by l w c y h e q b =
     let k : (not (e.bits == bits_of c.state.hash) || agree y (accepts l c e.value)) ≡ true = rw q at h in
     let m : (e.bits == bits_of c.state.hash) ≡ true = eq-eqb e.bits (bits_of c.state.hash) b in
@@ -45,9 +46,9 @@ copies_by : (l : Law) (w : World) (h : ℕ) → copies_ok l h (next_copied w.tab
 copies_by l w h k = λ e q. eqb-true h (l.hash e.value) (rw q at k)
 
 abbrev uses_ok : Law → World → Call → Phase → Event → Bool
-uses_ok l w c Probe (Read n y) = asks_ok l c y (bucket_at w.table c.state)
-uses_ok l w c AtEmpty (Put n y true) = asks_ok l c y (bucket_at w.table c.state)
-uses_ok l w c LookProbe (Read n y) = asks_ok l c y (bucket_at w.table c.state)
+uses_ok l w c Probe (Read n y) = asks_ok l c y (bucket_of w.table c.state)
+uses_ok l w c AtEmpty (Put n y true) = asks_ok l c y (bucket_of w.table c.state)
+uses_ok l w c LookProbe (Read n y) = asks_ok l c y (bucket_of w.table c.state)
 uses_ok l w c Building (Copy n h) = copies_ok l h (next_copied w.table)
 uses_ok l w c _ x = true
 
@@ -162,7 +163,7 @@ lost_to_other_worked = record { replies = refl; history = refl; room = refl; law
 pub refused_put_worked : IsWorked 16 refused_put told_refused_put told_refused_put 16
 refused_put_worked = record { replies = refl; history = refl; room = refl; lawful = (two_classes, runs_by two_classes (λ n. if n == 4 then 0 else 3) (empty 16) refused_put two_classes_tests refl) }
 
-pub uncounted_worked : IsWorked 16 uncounted (say 3 (ToldLen 0) ∷ say 1 (ToldPlaced 10) ∷ []) (say 1 (ToldPlaced 10) ∷ []) 16
+pub uncounted_worked : IsWorked 16 uncounted (say 3 (ReplyLen 0) ∷ say 1 (ReplyPlaced 10) ∷ []) (say 1 (ReplyPlaced 10) ∷ []) 16
 uncounted_worked = record { replies = refl; history = refl; room = refl; lawful = (one_hash, runs_by one_hash (λ n. 0) (empty 16) uncounted (no_tests one_hash (λ n. 0) (λ n e. refl)) refl) }
 
 pub late_none_worked : IsWorked 16 late_none told_late_none stands_late_none 48
@@ -171,7 +172,7 @@ late_none_worked = record { replies = refl; history = refl; room = refl; lawful 
 pub looks_for_what_comes : LooksForWhatComes
 looks_for_what_comes = record { law = by_place; lawful = runs_by by_place (λ n. 8) (empty 16) late_none by_place_tests refl; looks = refl }
 
-pub shared_lock_worked : IsWorked 16 shared_lock (say 1 (ToldPlaced 10) ∷ []) (say 1 (ToldPlaced 10) ∷ []) 16
+pub shared_lock_worked : IsWorked 16 shared_lock (say 1 (ReplyPlaced 10) ∷ []) (say 1 (ReplyPlaced 10) ∷ []) 16
 shared_lock_worked = record { replies = refl; history = refl; room = refl; lawful = (one_hash, runs_by one_hash (λ n. 0) (empty 16) shared_lock (no_tests one_hash (λ n. 0) (λ n e. refl)) refl) }
 
 pub double_growth_worked : IsWorked 16 double_growth (all_placed 1 18) (all_placed 1 18) 112
@@ -183,20 +184,20 @@ two_growers_worked = record { replies = refl; history = refl; room = refl; lawfu
 pub starts_again_worked : IsWorked 16 starts_again told_starts_again told_starts_again 48
 starts_again_worked = record { replies = refl; history = refl; room = refl; lawful = (by_place, runs_by by_place (λ n. 8) (empty 16) starts_again by_place_tests refl) }
 
-pub refused_first_worked : IsWorked 16 refused_first (say 1 (ToldRefused 10) ∷ say 2 (ToldLen 0) ∷ []) (say 1 (ToldRefused 10) ∷ []) 0
+pub refused_first_worked : IsWorked 16 refused_first (say 1 (ReplyRefused 10) ∷ say 2 (ReplyLen 0) ∷ []) (say 1 (ReplyRefused 10) ∷ []) 0
 refused_first_worked = record { replies = refl; history = refl; room = refl; lawful = (one_class, runs_by one_class (λ n. 0) (empty 16) refused_first (no_tests one_class (λ n. 0) (λ n e. refl)) refl) }
 
-pub empty_walk_worked : IsWorked 16 empty_walk (say 1 (ToldWalk []) ∷ []) [] 0
+pub empty_walk_worked : IsWorked 16 empty_walk (say 1 (ReplyWalk []) ∷ []) [] 0
 empty_walk_worked = record { replies = refl; history = refl; room = refl; lawful = (one_class, runs_by one_class (λ n. 0) (empty 16) empty_walk (no_tests one_class (λ n. 0) (λ n e. refl)) refl) }
 
-pub short_walk_worked : IsWorked 16 short_walk (told_lost_to_equal ++ (say 3 (ToldWalk (10 ∷ [])) ∷ [])) told_lost_to_equal 16
+pub short_walk_worked : IsWorked 16 short_walk (told_lost_to_equal ++ (say 3 (ReplyWalk (10 ∷ [])) ∷ [])) told_lost_to_equal 16
 short_walk_worked = record { replies = refl; history = refl; room = refl; lawful = (one_class, runs_by one_class (λ n. 0) (empty 16) short_walk (no_tests one_class (λ n. 0) (λ n e. refl)) refl) }
 
-pub other_bits_worked : IsWorked 16 other_bits (say 1 (ToldPlaced 10) ∷ say 2 ToldNone ∷ []) (say 1 (ToldPlaced 10) ∷ say 2 ToldNone ∷ []) 16
+pub other_bits_worked : IsWorked 16 other_bits (say 1 (ReplyPlaced 10) ∷ say 2 ReplyNone ∷ []) (say 1 (ReplyPlaced 10) ∷ say 2 ReplyNone ∷ []) 16
 other_bits_worked = record { replies = refl; history = refl; room = refl; lawful = (one_class, runs_by one_class (λ n. 2 ^ 32) (empty 16) other_bits (no_tests one_class (λ n. 2 ^ 32) (λ n e. refl)) refl) }
 
-pub right_round_worked : IsWorked 16 right_round told_right_round (all_placed 1 16 ++ (say 19 ToldNone ∷ [])) 16
+pub right_round_worked : IsWorked 16 right_round told_right_round (all_placed 1 16 ++ (say 19 ReplyNone ∷ [])) 16
 right_round_worked = record { replies = refl; history = refl; room = refl; lawful = (by_place_alone, runs_by by_place_alone (λ n. 0) (empty 16) right_round (no_tests by_place_alone (λ n. 0) (λ n e. refl)) refl) }
 
-pub past_the_end_worked : IsWorked 16 past_the_end told_past_the_end (all_placed 1 8 ++ (say 21 (ToldSome 10) ∷ [])) 48
+pub past_the_end_worked : IsWorked 16 past_the_end told_past_the_end (all_placed 1 8 ++ (say 21 (ReplySome 10) ∷ [])) 48
 past_the_end_worked = record { replies = refl; history = refl; room = refl; lawful = (last_in_32, runs_by last_in_32 (λ n. 31) (empty 16) past_the_end (λ n e h. refl) refl) }

@@ -2,22 +2,23 @@
 use Rattle.std.specs.Prelude.{ℕ, suc, ◌*◌, ◌^◌, ◌==◌, ◌≡◌, ◌≤◌, ◌<◌, length, if◌then◌else◌, Bool, true, false, Option, Some, None, List, [], ◌∷◌, ◌++◌, map, option_to_list}
 use Rattle.table_core.specs.Bags.{weigh}
 use Rattle.std.specs.Option.{option_map}
-use Rattle.table_core.specs.Generations.{Gen, Build, bucket, at_place}
+use Rattle.table_core.specs.Generations.{Gen, Build, bucket}
+use Rattle.terms.specs.Probes.{bucket_at}
 use Rattle.table_core.specs.Calls.{Call, holds_shared, holds_owned}
 use Rattle.table_core.specs.declared.event.Entry.{Entry}
 use Rattle.table_core.specs.declared.generation.Slot.{Slot}
 
 -- an entry as a map keeps it, by its place
 abbrev pub entry_of : ℕ × Slot → Entry
-entry_of p = record { place = p.0; value = p.1.value; bits = p.1.bits }
+entry_of p = record { index = p.0; value = p.1.value; bits = p.1.bits }
 
 -- so many buckets from a place on, in turn, are set
 abbrev pub AllSet : Gen → ℕ → ℕ → Type 0
-AllSet g place n = (j : ℕ) → j < n → (e : Entry) × (bucket g.entries (at_place g.capacity place j) ≡ Some e)
+AllSet g index n = (j : ℕ) → j < n → (e : Entry) × (bucket g.entries (bucket_at g.capacity index j) ≡ Some e)
 
 -- a run of so many buckets from a set one on: there are as many entries, and those after it are set too
 abbrev pub IsRun : ℕ → List Entry → ℕ → ℕ → Type 0
-IsRun capacity es place n = (1 ≤ n) × (n ≤ length es) × ((j : ℕ) → 1 ≤ j → j < n → (e : Entry) × (bucket es (at_place capacity place j) ≡ Some e))
+IsRun capacity es index n = (1 ≤ n) × (n ≤ length es) × ((j : ℕ) → 1 ≤ j → j < n → (e : Entry) × (bucket es (bucket_at capacity index j) ≡ Some e))
 
 -- what each of these slots keeps is a run among es
 abbrev pub RunsHold : ℕ → List Entry → List (ℕ × Slot) → Type 0

@@ -21,8 +21,8 @@ pub record Table : Type 0 where
   pub building : Option Build
 
 -- a first capacity is a power of two from 16 to 2^30
-abbrev pub IsFirst : ℕ → Type 0
-IsFirst f = (k : ℕ) × (f ≡ 2 ^ k) × (4 ≤ k) × (k ≤ 30)
+abbrev pub IsFirstCapacity : ℕ → Type 0
+IsFirstCapacity f = (k : ℕ) × (f ≡ 2 ^ k) × (4 ≤ k) × (k ≤ 30)
 
 -- Buckets
 
@@ -32,16 +32,16 @@ bits_of hash = hash / 2 ^ 32 % 256
 
 -- the bucket at a place
 abbrev pub bucket : List Entry → ℕ → Option Entry
-bucket es i = find (λ e. e.place == i) es
+bucket es i = find (λ e. e.index == i) es
 
 -- an entry more, in order of the places
 abbrev pub put_in : Entry → List Entry → List Entry
 put_in e [] = e ∷ []
-put_in e (x ∷ xs) = if nat_lt e.place x.place then e ∷ x ∷ xs else x ∷ put_in e xs
+put_in e (x ∷ xs) = if nat_lt e.index x.index then e ∷ x ∷ xs else x ∷ put_in e xs
 
 -- the place that is d buckets on from a hash's own
-abbrev pub at_place : ℕ → ℕ → ℕ → ℕ
-at_place capacity hash d = (hash + d) % capacity
+abbrev pub bucket_at : ℕ → ℕ → ℕ → ℕ
+bucket_at capacity hash d = (hash + d) % capacity
 
 abbrev pub if_empty : Option Entry → ℕ → ℕ → ℕ
 if_empty None here further = here
@@ -49,9 +49,9 @@ if_empty (Some e) here further = further
 
 -- the first empty place of those d, d + 1, .. buckets on; no more than so many can be set
 abbrev pub empty_from : ℕ → List Entry → ℕ → ℕ → ℕ → ℕ
-empty_from capacity es hash d zero = at_place capacity hash d
+empty_from capacity es hash d zero = bucket_at capacity hash d
 empty_from capacity es hash d (suc set) =
-    if_empty (bucket es (at_place capacity hash d)) (at_place capacity hash d) (empty_from capacity es hash (suc d) set)
+    if_empty (bucket es (bucket_at capacity hash d)) (bucket_at capacity hash d) (empty_from capacity es hash (suc d) set)
 
 -- the first empty place from a hash's own on
 abbrev pub first_empty : Gen → ℕ → ℕ
@@ -70,7 +70,7 @@ count g = record g { size = g.size + 1 }
 
 -- an entry copied to a place, whose size is counted at once
 abbrev pub copy_in : Gen → Entry → ℕ → Gen
-copy_in g e place = count (fill g (record e { place = place }))
+copy_in g e index = count (fill g (record e { index = index }))
 
 abbrev pub last_of : List Gen → Option Gen
 last_of gens = slice_get gens (length gens - 1)

@@ -2,10 +2,10 @@
 use Rattle.std.specs.Prelude.{ℕ, ◌+◌, ◌==◌, ◌&&◌, ◌||◌, ◌≡◌, if◌then◌else◌, Bool, true, false, Option, Some, List, [], ◌∷◌, ◌++◌, map, option_to_list}
 use Rattle.std.specs.List.{find, flat_map}
 use Rattle.table_core.specs.Bags.{weigh}
-use Rattle.table_core.specs.Replies.{Told, ToldPlaced, ToldFound, ToldRefused, Reply}
+use Rattle.table_core.specs.Replies.{Reply, ReplyPlaced, ReplyFound, ReplyRefused, Finished}
 use Rattle.table_core.specs.Generations.{Table, current, entries_of}
 use Rattle.table_core.specs.Calls.{Call}
-use Rattle.table_core.specs.Machine.{World, number_of, Act, Begins, Goes, acts, happens, reply, after, bucket_at}
+use Rattle.table_core.specs.Machine.{World, number_of, Act, Begins, Goes, acts, happens, finishes, after, bucket_of}
 use Rattle.table_core.specs.declared.event.Event.{Event}
 use Rattle.table_core.specs.declared.event.Event.TheVariants.{Insert, Read}
 use Rattle.table_core.specs.declared.event.Entry.{Entry}
@@ -17,12 +17,12 @@ use Rattle.table_core.specs.declared.call.Answer.{Answer}
 use Rattle.table_core.specs.declared.call.Answer.TheVariants.{Loaded, Won, Counted}
 
 -- the replies, in the order in which the calls finish
-abbrev pub replies : World → List Event → List Reply
+abbrev pub replies : World → List Event → List Finished
 replies w [] = []
-replies w (x ∷ xs) = option_to_list (reply w x) ++ replies (happens w x) xs
+replies w (x ∷ xs) = option_to_list (finishes w x) ++ replies (happens w x) xs
 
 -- what call n is told in a schedule
-abbrev pub fate : World → List Event → ℕ → Option Reply
+abbrev pub fate : World → List Event → ℕ → Option Finished
 fate w s n = find (λ r. r.call == n) (replies w s)
 
 -- the value whose exchange succeeds
@@ -50,14 +50,14 @@ abbrev pub given : World → List Event → List ℕ
 given w [] = []
 given w (x ∷ xs) = given_by (acts w x) x ++ given (happens w x) xs
 
-abbrev pub handed_back : Told → List ℕ
-handed_back (ToldFound e v) = v ∷ []
-handed_back (ToldRefused v) = v ∷ []
+abbrev pub handed_back : Reply → List ℕ
+handed_back (ReplyFound e v) = v ∷ []
+handed_back (ReplyRefused v) = v ∷ []
 handed_back _ = []
 
 -- the values that were handed back
-abbrev pub back : List Reply → List ℕ
-back rs = flat_map (λ r. handed_back r.told) rs
+abbrev pub back : List Finished → List ℕ
+back rs = flat_map (λ r. handed_back r.reply) rs
 
 -- the values in the current generation
 abbrev pub kept : World → List ℕ
@@ -94,12 +94,12 @@ added w [] = 0
 added w (x ∷ xs) = added_by (acts w x) + added (happens w x) xs
 
 -- the inserts that were told Placed
-abbrev pub says_placed : Told → ℕ
-says_placed (ToldPlaced v) = 1
+abbrev pub says_placed : Reply → ℕ
+says_placed (ReplyPlaced v) = 1
 says_placed _ = 0
 
-abbrev pub placed_told : List Reply → ℕ
-placed_told rs = weigh (λ r. says_placed r.told) rs
+abbrev pub placed_told : List Finished → ℕ
+placed_told rs = weigh (λ r. says_placed r.reply) rs
 
 -- the reads that call n took
 abbrev pub is_read : Event → Bool
@@ -145,7 +145,7 @@ pub record TakenEvent (f : ℕ) (s : List Event) (n : ℕ) : Type 0 where
 
 -- the bucket at which a call stands at a taken event of it
 abbrev pub bucket_then : (f : ℕ) (s : List Event) (n : ℕ) → TakenEvent f s n → Option Entry
-bucket_then f s n e = bucket_at (after f e.before).table e.call.state
+bucket_then f s n e = bucket_of (after f e.before).table e.call.state
 
 -- an answer of call n of this kind
 abbrev pub answers_so : (Phase → Answer → Bool) → Option Act → ℕ → Bool

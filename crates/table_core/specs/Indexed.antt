@@ -6,7 +6,8 @@ use Rattle.std.specs.HashSet as set
 use Rattle.std.specs.HashSet.{HashSet}
 use Rattle.table_core.specs.Calls.{Call, is_used_value}
 use Rattle.table_core.specs.Bound.{position_of, sharing_among, owning_among, Doubles, capacities}
-use Rattle.table_core.specs.Generations.{Gen, IsFirst, entries_of, last_of}
+use Rattle.table_core.specs.Generations.{Gen, entries_of, last_of}
+use Rattle.terms.specs.Capacities.{IsFirstCapacity}
 use Rattle.table_core.specs.declared.event.Entry.{Entry}
 
 -- where each call stands, which values are used, and how many calls hold the lock
@@ -18,6 +19,6 @@ pub record IsIndexed {S T : Type 0} (calls : List Call) (positions : HashMap ℕ
 
 -- the generations of a table, the one being built, and the entries that are copied into it
 pub record IsTable (first : ℕ) (gens : List Gen) (growing : Option Gen) (source : List Entry) : Type 0 where
-  pub allowed : IsFirst first
+  pub allowed : IsFirstCapacity first
   pub doubles : Doubles first (capacities gens growing)
   pub copies : (g : Gen) → growing ≡ Some g → source ≡ entries_of (last_of gens)

@@ -1,8 +1,9 @@
 -- Lawful schedules: the closures answer by one equality, one hash and one test a look-up.
 use Rattle.std.specs.Prelude.{ℕ, ◌≡◌, Bool, true, Option, Some, None, List, [], ◌∷◌}
-use Rattle.table_core.specs.Generations.{bits_of, next_copied}
+use Rattle.table_core.specs.Generations.{next_copied}
+use Rattle.terms.specs.Hashes.{bits_of}
 use Rattle.table_core.specs.Calls.{Call}
-use Rattle.table_core.specs.Machine.{World, empty, Act, Begins, Goes, acts, happens, bucket_at}
+use Rattle.table_core.specs.Machine.{World, empty, Act, Begins, Goes, acts, happens, bucket_of}
 use Rattle.table_core.specs.declared.event.Event.{Event}
 use Rattle.table_core.specs.declared.event.Event.TheVariants.{Insert, Lookup, Read, Put, Copy}
 use Rattle.table_core.specs.declared.event.Entry.{Entry}
@@ -29,7 +30,7 @@ accepts l c e = accepts_by l c.number c.value e
 
 -- where the bucket is set and its bits agree the closure is asked, and its answer is the law's
 abbrev pub AsksBy : Law → World → Call → Bool → Type 0
-AsksBy l w c y = (e : Entry) → bucket_at w.table c.state ≡ Some e → e.bits ≡ bits_of c.state.hash → y ≡ accepts l c e.value
+AsksBy l w c y = (e : Entry) → bucket_of w.table c.state ≡ Some e → e.bits ≡ bits_of c.state.hash → y ≡ accepts l c e.value
 
 -- a copy carries the hash of what it copies
 abbrev pub CopiesBy : Law → World → ℕ → Type 0

@@ -5,9 +5,9 @@ use Rattle.table_core.specs.ListObject.{ListCall, ListReply, Answers, IsListRun}
 use Rattle.table_core.specs.ListObject.{Insert as AskInsert, Lookup as AskLookup, Length as AskLength, Walk as AskWalk}
 use Rattle.table_core.specs.ListObject.{Placed as AnswerPlaced, Found as AnswerFound, Refused as AnswerRefused, Shown as AnswerShown, Absent as AnswerAbsent, Counted as AnswerCounted, Walked as AnswerWalked}
 use Rattle.table_core.specs.Bags.{SameBag, weigh}
-use Rattle.table_core.specs.Replies.{Told, ToldPlaced, ToldFound, ToldRefused, ToldSome, ToldNone, ToldLen, ToldWalk, Reply}
+use Rattle.table_core.specs.Replies.{Reply, ReplyPlaced, ReplyFound, ReplyRefused, ReplySome, ReplyNone, ReplyLen, ReplyWalk, Finished}
 use Rattle.table_core.specs.Calls.{Call, is_used, is_done}
-use Rattle.table_core.specs.Machine.{World, empty, Act, Begins, Goes, acts, happens, after, reply}
+use Rattle.table_core.specs.Machine.{World, empty, Act, Begins, Goes, acts, happens, after, finishes}
 use Rattle.table_core.specs.History.{replies, fate, placed, placed_by, given, kept, TakenEvent, bucket_then, has_later}
 use Rattle.table_core.specs.Law.{Law, IsLawful}
 use Rattle.table_core.specs.Values.{Ends, entry_named, IsOwn}
@@ -22,49 +22,49 @@ use Rattle.table_core.specs.declared.call.Answer.TheVariants.{Empty, Holds, Won,
 -- The list object's words for what a call asks and is told
 
 -- what a call asks that is told this: a look-up asks by its test
-abbrev pub asked_for : Law → ℕ → Told → ListCall ℕ
-asked_for l n (ToldPlaced v) = AskInsert v
-asked_for l n (ToldFound e v) = AskInsert v
-asked_for l n (ToldRefused v) = AskInsert v
-asked_for l n (ToldSome e) = AskLookup (l.test n)
-asked_for l n ToldNone = AskLookup (l.test n)
-asked_for l n (ToldLen k) = AskLength
-asked_for l n (ToldWalk es) = AskWalk
+abbrev pub asked_for : Law → ℕ → Reply → ListCall ℕ
+asked_for l n (ReplyPlaced v) = AskInsert v
+asked_for l n (ReplyFound e v) = AskInsert v
+asked_for l n (ReplyRefused v) = AskInsert v
+asked_for l n (ReplySome e) = AskLookup (l.test n)
+asked_for l n ReplyNone = AskLookup (l.test n)
+asked_for l n (ReplyLen k) = AskLength
+asked_for l n (ReplyWalk es) = AskWalk
 
-abbrev pub asked : Law → Reply → ListCall ℕ
-asked l r = asked_for l r.call r.told
+abbrev pub asked : Law → Finished → ListCall ℕ
+asked l r = asked_for l r.call r.reply
 
-abbrev pub answered : Told → ListReply ℕ
-answered (ToldPlaced v) = AnswerPlaced v
-answered (ToldFound e v) = AnswerFound e v
-answered (ToldRefused v) = AnswerRefused v
-answered (ToldSome e) = AnswerShown e
-answered ToldNone = AnswerAbsent
-answered (ToldLen k) = AnswerCounted k
-answered (ToldWalk es) = AnswerWalked es
+abbrev pub answered : Reply → ListReply ℕ
+answered (ReplyPlaced v) = AnswerPlaced v
+answered (ReplyFound e v) = AnswerFound e v
+answered (ReplyRefused v) = AnswerRefused v
+answered (ReplySome e) = AnswerShown e
+answered ReplyNone = AnswerAbsent
+answered (ReplyLen k) = AnswerCounted k
+answered (ReplyWalk es) = AnswerWalked es
 
 -- the reply of an insert or a look-up
-abbrev pub is_list_reply : Told → Bool
-is_list_reply (ToldLen _) = false
-is_list_reply (ToldWalk _) = false
+abbrev pub is_list_reply : Reply → Bool
+is_list_reply (ReplyLen _) = false
+is_list_reply (ReplyWalk _) = false
 is_list_reply _ = true
 
-abbrev pub is_refusal : Told → Bool
-is_refusal (ToldRefused _) = true
+abbrev pub is_refusal : Reply → Bool
+is_refusal (ReplyRefused _) = true
 is_refusal _ = false
 
 -- Moments
 
 -- the moment of a reply: the load of a None, the read of a Some, the put of a Placed, the read or put that met the
 -- entry of a Found, and of a Refused the read of an empty bucket or the failed check
-abbrev pub is_moment : Told → Phase → Answer → Bool
-is_moment ToldNone LookLoad a = true
-is_moment (ToldSome e) LookProbe (Holds true true) = true
-is_moment (ToldPlaced v) AtEmpty Won = true
-is_moment (ToldFound e v) Probe (Holds true true) = true
-is_moment (ToldFound e v) AtEmpty (Holds true true) = true
-is_moment (ToldRefused v) Probe Empty = true
-is_moment (ToldRefused v) Owned Failed = true
+abbrev pub is_moment : Reply → Phase → Answer → Bool
+is_moment ReplyNone LookLoad a = true
+is_moment (ReplySome e) LookProbe (Holds true true) = true
+is_moment (ReplyPlaced v) AtEmpty Won = true
+is_moment (ReplyFound e v) Probe (Holds true true) = true
+is_moment (ReplyFound e v) AtEmpty (Holds true true) = true
+is_moment (ReplyRefused v) Probe Empty = true
+is_moment (ReplyRefused v) Owned Failed = true
 is_moment _ _ _ = false
 
 -- an insert reads an empty bucket, or its check fails: it may be refused from here on
@@ -74,69 +74,69 @@ may_be_refused Owned Failed = true
 may_be_refused _ _ = false
 
 -- the bucket holds the entry that the reply names
-abbrev pub Meets : Told → Option Entry → Type 0
+abbrev pub Meets : Reply → Option Entry → Type 0
 Meets t o = (e : ℕ) → entry_named t ≡ Some e → (d : Entry) × (o ≡ Some d) × (d.value ≡ e)
 
 -- at its moment, which is an event of its span, a reply is the list object's on what was placed; a refusal's moment is the last that it may have
-pub record IsRight (l : Law) (f : ℕ) (s : List Event) (r : Reply) : Type 0 where
+pub record IsRight (l : Law) (f : ℕ) (s : List Event) (r : Finished) : Type 0 where
   pub at : TakenEvent f s r.call
-  pub moment : is_moment r.told at.call.state.phase at.found ≡ true
-  pub last : is_refusal r.told ≡ true → has_later may_be_refused (after f (at.before ++ at.event ∷ [])) at.rest r.call ≡ false
-  pub meets : Meets r.told (bucket_then f s r.call at)
-  pub answer : Answers l.equal (placed (empty f) at.before) (asked l r) (answered r.told) (placed (empty f) (at.before ++ at.event ∷ []))
+  pub moment : is_moment r.reply at.call.state.phase at.found ≡ true
+  pub last : is_refusal r.reply ≡ true → has_later may_be_refused (after f (at.before ++ at.event ∷ [])) at.rest r.call ≡ false
+  pub meets : Meets r.reply (bucket_then f s r.call at)
+  pub answer : Answers l.equal (placed (empty f) at.before) (asked l r) (answered r.reply) (placed (empty f) (at.before ++ at.event ∷ []))
 
 -- each finished insert and look-up is right: what its reply says was asked is what its own call asked when it began, and the answer is the list object's
-abbrev pub Right : Law → ℕ → List Event → Event → Reply → Type 0
-Right l f s x r = IsLawful l f (s ++ x ∷ []) → Ends f s x r → is_list_reply r.told ≡ true → IsOwn f s r × IsRight l f (s ++ x ∷ []) r
+abbrev pub Right : Law → ℕ → List Event → Event → Finished → Type 0
+Right l f s x r = IsLawful l f (s ++ x ∷ []) → Ends f s x r → is_list_reply r.reply ≡ true → IsOwn f s r × IsRight l f (s ++ x ∷ []) r
 
 -- One history
 
 -- the insert that places its value here, and isn't told so in this schedule
-abbrev pub placed_here : ℕ → List ℕ → List Reply
-placed_here n vs = map (λ v. record { call = n; told = ToldPlaced v }) vs
+abbrev pub placed_here : ℕ → List ℕ → List Finished
+placed_here n vs = map (λ v. record { call = n; reply = ReplyPlaced v }) vs
 
-abbrev pub told_here : Phase → Answer → Reply → Bool → List Reply
-told_here p a r later = if is_moment r.told p a && not (is_refusal r.told && later) then r ∷ [] else []
+abbrev pub reply_here : Phase → Answer → Finished → Bool → List Finished
+reply_here p a r later = if is_moment r.reply p a && not (is_refusal r.reply && later) then r ∷ [] else []
 
-abbrev pub stands_here : Call → Answer → Option Reply → Bool → List Reply
+abbrev pub stands_here : Call → Answer → Option Finished → Bool → List Finished
 stands_here c a None later = placed_here c.number (placed_by (Some (Goes c a)))
-stands_here c a (Some r) later = told_here c.state.phase a r later
+stands_here c a (Some r) later = reply_here c.state.phase a r later
 
-abbrev pub history_at : World → Event → List Event → Option Act → List Reply
+abbrev pub history_at : World → Event → List Event → Option Act → List Finished
 history_at w x xs (Some (Goes c a)) = stands_here c a (fate w (x ∷ xs) c.number) (has_later may_be_refused (happens w x) xs c.number)
 history_at w x xs _ = []
 
 -- the inserts and look-ups that finish, each at its moment, and the inserts that place and don't finish, each at its put
-abbrev pub history : World → List Event → List Reply
+abbrev pub history : World → List Event → List Finished
 history w [] = []
 history w (x ∷ xs) = history_at w x xs (acts w x) ++ history (happens w x) xs
 
 -- an insert that has placed its value and isn't finished
-pub record HasPlaced (f : ℕ) (s : List Event) (r : Reply) : Type 0 where
+pub record HasPlaced (f : ℕ) (s : List Event) (r : Finished) : Type 0 where
   pub own : IsOwn f s r
   pub value : ℕ
-  pub told : r.told ≡ ToldPlaced value
+  pub reply : r.reply ≡ ReplyPlaced value
   pub placed : Contains (placed (empty f) s) value
   pub unfinished : fate (empty f) s r.call ≡ None
 
 -- at any cut of the schedule, what stands before it are calls that have begun, and what stands behind it are calls that haven't finished
 pub record IsInOrder (f : ℕ) (s more : List Event) : Type 0 where
-  pub before : List Reply
+  pub before : List Finished
   pub split : history (empty f) (s ++ more) ≡ before ++ history (after f s) more
-  pub begun : (r : Reply) → Contains before r → is_used r.call (after f s).calls ≡ true
-  pub unfinished : (r : Reply) → Contains (history (after f s) more) r → fate (empty f) s r.call ≡ None
+  pub begun : (r : Finished) → Contains before r → is_used r.call (after f s).calls ≡ true
+  pub unfinished : (r : Finished) → Contains (history (after f s) more) r → fate (empty f) s r.call ≡ None
 
 pub record IsOneHistory (l : Law) (f : ℕ) (s : List Event) : Type 0 where
   -- the history is a run of the list object, which ends with what was placed
-  pub run : IsListRun l.equal [] (map (asked l) (history (empty f) s)) (map (λ r. answered r.told) (history (empty f) s)) (placed (empty f) s)
+  pub run : IsListRun l.equal [] (map (asked l) (history (empty f) s)) (map (λ r. answered r.reply) (history (empty f) s)) (placed (empty f) s)
   -- each finished insert and look-up stands in it
-  pub each : (r : Reply) → Contains (replies (empty f) s) r → is_list_reply r.told ≡ true → Contains (history (empty f) s) r
+  pub each : (r : Finished) → Contains (replies (empty f) s) r → is_list_reply r.reply ≡ true → Contains (history (empty f) s) r
   -- no call stands in it twice
   pub once : (n : ℕ) → weigh (λ r. if r.call == n then 1 else 0) (history (empty f) s) ≤ 1
   -- what stands in it is finished, or has placed its value
-  pub only : (r : Reply) → Contains (history (empty f) s) r → Contains (replies (empty f) s) r ⊎ HasPlaced f s r
+  pub only : (r : Finished) → Contains (history (empty f) s) r → Contains (replies (empty f) s) r ⊎ HasPlaced f s r
   -- and asks what its own call asked when it began: an insert of its value, a look-up by its test
-  pub own : (r : Reply) → Contains (history (empty f) s) r → IsOwn f s r
+  pub own : (r : Finished) → Contains (history (empty f) s) r → IsOwn f s r
 
 -- the finished inserts and look-ups, with the inserts that have placed, are one run of the list object
 abbrev pub OneHistory : Law → ℕ → List Event → Type 0
@@ -165,7 +165,7 @@ NoneRefusedInVain l f s n v h more x back =
     (c : Call) → IsLawful l f (s ++ Insert n v h ∷ more ++ x ∷ []) →
     acts (after f s) (Insert n v h) ≡ Some (Begins c) →
     list_any (l.equal v) (placed (empty f) s) ≡ true →
-    reply (after f (s ++ Insert n v h ∷ more)) x ≢ Some (record { call = n; told = ToldRefused back })
+    finishes (after f (s ++ Insert n v h ∷ more)) x ≢ Some (record { call = n; reply = ReplyRefused back })
 
 -- Classes
 
@@ -173,7 +173,7 @@ NoneRefusedInVain l f s n v h more x back =
 pub record IsSettled (l : Law) (f : ℕ) (s : List Event) : Type 0 where
   pub lawful : IsLawful l f s
   pub finished : list_all (λ c. is_done c.state.phase) (after f s).calls ≡ true
-  pub unrefused : list_any (λ r. is_refusal r.told) (replies (empty f) s) ≡ false
+  pub unrefused : list_any (λ r. is_refusal r.reply) (replies (empty f) s) ≡ false
 
 -- then each class of the values handed in has exactly one entry, and there are no other entries
 abbrev pub Classes : Law → ℕ → List Event → Type 0

@@ -1,7 +1,8 @@
 -- The machine: what an event finds, what it changes, and what a call is told.
 use Rattle.std.specs.Prelude.{ℕ, ◌+◌, ◌/◌, ◌^◌, ◌==◌, ◌&&◌, ◌||◌, nat_lt, if◌then◌else◌, Bool, true, false, not, Option, Some, None, List, [], ◌∷◌, ◌++◌, length, ◌-◌}
-use Rattle.table_core.specs.Replies.{Told, ToldPlaced, ToldFound, ToldRefused, ToldSome, ToldNone, ToldLen, ToldWalk, Reply}
-use Rattle.table_core.specs.Generations.{Gen, Table, bits_of, fresh, fill, count, current, gen_of, bucket_in, is_current, change, next_capacity, next_copied, copy_on, built}
+use Rattle.table_core.specs.Replies.{Reply, ReplyPlaced, ReplyFound, ReplyRefused, ReplySome, ReplyNone, ReplyLen, ReplyWalk, Finished}
+use Rattle.table_core.specs.Generations.{Gen, Table, fresh, fill, count, current, gen_of, bucket_in, is_current, change, next_capacity, next_copied, copy_on, built}
+use Rattle.terms.specs.Hashes.{bits_of}
 use Rattle.table_core.specs.Calls.{Call, starts, is_used, is_used_value, call_numbered, replaced, is_owned, is_locked, decided, is_pending}
 use Rattle.table_core.specs.declared.event.Event.{Event}
 use Rattle.table_core.specs.declared.event.Event.TheVariants.{Insert, Lookup, Len, Walk, Share, Own, Free, Load, Read, Put, Add, Size, Check, Copy, Show}
@@ -42,8 +43,8 @@ abbrev pub walked_gen : Table → CallState → Option Gen
 walked_gen t s = gen_of t.gens s.walked
 
 -- the bucket at which a call stands
-abbrev pub bucket_at : Table → CallState → Option Entry
-bucket_at t s = bucket_in (walked_gen t s) s.index
+abbrev pub bucket_of : Table → CallState → Option Entry
+bucket_of t s = bucket_in (walked_gen t s) s.index
 
 -- a set bucket whose bits are those of the hash shows the closure's answer
 abbrev pub holds : Entry → ℕ → Bool → Answer
@@ -86,9 +87,9 @@ frees w s = Some (Released (is_current w.table.gens s.walked))
 abbrev pub finds_in : Phase → World → CallState → Event → Option Answer
 finds_in WantShared w s (Share _) = takes_unless (is_owned w.calls)
 finds_in Shared w s (Load _) = Some (loads w.table)
-finds_in Probe w s (Read _ accepted) = Some (read (bucket_at w.table s) s.hash accepted)
+finds_in Probe w s (Read _ accepted) = Some (read (bucket_of w.table s) s.hash accepted)
 finds_in AtEmpty w s (Put _ accepted granted) =
-    Some (if granted then exchanged (bucket_at w.table s) s.hash accepted else MemoryRefused)
+    Some (if granted then exchanged (bucket_of w.table s) s.hash accepted else MemoryRefused)
 finds_in Placed w s (Add _) = Some Counted
 finds_in LeaveOk w s (Free _) = frees w s
 finds_in LeaveGrow w s (Free _) = frees w s
@@ -101,11 +102,11 @@ finds_in Building w s (Show _) = shows (next_copied w.table)
 finds_in LeaveOwned w s (Free _) = frees w s
 finds_in LeaveFailed w s (Free _) = frees w s
 finds_in LookLoad w s (Load _) = Some (loads w.table)
-finds_in LookProbe w s (Read _ accepted) = Some (read (bucket_at w.table s) s.hash accepted)
+finds_in LookProbe w s (Read _ accepted) = Some (read (bucket_of w.table s) s.hash accepted)
 finds_in LenLoad w s (Load _) = Some (loads w.table)
 finds_in LenSize w s (Size _) = sized (walked_gen w.table s)
 finds_in WalkLoad w s (Load _) = Some (loads w.table)
-finds_in WalkAt w s (Read _ accepted) = Some (read (bucket_at w.table s) s.hash accepted)
+finds_in WalkAt w s (Read _ accepted) = Some (read (bucket_of w.table s) s.hash accepted)
 finds_in _ w s _ = None
 
 abbrev pub finds : World → CallState → Event → Option Answer
@@ -116,7 +117,7 @@ finds w s x = finds_in s.phase w s x
 -- the value of a call in the bucket at which it stands
 abbrev pub place : Table → CallState → Option ℕ → Table
 place t s None = t
-place t s (Some v) = record t { gens = change t.gens s.walked (λ g. fill g (record { place = s.index; value = v; bits = bits_of s.hash })) }
+place t s (Some v) = record t { gens = change t.gens s.walked (λ g. fill g (record { index = s.index; value = v; bits = bits_of s.hash })) }
 
 abbrev pub add_one : Table → CallState → Table
 add_one t s = record t { gens = change t.gens s.walked count }
@@ -144,34 +145,34 @@ changed t c _ _ = t
 -- What a call is told
 
 -- the call's own value back
-abbrev pub refused : Option ℕ → Option Told
+abbrev pub refused : Option ℕ → Option Reply
 refused None = None
-refused (Some v) = Some (ToldRefused v)
+refused (Some v) = Some (ReplyRefused v)
 
-abbrev pub found_entry : Option Entry → ℕ → Option Told
+abbrev pub found_entry : Option Entry → ℕ → Option Reply
 found_entry None v = None
-found_entry (Some e) v = Some (ToldFound e.value v)
+found_entry (Some e) v = Some (ReplyFound e.value v)
 
-abbrev pub told_of_outcome : Outcome → Table → CallState → Option ℕ → Option Told
-told_of_outcome (New _) t s (Some v) = Some (ToldPlaced v)
-told_of_outcome (Existing i) t s (Some v) = found_entry (bucket_in (walked_gen t s) i) v
-told_of_outcome _ t s _ = None
+abbrev pub reply_of_outcome : Outcome → Table → CallState → Option ℕ → Option Reply
+reply_of_outcome (New _) t s (Some v) = Some (ReplyPlaced v)
+reply_of_outcome (Existing i) t s (Some v) = found_entry (bucket_in (walked_gen t s) i) v
+reply_of_outcome _ t s _ = None
 
 -- the reply by the outcome; none without an outcome
-abbrev pub by_outcome : Table → Call → Option Told
-by_outcome t c = told_of_outcome c.state.outcome t c.state c.value
+abbrev pub by_outcome : Table → Call → Option Reply
+by_outcome t c = reply_of_outcome c.state.outcome t c.state c.value
 
-abbrev pub by_failure : Table → Call → Bool → Option Told
+abbrev pub by_failure : Table → Call → Bool → Option Reply
 by_failure t c still_current = if is_pending c.state.outcome && still_current then refused c.value else by_outcome t c
 
-abbrev pub shown_entry : Option Entry → Option Told
+abbrev pub shown_entry : Option Entry → Option Reply
 shown_entry None = None
-shown_entry (Some e) = Some (ToldSome e.value)
+shown_entry (Some e) = Some (ReplySome e.value)
 
 -- a look-up that goes on until it has seen all buckets
-abbrev pub look_told : Table → CallState → Bool → Option Told
-look_told t s true = shown_entry (bucket_at t s)
-look_told t s false = if nat_lt (s.seen + 1) s.capacity then None else Some ToldNone
+abbrev pub look_reply : Table → CallState → Bool → Option Reply
+look_reply t s true = shown_entry (bucket_of t s)
+look_reply t s false = if nat_lt (s.seen + 1) s.capacity then None else Some ReplyNone
 
 -- the list of a walk with what its bucket holds
 abbrev pub with_entry : List ℕ → Option Entry → List ℕ
@@ -179,27 +180,27 @@ with_entry list None = list
 with_entry list (Some e) = list ++ e.value ∷ []
 
 -- a walk tells its list after the last bucket
-abbrev pub walk_told : CallState → List ℕ → Option Told
-walk_told s list = if nat_lt (s.index + 1) s.capacity then None else Some (ToldWalk list)
+abbrev pub walk_reply : CallState → List ℕ → Option Reply
+walk_reply s list = if nat_lt (s.index + 1) s.capacity then None else Some (ReplyWalk list)
 
 -- what a call is told that finishes by an answer, in the phases' order
-abbrev pub told_in : Phase → Table → Call → Answer → Option Told
-told_in LeaveRefused t c (Released _) = refused c.value
-told_in AskSize t c (Sized k) = if nat_lt k (c.state.capacity / 2) then by_outcome t c else None
-told_in LeaveOwned t c (Released _) = by_outcome t c
-told_in LeaveFailed t c (Released still_current) = by_failure t c still_current
-told_in LookLoad t c NoGeneration = Some ToldNone
-told_in LookProbe t c Empty = Some ToldNone
-told_in LookProbe t c (Holds same accepted) = look_told t c.state (same && accepted)
-told_in LenLoad t c NoGeneration = Some (ToldLen 0)
-told_in LenSize t c (Sized k) = Some (ToldLen k)
-told_in WalkLoad t c NoGeneration = Some (ToldWalk [])
-told_in WalkAt t c Empty = walk_told c.state c.list
-told_in WalkAt t c (Holds _ _) = walk_told c.state (with_entry c.list (bucket_at t c.state))
-told_in _ t c _ = None
+abbrev pub reply_in : Phase → Table → Call → Answer → Option Reply
+reply_in LeaveRefused t c (Released _) = refused c.value
+reply_in AskSize t c (Sized k) = if nat_lt k (c.state.capacity / 2) then by_outcome t c else None
+reply_in LeaveOwned t c (Released _) = by_outcome t c
+reply_in LeaveFailed t c (Released still_current) = by_failure t c still_current
+reply_in LookLoad t c NoGeneration = Some ReplyNone
+reply_in LookProbe t c Empty = Some ReplyNone
+reply_in LookProbe t c (Holds same accepted) = look_reply t c.state (same && accepted)
+reply_in LenLoad t c NoGeneration = Some (ReplyLen 0)
+reply_in LenSize t c (Sized k) = Some (ReplyLen k)
+reply_in WalkLoad t c NoGeneration = Some (ReplyWalk [])
+reply_in WalkAt t c Empty = walk_reply c.state c.list
+reply_in WalkAt t c (Holds _ _) = walk_reply c.state (with_entry c.list (bucket_of t c.state))
+reply_in _ t c _ = None
 
-abbrev pub told : Table → Call → Answer → Option Told
-told t c a = told_in c.state.phase t c a
+abbrev pub reply : Table → Call → Answer → Option Reply
+reply t c a = reply_in c.state.phase t c a
 
 -- the list that a walk keeps: its reply takes it
 abbrev pub kept_list : CallState → List ℕ → List ℕ
@@ -207,7 +208,7 @@ kept_list s list = if nat_lt (s.index + 1) s.capacity then list else []
 
 abbrev pub list_in : Phase → Table → Call → Answer → List ℕ
 list_in WalkAt t c Empty = kept_list c.state c.list
-list_in WalkAt t c (Holds _ _) = kept_list c.state (with_entry c.list (bucket_at t c.state))
+list_in WalkAt t c (Holds _ _) = kept_list c.state (with_entry c.list (bucket_of t c.state))
 list_in _ t c _ = c.list
 
 -- the call after an answer
@@ -280,17 +281,17 @@ after_act w x (Some (Goes c a)) = record { table = changed w.table c x a; calls 
 abbrev pub happens : World → Event → World
 happens w x = after_act w x (acts w x)
 
-abbrev pub reply_to : ℕ → Option Told → Option Reply
-reply_to n None = None
-reply_to n (Some t) = Some (record { call = n; told = t })
+abbrev pub finished_call : ℕ → Option Reply → Option Finished
+finished_call n None = None
+finished_call n (Some t) = Some (record { call = n; reply = t })
 
-abbrev pub reply_by : World → Option Act → Option Reply
-reply_by w (Some (Goes c a)) = reply_to c.number (told w.table c a)
-reply_by w _ = None
+abbrev pub finished_by : World → Option Act → Option Finished
+finished_by w (Some (Goes c a)) = finished_call c.number (reply w.table c a)
+finished_by w _ = None
 
 -- the reply that an event gives
-abbrev pub reply : World → Event → Option Reply
-reply w x = reply_by w (acts w x)
+abbrev pub finishes : World → Event → Option Finished
+finishes w x = finished_by w (acts w x)
 
 abbrev pub run : World → List Event → World
 run w [] = w

@@ -3,30 +3,30 @@ use Rattle.std.specs.Prelude.{ℕ, List}
 use Rattle.table_core.specs.declared.reply.Reply.{Reply as RustReply}
 use Rattle.table_core.specs.declared.reply.Reply.TheVariants.{Placed, Found, Refused, Some, None, Len, Walk}
 
-pub data Told : Type 0 where
+pub data Reply : Type 0 where
   -- the call's value is an entry now
-  ToldPlaced : (value : ℕ) → Told
+  ReplyPlaced : (value : ℕ) → Reply
   -- this entry was accepted, and the call's value comes back
-  ToldFound : (entry : ℕ) → (back : ℕ) → Told
+  ReplyFound : (entry : ℕ) → (back : ℕ) → Reply
   -- the call's value comes back: memory was refused, for its entry or for growth, or the table can't grow
-  ToldRefused : (back : ℕ) → Told
+  ReplyRefused : (back : ℕ) → Reply
   -- the look-up accepted this entry
-  ToldSome : (entry : ℕ) → Told
+  ReplySome : (entry : ℕ) → Reply
   -- the look-up accepted no entry
-  ToldNone : Told
-  ToldLen : (count : ℕ) → Told
-  ToldWalk : (entries : List ℕ) → Told
+  ReplyNone : Reply
+  ReplyLen : (count : ℕ) → Reply
+  ReplyWalk : (entries : List ℕ) → Reply
 
 -- a call's number, and what it is told
-pub record Reply : Type 0 where
+pub record Finished : Type 0 where
   pub call : ℕ
-  pub told : Told
+  pub reply : Reply
 
-abbrev pub told_of : {A : Type 0} → RustReply A → Told
-told_of (Placed v) = ToldPlaced v
-told_of (Found e v) = ToldFound e v
-told_of (Refused v) = ToldRefused v
-told_of (Some e) = ToldSome e
-told_of None = ToldNone
-told_of (Len k) = ToldLen k
-told_of (Walk es) = ToldWalk es.items
+abbrev pub reply_of : {A : Type 0} → RustReply A → Reply
+reply_of (Placed v) = ReplyPlaced v
+reply_of (Found e v) = ReplyFound e v
+reply_of (Refused v) = ReplyRefused v
+reply_of (Some e) = ReplySome e
+reply_of None = ReplyNone
+reply_of (Len k) = ReplyLen k
+reply_of (Walk es) = ReplyWalk es.items

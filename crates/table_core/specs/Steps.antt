@@ -1,9 +1,10 @@
 -- The table of events, as a relation: one case a row, in the order of the phases.
 use Rattle.std.specs.Prelude.{ℕ, ◌+◌, ◌-◌, ◌/◌, ◌%◌, ◌^◌, ◌==◌, ◌&&◌, ◌≡◌, nat_lt, Bool, true, false, Option, Some, None, List, [], ◌∷◌, ◌++◌, length}
-use Rattle.table_core.specs.Replies.{Told, ToldSome, ToldNone, ToldLen, ToldWalk, Reply}
-use Rattle.table_core.specs.Generations.{Gen, Table, bits_of, current, is_current, next_copied, copy_on}
+use Rattle.table_core.specs.Replies.{Reply, ReplySome, ReplyNone, ReplyLen, ReplyWalk, Finished}
+use Rattle.table_core.specs.Generations.{Gen, Table, current, is_current, next_copied, copy_on}
+use Rattle.terms.specs.Hashes.{bits_of}
 use Rattle.table_core.specs.Calls.{Call, starts, is_used, is_used_value, call_numbered, replaced, is_owned, is_locked, holds_shared, holds_owned, to, probes, finds_entry, is_pending}
-use Rattle.table_core.specs.Machine.{World, Act, Begins, Goes, holds, walked_gen, bucket_at, place, add_one, begin_growth, show_built, refused, by_outcome, number_of, in_range, reply_to, acts, happens, reply}
+use Rattle.table_core.specs.Machine.{World, Act, Begins, Goes, holds, walked_gen, bucket_of, place, add_one, begin_growth, show_built, refused, by_outcome, number_of, in_range, finished_call, acts, happens, finishes}
 use Rattle.table_core.specs.declared.event.Event.{Event}
 use Rattle.table_core.specs.declared.event.Event.TheVariants.{Insert, Lookup, Len, Walk, Share, Own, Free, Load, Read, Put, Add, Size, Check, Copy, Show}
 use Rattle.table_core.specs.declared.event.Entry.{Entry}
@@ -28,7 +29,7 @@ turned p s = record s { phase = p; seen = s.seen + 1 }
 
 -- A row: the phase and the event, what the event finds, and then the call's state and list, the
 -- table, and what the call is told.
-pub data Row (w : World) (c : Call) : Phase → Event → Answer → CallState → List ℕ → Table → Option Told → Type 0 where
+pub data Row (w : World) (c : Call) : Phase → Event → Answer → CallState → List ℕ → Table → Option Reply → Type 0 where
   -- WantShared: share
   shares : (n : ℕ) → is_owned w.calls ≡ false → Row w c WantShared (Share n) Taken (to Shared c.state) c.list w.table None
   -- Shared: load
@@ -37,22 +38,22 @@ pub data Row (w : World) (c : Call) : Phase → Event → Answer → CallState �
   loads : (n : ℕ) (g : Gen) → current w.table ≡ Some g →
       Row w c Shared (Load n) (Loaded (length w.table.gens - 1) g.capacity) (probes Probe c.state (length w.table.gens - 1) g.capacity) c.list w.table None
   -- Probe: read
-  reads_empty : (n : ℕ) (y : Bool) → bucket_at w.table c.state ≡ None → Row w c Probe (Read n y) Empty (to AtEmpty c.state) c.list w.table None
-  meets : (n : ℕ) (y : Bool) (e : Entry) → bucket_at w.table c.state ≡ Some e → accepts e c.state y ≡ true →
+  reads_empty : (n : ℕ) (y : Bool) → bucket_of w.table c.state ≡ None → Row w c Probe (Read n y) Empty (to AtEmpty c.state) c.list w.table None
+  meets : (n : ℕ) (y : Bool) (e : Entry) → bucket_of w.table c.state ≡ Some e → accepts e c.state y ≡ true →
       Row w c Probe (Read n y) (holds e c.state.hash y) (finds_entry LeaveOk c.state) c.list w.table None
-  turns : (n : ℕ) (y : Bool) (e : Entry) → bucket_at w.table c.state ≡ Some e → accepts e c.state y ≡ false → nat_lt (c.state.seen + 1) c.state.capacity ≡ false →
+  turns : (n : ℕ) (y : Bool) (e : Entry) → bucket_of w.table c.state ≡ Some e → accepts e c.state y ≡ false → nat_lt (c.state.seen + 1) c.state.capacity ≡ false →
       Row w c Probe (Read n y) (holds e c.state.hash y) (turned LeaveGrow c.state) c.list w.table None
-  goes_on : (n : ℕ) (y : Bool) (e : Entry) → bucket_at w.table c.state ≡ Some e → accepts e c.state y ≡ false → nat_lt (c.state.seen + 1) c.state.capacity ≡ true →
+  goes_on : (n : ℕ) (y : Bool) (e : Entry) → bucket_of w.table c.state ≡ Some e → accepts e c.state y ≡ false → nat_lt (c.state.seen + 1) c.state.capacity ≡ true →
       Row w c Probe (Read n y) (holds e c.state.hash y) (next_bucket Probe c.state) c.list w.table None
   -- AtEmpty: put
   memory_refused : (n : ℕ) (y : Bool) → Row w c AtEmpty (Put n y false) MemoryRefused (to LeaveRefused c.state) c.list w.table None
-  puts : (n : ℕ) (y : Bool) → bucket_at w.table c.state ≡ None →
+  puts : (n : ℕ) (y : Bool) → bucket_of w.table c.state ≡ None →
       Row w c AtEmpty (Put n y true) Won (to Placed c.state) c.list (place w.table c.state c.value) None
-  loses_meets : (n : ℕ) (y : Bool) (e : Entry) → bucket_at w.table c.state ≡ Some e → accepts e c.state y ≡ true →
+  loses_meets : (n : ℕ) (y : Bool) (e : Entry) → bucket_of w.table c.state ≡ Some e → accepts e c.state y ≡ true →
       Row w c AtEmpty (Put n y true) (holds e c.state.hash y) (finds_entry LeaveOk c.state) c.list w.table None
-  loses_turns : (n : ℕ) (y : Bool) (e : Entry) → bucket_at w.table c.state ≡ Some e → accepts e c.state y ≡ false → nat_lt (c.state.seen + 1) c.state.capacity ≡ false →
+  loses_turns : (n : ℕ) (y : Bool) (e : Entry) → bucket_of w.table c.state ≡ Some e → accepts e c.state y ≡ false → nat_lt (c.state.seen + 1) c.state.capacity ≡ false →
       Row w c AtEmpty (Put n y true) (holds e c.state.hash y) (turned LeaveGrow c.state) c.list w.table None
-  loses_goes_on : (n : ℕ) (y : Bool) (e : Entry) → bucket_at w.table c.state ≡ Some e → accepts e c.state y ≡ false → nat_lt (c.state.seen + 1) c.state.capacity ≡ true →
+  loses_goes_on : (n : ℕ) (y : Bool) (e : Entry) → bucket_of w.table c.state ≡ Some e → accepts e c.state y ≡ false → nat_lt (c.state.seen + 1) c.state.capacity ≡ true →
       Row w c AtEmpty (Put n y true) (holds e c.state.hash y) (next_bucket Probe c.state) c.list w.table None
   -- Placed: add
   adds : (n : ℕ) →
@@ -97,37 +98,37 @@ pub data Row (w : World) (c : Call) : Phase → Event → Answer → CallState �
   tries_again : (n : ℕ) → is_pending c.state.outcome ≡ true → is_current w.table.gens c.state.walked ≡ false →
       Row w c LeaveFailed (Free n) (Released false) (to WantShared c.state) c.list w.table None
   -- LookLoad: load
-  looks_none : (n : ℕ) → current w.table ≡ None → Row w c LookLoad (Load n) NoGeneration (to Done c.state) c.list w.table (Some ToldNone)
+  looks_none : (n : ℕ) → current w.table ≡ None → Row w c LookLoad (Load n) NoGeneration (to Done c.state) c.list w.table (Some ReplyNone)
   looks : (n : ℕ) (g : Gen) → current w.table ≡ Some g →
       Row w c LookLoad (Load n) (Loaded (length w.table.gens - 1) g.capacity) (probes LookProbe c.state (length w.table.gens - 1) g.capacity) c.list w.table None
   -- LookProbe: read
-  look_empty : (n : ℕ) (y : Bool) → bucket_at w.table c.state ≡ None →
-      Row w c LookProbe (Read n y) Empty (to Done c.state) c.list w.table (Some ToldNone)
-  look_meets : (n : ℕ) (y : Bool) (e : Entry) → bucket_at w.table c.state ≡ Some e → accepts e c.state y ≡ true →
-      Row w c LookProbe (Read n y) (holds e c.state.hash y) (finds_entry Done c.state) c.list w.table (Some (ToldSome e.value))
-  look_turns : (n : ℕ) (y : Bool) (e : Entry) → bucket_at w.table c.state ≡ Some e → accepts e c.state y ≡ false → nat_lt (c.state.seen + 1) c.state.capacity ≡ false →
-      Row w c LookProbe (Read n y) (holds e c.state.hash y) (turned Done c.state) c.list w.table (Some ToldNone)
-  look_goes_on : (n : ℕ) (y : Bool) (e : Entry) → bucket_at w.table c.state ≡ Some e → accepts e c.state y ≡ false → nat_lt (c.state.seen + 1) c.state.capacity ≡ true →
+  look_empty : (n : ℕ) (y : Bool) → bucket_of w.table c.state ≡ None →
+      Row w c LookProbe (Read n y) Empty (to Done c.state) c.list w.table (Some ReplyNone)
+  look_meets : (n : ℕ) (y : Bool) (e : Entry) → bucket_of w.table c.state ≡ Some e → accepts e c.state y ≡ true →
+      Row w c LookProbe (Read n y) (holds e c.state.hash y) (finds_entry Done c.state) c.list w.table (Some (ReplySome e.value))
+  look_turns : (n : ℕ) (y : Bool) (e : Entry) → bucket_of w.table c.state ≡ Some e → accepts e c.state y ≡ false → nat_lt (c.state.seen + 1) c.state.capacity ≡ false →
+      Row w c LookProbe (Read n y) (holds e c.state.hash y) (turned Done c.state) c.list w.table (Some ReplyNone)
+  look_goes_on : (n : ℕ) (y : Bool) (e : Entry) → bucket_of w.table c.state ≡ Some e → accepts e c.state y ≡ false → nat_lt (c.state.seen + 1) c.state.capacity ≡ true →
       Row w c LookProbe (Read n y) (holds e c.state.hash y) (next_bucket LookProbe c.state) c.list w.table None
   -- LenLoad: load
-  len_none : (n : ℕ) → current w.table ≡ None → Row w c LenLoad (Load n) NoGeneration (to Done c.state) c.list w.table (Some (ToldLen 0))
+  len_none : (n : ℕ) → current w.table ≡ None → Row w c LenLoad (Load n) NoGeneration (to Done c.state) c.list w.table (Some (ReplyLen 0))
   len_loads : (n : ℕ) (g : Gen) → current w.table ≡ Some g →
       Row w c LenLoad (Load n) (Loaded (length w.table.gens - 1) g.capacity) (record c.state { phase = LenSize; walked = Some (length w.table.gens - 1); capacity = g.capacity }) c.list w.table None
   -- LenSize: size
   len_size : (n : ℕ) (g : Gen) → walked_gen w.table c.state ≡ Some g →
-      Row w c LenSize (Size n) (Sized g.size) (to Done c.state) c.list w.table (Some (ToldLen g.size))
+      Row w c LenSize (Size n) (Sized g.size) (to Done c.state) c.list w.table (Some (ReplyLen g.size))
   -- WalkLoad: load
-  walk_none : (n : ℕ) → current w.table ≡ None → Row w c WalkLoad (Load n) NoGeneration (to Done c.state) c.list w.table (Some (ToldWalk []))
+  walk_none : (n : ℕ) → current w.table ≡ None → Row w c WalkLoad (Load n) NoGeneration (to Done c.state) c.list w.table (Some (ReplyWalk []))
   walk_loads : (n : ℕ) (g : Gen) → current w.table ≡ Some g →
       Row w c WalkLoad (Load n) (Loaded (length w.table.gens - 1) g.capacity) (record c.state { phase = WalkAt; walked = Some (length w.table.gens - 1); capacity = g.capacity; index = 0 }) c.list w.table None
   -- WalkAt: read
-  walk_skips_last : (n : ℕ) (y : Bool) → bucket_at w.table c.state ≡ None → nat_lt (c.state.index + 1) c.state.capacity ≡ false →
-      Row w c WalkAt (Read n y) Empty (record c.state { phase = Done; index = c.state.index + 1 }) [] w.table (Some (ToldWalk c.list))
-  walk_takes_last : (n : ℕ) (y : Bool) (e : Entry) → bucket_at w.table c.state ≡ Some e → nat_lt (c.state.index + 1) c.state.capacity ≡ false →
-      Row w c WalkAt (Read n y) (holds e c.state.hash y) (record c.state { phase = Done; index = c.state.index + 1 }) [] w.table (Some (ToldWalk (c.list ++ e.value ∷ [])))
-  walk_skips : (n : ℕ) (y : Bool) → bucket_at w.table c.state ≡ None → nat_lt (c.state.index + 1) c.state.capacity ≡ true →
+  walk_skips_last : (n : ℕ) (y : Bool) → bucket_of w.table c.state ≡ None → nat_lt (c.state.index + 1) c.state.capacity ≡ false →
+      Row w c WalkAt (Read n y) Empty (record c.state { phase = Done; index = c.state.index + 1 }) [] w.table (Some (ReplyWalk c.list))
+  walk_takes_last : (n : ℕ) (y : Bool) (e : Entry) → bucket_of w.table c.state ≡ Some e → nat_lt (c.state.index + 1) c.state.capacity ≡ false →
+      Row w c WalkAt (Read n y) (holds e c.state.hash y) (record c.state { phase = Done; index = c.state.index + 1 }) [] w.table (Some (ReplyWalk (c.list ++ e.value ∷ [])))
+  walk_skips : (n : ℕ) (y : Bool) → bucket_of w.table c.state ≡ None → nat_lt (c.state.index + 1) c.state.capacity ≡ true →
       Row w c WalkAt (Read n y) Empty (record c.state { phase = WalkAt; index = c.state.index + 1 }) c.list w.table None
-  walk_takes : (n : ℕ) (y : Bool) (e : Entry) → bucket_at w.table c.state ≡ Some e → nat_lt (c.state.index + 1) c.state.capacity ≡ true →
+  walk_takes : (n : ℕ) (y : Bool) (e : Entry) → bucket_of w.table c.state ≡ Some e → nat_lt (c.state.index + 1) c.state.capacity ≡ true →
       Row w c WalkAt (Read n y) (holds e c.state.hash y) (record c.state { phase = WalkAt; index = c.state.index + 1 }) (c.list ++ e.value ∷ []) w.table None
 
 -- how a call begins: its event, its number, the value of an insert, its first phase and its hash
@@ -147,28 +148,28 @@ abbrev pub left : Call → CallState → List ℕ → Call
 left c s list = record c { list = list; state = s }
 
 -- What a taken event does, the world after it, and the reply that it gives.
-pub data Takes (w : World) (x : Event) : Act → World → Option Reply → Type 0 where
+pub data Takes (w : World) (x : Event) : Act → World → Option Finished → Type 0 where
   -- a call begins, whose number and value are unused
   begins : (n : ℕ) (v : Option ℕ) (p : Phase) (h : ℕ) → in_range x ≡ true → Opens x n v p h → is_used n w.calls ≡ false → IsNewValue w.calls v →
       Takes w x (Begins (starts n v p h)) (record w { calls = w.calls ++ starts n v p h ∷ [] }) None
   -- a call takes a row
-  goes : (c : Call) (p : Phase) (a : Answer) (s : CallState) (list : List ℕ) (t : Table) (o : Option Told) →
+  goes : (c : Call) (p : Phase) (a : Answer) (s : CallState) (list : List ℕ) (t : Table) (o : Option Reply) →
       in_range x ≡ true → call_numbered (number_of x) w.calls ≡ Some c → c.state.phase ≡ p → Row w c p x a s list t o →
-      Takes w x (Goes c a) (record { table = t; calls = replaced (left c s list) w.calls }) (reply_to c.number o)
+      Takes w x (Goes c a) (record { table = t; calls = replaced (left c s list) w.calls }) (finished_call c.number o)
 
 -- One event: what the table of events says, and where it says nothing the world stays as it was.
-pub data Step (w : World) (x : Event) : Option Act → World → Option Reply → Type 0 where
-  moves : (a : Act) (v : World) (r : Option Reply) → Takes w x a v r → Step w x (Some a) v r
-  stays : ((a : Act) (v : World) (r : Option Reply) → Takes w x a v r → ⊥) → Step w x None w None
+pub data Step (w : World) (x : Event) : Option Act → World → Option Finished → Type 0 where
+  moves : (a : Act) (v : World) (r : Option Finished) → Takes w x a v r → Step w x (Some a) v r
+  stays : ((a : Act) (v : World) (r : Option Finished) → Takes w x a v r → ⊥) → Step w x None w None
 
 -- this is what the event does
-pub record IsTheStep (w : World) (x : Event) (a : Act) (v : World) (r : Option Reply) : Type 0 where
+pub record IsTheStep (w : World) (x : Event) (a : Act) (v : World) (r : Option Finished) : Type 0 where
   pub does : acts w x ≡ Some a
   pub leads : happens w x ≡ v
-  pub tells : reply w x ≡ r
+  pub tells : finishes w x ≡ r
 
 -- whatever the table of events says is what happens
-abbrev pub OnlyStep : World → Event → Act → World → Option Reply → Type 0
+abbrev pub OnlyStep : World → Event → Act → World → Option Finished → Type 0
 OnlyStep w x a v r = Takes w x a v r → IsTheStep w x a v r
 
 -- the lock is taken or let go
@@ -183,5 +184,5 @@ pub record HoldsAsBefore (p q : Phase) : Type 0 where
   pub owned : holds_owned q ≡ holds_owned p
 
 -- who holds the lock changes only where it is taken or let go
-abbrev pub LockStays : World → Call → Phase → Event → Answer → CallState → List ℕ → Table → Option Told → Type 0
+abbrev pub LockStays : World → Call → Phase → Event → Answer → CallState → List ℕ → Table → Option Reply → Type 0
 LockStays w c p x a s list t o = Row w c p x a s list t o → moves_lock a ≡ false → HoldsAsBefore p s.phase

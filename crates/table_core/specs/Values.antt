@@ -2,10 +2,11 @@
 use Rattle.std.specs.Prelude.{ℕ, ◌+◌, ◌-◌, ◌*◌, ◌/◌, ◌^◌, ◌==◌, ◌≡◌, ◌≤◌, ◌⊎◌, max, if◌then◌else◌, Bool, true, false, Option, Some, None, List, [], ◌∷◌, ◌++◌, length}
 use Rattle.std.specs.Option.{is_some}
 use Rattle.table_core.specs.Bags.{weigh, SameBag, count_of}
-use Rattle.table_core.specs.Replies.{Told, ToldPlaced, ToldFound, ToldRefused, ToldSome, ToldNone, ToldLen, ToldWalk, Reply}
-use Rattle.table_core.specs.Generations.{Gen, bits_of, current}
+use Rattle.table_core.specs.Replies.{Reply, ReplyPlaced, ReplyFound, ReplyRefused, ReplySome, ReplyNone, ReplyLen, ReplyWalk, Finished}
+use Rattle.table_core.specs.Generations.{Gen, current}
+use Rattle.terms.specs.Hashes.{bits_of}
 use Rattle.table_core.specs.Calls.{Call, call_numbered, is_finished, holds_shared}
-use Rattle.table_core.specs.Machine.{empty, Begins, acts, after, reply}
+use Rattle.table_core.specs.Machine.{empty, Begins, acts, after, finishes}
 use Rattle.table_core.specs.History.{replies, fate, placed, given, back, kept, running, buckets, added, placed_told, reads, generations_loaded, beginnings, TakenEvent, bucket_then, has_later}
 use Rattle.table_core.specs.declared.event.Event.{Event}
 use Rattle.table_core.specs.declared.event.Event.TheVariants.{Insert, Lookup, Len, Walk, Load, Read, Put, Check}
@@ -17,8 +18,8 @@ use Rattle.table_core.specs.declared.call.Answer.{Answer}
 use Rattle.table_core.specs.declared.call.Answer.TheVariants.{MemoryRefused, Failed}
 
 -- after this schedule, this event ends a call with this reply
-abbrev pub Ends : ℕ → List Event → Event → Reply → Type 0
-Ends f s x r = reply (after f s) x ≡ Some r
+abbrev pub Ends : ℕ → List Event → Event → Finished → Type 0
+Ends f s x r = finishes (after f s) x ≡ Some r
 
 -- the values of the inserts that have begun are those handed back, those kept and those of calls that still run
 abbrev pub ValuesStay : ℕ → List Event → Type 0
@@ -35,9 +36,9 @@ PlacedGrows f s more = (rest : List ℕ) × (placed (empty f) (s ++ more) ≡ pl
 -- Answers
 
 -- the entry that a reply names
-abbrev pub entry_named : Told → Option ℕ
-entry_named (ToldFound e v) = Some e
-entry_named (ToldSome e) = Some e
+abbrev pub entry_named : Reply → Option ℕ
+entry_named (ReplyFound e v) = Some e
+entry_named (ReplySome e) = Some e
 entry_named _ = None
 
 -- the closure's yes that a read carries, or a put that is granted its memory
@@ -60,28 +61,28 @@ pub record AcceptedEntry (f : ℕ) (s : List Event) (n e : ℕ) : Type 0 where
   pub value : entry.value ≡ e
 
 -- what a call may be told that begins at this event: an insert what became of its own value, each other call what it asked for
-abbrev pub MayTell : Event → Told → Type 0
-MayTell (Insert n v h) (ToldPlaced u) = u ≡ v
-MayTell (Insert n v h) (ToldFound e u) = u ≡ v
-MayTell (Insert n v h) (ToldRefused u) = u ≡ v
-MayTell (Lookup n h) (ToldSome e) = Unit {0}
-MayTell (Lookup n h) ToldNone = Unit {0}
-MayTell (Len n) (ToldLen k) = Unit {0}
-MayTell (Walk n) (ToldWalk es) = Unit {0}
+abbrev pub MayTell : Event → Reply → Type 0
+MayTell (Insert n v h) (ReplyPlaced u) = u ≡ v
+MayTell (Insert n v h) (ReplyFound e u) = u ≡ v
+MayTell (Insert n v h) (ReplyRefused u) = u ≡ v
+MayTell (Lookup n h) (ReplySome e) = Unit {0}
+MayTell (Lookup n h) ReplyNone = Unit {0}
+MayTell (Len n) (ReplyLen k) = Unit {0}
+MayTell (Walk n) (ReplyWalk es) = Unit {0}
 MayTell _ _ = ⊥
 
 -- a reply is its call's own: the schedule has one taken event at which that call begins, and by that event it may be told this
-pub record IsOwn (f : ℕ) (s : List Event) (r : Reply) : Type 0 where
+pub record IsOwn (f : ℕ) (s : List Event) (r : Finished) : Type 0 where
   pub start : Event
   pub once : beginnings (empty f) s r.call ≡ start ∷ []
-  pub told : MayTell start r.told
+  pub reply : MayTell start r.reply
 
 -- a call is told its own value, and only an entry that it has accepted
-pub record IsOwnAnswer (f : ℕ) (s : List Event) (x : Event) (r : Reply) : Type 0 where
+pub record IsOwnAnswer (f : ℕ) (s : List Event) (x : Event) (r : Finished) : Type 0 where
   pub own : IsOwn f s r
-  pub accepted : (e : ℕ) → entry_named r.told ≡ Some e → AcceptedEntry f (s ++ x ∷ []) r.call e
+  pub accepted : (e : ℕ) → entry_named r.reply ≡ Some e → AcceptedEntry f (s ++ x ∷ []) r.call e
 
-abbrev pub OwnAnswers : ℕ → List Event → Event → Reply → Type 0
+abbrev pub OwnAnswers : ℕ → List Event → Event → Finished → Type 0
 OwnAnswers f s x r = Ends f s x r → IsOwnAnswer f s x r
 
 -- a call is told at most one thing
@@ -113,7 +114,7 @@ pub record IsRefusal (f : ℕ) (s : List Event) (n v : ℕ) : Type 0 where
   pub never : (more : List Event) → count_of v (placed (empty f) (s ++ more)) ≡ 0
 
 abbrev pub RefusalCauses : ℕ → List Event → Event → ℕ → ℕ → Type 0
-RefusalCauses f s x n v = Ends f s x (record { call = n; told = ToldRefused v }) → IsRefusal f (s ++ x ∷ []) n v
+RefusalCauses f s x n v = Ends f s x (record { call = n; reply = ReplyRefused v }) → IsRefusal f (s ++ x ∷ []) n v
 
 -- Lengths and walks
 
@@ -122,11 +123,11 @@ pub record IsBetween (f : ℕ) (s : List Event) (n k : ℕ) : Type 0 where
   pub at : TakenEvent f s n
   pub loads : at.event ≡ Load n
   pub least : added (empty f) at.before ≤ k
-  pub told : placed_told (replies (empty f) at.before) ≤ k
+  pub reply : placed_told (replies (empty f) at.before) ≤ k
   pub most : k ≤ length (placed (empty f) s)
 
 abbrev pub LengthsBetween : ℕ → List Event → Event → ℕ → ℕ → Type 0
-LengthsBetween f s x n k = Ends f s x (record { call = n; told = ToldLen k }) → IsBetween f (s ++ x ∷ []) n k
+LengthsBetween f s x n k = Ends f s x (record { call = n; reply = ReplyLen k }) → IsBetween f (s ++ x ∷ []) n k
 
 -- an insert is counted before it is told Placed: no more are told so than adds were taken
 abbrev pub PlacedAreCounted : ℕ → List Event → Type 0
@@ -141,7 +142,7 @@ pub record IsWholeWalk (f : ℕ) (s : List Event) (n : ℕ) (list : List ℕ) : 
   pub only : (v : ℕ) → count_of v list ≤ count_of v (placed (empty f) s)
 
 abbrev pub WalksWhole : ℕ → List Event → Event → ℕ → List ℕ → Type 0
-WalksWhole f s x n list = Ends f s x (record { call = n; told = ToldWalk list }) → IsWholeWalk f (s ++ x ∷ []) n list
+WalksWhole f s x n list = Ends f s x (record { call = n; reply = ReplyWalk list }) → IsWholeWalk f (s ++ x ∷ []) n list
 
 -- Growth
 

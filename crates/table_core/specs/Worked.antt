@@ -1,6 +1,6 @@
 -- Worked schedules, and what their calls are told.
 use Rattle.std.specs.Prelude.{ℕ, suc, zero, ◌+◌, ◌-◌, ◌^◌, ◌≡◌, true, false, List, [], ◌∷◌, ◌++◌}
-use Rattle.table_core.specs.Replies.{Told, ToldPlaced, ToldFound, ToldRefused, ToldSome, ToldNone, ToldLen, ToldWalk, Reply}
+use Rattle.table_core.specs.Replies.{Reply, ReplyPlaced, ReplyFound, ReplyRefused, ReplySome, ReplyNone, ReplyLen, ReplyWalk, Finished}
 use Rattle.table_core.specs.Machine.{empty, after}
 use Rattle.table_core.specs.History.{replies, buckets}
 use Rattle.table_core.specs.Law.{Law, IsLawful}
@@ -10,14 +10,14 @@ use Rattle.table_core.specs.declared.event.Event.TheVariants.{Insert, Lookup, Le
 
 -- from the first capacity f on, the calls are told this in this order, stand in this order in the one history, leave
 -- generations of so many buckets in all, and the closures answer by some law
-pub record IsWorked (f : ℕ) (s : List Event) (told stood : List Reply) (n : ℕ) : Type 0 where
-  pub replies : replies (empty f) s ≡ told
+pub record IsWorked (f : ℕ) (s : List Event) (reply stood : List Finished) (n : ℕ) : Type 0 where
+  pub replies : replies (empty f) s ≡ reply
   pub history : history (empty f) s ≡ stood
   pub room : buckets (after f s).table ≡ n
   pub lawful : (l : Law) × IsLawful l f s
 
-abbrev pub say : ℕ → Told → Reply
-say n t = record { call = n; told = t }
+abbrev pub say : ℕ → Reply → Finished
+say n t = record { call = n; reply = t }
 
 -- Pieces of schedules
 
@@ -44,9 +44,9 @@ whole_inserts c zero = []
 whole_inserts c (suc k) = whole_insert c (9 + c) (c - 1) ++ whole_inserts (suc c) k
 
 -- the replies to them
-abbrev pub all_placed : ℕ → ℕ → List Reply
+abbrev pub all_placed : ℕ → ℕ → List Finished
 all_placed c zero = []
-all_placed c (suc k) = say c (ToldPlaced (9 + c)) ∷ all_placed (suc c) k
+all_placed c (suc k) = say c (ReplyPlaced (9 + c)) ∷ all_placed (suc c) k
 
 -- the first insert and more, so many in all
 abbrev pub filled : ℕ → List Event
@@ -67,22 +67,22 @@ grows c k = (Own c ∷ Check c true ∷ copying c 0 k) ++ (Show c ∷ Free c ∷
 abbrev pub lost_to_equal : List Event
 lost_to_equal = first_insert 1 10 0 ++ (Read 1 false ∷ Insert 2 11 0 ∷ Share 2 ∷ Load 2 ∷ Read 2 false ∷ Put 1 false true ∷ Put 2 true true ∷ Add 1 ∷ Free 1 ∷ Free 2 ∷ Size 1 ∷ Size 2 ∷ [])
 
-abbrev pub told_lost_to_equal : List Reply
-told_lost_to_equal = say 1 (ToldPlaced 10) ∷ say 2 (ToldFound 10 11) ∷ []
+abbrev pub told_lost_to_equal : List Finished
+told_lost_to_equal = say 1 (ReplyPlaced 10) ∷ say 2 (ReplyFound 10 11) ∷ []
 
 -- an insert loses its exchange to another value, and goes on to the next bucket
 abbrev pub lost_to_other : List Event
 lost_to_other = first_insert 1 10 0 ++ (Read 1 false ∷ Insert 2 11 0 ∷ Share 2 ∷ Load 2 ∷ Read 2 false ∷ Put 1 false true ∷ Put 2 false true ∷ Read 2 false ∷ Put 2 false true ∷ Add 1 ∷ Add 2 ∷ Free 1 ∷ Free 2 ∷ Size 1 ∷ Size 2 ∷ [])
 
-abbrev pub told_lost_to_other : List Reply
-told_lost_to_other = say 1 (ToldPlaced 10) ∷ say 2 (ToldPlaced 11) ∷ []
+abbrev pub told_lost_to_other : List Finished
+told_lost_to_other = say 1 (ReplyPlaced 10) ∷ say 2 (ReplyPlaced 11) ∷ []
 
 -- after an insert that lost to its equal: a used call number, an insert whose put is refused memory, and two look-ups
 abbrev pub refused_put : List Event
 refused_put = lost_to_equal ++ (Insert 1 13 0 ∷ Insert 3 12 1 ∷ Share 3 ∷ Load 3 ∷ Read 3 false ∷ Put 3 false false ∷ Free 3 ∷ Lookup 4 0 ∷ Load 4 ∷ Read 4 true ∷ Lookup 5 3 ∷ Load 5 ∷ Read 5 false ∷ [])
 
-abbrev pub told_refused_put : List Reply
-told_refused_put = say 1 (ToldPlaced 10) ∷ say 2 (ToldFound 10 11) ∷ say 3 (ToldRefused 12) ∷ say 4 (ToldSome 10) ∷ say 5 ToldNone ∷ []
+abbrev pub told_refused_put : List Finished
+told_refused_put = say 1 (ReplyPlaced 10) ∷ say 2 (ReplyFound 10 11) ∷ say 3 (ReplyRefused 12) ∷ say 4 (ReplySome 10) ∷ say 5 ReplyNone ∷ []
 
 -- a length is 0 beside a value that is placed and isn't counted
 abbrev pub uncounted : List Event
@@ -93,11 +93,11 @@ abbrev pub late_none : List Event
 late_none = filled 8 ++ (Lookup 20 8 ∷ Load 20 ∷ []) ++ grows 8 8 ++ whole_insert 9 18 8 ++ (Read 20 false ∷ Lookup 21 8 ∷ Load 21 ∷ Read 21 true ∷ [])
 
 -- it stands in the history before that value
-abbrev pub told_late_none : List Reply
-told_late_none = all_placed 1 9 ++ (say 20 ToldNone ∷ say 21 (ToldSome 18) ∷ [])
+abbrev pub told_late_none : List Finished
+told_late_none = all_placed 1 9 ++ (say 20 ReplyNone ∷ say 21 (ReplySome 18) ∷ [])
 
-abbrev pub stands_late_none : List Reply
-stands_late_none = all_placed 1 8 ++ (say 20 ToldNone ∷ say 9 (ToldPlaced 18) ∷ say 21 (ToldSome 18) ∷ [])
+abbrev pub stands_late_none : List Finished
+stands_late_none = all_placed 1 8 ++ (say 20 ReplyNone ∷ say 9 (ReplyPlaced 18) ∷ say 21 (ReplySome 18) ∷ [])
 
 -- a call wants the lock alone while another call shares it
 abbrev pub shared_lock : List Event
@@ -132,8 +132,8 @@ two_growers = filled 6 ++ (Insert 7 16 6 ∷ Share 7 ∷ Load 7 ∷ Read 7 false
 abbrev pub starts_again : List Event
 starts_again = full ++ grows 17 16 ++ (Own 18 ∷ Check 18 false ∷ Free 18 ∷ []) ++ passing 18 16 ++ (Own 18 ∷ Check 18 false ∷ Free 18 ∷ [])
 
-abbrev pub told_starts_again : List Reply
-told_starts_again = all_placed 1 16 ++ (say 18 (ToldPlaced 27) ∷ [])
+abbrev pub told_starts_again : List Finished
+told_starts_again = all_placed 1 16 ++ (say 18 (ReplyPlaced 27) ∷ [])
 
 -- an insert is refused before there is any generation
 abbrev pub refused_first : List Event
@@ -152,8 +152,8 @@ short_walk = lost_to_equal ++ (Walk 3 ∷ Load 3 ∷ times 16 (Read 3 false))
 abbrev pub right_round : List Event
 right_round = full ++ (Lookup 19 0 ∷ Load 19 ∷ times 15 (Read 19 false)) ++ (Walk 20 ∷ Load 20 ∷ times 15 (Read 20 false)) ++ (Len 21 ∷ Load 21 ∷ Size 21 ∷ Read 19 false ∷ Read 20 false ∷ [])
 
-abbrev pub told_right_round : List Reply
-told_right_round = all_placed 1 16 ++ (say 21 (ToldLen 16) ∷ say 19 ToldNone ∷ say 20 (ToldWalk (10 ∷ 11 ∷ 12 ∷ 13 ∷ 14 ∷ 15 ∷ 16 ∷ 17 ∷ 18 ∷ 19 ∷ 20 ∷ 21 ∷ 22 ∷ 23 ∷ 24 ∷ 25 ∷ [])) ∷ [])
+abbrev pub told_right_round : List Finished
+told_right_round = all_placed 1 16 ++ (say 21 (ReplyLen 16) ∷ say 19 ReplyNone ∷ say 20 (ReplyWalk (10 ∷ 11 ∷ 12 ∷ 13 ∷ 14 ∷ 15 ∷ 16 ∷ 17 ∷ 18 ∷ 19 ∷ 20 ∷ 21 ∷ 22 ∷ 23 ∷ 24 ∷ 25 ∷ [])) ∷ [])
 
 -- so many inserts of hash 31, of the calls c, c + 1, ..: call 2 passes one bucket, call 3 two, ..
 abbrev pub crowding : ℕ → ℕ → List Event
@@ -166,8 +166,8 @@ abbrev pub past_the_end : List Event
 past_the_end = first_insert 1 10 31 ++ (Read 1 false ∷ placing 1) ++ crowding 2 1 ++ (Walk 20 ∷ Load 20 ∷ times 16 (Read 20 false)) ++ crowding 3 6 ++ (Own 8 ∷ Check 8 true ∷ times 8 (Copy 8 31)) ++ (Show 8 ∷ Free 8 ∷ Lookup 21 31 ∷ Load 21 ∷ times 7 (Read 21 false)) ++ (Read 21 true ∷ Walk 22 ∷ Load 22 ∷ times 32 (Read 22 false))
 
 -- 11 is in bucket 0 and 10 in bucket 15, so that 11 is copied first and 10 last: into buckets 31 and 6
-abbrev pub told_past_the_end : List Reply
-told_past_the_end = all_placed 1 2 ++ (say 20 (ToldWalk (11 ∷ 10 ∷ [])) ∷ all_placed 3 6) ++ (say 21 (ToldSome 10) ∷ say 22 (ToldWalk (12 ∷ 13 ∷ 14 ∷ 15 ∷ 16 ∷ 17 ∷ 10 ∷ 11 ∷ [])) ∷ [])
+abbrev pub told_past_the_end : List Finished
+told_past_the_end = all_placed 1 2 ++ (say 20 (ReplyWalk (11 ∷ 10 ∷ [])) ∷ all_placed 3 6) ++ (say 21 (ReplySome 10) ∷ say 22 (ReplyWalk (12 ∷ 13 ∷ 14 ∷ 15 ∷ 16 ∷ 17 ∷ 10 ∷ 11 ∷ [])) ∷ [])
 
 -- a look-up passes an entry of other bits, though its closure would say yes
 abbrev pub other_bits : List Event

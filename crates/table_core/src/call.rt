@@ -47,15 +47,15 @@ pub enum Phase {
     Done,
 }
 
-/// What a call has reached, and in which place of the generation that it walks its entry is.
+/// What a call has reached, and in which bucket of the generation that it walks its entry is.
 #[derive(Clone, Copy, Debug, PartialEq, Eq)]
 pub enum Outcome {
     /// Nothing yet, or a reply that names no entry.
     Pending,
     /// The call's own value was placed.
-    New { place: u64 },
+    New { index: u64 },
     /// An entry was accepted.
-    Existing { place: u64 },
+    Existing { index: u64 },
 }
 
 /// A call's phase and its numbers. It holds no value.

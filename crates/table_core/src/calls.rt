@@ -143,7 +143,7 @@ fn use_value<A: Allocator + Copy>(
     Ok(())
 }
 
-/// The state of the call at a place.
+/// The state of the call at a position.
 fn state_at<A: Allocator + Copy>(all: &[Call<A>], at: usize) -> CallState
     requires { at < length all.now }
     ensures { (c : SpecCall) → slice_get all.now at ≡ Some c → result ≡ c.state }
@@ -267,7 +267,7 @@ impl<A: Allocator + Copy> Calls<A> {
         Ok(())
     }
 
-    /// The call at a place.
+    /// The call at a position.
     pub fn get(&self, at: usize) -> &Call<A>
         requires { at < length self.now }
         ensures { slice_get self.now at ≡ Some result.now }
@@ -275,7 +275,7 @@ impl<A: Allocator + Copy> Calls<A> {
         &self.all[at]
     }
 
-    /// The next state of the call at a place.
+    /// The next state of the call at a position.
     pub fn set_state(&mut self, at: usize, state: CallState)
         requires { at < length self.old }
         ensures { (c : SpecCall) → slice_get self.old at ≡ Some c → self.new ≡ slice_set self.old at (record c { state = state }) }
@@ -286,7 +286,7 @@ impl<A: Allocator + Copy> Calls<A> {
         self.owning = recount(self.owning, owns(before), owns(state.phase));
     }
 
-    /// One value more in the list of the walk at a place.
+    /// One value more in the list of the walk at a position.
     pub fn list_value(&mut self, at: usize, value: u64) -> Result<(), AllocError>
         requires { at < length self.old }
         ensures ok { (c : SpecCall) → slice_get self.old at ≡ Some c → OnOk result (self.new ≡ slice_set self.old at (record c { list = c.list ++ value ∷ [] })) }
@@ -296,7 +296,7 @@ impl<A: Allocator + Copy> Calls<A> {
         Ok(())
     }
 
-    /// Takes the list out of the walk at a place.
+    /// Takes the list out of the walk at a position.
     pub fn take_list(&mut self, alloc: A, at: usize) -> Vec<u64, A>
         requires { at < length self.old }
         ensures list { (c : SpecCall) → slice_get self.old at ≡ Some c → result.items ≡ c.list }

@@ -130,7 +130,7 @@ fn find_here(state: CallState, phase: Phase) -> CallState
 {
     CallState {
         phase,
-        outcome: Outcome::Existing { place: state.index },
+        outcome: Outcome::Existing { index: state.index },
         ..state
     }
 }
@@ -157,7 +157,7 @@ fn counted(state: CallState) -> CallState
     }
     CallState {
         phase: Phase::LeaveOk,
-        outcome: Outcome::New { place: state.index },
+        outcome: Outcome::New { index: state.index },
         ..state
     }
 }

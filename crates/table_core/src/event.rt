@@ -105,10 +105,10 @@ impl Event {
     }
 }
 
-/// What a set bucket holds: its place, a value, and eight bits of the hash of its insert.
+/// What a set bucket holds: its index, a value, and eight bits of the hash of its insert.
 #[derive(Clone, Copy, Debug, PartialEq, Eq)]
 pub struct Entry {
-    pub place: u64,
+    pub index: u64,
     pub value: u64,
-    pub bits: u64,
+    pub bits: u8,
 }

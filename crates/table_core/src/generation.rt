@@ -1,24 +1,26 @@
 //! One generation: its set buckets alone, so that memory goes with entries.
 ghost use Rattle.std.specs.Prelude.{◌≡◌, ◌<◌, ◌≤◌, None, map, length, IfOk};
 ghost use Rattle.std.specs.Result.{OnOk, OnErr};
-ghost use Rattle.table_core.specs.Generations.{at_place, bucket, bits_of, fresh, fill, count, copy_in, first_empty};
-ghost use Rattle.table_core.specs.Bound.{IsCapacity, entry_of, AllSet};
+ghost use Rattle.terms.specs.Capacities.{IsCapacity};
+ghost use Rattle.terms.specs.Probes.{bucket_at};
+ghost use Rattle.table_core.specs.Generations.{bucket, fresh, fill, count, copy_in, first_empty};
+ghost use Rattle.table_core.specs.Bound.{entry_of, AllSet};
 
 use crate::event::Entry;
 use std::alloc::{AllocError, Allocator};
 use std::collections::BTreeMap;
 use std::marker::Model;
 
-/// What a set bucket holds, beside its place.
+/// What a set bucket holds, beside its index.
 #[derive(Clone, Copy)]
 pub struct Slot {
     pub value: u64,
-    pub bits: u64,
+    pub bits: u8,
     /// So many buckets from this one on, in turn, are known to be set; at least this one.
     pub run: u64,
 }
 
-/// A generation of buckets: its capacity, its size, and its set buckets by their places. Its memory
+/// A generation of buckets: its capacity, its size, and its set buckets by their indices. Its memory
 /// goes with the set buckets, never with the capacity.
 #[derive(Drop)]
 pub struct Generation<A: Allocator + Copy> {
@@ -30,7 +32,8 @@ pub struct Generation<A: Allocator + Copy> {
 impl<A: Allocator + Copy> Model for Generation<A> {
     ghost use Rattle.std.specs.Prelude.{◌≤◌, map, length};
     ghost use Rattle.table_core.specs.Generations.{Gen};
-    ghost use Rattle.table_core.specs.Bound.{entry_of, IsCapacity, RunsHold};
+    ghost use Rattle.terms.specs.Capacities.{IsCapacity};
+    ghost use Rattle.table_core.specs.Bound.{entry_of, RunsHold};
 
     ghost Value = { Gen };
 
@@ -39,14 +42,7 @@ impl<A: Allocator + Copy> Model for Generation<A> {
     ghost invariant = { λ g. IsCapacity g.capacity × (g.size ≤ length g.slots.entries) × RunsHold g.capacity (map entry_of g.slots.entries) g.slots.entries };
 }
 
-/// The eight bits of a hash that an entry carries.
-pub fn hash_bits(hash: u64) -> u64
-    ensures { result ≡ bits_of hash }
-{
-    (hash >> 32) & 0xff
-}
-
-/// The entries that a map keeps, in order of their places.
+/// The entries that a map keeps, in order of their indices.
 fn entries_in<A: Allocator + Copy>(
     slots: &BTreeMap<u64, Slot, A>,
     alloc: A,
@@ -55,8 +51,8 @@ fn entries_in<A: Allocator + Copy>(
 {
     slots
         .iter()
-        .map(|(place, slot)| Entry {
-            place: *place,
+        .map(|(index, slot)| Entry {
+            index: *index,
             value: slot.value,
             bits: slot.bits,
         })
@@ -64,13 +60,13 @@ fn entries_in<A: Allocator + Copy>(
 }
 
 /// The bucket so many after one, round the end.
-fn place_after(place: u64, steps: u64, capacity: u64) -> u64
-    requires { place < capacity }
-    ensures { result ≡ at_place capacity place steps }
+fn index_after(index: u64, steps: u64, capacity: u64) -> u64
+    requires { index < capacity }
+    ensures { result ≡ bucket_at capacity index steps }
 {
-    let left = capacity - place;
+    let left = capacity - index;
     if steps < left {
-        place + steps
+        index + steps
     } else {
         (steps - left) % capacity
     }
@@ -110,12 +106,12 @@ impl<A: Allocator + Copy> Generation<A> {
     }
 
     /// The entry in a bucket.
-    pub fn at(&self, place: u64) -> Option<Entry>
-        ensures { result ≡ bucket self.now.entries place }
+    pub fn at(&self, index: u64) -> Option<Entry>
+        ensures { result ≡ bucket self.now.entries index }
     {
-        match self.slots.get(&place) {
+        match self.slots.get(&index) {
             Some(slot) => Some(Entry {
-                place,
+                index,
                 value: slot.value,
                 bits: slot.bits,
             }),
@@ -123,7 +119,7 @@ impl<A: Allocator + Copy> Generation<A> {
         }
     }
 
-    /// All entries, in order of their places.
+    /// All entries, in order of their indices.
     pub fn entries(&self, alloc: A) -> Result<Vec<Entry, A>, AllocError>
         ensures { IfOk result (λ v. v.items ≡ self.now.entries) }
     {
@@ -132,12 +128,12 @@ impl<A: Allocator + Copy> Generation<A> {
 
     /// Puts an entry into an empty bucket.
     pub fn fill(&mut self, entry: Entry) -> Result<(), AllocError>
-        requires { bucket self.old.entries entry.place ≡ None }
+        requires { bucket self.old.entries entry.index ≡ None }
         ensures ok { OnOk result (self.new ≡ fill self.old entry) }
         ensures err { OnErr result (self.new ≡ self.old) }
     {
         self.slots.insert(
-            entry.place,
+            entry.index,
             Slot {
                 value: entry.value,
                 bits: entry.bits,
@@ -158,26 +154,26 @@ impl<A: Allocator + Copy> Generation<A> {
     }
 
     /// How many buckets from this one on, in turn, are known to be set; 0 if it is empty.
-    fn known_run(&self, place: u64) -> u64
-        requires { place < self.now.capacity }
-        ensures set { AllSet self.now place result }
+    fn known_run(&self, index: u64) -> u64
+        requires { index < self.now.capacity }
+        ensures set { AllSet self.now index result }
         ensures few { result ≤ length self.now.entries }
-        ensures empty { result ≡ 0 → bucket self.now.entries place ≡ None }
+        ensures empty { result ≡ 0 → bucket self.now.entries index ≡ None }
     {
-        match self.slots.get(&place) {
+        match self.slots.get(&index) {
             Some(slot) => slot.run,
             None => 0,
         }
     }
 
     /// Notes that so many buckets from this one on are set, for later searches.
-    fn note_run(&mut self, place: u64, run: u64)
+    fn note_run(&mut self, index: u64, run: u64)
         requires some { 1 ≤ run }
         requires few { run ≤ length self.old.entries }
-        requires set { AllSet self.old place run }
+        requires set { AllSet self.old index run }
         ensures { self.new ≡ self.old }
     {
-        if let Some(slot) = self.slots.get_mut(&place) {
+        if let Some(slot) = self.slots.get_mut(&index) {
             slot.run = run;
         }
     }
@@ -186,22 +182,22 @@ impl<A: Allocator + Copy> Generation<A> {
     /// run that is passed takes in the next: no long run is looked through bucket by bucket again.
     fn first_empty(&mut self, hash: u64) -> u64
         requires { bucket self.old.entries (first_empty self.old hash) ≡ None }
-        ensures place { result ≡ first_empty self.old hash }
+        ensures index { result ≡ first_empty self.old hash }
         ensures same { self.new ≡ self.old }
     {
         let capacity = self.capacity();
-        let mut place = hash % capacity;
+        let mut index = hash % capacity;
         for _pass in 0..self.len() {
-            let known = self.known_run(place);
+            let known = self.known_run(index);
             if known == 0 {
-                return place;
+                return index;
             }
-            let next = place_after(place, known, capacity);
+            let next = index_after(index, known, capacity);
             let run = known + self.known_run(next);
-            self.note_run(place, run);
-            place = place_after(place, run, capacity);
+            self.note_run(index, run);
+            index = index_after(index, run, capacity);
         }
-        place
+        index
     }
 
     /// Copies an entry to the first empty bucket from a hash's own on, and counts it.
@@ -212,8 +208,8 @@ impl<A: Allocator + Copy> Generation<A> {
     {
         // no more entries are counted than there are
         let _counted = &self.size;
-        let place = self.first_empty(hash);
-        self.fill(Entry { place, ..entry })?;
+        let index = self.first_empty(hash);
+        self.fill(Entry { index, ..entry })?;
         self.count();
         Ok(())
     }

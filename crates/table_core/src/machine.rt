@@ -2,23 +2,24 @@
 ghost use Rattle.std.specs.Prelude.{◌≡◌, ◌≢◌, ◌<◌, true, false, if◌then◌else◌, Option, Some, None, length, slice_set, OnOk, OnErr, IfOk, IfSome};
 ghost use Rattle.std.specs.Option.{option_map};
 ghost use Rattle.std.specs.List.{slice_get};
-ghost use Rattle.table_core.specs.Replies.{told_of};
-ghost use Rattle.table_core.specs.Generations.{IsFirst, next_copied};
+ghost use Rattle.table_core.specs.Replies.{reply_of};
+ghost use Rattle.terms.specs.Capacities.{IsFirstCapacity};
+ghost use Rattle.table_core.specs.Generations.{next_copied};
 ghost use Rattle.table_core.specs.History.{buckets};
 ghost use Rattle.table_core.specs.Calls.{Call as SpecCall, decide as after_answer, starts, fits, holds_shared, holds_owned};
-ghost use Rattle.table_core.specs.Machine.{empty, happens, reply, finds, takes_unless, holds, read, exchanged, sized, copies, shows, frees, walked_gen, with_entry, call_after, bucket_at, refused, by_outcome, by_failure, told, place, changed};
+ghost use Rattle.table_core.specs.Machine.{empty, happens, finishes, finds, takes_unless, holds, read, exchanged, sized, copies, shows, frees, walked_gen, with_entry, call_after, bucket_of as bucket_stood_at, refused, by_outcome, by_failure, reply, place, changed};
 ghost use Rattle.table_core.specs.Openings.{opening};
-ghost use Rattle.table_core.specs.Reached.{IsReached, CanChange, told_placed, told_found, may_not_begin, begun, moved, told_to, walked_entry, list_left, list_told, look_ended, told_ended};
+ghost use Rattle.table_core.specs.Reached.{IsReached, CanChange, reply_placed, reply_found, may_not_begin, begun, moved, reply_to, walked_entry, list_left, list_reply, look_ended, reply_ended};
 
 use crate::call::{Answer, CallState, Outcome, Phase};
 use crate::calls::{Call, Calls};
 use crate::deciding::decide;
 use crate::event::{Entry, Event};
-use crate::generation::hash_bits;
 use crate::reply::{Finished, Reply};
 use crate::table::Table;
 use std::alloc::{AllocError, Allocator};
 use std::marker::Model;
+use terms::probe::bits_of_hash;
 
 /// The table and its calls.
 #[derive(Drop)]
@@ -41,7 +42,7 @@ fn show_entry(entry: Entry, hash: u64, accepted: bool) -> Answer
     ensures { result ≡ holds entry hash accepted }
 {
     Answer::Holds {
-        agrees: entry.bits == hash_bits(hash),
+        agrees: entry.bits == bits_of_hash(hash),
         accepted,
     }
 }
@@ -75,21 +76,21 @@ fn take_unless(held: bool) -> Option<Answer>
 
 /// What a call is told that gives its value back.
 fn tell_refused<A: Allocator + Copy>(value: Option<u64>) -> Option<Reply<A>>
-    ensures { option_map told_of result ≡ refused value }
+    ensures { option_map reply_of result ≡ refused value }
 {
     Some(Reply::Refused(value?))
 }
 
 /// What an insert is told that has placed its value.
 fn tell_placed<A: Allocator + Copy>(value: Option<u64>) -> Option<Reply<A>>
-    ensures { option_map told_of result ≡ told_placed value }
+    ensures { option_map reply_of result ≡ reply_placed value }
 {
     Some(Reply::Placed(value?))
 }
 
 /// What an insert is told that has accepted this entry.
 fn tell_found<A: Allocator + Copy>(entry: Option<Entry>, value: Option<u64>) -> Option<Reply<A>>
-    ensures { option_map told_of result ≡ told_found entry value }
+    ensures { option_map reply_of result ≡ reply_found entry value }
 {
     match (entry, value) {
         (Some(entry), Some(value)) => Some(Reply::Found(entry.value, value)),
@@ -99,27 +100,27 @@ fn tell_found<A: Allocator + Copy>(entry: Option<Entry>, value: Option<u64>) -> 
 
 /// The bucket at which a call stands.
 fn bucket_of<A: Allocator + Copy>(table: &Table<A>, state: CallState) -> Option<Entry>
-    ensures { result ≡ bucket_at table.now state }
+    ensures { result ≡ bucket_stood_at table.now state }
 {
     table.at(state.walked, state.index)
 }
 
 /// What a call is told by its outcome.
 fn tell_outcome<A: Allocator + Copy>(table: &Table<A>, call: &Call<A>) -> Option<Reply<A>>
-    ensures { option_map told_of result ≡ by_outcome table.now call.now }
+    ensures { option_map reply_of result ≡ by_outcome table.now call.now }
 {
     let state = call.state();
     match state.outcome {
         Outcome::Pending => None,
         Outcome::New { .. } => tell_placed(call.value()),
-        Outcome::Existing { place } => tell_found(table.at(state.walked, place), call.value()),
+        Outcome::Existing { index } => tell_found(table.at(state.walked, index), call.value()),
     }
 }
 
 /// What a call is told that ends after its growth has failed: without an outcome it gives its value
 /// back.
 fn tell_failure<A: Allocator + Copy>(table: &Table<A>, call: &Call<A>) -> Option<Reply<A>>
-    ensures { option_map told_of result ≡ by_failure table.now call.now true }
+    ensures { option_map reply_of result ≡ by_failure table.now call.now true }
 {
     match call.state().outcome {
         Outcome::Pending => tell_refused(call.value()),
@@ -133,7 +134,7 @@ fn tell_look<A: Allocator + Copy>(
     state: CallState,
     accepted: bool,
 ) -> Option<Reply<A>>
-    ensures { option_map told_of result ≡ look_ended table.now state accepted }
+    ensures { option_map reply_of result ≡ look_ended table.now state accepted }
 {
     if !accepted {
         return Some(Reply::None);
@@ -151,7 +152,7 @@ fn tell_ended<A: Allocator + Copy>(
     call: &Call<A>,
     answer: Answer,
 ) -> Option<Reply<A>>
-    ensures { option_map told_of result ≡ told_ended call.now.state.phase table.now call.now answer }
+    ensures { option_map reply_of result ≡ reply_ended call.now.state.phase table.now call.now answer }
 {
     match (call.state().phase, answer) {
         (Phase::LeaveRefused, _) => tell_refused(call.value()),
@@ -184,7 +185,7 @@ fn tell<A: Allocator + Copy>(
     requires other { call.now.state.phase ≢ Phase.WalkAt }
     requires fitting { fits call.now.state.phase call.now.state answer ≡ true }
     requires next { next ≡ after_answer call.now.state answer }
-    ensures { option_map told_of result ≡ told table.now call.now answer }
+    ensures { option_map reply_of result ≡ reply table.now call.now answer }
 {
     match next.phase {
         Phase::Done => tell_ended(alloc, table, call, answer),
@@ -198,7 +199,7 @@ fn place_value<A: Allocator + Copy>(
     value: Option<u64>,
     state: CallState,
 ) -> Result<(), AllocError>
-    requires empty { bucket_at table.old state ≡ None }
+    requires empty { bucket_stood_at table.old state ≡ None }
     requires settled { table.old.building ≡ None }
     ensures ok { OnOk result (table.new ≡ place table.old state value) }
     ensures err { OnErr result (table.new ≡ table.old) }
@@ -209,9 +210,9 @@ fn place_value<A: Allocator + Copy>(
     table.place(
         state.walked,
         Entry {
-            place: state.index,
+            index: state.index,
             value,
-            bits: hash_bits(state.hash),
+            bits: bits_of_hash(state.hash),
         },
     )
 }
@@ -245,7 +246,7 @@ fn change<A: Allocator + Copy>(
 impl<A: Allocator + Copy> Machine<A> {
     /// No generation and no call. The first generation will have `first` buckets.
     pub fn new(alloc: A, first: u64) -> Self
-        requires { IsFirst first }
+        requires { IsFirstCapacity first }
         ensures { result ≡ empty first }
     {
         Machine {
@@ -302,14 +303,14 @@ impl<A: Allocator + Copy> Machine<A> {
 
     /// What a read finds at the call's bucket.
     fn read(&self, state: CallState, accepted: bool) -> Answer
-        ensures { result ≡ read (bucket_at self.now.table state) state.hash accepted }
+        ensures { result ≡ read (bucket_stood_at self.now.table state) state.hash accepted }
     {
         read_bucket(bucket_of(&self.table, state), state.hash, accepted)
     }
 
     /// What an exchange finds there.
     fn put(&self, state: CallState, accepted: bool, granted: bool) -> Answer
-        ensures { result ≡ (if granted then exchanged (bucket_at self.now.table state) state.hash accepted else Answer.MemoryRefused) }
+        ensures { result ≡ (if granted then exchanged (bucket_stood_at self.now.table state) state.hash accepted else Answer.MemoryRefused) }
     {
         if granted {
             exchange(bucket_of(&self.table, state), state.hash, accepted)
@@ -368,7 +369,7 @@ fn entry_shown<A: Allocator + Copy>(
     }
 }
 
-/// An entry more in the list of the walk at a place.
+/// An entry more in the list of the walk at a position.
 fn list_entry<A: Allocator + Copy>(
     calls: &mut Calls<A>,
     at: usize,
@@ -384,7 +385,7 @@ fn list_entry<A: Allocator + Copy>(
     }
 }
 
-/// The next state of the walk at a place, which takes its list where it finishes.
+/// The next state of the walk at a position, which takes its list where it finishes.
 fn end_walk<A: Allocator + Copy>(
     alloc: A,
     calls: &mut Calls<A>,
@@ -393,7 +394,7 @@ fn end_walk<A: Allocator + Copy>(
 ) -> Option<Reply<A>>
     requires { at < length calls.old }
     ensures left { (c : SpecCall) → slice_get calls.old at ≡ Some c → calls.new ≡ slice_set calls.old at (record c { list = list_left next.phase c.list; state = next }) }
-    ensures told { (c : SpecCall) → slice_get calls.old at ≡ Some c → option_map told_of result ≡ list_told next.phase c.list }
+    ensures reply { (c : SpecCall) → slice_get calls.old at ≡ Some c → option_map reply_of result ≡ list_reply next.phase c.list }
 {
     calls.set_state(at, next);
     match next.phase {
@@ -402,7 +403,7 @@ fn end_walk<A: Allocator + Copy>(
     }
 }
 
-/// The walk at a place reads a bucket.
+/// The walk at a position reads a bucket.
 fn walk<A: Allocator + Copy>(
     alloc: A,
     table: &Table<A>,
@@ -413,7 +414,7 @@ fn walk<A: Allocator + Copy>(
     requires within { at < length calls.old }
     requires walking { (c : SpecCall) → slice_get calls.old at ≡ Some c → (c.state.phase ≡ Phase.WalkAt) × (fits c.state.phase c.state answer ≡ true) }
     ensures ok { (c : SpecCall) → slice_get calls.old at ≡ Some c → OnOk result (calls.new ≡ slice_set calls.old at (call_after table.now c answer)) }
-    ensures told { (c : SpecCall) → slice_get calls.old at ≡ Some c → IfOk result (λ r. option_map told_of r ≡ told table.now c answer) }
+    ensures reply { (c : SpecCall) → slice_get calls.old at ≡ Some c → IfOk result (λ r. option_map reply_of r ≡ reply table.now c answer) }
     ensures err { OnErr result (calls.new ≡ calls.old) }
 {
     let state = calls.get(at).state();
@@ -423,12 +424,12 @@ fn walk<A: Allocator + Copy>(
 }
 
 impl<A: Allocator + Copy> Machine<A> {
-    /// The call at a place takes its event, if it has a row.
+    /// The call at a position takes its event, if it has a row.
     fn go(&mut self, at: usize, event: Event) -> Result<Option<Reply<A>>, AllocError>
         requires within { at < length self.old.calls }
         requires reached { IsReached self.old }
         ensures ok { (c : SpecCall) → slice_get self.old.calls at ≡ Some c → OnOk result (self.new ≡ moved self.old at c event (finds self.old c.state event)) }
-        ensures told { (c : SpecCall) → slice_get self.old.calls at ≡ Some c → IfOk result (λ r. option_map told_of r ≡ told_to self.old c (finds self.old c.state event)) }
+        ensures reply { (c : SpecCall) → slice_get self.old.calls at ≡ Some c → IfOk result (λ r. option_map reply_of r ≡ reply_to self.old c (finds self.old c.state event)) }
         ensures err { OnErr result (self.new ≡ self.old) }
     {
         let state = self.calls.get(at).state();
@@ -436,15 +437,15 @@ impl<A: Allocator + Copy> Machine<A> {
             return Ok(None);
         };
         if let Phase::WalkAt = state.phase {
-            let told = walk(self.alloc, &self.table, &mut self.calls, at, answer)?;
-            return Ok(told);
+            let reply = walk(self.alloc, &self.table, &mut self.calls, at, answer)?;
+            return Ok(reply);
         }
         let call = self.calls.get(at);
         let next = decide(state, answer);
-        let told = tell(self.alloc, &self.table, call, answer, next);
+        let reply = tell(self.alloc, &self.table, call, answer, next);
         change(self.alloc, &mut self.table, call, event, answer)?;
         self.calls.set_state(at, next);
-        Ok(told)
+        Ok(reply)
     }
 
     /// A call begins, unless its number or its value is used.
@@ -480,7 +481,7 @@ impl<A: Allocator + Copy> Machine<A> {
         requires reached { IsReached self.old }
         requires going { opening event ≡ None }
         ensures ok { OnOk result (self.new ≡ happens self.old event) }
-        ensures told { IfOk result (λ r. r ≡ reply self.old event) }
+        ensures reply { IfOk result (λ r. r ≡ finishes self.old event) }
         ensures err { OnErr result (self.new ≡ self.old) }
     {
         let call = event.call();
@@ -497,7 +498,7 @@ impl<A: Allocator + Copy> Machine<A> {
     pub fn step(&mut self, event: Event) -> Result<Option<Finished<A>>, AllocError>
         requires { IsReached self.old }
         ensures ok { OnOk result (self.new ≡ happens self.old event) }
-        ensures told { IfOk result (λ r. r ≡ reply self.old event) }
+        ensures reply { IfOk result (λ r. r ≡ finishes self.old event) }
         ensures err { OnErr result (self.new ≡ self.old) }
     {
         match opening_of(event) {

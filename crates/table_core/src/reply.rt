@@ -31,9 +31,9 @@ pub struct Finished<A: Allocator + Copy = Global> {
 }
 
 impl<A: Allocator + Copy> Model for Finished<A> {
-    ghost use Rattle.table_core.specs.Replies.{Reply, told_of};
+    ghost use Rattle.table_core.specs.Replies.{Finished as SpecFinished, reply_of};
 
-    ghost Value = { Reply };
+    ghost Value = { SpecFinished };
 
-    ghost view = { λ f. record { call = f.call; told = told_of f.reply } };
+    ghost view = { λ f. record { call = f.call; reply = reply_of f.reply } };
 }

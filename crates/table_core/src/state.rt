@@ -1,8 +1,8 @@
 //! The machine as its users see it, and whole schedules.
 ghost use Rattle.std.specs.Prelude.{◌≡◌, ◌++◌, option_to_list, OnOk, OnErr, IfOk};
-ghost use Rattle.table_core.specs.Generations.{IsFirst};
+ghost use Rattle.terms.specs.Capacities.{IsFirstCapacity};
 ghost use Rattle.table_core.specs.History.{replies, buckets};
-ghost use Rattle.table_core.specs.Machine.{empty, happens, reply};
+ghost use Rattle.table_core.specs.Machine.{empty, happens, finishes};
 
 use crate::event::Event;
 use crate::machine::Machine;
@@ -54,7 +54,7 @@ impl<A: Allocator + Copy> State<A> {
     /// No generation and no call. The first generation will have `first` buckets, a power of two
     /// from 16 to 2^30. It takes no memory.
     pub fn with_first_capacity(alloc: A, first: u64) -> Self
-        requires { IsFirst first }
+        requires { IsFirstCapacity first }
         ensures { result ≡ empty first }
     {
         State {
@@ -66,7 +66,7 @@ impl<A: Allocator + Copy> State<A> {
     /// changes nothing. Where memory is refused the state is as it was.
     pub fn step(&mut self, event: Event) -> Result<Option<Finished<A>>, NoMemory>
         ensures ok { OnOk result (self.new ≡ happens self.old event) }
-        ensures told { IfOk result (λ r. r ≡ reply self.old event) }
+        ensures reply { IfOk result (λ r. r ≡ finishes self.old event) }
         ensures err { OnErr result (self.new ≡ self.old) }
     {
         let finished = self.machine.step(event)?;
@@ -83,13 +83,13 @@ impl<A: Allocator + Copy> State<A> {
 
 /// A reply more, if there is one.
 fn push_finished<A: Allocator + Copy>(
-    told: &mut Vec<Finished<A>, A>,
+    replies: &mut Vec<Finished<A>, A>,
     finished: Option<Finished<A>>,
 ) -> Result<(), AllocFailed<Finished<A>>>
-    ensures { OnOk result (told.new.items ≡ told.old.items ++ option_to_list finished) }
+    ensures { OnOk result (replies.new.items ≡ replies.old.items ++ option_to_list finished) }
 {
     match finished {
-        Some(finished) => told.push(finished),
+        Some(finished) => replies.push(finished),
         None => Ok(()),
     }
 }
@@ -109,14 +109,14 @@ pub fn run_with<A: Allocator + Copy>(
     first: u64,
     events: &[Event],
 ) -> Result<Vec<Finished<A>, A>, NoMemory>
-    requires { IsFirst first }
+    requires { IsFirstCapacity first }
     ensures { IfOk result (λ v. v.items ≡ replies (empty first) events.now) }
 {
     let mut state = State::with_first_capacity(alloc, first);
-    let mut told = Vec::new(alloc);
+    let mut replies = Vec::new(alloc);
     for event in events {
         let finished = state.step(*event)?;
-        push_finished(&mut told, finished)?;
+        push_finished(&mut replies, finished)?;
     }
-    Ok(told)
+    Ok(replies)
 }

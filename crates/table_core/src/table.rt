@@ -2,8 +2,8 @@
 ghost use Rattle.std.specs.Prelude.{◌≡◌, ◌<◌, ◌^◌, true, Some, None, [], length, OnOk, OnErr, IfOk, option_copied};
 ghost use Rattle.std.specs.Option.{option_map};
 ghost use Rattle.table_core.specs.Bags.{weigh};
-ghost use Rattle.table_core.specs.Generations.{IsFirst, Gen, Build, bucket, first_empty, gen_of, last_of, bucket_in, current, is_current, next_copied, fill, count, change, next_capacity, entries_of};
-ghost use Rattle.table_core.specs.Bound.{IsCapacity};
+ghost use Rattle.terms.specs.Capacities.{IsCapacity, IsFirstCapacity};
+ghost use Rattle.table_core.specs.Generations.{Gen, Build, bucket, first_empty, gen_of, last_of, bucket_in, current, is_current, next_copied, fill, count, change, next_capacity, entries_of};
 ghost use Rattle.table_core.specs.Machine.{loads, checked, begin_growth, copy_next, show_built};
 ghost use Rattle.table_core.specs.History.{buckets};
 
@@ -64,7 +64,7 @@ fn current_of<A: Allocator + Copy>(generations: &[Generation<A>]) -> Option<&Gen
 
 /// The capacity of the generation after these.
 fn next_capacity<A: Allocator + Copy>(first: u64, generations: &[Generation<A>]) -> u64
-    requires allowed { IsFirst first }
+    requires allowed { IsFirstCapacity first }
     requires room { checked (last_of generations.now) true ≡ Answer.Begun }
     ensures value { result ≡ next_capacity first (last_of generations.now) }
     ensures power { IsCapacity result }
@@ -105,7 +105,7 @@ fn fill_walked<A: Allocator + Copy>(
     walked: Option<u64>,
     entry: Entry,
 ) -> Result<(), AllocError>
-    requires { bucket_in (gen_of generations.old.items walked) entry.place ≡ None }
+    requires { bucket_in (gen_of generations.old.items walked) entry.index ≡ None }
     ensures ok { OnOk result (generations.new.items ≡ change generations.old.items walked (λ g. fill g entry)) }
     ensures err { OnErr result (generations.new.items ≡ generations.old.items) }
 {
@@ -135,7 +135,7 @@ fn count_walked<A: Allocator + Copy>(generations: &mut Vec<Generation<A>, A>, wa
 impl<A: Allocator + Copy> Table<A> {
     /// No generation. The first one will have so many buckets. It takes no memory.
     pub fn new(alloc: A, first: u64) -> Self
-        requires { IsFirst first }
+        requires { IsFirstCapacity first }
         ensures { result ≡ record { first = first; gens = []; building = None } }
     {
         Table {
@@ -160,12 +160,12 @@ impl<A: Allocator + Copy> Table<A> {
         }
     }
 
-    /// The bucket at a place of a generation.
-    pub fn at(&self, walked: Option<u64>, place: u64) -> Option<Entry>
-        ensures { result ≡ bucket_in (gen_of self.now.gens walked) place }
+    /// The bucket of an index in a generation.
+    pub fn at(&self, walked: Option<u64>, index: u64) -> Option<Entry>
+        ensures { result ≡ bucket_in (gen_of self.now.gens walked) index }
     {
         match generation_of(self.generations.as_slice(), walked) {
-            Some(generation) => generation.at(place),
+            Some(generation) => generation.at(index),
             None => None,
         }
     }
@@ -227,7 +227,7 @@ impl<A: Allocator + Copy> Table<A> {
 
     /// Puts an entry into an empty bucket of a generation.
     pub fn place(&mut self, walked: Option<u64>, entry: Entry) -> Result<(), AllocError>
-        requires empty { bucket_in (gen_of self.old.gens walked) entry.place ≡ None }
+        requires empty { bucket_in (gen_of self.old.gens walked) entry.index ≡ None }
         requires settled { self.old.building ≡ None }
         ensures ok { OnOk result (self.new ≡ record self.old { gens = change self.old.gens walked (λ g. fill g entry) }) }
         ensures err { OnErr result (self.new ≡ self.old) }

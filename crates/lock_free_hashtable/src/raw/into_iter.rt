@@ -4,10 +4,10 @@ ghost use Rattle.std.specs.Iterator.{YieldsFirst, item_count, at_most, UpTo};
 ghost use Rattle.std.specs.Iterator.SizeHint.{IsWithinCount};
 ghost use Rattle.lock_free_hashtable.specs.Walks.{GivesEntries};
 
-use crate::atomic_value::AtomicValue;
-use crate::fixed::Generation;
-use crate::fixed::owning::OwnValues;
 use crate::raw::HeldRawTable;
+use generations::atomic_value::AtomicValue;
+use generations::fixed::Generation;
+use generations::fixed::owning::OwnValues;
 use std::alloc::{Allocator, Global};
 use std::iter::FusedIterator;
 use std::marker::Model;

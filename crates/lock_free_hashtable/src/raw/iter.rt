@@ -5,9 +5,9 @@ ghost use Rattle.std.specs.Iterator.SizeHint.{IsWithinCount};
 ghost use Rattle.lock_free_hashtable.specs.Table.{entries};
 ghost use Rattle.lock_free_hashtable.specs.Walks.{WalksAsList};
 
-use crate::atomic_value::AtomicValue;
-use crate::fixed::Generation;
 use crate::raw::HeldRawTable;
+use generations::atomic_value::AtomicValue;
+use generations::fixed::Generation;
 use std::alloc::{Allocator, Global};
 use std::iter::FusedIterator;
 use std::marker::Model;
@@ -23,8 +23,8 @@ pub struct HeldIter<'a, T: AtomicValue, A: Allocator + Copy = Global> {
 
 impl<'a, T: AtomicValue, A: Allocator + Copy> Model for HeldIter<'a, T, A> {
     ghost use Rattle.std.specs.Prelude.{◌≡◌, List, length};
-    ghost use Rattle.lock_free_hashtable.specs.Buckets.{AllSound};
-    ghost use Rattle.lock_free_hashtable.specs.Generations.{parts_of};
+    ghost use Rattle.generations.specs.Buckets.{AllSound};
+    ghost use Rattle.generations.specs.Generations.{parts_of};
     ghost use Rattle.lock_free_hashtable.specs.Walks.{shown_from};
 
     ghost Value = { List T };

@@ -3,7 +3,7 @@ ghost use Rattle.std.specs.Fn.{FnReturnsAt, FnReturnsAtPair};
 ghost use Rattle.lock_free_hashtable.specs.Again.{LaterIsReflexive, LaterIsTransitive, AnswersLive, FindsAgain};
 ghost use Rattle.lock_free_hashtable.specs.Table.{LawfulWithoutEntries};
 
-use crate::atomic_value::{AtomicValue, Law};
+use generations::atomic_value::{AtomicValue, Law};
 
 /// A place stays good: from a table to a later one every place keeps its entry, and to be later is reflexive and
 /// transitive. Every `place_alone` leaves a later one.

@@ -1,6 +1,6 @@
 //! Schedules whose requests for memory are refused in turn.
 ghost use Rattle.std.specs.Prelude.{◌<◌};
-ghost use Rattle.table_core.specs.Generations.{IsFirst};
+ghost use Rattle.terms.specs.Capacities.{IsFirstCapacity};
 
 use super::schedules::{LOST_TO_AN_EQUAL, push_events};
 use super::{Ended, run_refusing};
@@ -165,7 +165,7 @@ fn replies<A: Allocator + Copy>(
     first: u64,
     events: &[Event],
 ) -> Result<Vec<Finished<A>, A>, NoMemory>
-    requires { IsFirst first }
+    requires { IsFirstCapacity first }
 {
     if first == 16 {
         run(alloc, events)
@@ -222,7 +222,7 @@ fn refuse_run<R: Abort + AllocGlobal>(
     granted: u64,
     refused: u64,
 ) -> Result<Outcome, Fail>
-    requires { IsFirst first }
+    requires { IsFirstCapacity first }
 {
     let memory = Refusing::new(rt.alloc(), Rule::new(0, usize::MAX, granted, refused));
     match replies(&memory, first, schedule.events.as_slice()) {
@@ -246,7 +246,7 @@ fn refuse_run<R: Abort + AllocGlobal>(
 
 /// Refuses each request of a run in turn, and those after it, `refused` in all.
 fn refuse_runs<R: Abort + AllocGlobal>(rt: &R, first: u64, refused: u64) -> Result<(), Fail>
-    requires first { IsFirst first }
+    requires first { IsFirstCapacity first }
     requires small { first < 64 }
 {
     let schedule = Schedule::new(rt.alloc(), first)?;
@@ -297,7 +297,7 @@ fn take_all<R: Abort + AllocGlobal, A: Allocator + Copy>(
     first: u64,
     schedule: &Schedule,
 ) -> Result<bool, Fail>
-    requires { IsFirst first }
+    requires { IsFirstCapacity first }
 {
     let mut ample = State::with_first_capacity(rt.alloc(), first);
     let mut state = State::with_first_capacity(alloc, first);
@@ -322,7 +322,7 @@ fn refuse_step<R: Abort + AllocGlobal>(
     schedule: &Schedule,
     granted: u64,
 ) -> Result<Outcome, Fail>
-    requires { IsFirst first }
+    requires { IsFirstCapacity first }
 {
     let memory = Refusing::new(rt.alloc(), Rule::new(0, usize::MAX, granted, 1));
     let is_refused = take_all(rt, &memory, first, schedule)?;
@@ -334,7 +334,7 @@ fn refuse_step<R: Abort + AllocGlobal>(
 
 /// Refuses each request of the schedule's steps in turn.
 fn refuse_steps<R: Abort + AllocGlobal>(rt: &R, first: u64) -> Result<(), Fail>
-    requires first { IsFirst first }
+    requires first { IsFirstCapacity first }
     requires small { first < 64 }
 {
     let schedule = Schedule::new(rt.alloc(), first)?;

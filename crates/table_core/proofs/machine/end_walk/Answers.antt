@@ -2,8 +2,8 @@ use Rattle.std.proofs.Common.{ap, ◌≡◌, ◌∙◌, sym, [], Some}
 use Rattle.std.specs.Prelude.{slice_set}
 use Rattle.std.specs.List.{slice_get}
 use Rattle.table_core.specs.Calls.{Call}
-use Rattle.table_core.specs.Replies.{ToldWalk}
-use Rattle.table_core.specs.Reached.{list_left, list_told}
+use Rattle.table_core.specs.Replies.{ReplyWalk}
+use Rattle.table_core.specs.Reached.{list_left, list_reply}
 use Rattle.table_core.proofs.Lists.{get-set_same}
 use Rattle.table_core.proofs.CodeCalls.{call_within}
 use Rattle.table_core.proofs.CodeSteps.{set_set, still_within}
@@ -22,8 +22,8 @@ returns-in-Done-clause-left g c = λ d h.
     c.take_list.ensures.left x u ∙ ap (λ z. slice_set z c.args.at (record x { list = [] })) e ∙ set_set c.args.calls.now c.args.at x _
     ∙ ap (λ list. slice_set c.args.calls.now c.args.at (record x { list = list })) (ap (λ p. list_left p d.list) (sym c.in-Done.is))
 
-pub returns-in-Done-clause-told : goal.returns-in-Done-clause-told
-returns-in-Done-clause-told g c = λ d h.
+pub returns-in-Done-clause-reply : goal.returns-in-Done-clause-reply
+returns-in-Done-clause-reply g c = λ d h.
     let x : Call = record d { state = c.args.next } in
     let u : slice_get c.set_state.new.self c.args.at ≡ Some x = rw (c.set_state.ensures d h) (get-set_same c.args.calls.now c.args.at d x h) in
-    ap (λ list. Some (ToldWalk list)) (c.take_list.ensures.list x u) ∙ ap (λ p. list_told p d.list) (sym c.in-Done.is)
+    ap (λ list. Some (ReplyWalk list)) (c.take_list.ensures.list x u) ∙ ap (λ p. list_reply p d.list) (sym c.in-Done.is)

@@ -1,7 +1,7 @@
 use Rattle.std.proofs.Common.{◌≡◌, ap, sym, ◌∙◌, ◌+◌, ◌++◌, ◌∷◌, [], take, get_or, add-one}
 use Rattle.std.specs.Prelude.{option_to_list}
 use Rattle.std.proofs.Math.Seq.{take-suc}
-use Rattle.table_core.specs.Machine.{empty, after, happens, reply}
+use Rattle.table_core.specs.Machine.{empty, after, happens, finishes}
 use Rattle.table_core.specs.History.{replies}
 use Rattle.table_core.specs.declared.event.Event.TheVariants.{Insert}
 use Rattle.table_core.proofs.Pasts.{after_snoc, replies_snoc}
@@ -14,8 +14,8 @@ loop-event-preserved g c =
     let t : take (c.loop-event.event-index + 1) c.args.events.now ≡ s ++ x ∷ [] = rw add-one (take-suc c.args.events.now c.loop-event.event-index (Insert 0 0 0) c.loop-event-test.true) in
     record {
       here = c.in_ok-finished.ensures.ok ∙ ap (λ w. happens w x) c.loop-event.invariant.here ∙ sym (after_snoc c.args.first s x) ∙ ap (after c.args.first) (sym t);
-      told = c.in_ok-push_finished.ensures
-          ∙ ap (λ r. c.loop-event.told.items ++ option_to_list r) (c.in_ok-finished.ensures.told ∙ ap (λ w. reply w x) c.loop-event.invariant.here)
-          ∙ ap (λ l. l ++ option_to_list (reply (after c.args.first s) x)) c.loop-event.invariant.told
+      reply = c.in_ok-push_finished.ensures
+          ∙ ap (λ r. c.loop-event.replies.items ++ option_to_list r) (c.in_ok-finished.ensures.reply ∙ ap (λ w. finishes w x) c.loop-event.invariant.here)
+          ∙ ap (λ l. l ++ option_to_list (finishes (after c.args.first s) x)) c.loop-event.invariant.reply
           ∙ sym (replies_snoc c.args.first s x) ∙ ap (replies (empty c.args.first)) (sym t);
     }

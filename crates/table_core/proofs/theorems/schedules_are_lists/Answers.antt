@@ -7,7 +7,7 @@ use Rattle.table_core.proofs.Classes.{none_refused_in_vain, classes, same_classe
 use Rattle.table_core.proofs.theorems.schedules_are_lists.Goals as goal
 
 pub returns-clause-right : goal.returns-clause-right
-returns-clause-right c l f s x r first lawful ends told = ((own_answers f (inv f first) s x r ends).own, right l f s x r first lawful ends told)
+returns-clause-right c l f s x r first lawful ends reply = ((own_answers f (inv f first) s x r ends).own, right l f s x r first lawful ends reply)
 
 pub returns-clause-placed_apart : goal.returns-clause-placed_apart
 returns-clause-placed_apart c = placed_apart

@@ -1,7 +1,7 @@
 use Rattle.std.proofs.Common.{rules, arith, ◌<◌, ◌≤◌, ◌*◌, ◌≡◌, ◌∙◌, length}
 use Rattle.std.proofs.lemmas.List.{length-map}
-use Rattle.lock_free_hashtable.specs.Buckets.{shown_all}
-use Rattle.lock_free_hashtable.specs.Generations.{parts_of}
+use Rattle.generations.specs.Buckets.{shown_all}
+use Rattle.generations.specs.Generations.{parts_of}
 use Rattle.lock_free_hashtable.proofs.Kept.{generations_few}
 use Rattle.lock_free_hashtable.proofs.Grown.{sound_pushed, grown_kept, grown_table, power_twice, popped_back}
 use Rattle.lock_free_hashtable.proofs.raw.HeldRawTable.grow_alone.Goals as goal

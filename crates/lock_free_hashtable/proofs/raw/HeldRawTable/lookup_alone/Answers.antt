@@ -1,8 +1,8 @@
 use Rattle.std.proofs.Common.{rules, ◌≡◌, []}
 use Rattle.std.specs.Fn.{FnReturnsAt}
-use Rattle.lock_free_hashtable.specs.Buckets.{shown_all}
-use Rattle.lock_free_hashtable.specs.Probe.{ProbeGives}
-use Rattle.lock_free_hashtable.specs.Generations.{parts_of}
+use Rattle.generations.specs.Buckets.{shown_all}
+use Rattle.generations.specs.Probe.{ProbeGives}
+use Rattle.generations.specs.Generations.{parts_of}
 use Rattle.lock_free_hashtable.proofs.Lookups.{none_if_empty, none_unless_accepted, found_one, found_as_list, none_as_list}
 use Rattle.lock_free_hashtable.proofs.Kept.{shows_nothing}
 use Rattle.lock_free_hashtable.proofs.raw.HeldRawTable.lookup_alone.Goals as goal

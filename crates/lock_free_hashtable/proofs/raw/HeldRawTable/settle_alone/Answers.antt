@@ -1,7 +1,7 @@
 use Rattle.std.proofs.Common.{rules}
 use Rattle.std.specs.Fn.{FnReturnsAtPair}
-use Rattle.lock_free_hashtable.specs.Generations.{parts_of}
-use Rattle.lock_free_hashtable.specs.Growth.{Inserts}
+use Rattle.generations.specs.Generations.{parts_of}
+use Rattle.generations.specs.Growth.{Inserts}
 use Rattle.lock_free_hashtable.proofs.Settled.{kept_inserted, some_shown, settled_ok, settled_err}
 use Rattle.lock_free_hashtable.proofs.raw.HeldRawTable.settle_alone.Goals as goal
 

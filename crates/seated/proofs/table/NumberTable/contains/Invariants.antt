@@ -1,5 +1,5 @@
 use Rattle.std.proofs.Common.{◌≡◌, []}
-use Rattle.seated.specs.Rule.{bucket_at}
+use Rattle.terms.specs.Probes.{bucket_at}
 use Rattle.seated.proofs.Walks.{Walked}
 use Rattle.seated.proofs.table.NumberTable.contains.Given as goal
 

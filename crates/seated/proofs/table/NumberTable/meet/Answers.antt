@@ -4,7 +4,7 @@ use Rattle.seated.specs.Views.{join_of, with_next_turn, without_gift}
 use Rattle.seated.specs.declared.seat.View.{View}
 use Rattle.seated.specs.Steps.{SeatState}
 use Rattle.seated.proofs.Keeps.{cuts_note, cuts_gift, joins, reads, raise_mild, forget_mild}
-use Rattle.seated.proofs.Walks.{first_meets, second_meets, within_right, within_trans}
+use Rattle.seated.proofs.Walks.{first_meets, second_meets, within_left, within_right, within_trans, still_known}
 use Rattle.seated.proofs.table.NumberTable.meet.Goals as goal
 
 pub split_seat-note-requires : goal.split_seat-note-requires
@@ -17,7 +17,7 @@ pub load-requires : goal.load-requires
 load-requires _ c = (
   search rules,
   search rules,
-  reads _ _ _ _ _ with_next_turn (ap (λ (m : SeatState). m.0.size) c.join_seat.ensures.2 ∙ (c.requires.first.1 ∙ sym c.args.self.now.key)) (search rules) raise_mild,
+  reads _ _ _ _ _ with_next_turn (ap (λ (m : SeatState). m.0.size) c.join_seat.ensures.2 ∙ (c.requires.first.0.1 ∙ sym c.args.self.now.key)) (search rules) raise_mild,
 )
 
 pub split_seat-gift-requires : goal.split_seat-gift-requires
@@ -30,7 +30,7 @@ pub load-requires-2 : goal.load-requires-2
 load-requires-2 _ c = (
   search rules,
   search rules,
-  reads _ _ _ _ _ without_gift (ap (λ (m : SeatState). m.0.size) (c.join_seat-2.ensures.2) ∙ (ap (λ (m : SeatState). m.0.size) c.split_seat-note.ensures.2 ∙ (c.requires.second.1 ∙ sym c.args.self.now.key))) (search rules) forget_mild,
+  reads _ _ _ _ _ without_gift (ap (λ (m : SeatState). m.0.size) (c.join_seat-2.ensures.2) ∙ (ap (λ (m : SeatState). m.0.size) c.split_seat-note.ensures.2 ∙ (c.requires.second.0.1 ∙ sym c.args.self.now.key))) (search rules) forget_mild,
 )
 
 pub returns-clause-first : goal.returns-clause-first
@@ -61,3 +61,9 @@ returns-clause-apart _ c =
     let second = second_meets b u c.read_rest-2.new.seat.inner.me.0 c.join_seat-2.new.seat.me c.load-2.new.seat.me 0 c.load-2.result
     (ap (λ (m : SeatState). m.0) c.join_seat-2.ensures.2 ∙ ap₂ (λ (m k : SeatState). join_of m.0 k.0) c.split_seat-note.ensures.2 c.split_seat-gift.ensures.4) c.load-2.ensures.2 c.read_rest-2.ensures.view (omega arith) in
     subst (λ (m : SeatState). Disjoint m.0.own c.read_rest-2.new.seat.inner.me.0.own) (sym c.split_seat-gift.ensures.2) second.2
+
+pub returns-clause-seats : goal.returns-clause-seats
+returns-clause-seats g c = (
+  (search rules, still_known _ _ _ _ c.requires.first.1 (within_left _ _ _ (returns-clause-first g c)) (search rules)),
+  (search rules, still_known _ _ _ _ c.requires.second.1 (within_right _ _ _ (returns-clause-second g c)) (search rules)),
+)

@@ -5,5 +5,5 @@ use Rattle.table_core.proofs.generation.Generation.first_empty.Given as goal
 abbrev pub invariant-loop-pass : goal.invariant-loop-pass
 invariant-loop-pass g l = record {
   same : l.self ≡ l.initial.self;
-  passed : Passed l.initial.self l.hash l.place l._pass;
+  passed : Passed l.initial.self l.hash l.index l._pass;
 }

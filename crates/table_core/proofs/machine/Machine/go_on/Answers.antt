@@ -1,8 +1,8 @@
 use Rattle.std.proofs.Common.{◌≡◌, ap, sym, ◌∙◌, Some, None}
 use Rattle.std.specs.Option.{option_map}
 use Rattle.std.proofs.lemmas.Option.{slice_get_within}
-use Rattle.table_core.specs.Replies.{told_of}
-use Rattle.table_core.specs.Machine.{World, number_of, reply_to}
+use Rattle.table_core.specs.Replies.{reply_of}
+use Rattle.table_core.specs.Machine.{World, number_of, finished_call}
 use Rattle.table_core.specs.Bound.{position_of}
 use Rattle.table_core.proofs.CodeEvents.{at_position, nothing_there, happens_at, reply_at, happens_none, reply_none}
 use Rattle.table_core.proofs.machine.Machine.go_on.Goals as goal
@@ -17,8 +17,8 @@ returns-in_default-clause-ok g c =
     let p : position_of (number_of c.args.event) c.args.self.now.calls ≡ None = ap (position_of (number_of c.args.event)) (ap (λ (w : World). w.calls) (sym c.self.view_is)) ∙ ap (λ n. position_of n c.self.inside.calls) (sym c.call-call.ensures.number) ∙ sym c.position.ensures ∙ nothing_there c.position.result c.in_default.not-Some in
     happens_none c.args.self.now c.args.event c.call-call.ensures.in_range c.requires.going p
 
-pub returns-in_default-clause-told : goal.returns-in_default-clause-told
-returns-in_default-clause-told g c =
+pub returns-in_default-clause-reply : goal.returns-in_default-clause-reply
+returns-in_default-clause-reply g c =
     let p : position_of (number_of c.args.event) c.args.self.now.calls ≡ None = ap (position_of (number_of c.args.event)) (ap (λ (w : World). w.calls) (sym c.self.view_is)) ∙ ap (λ n. position_of n c.self.inside.calls) (sym c.call-call.ensures.number) ∙ sym c.position.ensures ∙ nothing_there c.position.result c.in_default.not-Some in
     reply_none c.args.self.now c.args.event c.call-call.ensures.in_range c.requires.going p
 
@@ -28,12 +28,12 @@ returns-in-Some-2-clause-ok g c =
     let a = at_position (number_of c.args.event) c.args.self.now.calls c.in-Some.at p in
     c.in_ok-reply.ensures.ok a.call a.there ∙ happens_at c.args.self.now c.args.event c.in-Some.at a c.call-call.ensures.in_range c.requires.going
 
-pub returns-in-Some-2-clause-told : goal.returns-in-Some-2-clause-told
-returns-in-Some-2-clause-told g c =
+pub returns-in-Some-2-clause-reply : goal.returns-in-Some-2-clause-reply
+returns-in-Some-2-clause-reply g c =
     let p : position_of (number_of c.args.event) c.args.self.now.calls ≡ Some c.in-Some.at = ap (position_of (number_of c.args.event)) (ap (λ (w : World). w.calls) (sym c.self.view_is)) ∙ ap (λ n. position_of n c.self.inside.calls) (sym c.call-call.ensures.number) ∙ sym c.in-Some.ensures in
     let a = at_position (number_of c.args.event) c.args.self.now.calls c.in-Some.at p in
-    ap (λ n. reply_to n (Some (told_of c.in-Some-2.reply))) c.call-call.ensures.number
-    ∙ ap (reply_to (number_of c.args.event)) (ap (option_map told_of) (sym c.in-Some-2.is) ∙ c.in_ok-reply.ensures.told a.call a.there)
+    ap (λ n. finished_call n (Some (reply_of c.in-Some-2.reply))) c.call-call.ensures.number
+    ∙ ap (finished_call (number_of c.args.event)) (ap (option_map reply_of) (sym c.in-Some-2.is) ∙ c.in_ok-reply.ensures.reply a.call a.there)
     ∙ reply_at c.args.self.now c.args.event c.in-Some.at a c.call-call.ensures.in_range c.requires.going
 
 pub returns-in-None-clause-ok : goal.returns-in-None-clause-ok
@@ -42,9 +42,9 @@ returns-in-None-clause-ok g c =
     let a = at_position (number_of c.args.event) c.args.self.now.calls c.in-Some.at p in
     c.in_ok-reply.ensures.ok a.call a.there ∙ happens_at c.args.self.now c.args.event c.in-Some.at a c.call-call.ensures.in_range c.requires.going
 
-pub returns-in-None-clause-told : goal.returns-in-None-clause-told
-returns-in-None-clause-told g c =
+pub returns-in-None-clause-reply : goal.returns-in-None-clause-reply
+returns-in-None-clause-reply g c =
     let p : position_of (number_of c.args.event) c.args.self.now.calls ≡ Some c.in-Some.at = ap (position_of (number_of c.args.event)) (ap (λ (w : World). w.calls) (sym c.self.view_is)) ∙ ap (λ n. position_of n c.self.inside.calls) (sym c.call-call.ensures.number) ∙ sym c.in-Some.ensures in
     let a = at_position (number_of c.args.event) c.args.self.now.calls c.in-Some.at p in
-    ap (reply_to (number_of c.args.event)) (ap (option_map told_of) (sym c.in-None.is) ∙ c.in_ok-reply.ensures.told a.call a.there)
+    ap (finished_call (number_of c.args.event)) (ap (option_map reply_of) (sym c.in-None.is) ∙ c.in_ok-reply.ensures.reply a.call a.there)
     ∙ reply_at c.args.self.now c.args.event c.in-Some.at a c.call-call.ensures.in_range c.requires.going

@@ -1,6 +1,6 @@
 use Rattle.std.proofs.Common.{◌≡◌, ◌-◌, length}
-use Rattle.lock_free_hashtable.specs.Buckets.{AllSound}
-use Rattle.lock_free_hashtable.specs.Generations.{parts_of}
+use Rattle.generations.specs.Buckets.{AllSound}
+use Rattle.generations.specs.Generations.{parts_of}
 use Rattle.lock_free_hashtable.specs.Walks.{shown_from}
 use Rattle.lock_free_hashtable.proofs.raw.iter.HeldIterIterator.next.Given as goal
 

@@ -1,0 +1,223 @@
+-- The ghost steps of words and blocks. Assumes `Logic`.
+--     lasts        what is lent for the home is lent for each lifetime that ends no later
+--     renames      a name becomes a view: a new lifetime stands beside the home's
+--     lend_out, take_back, comes_home      a block is lent for the home and a new lifetime; who has that lifetime's whole
+--       token has the block back at once, and who has the right to it has it once the home has ended
+--     settles      a view becomes a name, and gives its part of the token up
+--     reads        a load of a shared word shows a view of its block
+--     offers       an exchange of a shared word
+use Rattle.std.specs.Prelude.{is_some, IsSome}
+use Rattle.std.proofs.Common.{◌≡◌, ℕ, Bool, true, false, List, [], ◌∷◌, ◌++◌, Option, Some, None, refl, sym, subst, lit<}
+use seplogic.Ra.Ura.{Ura}
+use mir.Raw.{raw as bare}
+use mir.Syntax.{Ty}
+use base.Share
+use base.Fraction.{full_share}
+use base.Logic.{SProp, ent, sep, ex, emp, guard, upd_i, id⊢}
+use base.Fml.{Lft, Share, Fml, ftrue, ffalse, fsep, fex, flft, fdead, fbor, finv, Incl-refl, Incl-trans}
+use base.Before.{before}
+use types.Logic.{Logic, sem}
+use types.Kit.{Item, Goal, Seq, learn, ‵, ◌⊛◌, raw, some, given, later, mean, ◌$◌, ◌∵◌, !, qed, by, move, keep, drop, split, split3, group, fsplit, fsplit3, fjoin, fjoin3, fpick, fpack, pick, rewrite, check, show, frame, assume, suffices, done, use0, use1, use2, updating, await, now}
+use types.Tokens.{lft_new, lft_end, bor_new, lent_back, bor_fracture}
+use types.Na.{before-Incl, before_lent}
+use contract.BorrowLft.{◌⊑◌, meet_⊑_left, meet_⊑_right}
+use denote.RattleType.{RattleType}
+use denote.Memory.{lone}
+use denote.RawPtr.{Ptr, block_ptr, null_ptr, lies_at, Testable}
+use denote.Steps.{nothing}
+use denote.Param.Laws.{Laws}
+use denote.Sharing.{ShrLaws}
+use denote.Struct.Lending.{lent_at, lent_at_shr_laws, Lends-first, Lends-lies}
+use Rattle.core.specs.Sync.RawAtomic.Pointer.{cell, alike, asks_ptr, compares}
+use Rattle.core.proofs.raw_atomic.Asked.{borrowed_ptr, borrowed_compares, PtrLies, Compared, alike_null}
+use Rattle.cell.specs.Words.{testable, tested, view, named, boxed, right, held, kept, Held}
+
+abbrev IsOff : Bool → Type 0
+IsOff true = ⊥
+IsOff false = Unit {0}
+
+pub not_none : {X : Type 0} {v : Option X} → IsSome v → v ≡ None → ⊥
+not_none {X} set e = subst IsOff (subst (λ (u : Option X). is_some u ≡ true) e set) tt
+
+module _ {M : Type 1} {𝓤 : Ura M} (𝓛 : Logic 𝓤) (R : RattleType) (L : Laws R) (k : Ty → Ptr → Fml) (h : ℕ) where
+  open 𝓛 use {H, A}
+
+  abbrev Pr : Type 2
+  Pr = SProp 𝓤
+
+  abbrev ◌⊢◌ : Pr → Pr → Type 1
+  P ⊢ Q = ent 𝓤 P Q
+
+  abbrev ◌∗◌ : Pr → Pr → Pr
+  P ∗ Q = sep 𝓤 P Q
+
+  abbrev ⟦◌⟧ : Fml → Pr
+  ⟦ P ⟧ = sem 𝓛 P
+
+  infix 26 ◌⊢◌
+  infixr 35 ◌∗◌
+
+  abbrev home : Lft
+  home = h ∷ []
+
+  abbrev Seen : Type 0
+  Seen = R.Denot × ℕ × Share
+
+  abbrev of_block : (p : Ptr) (x : R.Denot) → ShrLaws (lent_at R p x)
+  of_block p x = lent_at_shr_laws R L.shr_laws p x
+
+  pub lasts : (κ : Lft) (p : Ptr) (x : R.Denot) → ⟦ before κ home ⟧ ∗ ⟦ named R h p x ⟧ ⊢ ⟦ lent_at R p x κ ⟧
+  lasts κ p x = (of_block p x).mono M 𝓤 𝓛 κ home
+
+  pub renames : (p : Ptr) (x : R.Denot) → ⟦ named R h p x ⟧ ⊢ H.⇛ (mean 𝓛 (some (λ (ν : ℕ). ‵ (view R h p (x, ν, full_share)))))
+  renames p x = qed 𝓛 (‵ (named R h p x) ∷ []) ∵ updating ! $ lft_new ! tt (λ ν. let both : Lft = ν ∷ home in
+      move ! (1 ∷ []) $ use0 𝓛 (‵ (before both home)) (before-Incl 𝓛 both home (meet_⊑_right (ν ∷ []) home)) $
+      use2 𝓛 (‵ (lent_at R p x both)) ((of_block p x).mono M 𝓤 𝓛 both home) $ move ! (1 ∷ 0 ∷ []) $ fjoin ! $ now ! $
+      show ! (λ (i : ℕ). ⟦ view R h p (x, i, full_share) ⟧) ν $ done !)
+
+  -- a block that its setter can still take back
+  abbrev pub mine : Ptr → R.Denot → ℕ → Fml
+  mine p x ν = fsep (view R h p (x, ν, full_share)) (right R k h true p x ν)
+
+  abbrev pub Out : Share → Lft → Share → Ptr → R.Denot → Item 𝓤
+  Out s μ r p x = some (λ (ν : ℕ). ‵ (mine p x ν) ⊛ ‵ (flft home s) ⊛ ‵ (flft μ r))
+
+  pub lend_out : (s : Share) (μ : Lft) (r : Share) → μ ⊑ R.lives → (p : Ptr) (x : R.Denot)
+      → ⟦ boxed R k p x ⟧ ∗ A.lft home s ∗ A.lft μ r ⊢ H.⇛ (mean 𝓛 (Out s μ r p x))
+  lend_out s μ r within p x = qed 𝓛 (‵ (boxed R k p x) ∷ ‵ (flft home s) ∷ ‵ (flft μ r) ∷ []) ∵ updating ! $ lft_new ! tt (λ ν. let both : Lft = ν ∷ home in
+      move ! (1 ∷ []) $ bor_new ! tt both $ move ! (2 ∷ 3 ∷ 4 ∷ []) $ group ! 3 $ move ! (1 ∷ 0 ∷ []) $
+      use2 𝓛 (later (‵ (lent_at R p x both) ⊛ ‵ (flft (ν ∷ []) full_share) ⊛ ‵ (flft home s) ⊛ ‵ (flft μ r)))
+      (Lends-first 𝓛 (lies_at R full_share p x) (k (bare (lone R.mir)) p) (lent_at R p x) R.lives (Lends-lies 𝓛 R R.lives p x (L.shares 𝓛 x)) both
+        ((ν ∷ [], full_share) ∷ (home, s) ∷ (μ, r) ∷ []) (Incl-trans (Incl-trans (meet_⊑_right (ν ∷ []) (home ++ μ)) (meet_⊑_right home μ)) within) (meet_⊑_left both μ)) $
+      await ! tt $ split3 ! $ move ! (1 ∷ 0 ∷ []) $ fjoin ! $ move ! (0 ∷ 2 ∷ []) $ fjoin ! $ now ! $
+      show ! (λ (i : ℕ). ⟦ mine p x i ⟧ ∗ A.lft home s ∗ A.lft μ r) ν $ done !)
+
+  pub take_back : (p : Ptr) (x : R.Denot) (ν : ℕ) → ⟦ mine p x ν ⟧ ⊢ H.⇛ ⟦ boxed R k p x ⟧
+  take_back p x ν = qed 𝓛 (‵ (mine p x ν) ∷ []) ∵ updating ! $ fsplit ! $ fsplit ! $ lft_end ! tt $
+      use1 𝓛 (‵ (fdead (ν ∷ home))) (𝓛.lfts.dead-incl (ν ∷ home) (ν ∷ []) (meet_⊑_left (ν ∷ []) home)) $ keep ! (0 ∷ 2 ∷ []) $ lent_back ! tt $ now ! $ done !
+
+  pub comes_home : (p : Ptr) (x : R.Denot) (ν : ℕ) → ⟦ fdead home ⟧ ∗ ⟦ right R k h true p x ν ⟧ ⊢ H.⇛ ⟦ boxed R k p x ⟧
+  comes_home p x ν = qed 𝓛 (‵ (fdead home) ∷ ‵ (right R k h true p x ν) ∷ []) ∵ updating ! $
+      use1 𝓛 (‵ (fdead (ν ∷ home))) (𝓛.lfts.dead-incl (ν ∷ home) home (meet_⊑_right (ν ∷ []) home)) $ lent_back ! tt $ now ! $ done !
+
+  pub settles : (p : Ptr) (s : Seen) → ⟦ view R h p s ⟧ ⊢ H.⇛ ⟦ named R h p s.0 ⟧
+  settles p s = let ν : Lft = s.1 ∷ [] in let both : Lft = s.1 ∷ home in
+      qed 𝓛 (‵ (view R h p s) ∷ []) ∵ updating ! $ fsplit ! $ bor_new ! tt home $ bor_fracture ! tt (λ q. flft ν q) s.2 $ move ! (1 ∷ []) $ drop ! $
+      use0 𝓛 (‵ (before both both)) (before-Incl 𝓛 both both (Incl-refl both)) $ move ! (1 ∷ 0 ∷ []) $ use2 𝓛 (‵ (before home both)) (before_lent 𝓛 home ν both) $
+      use2 𝓛 (‵ (named R h p s.0)) ((of_block p s.0).mono M 𝓤 𝓛 home both) $ now ! $ done !
+
+  halved : (p : Ptr) (s : Seen) → ⟦ view R h p s ⟧ ⊢ ⟦ view R h p (s.0, s.1, Share.left s.2) ⟧ ∗ ⟦ view R h p (s.0, s.1, Share.right s.2) ⟧
+  halved p s = let ν : Lft = s.1 ∷ [] in let both : Lft = s.1 ∷ home in let V : Fml = lent_at R p s.0 both in
+      qed 𝓛 (‵ (view R h p s) ∷ []) ∵ fsplit ! $ use1 𝓛 (‵ (flft ν (Share.left s.2)) ⊛ ‵ (flft ν (Share.right s.2))) (𝓛.lfts.lft_split ν s.2) $ split ! $ move ! (2 ∷ []) $
+      use1 𝓛 (‵ V ⊛ ‵ V) ((of_block p s.0).contraction M 𝓤 𝓛 both) $ split ! $ move ! (3 ∷ 0 ∷ []) $ fjoin ! $ move ! (2 ∷ 1 ∷ []) $ fjoin ! $ move ! (0 ∷ 1 ∷ []) $ done !
+
+  module _ (y : Bool) (v : Option R.Denot) (Q : R.Denot → Type 0) where
+    abbrev pub Kept : Ptr → Fml
+    Kept = kept R k h y v Q
+
+    abbrev pub seen : Ptr → Seen → Fml
+    seen p s = fsep (view R h p s) (fex (Q s.0) (λ _. ftrue))
+
+    -- what a load takes away; `none` stands at null
+    abbrev pub glimpse : Fml → Ptr → Fml
+    glimpse none null_ptr = none
+    glimpse none (block_ptr b o) = fsep (tested v (block_ptr b o)) (fex Seen (seen (block_ptr b o)))
+
+    abbrev pub unknown : Fml
+    unknown = fex (v ≡ None) (λ _. ftrue)
+
+    tested_twice : (p : Ptr) (u : Option R.Denot) → ⟦ tested u p ⟧ ⊢ ⟦ tested u p ⟧ ∗ ⟦ tested u p ⟧
+    tested_twice p None = qed 𝓛 (‵ (testable p) ∷ []) ∵ fpick ! (λ t. fpack ! (Testable p) (λ _. ftrue) t $ nothing ! $ fpack ! (Testable p) (λ _. ftrue) t $ done !)
+    tested_twice p (Some x) = qed 𝓛 (‵ ftrue ∷ []) ∵ nothing ! $ done !
+
+    glimpsed : (none : Fml) (b o : ℕ) → ⟦ Kept (block_ptr b o) ⟧ ⊢ ⟦ Kept (block_ptr b o) ⟧ ∗ ⟦ glimpse none (block_ptr b o) ⟧
+    glimpsed none b o = let p : Ptr = block_ptr b o in qed 𝓛 (‵ (Kept p) ∷ []) ∵ fsplit ! $ use1 𝓛 (‵ (tested v p) ⊛ ‵ (tested v p)) (tested_twice p v) $ split ! $ move ! (2 ∷ []) $ fpick ! (λ s.
+        let mine : Seen = (s.0, s.1, Share.left s.2) in let shown : Seen = (s.0, s.1, Share.right s.2) in fsplit3 ! $
+        use1 𝓛 (‵ (view R h p mine) ⊛ ‵ (view R h p shown)) (halved p s) $ split ! $ move ! (3 ∷ []) $ fpick ! (λ so. drop ! $
+        -- [the word's view; the view shown; the right; tested, twice]
+        nothing ! $ fpack ! (Q s.0) (λ _. ftrue) so $ move ! (1 ∷ 3 ∷ 0 ∷ []) $ fjoin3 ! $ fpack ! Seen (held R k h y v Q p) mine $ move ! (2 ∷ 0 ∷ []) $ fjoin ! $ frame ! $
+        nothing ! $ fpack ! (Q s.0) (λ _. ftrue) so $ move ! (1 ∷ 0 ∷ []) $ fjoin ! $ fpack ! Seen (seen p) shown $ move ! (1 ∷ 0 ∷ []) $ fjoin ! $ done !))
+
+    peek : (p : Ptr) → ⟦ Kept p ⟧ ⊢ ⟦ Kept p ⟧ ∗ ⟦ glimpse unknown p ⟧
+    peek null_ptr = qed 𝓛 (‵ unknown ∷ []) ∵ fpick ! (λ e. fpack ! (v ≡ None) (λ _. ftrue) e $ nothing ! $ fpack ! (v ≡ None) (λ _. ftrue) e $ done !)
+    peek (block_ptr b o) = glimpsed unknown b o
+
+    module _ (α : Lft) (b o : ℕ) (s : Share) where
+      abbrev J : Fml
+      J = Held R k h y v Q b o
+
+      abbrev at_word : Ptr → Fml
+      at_word p = fsep (cell b o p) (Kept p)
+
+      abbrev Load : Ptr → Pr
+      Load = PtrLies 𝓛 α s J b o Ptr (λ p. p) (λ p. p) (λ _. ftrue) (glimpse unknown)
+
+      loaded : ⟦ J ⟧ ∗ emp 𝓤 ⊢ base.Logic.upd 𝓤 (ex 𝓤 Load)
+      loaded = qed 𝓛 (‵ J ∷ raw (emp 𝓤) ∷ []) ∵ suffices ! _ (upd_i 𝓤 (ex 𝓤 Load)) $ fpick ! (λ p. fsplit ! $ show ! Load p $ frame ! $ nothing ! $ frame ! $
+          assume ! (‵ (cell b o p)) $ suffices ! _ (upd_i 𝓤 (⟦ J ⟧ ∗ ⟦ glimpse unknown p ⟧)) $ move ! (1 ∷ []) $
+          use1 𝓛 (‵ (Kept p) ⊛ ‵ (glimpse unknown p)) (peek p) $ split ! $ move ! (2 ∷ 0 ∷ []) $ fjoin ! $ fpack ! Ptr at_word p $ keep ! (0 ∷ 1 ∷ []) $ done !)
+
+      pub reads : A.inv (fbor α J) ∗ A.lft α s ⊢ asks_ptr 𝓛 (block_ptr b o) (λ p. p) (λ p. fsep (flft α s) (glimpse unknown p))
+      reads = qed 𝓛 (‵ (finv (fbor α J)) ∷ ‵ (flft α s) ∷ []) ∵ use0 𝓛 (raw (emp 𝓤)) (id⊢ 𝓤 (emp 𝓤)) $ move ! (1 ∷ 2 ∷ 0 ∷ []) $
+          by ! (borrowed_ptr 𝓛 α s J b o Ptr (λ p. p) (λ p. p) (λ _. ftrue) (glimpse unknown) (emp 𝓤) loaded)
+
+    -- the block at p, and that its value is one that the word may show
+    abbrev pub Block : Ptr → Item 𝓤
+    Block p = some (λ (x : R.Denot). given (Q x) (‵ (boxed R k p x)))
+
+    pub held_block : (p : Ptr) → y ≡ true → ⟦ fdead home ⟧ ∗ ⟦ fex Seen (held R k h y v Q p) ⟧ ⊢ H.⇛ (mean 𝓛 (Block p))
+    held_block p owning = qed 𝓛 (‵ (fdead home) ∷ ‵ (fex Seen (held R k h y v Q p)) ∷ []) ∵ updating ! $ move ! (1 ∷ []) $ fpick ! (λ s. fsplit3 ! $ drop ! $ move ! (1 ∷ []) $ fpick ! (λ so. drop ! $
+        rewrite ! 0 (λ (w : Bool). ‵ (right R k h w p s.0 s.1)) owning refl $ move ! (1 ∷ 0 ∷ []) $ use2 𝓛 (later (‵ (boxed R k p s.0))) (comes_home p s.0 s.1) $ await ! tt $ now ! $
+        show ! (λ (x : R.Denot). guard 𝓤 (Q x) ⟦ boxed R k p x ⟧) s.0 $ check ! so $ done !))
+
+    low_block : (b o : ℕ) → v ≡ None → ⟦ Kept (block_ptr b o) ⟧ ⊢ guard 𝓤 (Testable (block_ptr b o)) ⟦ Kept (block_ptr b o) ⟧
+    low_block b o unset = let p : Ptr = block_ptr b o in qed 𝓛 (‵ (Kept p) ∷ []) ∵ fsplit ! $ rewrite ! 0 (λ (u : Option R.Denot). ‵ (tested u p)) unset refl $ fpick ! (λ low. check ! low $
+        fpack ! (Testable p) (λ _. ftrue) low $ rewrite ! 0 (λ (u : Option R.Denot). ‵ (tested u p)) (sym unset) refl $ fjoin ! $ done !)
+
+    module _ (α : Lft) (b o : ℕ) (s : Share) (nb no ν : ℕ) (x : R.Denot) (low : Testable (block_ptr nb no)) where
+      abbrev new : Ptr
+      new = block_ptr nb no
+
+      abbrev Word : Fml
+      Word = Held R k h y v Q b o
+
+      abbrev in_word : Ptr → Fml
+      in_word p = fsep (cell b o p) (Kept p)
+
+      abbrev pub won : Ptr → Fml
+      won p = view R h new (x, ν, Share.right full_share)
+
+      abbrev pub lost : Ptr → Fml
+      lost p = fsep (mine new x ν) (glimpse ffalse p)
+
+      abbrev Exchange : Ptr × Bool → Pr
+      Exchange = Compared 𝓛 α s Word b o null_ptr new won lost
+
+      module _ (owning : y ≡ true) (unset : v ≡ None) (fits : Q x) where
+        sets : ⟦ cell b o new ⟧ ∗ ⟦ mine new x ν ⟧ ⊢ ⟦ Word ⟧ ∗ ⟦ won null_ptr ⟧
+        sets = let kept_part : Seen = (x, ν, Share.left full_share) in qed 𝓛 (‵ (cell b o new) ∷ ‵ (mine new x ν) ∷ []) ∵ move ! (1 ∷ []) $ fsplit ! $
+            use1 𝓛 (‵ (view R h new kept_part) ⊛ ‵ (won null_ptr)) (halved new (x, ν, full_share)) $ split ! $ move ! (2 ∷ []) $
+            rewrite ! 0 (λ (w : Bool). ‵ (right R k h w new x ν)) (sym owning) refl $ nothing ! $ fpack ! (Q x) (λ _. ftrue) fits $ move ! (2 ∷ 1 ∷ 0 ∷ []) $ fjoin3 ! $
+            fpack ! Seen (held R k h y v Q new) kept_part $ nothing ! $ fpack ! (Testable new) (λ _. ftrue) low $ rewrite ! 0 (λ (u : Option R.Denot). ‵ (tested u new)) (sym unset) refl $ fjoin ! $
+            move ! (2 ∷ 0 ∷ []) $ fjoin ! $ fpack ! Ptr in_word new $ done !
+
+        compared : (p : Ptr) → ⟦ cell b o p ⟧ ∗ ⟦ Kept p ⟧ ∗ ⟦ mine new x ν ⟧ ⊢ ex 𝓤 Exchange
+        compared null_ptr = let G : Pr = ⟦ Word ⟧ ∗ ⟦ won null_ptr ⟧ in qed 𝓛 (‵ (cell b o null_ptr) ∷ ‵ unknown ∷ ‵ (mine new x ν) ∷ []) ∵ show ! Exchange (null_ptr, true) $ frame ! $
+            use0 𝓛 (‵ (alike null_ptr null_ptr true)) (alike_null 𝓛 null_ptr (lit< tt)) $ frame ! $ assume ! (‵ (cell b o new)) $ suffices ! _ (upd_i 𝓤 G) $ keep ! (0 ∷ 2 ∷ []) $ by ! sets
+        compared (block_ptr pb po) = let p : Ptr = block_ptr pb po in qed 𝓛 (‵ (cell b o p) ∷ ‵ (Kept p) ∷ ‵ (mine new x ν) ∷ []) ∵ show ! Exchange (p, false) $ frame ! $
+            use1 𝓛 (given (Testable p) (‵ (Kept p))) (low_block pb po unset) $ learn ! (λ t. use0 𝓛 (‵ (alike p null_ptr false)) (alike_null 𝓛 p t) $ frame ! $
+            assume ! (‵ (cell b o p)) $ suffices ! _ (upd_i 𝓤 (⟦ Word ⟧ ∗ ⟦ lost p ⟧)) $ move ! (1 ∷ []) $ use1 𝓛 (‵ (Kept p) ⊛ ‵ (glimpse ffalse p)) (glimpsed ffalse pb po) $ split ! $
+            move ! (2 ∷ 0 ∷ []) $ fjoin ! $ fpack ! Ptr in_word p $ frame ! $ move ! (1 ∷ 0 ∷ []) $ fjoin ! $ done !)
+
+        pub offers : A.inv (fbor α Word) ∗ (A.lft α s ∗ ⟦ mine new x ν ⟧) ⊢ compares 𝓛 (block_ptr b o) null_ptr new (λ p. fsep (flft α s) (won p)) (λ p. fsep (flft α s) (lost p))
+        offers = borrowed_compares 𝓛 α s Word b o null_ptr new won lost ⟦ mine new x ν ⟧ (qed 𝓛 (‵ Word ∷ ‵ (mine new x ν) ∷ []) ∵ suffices ! _ (upd_i 𝓤 (ex 𝓤 Exchange)) $ fpick ! (λ p. fsplit ! $ by ! (compared p)))
+
+-- what stands beside a pointer, by cases
+module _ (R : RattleType) (k : Ty → Ptr → Fml) (h : ℕ) (y : Bool) (v : Option R.Denot) (Q : R.Denot → Type 0) {M : Type 1} {𝓤 : Ura M} {𝓛 : Logic 𝓤} {K : Type 0} {Γ : List (Item 𝓤)} {G : Goal 𝓤 𝓛.H} where
+  pub where_set : K → (p : Ptr) → IsSome v → ((b o : ℕ) → p ≡ block_ptr b o → Seq K 𝓛 (‵ (fex (R.Denot × ℕ × Share) (held R k h y v Q (block_ptr b o))) ∷ Γ) G) → Seq K 𝓛 (‵ (kept R k h y v Q p) ∷ Γ) G
+  where_set t null_ptr set one = fpick t (λ e. absurd (not_none set e))
+  where_set t (block_ptr b o) set one = fsplit t $ drop t $ one b o refl
+
+  pub where_unset : K → (p : Ptr) → v ≡ None → (p ≡ null_ptr → Seq K 𝓛 Γ G) → ((b o : ℕ) → p ≡ block_ptr b o → Testable (block_ptr b o) → Seq K 𝓛 (‵ (fex (R.Denot × ℕ × Share) (held R k h y v Q (block_ptr b o))) ∷ Γ) G) → Seq K 𝓛 (‵ (kept R k h y v Q p) ∷ Γ) G
+  where_unset t null_ptr unset none one = drop t $ none refl
+  where_unset t (block_ptr b o) unset none one = fsplit t $ rewrite t 0 (λ (u : Option R.Denot). ‵ (tested u (block_ptr b o))) unset refl $ fpick t (λ low. drop t $ one b o refl low)

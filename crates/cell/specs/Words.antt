@@ -1,0 +1,101 @@
+-- What a word owns, and what a `&` to it holds. h is the lifetime of the home, for which blocks are lent, k the right to
+-- free a block. What a contract sees of a word is its `WordView`.
+-- None of it names the lifetime of a `&` to the word, so it is the same whether the word is shared or not.
+use Rattle.std.specs.Prelude.{◌≡◌, ℕ, ◌+◌, [], ◌∷◌, Bool, true, false, Option, Some, None}
+use base.Stored.{Coded, coded×, coded_ℕ, coded_bool, coded_via}
+use base.Fml.{Lft, Share, Fml, ftrue, ffalse, fsep, fex, flft, flent, fbor}
+use mir.Syntax.{Ty}
+use denote.RattleType.{RattleType}
+use denote.Memory.{shared_of}
+use denote.RawPtr.{Ptr, block_ptr, null_ptr, Testable}
+use denote.Sharing.{said, beside, some, ends, always}
+use denote.Struct.Lending.{lent_at}
+use Rattle.core.specs.Sync.Atomic.Pointer.{atomic_ptr_holding}
+use Rattle.core.specs.Sync.RawAtomic.Pointer.{cell}
+use Rattle.core.specs.contracts.atomic.ptr.AtomicPtr.{the_row}
+use Rattle.std_alloc.specs.Box.Ownership.{box_owns}
+
+-- a word: the allocator and the home of its block, whether it owns the block, and the value in the block if it is known
+pub record WordView (A X : Type 0) : Type 0 where
+  pub from : A
+  pub home : ℕ
+  pub owning : Bool
+  pub value : Option X
+
+abbrev pub word_view : {A X : Type 0} → A → ℕ → Bool → Option X → WordView A X
+word_view a h y v = record { from = a; home = h; owning = y; value = v }
+
+abbrev pub view_coded : {A X : Type 0} → Coded A → Coded (Option X) → Coded (WordView A X)
+view_coded c d =
+    coded_via (coded× c (coded× coded_ℕ (coded× coded_bool d)))
+    (λ (w : WordView _ _). (w.from, (w.home, (w.owning, w.value))))
+    (λ x y e i. record {
+      from = (e i).0;
+      home = (e i).1.0;
+      owning = (e i).1.1.0;
+      value = (e i).1.1.1;
+    })
+
+-- x is the known value, if one is known
+abbrev pub Agrees : {X : Type 0} → Option X → X → Type 0
+Agrees None x = Unit {0}
+Agrees (Some y) x = y ≡ x
+
+-- what a word may show: its known value, if one is known, and always a value that fits its home
+abbrev pub Shows : {A X : Type 0} → (X → ℕ → Type 0) → WordView A X → X → Type 0
+Shows fits w x = Agrees w.value x × fits x w.home
+
+-- p may be compared with null
+abbrev pub testable : Ptr → Fml
+testable p = fex (Testable p) (λ _. ftrue)
+
+-- a word whose value isn't known may be compared with null
+abbrev pub tested : {X : Type 0} → Option X → Ptr → Fml
+tested None p = testable p
+tested (Some x) p = ftrue
+
+module _ (R : RattleType) (h : ℕ) where
+  -- the value at p may be read as long as the home and a lifetime of the setter's, s.1, are there. The setter ends the
+  -- latter to take its block back if it comes second
+  abbrev pub view : Ptr → R.Denot × ℕ × Share → Fml
+  view p s = fsep (flft (s.1 ∷ []) s.2) (lent_at R p s.0 (s.1 ∷ h ∷ []))
+
+  -- a name: the value at p may be read as long as the home is there
+  abbrev pub named : Ptr → R.Denot → Fml
+  named p x = lent_at R p x (h ∷ [])
+
+module _ (R : RattleType) (k : Ty → Ptr → Fml) where
+  -- a block with the right to free it
+  abbrev pub boxed : Ptr → R.Denot → Fml
+  boxed = box_owns k R
+
+  module _ (h : ℕ) where
+    -- the owning word has the right to the block, once the home has ended
+    abbrev pub right : Bool → Ptr → R.Denot → ℕ → Fml
+    right true p x ν = flent (ν ∷ h ∷ []) (boxed p x)
+    right false p x ν = ftrue
+
+    module _ (y : Bool) (v : Option R.Denot) (Q : R.Denot → Type 0) where
+      -- a set word: the value may be read, an owning word has the right to the block, and the value is one it may show
+      abbrev pub held : Ptr → R.Denot × ℕ × Share → Fml
+      held p s = fsep (view R h p s) (fsep (right y p s.0 s.1) (fex (Q s.0) (λ _. ftrue)))
+
+      -- beside its address: a word that is null has no known value
+      abbrev pub kept : Ptr → Fml
+      kept null_ptr = fex (v ≡ None) (λ _. ftrue)
+      kept (block_ptr b o) =
+          fsep (tested v (block_ptr b o)) (fex (R.Denot × ℕ × Share) (held (block_ptr b o)))
+
+      abbrev pub owned : (Ptr → Fml) → Fml
+      owned fields = fex Ptr (λ p. fsep (fields p) (kept p))
+
+      -- the word in memory at (b, o)
+      abbrev pub Held : ℕ → ℕ → Fml
+      Held b o = fex Ptr (λ p. fsep (cell b o p) (kept p))
+
+      -- a `&` to the word: between any two steps it is whole
+      abbrev pub shared : Ptr → Lft → Fml
+      shared (block_ptr b o) =
+          beside (some Lft (λ α. beside (ends α) (always (fbor α (Held b (o + 0))))))
+          (shared_of (the_row R) (atomic_ptr_holding null_ptr) b (o + 0))
+      shared null_ptr = said ffalse

@@ -1,0 +1,62 @@
+//! How long blocks live.
+ghost use Rattle.std.specs.Prelude.{◌≡◌, ℕ, [], ◌∷◌};
+ghost use base.Fml.{flft, fdead};
+ghost use base.Fraction.{full_share};
+ghost use denote.Sharing.{said, ends};
+
+use std::marker::{Model, PhantomData, Send, Sync};
+
+/// The life of blocks: as long as it is borrowed they may be read. It takes no space.
+///
+/// It is not dropped: `close` ends it, and then each block goes to whoever has the right to it.
+pub struct Home {
+    mark: PhantomData<*const u8>,
+    pub ghost id: { ℕ },
+}
+
+impl Model for Home {
+    ghost also_owns = { λ h. flft (h.id ∷ []) full_share };
+
+    ghost also_shares = { λ h _. ends (h.id ∷ []) };
+}
+
+impl Home {
+    /// A home with no block.
+    pub fn new() -> Home {
+        Home { mark: PhantomData }
+    }
+
+    /// From here on no block is read.
+    pub fn close(self) -> Closed
+        ensures { result.id ≡ self.id }
+    {
+        let Home { mark } = self;
+        Closed { mark }
+    }
+}
+
+/// A home that has ended.
+#[derive(Drop)]
+pub struct Closed {
+    mark: PhantomData<*const u8>,
+    pub ghost id: { ℕ },
+}
+
+impl Model for Closed {
+    ghost also_owns = { λ h. fdead (h.id ∷ []) };
+
+    ghost also_shares = { λ h _. said (fdead (h.id ∷ [])) };
+}
+
+/// What lies in the blocks of a home. `fits` says that a value belongs to the home with that id.
+pub trait Homed {
+    ghost fits: { Self → ℕ → Type 0 };
+}
+
+unsafe impl Send for Home {}
+
+unsafe impl Sync for Home {}
+
+unsafe impl Send for Closed {}
+
+unsafe impl Sync for Closed {}

@@ -1,0 +1,161 @@
+//! A word that is set at most once.
+ghost use Rattle.std.specs.Prelude.{◌≡◌, true, false, Some, None, IsSome, MatchOption};
+ghost use Rattle.std.specs.Coded.{coded_option};
+ghost use Rattle.std.specs.Sync.Atomic.Pointer.{atomic_ptr_holding};
+ghost use Rattle.cell.specs.Words.{WordView, word_view, view_coded, Shows, owned, shared};
+
+use crate::home::{Closed, Home, Homed};
+use crate::loose_block::LooseBlock;
+use crate::low::Low;
+use crate::name::Name;
+use std::alloc::Allocator;
+use std::marker::{Brand, Move, Owns, PhantomData, Send, Sync};
+use std::ptr::null_mut;
+use std::sync::atomic::AtomicPtr;
+use std::sync::atomic::Ordering::SeqCst;
+
+/// Null, or the address of a block for good: of a block that the word owns, or of one that another word owns.
+///
+/// A word that is dropped forgets its block: `into_block` hands it out.
+pub struct Word<T: Homed, A: Allocator> {
+    inner: AtomicPtr<T>,
+    marker: PhantomData<A>,
+}
+
+impl<T: Homed, A: Allocator> Owns for Word<T, A> {
+    ghost Value = { WordView A T };
+
+    ghost coded = { view_coded A.code (coded_option T.code) };
+
+    ghost shr_at = { λ w p κ. shared T.row (A.dealloc_token w.from) w.home w.owning w.value (Shows T.fits w) p κ };
+}
+
+impl<T: Homed, A: Allocator> Move for Word<T, A> {
+    ghost own_val = { λ w vs. owned T.row (A.dealloc_token w.from) w.home w.owning w.value (Shows T.fits w) (λ p. Fields.own_val (record { inner = atomic_ptr_holding p; marker = record {} }) vs) };
+}
+
+impl<T: Homed, A: Allocator> Word<T, A> {
+    /// Null. It takes no memory.
+    pub fn new(_alloc: &A, _home: &Home) -> Word<T, A>
+        ensures { result ≡ word_view _alloc.now _home.now.id true None }
+    {
+        Word {
+            inner: AtomicPtr::new(null_mut()),
+            marker: PhantomData,
+        }
+    }
+
+    /// Names the block of another word, and owns nothing.
+    pub fn of_name(name: Name<T>, _alloc: &A) -> Word<T, A>
+        requires { T.fits name.value name.home }
+        ensures { result ≡ word_view _alloc.now name.home false (Some name.value) }
+    {
+        let Name { at } = name;
+        Word {
+            inner: AtomicPtr::new(at),
+            marker: PhantomData,
+        }
+    }
+
+    /// Owns a block.
+    pub fn own(home: &Home, block: LooseBlock<T, A>) -> Word<T, A>
+        requires { T.fits block.value home.now.id }
+        ensures { result ≡ word_view block.from home.now.id true (Some block.value) }
+    {
+        let LooseBlock { at, marker: _ } = block;
+        Word {
+            inner: AtomicPtr::new(at),
+            marker: PhantomData,
+        }
+    }
+
+    /// The name of the block that a set word holds.
+    pub fn name(&self) -> Name<T>
+        requires { IsSome self.now.value }
+        ensures { (result.home ≡ self.now.home) × Shows T.fits self.now result.value }
+    {
+        let at = unsafe { self.inner.load::<Brand>(SeqCst) };
+        Name { at }
+    }
+
+    /// The name of the block, if the word was set by now.
+    pub fn name_if_set(&self) -> Option<Name<T>>
+        requires { self.now.value ≡ None }
+        ensures { MatchOption result (Unit {0}) (λ n. (n.home ≡ self.now.home) × Shows T.fits self.now n.value) }
+    {
+        let at = unsafe { self.inner.load::<Brand>(SeqCst) };
+        if at.is_null() {
+            None
+        } else {
+            Some(Name { at })
+        }
+    }
+
+    /// The block of a set word, once its home has ended.
+    pub fn into_block(self, closed: &Closed) -> LooseBlock<T, A>
+        requires { (closed.now.id ≡ self.home) × (self.owning ≡ true) × IsSome self.value }
+        ensures { (result.from ≡ self.from) × Shows T.fits self result.value }
+    {
+        let Word { inner, marker: _ } = self;
+        let at = inner.into_inner();
+        LooseBlock {
+            at,
+            marker: PhantomData,
+        }
+    }
+
+    /// The block, if the word was set through `&`, once its home has ended.
+    pub fn into_block_if_set(self, closed: &Closed) -> Option<LooseBlock<T, A>>
+        requires { (closed.now.id ≡ self.home) × (self.owning ≡ true) × (self.value ≡ None) }
+        ensures { MatchOption result (Unit {0}) (λ l. (l.from ≡ self.from) × Shows T.fits self l.value) }
+    {
+        let Word { inner, marker: _ } = self;
+        let at = inner.into_inner();
+        if at.is_null() {
+            None
+        } else {
+            Some(LooseBlock {
+                at,
+                marker: PhantomData,
+            })
+        }
+    }
+}
+
+impl<T: Homed, A: Low> Word<T, A> {
+    /// Sets the word by one exchange, unless it was set before. Shows what the word then names. A block that came second
+    /// comes back.
+    pub fn offer<'a>(
+        &'a self,
+        home: &'a Home,
+        block: LooseBlock<T, A>,
+    ) -> (&'a T, Option<LooseBlock<T, A>>)
+        requires { (home.now.id ≡ self.now.home) × (block.from ≡ self.now.from) × (self.now.owning ≡ true) × (self.now.value ≡ None) × T.fits block.value self.now.home }
+        ensures { MatchOption result.1 (result.0.now ≡ block.value) (λ l. (l.value ≡ block.value) × (l.from ≡ block.from)) }
+    {
+        let at = block.at;
+        unsafe { A::show_low(at as *const u8) };
+        match unsafe {
+            self.inner
+                .compare_exchange::<Brand>(null_mut(), at, SeqCst, SeqCst)
+        } {
+            Ok(_) => {
+                let LooseBlock { at: _, marker: _ } = block;
+                (unsafe { &*at }, None)
+            }
+            Err(first) => (unsafe { &*first }, Some(block)),
+        }
+    }
+}
+
+impl<T: Homed, A: Allocator> Drop for Word<T, A> {
+    /// Forgets the block.
+    fn drop(self) {
+        let Word { inner, marker: _ } = self;
+        let _at = inner.into_inner();
+    }
+}
+
+unsafe impl<T: Homed + Send + Sync, A: Allocator + Send> Send for Word<T, A> {}
+
+unsafe impl<T: Homed + Send + Sync, A: Allocator + Send + Sync> Sync for Word<T, A> {}

@@ -1,0 +1,6 @@
+pub mod Buckets
+pub mod Cells
+pub mod Ways
+pub mod Probe
+pub mod Generations
+pub mod Growth

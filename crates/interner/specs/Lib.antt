@@ -1,0 +1,4 @@
+pub mod Texts
+pub mod Interns
+pub mod Kept
+pub mod Again

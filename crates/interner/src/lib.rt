@@ -1,0 +1,13 @@
+//! Texts to numbers and back, for one owner: each different text has one number, from 1 on, in the order of first
+//! appearance.
+//!
+//! An [`Interner`] holds its texts alone. A contract sees it as the list of its texts, the one of number 1 first.
+#![tactic(auto)]
+
+pub mod interner;
+pub mod laws;
+mod name;
+pub mod refused;
+
+pub use interner::Interner;
+pub use refused::Refused;

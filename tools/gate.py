@@ -1,0 +1,65 @@
+#!/usr/bin/env python3
+"""Runs the gate, `rt ci`, and says how many CPU minutes each crate's proof, tests and edits took.
+
+    tools/gate.py [LOG]
+
+The gate's own lines go to LOG (default: gate.log). Linux only: the minutes are read off /proc, twice a second.
+"""
+import collections
+import os
+import subprocess
+import sys
+import time
+
+TICKS = os.sysconf("SC_CLK_TCK")
+KINDS = ("proof", "tests", "edits", "programs")
+
+
+def kind_of(words, folder):
+    """What a run of the prover is for."""
+    if os.path.basename(folder).startswith("rt-edit-"):
+        return "edits"
+    if "--test" in words:
+        return "tests"
+    return "programs" if "--backend" in words else "proof"
+
+
+def look(seen):
+    """Notes the CPU seconds so far of each prover that is running."""
+    for pid in filter(str.isdigit, os.listdir("/proc")):
+        try:
+            with open(f"/proc/{pid}/cmdline", "rb") as file:
+                words = file.read().decode(errors="replace").split("\0")
+            if os.path.basename(words[0]) != "rattle" or "--crate-name" not in words:
+                continue
+            with open(f"/proc/{pid}/stat") as file:
+                fields = file.read().rpartition(")")[2].split()
+            kind = kind_of(words, os.readlink(f"/proc/{pid}/cwd"))
+        except OSError:
+            continue
+        crate = words[words.index("--crate-name") + 1]
+        seen[pid, fields[19]] = (crate, kind, (int(fields[11]) + int(fields[12])) / TICKS)
+
+
+def main():
+    log = sys.argv[1] if len(sys.argv) > 1 else "gate.log"
+    seen, began = {}, time.time()
+    with open(log, "w") as out:
+        gate = subprocess.Popen(["rt", "ci"], stdin=subprocess.DEVNULL, stdout=out, stderr=subprocess.STDOUT)
+        while gate.poll() is None:
+            look(seen)
+            time.sleep(0.5)
+    sums = collections.defaultdict(float)
+    for crate, kind, seconds in seen.values():
+        sums[crate, kind] += seconds / 60
+    crates = sorted({crate for crate, _ in sums})
+    print("| Crate | " + " | ".join(KINDS) + " | all |\n|" + "---|" * (len(KINDS) + 2))
+    for crate in crates:
+        row = [sums[crate, kind] for kind in KINDS]
+        print(f"| `{crate}` | " + " | ".join(f"{it:.1f}" for it in row) + f" | {sum(row):.1f} |")
+    print(f"all: {sum(sums.values()):.1f} CPU minutes in {(time.time() - began) / 60:.1f} minutes, status {gate.returncode}")
+    return gate.returncode
+
+
+if __name__ == "__main__":
+    sys.exit(main())
