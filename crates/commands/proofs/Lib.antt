@@ -1,0 +1,7 @@
+pub mod Digits
+pub mod Spaces
+pub mod LetterCalls
+pub mod NumberLists
+pub mod PairTables
+pub mod Replied
+pub mod EventPieces

@@ -1,0 +1,10 @@
+use Rattle.std.proofs.Common.{◌≡◌}
+use Rattle.lock_free_hashtable.specs.Table.{entries}
+use Rattle.commands.proofs.PairTables.{lists_numbers, all_gathered, numbers_of}
+use Rattle.commands.proofs.pairs.PairTable.numbers.Goals as goal
+
+pub returns : goal.returns
+returns g c = λ ps held.
+    let gathered : c.loop-entry.numbers.items ≡ numbers_of (λ b. b.value) (entries c.self.inside.table) =
+    all_gathered (λ b. b.value) _ c.loop-entry.walk _ _ c.loop-entry.invariant c.in_default.ensures.steps.0 c.iter_alone-walk.ensures.entries in
+    lists_numbers (λ b. b.value) c.self.inside.table c.loop-entry.numbers.items _ gathered c.sort_unstable.ensures.permutation c.sort_unstable.ensures.sorted ps (rw (← c.self.view_is) at held)

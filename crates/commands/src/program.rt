@@ -1,0 +1,120 @@
+//! The program, over its words and streams.
+ghost use Rattle.std.specs.Prelude.{◌≡◌, ◌⊎◌, ◌++◌, OnOk, IfErr, map, codes};
+ghost use Rattle.std.specs.Io.KnownBytes.{Appends};
+ghost use Rattle.commands.specs.Arguments.{NamesCommand, IsRunnable, IsFaultOf};
+ghost use Rattle.commands.specs.Faults.{message_of, status_of};
+ghost use Rattle.commands.specs.declared.arguments.Command.{Command as CommandOf};
+ghost use Rattle.commands.specs.declared.faults.Fault.{Fault as FaultOf};
+
+use crate::arguments::{Command, parse_command};
+use crate::calls::run_calls;
+use crate::faults::Fault;
+use crate::gate::{GATE_TURNS, MeetingGate};
+use crate::lines::Lines;
+use crate::output::Output;
+use crate::schedules::run_core;
+use crate::seats::run_seats;
+use std::alloc::Allocator;
+use std::convert::AsStr;
+use std::env;
+use std::io;
+use std::io::{ErrorKind, Read, Write};
+use std::rt::Env;
+use std::sync::Wait;
+use std::thread::Threads;
+
+/// Runs the command that the words of the environment stand for, and answers the status. `run_words` says what is written
+/// where.
+pub fn run_program<
+    R: Threads + Wait,
+    E: Env + Alloc,
+    A: Allocator + Copy + Send + Sync,
+    I: Read + Drop,
+    O: Write,
+    M: Write,
+>(rt: &R, env: &E, alloc: A, input: I, output: &mut O, messages: &mut M) -> u8 {
+    match read_words(env) {
+        Ok(words) => run_words(rt, alloc, words.as_slice(), input, output, messages),
+        Err(fault) => end_with(fault, messages),
+    }
+}
+
+/// Runs the command that the words after the program's name stand for, and answers the status. Replies go to the output,
+/// the message of a fault goes to `messages`, each on a line of its own. A message that cannot be written is dropped. Where
+/// the words name no command nothing is read, and only the usage is written.
+pub fn run_words<
+    R: Threads + Wait,
+    A: Allocator + Copy + Send + Sync,
+    S: AsStr,
+    I: Read + Drop,
+    O: Write,
+    M: Write,
+>(rt: &R, alloc: A, words: &[S], input: I, output: &mut O, messages: &mut M) -> u8
+    ensures status { (result ≡ 0) ⊎ ((fault : FaultOf) × (result ≡ status_of fault)) }
+    ensures well { result ≡ 0 → messages.new ≡ messages.old }
+    ensures wrong { ((command : CommandOf) → ¬ NamesCommand (map S.text words.now) command)
+        → (result ≡ status_of Fault.Usage) × (output.new ≡ output.old) }
+{
+    let Some(command) = parse_command(words) else {
+        return end_with(Fault::Usage, messages);
+    };
+    match run_command(rt, alloc, command, input, output) {
+        Ok(()) => 0,
+        Err(fault) => end_with(fault, messages),
+    }
+}
+
+/// Writes the message of the fault, if it can be written, and answers the status.
+pub fn end_with<M: Write>(fault: Fault, messages: &mut M) -> u8
+    ensures { result ≡ status_of fault }
+{
+    if write_message(fault, messages).is_ok() {
+        let _ = messages.flush();
+    }
+    fault.status()
+}
+
+/// Writes the message of the fault on a line of its own.
+pub fn write_message<M: Write>(fault: Fault, messages: &mut M) -> io::Result<()>
+    ensures { OnOk result (Appends (M.contents messages.old) (M.contents messages.new) (message_of fault ++ codes "\n")) }
+{
+    writeln!(messages, "{fault}")
+}
+
+/// The words after the program's name. Words that are no text name no command.
+pub fn read_words<E: Env + Alloc>(env: &E) -> Result<Vec<String<E::A>, E::A>, Fault> {
+    let words = match env::args(env) {
+        Ok(words) => words,
+        Err(error) if error.kind() == ErrorKind::OutOfMemory => return Err(Fault::NoMemory),
+        Err(_) => return Err(Fault::Usage),
+    };
+    words
+        .skip(1)
+        .collect(env.alloc())
+        .map_err(|_error| Fault::NoMemory)
+}
+
+/// Runs the command. The replies of the lines before a fault are written.
+fn run_command<R: Threads + Wait, A: Allocator + Copy + Send + Sync, I: Read + Drop, O: Write>(
+    rt: &R,
+    alloc: A,
+    command: Command,
+    input: I,
+    output: &mut O,
+) -> Result<(), Fault>
+    requires { IsRunnable command }
+    ensures fault { IfErr result (IsFaultOf command) }
+{
+    let mut lines = Lines::new(input);
+    let mut output = Output::new(output);
+    let ended = match command {
+        Command::Calls { first } => run_calls(alloc, first, &mut lines, &mut output),
+        Command::Core { first } => run_core(alloc, first, &mut lines, &mut output),
+        Command::Seats { threads } => {
+            let gate = MeetingGate::new(GATE_TURNS);
+            run_seats(rt, alloc, threads, &gate, &mut output)
+        }
+    };
+    output.flush().map_err(|_error| Fault::WriteFailed)?;
+    ended
+}

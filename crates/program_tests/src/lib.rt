@@ -1,0 +1,5 @@
+//! Tests of the program's commands, over streams in memory.
+#![tactic(auto)]
+
+#[cfg(test)]
+mod tests;

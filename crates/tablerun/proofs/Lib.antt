@@ -1,8 +1,0 @@
-pub mod Digits
-pub mod Spaces
-pub mod LetterCalls
-pub mod NumberLists
-pub mod Capacities
-pub mod PairTables
-pub mod Replied
-pub mod EventParts

@@ -1,8 +1,0 @@
-use Rattle.std.proofs.Common.{append_assoc}
-use Rattle.tablerun.proofs.NumberLists.{debug_list-numbers}
-use Rattle.tablerun.proofs.answers.AnswerDisplay.fmt.Goals as goal
-
-pub returns-in-Walk-clause-writes : goal.returns-in-Walk-clause-writes
-returns-in-Walk-clause-writes g c =
-    rw (← c.finished.view_is, c.in-Walk.is, append_assoc)
-    (rw (debug_list-numbers c.in-Walk.entries.items) at c.write-in-Walk.ensures.writes)

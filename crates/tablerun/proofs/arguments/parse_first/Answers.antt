@@ -1,5 +1,0 @@
-use Rattle.tablerun.proofs.Capacities.{sixteen_is_first}
-use Rattle.tablerun.proofs.arguments.parse_first.Goals as goal
-
-pub returns-in-empty-clause-first : goal.returns-in-empty-clause-first
-returns-in-empty-clause-first g c = sixteen_is_first
