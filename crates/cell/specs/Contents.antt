@@ -81,5 +81,5 @@ module _ {A T : Type 0} where
   -- the mark beside a word agrees with it: a vacant word owns what it will be set to
   abbrev pub IsMarked : Mark → WordView A (Entry T) → Type 0
   IsMarked mark.Vacant w = (w.value ≡ None) × (w.owning ≡ true)
-  IsMarked (mark.Own bits) w = (w.owning ≡ true) × ((e : Entry T) × (w.value ≡ Some e) × (e.bits ≡ bits))
-  IsMarked (mark.Named bits) w = (w.owning ≡ false) × ((e : Entry T) × (w.value ≡ Some e) × (e.bits ≡ bits))
+  IsMarked (mark.Own bits) w = (w.owning ≡ true) × (e : Entry T) × (w.value ≡ Some e) × (e.bits ≡ bits)
+  IsMarked (mark.Named bits) w = (w.owning ≡ false) × (e : Entry T) × (w.value ≡ Some e) × (e.bits ≡ bits)
