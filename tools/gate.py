@@ -38,7 +38,8 @@ def look(seen):
         except OSError:
             continue
         crate = words[words.index("--crate-name") + 1]
-        seen[pid, fields[19]] = (crate, kind, (int(fields[11]) + int(fields[12])) / TICKS)
+        # its own time, and that of the children that it has waited for
+        seen[pid, fields[19]] = (crate, kind, sum(map(int, fields[11:15])) / TICKS)
 
 
 def main():
