@@ -1,8 +1,8 @@
 -- What equal values have: no insert is refused in vain, and each class has one entry.
 use Rattle.std.proofs.Common.{eqb-true, ℕ, suc, zero, ◌≡◌, ◌+◌, ◌≤◌, ◌++◌, ◌⊎◌, inl, inr, List, [], ◌∷◌, Bool, true, false, refl, Option, Some, None, length, sym, subst, ap, arith, ◌∙◌}
-use Rattle.std.specs.Prelude.{◌||◌, option_to_list}
+use Rattle.std.specs.Prelude.{◌||◌, option_to_list, if◌then◌else◌}
 use Rattle.std.specs.List.{slice_get, list_any}
-use Rattle.table_core.specs.Bags.{weigh}
+use Rattle.table_core.proofs.Weights.{weigh, count_by-weigh, same_weights}
 use Rattle.table_core.specs.Replies.{Reply, ReplyFound, ReplyRefused, Finished}
 use Rattle.table_core.specs.Generations.{Gen, Table, last_of, gen_of, bucket_in, is_current}
 use Rattle.terms.specs.Capacities.{IsFirstCapacity}
@@ -25,14 +25,15 @@ use Rattle.std.specs.List.{list_all}
 use Rattle.std.proofs.lemmas.Bool.{eqb-true}
 use Rattle.std.proofs.lemmas.List.{append_assoc}
 use Rattle.table_core.specs.Law.{Law, accepts, IsLawful}
-use Rattle.table_core.specs.Lists.{is_refusal, NoneRefusedInVain, Classes, SameClasses, passes as one_if}
+use Rattle.table_core.specs.Bound.{one_if}
+use Rattle.table_core.specs.Lists.{IsSettled, is_refusal, NoneRefusedInVain, Classes, SameClasses}
 use Rattle.table_core.proofs.Turns.{Turn, rests, opens, takes}
 use Rattle.table_core.proofs.Standing.{stands, pending_of}
 use Rattle.table_core.proofs.Facts.{Within, probing, wants_growth, is_asking, LawOk, Inv}
 use Rattle.table_core.proofs.Contents.{in_bucket, same_number}
 use Rattle.table_core.proofs.Pasts.{turn_after, placed_snoc, replies_snoc, by_snoc, by_snoc_from}
-use Rattle.table_core.proofs.Invariant.{inv, values_stay, kept_is_placed}
-use Rattle.table_core.proofs.Lawful.{lawful_before, law_after, none_placed, current_at, misses_at_turn, fresh_value, passes_le, placed_apart}
+use Rattle.table_core.proofs.Invariant.{inv, values_weigh, kept_weighs}
+use Rattle.table_core.proofs.Lawful.{lawful_before, law_after, none_placed, current_at, misses_at_turn, fresh_value, passes_le, placed_once_each}
 use Rattle.table_core.proofs.Right.{weigh-in, found_told, told_by_reply}
 use Rattle.table_core.proofs.Truth.{and_both, or-false}
 use Rattle.table_core.proofs.Refusals.{outcome_unrefused}
@@ -322,18 +323,25 @@ one_each true given zero placed f g e h le = omega (arith, f refl, e)
 one_each true given (suc back) placed f g e h le = omega (arith, h (omega arith))
 
 -- each class of the values handed in has exactly one entry, and there are no other entries
-pub classes : (l : Law) (f : ℕ) (s : List Event) → IsFirstCapacity f → Classes l f s
-classes l f s i q x =
+classes_weigh : (l : Law) (f : ℕ) (s : List Event) → IsFirstCapacity f → IsSettled l f s → (x : ℕ) → passing (l.equal x) (kept (after f s)) ≡ one_if (list_any (l.equal x) (given (empty f) s))
+classes_weigh l f s i q x =
     let p = l.equal x in
-    let kept_placed : passing p (kept (after f s)) ≡ passing p (placed (empty f) s) = kept_is_placed f s i (λ u. one_if (p u)) in
+    let kept_placed : passing p (kept (after f s)) ≡ passing p (placed (empty f) s) = kept_weighs f s i (λ u. one_if (p u)) in
     let none : running (after f s).calls ≡ [] = none_running (after f s).calls q.finished in
-    let stay : passing p (given (empty f) s) ≡ passing p (back (replies (empty f) s) ++ kept (after f s) ++ running (after f s).calls) = values_stay f s i (λ u. one_if (p u)) in
+    let stay : passing p (given (empty f) s) ≡ passing p (back (replies (empty f) s) ++ kept (after f s) ++ running (after f s).calls) = values_weigh f s i (λ u. one_if (p u)) in
     let here : passing p (given (empty f) s) ≡ passing p ((back (replies (empty f) s) ++ kept (after f s)) ++ []) = rw none at stay in
     let end : passing p ((back (replies (empty f) s) ++ kept (after f s)) ++ []) ≡ passing p (back (replies (empty f) s) ++ kept (after f s)) + 0 = weigh-append (λ u. one_if (p u)) (back (replies (empty f) s) ++ kept (after f s)) [] in
     let split : passing p (back (replies (empty f) s) ++ kept (after f s)) ≡ passing p (back (replies (empty f) s)) + passing p (kept (after f s)) = weigh-append (λ u. one_if (p u)) (back (replies (empty f) s)) (kept (after f s)) in
     let up : passing p (back (replies (empty f) s)) ≡ given_ups p (replies (empty f) s) = back_given_up p (replies (empty f) s) q.unrefused in
     kept_placed ∙ one_each (list_any p (given (empty f) s)) (passing p (given (empty f) s)) (given_ups p (replies (empty f) s)) (passing p (placed (empty f) s))
-    (any_passes p (given (empty f) s)) (none_passing p (given (empty f) s)) (omega arith) (given_up_equal l f i s q.lawful x) (placed_apart l f s i q.lawful x)
+    (any_passes p (given (empty f) s)) (none_passing p (given (empty f) s)) (omega arith) (given_up_equal l f i s q.lawful x) (placed_once_each l f s i q.lawful x)
+
+one-if : (b : Bool) → one_if b ≡ (if b then 1 else 0)
+one-if true = refl
+one-if false = refl
+
+pub classes : (l : Law) (f : ℕ) (s : List Event) → IsFirstCapacity f → Classes l f s
+classes l f s i q x = count_by-weigh (l.equal x) (kept (after f s)) ∙ classes_weigh l f s i q x ∙ one-if (list_any (l.equal x) (given (empty f) s))
 
 same_any : (p q : ℕ → Bool) (xs : List ℕ) → ((u : ℕ) → p u ≡ q u) → list_any p xs ≡ list_any q xs
 same_any p q [] h = refl
@@ -353,8 +361,8 @@ any_bag p xs ys false true h k e = absurd (omega (arith, any_passes p ys k, none
 -- two such schedules of the same inserts have the same classes
 pub same_classes : (l : Law) (f : ℕ) (s : List Event) (k : Law) (g : ℕ) (t : List Event) → IsFirstCapacity f → IsFirstCapacity g → SameClasses l f s k g t
 same_classes l f s k g t i j q r e b x =
-    let here = classes l f s i q x in
-    let there = classes k g t j r x in
+    let here = classes_weigh l f s i q x in
+    let there = classes_weigh k g t j r x in
     let same : list_any (l.equal x) (given (empty f) s) ≡ list_any (k.equal x) (given (empty g) t) =
-    any_bag (l.equal x) (given (empty f) s) (given (empty g) t) _ _ refl refl (b (λ u. one_if (l.equal x u))) ∙ same_any (l.equal x) (k.equal x) (given (empty g) t) (e x) in
-    here ∙ (ap one_if same ∙ (sym there ∙ sym (same_passing (l.equal x) (k.equal x) (kept (after g t)) (e x))))
+    any_bag (l.equal x) (given (empty f) s) (given (empty g) t) _ _ refl refl (same_weights (given (empty f) s) (given (empty g) t) b (λ u. one_if (l.equal x u))) ∙ same_any (l.equal x) (k.equal x) (given (empty g) t) (e x) in
+    count_by-weigh (l.equal x) (kept (after f s)) ∙ here ∙ (ap one_if same ∙ (sym there ∙ sym (same_passing (l.equal x) (k.equal x) (kept (after g t)) (e x)))) ∙ sym (count_by-weigh (l.equal x) (kept (after g t)))

@@ -8,11 +8,12 @@ use Rattle.std.specs.HashMap as map
 use Rattle.std.specs.HashMap.{HashMap}
 use Rattle.std.specs.HashSet as set
 use Rattle.std.specs.HashSet.{HashSet}
-use Rattle.table_core.specs.Bags.{weigh}
+use Rattle.table_core.proofs.Weights.{weigh, count_by-weigh}
 use Rattle.table_core.specs.Calls.{Call, is_used, is_value, is_used_value, holds_shared, holds_owned, is_locked}
 use Rattle.table_core.specs.Bound.{position_of, one_if}
 use Rattle.table_core.specs.declared.call.CallState.{CallState}
 use Rattle.table_core.specs.Indexed.{IsIndexed}
+use Rattle.std.specs.Prelude.{count_by}
 use Rattle.table_core.proofs.Lists.{weigh-set, weigh-get, weigh-append}
 
 any_if : (b r : Bool) (n : ℕ) → r ≡ nat_lt 0 n → (b || r) ≡ nat_lt 0 (one_if b + n)
@@ -20,9 +21,12 @@ any_if true r n h = sym (lt-ltb 0 (1 + n) (omega arith))
 any_if false r n h = h ∙ ap (nat_lt 0) (let e : n ≡ 0 + n = omega arith in e)
 
 -- one passes where the count isn't 0
-pub any_counts : {X : Type 0} (p : X → Bool) (xs : List X) → list_any p xs ≡ nat_lt 0 (weigh (λ x. one_if (p x)) xs)
-any_counts p [] = refl
-any_counts p (x ∷ xs) = any_if (p x) (list_any p xs) _ (any_counts p xs)
+any_weighs : {X : Type 0} (p : X → Bool) (xs : List X) → list_any p xs ≡ nat_lt 0 (weigh (λ x. one_if (p x)) xs)
+any_weighs p [] = refl
+any_weighs p (x ∷ xs) = any_if (p x) (list_any p xs) _ (any_weighs p xs)
+
+pub any_counts : {X : Type 0} (p : X → Bool) (xs : List X) → list_any p xs ≡ nat_lt 0 (count_by p xs)
+any_counts p xs = any_weighs p xs ∙ ap (nat_lt 0) (sym (count_by-weigh p xs))
 
 either_if : (a b r s : Bool) → (((a || b) || (r || s)) ≡ ((a || r) || (b || s)))
 either_if true b r s = refl
@@ -66,8 +70,8 @@ pub indexed_set : {S T : Type 0} (cs : List Call) (ps : HashMap ℕ ℕ S) (vs :
 indexed_set cs ps vs a b a' b' i c d k h e f x y = record {
   numbered = λ n. k.numbered n ∙ sym (position_set n cs i c d h e);
   valued = λ v. k.valued v ∙ sym (value_set v cs i c d h f);
-  shared = (let w = weigh-set (λ (c : Call). one_if (holds_shared c.state.phase)) cs i c d h in let s = k.shared in omega arith);
-  owned = (let w = weigh-set (λ (c : Call). one_if (holds_owned c.state.phase)) cs i c d h in let s = k.owned in omega arith);
+  shared = (let w = weigh-set (λ (c : Call). one_if (holds_shared c.state.phase)) cs i c d h in let s = k.shared in omega (arith, count_by-weigh (λ (c : Call). holds_shared c.state.phase) cs, count_by-weigh (λ (c : Call). holds_shared c.state.phase) (slice_set cs i d)));
+  owned = (let w = weigh-set (λ (c : Call). one_if (holds_owned c.state.phase)) cs i c d h in let s = k.owned in omega (arith, count_by-weigh (λ (c : Call). holds_owned c.state.phase) cs, count_by-weigh (λ (c : Call). holds_owned c.state.phase) (slice_set cs i d)));
 }
 
 -- a call with another list
@@ -93,18 +97,9 @@ locked_first cs ps vs a b k h = let e : nat_lt 0 a ≡ true = lt-ltb 0 a h in e 
 pub locked_second : {S T : Type 0} (cs : List Call) (ps : HashMap ℕ ℕ S) (vs : HashSet ℕ T) (a b : ℕ) → IsIndexed cs ps vs a b → a ≤ 0 → nat_lt 0 b ≡ is_locked cs
 locked_second cs ps vs a b k h = let e : nat_lt 0 a ≡ false = le-ltb 0 a h in sym (locked_counts cs ps vs a b k ∙ ap (λ t. t || nat_lt 0 b) e)
 
-one_le : (b : Bool) → one_if b ≤ 1
-one_le true = omega arith
-one_le false = omega arith
-
--- no more pass than there are
-pub ones_within : {X : Type 0} (p : X → Bool) (xs : List X) → weigh (λ x. one_if (p x)) xs ≤ length xs
-ones_within p [] = omega arith
-ones_within p (x ∷ xs) = omega (arith, one_le (p x), ones_within p xs)
-
 -- one that passes is counted
-pub counted_among : {X : Type 0} (p : X → Bool) (xs : List X) (n i : ℕ) (x : X) (b : Bool) → n ≡ weigh (λ x. one_if (p x)) xs → slice_get xs i ≡ Some x → b ≡ p x → one_if b ≤ n
-counted_among p xs n i x b e h f = rw (e, f) (weigh-get (λ x. one_if (p x)) xs i x h)
+pub counted_among : {X : Type 0} (p : X → Bool) (xs : List X) (n i : ℕ) (x : X) (b : Bool) → n ≡ count_by p xs → slice_get xs i ≡ Some x → b ≡ p x → one_if b ≤ n
+counted_among p xs n i x b e h f = rw (e, f) (rw (count_by-weigh p xs) (weigh-get (λ x. one_if (p x)) xs i x h))
 
 none_parts : (b : Bool) (o : Option ℕ) → (if b then Some 0 else option_map (λ i. suc i) o) ≡ None → (b ≡ false) × (o ≡ None)
 none_parts true o h = absurd (cc)
@@ -149,6 +144,6 @@ pub indexed_push : {S T : Type 0} (cs : List Call) (ps ps' : HashMap ℕ ℕ S) 
 indexed_push cs ps ps' vs vs' a b c k u s o x y = record {
   numbered = λ n. x n ∙ ap (cond (c.number == n) (Some (length cs))) (k.numbered n) ∙ sym (position_push n cs c (unused_position _ (sym (used_position c.number cs) ∙ u)));
   valued = λ v. y v ∙ ap (λ r. is_value v c.value || r) (k.valued v) ∙ sym (value_push v cs c);
-  shared = (let e : one_if (holds_shared c.state.phase) ≡ 0 = ap one_if s in let w = weigh-append (λ (c : Call). one_if (holds_shared c.state.phase)) cs (c ∷ []) in let z = k.shared in omega arith);
-  owned = (let e : one_if (holds_owned c.state.phase) ≡ 0 = ap one_if o in let w = weigh-append (λ (c : Call). one_if (holds_owned c.state.phase)) cs (c ∷ []) in let z = k.owned in omega arith);
+  shared = (let e : one_if (holds_shared c.state.phase) ≡ 0 = ap one_if s in let w = weigh-append (λ (c : Call). one_if (holds_shared c.state.phase)) cs (c ∷ []) in let z = k.shared in omega (arith, count_by-weigh (λ (c : Call). holds_shared c.state.phase) cs, count_by-weigh (λ (c : Call). holds_shared c.state.phase) (cs ++ c ∷ [])));
+  owned = (let e : one_if (holds_owned c.state.phase) ≡ 0 = ap one_if o in let w = weigh-append (λ (c : Call). one_if (holds_owned c.state.phase)) cs (c ∷ []) in let z = k.owned in omega (arith, count_by-weigh (λ (c : Call). holds_owned c.state.phase) cs, count_by-weigh (λ (c : Call). holds_owned c.state.phase) (cs ++ c ∷ [])));
 }

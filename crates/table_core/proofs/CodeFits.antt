@@ -17,8 +17,9 @@ use Rattle.table_core.specs.declared.call.CallState.{CallState}
 use Rattle.table_core.specs.declared.call.Phase.{Phase}
 use Rattle.table_core.specs.declared.call.Phase.TheVariants.{Probe, AtEmpty, Placed, AskSize, LookProbe, LenSize, WalkAt}
 use Rattle.table_core.specs.declared.call.Answer.{Answer}
+use Rattle.table_core.specs.Bound.{one_if}
 use Rattle.table_core.proofs.Facts.{Inv, AllSeated, Tracked, Walking, probing, measuring, is_walking, SizesOk, placers, is_placed}
-use Rattle.table_core.proofs.Lists.{tally, weigh-get}
+use Rattle.table_core.proofs.Lists.{weigh-get}
 use Rattle.table_core.proofs.Standing.{IsLast, CallOk}
 use Rattle.table_core.proofs.Contents.{nothing_built, stand_at}
 use Rattle.table_core.proofs.Seats.{first_empty_way, copy_room}
@@ -86,7 +87,7 @@ uncounted w i c h p k z g e =
     let y : slice_get w.table.gens l.0 ≡ Some g = rw l.1 at e in
     let n : length w.table.gens - 1 ≡ l.0 = omega (arith, l.2) in
     let q : current w.table ≡ Some g = rw n y in
-    let one : tally (is_placed c.state.phase) ≤ placers w.calls = weigh-get (λ (c : Call). tally (is_placed c.state.phase)) w.calls i c h in
+    let one : one_if (is_placed c.state.phase) ≤ placers w.calls = weigh-get (λ (c : Call). one_if (is_placed c.state.phase)) w.calls i c h in
     let o : 1 ≤ placers w.calls = rw p at one in
     omega (arith, z.counted g q)
 

@@ -1,6 +1,6 @@
 -- The generations of a table, as the code keeps them.
 use Rattle.std.proofs.Common.{ℕ, suc, zero, ◌≡◌, ◌+◌, ◌-◌, ◌*◌, ◌/◌, ◌^◌, ◌<◌, ◌≤◌, ◌++◌, ◌⊎◌, List, [], ◌∷◌, Bool, true, false, refl, Option, Some, None, length, ap, arith, ltb, ◌∙◌, inl, inr}
-use Rattle.std.specs.Prelude.{◌==◌, if◌then◌else◌, slice_set, option_to_list, not}
+use Rattle.std.specs.Prelude.{◌==◌, if◌then◌else◌, slice_set, option_to_list, not, sum_by}
 use Rattle.std.specs.List.{slice_get}
 use Rattle.std.proofs.lemmas.Nat.{pow_pos}
 use Rattle.std.proofs.lemmas.Option.{slice_get_within}
@@ -8,7 +8,7 @@ use Rattle.std.proofs.Math.Nat.{pow-le-pow_right, pow-suc}
 use Rattle.std.proofs.lemmas.Bool.{cases_eq, cases_order, eq-eqb}
 use Rattle.table_core.specs.Machine.{checked}
 use Rattle.table_core.specs.declared.call.Answer.TheVariants.{Begun, Unwanted, Failed}
-use Rattle.table_core.specs.Bags.{weigh}
+use Rattle.table_core.proofs.Weights.{weigh, sum_by-weigh}
 use Rattle.table_core.specs.Generations.{Gen, last_of, change, change_at, next_copied, next_capacity, fresh}
 use Rattle.table_core.specs.Bound.{Doubles, capacities, build_of}
 use Rattle.terms.specs.Capacities.{IsFirstCapacity, IsCapacity}
@@ -51,8 +51,9 @@ pub first_capacity : (f : ℕ) → IsFirstCapacity f → IsCapacity f
 first_capacity f h = (h.0.0, h.0.1, small_exponent h.0.0 f h.0.1 h.2)
 
 -- all buckets together fit
-pub table_fits : (f : ℕ) (gens : List Gen) (growing : Option Gen) (source : List Entry) → IsTable f gens growing source → weigh (λ (g : Gen). g.capacity) gens + weigh (λ (g : Gen). g.capacity) (option_to_list growing) < 2 ^ 64
-table_fits f gens growing source t = rw (← capacities_sum gens growing) (doubles_fit f _ (first_is f t.allowed) t.doubles)
+pub table_fits : (f : ℕ) (gens : List Gen) (growing : Option Gen) (source : List Entry) → IsTable f gens growing source → sum_by (λ (g : Gen). g.capacity) gens + sum_by (λ (g : Gen). g.capacity) (option_to_list growing) < 2 ^ 64
+table_fits f gens growing source t =
+    omega (arith, capacities_sum gens growing, doubles_fit f _ (first_is f t.allowed) t.doubles, sum_by-weigh (λ (g : Gen). g.capacity) gens, sum_by-weigh (λ (g : Gen). g.capacity) (option_to_list growing))
 
 twice_pow : (k : ℕ) → 2 * 2 ^ k ≡ 2 ^ suc k
 twice_pow k = omega (arith, pow-suc 2 k)

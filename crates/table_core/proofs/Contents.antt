@@ -2,7 +2,7 @@
 use Rattle.std.proofs.Common.{eqb-true, ℕ, suc, zero, ◌≡◌, ◌+◌, ◌-◌, ◌<◌, ◌≤◌, ◌++◌, ◌⊎◌, inl, inr, List, [], ◌∷◌, Bool, true, false, refl, Option, Some, None, length, ap, arith, eqb, take, ◌∙◌}
 use Rattle.std.specs.Prelude.{nat_lt, if◌then◌else◌, option_to_list}
 use Rattle.std.specs.List.{slice_get}
-use Rattle.table_core.specs.Bags.{weigh}
+use Rattle.table_core.proofs.Weights.{weigh}
 use Rattle.table_core.specs.Replies.{Reply, Finished}
 use Rattle.table_core.specs.Generations.{Gen, Build, Table, bucket, put_in, first_empty, fresh, fill, count, copy_in, last_of, current, change_at, change, next_capacity, entries_of, entry_left, next_copied, copy_on, built}
 use Rattle.terms.specs.Hashes.{bits_of}
@@ -16,11 +16,12 @@ use Rattle.table_core.specs.declared.call.CallState.{CallState}
 use Rattle.table_core.specs.declared.call.Phase.{Phase}
 use Rattle.table_core.specs.declared.call.Phase.TheVariants.{AtEmpty, Placed}
 use Rattle.table_core.specs.declared.call.Answer.{Answer}
-use Rattle.table_core.proofs.Lists.{weigh-append, weigh-get, get-set_same, get-set_other, get-push_before, get-push_last, tally, length-push, weigh-take_more}
+use Rattle.table_core.proofs.Lists.{weigh-append, weigh-get, get-set_same, get-set_other, get-push_before, get-push_last, length-push, weigh-take_more}
 use Rattle.table_core.proofs.Locks.{Locked, nobody, alone, sharers, built_count, more}
 use Rattle.std.proofs.Common.{add-one}
 use Rattle.std.proofs.lemmas.Bool.{eq-eqb}
 use Rattle.std.specs.Option.{is_some}
+use Rattle.table_core.specs.Bound.{one_if}
 use Rattle.table_core.proofs.Turns.{Turn, rests, opens, takes}
 use Rattle.table_core.proofs.Pasts.{append-none}
 use Rattle.table_core.proofs.Standing.{fitting, stands, IsLast, CallOk, CallsOk, length-change}
@@ -196,7 +197,7 @@ not_built (Some b) h = absurd (omega arith)
 -- a call that shares the lock: nothing is being built
 pub nothing_built : (w : World) → Locked w → (i : ℕ) (c : Call) → slice_get w.calls i ≡ Some c → holds_shared c.state.phase ≡ true → w.table.building ≡ None
 nothing_built w l i c h e =
-    let b : tally (holds_shared c.state.phase) ≤ sharers w.calls = weigh-get (λ (c : Call). tally (holds_shared c.state.phase)) w.calls i c h in
+    let b : one_if (holds_shared c.state.phase) ≤ sharers w.calls = weigh-get (λ (c : Call). one_if (holds_shared c.state.phase)) w.calls i c h in
     let b1 : 1 ≤ sharers w.calls = rw e at b in
     elim l.alone [ nobody x y z ↦ not_built w.table.building (omega (arith, l.building)) | alone x y z q ↦ absurd (omega arith) ]
 

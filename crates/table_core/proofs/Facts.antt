@@ -2,7 +2,7 @@
 use Rattle.std.proofs.Common.{ℕ, ◌≡◌, ◌+◌, ◌*◌, ◌<◌, ◌≤◌, ◌⊎◌, List, [], ◌∷◌, Bool, true, false, Some, None, length, take}
 use Rattle.std.specs.Prelude.{◌==◌}
 use Rattle.std.specs.List.{slice_get}
-use Rattle.table_core.specs.Bags.{weigh}
+use Rattle.table_core.proofs.Weights.{weigh}
 use Rattle.table_core.specs.Replies.{Finished}
 use Rattle.table_core.specs.Generations.{Gen, Build, Table, bucket, current, gen_of, bucket_in, entries_of}
 use Rattle.terms.specs.Hashes.{bits_of}
@@ -15,9 +15,9 @@ use Rattle.table_core.specs.declared.call.Phase.{Phase}
 use Rattle.table_core.specs.declared.call.Phase.TheVariants.{Probe, AtEmpty, Placed, LeaveOk, LeaveGrow, AskSize, WantOwned, Owned, Building, LeaveOwned, LeaveFailed, LookProbe, LenLoad, LenSize, WalkLoad, WalkAt, Done}
 use Rattle.table_core.specs.declared.call.Outcome.{Outcome}
 use Rattle.table_core.specs.declared.call.Outcome.TheVariants.{Pending, New, Existing}
-use Rattle.table_core.proofs.Lists.{tally}
 use Rattle.table_core.proofs.Locks.{Locked}
 use Rattle.table_core.specs.Law.{Law, accepts}
+use Rattle.table_core.specs.Bound.{one_if}
 use Rattle.table_core.proofs.Standing.{CallsOk}
 
 -- What the generations hold
@@ -56,7 +56,7 @@ pub record AllGrew (gens now : List Gen) : Type 0 where
 pub record Seated (g : Gen) : Type 0 where
   pub roomy : 0 < g.capacity
   pub own : (e : Entry) → In e g.entries → bucket g.entries e.index ≡ Some e
-  pub once : (i : ℕ) → weigh (λ e. tally (e.index == i)) g.entries ≤ 1
+  pub once : (i : ℕ) → weigh (λ e. one_if (e.index == i)) g.entries ≤ 1
   pub below : (e : Entry) → In e g.entries → e.index < g.capacity
 
 pub record AllSeated (w : World) : Type 0 where
@@ -72,7 +72,7 @@ is_placed _ = false
 
 -- the calls whose value isn't counted yet
 abbrev pub placers : List Call → ℕ
-placers cs = weigh (λ c. tally (is_placed c.state.phase)) cs
+placers cs = weigh (λ c. one_if (is_placed c.state.phase)) cs
 
 -- a size is the number of entries less those that aren't counted yet
 pub record SizesOk (w : World) : Type 0 where

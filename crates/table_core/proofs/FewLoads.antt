@@ -2,7 +2,7 @@
 use Rattle.std.proofs.Common.{ℕ, suc, ◌≡◌, ◌+◌, ◌-◌, ◌/◌, ◌<◌, ◌≤◌, ◌++◌, ◌⊎◌, inl, inr, List, [], ◌∷◌, Bool, true, false, refl, Option, Some, None, length, sym, subst, ap, arith, ◌∙◌}
 use Rattle.std.specs.Prelude.{◌==◌, nat_lt}
 use Rattle.std.specs.List.{slice_get}
-use Rattle.table_core.specs.Bags.{count_of}
+use Rattle.table_core.proofs.Weights.{count_of, count_by-count_of}
 use Rattle.table_core.specs.Replies.{Reply, Finished}
 use Rattle.table_core.specs.Generations.{Gen, Build, Table, count, current, is_current}
 use Rattle.table_core.specs.Calls.{Call, starts, holds_owned, is_pending}
@@ -17,11 +17,12 @@ use Rattle.table_core.specs.declared.call.Outcome.{Outcome}
 use Rattle.table_core.specs.declared.call.Outcome.TheVariants.{Pending, New, Existing}
 use Rattle.table_core.specs.declared.call.Answer.{Answer}
 use Rattle.table_core.specs.declared.call.Answer.TheVariants.{Loaded}
-use Rattle.table_core.proofs.Lists.{weigh-append, weigh-get, get-set, get-push, tally, length-push}
+use Rattle.table_core.proofs.Lists.{weigh-append, weigh-get, get-set, get-push, length-push}
 use Rattle.table_core.proofs.Locks.{Locked, builders, is_building, built_count}
 use Rattle.std.proofs.lemmas.Bool.{eq-eqb, ltb-true, cases_eq}
 use Rattle.std.proofs.lemmas.Option.{slice_get_within}
 use Rattle.table_core.specs.Values.{LoadsOnce}
+use Rattle.table_core.specs.Bound.{one_if}
 use Rattle.table_core.proofs.Turns.{Turn, rests, opens, takes}
 use Rattle.table_core.proofs.Facts.{Tracked, Turned, wants_growth, SizesOk, placers, Inv}
 use Rattle.table_core.proofs.Standing.{last_number, length-place, length-change, pending_of}
@@ -103,7 +104,7 @@ some_built o (Some b) e h = (b, e)
 -- a builder builds something
 building_there : (w : World) (i : ℕ) (c : Call) → Locked w → slice_get w.calls i ≡ Some c → c.state.phase ≡ Building → (b : Build) × (w.table.building ≡ Some b)
 building_there w i c l h e =
-    let b : tally (is_building c.state.phase) ≤ builders w.calls = weigh-get (λ (c : Call). tally (is_building c.state.phase)) w.calls i c h in
+    let b : one_if (is_building c.state.phase) ≤ builders w.calls = weigh-get (λ (c : Call). one_if (is_building c.state.phase)) w.calls i c h in
     let b1 : 1 ≤ builders w.calls = rw e at b in
     some_built w.table.building w.table.building refl (omega (arith, l.building))
 
@@ -232,4 +233,6 @@ module _ (f : ℕ) (inv : (s : List Event) → Inv (after f s) (placed (empty f)
   ]
 
   pub loads_once : (s : List Event) (n g : ℕ) → LoadsOnce f s n g
-  loads_once s n g = by_snoc (λ s. count_of g (generations_loaded (empty f) s n) ≤ 1) (omega arith) (λ s x one. once_turn s x n g (turn_after f s x) refl one) s
+  loads_once s n g =
+      let few : count_of g (generations_loaded (empty f) s n) ≤ 1 = by_snoc (λ s. count_of g (generations_loaded (empty f) s n) ≤ 1) (omega arith) (λ s x one. once_turn s x n g (turn_after f s x) refl one) s in
+      omega (arith, few, count_by-count_of g (generations_loaded (empty f) s n))

@@ -1,7 +1,7 @@
 -- One invariant over whole schedules.
 use Rattle.std.proofs.Common.{ℕ, ◌≡◌, ◌+◌, ◌++◌, List, [], ◌∷◌, refl, Option, Some, length, ap, arith, ◌∙◌}
 use Rattle.std.specs.Prelude.{option_to_list, slice_set}
-use Rattle.table_core.specs.Bags.{weigh, SameBag}
+use Rattle.table_core.proofs.Weights.{weigh, SameWeights, same_bag}
 use Rattle.table_core.specs.Calls.{Call, starts}
 use Rattle.table_core.specs.Steps.{left, Opens, opens_insert, opens_lookup, opens_len, opens_walk}
 use Rattle.table_core.proofs.Lists.{weigh-append, weigh-set, weigh-flat_map}
@@ -96,14 +96,20 @@ given_is_carried : (h : ℕ → ℕ) (f : ℕ) (s : List Event) → weigh h (giv
 given_is_carried h f s = by_snoc (λ s. weigh h (given (empty f) s) ≡ weigh h (carried (after f s).calls)) refl
     (λ s x e. omega (arith, e, given_append h s (x ∷ []) (empty f), weigh-append h (given_by (acts (after f s) x) x) [], carried_turn h (turn_after f s x))) s
 
-pub carried_stay : (f : ℕ) (s : List Event) → IsFirstCapacity f → SameBag (carried (after f s).calls) (back (replies (empty f) s) ++ kept (after f s) ++ running (after f s).calls)
+pub carried_stay : (f : ℕ) (s : List Event) → IsFirstCapacity f → SameWeights (carried (after f s).calls) (back (replies (empty f) s) ++ kept (after f s) ++ running (after f s).calls)
 carried_stay f s h = let i = inv f h s in values_stay_at (after f s) (placed (empty f) s) (replies (empty f) s) i.calls i.holding i.placing
 
+pub values_weigh : (f : ℕ) (s : List Event) → IsFirstCapacity f → SameWeights (given (empty f) s) (back (replies (empty f) s) ++ kept (after f s) ++ running (after f s).calls)
+values_weigh f s h k = given_is_carried k f s ∙ carried_stay f s h k
+
 pub values_stay : (f : ℕ) (s : List Event) → IsFirstCapacity f → ValuesStay f s
-values_stay f s h k = given_is_carried k f s ∙ carried_stay f s h k
+values_stay f s h = same_bag _ _ (values_weigh f s h)
+
+pub kept_weighs : (f : ℕ) (s : List Event) → IsFirstCapacity f → SameWeights (kept (after f s)) (placed (empty f) s)
+kept_weighs f s h = kept_is_placed_at (after f s) (placed (empty f) s) (inv f h s).holding
 
 pub kept_is_placed : (f : ℕ) (s : List Event) → IsFirstCapacity f → KeptIsPlaced f s
-kept_is_placed f s h = kept_is_placed_at (after f s) (placed (empty f) s) (inv f h s).holding
+kept_is_placed f s h = same_bag _ _ (kept_weighs f s h)
 
 pub placed_grows : (f : ℕ) (s more : List Event) → IsFirstCapacity f → PlacedGrows f s more
 placed_grows f s more h = (placed (after f s) more, placed_append s more (empty f))

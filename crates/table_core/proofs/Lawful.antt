@@ -2,7 +2,7 @@
 use Rattle.std.proofs.Common.{ℕ, suc, ◌≡◌, ◌+◌, ◌-◌, ◌%◌, ◌<◌, ◌≤◌, ◌++◌, inl, inr, List, [], ◌∷◌, Bool, true, false, refl, Option, Some, None, length, sym, subst, ap, arith, eqb, ◌∙◌}
 use Rattle.std.specs.Prelude.{◌==◌, ◌&&◌, nat_lt, option_to_list}
 use Rattle.std.specs.List.{slice_get}
-use Rattle.table_core.specs.Bags.{weigh}
+use Rattle.table_core.proofs.Weights.{weigh, count_by-weigh}
 use Rattle.table_core.specs.Replies.{Reply, Finished}
 use Rattle.table_core.specs.Generations.{Gen, Build, Table, bucket, put_in, first_empty, fresh, fill, count, copy_in, last_of, current, gen_of, bucket_in, change_at, change, next_capacity, entries_of, entry_left, copy_on, built}
 use Rattle.terms.specs.Hashes.{bits_of}
@@ -27,7 +27,8 @@ use Rattle.std.proofs.Math.Nat.{mod-lt, add-mod-mod}
 use Rattle.std.specs.Option.{is_some}
 use Rattle.table_core.specs.Law.{Law, AsksBy, CopiesBy, UsesBy, OpensBy, ActsBy, RunsBy, IsLawful}
 use Rattle.table_core.specs.Law.{accepts}
-use Rattle.table_core.specs.Lists.{passes as one_if, AllApart, PlacedApart}
+use Rattle.table_core.specs.Bound.{one_if}
+use Rattle.table_core.specs.Lists.{PlacedApart}
 use Rattle.table_core.proofs.Turns.{Turn, rests, opens, takes}
 use Rattle.table_core.proofs.Pasts.{append-none, turn_after, placed_snoc, by_snoc}
 use Rattle.table_core.proofs.Standing.{fitting, stands, CallOk}
@@ -426,31 +427,41 @@ passes_le true true f = omega arith
 passes_le true false f = absurd (let x : false ≡ true = f refl in cc)
 passes_le false b f = omega arith
 
+-- no two values of a list are equal, by weights
+abbrev pub Apart : (ℕ → ℕ → Bool) → List ℕ → Type 0
+Apart equal m = (x : ℕ) → weigh (λ v. one_if (equal x v)) m ≤ 1
+
 pub apart_more_at : (l : Law) (m : List ℕ) (v x : ℕ) (b : Bool) → l.equal x v ≡ b → weigh (λ u. one_if (l.equal v u)) m ≡ 0 → weigh (λ u. one_if (l.equal x u)) m ≤ 1 → weigh (λ u. one_if (l.equal x u)) m + (one_if b + 0) ≤ 1
 apart_more_at l m v x false h z o = omega arith
 apart_more_at l m v x true h z o = omega (arith, weigh-le (λ u. one_if (l.equal x u)) (λ u. one_if (l.equal v u)) (λ u. passes_le (l.equal x u) (l.equal v u) (λ q. l.transitive v x u (l.symmetric x v h) q)) m)
 
-pub apart_more : (l : Law) (m : List ℕ) (v : ℕ) → weigh (λ u. one_if (l.equal v u)) m ≡ 0 → AllApart l.equal m → AllApart l.equal (m ++ v ∷ [])
+pub apart_more : (l : Law) (m : List ℕ) (v : ℕ) → weigh (λ u. one_if (l.equal v u)) m ≡ 0 → Apart l.equal m → Apart l.equal (m ++ v ∷ [])
 apart_more l m v z o x = rw weigh-append (apart_more_at l m v x (l.equal x v) refl z (o x))
 
-pub apart_place : (l : Law) (w : World) (m : List ℕ) (rs : List Finished) (i : ℕ) (c : Call) (v : Option ℕ) → c.value ≡ v → weigh (λ u. one_if (accepts l c u)) m ≡ 0 → AllApart l.equal m → AllApart l.equal (m ++ option_to_list v)
+pub apart_place : (l : Law) (w : World) (m : List ℕ) (rs : List Finished) (i : ℕ) (c : Call) (v : Option ℕ) → c.value ≡ v → weigh (λ u. one_if (accepts l c u)) m ≡ 0 → Apart l.equal m → Apart l.equal (m ++ option_to_list v)
 apart_place l w m rs i c None e z q = rw append-none q
 apart_place l w m rs i c (Some v) e z q = apart_more l m v (rw e at z) q
 
-pub apart_row : (l : Law) (w : World) (m : List ℕ) (rs : List Finished) (i : ℕ) (c : Call) {p : Phase} {x : Event} {a : Answer} {r : CallState} {ls : List ℕ} {t : Table} {q : Option Reply} → Row w c p x a r ls t q → c.state.phase ≡ p → slice_get w.calls i ≡ Some c → Inv w m rs → LawOk l w → AllApart l.equal m → AllApart l.equal (m ++ placed_by (Some (Goes c a)))
+pub apart_row : (l : Law) (w : World) (m : List ℕ) (rs : List Finished) (i : ℕ) (c : Call) {p : Phase} {x : Event} {a : Answer} {r : CallState} {ls : List ℕ} {t : Table} {q : Option Reply} → Row w c p x a r ls t q → c.state.phase ≡ p → slice_get w.calls i ≡ Some c → Inv w m rs → LawOk l w → Apart l.equal m → Apart l.equal (m ++ placed_by (Some (Goes c a)))
 apart_row l w m rs i c (puts _ _ n) e g v o q = apart_place l w m rs i c c.value refl (fresh_value l w m rs i c g n (ap probing e) (ap stands e) (ap is_asking e) v o) q
 apart_row l w m rs i c (shares _ _) e g v o q = rw append-none q
 apart_row l w m rs i c _ e g v o q = rw append-none q
 
-pub keeps_apart : (l : Law) {w v : World} {x : Event} {a : Option Act} {r : Option Finished} (m : List ℕ) (rs : List Finished) → Turn w x a v r → Inv w m rs → LawOk l w → AllApart l.equal m → AllApart l.equal (m ++ placed_by a)
+pub keeps_apart : (l : Law) {w v : World} {x : Event} {a : Option Act} {r : Option Finished} (m : List ℕ) (rs : List Finished) → Turn w x a v r → Inv w m rs → LawOk l w → Apart l.equal m → Apart l.equal (m ++ placed_by a)
 keeps_apart l m rs rests k o q = rw append-none q
 keeps_apart l m rs (opens _ _ _ _ _ _ _ _) k o q = rw append-none q
 keeps_apart l {w = w} m rs (takes i c p a s list t o g e row nu) k z q = apart_row l w m rs i c row e g k z q
 
-pub apart_snoc : (l : Law) (f : ℕ) → IsFirstCapacity f → (s : List Event) (x : Event) → PlacedApart l f s → PlacedApart l f (s ++ x ∷ [])
+abbrev pub PlacedOnce : Law → ℕ → List Event → Type 0
+PlacedOnce l f s = IsLawful l f s → Apart l.equal (placed (empty f) s)
+
+apart_snoc : (l : Law) (f : ℕ) → IsFirstCapacity f → (s : List Event) (x : Event) → PlacedOnce l f s → PlacedOnce l f (s ++ x ∷ [])
 apart_snoc l f h s x k u =
     let b = lawful_before l s (x ∷ []) (empty f) u in
     rw (placed_snoc f s x) (keeps_apart l (placed (empty f) s) (replies (empty f) s) (turn_after f s x) (inv f h s) (law_after l f h s b) (k b))
 
+pub placed_once_each : (l : Law) (f : ℕ) (s : List Event) → IsFirstCapacity f → PlacedOnce l f s
+placed_once_each l f s h = by_snoc (PlacedOnce l f) (λ u x. omega arith) (apart_snoc l f h) s
+
 pub placed_apart : (l : Law) (f : ℕ) (s : List Event) → IsFirstCapacity f → PlacedApart l f s
-placed_apart l f s h = by_snoc (PlacedApart l f) (λ u x. omega arith) (apart_snoc l f h) s
+placed_apart l f s h u x = omega (arith, placed_once_each l f s h u x, count_by-weigh (l.equal x) (placed (empty f) s))

@@ -16,7 +16,7 @@ use Rattle.table_core.specs.declared.call.Phase.TheVariants.{LenSize}
 use Rattle.table_core.specs.declared.call.Outcome.{Outcome}
 use Rattle.table_core.specs.declared.call.Outcome.TheVariants.{Pending, New, Existing}
 use Rattle.table_core.specs.declared.call.Answer.{Answer}
-use Rattle.table_core.proofs.Lists.{get-set, get-push, tally, weigh-ones}
+use Rattle.table_core.proofs.Lists.{get-set, get-push, weigh-ones}
 use Rattle.table_core.proofs.Locks.{moved, more}
 use Rattle.std.specs.Option.{is_some}
 use Rattle.table_core.specs.Values.{IsBetween, LengthsBetween}
@@ -28,16 +28,17 @@ use Rattle.table_core.proofs.Sizes.{one_value, begin_placed}
 use Rattle.table_core.proofs.Pasts.{turn_after, placed_snoc, added_snoc, by_snoc, taken_now, taken_later}
 use Rattle.table_core.proofs.Counted.{placed_are_counted}
 use Rattle.std.proofs.lemmas.List.{length-append}
+use Rattle.table_core.specs.Bound.{one_if}
 
 -- a value that is placed is counted by an add, or its call has still to count it
-row_added : (w : World) (c : Call) {p : Phase} {x : Event} {a : Answer} {r : CallState} {ls : List ℕ} {t : Table} {q : Option Reply} → Row w c p x a r ls t q → fitting (is_some c.value) p c.state.outcome ≡ true → added_by (Some (Goes c a)) + tally (is_placed r.phase) ≡ tally (is_placed p) + length (placed_by (Some (Goes c a)))
+row_added : (w : World) (c : Call) {p : Phase} {x : Event} {a : Answer} {r : CallState} {ls : List ℕ} {t : Table} {q : Option Reply} → Row w c p x a r ls t q → fitting (is_some c.value) p c.state.outcome ≡ true → added_by (Some (Goes c a)) + one_if (is_placed r.phase) ≡ one_if (is_placed p) + length (placed_by (Some (Goes c a)))
 row_added w c (puts n y h) f = omega (arith, one_value c.value c.state.outcome f)
 row_added w c _ f = refl
 
 turn_added : {w v : World} {x : Event} {a : Option Act} {r : Option Finished} → Turn w x a v r → CallsOk w → added_by a + placers v.calls ≡ placers w.calls + length (placed_by a)
 turn_added rests k = omega arith
-turn_added {w = w} (opens n v p h ra o u f) k = omega (arith, more (λ p. tally (is_placed p)) w.calls (starts n v p h), begin_placed o)
-turn_added {w = w} (takes i c p a s list t o g e row nu) k = omega (arith, moved (λ p. tally (is_placed p)) w.calls i c p list s g e, row_added w c row (fit_at c _ p (k.at i c g) e))
+turn_added {w = w} (opens n v p h ra o u f) k = omega (arith, more (λ p. one_if (is_placed p)) w.calls (starts n v p h), begin_placed o)
+turn_added {w = w} (takes i c p a s list t o g e row nu) k = omega (arith, moved (λ p. one_if (is_placed p)) w.calls i c p list s g e, row_added w c row (fit_at c _ p (k.at i c g) e))
 
 module _ (f : ℕ) (inv : (s : List Event) → Inv (after f s) (placed (empty f) s) (replies (empty f) s)) where
   -- the adds taken and those still due make what was placed

@@ -6,6 +6,7 @@ mod CodeTable
 mod CodeCalls
 mod CodeEntries
 mod CodeRuns
+mod Weights
 mod Lists
 mod Rows
 mod Exact

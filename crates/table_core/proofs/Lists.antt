@@ -2,7 +2,8 @@
 use Rattle.std.proofs.Common.{ℕ, suc, zero, ◌≡◌, ◌+◌, ◌≤◌, ◌++◌, ◌⊎◌, inl, inr, List, [], ◌∷◌, Bool, true, false, refl, Some, length, ap, arith, take}
 use Rattle.std.specs.Prelude.{slice_set, map}
 use Rattle.std.specs.List.{slice_get, list_any, flat_map}
-use Rattle.table_core.specs.Bags.{weigh}
+use Rattle.table_core.specs.Bound.{one_if}
+use Rattle.table_core.proofs.Weights.{weigh}
 use Rattle.table_core.proofs.Truth.{or-false}
 
 pub weigh-append : {X : Type 0} (f : X → ℕ) (xs ys : List X) → weigh f (xs ++ ys) ≡ weigh f xs + weigh f ys
@@ -66,14 +67,9 @@ pub get-push_last : {X : Type 0} (xs : List X) (y : X) → slice_get (xs ++ y �
 get-push_last [] y = refl
 get-push_last (x ∷ xs) y = get-push_last xs y
 
--- the number of passes of a test
-abbrev pub tally : Bool → ℕ
-tally true = 1
-tally false = 0
-
-pub none-tally : {X : Type 0} (p : X → Bool) (xs : List X) → list_any p xs ≡ false → weigh (λ x. tally (p x)) xs ≡ 0
-none-tally p [] h = refl
-none-tally p (x ∷ xs) h = let k : (p x ≡ false) × (list_any p xs ≡ false) = or-false _ _ h in omega (arith, ap tally k.0, none-tally p xs k.1)
+pub none_counted : {X : Type 0} (p : X → Bool) (xs : List X) → list_any p xs ≡ false → weigh (λ x. one_if (p x)) xs ≡ 0
+none_counted p [] h = refl
+none_counted p (x ∷ xs) h = let k : (p x ≡ false) × (list_any p xs ≡ false) = or-false _ _ h in omega (arith, ap one_if k.0, none_counted p xs k.1)
 
 pub weigh-plus : {X : Type 0} (f g k : X → ℕ) → ((x : X) → f x ≡ g x + k x) → (xs : List X) → weigh f xs ≡ weigh g xs + weigh k xs
 weigh-plus f g k e [] = refl
@@ -87,12 +83,12 @@ pub weigh-ones : {X : Type 0} (xs : List X) → weigh (λ x. 1) xs ≡ length xs
 weigh-ones [] = refl
 weigh-ones (x ∷ xs) = omega (arith, weigh-ones xs)
 
-pub false_of : (b : Bool) → tally b ≡ 0 → b ≡ false
+pub false_of : (b : Bool) → one_if b ≡ 0 → b ≡ false
 false_of false h = refl
 false_of true h = absurd (omega arith)
 
-pub zero-each : {X : Type 0} (p : X → Bool) (xs : List X) (i : ℕ) (x : X) → weigh (λ x. tally (p x)) xs ≡ 0 → slice_get xs i ≡ Some x → p x ≡ false
-zero-each p xs i x z h = let le : tally (p x) ≤ weigh (λ x. tally (p x)) xs = weigh-get (λ x. tally (p x)) xs i x h in false_of (p x) (omega arith)
+pub zero-each : {X : Type 0} (p : X → Bool) (xs : List X) (i : ℕ) (x : X) → weigh (λ x. one_if (p x)) xs ≡ 0 → slice_get xs i ≡ Some x → p x ≡ false
+zero-each p xs i x z h = let le : one_if (p x) ≤ weigh (λ x. one_if (p x)) xs = weigh-get (λ x. one_if (p x)) xs i x h in false_of (p x) (omega arith)
 
 pub length-push : {X : Type 0} (xs : List X) (y : X) → length (xs ++ y ∷ []) ≡ suc (length xs)
 length-push [] y = refl

@@ -2,7 +2,7 @@
 use Rattle.std.proofs.Common.{ℕ, suc, zero, ◌≡◌, ◌+◌, ◌≤◌, ◌++◌, List, [], ◌∷◌, Bool, true, false, refl, Option, Some, None, arith}
 use Rattle.std.specs.Prelude.{◌||◌, slice_set}
 use Rattle.std.specs.List.{slice_get}
-use Rattle.table_core.specs.Bags.{weigh}
+use Rattle.table_core.proofs.Weights.{weigh}
 use Rattle.table_core.specs.Replies.{Reply, Finished}
 use Rattle.table_core.specs.Generations.{Build, Table, copy_on}
 use Rattle.table_core.specs.Calls.{Call, starts, holds_shared, holds_owned, is_owned, is_locked}
@@ -14,8 +14,9 @@ use Rattle.table_core.specs.declared.call.CallState.{CallState}
 use Rattle.table_core.specs.declared.call.Phase.{Phase}
 use Rattle.table_core.specs.declared.call.Phase.TheVariants.{Owned, Building, LeaveOwned, LeaveFailed}
 use Rattle.table_core.specs.declared.call.Answer.{Answer}
+use Rattle.table_core.specs.Bound.{one_if}
 use Rattle.table_core.proofs.Turns.{Turn, rests, opens, takes}
-use Rattle.table_core.proofs.Lists.{weigh-append, weigh-set, tally, none-tally, weigh-plus}
+use Rattle.table_core.proofs.Lists.{weigh-append, weigh-set, none_counted, weigh-plus}
 
 abbrev pub is_owning : Phase → Bool
 is_owning Owned = true
@@ -28,13 +29,13 @@ is_building Building = true
 is_building _ = false
 
 abbrev pub sharers : List Call → ℕ
-sharers cs = weigh (λ c. tally (holds_shared c.state.phase)) cs
+sharers cs = weigh (λ c. one_if (holds_shared c.state.phase)) cs
 
 abbrev pub owners : List Call → ℕ
-owners cs = weigh (λ c. tally (is_owning c.state.phase)) cs
+owners cs = weigh (λ c. one_if (is_owning c.state.phase)) cs
 
 abbrev pub builders : List Call → ℕ
-builders cs = weigh (λ c. tally (is_building c.state.phase)) cs
+builders cs = weigh (λ c. one_if (is_building c.state.phase)) cs
 
 -- nobody holds the lock exclusively, or one call does and no call shares it
 pub data Alone : ℕ → ℕ → Type 0 where
@@ -50,9 +51,9 @@ fewer s o t u a b (nobody _ _ z) = nobody t u (omega arith)
 fewer s o t u a b (alone _ _ z y) = fewer_of t u (omega arith) (omega arith)
 
 pub move_locks : (w : World) (c : Call) {p : Phase} {ev : Event} {a : Answer} {r : CallState} {ls : List ℕ} {t : Table} {q : Option Reply} → Row w c p ev a r ls t q → (x n b x' n' b' : ℕ) →
-    x' + tally (holds_shared p) ≡ x + tally (holds_shared r.phase) →
-    n' + tally (is_owning p) ≡ n + tally (is_owning r.phase) →
-    b' + tally (is_building p) ≡ b + tally (is_building r.phase) →
+    x' + one_if (holds_shared p) ≡ x + one_if (holds_shared r.phase) →
+    n' + one_if (is_owning p) ≡ n + one_if (is_owning r.phase) →
+    b' + one_if (is_building p) ≡ b + one_if (is_building r.phase) →
     (is_owned w.calls ≡ false → n + b ≡ 0) →
     (is_locked w.calls ≡ false → (n + b ≡ 0) × (x ≡ 0)) →
     Alone x (n + b) → Alone x' (n' + b')
@@ -60,18 +61,18 @@ move_locks w c (shares k h) x n b x' n' b' e f g o l al = let z : n + b ≡ 0 = 
 move_locks w c (owns k h) x n b x' n' b' e f g o l al = let z : (n + b ≡ 0) × (x ≡ 0) = l h in alone x' (n' + b') (omega arith) (omega arith)
 move_locks w c _ x n b x' n' b' e f g o l al = fewer x (n + b) x' (n' + b') (omega arith) (omega arith) al
 
-pub owned_split : (p : Phase) → tally (holds_owned p) ≡ tally (is_owning p) + tally (is_building p)
+pub owned_split : (p : Phase) → one_if (holds_owned p) ≡ one_if (is_owning p) + one_if (is_building p)
 owned_split Owned = refl
 owned_split Building = refl
 owned_split LeaveOwned = refl
 owned_split LeaveFailed = refl
 owned_split _ = refl
 
-pub or-zero : (a b : Bool) → tally a ≤ tally (a || b)
+pub or-zero : (a b : Bool) → one_if a ≤ one_if (a || b)
 or-zero true b = omega arith
 or-zero false b = omega arith
 
-pub or-zero_right : (a b : Bool) → tally b ≤ tally (a || b)
+pub or-zero_right : (a b : Bool) → one_if b ≤ one_if (a || b)
 or-zero_right true true = omega arith
 or-zero_right true false = omega arith
 or-zero_right false b = omega arith
@@ -81,15 +82,15 @@ weigh-le f g e [] = omega arith
 weigh-le f g e (x ∷ xs) = omega (arith, e x, weigh-le f g e xs)
 
 pub none_owned : (cs : List Call) → is_owned cs ≡ false → owners cs + builders cs ≡ 0
-none_owned cs h = let z : weigh (λ c. tally (holds_owned c.state.phase)) cs ≡ 0 = none-tally (λ (c : Call). holds_owned c.state.phase) cs h in
-    let e : weigh (λ c. tally (holds_owned c.state.phase)) cs ≡ owners cs + builders cs = weigh-plus _ _ _ (λ (c : Call). owned_split c.state.phase) cs in omega arith
+none_owned cs h = let z : weigh (λ c. one_if (holds_owned c.state.phase)) cs ≡ 0 = none_counted (λ (c : Call). holds_owned c.state.phase) cs h in
+    let e : weigh (λ c. one_if (holds_owned c.state.phase)) cs ≡ owners cs + builders cs = weigh-plus _ _ _ (λ (c : Call). owned_split c.state.phase) cs in omega arith
 
 pub none_locked : (cs : List Call) → is_locked cs ≡ false → (owners cs + builders cs ≡ 0) × (sharers cs ≡ 0)
 none_locked cs h =
-    let z : weigh (λ c. tally (holds_shared c.state.phase || holds_owned c.state.phase)) cs ≡ 0 = none-tally (λ (c : Call). holds_shared c.state.phase || holds_owned c.state.phase) cs h in
-    let a : sharers cs ≤ weigh (λ c. tally (holds_shared c.state.phase || holds_owned c.state.phase)) cs = weigh-le _ _ (λ (c : Call). or-zero (holds_shared c.state.phase) (holds_owned c.state.phase)) cs in
-    let b : weigh (λ c. tally (holds_owned c.state.phase)) cs ≤ weigh (λ c. tally (holds_shared c.state.phase || holds_owned c.state.phase)) cs = weigh-le _ _ (λ (c : Call). or-zero_right (holds_shared c.state.phase) (holds_owned c.state.phase)) cs in
-    let e : weigh (λ c. tally (holds_owned c.state.phase)) cs ≡ owners cs + builders cs = weigh-plus _ _ _ (λ (c : Call). owned_split c.state.phase) cs in
+    let z : weigh (λ c. one_if (holds_shared c.state.phase || holds_owned c.state.phase)) cs ≡ 0 = none_counted (λ (c : Call). holds_shared c.state.phase || holds_owned c.state.phase) cs h in
+    let a : sharers cs ≤ weigh (λ c. one_if (holds_shared c.state.phase || holds_owned c.state.phase)) cs = weigh-le _ _ (λ (c : Call). or-zero (holds_shared c.state.phase) (holds_owned c.state.phase)) cs in
+    let b : weigh (λ c. one_if (holds_owned c.state.phase)) cs ≤ weigh (λ c. one_if (holds_shared c.state.phase || holds_owned c.state.phase)) cs = weigh-le _ _ (λ (c : Call). or-zero_right (holds_shared c.state.phase) (holds_owned c.state.phase)) cs in
+    let e : weigh (λ c. one_if (holds_owned c.state.phase)) cs ≡ owners cs + builders cs = weigh-plus _ _ _ (λ (c : Call). owned_split c.state.phase) cs in
     (omega arith, omega arith)
 
 -- whether a generation is being built
@@ -114,8 +115,8 @@ le_one s o (nobody _ _ z) = omega arith
 le_one s o (alone _ _ z y) = omega arith
 
 pub move_building : (w : World) (c : Call) {p : Phase} {ev : Event} {a : Answer} {r : CallState} {ls : List ℕ} {t : Table} {q : Option Reply} → Row w c p ev a r ls t q → (n b n' b' : ℕ) →
-    n' + tally (is_owning p) ≡ n + tally (is_owning r.phase) →
-    b' + tally (is_building p) ≡ b + tally (is_building r.phase) →
+    n' + one_if (is_owning p) ≡ n + one_if (is_owning r.phase) →
+    b' + one_if (is_building p) ≡ b + one_if (is_building r.phase) →
     n + b ≤ 1 → b ≡ built_count w.table.building →
     b' ≡ built_count t.building
 move_building w c (puts k y h) n b n' b' f g l e = omega (arith, placed_building w.table c.state c.value)
@@ -137,19 +138,19 @@ moved f cs i c p ws r h e = rw (← e) (weigh-set (λ (c : Call). f c.state.phas
 pub more : (f : Phase → ℕ) (cs : List Call) (c : Call) → weigh (λ c. f c.state.phase) (cs ++ c ∷ []) ≡ weigh (λ c. f c.state.phase) cs + f c.state.phase
 more f cs c = omega (arith, weigh-append (λ (c : Call). f c.state.phase) cs (c ∷ []))
 
-pub begin_locks : {x : Event} {n : ℕ} {v : Option ℕ} {p : Phase} {h : ℕ} → Opens x n v p h → (tally (holds_shared p) ≡ 0) × (tally (is_owning p) ≡ 0) × (tally (is_building p) ≡ 0)
+pub begin_locks : {x : Event} {n : ℕ} {v : Option ℕ} {p : Phase} {h : ℕ} → Opens x n v p h → (one_if (holds_shared p) ≡ 0) × (one_if (is_owning p) ≡ 0) × (one_if (is_building p) ≡ 0)
 begin_locks (opens_insert n v h) = (refl, refl, refl)
 begin_locks _ = (refl, refl, refl)
 
 pub keeps_locks : {w v : World} {x : Event} {m : Option Act} {r : Option Finished} → Turn w x m v r → Locked w → Locked v
 keeps_locks rests l = l
 keeps_locks {w = w} (opens n v p h r k u f) l = record {
-  alone = fewer _ _ _ _ (omega (arith, more (λ p. tally (holds_shared p)) w.calls (starts n v p h), begin_locks k)) (omega (arith, more (λ p. tally (is_owning p)) w.calls (starts n v p h), more (λ p. tally (is_building p)) w.calls (starts n v p h), begin_locks k)) l.alone;
-  building = omega (arith, l.building, more (λ p. tally (is_building p)) w.calls (starts n v p h), begin_locks k);
+  alone = fewer _ _ _ _ (omega (arith, more (λ p. one_if (holds_shared p)) w.calls (starts n v p h), begin_locks k)) (omega (arith, more (λ p. one_if (is_owning p)) w.calls (starts n v p h), more (λ p. one_if (is_building p)) w.calls (starts n v p h), begin_locks k)) l.alone;
+  building = omega (arith, l.building, more (λ p. one_if (is_building p)) w.calls (starts n v p h), begin_locks k);
 }
 keeps_locks {w = w} (takes i c p a s list t o g e row nu) l = record {
-  alone = move_locks w c row _ _ _ _ _ _ (moved (λ p. tally (holds_shared p)) w.calls i c p list s g e) (moved (λ p. tally (is_owning p)) w.calls i c p list s g e) (moved (λ p. tally (is_building p)) w.calls i c p list s g e) (none_owned w.calls) (none_locked w.calls) l.alone;
-  building = move_building w c row _ _ _ _ (moved (λ p. tally (is_owning p)) w.calls i c p list s g e) (moved (λ p. tally (is_building p)) w.calls i c p list s g e) (le_one _ _ l.alone) l.building;
+  alone = move_locks w c row _ _ _ _ _ _ (moved (λ p. one_if (holds_shared p)) w.calls i c p list s g e) (moved (λ p. one_if (is_owning p)) w.calls i c p list s g e) (moved (λ p. one_if (is_building p)) w.calls i c p list s g e) (none_owned w.calls) (none_locked w.calls) l.alone;
+  building = move_building w c row _ _ _ _ (moved (λ p. one_if (is_owning p)) w.calls i c p list s g e) (moved (λ p. one_if (is_building p)) w.calls i c p list s g e) (le_one _ _ l.alone) l.building;
 }
 
 pub locked_empty : (first : ℕ) → Locked (empty first)

@@ -1,8 +1,8 @@
 -- Members of lists.
 use Rattle.std.proofs.Common.{eqb-true, ℕ, suc, zero, ◌≡◌, ◌+◌, ◌<◌, ◌≤◌, ◌++◌, ◌⊎◌, inl, inr, List, [], ◌∷◌, Bool, true, false, refl, length, ap, arith}
 use Rattle.std.specs.Prelude.{◌==◌, if◌then◌else◌, Contains, slice_index_or}
-use Rattle.table_core.specs.Bags.{weigh, count_of}
-use Rattle.table_core.specs.Lists.{passes}
+use Rattle.table_core.proofs.Weights.{weigh, count_of}
+use Rattle.table_core.specs.Bound.{one_if}
 
 abbrev pub Is : {X : Type 0} → X → List X → Type 0
 Is x [] = ⊥
@@ -50,10 +50,10 @@ is_weighed h v [] i = absurd i
 is_weighed h v (x ∷ xs) (inl e) = omega (arith, ap h e)
 is_weighed h v (x ∷ xs) (inr i) = omega (arith, is_weighed h v xs i)
 
-pub one_of_true : (b : Bool) → passes b ≤ 0 → b ≡ false
+pub one_of_true : (b : Bool) → one_if b ≤ 0 → b ≡ false
 one_of_true true h = absurd (omega arith)
 one_of_true false h = refl
 
 -- where nothing passes, no member does
-pub none_in : (p : ℕ → Bool) (m : List ℕ) → weigh (λ u. passes (p u)) m ≡ 0 → (e : ℕ) → Contains m e → p e ≡ false
-none_in p m z e c = let w : passes (p e) ≤ weigh (λ u. passes (p u)) m = is_weighed (λ u. passes (p u)) e m (in_of m e c) in one_of_true (p e) (omega arith)
+pub none_in : (p : ℕ → Bool) (m : List ℕ) → weigh (λ u. one_if (p u)) m ≡ 0 → (e : ℕ) → Contains m e → p e ≡ false
+none_in p m z e c = let w : one_if (p e) ≤ weigh (λ u. one_if (p u)) m = is_weighed (λ u. one_if (p u)) e m (in_of m e c) in one_of_true (p e) (omega arith)

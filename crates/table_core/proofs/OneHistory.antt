@@ -2,7 +2,7 @@
 use Rattle.std.proofs.Common.{eqb-true, ℕ, ◌≡◌, ◌+◌, ◌≤◌, ◌++◌, ◌⊎◌, inl, inr, List, [], ◌∷◌, Bool, true, false, refl, Option, Some, None, length, sym, subst, ap, arith, ◌∙◌}
 use Rattle.std.specs.Prelude.{◌==◌, ◌&&◌, ◌||◌, if◌then◌else◌, option_to_list, not}
 use Rattle.std.specs.List.{find}
-use Rattle.table_core.specs.Bags.{weigh}
+use Rattle.table_core.proofs.Weights.{weigh, count_by-ifs}
 use Rattle.table_core.specs.Replies.{ReplyPlaced, Finished}
 use Rattle.terms.specs.Capacities.{IsFirstCapacity}
 use Rattle.table_core.specs.Calls.{Call}
@@ -346,7 +346,7 @@ pub one_history : (l : Law) (f : ℕ) (s : List Event) → IsFirstCapacity f →
 one_history l f s i u = record {
   run = runs_from l f i s [] u;
   each = each_stands l f i s u;
-  once = λ n. once_from f i n s [];
+  once = λ n. omega (arith, once_from f i n s [], count_by-ifs (λ (r : Finished). r.call == n) (history (empty f) s));
   only = only_stands f i s;
   own = own_stands f i s;
 }

@@ -2,7 +2,7 @@
 use Rattle.std.proofs.Common.{ℕ, suc, ◌≡◌, ◌+◌, ◌++◌, List, [], ◌∷◌, Bool, true, false, refl, Option, Some, None, ap, arith, ◌∙◌}
 use Rattle.std.specs.Prelude.{◌&&◌, ◌||◌, slice_set, option_to_list, not}
 use Rattle.std.specs.List.{slice_get, flat_map}
-use Rattle.table_core.specs.Bags.{weigh, SameBag}
+use Rattle.table_core.proofs.Weights.{weigh, SameWeights}
 use Rattle.table_core.specs.Replies.{Reply, Finished}
 use Rattle.table_core.specs.Generations.{Table, current, bucket_in, entries_of}
 use Rattle.table_core.specs.Calls.{Call, starts, is_pending}
@@ -200,7 +200,7 @@ abbrev pub carried : List Call → List ℕ
 carried calls = flat_map (λ c. option_to_list c.value) calls
 
 -- the values that the calls carry are those handed back, those kept and those still running
-pub values_stay_at : (w : World) (m : List ℕ) (rs : List Finished) → CallsOk w → Holding w.table m → Placing w.calls m rs → SameBag (carried w.calls) (back rs ++ kept w ++ running w.calls)
+pub values_stay_at : (w : World) (m : List ℕ) (rs : List Finished) → CallsOk w → Holding w.table m → Placing w.calls m rs → SameWeights (carried w.calls) (back rs ++ kept w ++ running w.calls)
 values_stay_at w m rs i o z h =
     let cs : List Call = w.calls in
     let all : weigh (λ c. weigh h (option_to_list c.value)) cs ≡ weigh (λ c. weigh h (picks (in_table c.state.phase c.state.outcome) c.value)) cs + (weigh (λ c. weigh h (picks (is_back c.state.phase c.state.outcome) c.value)) cs + weigh (λ c. weigh h (picks (runs c.state.phase c.state.outcome) c.value)) cs) =
@@ -210,5 +210,5 @@ values_stay_at w m rs i o z h =
     let k : weigh h (kept w) ≡ weigh (λ e. h e.value) (entries_of (current w.table)) = weigh-map h (λ (e : Entry). e.value) (entries_of (current w.table)) in
     rw (weigh-append, weigh-append) (omega (arith, all, g, r, k, o.bag h, z.table h, z.back h))
 
-pub kept_is_placed_at : (w : World) (m : List ℕ) → Holding w.table m → SameBag (kept w) m
+pub kept_is_placed_at : (w : World) (m : List ℕ) → Holding w.table m → SameWeights (kept w) m
 kept_is_placed_at w m o h = weigh-map h (λ (e : Entry). e.value) (entries_of (current w.table)) ∙ o.bag h

@@ -2,7 +2,7 @@
 use Rattle.std.proofs.Common.{ℕ, ◌≡◌, ◌≤◌, ◌++◌, inl, inr, List, [], ◌∷◌, Bool, true, false, refl, Option, Some, None, sym, subst, ap, arith, ◌∙◌}
 use Rattle.std.specs.Prelude.{◌==◌, ◌/◌}
 use Rattle.std.specs.List.{slice_get}
-use Rattle.table_core.specs.Bags.{weigh, count_of}
+use Rattle.table_core.proofs.Weights.{weigh, count_of, count_by-count_of}
 use Rattle.table_core.specs.Replies.{Reply, ReplyRefused, Finished}
 use Rattle.table_core.specs.Generations.{Gen, Table, current, bucket_in}
 use Rattle.table_core.specs.Calls.{Call, starts, is_done, to}
@@ -183,7 +183,7 @@ module _ (f : ℕ) (inv : (s : List Event) → Inv (after f s) (placed (empty f)
         at = k.at;
         cause = k.cause;
         last = k.last;
-        never = λ more. unplaced ((s ++ x ∷ []) ++ more) i (left c (to Done c.state) ls) u (done_stays (s ++ x ∷ []) more i (left c (to Done c.state) ls) refl after_it) refl r.pending r.own;
+        never = λ more. count_by-count_of u _ ∙ unplaced ((s ++ x ∷ []) ++ more) i (left c (to Done c.state) ls) u (done_stays (s ++ x ∷ []) more i (left c (to Done c.state) ls) refl after_it) refl r.pending r.own;
       })
 
   pub refusal_causes : (s : List Event) (x : Event) (n v : ℕ) → RefusalCauses f s x n v

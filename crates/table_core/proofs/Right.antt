@@ -2,7 +2,7 @@
 use Rattle.std.proofs.Common.{eqb-true, ℕ, ◌≡◌, ◌+◌, ◌-◌, ◌≤◌, ◌++◌, inl, inr, List, [], ◌∷◌, Bool, true, false, refl, Option, Some, None, length, sym, subst, ap, arith, ◌∙◌}
 use Rattle.std.specs.Prelude.{◌==◌, if◌then◌else◌, option_to_list}
 use Rattle.std.specs.List.{slice_get}
-use Rattle.table_core.specs.Bags.{weigh}
+use Rattle.table_core.proofs.Weights.{weigh}
 use Rattle.table_core.specs.Replies.{Reply, ReplyPlaced, ReplyFound, ReplyRefused, ReplySome, ReplyNone, ReplyLen, ReplyWalk, Finished}
 use Rattle.table_core.specs.Generations.{Gen, Table, bucket, last_of, current, gen_of, bucket_in, is_current}
 use Rattle.terms.specs.Probes.{bucket_at}
@@ -21,7 +21,7 @@ use Rattle.table_core.specs.declared.call.Outcome.{Outcome}
 use Rattle.table_core.specs.declared.call.Outcome.TheVariants.{Pending, New, Existing}
 use Rattle.table_core.specs.declared.call.Answer.{Answer}
 use Rattle.table_core.specs.declared.call.Answer.TheVariants.{NoGeneration, Loaded, Empty, Holds, Won, MemoryRefused, Failed}
-use Rattle.table_core.proofs.Lists.{weigh-get, get-set, get-push, tally}
+use Rattle.table_core.proofs.Lists.{weigh-get, get-set, get-push}
 use Rattle.table_core.proofs.Locks.{Locked, owners, builders, is_owning, is_building}
 use Rattle.std.specs.Prelude.{Contains}
 use Rattle.std.proofs.lemmas.Bool.{ltb-false, eq-eqb, eqb-true}
@@ -30,8 +30,8 @@ use Rattle.table_core.specs.ListObject.{AcceptsNone, Answers}
 use Rattle.table_core.specs.Law.{Law, UsesBy, ActsBy, IsLawful}
 use Rattle.table_core.specs.Law.{accepts}
 use Rattle.table_core.specs.Values.{Ends, entry_named}
+use Rattle.table_core.specs.Bound.{one_if}
 use Rattle.table_core.specs.Lists.{asked, answered, is_list_reply, is_refusal, is_moment, may_be_refused, Meets, IsRight}
-use Rattle.table_core.specs.Lists.{passes as one_if}
 use Rattle.table_core.proofs.Locks.{le_one}
 use Rattle.table_core.proofs.Turns.{Turn, rests, opens, takes}
 use Rattle.table_core.proofs.Pasts.{append-none, turn_after, placed_snoc, by_snoc, taken_now, taken_later, after_taken, later_snoc}
@@ -347,8 +347,8 @@ not_its w i j c d a n ne g h = let z : (c.number == d.number) ≡ false = other_
 -- two calls don't hold the lock for themselves
 pub not_both : (w : World) (i j : ℕ) (c d : Call) → Locked w → slice_get w.calls i ≡ Some c → slice_get w.calls j ≡ Some d → c.state.phase ≡ Building → d.state.phase ≡ LeaveFailed → ⊥
 not_both w i j c d l g h e k =
-    let b : tally (is_building c.state.phase) ≤ builders w.calls = weigh-get (λ (c : Call). tally (is_building c.state.phase)) w.calls i c g in
-    let o : tally (is_owning d.state.phase) ≤ owners w.calls = weigh-get (λ (c : Call). tally (is_owning c.state.phase)) w.calls j d h in
+    let b : one_if (is_building c.state.phase) ≤ builders w.calls = weigh-get (λ (c : Call). one_if (is_building c.state.phase)) w.calls i c g in
+    let o : one_if (is_owning d.state.phase) ≤ owners w.calls = weigh-get (λ (c : Call). one_if (is_owning c.state.phase)) w.calls j d h in
     let b1 : 1 ≤ builders w.calls = rw e at b in
     let o1 : 1 ≤ owners w.calls = rw k at o in
     let m : owners w.calls + builders w.calls ≤ 1 = le_one _ _ l.alone in

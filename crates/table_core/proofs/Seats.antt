@@ -2,7 +2,7 @@
 use Rattle.std.proofs.Common.{eqb-true, ℕ, suc, zero, ◌≡◌, ◌+◌, ◌-◌, ◌%◌, ◌<◌, ◌≤◌, ◌++◌, ◌⊎◌, inl, inr, List, [], ◌∷◌, Bool, true, false, refl, Option, Some, None, length, sym, ap, arith, eqb, take, ◌∙◌}
 use Rattle.std.specs.Prelude.{◌==◌}
 use Rattle.std.specs.List.{slice_get}
-use Rattle.table_core.specs.Bags.{weigh}
+use Rattle.table_core.proofs.Weights.{weigh}
 use Rattle.table_core.specs.Replies.{Reply, Finished}
 use Rattle.table_core.specs.Generations.{Gen, Build, Table, bucket, if_empty, empty_from, first_empty, fresh, fill, count, copy_in, current, change_at, change, next_capacity, entries_of, entry_left, copy_on, built}
 use Rattle.terms.specs.Probes.{bucket_at}
@@ -15,10 +15,11 @@ use Rattle.table_core.specs.declared.generation.Entry.{Entry}
 use Rattle.table_core.specs.declared.call.CallState.{CallState}
 use Rattle.table_core.specs.declared.call.Phase.{Phase}
 use Rattle.table_core.specs.declared.call.Answer.{Answer}
-use Rattle.table_core.proofs.Lists.{get-set, get-push, tally, weigh-plus, weigh-ones, weigh-take_more, weigh-take}
+use Rattle.table_core.proofs.Lists.{get-set, get-push, weigh-plus, weigh-ones, weigh-take_more, weigh-take}
 use Rattle.table_core.proofs.Locks.{weigh-le}
 use Rattle.std.proofs.lemmas.Bool.{eq-eqb, eqb-true}
 use Rattle.std.proofs.Math.Nat.{mod-lt, mod-add-mod, mod-eq_of_lt, add-mod_right}
+use Rattle.table_core.specs.Bound.{one_if}
 use Rattle.table_core.proofs.Turns.{Turn, rests, opens, takes}
 use Rattle.table_core.proofs.Facts.{values, In, IsSet, Holding, Seated, AllSeated, Roomy, probing, Probing, AllTracked, Way}
 use Rattle.table_core.proofs.Contents.{weigh-put_in, order, put_new, put_stays, in_put, entry_of, bucket_none}
@@ -59,15 +60,15 @@ places_differ capacity hash j n lt le e =
 -- how many of the first n places of a probe are this one
 abbrev pub hits : ℕ → ℕ → ℕ → ℕ → ℕ
 hits capacity hash x zero = 0
-hits capacity hash x (suc n) = tally (x == bucket_at capacity hash n) + hits capacity hash x n
+hits capacity hash x (suc n) = one_if (x == bucket_at capacity hash n) + hits capacity hash x n
 
 pub no_hits : (capacity hash x n : ℕ) → ((j : ℕ) → j < n → x ≡ bucket_at capacity hash j → ⊥) → hits capacity hash x n ≡ 0
 no_hits capacity hash x zero f = refl
 no_hits capacity hash x (suc n) f =
     let z : (x == bucket_at capacity hash n) ≡ false = not-true _ (λ q. f n (omega arith) (eqb-true x (bucket_at capacity hash n) q)) in
-    omega (arith, ap tally z, no_hits capacity hash x n (λ j lt. f j (omega arith)))
+    omega (arith, ap one_if z, no_hits capacity hash x n (λ j lt. f j (omega arith)))
 
-pub one_hit_at : (capacity hash x n : ℕ) → suc n ≤ capacity → (b : Bool) → (x == bucket_at capacity hash n) ≡ b → hits capacity hash x n ≤ 1 → tally b + hits capacity hash x n ≤ 1
+pub one_hit_at : (capacity hash x n : ℕ) → suc n ≤ capacity → (b : Bool) → (x == bucket_at capacity hash n) ≡ b → hits capacity hash x n ≤ 1 → one_if b + hits capacity hash x n ≤ 1
 one_hit_at capacity hash x n le true e h = omega (arith, no_hits capacity hash x n (λ j lt q. places_differ capacity hash j n lt le (sym q ∙ eqb-true x (bucket_at capacity hash n) e)))
 one_hit_at capacity hash x n le false e h = omega arith
 
@@ -76,11 +77,11 @@ one_hit capacity hash x zero le = omega arith
 one_hit capacity hash x (suc n) le = one_hit_at capacity hash x n le _ refl (one_hit capacity hash x n (omega arith))
 
 -- a set bucket is of some entry
-pub set_counts_at : (e x : Entry) (xs : List Entry) (i : ℕ) (b : Bool) → (x.index == i) ≡ b → bucket (x ∷ xs) i ≡ Some e → (bucket xs i ≡ Some e → 1 ≤ weigh (λ e. tally (e.index == i)) xs) → 1 ≤ tally b + weigh (λ e. tally (e.index == i)) xs
+pub set_counts_at : (e x : Entry) (xs : List Entry) (i : ℕ) (b : Bool) → (x.index == i) ≡ b → bucket (x ∷ xs) i ≡ Some e → (bucket xs i ≡ Some e → 1 ≤ weigh (λ e. one_if (e.index == i)) xs) → 1 ≤ one_if b + weigh (λ e. one_if (e.index == i)) xs
 set_counts_at e x xs i true h k f = omega arith
 set_counts_at e x xs i false h k f = omega (arith, f (rw h at k))
 
-pub set_counts : (e : Entry) (es : List Entry) (i : ℕ) → bucket es i ≡ Some e → 1 ≤ weigh (λ e. tally (e.index == i)) es
+pub set_counts : (e : Entry) (es : List Entry) (i : ℕ) → bucket es i ≡ Some e → 1 ≤ weigh (λ e. one_if (e.index == i)) es
 set_counts e [] i h = absurd (cc)
 set_counts e (x ∷ xs) i h = set_counts_at e x xs i _ refl h (set_counts e xs i)
 
@@ -88,7 +89,7 @@ pub all_hit : (capacity hash n : ℕ) (es : List Entry) → ((j : ℕ) → j < n
 all_hit capacity hash zero es f = omega arith
 all_hit capacity hash (suc n) es f =
     let s = f n (omega arith) in
-    omega (arith, set_counts s.0 es (bucket_at capacity hash n) s.1, all_hit capacity hash n es (λ j lt. f j (omega arith)), weigh-plus (λ (e : Entry). hits capacity hash e.index (suc n)) (λ e. tally (e.index == bucket_at capacity hash n)) (λ e. hits capacity hash e.index n) (λ e. refl) es)
+    omega (arith, set_counts s.0 es (bucket_at capacity hash n) s.1, all_hit capacity hash n es (λ j lt. f j (omega arith)), weigh-plus (λ (e : Entry). hits capacity hash e.index (suc n)) (λ e. one_if (e.index == bucket_at capacity hash n)) (λ e. hits capacity hash e.index n) (λ e. refl) es)
 
 -- so many different set buckets, so many entries
 pub many_buckets : (capacity hash n : ℕ) (es : List Entry) → n ≤ capacity → ((j : ℕ) → j < n → IsSet es (bucket_at capacity hash j)) → n ≤ length es
@@ -122,9 +123,9 @@ first_empty_way g hash lt = empty_way g.capacity hash g.entries 0 (length g.entr
 -- how many of the numbers below n are this one
 abbrev pub hit_below : ℕ → ℕ → ℕ
 hit_below x zero = 0
-hit_below x (suc n) = tally (x == n) + hit_below x n
+hit_below x (suc n) = one_if (x == n) + hit_below x n
 
-pub is_hit_at : (x n : ℕ) (b : Bool) → (x == n) ≡ b → x < suc n → (x < n → 1 ≤ hit_below x n) → 1 ≤ tally b + hit_below x n
+pub is_hit_at : (x n : ℕ) (b : Bool) → (x == n) ≡ b → x < suc n → (x < n → 1 ≤ hit_below x n) → 1 ≤ one_if b + hit_below x n
 is_hit_at x n true e lt f = omega arith
 is_hit_at x n false e lt f = omega (arith, f (elim (order x n) [ inl k ↦ k | inr o ↦ elim o [ inl q ↦ absurd (let y : eqb x n ≡ true = eq-eqb x n q in cc) | inr k ↦ absurd (omega arith) ] ]))
 
@@ -136,9 +137,9 @@ pub weigh-nothing : (es : List Entry) → weigh (λ e. 0) es ≡ 0
 weigh-nothing [] = refl
 weigh-nothing (x ∷ xs) = omega (arith, weigh-nothing xs)
 
-pub few_hits : (es : List Entry) (n : ℕ) → ((i : ℕ) → weigh (λ e. tally (e.index == i)) es ≤ 1) → weigh (λ e. hit_below e.index n) es ≤ n
+pub few_hits : (es : List Entry) (n : ℕ) → ((i : ℕ) → weigh (λ e. one_if (e.index == i)) es ≤ 1) → weigh (λ e. hit_below e.index n) es ≤ n
 few_hits es zero f = omega (arith, weigh-nothing es)
-few_hits es (suc n) f = omega (arith, f n, few_hits es n f, weigh-plus (λ (e : Entry). hit_below e.index (suc n)) (λ e. tally (e.index == n)) (λ e. hit_below e.index n) (λ e. refl) es)
+few_hits es (suc n) f = omega (arith, f n, few_hits es n f, weigh-plus (λ (e : Entry). hit_below e.index (suc n)) (λ e. one_if (e.index == n)) (λ e. hit_below e.index n) (λ e. refl) es)
 
 pub each_weighs : (f : Entry → ℕ) (es : List Entry) → ((e : Entry) → In e es → 1 ≤ f e) → length es ≤ weigh f es
 each_weighs f [] h = omega arith
@@ -149,15 +150,15 @@ entries_fit g s = omega (arith, few_hits g.entries g.capacity s.once, each_weigh
 
 -- Entries that are put
 
-pub no_count_at : (x : Entry) (xs : List Entry) (i : ℕ) (b : Bool) → (x.index == i) ≡ b → bucket (x ∷ xs) i ≡ None → (bucket xs i ≡ None → weigh (λ e. tally (e.index == i)) xs ≡ 0) → tally b + weigh (λ e. tally (e.index == i)) xs ≡ 0
+pub no_count_at : (x : Entry) (xs : List Entry) (i : ℕ) (b : Bool) → (x.index == i) ≡ b → bucket (x ∷ xs) i ≡ None → (bucket xs i ≡ None → weigh (λ e. one_if (e.index == i)) xs ≡ 0) → one_if b + weigh (λ e. one_if (e.index == i)) xs ≡ 0
 no_count_at x xs i true h k f = absurd (let z : Some x ≡ None = rw h at k in cc)
 no_count_at x xs i false h k f = omega (arith, f (rw h at k))
 
-pub no_count : (es : List Entry) (i : ℕ) → bucket es i ≡ None → weigh (λ e. tally (e.index == i)) es ≡ 0
+pub no_count : (es : List Entry) (i : ℕ) → bucket es i ≡ None → weigh (λ e. one_if (e.index == i)) es ≡ 0
 no_count [] i h = refl
 no_count (x ∷ xs) i h = no_count_at x xs i _ refl h (no_count xs i)
 
-pub once_at : (e : Entry) (es : List Entry) (i : ℕ) (b : Bool) → (e.index == i) ≡ b → bucket es e.index ≡ None → weigh (λ e. tally (e.index == i)) es ≤ 1 → tally b + weigh (λ e. tally (e.index == i)) es ≤ 1
+pub once_at : (e : Entry) (es : List Entry) (i : ℕ) (b : Bool) → (e.index == i) ≡ b → bucket es e.index ≡ None → weigh (λ e. one_if (e.index == i)) es ≤ 1 → one_if b + weigh (λ e. one_if (e.index == i)) es ≤ 1
 once_at e es i true h n le = let q : e.index ≡ i = eqb-true e.index i h in omega (arith, no_count es i (rw q at n))
 once_at e es i false h n le = omega arith
 
@@ -166,7 +167,7 @@ pub seated_put : (g : Gen) (e : Entry) → bucket g.entries e.index ≡ None →
 seated_put g e n lt s = record {
   roomy = s.roomy;
   own = λ d i. elim (in_put d e g.entries i) [ inl q ↦ rw (← q) (put_new e g.entries n) | inr q ↦ put_stays e d g.entries d.index n (s.own d q) ];
-  once = λ i. omega (arith, weigh-put_in (λ d. tally (d.index == i)) e g.entries, once_at e g.entries i _ refl n (s.once i));
+  once = λ i. omega (arith, weigh-put_in (λ d. one_if (d.index == i)) e g.entries, once_at e g.entries i _ refl n (s.once i));
   below = λ d i. elim (in_put d e g.entries i) [ inl q ↦ rw (← q) lt | inr q ↦ s.below d q ];
 }
 

@@ -2,7 +2,7 @@
 use Rattle.std.proofs.Common.{ℕ, zero, suc, ◌≡◌, ◌+◌, ◌-◌, ◌*◌, ◌/◌, ◌^◌, ◌≤◌, ◌++◌, ◌⊎◌, inl, inr, List, [], ◌∷◌, true, false, refl, Option, Some, None, length, sym, ap, arith, ltb, ◌∙◌}
 use Rattle.std.specs.Prelude.{option_to_list}
 use Rattle.std.specs.List.{slice_get}
-use Rattle.table_core.specs.Bags.{weigh}
+use Rattle.table_core.proofs.Weights.{weigh, sum_by-weigh}
 use Rattle.table_core.specs.Replies.{Reply, Finished}
 use Rattle.table_core.specs.Generations.{Gen, Build, Table, put_in, first_empty, fresh, fill, count, copy_in, last_of, current, change_at, change, next_capacity, copy_on, built}
 use Rattle.terms.specs.Capacities.{IsFirstCapacity}
@@ -17,7 +17,7 @@ use Rattle.table_core.specs.declared.call.Phase.{Phase}
 use Rattle.table_core.specs.declared.call.Phase.TheVariants.{AtEmpty, Placed}
 use Rattle.table_core.specs.declared.call.Outcome.{Outcome}
 use Rattle.table_core.specs.declared.call.Answer.{Answer}
-use Rattle.table_core.proofs.Lists.{weigh-append, weigh-set, tally, weigh-ones}
+use Rattle.table_core.proofs.Lists.{weigh-append, weigh-set, weigh-ones}
 use Rattle.table_core.proofs.Locks.{Locked, weigh-le, moved, more}
 use Rattle.std.specs.Prelude.{max}
 use Rattle.std.proofs.lemmas.Bool.{ltb-false}
@@ -30,14 +30,15 @@ use Rattle.table_core.proofs.Within.{gen_after}
 use Rattle.table_core.proofs.Contents.{fit_at}
 use Rattle.std.specs.Option.{is_some}
 use Rattle.std.proofs.Math.Nat.{pow-succ'}
+use Rattle.table_core.specs.Bound.{one_if}
 
-pub placed_shares : (p : Phase) → tally (is_placed p) ≤ tally (holds_shared p)
+pub placed_shares : (p : Phase) → one_if (is_placed p) ≤ one_if (holds_shared p)
 placed_shares Placed = omega arith
 placed_shares _ = omega arith
 
 -- while a call holds the lock alone no value waits to be counted
 pub no_placers : (w : World) (i : ℕ) (c : Call) → Locked w → slice_get w.calls i ≡ Some c → holds_owned c.state.phase ≡ true → placers w.calls ≡ 0
-no_placers w i c l g e = omega (arith, no_sharer w l i c g e, weigh-le (λ (c : Call). tally (is_placed c.state.phase)) (λ (c : Call). tally (holds_shared c.state.phase)) (λ c. placed_shares c.state.phase) w.calls)
+no_placers w i c l g e = omega (arith, no_sharer w l i c g e, weigh-le (λ (c : Call). one_if (is_placed c.state.phase)) (λ (c : Call). one_if (holds_shared c.state.phase)) (λ c. placed_shares c.state.phase) w.calls)
 
 pub length-put_in : (e : Entry) (es : List Entry) → length (put_in e es) ≡ suc (length es)
 length-put_in e es = omega (arith, weigh-put_in (λ x. 1) e es, weigh-ones (put_in e es), weigh-ones es)
@@ -78,7 +79,7 @@ pub one_value : (v : Option ℕ) (o : Outcome) → fitting (is_some v) AtEmpty o
 one_value None o h = absurd (cc)
 one_value (Some v) o h = refl
 
-pub size_row : (w : World) (i : ℕ) (c : Call) (n : ℕ) {p : Phase} {x : Event} {a : Answer} {r : CallState} {ls : List ℕ} {t : Table} {q : Option Reply} → Row w c p x a r ls t q → c.state.phase ≡ p → slice_get w.calls i ≡ Some c → n + tally (is_placed p) ≡ placers w.calls + tally (is_placed r.phase) → Locked w → CallOk (length w.table.gens) c → SizesOk w → (g : Gen) → current t ≡ Some g → g.size + n ≡ length g.entries
+pub size_row : (w : World) (i : ℕ) (c : Call) (n : ℕ) {p : Phase} {x : Event} {a : Answer} {r : CallState} {ls : List ℕ} {t : Table} {q : Option Reply} → Row w c p x a r ls t q → c.state.phase ≡ p → slice_get w.calls i ≡ Some c → n + one_if (is_placed p) ≡ placers w.calls + one_if (is_placed r.phase) → Locked w → CallOk (length w.table.gens) c → SizesOk w → (g : Gen) → current t ≡ Some g → g.size + n ≡ length g.entries
 size_row w i c n (puts _ _ _) e s m l k o = size_place w c c.value n (omega (arith, one_value c.value c.state.outcome (fit_at c _ AtEmpty k e))) (stand_at c _ AtEmpty k e refl) o
 size_row w i c n (adds _) e s m l k o = size_add w c n (omega arith) (stand_at c _ Placed k e refl) o
 size_row w i c n (shows _ _) e s m l k o = size_show w n w.table.building refl (omega (arith, no_placers w i c l s (ap holds_owned e))) (no_placers w i c l s (ap holds_owned e)) o
@@ -92,7 +93,7 @@ built_row w c (copies _ k e _) o b h = built_copy w e k w.table.building refl o 
 built_row w c (shows _ _) o b h = absurd (cc)
 built_row w c _ o b h = o.built b h
 
-pub begin_placed : {x : Event} {n : ℕ} {v : Option ℕ} {p : Phase} {h : ℕ} → Opens x n v p h → tally (is_placed p) ≡ 0
+pub begin_placed : {x : Event} {n : ℕ} {v : Option ℕ} {p : Phase} {h : ℕ} → Opens x n v p h → one_if (is_placed p) ≡ 0
 begin_placed (opens_insert n v h) = refl
 begin_placed (opens_lookup n h) = refl
 begin_placed (opens_len n) = refl
@@ -103,9 +104,9 @@ size_within g n h = omega arith
 
 pub keeps_sized : {w v : World} {x : Event} {a : Option Act} {r : Option Finished} → Turn w x a v r → Locked w → CallsOk w → SizesOk w → SizesOk v
 keeps_sized rests l k o = o
-keeps_sized {w = w} (opens n v p h r b u f) l k o = record { counted = λ g q. omega (arith, o.counted g q, more (λ p. tally (is_placed p)) w.calls (starts n v p h), begin_placed b); built = o.built; within = o.within }
+keeps_sized {w = w} (opens n v p h r b u f) l k o = record { counted = λ g q. omega (arith, o.counted g q, more (λ p. one_if (is_placed p)) w.calls (starts n v p h), begin_placed b); built = o.built; within = o.within }
 keeps_sized {w = w} (takes i c p a s list t o g e row nu) l k z =
-    let counts = size_row w i c _ row e g (moved (λ p. tally (is_placed p)) w.calls i c p list s g e) l (k.at i c g) z in
+    let counts = size_row w i c _ row e g (moved (λ p. one_if (is_placed p)) w.calls i c p list s g e) l (k.at i c g) z in
     record {
       counted = counts;
       built = built_row w c row z;
@@ -233,7 +234,7 @@ under x f n (inl h) = omega arith
 under x f n (inr h) = omega arith
 
 pub few_buckets_at : (t : Table) (n : ℕ) → Roomy t n → buckets t ≤ max t.first (8 * n - t.first)
-few_buckets_at t n r = under _ _ _ (bounded t n r (current t) t.building refl refl)
+few_buckets_at t n r = rw (sum_by-weigh, sum_by-weigh) (under _ _ _ (bounded t n r (current t) t.building refl refl))
 
 -- Powers of two
 

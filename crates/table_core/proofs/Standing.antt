@@ -16,9 +16,10 @@ use Rattle.table_core.specs.declared.call.Outcome.{Outcome}
 use Rattle.table_core.specs.declared.call.Outcome.TheVariants.{Pending, New, Existing}
 use Rattle.table_core.specs.declared.call.Answer.{Answer}
 use Rattle.table_core.proofs.Turns.{Turn, rests, opens, takes}
-use Rattle.table_core.proofs.Lists.{weigh-get, get-set, length-set, get-push, tally, zero-each}
+use Rattle.table_core.proofs.Lists.{weigh-get, get-set, length-set, get-push, zero-each}
 use Rattle.table_core.proofs.Locks.{Locked, nobody, alone, sharers, owners, builders, is_owning, is_building, owned_split}
 use Rattle.std.specs.Option.{is_some}
+use Rattle.table_core.specs.Bound.{one_if}
 
 -- which outcomes an insert (true) or another call may have in a phase
 abbrev pub fitting : Bool → Phase → Outcome → Bool
@@ -139,9 +140,9 @@ gens_stay w c _ = inl refl
 -- while a call holds the lock alone no call shares it
 pub no_sharer : (w : World) → Locked w → (i : ℕ) (c : Call) → slice_get w.calls i ≡ Some c → holds_owned c.state.phase ≡ true → sharers w.calls ≡ 0
 no_sharer w l i c h e =
-    let o : tally (is_owning c.state.phase) ≤ owners w.calls = weigh-get (λ (c : Call). tally (is_owning c.state.phase)) w.calls i c h in
-    let b : tally (is_building c.state.phase) ≤ builders w.calls = weigh-get (λ (c : Call). tally (is_building c.state.phase)) w.calls i c h in
-    let one : tally true ≡ tally (is_owning c.state.phase) + tally (is_building c.state.phase) = ap tally (sym e) ∙ owned_split c.state.phase in
+    let o : one_if (is_owning c.state.phase) ≤ owners w.calls = weigh-get (λ (c : Call). one_if (is_owning c.state.phase)) w.calls i c h in
+    let b : one_if (is_building c.state.phase) ≤ builders w.calls = weigh-get (λ (c : Call). one_if (is_building c.state.phase)) w.calls i c h in
+    let one : one_if true ≡ one_if (is_owning c.state.phase) + one_if (is_building c.state.phase) = ap one_if (sym e) ∙ owned_split c.state.phase in
     elim l.alone [ nobody x y z ↦ absurd (omega arith) | alone x y z q ↦ q ]
 
 pub stands_shares : (p : Phase) → stands p ≡ true → holds_shared p ≡ false → ⊥

@@ -13,6 +13,7 @@ use Rattle.table_core.proofs.Members.{Is}
 use Rattle.table_core.proofs.FewReads.{other_number}
 use Rattle.table_core.proofs.Pasts.{replies_snoc, by_snoc}
 use Rattle.table_core.proofs.Callings.{Has, IsDone, done_kept, has_after, done_silent, replied, reply_ends}
+use Rattle.table_core.proofs.Weights.{count_by-ifs}
 use Rattle.table_core.proofs.OneHistory.{in_replies, counts, count_none, count_few}
 
 -- a call that was told something is done
@@ -33,14 +34,16 @@ one_option : (o : Option Finished) → length (option_to_list o) ≤ 1
 one_option None = omega arith
 one_option (Some q) = omega arith
 
-once_more : (f : ℕ) → IsFirstCapacity f → (n : ℕ) (s : List Event) (x : Event) → ToldOnce f s n → (counts n (replies (empty f) s) ≡ 0) ⊎ ((r : Finished) × Is r (replies (empty f) s) × (r.call ≡ n)) → counts n (replies (empty f) s) + counts n (option_to_list (finishes (after f s) x)) ≤ 1
+once_more : (f : ℕ) → IsFirstCapacity f → (n : ℕ) (s : List Event) (x : Event) → counts n (replies (empty f) s) ≤ 1 → (counts n (replies (empty f) s) ≡ 0) ⊎ ((r : Finished) × Is r (replies (empty f) s) × (r.call ≡ n)) → counts n (replies (empty f) s) + counts n (option_to_list (finishes (after f s) x)) ≤ 1
 once_more f h n s x one (inl z) = omega (arith, z, count_few n (option_to_list (finishes (after f s) x)), one_option (finishes (after f s) x))
 once_more f h n s x one (inr k) =
     let d : Has IsDone (after f s) n = subst (λ m. Has IsDone (after f s) m) k.2 (done_after f h s k.0 k.1) in
     omega (arith, one, told_nothing f h s x n d (finishes (after f s) x) refl)
 
-once_snoc : (f : ℕ) → IsFirstCapacity f → (n : ℕ) (s : List Event) (x : Event) → ToldOnce f s n → ToldOnce f (s ++ x ∷ []) n
+once_snoc : (f : ℕ) → IsFirstCapacity f → (n : ℕ) (s : List Event) (x : Event) → counts n (replies (empty f) s) ≤ 1 → counts n (replies (empty f) (s ++ x ∷ [])) ≤ 1
 once_snoc f h n s x one = rw (replies_snoc f s x, weigh-append) (once_more f h n s x one (count_none n (replies (empty f) s)))
 
 pub told_once : (f : ℕ) (s : List Event) (n : ℕ) → IsFirstCapacity f → ToldOnce f s n
-told_once f s n h = by_snoc (λ t. ToldOnce f t n) (omega arith) (once_snoc f h n) s
+told_once f s n h =
+    let once : counts n (replies (empty f) s) ≤ 1 = by_snoc (λ t. counts n (replies (empty f) t) ≤ 1) (omega arith) (once_snoc f h n) s in
+    omega (arith, once, count_by-ifs (λ (r : Finished). r.call == n) (replies (empty f) s))

@@ -2,7 +2,7 @@
 use Rattle.std.proofs.Common.{eqb-true, ℕ, suc, zero, ◌≡◌, ◌+◌, ◌-◌, ◌<◌, ◌≤◌, ◌++◌, ◌⊎◌, inl, inr, List, [], ◌∷◌, Bool, true, false, refl, Option, Some, None, length, sym, subst, ap, arith, ◌∙◌}
 use Rattle.std.specs.Prelude.{◌==◌, nat_lt, if◌then◌else◌}
 use Rattle.std.specs.List.{slice_get}
-use Rattle.table_core.specs.Bags.{weigh, count_of}
+use Rattle.table_core.proofs.Weights.{weigh, count_of, count_by-count_of}
 use Rattle.table_core.specs.Replies.{Reply, ReplyWalk, Finished}
 use Rattle.table_core.specs.Generations.{Gen, Table, bucket, current, gen_of, bucket_in}
 use Rattle.table_core.specs.Calls.{Call, starts}
@@ -388,7 +388,7 @@ module _ (f : ℕ) (inv : (s : List Event) → Inv (after f s) (placed (empty f)
     at = taken_now f s x n c a took nu;
     loads = l;
     once = λ v. omega arith;
-    all = λ v. (let h : 0 ≡ count_of v (placed (empty f) s) = rw e at ((inv s).holding.bag (mark v)) in omega arith);
+    all = λ v. (let h : 0 ≡ count_of v (placed (empty f) s) = rw e at ((inv s).holding.bag (mark v)) in omega (arith, h, count_by-count_of v (placed (empty f) s)));
     only = λ v. omega arith;
   }
 
@@ -402,19 +402,19 @@ module _ (f : ℕ) (inv : (s : List Event) → Inv (after f s) (placed (empty f)
       record {
         at = taken_later f s c.number u.at x;
         loads = u.loads;
-        once = l.once;
+        once = λ v. omega (arith, l.once v, count_by-count_of v list);
         all = λ v. elim (some_or_none (count_of v (placed (empty f) u.at.before)) (placed_once (inv u.at.before) v)) [
-          | inl z ↦ omega (arith, z)
+          | inl z ↦ omega (arith, z, count_by-count_of v (placed (empty f) u.at.before))
           | inr o ↦ (let many : values (mark v) u.was.entries ≡ count_of v (placed (empty f) u.at.before) = rw u.loaded at ((inv u.at.before).holding.bag (mark v)) in
               let e = found_in v u.was.entries (omega (arith, many, o)) in
               let there : 1 ≤ count_of e.0.value list = l.all e.0 e.1 (omega (arith, was.below e.0 e.1, past)) in
               let own : 1 ≤ count_of v list = subst (λ z. 1 ≤ count_of z list) e.2 there in
-              omega (arith, o))
+              omega (arith, o, own, count_by-count_of v list, count_by-count_of v (placed (empty f) u.at.before)))
         ];
         only = λ v. elim (some_or_none (count_of v list) (l.once v)) [
-          | inl z ↦ omega (arith, z)
+          | inl z ↦ omega (arith, z, count_by-count_of v list)
           | inr o ↦ (let e = l.only v (omega (arith, o)) in
-              omega (arith, o, counted v e.0 u.now.entries e.1 e.2, (inv s).within.each u.number u.now u.got (mark v), more_counted s x v))
+              omega (arith, o, counted v e.0 u.now.entries e.1 e.2, (inv s).within.each u.number u.now u.got (mark v), more_counted s x v, count_by-count_of v list, count_by-count_of v (placed (empty f) (s ++ x ∷ []))))
         ];
       }
 

@@ -1,8 +1,8 @@
 -- How the fast structures of the code stand for the machine's lists.
-use Rattle.std.specs.Prelude.{ℕ, suc, ◌*◌, ◌^◌, ◌==◌, ◌≡◌, ◌≤◌, ◌<◌, length, if◌then◌else◌, Bool}
+use Rattle.std.specs.Prelude.{ℕ, suc, ◌*◌, ◌==◌, ◌≡◌, ◌≤◌, ◌<◌, length, if◌then◌else◌, Bool}
+use Rattle.std.specs.Prelude.{count_by}
 use Rattle.std.specs.Prelude.{true, false, Option, Some, None, List, [], ◌∷◌, ◌++◌, map}
 use Rattle.std.specs.Prelude.{option_to_list}
-use Rattle.table_core.specs.Bags.{weigh}
 use Rattle.std.specs.Option.{option_map}
 use Rattle.table_core.specs.Generations.{Gen, Build, bucket}
 use Rattle.terms.specs.Probes.{bucket_at}
@@ -37,18 +37,20 @@ position_of n [] = None
 position_of n (c ∷ calls) =
     if c.number == n then Some 0 else option_map (λ i. suc i) (position_of n calls)
 
+-- 1 for true and 0 for false
 abbrev pub one_if : Bool → ℕ
 one_if true = 1
 one_if false = 0
 
 -- how many calls hold the lock shared
 abbrev pub sharing_among : List Call → ℕ
-sharing_among calls = weigh (λ c. one_if (holds_shared c.state.phase)) calls
+sharing_among calls = count_by (λ c. holds_shared c.state.phase) calls
 
 -- how many calls hold the lock exclusively
 abbrev pub owning_among : List Call → ℕ
-owning_among calls = weigh (λ c. one_if (holds_owned c.state.phase)) calls
+owning_among calls = count_by (λ c. holds_owned c.state.phase) calls
 
+-- the generation being built, if there is one, with so many entries copied
 abbrev pub build_of : Option Gen → ℕ → Option Build
 build_of None copied = None
 build_of (Some g) copied = Some (record { gen = g; copied = copied })

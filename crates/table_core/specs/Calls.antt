@@ -31,20 +31,31 @@ pub record Call : Type 0 where
 -- the state of a call that starts in this phase, with this hash
 abbrev pub starting : Phase → ℕ → CallState
 starting phase hash =
-    record { phase = phase; hash = hash; walked = None; capacity = 0; index = 0; seen = 0;
-        outcome = Pending }
+    record {
+      phase = phase;
+      hash = hash;
+      walked = None;
+      capacity = 0;
+      index = 0;
+      seen = 0;
+      outcome = Pending;
+    }
 
 -- the states in which an insert, a look-up, a length and a walk start
 
+-- an insert starts by wanting the lock, shared
 abbrev pub insert_start : ℕ → CallState
 insert_start hash = starting WantShared hash
 
+-- a look-up starts at its load
 abbrev pub lookup_start : ℕ → CallState
 lookup_start hash = starting LookLoad hash
 
+-- a length starts at its load
 abbrev pub length_start : CallState
 length_start = starting LenLoad 0
 
+-- a walk starts at its load
 abbrev pub walk_start : CallState
 walk_start = starting WalkLoad 0
 
@@ -56,13 +67,16 @@ new_call n value state = record { number = n; value = value; list = []; state = 
 abbrev pub starts : ℕ → Option ℕ → Phase → ℕ → Call
 starts n value phase hash = new_call n value (starting phase hash)
 
+-- whether a call has this number
 abbrev pub is_used : ℕ → List Call → Bool
 is_used n calls = list_any (λ c. c.number == n) calls
 
+-- whether this is the value of an insert
 abbrev pub is_value : ℕ → Option ℕ → Bool
 is_value v None = false
 is_value v (Some u) = u == v
 
+-- whether an insert has this value
 abbrev pub is_used_value : ℕ → List Call → Bool
 is_used_value v calls = list_any (λ c. is_value v c.value) calls
 
@@ -87,6 +101,7 @@ is_finished (Some c) = is_done c.state.phase
 
 -- Locks: who holds the lock is read off the phases
 
+-- whether a call in this phase holds the lock shared
 abbrev pub holds_shared : Phase → Bool
 holds_shared Shared = true
 holds_shared Probe = true
@@ -97,6 +112,7 @@ holds_shared LeaveGrow = true
 holds_shared LeaveRefused = true
 holds_shared _ = false
 
+-- whether a call in this phase holds the lock exclusively
 abbrev pub holds_owned : Phase → Bool
 holds_owned Owned = true
 holds_owned Building = true
@@ -121,8 +137,13 @@ to p s = record s { phase = p }
 -- at the first bucket of a probe
 abbrev pub probes : Phase → CallState → ℕ → ℕ → CallState
 probes p s generation capacity =
-    record s { phase = p; walked = Some generation; capacity = capacity; index = s.hash % capacity;
-        seen = 0 }
+    record s {
+      phase = p;
+      walked = Some generation;
+      capacity = capacity;
+      index = s.hash % capacity;
+      seen = 0;
+    }
 
 -- one set bucket further, or in this other phase once all were seen
 abbrev pub passes : Phase → Phase → CallState → CallState
@@ -152,6 +173,7 @@ walk_passes s =
     then record s { phase = WalkAt; index = s.index + 1 }
     else record s { phase = Done; index = s.index + 1 }
 
+-- whether a call has no outcome yet
 abbrev pub is_pending : Outcome → Bool
 is_pending Pending = true
 is_pending _ = false
@@ -164,7 +186,7 @@ growth_ends s = if is_pending s.outcome then to WantShared s else to Done s
 abbrev pub growth_fails : CallState → Bool → CallState
 growth_fails s still_current =
     if is_pending s.outcome && (if still_current then false else true) then to WantShared s
-        else to Done s
+    else to Done s
 
 -- the state after an answer, in the phases' order; an answer that has no row changes nothing
 abbrev pub decided : Phase → CallState → Answer → CallState

@@ -1,8 +1,8 @@
 -- What the calls of a schedule did, and what they were told.
 use Rattle.std.specs.Prelude.{ℕ, ◌+◌, ◌==◌, ◌&&◌, ◌||◌, ◌≡◌, if◌then◌else◌, Bool, true, false}
+use Rattle.std.specs.Prelude.{sum_by}
 use Rattle.std.specs.Prelude.{Option, Some, List, [], ◌∷◌, ◌++◌, map, option_to_list}
 use Rattle.std.specs.List.{find, flat_map}
-use Rattle.table_core.specs.Bags.{weigh}
 use Rattle.table_core.specs.Replies.{Reply, ReplyPlaced, ReplyFound, ReplyRefused, Finished}
 use Rattle.table_core.specs.Generations.{Table, current, entries_of}
 use Rattle.table_core.specs.Calls.{Call}
@@ -32,6 +32,7 @@ abbrev pub placed_by : Option Act → List ℕ
 placed_by (Some (Goes c Won)) = option_to_list c.value
 placed_by _ = []
 
+-- the value whose exchange succeeds at this event
 abbrev pub placed_at : World → Event → List ℕ
 placed_at w x = placed_by (acts w x)
 
@@ -52,6 +53,7 @@ abbrev pub given : World → List Event → List ℕ
 given w [] = []
 given w (x ∷ xs) = given_by (acts w x) x ++ given (happens w x) xs
 
+-- the value that a reply hands back
 abbrev pub handed_back : Reply → List ℕ
 handed_back (ReplyFound e v) = v ∷ []
 handed_back (ReplyRefused v) = v ∷ []
@@ -72,6 +74,7 @@ runs Placed o = false
 runs _ (New _) = false
 runs _ _ = true
 
+-- the value, where it is picked
 abbrev pub picks : Bool → Option ℕ → List ℕ
 picks true v = option_to_list v
 picks false v = []
@@ -83,7 +86,7 @@ running calls = flat_map (λ c. picks (runs c.state.phase c.state.outcome) c.val
 -- the capacities of all generations, the one being built included
 abbrev pub buckets : Table → ℕ
 buckets t =
-    weigh (λ g. g.capacity) t.gens + weigh (λ b. b.gen.capacity) (option_to_list t.building)
+    sum_by (λ g. g.capacity) t.gens + sum_by (λ b. b.gen.capacity) (option_to_list t.building)
 
 -- Counts over a schedule
 
@@ -92,6 +95,7 @@ abbrev pub added_by : Option Act → ℕ
 added_by (Some (Goes c Counted)) = 1
 added_by _ = 0
 
+-- how many adds a schedule takes
 abbrev pub added : World → List Event → ℕ
 added w [] = 0
 added w (x ∷ xs) = added_by (acts w x) + added (happens w x) xs
@@ -101,18 +105,21 @@ abbrev pub says_placed : Reply → ℕ
 says_placed (ReplyPlaced v) = 1
 says_placed _ = 0
 
+-- how many of these replies say Placed
 abbrev pub placed_told : List Finished → ℕ
-placed_told rs = weigh (λ r. says_placed r.reply) rs
+placed_told rs = sum_by (λ r. says_placed r.reply) rs
 
 -- the reads that call n took
 abbrev pub is_read : Event → Bool
 is_read (Read _ _) = true
 is_read _ = false
 
+-- 1 where call n takes a read, else 0
 abbrev pub read_by : Option Act → Event → ℕ → ℕ
 read_by (Some (Goes c a)) x n = if is_read x && (c.number == n) then 1 else 0
 read_by _ x n = 0
 
+-- how many reads call n takes in a schedule
 abbrev pub reads : World → List Event → ℕ → ℕ
 reads w [] n = 0
 reads w (x ∷ xs) n = read_by (acts w x) x n + reads (happens w x) xs n
@@ -122,6 +129,7 @@ abbrev pub loaded_by : Option Act → ℕ → List ℕ
 loaded_by (Some (Goes c (Loaded g k))) n = if c.number == n then g ∷ [] else []
 loaded_by _ n = []
 
+-- the numbers of the generations that call n loads in a schedule
 abbrev pub generations_loaded : World → List Event → ℕ → List ℕ
 generations_loaded w [] n = []
 generations_loaded w (x ∷ xs) n = loaded_by (acts w x) n ++ generations_loaded (happens w x) xs n
@@ -131,6 +139,7 @@ abbrev pub begun_by : Option Act → Event → ℕ → List Event
 begun_by (Some (Begins c)) x n = if number_of x == n then x ∷ [] else []
 begun_by _ x n = []
 
+-- the events of a schedule at which call n begins
 abbrev pub beginnings : World → List Event → ℕ → List Event
 beginnings w [] n = []
 beginnings w (x ∷ xs) n = begun_by (acts w x) x n ++ beginnings (happens w x) xs n

@@ -20,6 +20,7 @@ pub record Law : Type 0 where
   pub transitive : (a b c : ℕ) → equal a b ≡ true → equal b c ≡ true → equal a c ≡ true
   pub agrees : (a b : ℕ) → equal a b ≡ true → hash a ≡ hash b
 
+-- whether a call of this number and value accepts e
 abbrev pub accepts_by : Law → ℕ → Option ℕ → ℕ → Bool
 accepts_by l n (Some v) e = l.equal v e
 accepts_by l n None e = l.test n e
@@ -59,6 +60,7 @@ ActsBy l w x None = Unit {0}
 ActsBy l w x (Some (Begins c)) = OpensBy l x
 ActsBy l w x (Some (Goes c a)) = UsesBy l w c c.state.phase x
 
+-- each event of a schedule is as the law has it
 abbrev pub RunsBy : Law → World → List Event → Type 0
 RunsBy l w [] = Unit {0}
 RunsBy l w (x ∷ xs) = ActsBy l w x (acts w x) × RunsBy l (happens w x) xs

@@ -1,5 +1,6 @@
 -- What holds of every lawful schedule: it is a growing list without equal entries.
 use Rattle.std.specs.Prelude.{ℕ, ◌==◌, ◌&&◌, ◌≡◌, ◌≢◌, ◌≤◌, ◌⊎◌, if◌then◌else◌, Bool, true, false}
+use Rattle.std.specs.Prelude.{count_by}
 use Rattle.std.specs.Prelude.{not, Option, Some, None, List, [], ◌∷◌, ◌++◌, map, Contains}
 use Rattle.std.specs.List.{list_any, list_all}
 use Rattle.table_core.specs.ListObject.{ListCall, ListReply, Answers, IsListRun}
@@ -9,7 +10,7 @@ use Rattle.table_core.specs.ListObject.{Placed as AnswerPlaced, Found as AnswerF
 use Rattle.table_core.specs.ListObject.{Refused as AnswerRefused, Shown as AnswerShown}
 use Rattle.table_core.specs.ListObject.{Absent as AnswerAbsent, Counted as AnswerCounted}
 use Rattle.table_core.specs.ListObject.{Walked as AnswerWalked}
-use Rattle.table_core.specs.Bags.{SameBag, weigh}
+use Rattle.table_core.specs.Bags.{SameBag}
 use Rattle.table_core.specs.Replies.{Reply, ReplyPlaced, ReplyFound, ReplyRefused, ReplySome}
 use Rattle.table_core.specs.Replies.{ReplyNone, ReplyLen, ReplyWalk, Finished}
 use Rattle.table_core.specs.Calls.{Call, is_done}
@@ -18,6 +19,7 @@ use Rattle.table_core.specs.Machine.{finishes}
 use Rattle.table_core.specs.History.{replies, fate, placed, placed_by, given, kept, beginnings}
 use Rattle.table_core.specs.History.{TakenEvent, bucket_then, has_later}
 use Rattle.table_core.specs.Law.{Law, IsLawful}
+use Rattle.terms.specs.Laws.{AllApart}
 use Rattle.table_core.specs.Values.{Ends, entry_named, IsOwn}
 use Rattle.table_core.specs.declared.event.Event.{Event}
 use Rattle.table_core.specs.declared.event.Event.TheVariants.{Insert}
@@ -40,9 +42,11 @@ asked_for l n ReplyNone = AskLookup (l.test n)
 asked_for l n (ReplyLen k) = AskLength
 asked_for l n (ReplyWalk es) = AskWalk
 
+-- what the call of a reply asks
 abbrev pub asked : Law → Finished → ListCall ℕ
 asked l r = asked_for l r.call r.reply
 
+-- the reply in the words of the list object
 abbrev pub answered : Reply → ListReply ℕ
 answered (ReplyPlaced v) = AnswerPlaced v
 answered (ReplyFound e v) = AnswerFound e v
@@ -58,6 +62,7 @@ is_list_reply (ReplyLen _) = false
 is_list_reply (ReplyWalk _) = false
 is_list_reply _ = true
 
+-- whether a reply is a refusal
 abbrev pub is_refusal : Reply → Bool
 is_refusal (ReplyRefused _) = true
 is_refusal _ = false
@@ -110,14 +115,17 @@ Right l f s x r = IsLawful l f (s ++ x ∷ []) → Ends f s x r → is_list_repl
 abbrev pub placed_here : ℕ → List ℕ → List Finished
 placed_here n vs = map (λ v. record { call = n; reply = ReplyPlaced v }) vs
 
+-- the reply, where this is its moment, and no later one
 abbrev pub reply_here : Phase → Answer → Finished → Bool → List Finished
 reply_here p a r later =
     if is_moment r.reply p a && not (is_refusal r.reply && later) then r ∷ [] else []
 
+-- what stands in the history at this answer of a call
 abbrev pub stands_here : Call → Answer → Option Finished → Bool → List Finished
 stands_here c a None later = placed_here c.number (placed_by (Some (Goes c a)))
 stands_here c a (Some r) later = reply_here c.state.phase a r later
 
+-- what stands in the history at this event
 abbrev pub history_at : World → Event → List Event → Option Act → List Finished
 history_at w x xs (Some (Goes c a)) =
     stands_here c a (fate w (x ∷ xs) c.number) (has_later may_be_refused (happens w x) xs c.number)
@@ -150,6 +158,7 @@ pub record IsInOrder (f : ℕ) (s more : List Event) : Type 0 where
   pub unfinished : (r : Finished) → Contains (history (after f s) more) r →
       fate (empty f) s r.call ≡ None
 
+-- the history is one run of the list object, of each call once, and of nothing else
 pub record IsOneHistory (l : Law) (f : ℕ) (s : List Event) : Type 0 where
   -- the history is a run of the list object, which ends with what was placed
   pub run : IsListRun l.equal [] (map (asked l) (history (empty f) s))
@@ -158,7 +167,7 @@ pub record IsOneHistory (l : Law) (f : ℕ) (s : List Event) : Type 0 where
   pub each : (r : Finished) → Contains (replies (empty f) s) r → is_list_reply r.reply ≡ true →
       Contains (history (empty f) s) r
   -- no call stands in it twice
-  pub once : (n : ℕ) → weigh (λ r. if r.call == n then 1 else 0) (history (empty f) s) ≤ 1
+  pub once : (n : ℕ) → count_by (λ r. r.call == n) (history (empty f) s) ≤ 1
   -- what stands in it is finished, or has placed its value
   pub only : (r : Finished) → Contains (history (empty f) s) r → Contains (replies (empty f) s) r ⊎
       HasPlaced f s r
@@ -176,14 +185,7 @@ InOrder f s more = IsInOrder f s more
 
 -- Equal values
 
-abbrev pub passes : Bool → ℕ
-passes true = 1
-passes false = 0
-
--- no two values of a list are equal: at most one is equal to x, whatever x is
-abbrev pub AllApart : (ℕ → ℕ → Bool) → List ℕ → Type 0
-AllApart equal m = (x : ℕ) → weigh (λ v. passes (equal x v)) m ≤ 1
-
+-- no two values that were placed are equal
 abbrev pub PlacedApart : Law → ℕ → List Event → Type 0
 PlacedApart l f s = IsLawful l f s → AllApart l.equal (placed (empty f) s)
 
@@ -194,7 +196,7 @@ NoneRefusedInVain l f s n v h more x back =
     acts (after f s) (Insert n v h) ≡ Some (Begins c) →
     list_any (l.equal v) (placed (empty f) s) ≡ true →
     finishes (after f (s ++ Insert n v h ∷ more)) x ≢ Some
-        (record { call = n; reply = ReplyRefused back })
+    (record { call = n; reply = ReplyRefused back })
 
 -- Classes
 
@@ -208,13 +210,12 @@ pub record IsSettled (l : Law) (f : ℕ) (s : List Event) : Type 0 where
 abbrev pub Classes : Law → ℕ → List Event → Type 0
 Classes l f s =
     IsSettled l f s → (x : ℕ) →
-    weigh (λ e. passes (l.equal x e)) (kept (after f s)) ≡ passes
-        (list_any (l.equal x) (given (empty f) s))
+    count_by (l.equal x) (kept (after f s)) ≡
+    (if list_any (l.equal x) (given (empty f) s) then 1 else 0)
 
 -- so another such schedule of the same inserts, as one of one thread, has the same classes
 abbrev pub SameClasses : Law → ℕ → List Event → Law → ℕ → List Event → Type 0
 SameClasses l f s k g t =
     IsSettled l f s → IsSettled k g t → ((a b : ℕ) → l.equal a b ≡ k.equal a b) →
     SameBag (given (empty f) s) (given (empty g) t) → (x : ℕ) →
-    weigh (λ e. passes (l.equal x e)) (kept (after f s)) ≡ weigh (λ e. passes (l.equal x e))
-        (kept (after g t))
+    count_by (l.equal x) (kept (after f s)) ≡ count_by (l.equal x) (kept (after g t))

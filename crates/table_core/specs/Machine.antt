@@ -49,6 +49,7 @@ abbrev pub takes_unless : Bool → Option Answer
 takes_unless false = Some Taken
 takes_unless true = None
 
+-- what a load finds, of so many generations
 abbrev pub loaded : ℕ → Option Gen → Answer
 loaded n None = NoGeneration
 loaded n (Some g) = Loaded (n - 1) g.capacity
@@ -57,6 +58,7 @@ loaded n (Some g) = Loaded (n - 1) g.capacity
 abbrev pub loads : Table → Answer
 loads t = loaded (length t.gens) (current t)
 
+-- the generation that a call walks
 abbrev pub walked_gen : Table → CallState → Option Gen
 walked_gen t s = gen_of t.gens s.walked
 
@@ -69,6 +71,7 @@ bucket_of t s = bucket_in (walked_gen t s) s.index
 abbrev pub holds : Entry → ℕ → Bool → Answer
 holds e hash accepted = if e.bits == bits_of hash then Holds accepted else HoldsUnasked
 
+-- what a read finds in a bucket
 abbrev pub read : Option Entry → ℕ → Bool → Answer
 read None hash accepted = Empty
 read (Some e) hash accepted = holds e hash accepted
@@ -78,6 +81,7 @@ abbrev pub read_unasked : Option Entry → Answer
 read_unasked None = Empty
 read_unasked (Some e) = HoldsUnasked
 
+-- what an exchange finds in a bucket
 abbrev pub exchanged : Option Entry → ℕ → Bool → Answer
 exchanged None hash accepted = Won
 exchanged (Some e) hash accepted = holds e hash accepted
@@ -135,6 +139,7 @@ finds_in WalkLoad w s (Load _) = Some (loads w.table)
 finds_in WalkAt w s (Read _ _) = Some (read_unasked (bucket_of w.table s))
 finds_in _ w s _ = None
 
+-- what an event of a call finds in its phase
 abbrev pub finds : World → CallState → Event → Option Answer
 finds w s x = finds_in s.phase w s x
 
@@ -143,17 +148,23 @@ finds w s x = finds_in s.phase w s x
 -- the value of a call in the bucket at which it stands
 abbrev pub place : Table → CallState → Option ℕ → Table
 place t s None = t
-place t s (Some v) = record t { gens = change t.gens s.walked
-    (λ g. fill g (record { index = s.index; value = v; bits = bits_of s.hash })) }
+place t s (Some v) = record t {
+  gens = change t.gens s.walked
+      (λ g. fill g (record { index = s.index; value = v; bits = bits_of s.hash }));
+}
 
+-- the size of the walked generation is one more
 abbrev pub add_one : Table → CallState → Table
 add_one t s = record t { gens = change t.gens s.walked count }
 
 -- an empty generation, of the first capacity or of twice the current one
 abbrev pub begin_growth : Table → Table
-begin_growth t = record t { building = Some
-    (record { gen = fresh (next_capacity t.first (current t)); copied = 0 }) }
+begin_growth t = record t {
+  building = Some
+      (record { gen = fresh (next_capacity t.first (current t)); copied = 0 });
+}
 
+-- an entry is copied, if there is one
 abbrev pub copy_next : Table → Option Entry → ℕ → Table
 copy_next t None hash = t
 copy_next t (Some e) hash = record t { building = copy_on t.building e hash }
@@ -162,6 +173,7 @@ copy_next t (Some e) hash = record t { building = copy_on t.building e hash }
 abbrev pub show_built : Table → Table
 show_built t = record t { gens = t.gens ++ built t.building; building = None }
 
+-- the table after a call has found this at its event
 abbrev pub changed : Table → Call → Event → Answer → Table
 changed t c (Put _ _ _) Won = place t c.state c.value
 changed t c (Add _) Counted = add_one t c.state
@@ -177,10 +189,12 @@ abbrev pub refused : Option ℕ → Option Reply
 refused None = None
 refused (Some v) = Some (ReplyRefused v)
 
+-- an entry and the value that comes back
 abbrev pub found_entry : Option Entry → ℕ → Option Reply
 found_entry None v = None
 found_entry (Some e) v = Some (ReplyFound e.value v)
 
+-- the reply that an outcome gives
 abbrev pub reply_of_outcome : Outcome → Table → CallState → Option ℕ → Option Reply
 reply_of_outcome (New _) t s (Some v) = Some (ReplyPlaced v)
 reply_of_outcome (Existing i) t s (Some v) = found_entry (bucket_in (walked_gen t s) i) v
@@ -194,6 +208,7 @@ by_outcome t c = reply_of_outcome c.state.outcome t c.state c.value
 abbrev pub by_failure : Table → Call → Option Reply
 by_failure t c = if is_pending c.state.outcome then refused c.value else by_outcome t c
 
+-- the entry that a look-up accepts
 abbrev pub shown_entry : Option Entry → Option Reply
 shown_entry None = None
 shown_entry (Some e) = Some (ReplySome e.value)
@@ -241,6 +256,7 @@ reply_at_end _ o = None
 abbrev pub reply_in : Phase → Table → Call → Answer → Option Reply
 reply_in p t c a = reply_at_end (decided p c.state a).phase (last_reply p t c a)
 
+-- what a call is told by an answer
 abbrev pub reply : Table → Call → Answer → Option Reply
 reply t c a = reply_in c.state.phase t c a
 
@@ -249,6 +265,7 @@ abbrev pub kept_list : Phase → List ℕ → List ℕ
 kept_list Done list = []
 kept_list _ list = list
 
+-- the list of a call after an answer in this phase
 abbrev pub list_in : Phase → Table → Call → Answer → List ℕ
 list_in WalkAt t c a = kept_list (decided WalkAt c.state a).phase (walked_list t c a)
 list_in _ t c a = c.list
@@ -292,18 +309,22 @@ pub data Act : Type 0 where
   -- this call, as it was, has found this
   Goes : (call : Call) → (answer : Answer) → Act
 
+-- a call begins, unless it may not
 abbrev pub begins_unless : Bool → Call → Option Act
 begins_unless true c = None
 begins_unless false c = Some (Begins c)
 
+-- a call goes by what its event finds, if it finds anything
 abbrev pub goes_by : Call → Option Answer → Option Act
 goes_by c None = None
 goes_by c (Some a) = Some (Goes c a)
 
+-- what an event does to the call that it is of
 abbrev pub call_acts : World → Option Call → Event → Option Act
 call_acts w None x = None
 call_acts w (Some c) x = goes_by c (finds w c.state x)
 
+-- what an event whose numbers are in range does, if it is taken
 abbrev pub act_of : World → Event → Option Act
 act_of w (Insert n v h) =
     begins_unless (is_used n w.calls || is_used_value v w.calls) (starts n (Some v) WantShared h)
@@ -316,6 +337,7 @@ act_of w x = call_acts w (call_numbered (number_of x) w.calls) x
 abbrev pub acts : World → Event → Option Act
 acts w x = if in_range x then act_of w x else None
 
+-- the world after what an event did
 abbrev pub after_act : World → Event → Option Act → World
 after_act w x None = w
 after_act w x (Some (Begins c)) = record w { calls = w.calls ++ c ∷ [] }
@@ -326,10 +348,12 @@ after_act w x (Some (Goes c a)) =
 abbrev pub happens : World → Event → World
 happens w x = after_act w x (acts w x)
 
+-- the call of this number with its reply, if it has one
 abbrev pub finished_call : ℕ → Option Reply → Option Finished
 finished_call n None = None
 finished_call n (Some t) = Some (record { call = n; reply = t })
 
+-- the call that is finished by what an event did
 abbrev pub finished_by : World → Option Act → Option Finished
 finished_by w (Some (Goes c a)) = finished_call c.number (reply w.table c a)
 finished_by w _ = None
@@ -338,6 +362,7 @@ finished_by w _ = None
 abbrev pub finishes : World → Event → Option Finished
 finishes w x = finished_by w (acts w x)
 
+-- the world after some events
 abbrev pub run : World → List Event → World
 run w [] = w
 run w (x ∷ xs) = run (happens w x) xs

@@ -4,6 +4,7 @@ use Rattle.table_core.specs.declared.reply.Reply.{Reply as RustReply}
 use Rattle.table_core.specs.declared.reply.Reply.TheVariants.{Placed, Found, Refused, Some, None}
 use Rattle.table_core.specs.declared.reply.Reply.TheVariants.{Len, Walk}
 
+-- what a finished call is told
 pub data Reply : Type 0 where
   -- the call's value is an entry now
   ReplyPlaced : (value : ℕ) → Reply
@@ -24,6 +25,7 @@ pub record Finished : Type 0 where
   pub call : ℕ
   pub reply : Reply
 
+-- the reply that a reply of the code stands for
 abbrev pub reply_of : {A : Type 0} → RustReply A → Reply
 reply_of (Placed v) = ReplyPlaced v
 reply_of (Found e v) = ReplyFound e v

@@ -63,10 +63,10 @@ pub data Row (w : World) (c : Call) : Phase → Event → Answer → CallState �
   -- Shared: load
   loads_none : (n : ℕ) → current w.table ≡ None →
       Row w c Shared (Load n) NoGeneration
-          (record c.state { phase = LeaveGrow; walked = None }) c.list w.table None
+      (record c.state { phase = LeaveGrow; walked = None }) c.list w.table None
   loads : (n : ℕ) (g : Gen) → current w.table ≡ Some g →
       Row w c Shared (Load n) (Loaded (length w.table.gens - 1) g.capacity)
-          (probes Probe c.state (length w.table.gens - 1) g.capacity) c.list w.table None
+      (probes Probe c.state (length w.table.gens - 1) g.capacity) c.list w.table None
   -- Probe: read
   reads_empty : (n : ℕ) (y : Bool) → bucket_of w.table c.state ≡ None →
       Row w c Probe (Read n y) Empty (to AtEmpty c.state) c.list w.table None
@@ -90,7 +90,7 @@ pub data Row (w : World) (c : Call) : Phase → Event → Answer → CallState �
       Row w c AtEmpty (Put n y false) MemoryRefused (to LeaveRefused c.state) c.list w.table None
   puts : (n : ℕ) (y : Bool) → bucket_of w.table c.state ≡ None →
       Row w c AtEmpty (Put n y true) Won (to Placed c.state) c.list
-          (place w.table c.state c.value) None
+      (place w.table c.state c.value) None
   loses_meets : (n : ℕ) (y : Bool) (e : Entry) → bucket_of w.table c.state ≡ Some e →
       is_accepted e c.state y ≡ true →
       Row w c AtEmpty (Put n y true) (Holds true) (finds_entry LeaveOk c.state) c.list w.table None
@@ -109,8 +109,8 @@ pub data Row (w : World) (c : Call) : Phase → Event → Answer → CallState �
   -- Placed: add
   adds : (n : ℕ) →
       Row w c Placed (Add n) Counted
-          (record c.state { phase = LeaveOk; outcome = New c.state.index }) c.list
-          (add_one w.table c.state) None
+      (record c.state { phase = LeaveOk; outcome = New c.state.index }) c.list
+      (add_one w.table c.state) None
   -- LeaveOk, LeaveGrow, LeaveRefused: free
   leaves_ok : (n : ℕ) → Row w c LeaveOk (Free n) Released (to AskSize c.state) c.list w.table None
   leaves_grow : (n : ℕ) →
@@ -124,7 +124,7 @@ pub data Row (w : World) (c : Call) : Phase → Event → Answer → CallState �
   small : (n : ℕ) (g : Gen) → walked_gen w.table c.state ≡ Some g →
       nat_lt g.size (c.state.capacity / 2) ≡ true →
       Row w c AskSize (Size n) (Sized g.size) (to Done c.state) c.list w.table
-          (by_outcome w.table c)
+      (by_outcome w.table c)
   -- WantOwned: own
   owns : (n : ℕ) → is_locked w.calls ≡ false →
       Row w c WantOwned (Own n) Taken (to Owned c.state) c.list w.table None
@@ -148,7 +148,7 @@ pub data Row (w : World) (c : Call) : Phase → Event → Answer → CallState �
   -- Building: copy, show
   copies : (n h : ℕ) (e : Entry) → next_copied w.table ≡ Some e →
       Row w c Building (Copy n h) Copied (to Building c.state) c.list
-          (record w.table { building = copy_on w.table.building e h }) None
+      (record w.table { building = copy_on w.table.building e h }) None
   shows : (n : ℕ) → next_copied w.table ≡ None →
       Row w c Building (Show n) Shown (to LeaveOwned c.state) c.list (show_built w.table) None
   -- LeaveOwned: free
@@ -159,41 +159,41 @@ pub data Row (w : World) (c : Call) : Phase → Event → Answer → CallState �
   -- LeaveFailed: free
   ends_failed : (n : ℕ) → is_pending c.state.outcome ≡ false →
       Row w c LeaveFailed (Free n) (ReleasedAfterFailure
-          (is_current w.table.gens c.state.walked)) (to Done c.state) c.list w.table
-          (by_outcome w.table c)
+      (is_current w.table.gens c.state.walked)) (to Done c.state) c.list w.table
+      (by_outcome w.table c)
   gives_up : (n : ℕ) → is_pending c.state.outcome ≡ true →
       is_current w.table.gens c.state.walked ≡ true →
       Row w c LeaveFailed (Free n) (ReleasedAfterFailure true) (to Done c.state) c.list w.table
-          (refused c.value)
+      (refused c.value)
   tries_again : (n : ℕ) → is_pending c.state.outcome ≡ true →
       is_current w.table.gens c.state.walked ≡ false →
       Row w c LeaveFailed (Free n) (ReleasedAfterFailure false)
-          (to WantShared c.state) c.list w.table None
+      (to WantShared c.state) c.list w.table None
   -- LookLoad: load
   looks_none : (n : ℕ) → current w.table ≡ None →
       Row w c LookLoad (Load n) NoGeneration (to Done c.state) c.list w.table (Some ReplyNone)
   looks : (n : ℕ) (g : Gen) → current w.table ≡ Some g →
       Row w c LookLoad (Load n) (Loaded (length w.table.gens - 1) g.capacity)
-          (probes LookProbe c.state (length w.table.gens - 1) g.capacity) c.list w.table None
+      (probes LookProbe c.state (length w.table.gens - 1) g.capacity) c.list w.table None
   -- LookProbe: read
   look_empty : (n : ℕ) (y : Bool) → bucket_of w.table c.state ≡ None →
       Row w c LookProbe (Read n y) Empty (to Done c.state) c.list w.table (Some ReplyNone)
   look_meets : (n : ℕ) (y : Bool) (e : Entry) → bucket_of w.table c.state ≡ Some e →
       is_accepted e c.state y ≡ true →
       Row w c LookProbe (Read n y) (Holds true) (finds_entry Done c.state) c.list w.table
-          (Some (ReplySome e.value))
+      (Some (ReplySome e.value))
   look_turns : (n : ℕ) (y : Bool) (e : Entry) → bucket_of w.table c.state ≡ Some e →
       is_declined e c.state y ≡ true → nat_lt (c.state.seen + 1) c.state.capacity ≡ false →
       Row w c LookProbe (Read n y) (Holds false) (turned Done c.state) c.list w.table
-          (Some ReplyNone)
+      (Some ReplyNone)
   look_turns_unasked : (n : ℕ) (y : Bool) (e : Entry) → bucket_of w.table c.state ≡ Some e →
       is_unasked e c.state ≡ true → nat_lt (c.state.seen + 1) c.state.capacity ≡ false →
       Row w c LookProbe (Read n y) HoldsUnasked (turned Done c.state) c.list w.table
-          (Some ReplyNone)
+      (Some ReplyNone)
   look_goes_on : (n : ℕ) (y : Bool) (e : Entry) → bucket_of w.table c.state ≡ Some e →
       is_declined e c.state y ≡ true → nat_lt (c.state.seen + 1) c.state.capacity ≡ true →
       Row w c LookProbe (Read n y) (Holds false)
-          (next_bucket LookProbe c.state) c.list w.table None
+      (next_bucket LookProbe c.state) c.list w.table None
   look_goes_on_unasked : (n : ℕ) (y : Bool) (e : Entry) → bucket_of w.table c.state ≡ Some e →
       is_unasked e c.state ≡ true → nat_lt (c.state.seen + 1) c.state.capacity ≡ true →
       Row w c LookProbe (Read n y) HoldsUnasked (next_bucket LookProbe c.state) c.list w.table None
@@ -202,39 +202,46 @@ pub data Row (w : World) (c : Call) : Phase → Event → Answer → CallState �
       Row w c LenLoad (Load n) NoGeneration (to Done c.state) c.list w.table (Some (ReplyLen 0))
   len_loads : (n : ℕ) (g : Gen) → current w.table ≡ Some g →
       Row w c LenLoad (Load n) (Loaded (length w.table.gens - 1) g.capacity)
-          (record c.state { phase = LenSize; walked = Some (length w.table.gens - 1);
-          capacity = g.capacity }) c.list w.table None
+      (record c.state {
+        phase = LenSize;
+        walked = Some (length w.table.gens - 1);
+        capacity = g.capacity;
+      }) c.list w.table None
   -- LenSize: size
   len_size : (n : ℕ) (g : Gen) → walked_gen w.table c.state ≡ Some g →
       Row w c LenSize (Size n) (Sized g.size) (to Done c.state) c.list w.table
-          (Some (ReplyLen g.size))
+      (Some (ReplyLen g.size))
   -- WalkLoad: load
   walk_none : (n : ℕ) → current w.table ≡ None →
       Row w c WalkLoad (Load n) NoGeneration (to Done c.state) c.list w.table (Some (ReplyWalk []))
   walk_loads : (n : ℕ) (g : Gen) → current w.table ≡ Some g →
       Row w c WalkLoad (Load n) (Loaded (length w.table.gens - 1) g.capacity)
-          (record c.state { phase = WalkAt; walked = Some (length w.table.gens - 1);
-          capacity = g.capacity; index = 0 }) c.list w.table None
+      (record c.state {
+        phase = WalkAt;
+        walked = Some (length w.table.gens - 1);
+        capacity = g.capacity;
+        index = 0;
+      }) c.list w.table None
   -- WalkAt: read
   walk_skips_last : (n : ℕ) (y : Bool) → bucket_of w.table c.state ≡ None →
       nat_lt (c.state.index + 1) c.state.capacity ≡ false →
       Row w c WalkAt (Read n y) Empty
-          (record c.state { phase = Done; index = c.state.index + 1 }) [] w.table
-          (Some (ReplyWalk c.list))
+      (record c.state { phase = Done; index = c.state.index + 1 }) [] w.table
+      (Some (ReplyWalk c.list))
   walk_takes_last : (n : ℕ) (y : Bool) (e : Entry) → bucket_of w.table c.state ≡ Some e →
       nat_lt (c.state.index + 1) c.state.capacity ≡ false →
       Row w c WalkAt (Read n y) HoldsUnasked
-          (record c.state { phase = Done; index = c.state.index + 1 }) [] w.table
-          (Some (ReplyWalk (c.list ++ e.value ∷ [])))
+      (record c.state { phase = Done; index = c.state.index + 1 }) [] w.table
+      (Some (ReplyWalk (c.list ++ e.value ∷ [])))
   walk_skips : (n : ℕ) (y : Bool) → bucket_of w.table c.state ≡ None →
       nat_lt (c.state.index + 1) c.state.capacity ≡ true →
       Row w c WalkAt (Read n y) Empty
-          (record c.state { phase = WalkAt; index = c.state.index + 1 }) c.list w.table None
+      (record c.state { phase = WalkAt; index = c.state.index + 1 }) c.list w.table None
   walk_takes : (n : ℕ) (y : Bool) (e : Entry) → bucket_of w.table c.state ≡ Some e →
       nat_lt (c.state.index + 1) c.state.capacity ≡ true →
       Row w c WalkAt (Read n y) HoldsUnasked
-          (record c.state { phase = WalkAt; index = c.state.index + 1 })
-          (c.list ++ e.value ∷ []) w.table None
+      (record c.state { phase = WalkAt; index = c.state.index + 1 })
+      (c.list ++ e.value ∷ []) w.table None
 
 -- how a call begins: its event, its number, the value of an insert, its first phase and its hash
 pub data Opens : Event → ℕ → Option ℕ → Phase → ℕ → Type 0 where
@@ -258,14 +265,14 @@ pub data Takes (w : World) (x : Event) : Act → World → Option Finished → T
   begins : (n : ℕ) (v : Option ℕ) (p : Phase) (h : ℕ) → in_range x ≡ true → Opens x n v p h →
       is_used n w.calls ≡ false → IsNewValue w.calls v →
       Takes w x (Begins (starts n v p h))
-          (record w { calls = w.calls ++ starts n v p h ∷ [] }) None
+      (record w { calls = w.calls ++ starts n v p h ∷ [] }) None
   -- a call takes a row
   goes : (c : Call) (p : Phase) (a : Answer) (s : CallState) (list : List ℕ) (t : Table)
       (o : Option Reply) →
       in_range x ≡ true → call_numbered (number_of x) w.calls ≡ Some c → c.state.phase ≡ p →
-          Row w c p x a s list t o →
+      Row w c p x a s list t o →
       Takes w x (Goes c a) (record { table = t; calls = replaced (left c s list) w.calls })
-          (finished_call c.number o)
+      (finished_call c.number o)
 
 -- One event: what the table of events says, and where it says nothing the world stays as it was.
 pub data Step (w : World) (x : Event) : Option Act → World → Option Finished → Type 0 where

@@ -1,8 +1,9 @@
 -- What holds of every schedule, whatever the closures answer.
-use Rattle.std.specs.Prelude.{ℕ, ◌+◌, ◌-◌, ◌*◌, ◌/◌, ◌^◌, ◌==◌, ◌≡◌, ◌≤◌, ◌⊎◌, max, if◌then◌else◌}
+use Rattle.std.specs.Prelude.{ℕ, ◌+◌, ◌-◌, ◌*◌, ◌/◌, ◌^◌, ◌==◌, ◌≡◌, ◌≤◌, ◌⊎◌, max}
+use Rattle.std.specs.Prelude.{count_by}
 use Rattle.std.specs.Prelude.{Bool, true, false, Option, Some, None, List, [], ◌∷◌, ◌++◌, length}
 use Rattle.std.specs.Option.{is_some}
-use Rattle.table_core.specs.Bags.{weigh, SameBag, count_of}
+use Rattle.table_core.specs.Bags.{SameBag}
 use Rattle.table_core.specs.Replies.{Reply, ReplyPlaced, ReplyFound, ReplyRefused, ReplySome}
 use Rattle.table_core.specs.Replies.{ReplyNone, ReplyLen, ReplyWalk, Finished}
 use Rattle.table_core.specs.Generations.{Gen, current}
@@ -92,12 +93,13 @@ pub record IsOwnAnswer (f : ℕ) (s : List Event) (x : Event) (r : Finished) : T
   pub own : IsOwn f s r
   pub accepted : (e : ℕ) → entry_named r.reply ≡ Some e → AcceptedEntry f (s ++ x ∷ []) r.call e
 
+-- so is each call that an event ends
 abbrev pub OwnAnswers : ℕ → List Event → Event → Finished → Type 0
 OwnAnswers f s x r = Ends f s x r → IsOwnAnswer f s x r
 
 -- a call is told at most one thing
 abbrev pub ToldOnce : ℕ → List Event → ℕ → Type 0
-ToldOnce f s n = weigh (λ r. if r.call == n then 1 else 0) (replies (empty f) s) ≤ 1
+ToldOnce f s n = count_by (λ r. r.call == n) (replies (empty f) s) ≤ 1
 
 -- a call is finished exactly when it was told its reply
 abbrev pub ToldAtEnd : ℕ → List Event → ℕ → Type 0
@@ -123,8 +125,9 @@ pub record IsRefusal (f : ℕ) (s : List Event) (n v : ℕ) : Type 0 where
   pub at : TakenEvent f s n
   pub cause : IsCause (current (after f at.before).table) at.event at.found
   pub last : has_later is_put_or_check (after f (at.before ++ at.event ∷ [])) at.rest n ≡ false
-  pub never : (more : List Event) → count_of v (placed (empty f) (s ++ more)) ≡ 0
+  pub never : (more : List Event) → count_by (λ u. u == v) (placed (empty f) (s ++ more)) ≡ 0
 
+-- so is each call that an event ends with a refusal
 abbrev pub RefusalCauses : ℕ → List Event → Event → ℕ → ℕ → Type 0
 RefusalCauses f s x n v =
     Ends f s x (record { call = n; reply = ReplyRefused v }) → IsRefusal f (s ++ x ∷ []) n v
@@ -140,6 +143,7 @@ pub record IsBetween (f : ℕ) (s : List Event) (n k : ℕ) : Type 0 where
   pub reply : placed_told (replies (empty f) at.before) ≤ k
   pub most : k ≤ length (placed (empty f) s)
 
+-- so is each length that an event ends
 abbrev pub LengthsBetween : ℕ → List Event → Event → ℕ → ℕ → Type 0
 LengthsBetween f s x n k =
     Ends f s x (record { call = n; reply = ReplyLen k }) → IsBetween f (s ++ x ∷ []) n k
@@ -152,10 +156,12 @@ PlacedAreCounted f s = placed_told (replies (empty f) s) ≤ added (empty f) s
 pub record IsWholeWalk (f : ℕ) (s : List Event) (n : ℕ) (list : List ℕ) : Type 0 where
   pub at : TakenEvent f s n
   pub loads : at.event ≡ Load n
-  pub once : (v : ℕ) → count_of v list ≤ 1
-  pub all : (v : ℕ) → count_of v (placed (empty f) at.before) ≤ count_of v list
-  pub only : (v : ℕ) → count_of v list ≤ count_of v (placed (empty f) s)
+  pub once : (v : ℕ) → count_by (λ u. u == v) list ≤ 1
+  pub all : (v : ℕ) →
+      count_by (λ u. u == v) (placed (empty f) at.before) ≤ count_by (λ u. u == v) list
+  pub only : (v : ℕ) → count_by (λ u. u == v) list ≤ count_by (λ u. u == v) (placed (empty f) s)
 
+-- so is each walk that an event ends
 abbrev pub WalksWhole : ℕ → List Event → Event → ℕ → List ℕ → Type 0
 WalksWhole f s x n list =
     Ends f s x (record { call = n; reply = ReplyWalk list }) → IsWholeWalk f (s ++ x ∷ []) n list
@@ -180,8 +186,8 @@ abbrev pub LookupsReadFew : ℕ → List Event → ℕ → ℕ → List Event �
 LookupsReadFew f s n h more =
     (c : Call) → acts (after f s) (Lookup n h) ≡ Some (Begins c) →
     reads (empty f) (s ++ Lookup n h ∷ more) n ≤ length
-        (placed (empty f) (s ++ Lookup n h ∷ more)) + 1
+    (placed (empty f) (s ++ Lookup n h ∷ more)) + 1
 
 -- a call loads each generation at most once
 abbrev pub LoadsOnce : ℕ → List Event → ℕ → ℕ → Type 0
-LoadsOnce f s n g = count_of g (generations_loaded (empty f) s n) ≤ 1
+LoadsOnce f s n g = count_by (λ k. k == g) (generations_loaded (empty f) s n) ≤ 1

@@ -20,6 +20,7 @@ pub record IsWorked (f : ℕ) (s : List Event) (reply stood : List Finished) (n 
   pub room : buckets (after f s).table ≡ n
   pub lawful : (l : Law) × IsLawful l f s
 
+-- call n is told this
 abbrev pub say : ℕ → Reply → Finished
 say n t = record { call = n; reply = t }
 
@@ -75,6 +76,7 @@ lost_to_equal = first_insert 1 10 0 ++
     (Read 1 false ∷ Insert 2 11 0 ∷ Share 2 ∷ Load 2 ∷ Read 2 false ∷ Put 1 false true ∷
     Put 2 true true ∷ Add 1 ∷ Free 1 ∷ Free 2 ∷ Size 1 ∷ Size 2 ∷ [])
 
+-- the first places its value, and the second finds it
 abbrev pub told_lost_to_equal : List Finished
 told_lost_to_equal = say 1 (ReplyPlaced 10) ∷ say 2 (ReplyFound 10 11) ∷ []
 
@@ -85,6 +87,7 @@ lost_to_other = first_insert 1 10 0 ++
     Put 2 false true ∷ Read 2 false ∷ Put 2 false true ∷ Add 1 ∷ Add 2 ∷ Free 1 ∷ Free 2 ∷ Size 1 ∷
     Size 2 ∷ [])
 
+-- both place their values
 abbrev pub told_lost_to_other : List Finished
 told_lost_to_other = say 1 (ReplyPlaced 10) ∷ say 2 (ReplyPlaced 11) ∷ []
 
@@ -95,6 +98,7 @@ refused_put = lost_to_equal ++
     (Insert 1 13 0 ∷ Insert 3 12 1 ∷ Share 3 ∷ Load 3 ∷ Read 3 false ∷ Put 3 false false ∷ Free 3 ∷
     Lookup 4 0 ∷ Load 4 ∷ Read 4 true ∷ Lookup 5 3 ∷ Load 5 ∷ Read 5 false ∷ [])
 
+-- the third is refused, a look-up finds the first value, another finds none
 abbrev pub told_refused_put : List Finished
 told_refused_put = say 1 (ReplyPlaced 10) ∷ say 2 (ReplyFound 10 11) ∷ say 3 (ReplyRefused 12) ∷
     say 4 (ReplySome 10) ∷ say 5 ReplyNone ∷ []
@@ -114,6 +118,7 @@ late_none = filled 8 ++ (Lookup 20 8 ∷ Load 20 ∷ []) ++ grows 8 8 ++ whole_i
 abbrev pub told_late_none : List Finished
 told_late_none = all_placed 1 9 ++ (say 20 ReplyNone ∷ say 21 (ReplySome 18) ∷ [])
 
+-- the look-up stands before the value that is placed behind it
 abbrev pub stands_late_none : List Finished
 stands_late_none =
     all_placed 1 8 ++ (say 20 ReplyNone ∷ say 9 (ReplyPlaced 18) ∷ say 21 (ReplySome 18) ∷ [])
@@ -158,6 +163,7 @@ abbrev pub starts_again : List Event
 starts_again = full ++ grows 17 16 ++ (Own 18 ∷ Check 18 false ∷ Free 18 ∷ []) ++ passing 18 16 ++
     (Own 18 ∷ Check 18 false ∷ Free 18 ∷ [])
 
+-- the seventeenth call is told nothing, and the eighteenth places its value
 abbrev pub told_starts_again : List Finished
 told_starts_again = all_placed 1 16 ++ (say 18 (ReplyPlaced 27) ∷ [])
 
@@ -182,6 +188,7 @@ right_round = full ++ (Lookup 19 0 ∷ Load 19 ∷ times 15 (Read 19 false)) ++
     (Walk 20 ∷ Load 20 ∷ times 15 (Read 20 false)) ++
     (Len 21 ∷ Load 21 ∷ Size 21 ∷ Read 19 false ∷ Read 20 false ∷ [])
 
+-- the length comes before the look-up and the walk
 abbrev pub told_right_round : List Finished
 told_right_round = all_placed 1 16 ++
     (say 21 (ReplyLen 16) ∷ say 19 ReplyNone ∷

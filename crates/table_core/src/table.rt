@@ -1,7 +1,6 @@
 //! All generations, and the one that is being built.
-ghost use Rattle.std.specs.Prelude.{◌≡◌, ◌<◌, ◌^◌, true, Some, None, [], length, OnOk, OnErr, IfOk, option_copied};
+ghost use Rattle.std.specs.Prelude.{◌≡◌, ◌<◌, ◌^◌, true, Some, None, [], length, sum_by, OnOk, OnErr, IfOk, option_copied};
 ghost use Rattle.std.specs.Option.{option_map};
-ghost use Rattle.table_core.specs.Bags.{weigh};
 ghost use Rattle.terms.specs.Capacities.{IsCapacity, IsFirstCapacity};
 ghost use Rattle.table_core.specs.Generations.{Gen, Build, bucket, first_empty, gen_of, last_of, bucket_in, current, is_current, next_copied, fill, count, change, next_capacity, entries_of};
 ghost use Rattle.table_core.specs.Machine.{loads, checked, begin_growth, copy_next, show_built};
@@ -89,8 +88,8 @@ fn entries_of_last<A: Allocator + Copy>(
 
 /// The capacities of some generations together.
 fn capacity_of<A: Allocator + Copy>(generations: &[Generation<A>]) -> u64
-    requires { weigh (λ (g : Gen). g.capacity) generations.now < 2 ^ 64 }
-    ensures { result ≡ weigh (λ (g : Gen). g.capacity) generations.now }
+    requires { sum_by (λ (g : Gen). g.capacity) generations.now < 2 ^ 64 }
+    ensures { result ≡ sum_by (λ (g : Gen). g.capacity) generations.now }
 {
     let mut buckets = 0;
     for generation in generations {

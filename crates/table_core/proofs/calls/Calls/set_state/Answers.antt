@@ -1,8 +1,9 @@
 use Rattle.std.proofs.Common.{◌∙◌, ap, sym, ◌<◌, ◌≡◌, length, subst, List, refl, Some, arith}
 use Rattle.std.specs.List.{slice_get}
+use Rattle.std.proofs.lemmas.List.Sums.{count_by-le-length}
 use Rattle.table_core.specs.Calls.{Call, holds_shared, holds_owned}
 use Rattle.table_core.specs.declared.call.CallState.{CallState}
-use Rattle.table_core.proofs.CodeCalls.{call_within, indexed_set, counted_among, ones_within}
+use Rattle.table_core.proofs.CodeCalls.{call_within, indexed_set, counted_among}
 use Rattle.table_core.proofs.calls.Calls.set_state.Goals as goal
 
 pub recount-self-inside-requires-clause-counted : goal.recount-self-inside-requires-clause-counted
@@ -15,7 +16,7 @@ recount-self-inside-requires-clause-counted g c =
 
 pub recount-self-inside-requires-clause-small : goal.recount-self-inside-requires-clause-small
 recount-self-inside-requires-clause-small g c =
-    omega (arith, c.self.invariant.shared, ones_within (λ (d : Call). holds_shared d.state.phase) c.self.inside.all.items, c.self.inside.all.small)
+    omega (arith, c.self.invariant.shared, count_by-le-length (λ (d : Call). holds_shared d.state.phase) c.self.inside.all.items, c.self.inside.all.small)
 
 pub recount-self-inside-requires-2-clause-counted : goal.recount-self-inside-requires-2-clause-counted
 recount-self-inside-requires-2-clause-counted g c =
@@ -27,7 +28,7 @@ recount-self-inside-requires-2-clause-counted g c =
 
 pub recount-self-inside-requires-2-clause-small : goal.recount-self-inside-requires-2-clause-small
 recount-self-inside-requires-2-clause-small g c =
-    omega (arith, c.self.invariant.owned, ones_within (λ (d : Call). holds_owned d.state.phase) c.self.inside.all.items, c.self.inside.all.small)
+    omega (arith, c.self.invariant.owned, count_by-le-length (λ (d : Call). holds_owned d.state.phase) c.self.inside.all.items, c.self.inside.all.small)
 
 pub invariant_of-self : goal.invariant_of-self
 invariant_of-self g c =
