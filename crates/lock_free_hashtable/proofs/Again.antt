@@ -1,4 +1,4 @@
--- Why a value that was inserted is found again.
+-- Why places stay good, and why a value that was inserted is found again.
 use Rattle.std.proofs.Common.{◌≡◌, cond, ℕ, zero, suc, ◌+◌, ◌≤◌, ◌⊎◌, Bool, true, List, [], ◌∷◌, refl, sym, ◌∙◌, arith, inl, inr}
 use Rattle.std.specs.Prelude.{Option, Some, None, Ok, Contains}
 use Rattle.std.specs.List.{sum_by}
@@ -7,14 +7,11 @@ use Rattle.std.proofs.lemmas.List.Elements.{Contains-push}
 use Rattle.std.proofs.lemmas.List.Sorted.{IsPermutation-refl, Contains-permutation}
 use Rattle.std.proofs.lemmas.List.Sums.{sum_by-cons}
 use Rattle.terms.specs.ListObject.{ListReply, Lookup, Answers}
-use Rattle.terms.specs.Laws.{IsLaw}
+use Rattle.terms.specs.Laws.{IsLaw, AllApart}
 use Rattle.generations.specs.Buckets.{values_of}
-use Rattle.lock_free_hashtable.specs.Table.{HeldTable, IsEntryAt, IsLawful, entries, marked, entry_at}
-use Rattle.lock_free_hashtable.specs.Held.{IsLawfulInsert, IsLawfulLookup, InsertKeeps, LookupReplies, equal}
-use Rattle.lock_free_hashtable.specs.Again.{AnswersLive, FindsAgain}
-use Rattle.lock_free_hashtable.proofs.Found.{answer_lives}
 use Rattle.generations.specs.declared.cell.Entry.{Entry}
-use Rattle.generations.specs.declared.place.Place.{Place}
+use Rattle.lock_free_hashtable.specs.Shown.{Shows, IsEntryAt, IsLawfulInsert, IsLawfulLookup, InsertKeeps, LookupReplies, entries_of, value_of, equal}
+use Rattle.lock_free_hashtable.specs.Again.{LaterIsReflexive, LaterIsTransitive, AnswersLive, FindsAgain}
 
 module _ {X : Type 0} where
   -- an element of a list is its first or one of the others
@@ -65,36 +62,48 @@ shows_the_one target eq M accepts e (Some shown) r (v, shown_is, is) answers amo
     let one = rw is at answers in
     rw (shown_is, alone v one.0.0 one.0.1) refl
 
-module _ {T U : Type 0} (target : T → U) (same : U → U → Bool) (hash_of : U → ℕ) (law : IsLaw same hash_of) where
-  -- the place that a lawful insert named shows an entry that is the same as the value
-  names_same : (eq : U → U → Bool → Type 0) (rehash : U → ℕ → Type 0) (x : T) (p : Place) (old new : HeldTable T) (hash : ℕ) (back : Option T) →
-      IsLawfulInsert target same hash_of eq rehash (IsLawful target same hash_of old) (entries old) hash x →
-      InsertKeeps target (eq (target x)) (entry_at new) (entries old) x (Ok (p, back)) (entries new) →
-      (e : T) × IsEntryAt new p e × (same (target x) (target e) ≡ true)
-  names_same eq rehash x p old new hash None lawful (lives, moved) =
-      (x, record { lives = lives; among = Contains-permutation _ _ x moved (Contains-push (entries old) x) }, law.reflexive (target x))
-  names_same eq rehash x p old new hash (Some back) lawful (is, (e, lives, among, accepted), moved) =
-      (e, record { lives = lives; among = Contains-permutation _ _ e moved among }, sym (lawful.eq_is e true among accepted))
+module _ {X T P : Type 0} (s : Shows X T P) where
+  -- a table is later than itself, and later is transitive
+  pub later_reflexive : LaterIsReflexive s
+  later_reflexive t p v at = at
 
-  -- the entry at the place of an insert is found again
-  pub found_again : (eq : U → U → Bool → Type 0) (rehash : U → ℕ → Type 0) (answers : U → Bool → Type 0) → FindsAgain target same hash_of eq rehash answers
-  found_again eq rehash answers x p t later result was is_later looks =
-      let named = names_same eq rehash x p was.old t was.hash was.back was.lawful was.inserted.keeps in
-      let e = named.0 in
-      let now = is_later p e named.1 in
-      let is_lawful : IsLawfulLookup target same hash_of answers (IsLawful target same hash_of later) (entries later) (hash_of (target x)) (λ y. same (target x) y) = record {
-        test_is = looks.test_is;
-        hash_is = λ v among passed. sym (law.agrees _ _ passed);
-        table_is = looks.lawful;
-      } in
-      let told = looks.told (λ y. same (target x) y) is_lawful (entries later) (record { counted = looks.counted; permuted = IsPermutation-refl (entries later) }) in (
-        e,
-        named.1.lives,
-        named.2,
-        shows_the_one target (equal target same hash_of) (entries later) (λ v. same (target x) (target v)) e result told.0 told.1 told.2 now.among named.2
-            (λ v among passed. only_one_passes (λ w. same (target x) (target w)) (marked later) v e (looks.lawful.apart (target x)) among now.among passed named.2),
-      )
+  pub later_transitive : LaterIsTransitive s
+  later_transitive a b c before after p v at = after p v (before p v at)
 
--- what an insert answers with lives
-pub every_answer_lives : {T U : Type 0} (target : T → U) (eq : U → U → Bool → Type 0) → AnswersLive target eq
-every_answer_lives target eq old new value p back kept = answer_lives target (eq (target value)) old value p back new kept
+  -- what an insert answers with lives
+  pub every_answer_lives : {U : Type 0} (target : T → U) (eq : U → U → Bool → Type 0) → AnswersLive s target eq
+  every_answer_lives target eq old new value p None (lives, moved) =
+      (value, record { lives = lives; among = Contains-permutation _ _ value moved (Contains-push (entries_of s old) value) })
+  every_answer_lives target eq old new value p (Some back) (is, (e, lives, among, accepted), moved) =
+      (e, record { lives = lives; among = Contains-permutation _ _ e moved among })
+
+  module _ {U : Type 0} (target : T → U) (same : U → U → Bool) (hash_of : U → ℕ) (law : IsLaw same hash_of) where
+    -- the place that a lawful insert named shows an entry that is the same as the value
+    names_same : (eq : U → U → Bool → Type 0) (rehash : U → ℕ → Type 0) (x : T) (p : P) (old new : X) (hash : ℕ) (back : Option T) →
+        IsLawfulInsert target same hash_of eq rehash (s.lawful U target same hash_of old) (entries_of s old) hash x →
+        InsertKeeps target (eq (target x)) (value_of s new) (entries_of s old) x (Ok (p, back)) (entries_of s new) →
+        (e : T) × IsEntryAt s new p e × (same (target x) (target e) ≡ true)
+    names_same eq rehash x p old new hash None lawful (lives, moved) =
+        (x, record { lives = lives; among = Contains-permutation _ _ x moved (Contains-push (entries_of s old) x) }, law.reflexive (target x))
+    names_same eq rehash x p old new hash (Some back) lawful (is, (e, lives, among, accepted), moved) =
+        (e, record { lives = lives; among = Contains-permutation _ _ e moved among }, sym (lawful.eq_is e true among accepted))
+
+    -- the entry at the place of an insert is found again, where the entries of a lawful table are apart
+    pub found_again : ((t : X) → s.lawful U target same hash_of t → AllApart (λ y (e : Entry T). same y (target e.value)) (s.marked t))
+        → (eq : U → U → Bool → Type 0) (rehash : U → ℕ → Type 0) (answers : U → Bool → Type 0) → FindsAgain s target same hash_of eq rehash answers
+    found_again apart eq rehash answers x p t later result was is_later looks =
+        let named = names_same eq rehash x p was.old t was.hash was.back was.lawful was.inserted.keeps in
+        let e = named.0 in
+        let now = is_later p e named.1 in
+        let is_lawful : IsLawfulLookup target same hash_of answers (s.lawful U target same hash_of later) (entries_of s later) (hash_of (target x)) (λ y. same (target x) y) = record {
+          test_is = looks.test_is;
+          hash_is = λ v among passed. sym (law.agrees _ _ passed);
+          table_is = looks.lawful;
+        } in
+        let told = looks.told (λ y. same (target x) y) is_lawful (entries_of s later) (record { counted = looks.counted; permuted = IsPermutation-refl (entries_of s later) }) in (
+          e,
+          named.1.lives,
+          named.2,
+          shows_the_one target (equal target same hash_of) (entries_of s later) (λ v. same (target x) (target v)) e result told.0 told.1 told.2 now.among named.2
+              (λ v among passed. only_one_passes (λ w. same (target x) (target w)) (s.marked later) v e (apart later looks.lawful (target x)) among now.among passed named.2),
+        )

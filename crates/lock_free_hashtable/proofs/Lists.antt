@@ -82,11 +82,13 @@ module _ {T U : Type 0} (target : T → U) where
     inserted r counted s =
         let keeps = keeps_as (eq (target value)) old hash value new r s.keeps in
         record {
-          keeps = keeps;
-          marks = marks_as (eq (target value)) old hash value new r s.keeps;
-          later = later_as (eq (target value)) old hash value new r s.keeps s.homes;
+          says = record {
+            keeps = keeps;
+            marks = marks_as (eq (target value)) old hash value new r s.keeps;
+            later = later_as (eq (target value)) old hash value new r s.keeps s.homes;
+            counted = s.counted counted;
+            lawful = s.lawful;
+            as_list = list_as r s.keeps keeps s.counted s.lawful;
+          };
           first_capacity = s.first_capacity;
-          counted = s.counted counted;
-          lawful = s.lawful;
-          as_list = list_as r s.keeps keeps s.counted s.lawful;
         }

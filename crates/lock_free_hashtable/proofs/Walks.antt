@@ -45,7 +45,6 @@ module _ {T : Type 0} where
   owned-give_entries first gs current size small kept =
       let permuted = owned-are_entries first gs current size kept in
       record {
-        permuted = permuted;
+        gives = record { permuted = permuted; as_list = walks_as_list _ _ permuted };
         fits = omega (arith, length-owned first gs current size kept);
-        as_list = walks_as_list _ _ permuted;
       }

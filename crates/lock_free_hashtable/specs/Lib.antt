@@ -1,5 +1,6 @@
 pub mod Law
 pub mod Capacity
+pub mod Shown
 pub mod Table
 pub mod Growth
 pub mod Held

@@ -1,8 +1,9 @@
 -- A table held alone, as its callers see it.
-use Rattle.std.specs.Prelude.{◌≡◌, ◌⊎◌, ℕ, ◌++◌, Bool, List, [], ◌∷◌, Option, Some, length, map, option_map, Contains, slice_index_or}
+use Rattle.std.specs.Prelude.{◌≡◌, ◌⊎◌, ℕ, ◌++◌, Bool, List, [], ◌∷◌, Option, length, map, option_map, slice_index_or}
 use Rattle.std.specs.List.{sum_by, flat_map}
 use Rattle.std.specs.List.Sorted.{IsPermutation}
-use Rattle.terms.specs.ListObject.{Length, Counted, Answers}
+use Rattle.lock_free_hashtable.specs.Shown as shown
+use Rattle.lock_free_hashtable.specs.Shown.{Shows}
 use Rattle.generations.specs.Buckets.{Content, values, values_of, value_at, owned, set_contents, shown_all, AllSound}
 use Rattle.generations.specs.Ways.{IsLawfulFor}
 use Rattle.terms.specs.Capacities.{IsFirstCapacity}
@@ -51,27 +52,9 @@ module _ {T : Type 0} where
   abbrev pub entry_at : HeldTable T → Place → Option T
   entry_at t p = option_map (λ e. e.value) (home_at t p)
 
-  -- this entry lives at the place
-  pub record IsEntryAt (t : HeldTable T) (p : Place) (v : T) : Type 0 where
-    pub lives : entry_at t p ≡ Some v
-    pub among : Contains (entries t) v
-
-  -- each place keeps its entry, from one table to a later one
-  abbrev pub IsLater : HeldTable T → HeldTable T → Type 0
-  IsLater old new = (p : Place) (v : T) → IsEntryAt old p v → IsEntryAt new p v
-
   -- the size is the number of the entries
   abbrev pub IsCounted : HeldTable T → Type 0
   IsCounted t = t.size ≡ length (entries t)
-
-  -- the table is counted, and its entries are those of the list, in some order
-  pub record Stands (t : HeldTable T) (M : List T) : Type 0 where
-    pub counted : IsCounted t
-    pub permuted : IsPermutation (entries t) M
-
-  -- each list that the table stands for answers its length with this number
-  abbrev pub CountsAsList : HeldTable T → ℕ → Type 0
-  CountsAsList t k = (equal : T → T → Bool) (M : List T) → Stands t M → Answers equal M Length (Counted k) M
 
   -- no generation yet
   abbrev pub empty_table : ℕ → HeldTable T
@@ -113,3 +96,29 @@ IsLawfulForAll {T} {U} target t = (same : U → U → Bool) (hash_of : U → ℕ
 -- a table without entries is lawful for every equality and every hash
 abbrev pub LawfulWithoutEntries : {T U : Type 0} → (T → U) → Type 0
 LawfulWithoutEntries {T} target = (t : HeldTable T) → length (entries t) ≡ 0 → IsLawfulForAll target t
+
+-- a table held alone shows its entries so
+abbrev pub held : {T : Type 0} → Shows (HeldTable T) T Place
+held = record {
+  marked = marked;
+  home_at = home_at;
+  counted = IsCounted;
+  lawful = λ U target same hash_of t. IsLawful target same hash_of t;
+}
+
+module _ {T : Type 0} where
+  -- this entry lives at the place
+  abbrev pub IsEntryAt : HeldTable T → Place → T → Type 0
+  IsEntryAt t p v = shown.IsEntryAt held t p v
+
+  -- each place keeps its entry, from one table to a later one
+  abbrev pub IsLater : HeldTable T → HeldTable T → Type 0
+  IsLater old new = shown.IsLater held old new
+
+  -- the table is counted, and its entries are those of the list, in some order
+  abbrev pub Stands : HeldTable T → List T → Type 0
+  Stands t M = shown.Stands held t M
+
+  -- each list that the table stands for answers its length with this number
+  abbrev pub CountsAsList : HeldTable T → ℕ → Type 0
+  CountsAsList t k = shown.CountsAsList held t k

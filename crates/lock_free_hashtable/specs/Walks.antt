@@ -1,11 +1,10 @@
 -- What a walk over a table gives, and what a table gives when it is taken apart.
-use Rattle.std.specs.Prelude.{ℕ, ◌^◌, ◌<◌, Bool, List, drop, length}
+use Rattle.std.specs.Prelude.{ℕ, ◌^◌, ◌<◌, List, drop, length}
 use Rattle.std.specs.List.{flat_map}
-use Rattle.std.specs.List.Sorted.{IsPermutation}
-use Rattle.terms.specs.ListObject.{Walk, Walked, Answers}
+use Rattle.lock_free_hashtable.specs.Shown as shown
 use Rattle.generations.specs.Buckets.{Content, values, values_of, owned_values, shown_all}
 use Rattle.generations.specs.Generations.{BucketRow}
-use Rattle.lock_free_hashtable.specs.Table.{HeldTable, Stands, entries}
+use Rattle.lock_free_hashtable.specs.Table.{HeldTable, held}
 
 module _ {T : Type 0} where
   -- the values that the buckets of these generations own
@@ -18,10 +17,9 @@ module _ {T : Type 0} where
 
   -- each list that the table stands for answers a walk with these entries
   abbrev pub WalksAsList : HeldTable T → List T → Type 0
-  WalksAsList t es = (equal : T → T → Bool) (M : List T) → Stands t M → Answers equal M Walk (Walked es) M
+  WalksAsList t es = shown.WalksAsList held t es
 
-  -- these are the entries of the table, each once, in some order
+  -- these are the entries of the table, each once, in some order, and fewer than 2^64
   pub record GivesEntries (t : HeldTable T) (es : List T) : Type 0 where
-    pub permuted : IsPermutation (entries t) es
+    pub gives : shown.GivesEntries held t es
     pub fits : length es < 2 ^ 64
-    pub as_list : WalksAsList t es

@@ -1,15 +1,15 @@
 //! Laws of the table held alone, each the contract of a function that does nothing.
 ghost use Rattle.std.specs.Fn.{FnReturnsAt, FnReturnsAtPair};
 ghost use Rattle.lock_free_hashtable.specs.Again.{LaterIsReflexive, LaterIsTransitive, AnswersLive, FindsAgain};
-ghost use Rattle.lock_free_hashtable.specs.Table.{LawfulWithoutEntries};
+ghost use Rattle.lock_free_hashtable.specs.Table.{LawfulWithoutEntries, held};
 
 use generations::atomic_value::{AtomicValue, Law};
 
 /// A place stays good: from a table to a later one every place keeps its entry, and to be later is reflexive and
 /// transitive. Every `place_alone` leaves a later one.
 pub fn places_stay_good<T: AtomicValue>()
-    ensures reflexive { LaterIsReflexive T }
-    ensures transitive { LaterIsTransitive T }
+    ensures reflexive { LaterIsReflexive (held {T = T}) }
+    ensures transitive { LaterIsTransitive (held {T = T}) }
 {}
 
 /// A table without entries is lawful for every equality and every hash.
@@ -19,7 +19,7 @@ pub fn no_entries_is_lawful<T: AtomicValue>()
 
 /// An insert by `eq` that was not refused names the place of an entry of the table that it leaves.
 pub fn answers_live<T: AtomicValue, E: Fn(&T::Target, &T::Target) -> bool>(eq: &E)
-    ensures { AnswersLive T.target (FnReturnsAtPair E.Fn eq.now) }
+    ensures { AnswersLive held T.target (FnReturnsAtPair E.Fn eq.now) }
 {}
 
 /// What was inserted is found again. An insert of a value by `eq` and `hash_fn` was lawful and not refused; then a look-up
@@ -32,5 +32,5 @@ pub fn inserted_is_found_again<
     H: Fn(&T::Target) -> u64,
     F: Fn(&T::Target) -> bool,
 >(eq: &E, hash_fn: &H, test: &F)
-    ensures { FindsAgain T.target L.same L.hash_of (FnReturnsAtPair E.Fn eq.now) (FnReturnsAt H.Fn hash_fn.now) (FnReturnsAt F.Fn test.now) }
+    ensures { FindsAgain held T.target L.same L.hash_of (FnReturnsAtPair E.Fn eq.now) (FnReturnsAt H.Fn hash_fn.now) (FnReturnsAt F.Fn test.now) }
 {}
