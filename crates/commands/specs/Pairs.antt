@@ -33,8 +33,8 @@ module _ {T : Type 0} (pair_of : T → ℕ × ℕ) (t : Table T) where
   abbrev pub HoldsPairs : List (ℕ × ℕ) → Type 0
   HoldsPairs ps = (M : List T) × Stands t M × (map pair_of M ≡ ps)
 
--- on each list of pairs that the old table holds, an insert of the pair x ends so, and the new table holds
--- the list after
+-- on each list of pairs that the old table holds, an insert of the pair x ends so, and the new table
+-- holds the list after
 abbrev pub InsertsAsPairs : {T : Type 0} → (T → ℕ × ℕ) → Table T → ℕ × ℕ → Insertion → Table T
     → Type 0
 InsertsAsPairs pair_of old x how new = (ps : List (ℕ × ℕ)) → HoldsPairs pair_of old ps
