@@ -1,4 +1,5 @@
 pub mod Homes
+pub mod Marks
 pub mod Moves
 pub mod Sent
 pub mod Tokens

@@ -1,12 +1,14 @@
 //! Blocks that live as long as a home, and buckets that name them by their addresses.
 #![tactic(auto)]
 
+mod bucket;
 mod home;
 mod loose_block;
 mod low;
 mod name;
 mod word;
 
+pub use bucket::{Bucket, Entry, Mark, Missed, Refusal};
 pub use home::{Closed, Home, Homed};
 pub use loose_block::LooseBlock;
 pub use low::Low;

@@ -2,15 +2,15 @@
 use Rattle.std.proofs.Common.{◌≡◌, ℕ, suc, ◌+◌, ◌-◌, ◌%◌, Bool, ◌<◌, inl, inr, List, [], ◌∷◌, Option, length, refl, sym, ap, ◌∙◌, arith}
 use Rattle.std.proofs.lemmas.Bool.{cases_lt}
 use Rattle.std.proofs.Math.Nat.{mod-add-mod, add-mod_right, mod-eq_of_lt, mod-lt}
-use Rattle.generations.specs.Buckets.{Part, vacant, own, named, values, set_parts, shown_all, AllSound}
+use Rattle.generations.specs.Buckets.{Content, vacant, own, named, values, set_contents, shown_all, AllSound}
 use Rattle.generations.specs.Probe.{IsPassed}
-use Rattle.generations.specs.Ways.{place}
+use Rattle.terms.specs.Probes.{bucket_at}
 use Rattle.generations.specs.declared.cell.Entry.{Entry}
 use Rattle.generations.proofs.Entries.{all_set}
 
 module _ {T : Type 0} where
   -- as many buckets are set as show an entry
-  pub set_shown : (gs : List (List (Part T))) (ps : List (Part T)) → AllSound gs ps → length (set_parts ps) ≡ length (values (shown_all gs ps))
+  pub set_shown : (gs : List (List (Content T))) (ps : List (Content T)) → AllSound gs ps → length (set_contents ps) ≡ length (values (shown_all gs ps))
   set_shown gs [] s = refl
   set_shown gs (vacant ∷ ps) s = set_shown gs ps (λ k. s (suc k))
   set_shown gs (own e ∷ ps) s = ap suc (set_shown gs ps (λ k. s (suc k)))
@@ -18,7 +18,7 @@ module _ {T : Type 0} where
 
 module _ {X : Type 0} (ps : List (Option X)) (hash : ℕ) where
   -- each bucket lies on the way of each hash
-  way_to : (i : ℕ) → i < length ps → (k : ℕ) × (k < length ps) × (place ps hash k ≡ i)
+  way_to : (i : ℕ) → i < length ps → (k : ℕ) × (k < length ps) × (bucket_at (length ps) hash k ≡ i)
   way_to i lt =
       let n : ℕ = length ps in
       let r : ℕ = hash % n in

@@ -4,8 +4,9 @@ use Rattle.std.specs.Prelude.{slice_set, Contains}
 use Rattle.std.proofs.lemmas.Bool.{cases_lt, cases_eq}
 use Rattle.std.proofs.lemmas.List.{length-set}
 use Rattle.terms.specs.Hashes.{bits_of}
+use Rattle.terms.specs.Probes.{bucket_at}
 use Rattle.generations.specs.Buckets.{values, value_at}
-use Rattle.generations.specs.Ways.{place, IsHeld, IsReached, AllReached, AllMarked}
+use Rattle.generations.specs.Ways.{IsHeld, IsReached, AllReached, AllMarked}
 use Rattle.generations.specs.Probe.{IsPassed, IsVacant}
 use Rattle.generations.specs.declared.cell.Entry.{Entry}
 use Rattle.generations.proofs.Entries.{Contains-values, some_same, not_both, value_at-set}
@@ -18,16 +19,16 @@ module _ {X : Type 0} where
     | inr other ↦ (w, get_or-set_other ps i j (Some v) None other ∙ e)
   ]
 
-  place-set : (ps : List (Option X)) (i hash k : ℕ) (v : X) → place (slice_set ps i (Some v)) hash k ≡ place ps hash k
-  place-set ps i hash k v = ap (λ n. (hash + k) % n) (length-set ps i (Some v))
+  bucket_at-set : (ps : List (Option X)) (i hash k : ℕ) (v : X) → bucket_at (length (slice_set ps i (Some v))) hash k ≡ bucket_at (length ps) hash k
+  bucket_at-set ps i hash k v = ap (λ n. (hash + k) % n) (length-set ps i (Some v))
 
   -- a bucket that is reached stays reached where an empty one is set
   reached_set : (ps : List (Option X)) (i j hash : ℕ) (v : X) → i < length ps → IsReached ps hash j → IsReached (slice_set ps i (Some v)) hash j
   reached_set ps i j hash v lt r = record {
     steps = r.steps;
     within = rw length-set r.within;
-    is = r.is ∙ sym (place-set ps i hash r.steps v);
-    way = λ k h. rw (place-set ps i hash k v) (held_set ps i _ v lt (r.way k h));
+    is = r.is ∙ sym (bucket_at-set ps i hash r.steps v);
+    way = λ k h. rw (bucket_at-set ps i hash k v) (held_set ps i _ v lt (r.way k h));
   }
 
 module _ {T U : Type 0} (target : T → U) (answers : U → Bool → Type 0) (ps : List (Option (Entry T))) (hash : ℕ) where
@@ -40,7 +41,7 @@ module _ {T U : Type 0} (target : T → U) (answers : U → Bool → Type 0) (ps
   vacant_reached i v = record { steps = v.steps; within = v.within; is = v.is; way = λ k h. (let a = v.passed.refused k h in (a.entry, a.held)) }
 
   -- no entry reached by this hash stands at or behind the first empty bucket
-  pub before_vacant : (i : ℕ) → (d : ℕ) → i ≡ place ps hash d → value_at ps i ≡ None → (j : ℕ) (w : Entry T) → value_at ps j ≡ Some w → (r : IsReached ps hash j) → r.steps < d
+  pub before_vacant : (i : ℕ) → (d : ℕ) → i ≡ bucket_at (length ps) hash d → value_at ps i ≡ None → (j : ℕ) (w : Entry T) → value_at ps j ≡ Some w → (r : IsReached ps hash j) → r.steps < d
   before_vacant i d at vacant j w e r = elim (cases_lt r.steps d) [
     | inl lt ↦ lt
     | inr ge ↦ absurd (elim (cases_eq d r.steps) [

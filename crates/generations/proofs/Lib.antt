@@ -1,7 +1,7 @@
 pub mod Entries
 pub mod Laws
-pub mod Parts
+pub mod Contents
 pub mod Counts
 pub mod Probes
-pub mod Rehomes
+pub mod Rehashes
 pub mod Windows

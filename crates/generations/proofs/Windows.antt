@@ -2,7 +2,7 @@
 use Rattle.std.proofs.Common.{◌≡◌, ℕ, ◌+◌, ◌-◌, ◌<◌, ◌≤◌, ◌≢◌, inl, inr, List, Option, Some, None, length, arith, get_or-set_same, get_or-set_other}
 use Rattle.std.specs.Prelude.{slice_set, slice_index}
 use Rattle.std.proofs.lemmas.Bool.{cases_lt}
-use Rattle.generations.specs.Buckets.{Part, part_at, shown}
+use Rattle.generations.specs.Buckets.{Content, content_at, shown}
 use Rattle.generations.specs.Growth.{AreHashes}
 use Rattle.generations.specs.declared.cell.Entry.{Entry}
 use Rattle.generations.proofs.Entries.{not_both}
@@ -10,19 +10,19 @@ use Rattle.generations.proofs.Entries.{not_both}
 same_entry : {X : Type 0} (o : Option X) (x y : X) → o ≡ Some x → o ≡ Some y → x ≡ y
 same_entry o x y e f = cc
 
-module _ {T U : Type 0} (target : T → U) (rehash : U → ℕ → Type 0) (gs : List (List (Part T))) (old : List (Part T)) (from : ℕ) where
+module _ {T U : Type 0} (target : T → U) (rehash : U → ℕ → Type 0) (gs : List (List (Content T))) (old : List (Content T)) (from : ℕ) where
   pub no_hashes : (hs : List ℕ) → AreHashes target rehash gs old from 0 hs
   no_hashes hs k lt within e shows = absurd (let bad : ⊥ = omega arith in bad)
 
   -- at an empty bucket no hash is needed
-  pub hash_skipped : (n : ℕ) (hs : List ℕ) → shown gs (part_at old (from + n)) ≡ None → AreHashes target rehash gs old from n hs → AreHashes target rehash gs old from (n + 1) hs
+  pub hash_skipped : (n : ℕ) (hs : List ℕ) → shown gs (content_at old (from + n)) ≡ None → AreHashes target rehash gs old from n hs → AreHashes target rehash gs old from (n + 1) hs
   hash_skipped n hs none are k lt within e shows = elim (cases_lt k n) [
     | inl less ↦ are k less within e shows
-    | inr ge ↦ absurd (let same : k ≡ n = omega arith in not_both e (shown gs (part_at old (from + n))) (rw same at shows) none)
+    | inr ge ↦ absurd (let same : k ≡ n = omega arith in not_both e (shown gs (content_at old (from + n))) (rw same at shows) none)
   ]
 
   -- one more hash is written
-  pub hash_written : (n hash : ℕ) (hs : List ℕ) (e : Entry T) → n < length hs → shown gs (part_at old (from + n)) ≡ Some e → rehash (target e.value) hash
+  pub hash_written : (n hash : ℕ) (hs : List ℕ) (e : Entry T) → n < length hs → shown gs (content_at old (from + n)) ≡ Some e → rehash (target e.value) hash
       → AreHashes target rehash gs old from n hs → AreHashes target rehash gs old from (n + 1) (slice_set hs n hash)
   hash_written n hash hs e long at asked are k lt within f shows = elim (cases_lt k n) [
     | inl less ↦
@@ -30,13 +30,13 @@ module _ {T U : Type 0} (target : T → U) (rehash : U → ℕ → Type 0) (gs :
         rw (get_or-set_other hs n k hash 0 other) (are k less within f shows)
     | inr ge ↦
         let same : k ≡ n = omega arith in
-        let entry : f ≡ e = same_entry (shown gs (part_at old (from + n))) f e (rw same at shows) at in
+        let entry : f ≡ e = same_entry (shown gs (content_at old (from + n))) f e (rw same at shows) at in
         rw (same, entry, get_or-set_same hs n hash 0 long) asked
   ]
 
   -- the hash of a bucket of the window
   pub hash_in_window : (i : ℕ) (hs : List ℕ) → from ≤ i → i < from + 64 → i < length old → AreHashes target rehash gs old from 64 hs
-      → (e : Entry T) → shown gs (part_at old i) ≡ Some e → rehash (target e.value) (slice_index hs (i - from))
+      → (e : Entry T) → shown gs (content_at old i) ≡ Some e → rehash (target e.value) (slice_index hs (i - from))
   hash_in_window i hs below near within are e shows =
       let same : from + (i - from) ≡ i = omega arith in
       let ahead : i - from < 64 = omega arith in

@@ -1,13 +1,14 @@
 -- What a probe answers.
 use Rattle.std.specs.Prelude.{◌≡◌, ◌≢◌, ◌⊎◌, ℕ, ◌<◌, Bool, true, false, List, Option, Some, None, length}
 use Rattle.terms.specs.Hashes.{bits_of}
-use Rattle.generations.specs.Buckets.{value_at}
-use Rattle.generations.specs.Ways.{place}
+use Rattle.generations.specs.Buckets.{Content, value_at, content_at, shown_all, home_place}
+use Rattle.terms.specs.Probes.{bucket_at}
 use Rattle.generations.specs.declared.cell.Entry.{Entry}
-use Rattle.generations.specs.declared.fixed.Seen.{Seen}
-use Rattle.generations.specs.declared.fixed.Seen.TheVariants as seen
-use Rattle.generations.specs.declared.fixed.Spot.{Spot}
-use Rattle.generations.specs.declared.fixed.Spot.TheVariants.{Accepted, Vacant, Full}
+use Rattle.generations.specs.declared.place.Place.{Place}
+use Rattle.generations.specs.declared.fixed.Comparison.{Comparison}
+use Rattle.generations.specs.declared.fixed.Comparison.TheVariants as comparison
+use Rattle.generations.specs.declared.fixed.ProbeEnd.{ProbeEnd}
+use Rattle.generations.specs.declared.fixed.ProbeEnd.TheVariants.{Accepted, Vacant, Full}
 
 module _ {T U : Type 0} (target : T → U) (answers : U → Bool → Type 0) where
   -- there is an entry with these bits, and the test gave yes for its target
@@ -23,22 +24,22 @@ module _ {T U : Type 0} (target : T → U) (answers : U → Bool → Type 0) whe
     pub held : shown ≡ Some entry
     pub refused : (entry.bits ≢ bits) ⊎ answers (target entry.value) false
 
-  -- what a probe for these bits learns of one bucket
-  abbrev pub Asked : ℕ → Option (Entry T) → Seen T → Type 0
-  Asked bits shown seen.Vacant = shown ≡ None
-  Asked bits shown seen.Passed = IsPassedBy bits shown
-  Asked bits shown (seen.Accepted entry) = IsAcceptedBy bits shown × (shown ≡ Some entry.now)
+  -- what a probe for these bits learns of one bucket, whose entry lives at that place
+  abbrev pub ComparisonGives : ℕ → Option (Entry T) → Place → Comparison T → Type 0
+  ComparisonGives bits shown place comparison.Vacant = shown ≡ None
+  ComparisonGives bits shown place comparison.Different = IsPassedBy bits shown
+  ComparisonGives bits shown place (comparison.Accepted p entry) = IsAcceptedBy bits shown × (shown ≡ Some entry.now) × (p ≡ place)
 
   module _ (ps : List (Option (Entry T))) (hash : ℕ) where
     -- each of the first d buckets of the probe holds an entry that was not accepted
     pub record IsPassed (d : ℕ) : Type 0 where
-      pub refused : (k : ℕ) → k < d → IsPassedBy (bits_of hash) (value_at ps (place ps hash k))
+      pub refused : (k : ℕ) → k < d → IsPassedBy (bits_of hash) (value_at ps (bucket_at (length ps) hash k))
 
     -- the probe passed the buckets before i, and accepted the entry there
     pub record IsAccepted (i : ℕ) : Type 0 where
       pub steps : ℕ
       pub within : steps < length ps
-      pub is : i ≡ place ps hash steps
+      pub is : i ≡ bucket_at (length ps) hash steps
       pub passed : IsPassed steps
       pub accepted : IsAcceptedBy (bits_of hash) (value_at ps i)
 
@@ -46,11 +47,14 @@ module _ {T U : Type 0} (target : T → U) (answers : U → Bool → Type 0) whe
     pub record IsVacant (i : ℕ) : Type 0 where
       pub steps : ℕ
       pub within : steps < length ps
-      pub is : i ≡ place ps hash steps
+      pub is : i ≡ bucket_at (length ps) hash steps
       pub passed : IsPassed steps
       pub vacant : value_at ps i ≡ None
 
-    abbrev pub ProbeGives : Spot T → Type 0
-    ProbeGives (Accepted i entry) = IsAccepted i × (value_at ps i ≡ Some entry.now)
-    ProbeGives (Vacant i) = IsVacant i
-    ProbeGives Full = IsPassed (length ps)
+  -- how a probe ends in the buckets ps of a generation that comes right after the generations gs
+  module _ (gs : List (List (Content T))) (ps : List (Content T)) (hash : ℕ) where
+    abbrev pub ProbeGives : ProbeEnd T → Type 0
+    ProbeGives (Accepted p entry) = (i : ℕ) × IsAccepted (shown_all gs ps) hash i
+        × (value_at (shown_all gs ps) i ≡ Some entry.now) × (p ≡ home_place (length gs) i (content_at ps i))
+    ProbeGives (Vacant i) = IsVacant (shown_all gs ps) hash i
+    ProbeGives Full = IsPassed (shown_all gs ps) hash (length (shown_all gs ps))

@@ -1,15 +1,12 @@
 -- The way of a probe through the buckets of a generation, and when a generation is lawful.
-use Rattle.std.specs.Prelude.{◌≡◌, ℕ, ◌+◌, ◌<◌, ◌≤◌, ◌%◌, Bool, List, Option, Some, length, cond}
-use Rattle.std.specs.List.{sum_by}
+use Rattle.std.specs.Prelude.{◌≡◌, ℕ, ◌<◌, Bool, List, Option, Some, length}
 use Rattle.terms.specs.Hashes.{bits_of}
+use Rattle.terms.specs.Laws.{AllApart}
+use Rattle.terms.specs.Probes.{bucket_at}
 use Rattle.generations.specs.Buckets.{values, value_at}
 use Rattle.generations.specs.declared.cell.Entry.{Entry}
 
 module _ {X : Type 0} where
-  -- the bucket that a probe for this hash looks at after k others
-  abbrev pub place : List (Option X) → ℕ → ℕ → ℕ
-  place ps hash k = (hash + k) % length ps
-
   -- bucket i is set
   abbrev pub IsHeld : List (Option X) → ℕ → Type 0
   IsHeld ps i = (v : X) × (value_at ps i ≡ Some v)
@@ -18,8 +15,8 @@ module _ {X : Type 0} where
   pub record IsReached (ps : List (Option X)) (hash i : ℕ) : Type 0 where
     pub steps : ℕ
     pub within : steps < length ps
-    pub is : i ≡ place ps hash steps
-    pub way : (k : ℕ) → k < steps → IsHeld ps (place ps hash k)
+    pub is : i ≡ bucket_at (length ps) hash steps
+    pub way : (k : ℕ) → k < steps → IsHeld ps (bucket_at (length ps) hash k)
 
 module _ {T U : Type 0} (target : T → U) (hash_of : U → ℕ) where
   -- each entry is reached from its hash
@@ -31,12 +28,8 @@ module _ {T U : Type 0} (target : T → U) (hash_of : U → ℕ) where
   AllMarked ps = (i : ℕ) (e : Entry T) → value_at ps i ≡ Some e → e.bits ≡ bits_of (hash_of (target e.value))
 
 module _ {T U : Type 0} (target : T → U) (same : U → U → Bool) (hash_of : U → ℕ) where
-  -- no two of the entries are the same: each target is the same as at most one entry's
-  abbrev pub AllApart : List (Entry T) → Type 0
-  AllApart es = (x : U) → sum_by (λ e. cond (same x (target e.value)) 1 0) es ≤ 1
-
   -- each entry is reached from its hash and carries its bits, and no two entries are the same
   pub record IsLawfulFor (ps : List (Option (Entry T))) : Type 0 where
     pub reached : AllReached target hash_of ps
     pub marked : AllMarked target hash_of ps
-    pub apart : AllApart (values ps)
+    pub apart : AllApart (λ x e. same x (target e.value)) (values ps)

@@ -23,7 +23,7 @@ pub enum Refusal<T> {
 
 /// What a look at a bucket shows. The bits stand beside the name, so that a probe that skips follows nothing.
 #[derive(Clone, Copy)]
-pub enum Look<'a, T> {
+pub enum BucketView<'a, T> {
     Vacant,
     Own {
         bits: u8,
@@ -62,12 +62,12 @@ pub struct Cell<T: Drop, A: Allocator + Copy> {
 const _: () = prove!(size_of::<Cell<u64, Global>>() == 16);
 
 impl<T: Drop, A: Allocator + Copy> Model for Cell<T, A> {
-    ghost use Rattle.generations.specs.Cells.{part_of, IsMarked};
-    ghost use Rattle.generations.specs.Buckets.{Part};
+    ghost use Rattle.generations.specs.Cells.{content_of, IsMarked};
+    ghost use Rattle.generations.specs.Buckets.{Content};
 
-    ghost Value = { Part T };
+    ghost Value = { Content T };
 
-    ghost view = { λ c. part_of c.plain };
+    ghost view = { λ c. content_of c.plain };
 
     ghost invariant = { λ c. IsMarked c.plain };
 }
@@ -85,12 +85,12 @@ impl<T: Drop, A: Allocator + Copy> Cell<T, A> {
     }
 
     /// What the bucket holds.
-    pub fn look(&self) -> Look<'_, T>
+    pub fn look(&self) -> BucketView<'_, T>
         ensures { Sees self.now result }
     {
         match &self.plain {
-            Plain::Empty => Look::Vacant,
-            Plain::Own { bits, block } => Look::Own {
+            Plain::Empty => BucketView::Vacant,
+            Plain::Own { bits, block } => BucketView::Own {
                 bits: *bits,
                 entry: block.as_ref(),
             },
@@ -98,7 +98,7 @@ impl<T: Drop, A: Allocator + Copy> Cell<T, A> {
                 bits,
                 generation,
                 index,
-            } => Look::Named {
+            } => BucketView::Named {
                 bits: *bits,
                 generation: *generation,
                 index: *index,

@@ -1,35 +1,37 @@
 //! One generation: a fixed table of buckets.
 ghost use Rattle.std.specs.Prelude.{◌≡◌, ◌+◌, ◌-◌, ◌*◌, ◌<◌, ◌≤◌, ◌↔◌, length, option_copied, IfOk, IsSome, Some, None, IsTrue};
 ghost use Rattle.std.specs.Fn.{FnReturnsAt, FnReturnsAtPair};
-ghost use Rattle.terms.specs.Hashes.{bits_of};
-ghost use Rattle.generations.specs.Buckets.{named, owned, home, shown, shown_all, part_at, set_parts, IsSound, AllSound};
+ghost use Rattle.generations.specs.Buckets.{named, owned, home, shown, content_at, set_contents, IsSound, AllSound, home_place};
 ghost use Rattle.generations.specs.Cells.{Sees};
 ghost use Rattle.std.specs.Int.{IsPowerOfTwo};
-ghost use Rattle.generations.specs.Probe.{Asked, ProbeGives};
+ghost use Rattle.generations.specs.Probe.{ComparisonGives, ProbeGives};
 ghost use Rattle.generations.specs.Growth.{Inserts, PutsName};
-ghost use Rattle.generations.specs.Generations.{parts_of, NamesEntry, CountsInsert};
+ghost use Rattle.generations.specs.Generations.{contents_of, NamesEntry, CountsInsert};
 
 pub mod owning;
 
 use crate::atomic_value::AtomicValue;
-use crate::cell::{Cell, Entry, Look, Refusal as CellRefusal};
+use crate::cell::{BucketView, Cell, Entry, Refusal as CellRefusal};
+use crate::place::Place;
 use std::alloc::{AllocError, Allocator};
 use std::marker::Model;
+use terms::probe::{bits_of_hash, first_bucket, next_bucket};
 
-/// How a probe ended: at an entry that was accepted, at an empty bucket, or after a whole turn.
+/// How a probe ended: at an entry that was accepted, with the place where it lives; at the index of an empty bucket; or
+/// after a whole turn.
 #[derive(Clone, Copy)]
-pub enum Spot<'a, T> {
-    Accepted(usize, &'a Entry<T>),
+pub enum ProbeEnd<'a, T> {
+    Accepted(Place, &'a Entry<T>),
     Vacant(usize),
     Full,
 }
 
 /// What a probe learns of one bucket.
 #[derive(Clone, Copy)]
-enum Seen<'a, T> {
+enum Comparison<'a, T> {
     Vacant,
-    Passed,
-    Accepted(&'a Entry<T>),
+    Different,
+    Accepted(Place, &'a Entry<T>),
 }
 
 /// A value that a generation did not take.
@@ -48,13 +50,6 @@ pub struct Name {
     pub index: usize,
 }
 
-/// The eight bits of a hash that a bucket carries: bits 32 to 39.
-fn bits_in(hash: u64) -> u8
-    ensures { result ≡ bits_of hash }
-{
-    (hash >> 32 & 0xff) as u8
-}
-
 /// A generation: as many buckets as its capacity, a power of two, or none.
 #[derive(Drop)]
 pub struct Generation<T: AtomicValue, A: Allocator + Copy> {
@@ -64,11 +59,11 @@ pub struct Generation<T: AtomicValue, A: Allocator + Copy> {
 
 impl<T: AtomicValue, A: Allocator + Copy> Model for Generation<T, A> {
     ghost use Rattle.std.specs.Prelude.{◌≡◌, length};
-    ghost use Rattle.generations.specs.Generations.{Bucketed, IsGeneration};
+    ghost use Rattle.generations.specs.Generations.{BucketRow, IsGeneration};
 
-    ghost Value = { Bucketed T };
+    ghost Value = { BucketRow T };
 
-    ghost view = { λ g. record { parts = g.cells.items; size = g.size } };
+    ghost view = { λ g. record { contents = g.cells.items; size = g.size } };
 
     ghost invariant = { λ g. IsGeneration g.cells.items g.size };
 }
@@ -79,8 +74,8 @@ pub fn entry_named<'a, T: AtomicValue, A: Allocator + Copy>(
     generation: u8,
     index: usize,
 ) -> &'a Entry<T>
-    requires { IsSome (home (parts_of earlier.now) generation index) }
-    ensures { home (parts_of earlier.now) generation index ≡ Some result.now }
+    requires { IsSome (home (contents_of earlier.now) generation index) }
+    ensures { home (contents_of earlier.now) generation index ≡ Some result.now }
 {
     let owner = &earlier[generation as usize];
     match owner.cells[index].get_alone() {
@@ -89,41 +84,58 @@ pub fn entry_named<'a, T: AtomicValue, A: Allocator + Copy>(
     }
 }
 
-/// What the test says of an entry.
-fn asked<'a, T: AtomicValue, F: Fn(&T::Target) -> bool>(
+/// What the test says of an entry that lives at this place.
+fn compare_entry<'a, T: AtomicValue, F: Fn(&T::Target) -> bool>(
+    place: Place,
     entry: &'a Entry<T>,
     test: &F,
-) -> Seen<'a, T>
+) -> Comparison<'a, T>
     requires { F.IsAlwaysCallable test.now }
-    ensures { Asked T.target (FnReturnsAt F.Fn test.now) entry.now.bits (Some entry.now) result }
+    ensures { ComparisonGives T.target (FnReturnsAt F.Fn test.now) entry.now.bits (Some entry.now) place result }
 {
     if test(entry.value.deref()) {
-        Seen::Accepted(entry)
+        Comparison::Accepted(place, entry)
     } else {
-        Seen::Passed
+        Comparison::Different
     }
 }
 
-/// What a probe for these bits learns of a bucket. An entry with other bits is not asked about.
-fn ask<'a, T: AtomicValue, A: Allocator + Copy, F: Fn(&T::Target) -> bool>(
+/// What a probe for these bits learns of a bucket, which has this index in its generation. An entry with other bits is not asked about.
+fn compare_bucket<'a, T: AtomicValue, A: Allocator + Copy, F: Fn(&T::Target) -> bool>(
     earlier: &'a [Generation<T, A>],
     cell: &'a Cell<T, A>,
+    bucket: usize,
     sought: u8,
     test: &F,
-) -> Seen<'a, T>
-    requires sound { IsSound (parts_of earlier.now) cell.now }
+) -> Comparison<'a, T>
+    requires sound { IsSound (contents_of earlier.now) cell.now }
     requires callable { F.IsAlwaysCallable test.now }
-    ensures { Asked T.target (FnReturnsAt F.Fn test.now) sought (shown (parts_of earlier.now) cell.now) result }
+    ensures { ComparisonGives T.target (FnReturnsAt F.Fn test.now) sought (shown (contents_of earlier.now) cell.now)
+        (home_place (length (contents_of earlier.now)) bucket cell.now) result }
 {
     match cell.look() {
-        Look::Vacant => Seen::Vacant,
-        Look::Own { bits, entry } if bits == sought => asked(entry, test),
-        Look::Named {
+        BucketView::Vacant => Comparison::Vacant,
+        BucketView::Own { bits, entry } if bits == sought => compare_entry(
+            Place {
+                generation: earlier.len(),
+                index: bucket,
+            },
+            entry,
+            test,
+        ),
+        BucketView::Named {
             bits,
             generation,
             index,
-        } if bits == sought => asked(entry_named(earlier, generation, index), test),
-        _ => Seen::Passed,
+        } if bits == sought => compare_entry(
+            Place {
+                generation: generation as usize,
+                index,
+            },
+            entry_named(earlier, generation, index),
+            test,
+        ),
+        _ => Comparison::Different,
     }
 }
 
@@ -154,7 +166,7 @@ impl<T: AtomicValue, A: Allocator + Copy> Generation<T, A> {
 
     /// The number of buckets.
     pub fn capacity(&self) -> usize
-        ensures { result ≡ length self.now.parts }
+        ensures { result ≡ length self.now.contents }
     {
         self.cells.len()
     }
@@ -168,15 +180,15 @@ impl<T: AtomicValue, A: Allocator + Copy> Generation<T, A> {
 
     /// Whether at least half of the buckets are set.
     pub fn wants_growth(&self) -> bool
-        ensures { IsTrue result ↔ (length self.now.parts ≤ 2 * self.now.size) }
+        ensures { IsTrue result ↔ (length self.now.contents ≤ 2 * self.now.size) }
     {
         self.cells.len() - self.size <= self.size
     }
 
     /// The entry that the bucket at this index owns.
     pub fn entry_owned(&self, index: usize) -> Option<&Entry<T>>
-        requires { index < length self.now.parts }
-        ensures { option_copied result ≡ owned (part_at self.now.parts index) }
+        requires { index < length self.now.contents }
+        ensures { option_copied result ≡ owned (content_at self.now.contents index) }
     {
         self.cells[index].get_alone()
     }
@@ -187,14 +199,14 @@ impl<T: AtomicValue, A: Allocator + Copy> Generation<T, A> {
         earlier: &'a [Generation<T, A>],
         index: usize,
     ) -> Option<&'a Entry<T>>
-        requires within { index < length self.now.parts }
-        requires sound { AllSound (parts_of earlier.now) self.now.parts }
-        ensures { option_copied result ≡ shown (parts_of earlier.now) (part_at self.now.parts index) }
+        requires within { index < length self.now.contents }
+        requires sound { AllSound (contents_of earlier.now) self.now.contents }
+        ensures { option_copied result ≡ shown (contents_of earlier.now) (content_at self.now.contents index) }
     {
         match self.cells[index].look() {
-            Look::Vacant => None,
-            Look::Own { entry, .. } => Some(entry),
-            Look::Named {
+            BucketView::Vacant => None,
+            BucketView::Own { entry, .. } => Some(entry),
+            BucketView::Named {
                 generation,
                 index,
                 ..
@@ -203,9 +215,9 @@ impl<T: AtomicValue, A: Allocator + Copy> Generation<T, A> {
     }
 
     /// What the bucket at this index holds.
-    pub fn look_at(&self, index: usize) -> Look<'_, T>
-        requires { index < length self.now.parts }
-        ensures { Sees (part_at self.now.parts index) result }
+    pub fn look_at(&self, index: usize) -> BucketView<'_, T>
+        requires { index < length self.now.contents }
+        ensures { Sees (content_at self.now.contents index) result }
     {
         self.cells[index].look()
     }
@@ -216,24 +228,24 @@ impl<T: AtomicValue, A: Allocator + Copy> Generation<T, A> {
         earlier: &'a [Generation<T, A>],
         hash: u64,
         test: &F,
-    ) -> Spot<'a, T>
-        requires room { 0 < length self.now.parts }
-        requires sound { AllSound (parts_of earlier.now) self.now.parts }
+    ) -> ProbeEnd<'a, T>
+        requires room { 0 < length self.now.contents }
+        requires sound { AllSound (contents_of earlier.now) self.now.contents }
         requires callable { F.IsAlwaysCallable test.now }
-        ensures { ProbeGives T.target (FnReturnsAt F.Fn test.now) (shown_all (parts_of earlier.now) self.now.parts) hash result }
+        ensures { ProbeGives T.target (FnReturnsAt F.Fn test.now) (contents_of earlier.now) self.now.contents hash result }
     {
-        let sought = bits_in(hash);
-        let mask = self.cells.len() - 1;
-        let mut index = hash as usize & mask;
-        for _seen in 0..self.cells.len() {
-            match ask(earlier, &self.cells[index], sought, test) {
-                Seen::Vacant => return Spot::Vacant(index),
-                Seen::Accepted(entry) => return Spot::Accepted(index, entry),
-                Seen::Passed => (),
+        let sought = bits_of_hash(hash);
+        let capacity = self.cells.len();
+        let mut index = first_bucket(hash, capacity);
+        for _seen in 0..capacity {
+            match compare_bucket(earlier, &self.cells[index], index, sought, test) {
+                Comparison::Vacant => return ProbeEnd::Vacant(index),
+                Comparison::Accepted(place, entry) => return ProbeEnd::Accepted(place, entry),
+                Comparison::Different => (),
             }
-            index = (index + 1) & mask;
+            index = next_bucket(index, capacity);
         }
-        Spot::Full
+        ProbeEnd::Full
     }
 
     /// A probe for an entry that `eq` accepts as equal to the key: the key is handed in first.
@@ -243,16 +255,17 @@ impl<T: AtomicValue, A: Allocator + Copy> Generation<T, A> {
         hash: u64,
         key: &T::Target,
         eq: &E,
-    ) -> Spot<'a, T>
-        requires room { 0 < length self.now.parts }
-        requires sound { AllSound (parts_of earlier.now) self.now.parts }
+    ) -> ProbeEnd<'a, T>
+        requires room { 0 < length self.now.contents }
+        requires sound { AllSound (contents_of earlier.now) self.now.contents }
         requires callable { E.IsAlwaysCallable eq.now }
-        ensures { ProbeGives T.target (FnReturnsAtPair E.Fn eq.now key.now) (shown_all (parts_of earlier.now) self.now.parts) hash result }
+        ensures { ProbeGives T.target (FnReturnsAtPair E.Fn eq.now key.now) (contents_of earlier.now) self.now.contents hash result }
     {
         self.probe(earlier, hash, &|target: &T::Target| eq(key, target))
     }
 
-    /// Places the value at the first empty bucket, unless an entry before it is accepted as equal. Says which bucket answers.
+    /// Places the value at the first empty bucket, unless an entry before it is accepted as equal. Says where the entry of
+    /// the answer lives: this generation comes right after the earlier ones.
     pub fn insert<E: Fn(&T::Target, &T::Target) -> bool>(
         &mut self,
         alloc: A,
@@ -260,25 +273,26 @@ impl<T: AtomicValue, A: Allocator + Copy> Generation<T, A> {
         hash: u64,
         value: T,
         eq: &E,
-    ) -> Result<(usize, Option<T>), Refusal<T>>
-        requires room { 0 < length self.old.parts }
-        requires sound { AllSound (parts_of earlier.now) self.old.parts }
+    ) -> Result<(Place, Option<T>), Refusal<T>>
+        requires room { 0 < length self.old.contents }
+        requires sound { AllSound (contents_of earlier.now) self.old.contents }
         requires callable { E.IsAlwaysCallable eq.now }
-        ensures inserts { Inserts T.target (FnReturnsAtPair E.Fn eq.now (T.target value)) (parts_of earlier.now)
-            self.old.parts hash value result self.new.parts }
+        ensures inserts { Inserts T.target (FnReturnsAtPair E.Fn eq.now (T.target value)) (contents_of earlier.now)
+            self.old.contents hash value result self.new.contents }
         ensures size { CountsInsert self.old.size result self.new.size }
     {
         match self.probe_same(earlier, hash, value.deref(), eq) {
-            Spot::Accepted(index, _) => Ok((index, Some(value))),
-            Spot::Full => Err(Refusal::Full(value)),
-            Spot::Vacant(index) => match self.cells[index].place_alone(
+            ProbeEnd::Accepted(place, _) => Ok((place, Some(value))),
+            ProbeEnd::Full => Err(Refusal::Full(value)),
+            ProbeEnd::Vacant(index) => match self.cells[index].place_alone(
                 alloc,
                 value,
-                bits_in(hash),
+                bits_of_hash(hash),
             ) {
                 Ok(()) => {
                     self.size += 1;
-                    Ok((index, None))
+                    let generation = earlier.len();
+                    Ok((Place { generation, index }, None))
                 }
                 Err(CellRefusal::NoMemory(value)) => Err(Refusal::NoMemory(value)),
                 Err(CellRefusal::Taken(_value)) => unreachable!(),
@@ -288,15 +302,15 @@ impl<T: AtomicValue, A: Allocator + Copy> Generation<T, A> {
 
     /// Puts the name of an entry into the first empty bucket of this hash, without asking about equals.
     pub fn insert_unique(&mut self, earlier: &[Generation<T, A>], hash: u64, name: Name)
-        requires room { self.old.size < length self.old.parts }
-        requires sound { AllSound (parts_of earlier.now) self.old.parts }
-        requires leads { NamesEntry (parts_of earlier.now) name.bits name.generation name.index }
-        ensures put { PutsName T.target (parts_of earlier.now) self.old.parts self.new.parts hash (named name.bits name.generation name.index) }
+        requires room { self.old.size < length self.old.contents }
+        requires sound { AllSound (contents_of earlier.now) self.old.contents }
+        requires leads { NamesEntry (contents_of earlier.now) name.bits name.generation name.index }
+        ensures put { PutsName T.target (contents_of earlier.now) self.old.contents self.new.contents hash (named name.bits name.generation name.index) }
         ensures size { self.new.size ≡ self.old.size + 1 }
-        ensures counted { self.new.size ≡ length (set_parts self.new.parts) }
+        ensures counted { self.new.size ≡ length (set_contents self.new.contents) }
     {
         match self.probe(earlier, hash, &|_target: &T::Target| false) {
-            Spot::Vacant(index) => {
+            ProbeEnd::Vacant(index) => {
                 self.cells[index].name_alone(name.bits, name.generation, name.index);
                 self.size += 1;
             }

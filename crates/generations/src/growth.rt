@@ -1,13 +1,13 @@
 //! A generation made of the entries of the one before.
 ghost use Rattle.std.specs.Prelude.{◌≡◌, ◌+◌, ◌<◌, ◌≤◌, length, IfOk};
 ghost use Rattle.std.specs.Fn.{FnReturnsAt};
-ghost use Rattle.generations.specs.Buckets.{shown_all, part_at, AllSound, set_parts};
+ghost use Rattle.generations.specs.Buckets.{shown_all, content_at, AllSound, set_contents};
 ghost use Rattle.std.specs.Int.{IsPowerOfTwo};
-ghost use Rattle.generations.specs.Growth.{IsRehomed, AreHashes, PutsShown};
-ghost use Rattle.generations.specs.Generations.{parts_of, last_of, NamesShown, IsNamedIn};
+ghost use Rattle.generations.specs.Growth.{IsRehashed, AreHashes, PutsShown};
+ghost use Rattle.generations.specs.Generations.{contents_of, last_of, NamesShown, IsNamedIn};
 
 use crate::atomic_value::AtomicValue;
-use crate::cell::Look;
+use crate::cell::BucketView;
 use crate::fixed::{Generation, Name};
 use std::alloc::{AllocError, Allocator};
 
@@ -22,18 +22,18 @@ fn name_at<T: AtomicValue, A: Allocator + Copy>(
     index: usize,
 ) -> Option<Name>
     requires last { last + 1 ≡ length earlier.now }
-    requires place { index < length (last_of (parts_of earlier.now)) }
-    requires sound { AllSound (parts_of earlier.now) (last_of (parts_of earlier.now)) }
-    ensures { NamesShown (parts_of earlier.now) (part_at (last_of (parts_of earlier.now)) index) result }
+    requires place { index < length (last_of (contents_of earlier.now)) }
+    requires sound { AllSound (contents_of earlier.now) (last_of (contents_of earlier.now)) }
+    ensures { NamesShown (contents_of earlier.now) (content_at (last_of (contents_of earlier.now)) index) result }
 {
     match earlier[last as usize].look_at(index) {
-        Look::Vacant => None,
-        Look::Own { bits, .. } => Some(Name {
+        BucketView::Vacant => None,
+        BucketView::Own { bits, .. } => Some(Name {
             bits,
             generation: last,
             index,
         }),
-        Look::Named {
+        BucketView::Named {
             bits,
             generation,
             index,
@@ -54,10 +54,10 @@ fn hash_window<T: AtomicValue, A: Allocator + Copy, H: Fn(&T::Target) -> u64>(
     hashes: &mut [u64; WINDOW],
 )
     requires last { last + 1 ≡ length earlier.now }
-    requires place { from ≤ length (last_of (parts_of earlier.now)) }
-    requires sound { AllSound (parts_of earlier.now) (last_of (parts_of earlier.now)) }
+    requires place { from ≤ length (last_of (contents_of earlier.now)) }
+    requires sound { AllSound (contents_of earlier.now) (last_of (contents_of earlier.now)) }
     requires callable { H.IsAlwaysCallable hash_fn.now }
-    ensures { AreHashes T.target (FnReturnsAt H.Fn hash_fn.now) (parts_of earlier.now) (last_of (parts_of earlier.now)) from WINDOW hashes.new }
+    ensures { AreHashes T.target (FnReturnsAt H.Fn hash_fn.now) (contents_of earlier.now) (last_of (contents_of earlier.now)) from WINDOW hashes.new }
 {
     let generation = &earlier[last as usize];
     let left = generation.capacity() - from;
@@ -70,7 +70,7 @@ fn hash_window<T: AtomicValue, A: Allocator + Copy, H: Fn(&T::Target) -> u64>(
 }
 
 /// Names the entry that a bucket of the last generation shows, if there is one, in the generation being built.
-fn rehome_one<T: AtomicValue, A: Allocator + Copy>(
+fn rehash_one<T: AtomicValue, A: Allocator + Copy>(
     earlier: &[Generation<T, A>],
     last: u8,
     index: usize,
@@ -78,16 +78,16 @@ fn rehome_one<T: AtomicValue, A: Allocator + Copy>(
     built: &mut Generation<T, A>,
 )
     requires last { last + 1 ≡ length earlier.now }
-    requires place { index < length (last_of (parts_of earlier.now)) }
-    requires sound { AllSound (parts_of earlier.now) (last_of (parts_of earlier.now)) }
-    requires room { built.old.size < length built.old.parts }
-    requires counted { built.old.size ≡ length (set_parts built.old.parts) }
-    requires names { IsNamedIn (parts_of earlier.now) built.old.parts }
-    ensures long { length built.new.parts ≡ length built.old.parts }
+    requires place { index < length (last_of (contents_of earlier.now)) }
+    requires sound { AllSound (contents_of earlier.now) (last_of (contents_of earlier.now)) }
+    requires room { built.old.size < length built.old.contents }
+    requires counted { built.old.size ≡ length (set_contents built.old.contents) }
+    requires names { IsNamedIn (contents_of earlier.now) built.old.contents }
+    ensures long { length built.new.contents ≡ length built.old.contents }
     ensures grown { built.new.size ≤ built.old.size + 1 }
-    ensures counted { built.new.size ≡ length (set_parts built.new.parts) }
-    ensures names { IsNamedIn (parts_of earlier.now) built.new.parts }
-    ensures step { PutsShown T.target (parts_of earlier.now) (last_of (parts_of earlier.now)) index hash built.old.parts built.new.parts }
+    ensures counted { built.new.size ≡ length (set_contents built.new.contents) }
+    ensures names { IsNamedIn (contents_of earlier.now) built.new.contents }
+    ensures step { PutsShown T.target (contents_of earlier.now) (last_of (contents_of earlier.now)) index hash built.old.contents built.new.contents }
 {
     if let Some(name) = name_at(earlier, last, index) {
         built.insert_unique(earlier, hash, name);
@@ -95,7 +95,7 @@ fn rehome_one<T: AtomicValue, A: Allocator + Copy>(
 }
 
 /// A generation of this capacity that names every entry of the last earlier one, by the hashes that `hash_fn` gives.
-pub fn rehomed<T: AtomicValue, A: Allocator + Copy, H: Fn(&T::Target) -> u64>(
+pub fn rehashed<T: AtomicValue, A: Allocator + Copy, H: Fn(&T::Target) -> u64>(
     alloc: A,
     earlier: &[Generation<T, A>],
     last: u8,
@@ -103,15 +103,15 @@ pub fn rehomed<T: AtomicValue, A: Allocator + Copy, H: Fn(&T::Target) -> u64>(
     hash_fn: &H,
 ) -> Result<Generation<T, A>, AllocError>
     requires last { last + 1 ≡ length earlier.now }
-    requires sound { AllSound (parts_of earlier.now) (last_of (parts_of earlier.now)) }
+    requires sound { AllSound (contents_of earlier.now) (last_of (contents_of earlier.now)) }
     requires power { IsPowerOfTwo capacity }
-    requires room { length (last_of (parts_of earlier.now)) < capacity }
+    requires room { length (last_of (contents_of earlier.now)) < capacity }
     requires callable { H.IsAlwaysCallable hash_fn.now }
-    ensures long { IfOk result (λ built. length built.parts ≡ capacity) }
-    ensures counted { IfOk result (λ built. built.size ≡ length (set_parts built.parts)) }
-    ensures names { IfOk result (λ built. IsNamedIn (parts_of earlier.now) built.parts) }
-    ensures rehomed { IfOk result (λ built. IsRehomed T.target (FnReturnsAt H.Fn hash_fn.now)
-        (shown_all (parts_of earlier.now) (last_of (parts_of earlier.now))) (shown_all (parts_of earlier.now) built.parts)) }
+    ensures long { IfOk result (λ built. length built.contents ≡ capacity) }
+    ensures counted { IfOk result (λ built. built.size ≡ length (set_contents built.contents)) }
+    ensures names { IfOk result (λ built. IsNamedIn (contents_of earlier.now) built.contents) }
+    ensures rehashed { IfOk result (λ built. IsRehashed T.target (FnReturnsAt H.Fn hash_fn.now)
+        (shown_all (contents_of earlier.now) (last_of (contents_of earlier.now))) (shown_all (contents_of earlier.now) built.contents)) }
 {
     let mut built = Generation::with_capacity(alloc, capacity)?;
     let old = earlier[last as usize].capacity();
@@ -123,7 +123,7 @@ pub fn rehomed<T: AtomicValue, A: Allocator + Copy, H: Fn(&T::Target) -> u64>(
             from = index;
             hash_window(earlier, last, from, hash_fn, &mut hashes);
         }
-        rehome_one(earlier, last, index, hashes[index - from], &mut built);
+        rehash_one(earlier, last, index, hashes[index - from], &mut built);
     }
     Ok(built)
 }

@@ -9,7 +9,7 @@ use Rattle.std.proofs.lemmas.List.Sums.{sum_by-cons}
 use Rattle.terms.specs.ListObject.{ListReply, Lookup, Answers}
 use Rattle.terms.specs.Laws.{IsLaw}
 use Rattle.generations.specs.Buckets.{values_of}
-use Rattle.lock_free_hashtable.specs.Table.{Table, IsEntryAt, IsLawful, entries, marked, entry_at}
+use Rattle.lock_free_hashtable.specs.Table.{HeldTable, IsEntryAt, IsLawful, entries, marked, entry_at}
 use Rattle.lock_free_hashtable.specs.Held.{IsLawfulInsert, IsLawfulLookup, InsertKeeps, LookupReplies, equal}
 use Rattle.lock_free_hashtable.specs.Again.{AnswersLive, FindsAgain}
 use Rattle.lock_free_hashtable.proofs.Found.{answer_lives}
@@ -67,7 +67,7 @@ shows_the_one target eq M accepts e (Some shown) r (v, shown_is, is) answers amo
 
 module _ {T U : Type 0} (target : T → U) (same : U → U → Bool) (hash_of : U → ℕ) (law : IsLaw same hash_of) where
   -- the place that a lawful insert named shows an entry that is the same as the value
-  names_same : (eq : U → U → Bool → Type 0) (rehash : U → ℕ → Type 0) (x : T) (p : Place) (old new : Table T) (hash : ℕ) (back : Option T) →
+  names_same : (eq : U → U → Bool → Type 0) (rehash : U → ℕ → Type 0) (x : T) (p : Place) (old new : HeldTable T) (hash : ℕ) (back : Option T) →
       IsLawfulInsert target same hash_of eq rehash (IsLawful target same hash_of old) (entries old) hash x →
       InsertKeeps target (eq (target x)) (entry_at new) (entries old) x (Ok (p, back)) (entries new) →
       (e : T) × IsEntryAt new p e × (same (target x) (target e) ≡ true)

@@ -6,14 +6,14 @@ use Rattle.std.proofs.lemmas.Bool.{cases_Bool, false≢true}
 use Rattle.std.proofs.lemmas.List.Sorted.{sum_by-IsPermutation}
 use Rattle.std.proofs.lemmas.List.Sums.{sum_by-append}
 use Rattle.std.proofs.lemmas.List.Elements.{Contains-append_right}
-use Rattle.terms.specs.Laws.{IsLaw}
+use Rattle.terms.specs.Laws.{IsLaw, AllApart}
 use Rattle.terms.specs.Hashes.{bits_of}
 use Rattle.generations.specs.Buckets.{value_at}
-use Rattle.generations.specs.Ways.{IsReached, IsLawfulFor, AllApart}
+use Rattle.generations.specs.Ways.{IsReached, IsLawfulFor}
 use Rattle.generations.specs.Probe.{IsPassed, IsVacant}
 use Rattle.generations.specs.Growth.{entry_of}
 use Rattle.lock_free_hashtable.specs.Held.{IsLawfulInsert, IsNew}
-use Rattle.lock_free_hashtable.specs.Table.{Table, IsLawful, entries, marked}
+use Rattle.lock_free_hashtable.specs.Table.{HeldTable, IsLawful, entries, marked}
 use Rattle.generations.specs.declared.cell.Entry.{Entry}
 use Rattle.generations.proofs.Entries.{values-set, place_of, contains_value, entry_with}
 use Rattle.generations.proofs.Laws.{before_vacant, passed_refuses, reached_after, marked_after}
@@ -31,14 +31,14 @@ module _ {T U : Type 0} (target : T → U) (same : U → U → Bool) (hash_of : 
   ]
 
   -- one more entry, which is the same as none
-  one_more : (es : List (Entry T)) → AllApart target same hash_of es → (x : U) (w : Entry T) → ((e : Entry T) → Contains es e → same (target w.value) (target e.value) ≡ false) → sum_by (λ e. cond (same x (target e.value)) 1 0) (es ++ w ∷ []) ≤ 1
+  one_more : (es : List (Entry T)) → AllApart (λ y (e : Entry T). same y (target e.value)) es → (x : U) (w : Entry T) → ((e : Entry T) → Contains es e → same (target w.value) (target e.value) ≡ false) → sum_by (λ e. cond (same x (target e.value)) 1 0) (es ++ w ∷ []) ≤ 1
   one_more es apart x w h = elim (cases_Bool (same x (target w.value))) [
     | inl t ↦ rw sum_by-append (rw (unlike_all es x (λ e k. not_true x (target e.value) (target w.value) t (h e k)), t) (omega arith))
     | inr f ↦ rw sum_by-append (rw f (let a = apart x in omega arith))
   ]
 
   -- a lawful insert into the table t
-  module _ (eq : U → U → Bool → Type 0) (rehash : U → ℕ → Type 0) (t : Table T) (hash : ℕ) (value : T)
+  module _ (eq : U → U → Bool → Type 0) (rehash : U → ℕ → Type 0) (t : HeldTable T) (hash : ℕ) (value : T)
       (l : IsLawfulInsert target same hash_of eq rehash (IsLawful target same hash_of t) (entries t) hash value) where
     asks : (e : Entry T) (answer : Bool) → Contains (marked t) e → eq (target value) (target e.value) answer → answer ≡ same (target value) (target e.value)
     asks e answer h a = l.eq_is e.value answer (contains_value (marked t) e h) a

@@ -8,23 +8,23 @@ use Rattle.std.proofs.lemmas.List.{length-map, length-append, length-set, length
 use Rattle.std.proofs.lemmas.List.Sums.{sum_by-append}
 use Rattle.std.proofs.lemmas.List.Sorted.{IsPermutation-refl, IsPermutation-sym, IsPermutation-trans, IsPermutation-append_left, IsPermutation-append_right, length_permutation}
 use Rattle.std.proofs.Math.ListN.{get_or-map}
-use Rattle.generations.specs.Buckets.{Part, vacant, own, values, value_at, owned, set_parts, shown, shown_all, AllSound}
+use Rattle.generations.specs.Buckets.{Content, vacant, own, values, value_at, owned, set_contents, shown, shown_all, AllSound}
 use Rattle.terms.specs.Capacities.{IsFirstCapacity}
 use Rattle.lock_free_hashtable.specs.Capacity.{IsDoubled, IsSized}
-use Rattle.generations.specs.Generations.{Bucketed, last_of, IsNamedIn, blank}
-use Rattle.generations.specs.Growth.{IsRehomed}
+use Rattle.generations.specs.Generations.{BucketRow, last_of, IsNamedIn, blank}
+use Rattle.generations.specs.Growth.{IsRehashed}
 use Rattle.lock_free_hashtable.specs.Growth.{IsGrown, IsOpened, KeepsHomes, with_entry}
 use Rattle.generations.specs.Buckets.{values_of}
 use Rattle.lock_free_hashtable.specs.Table.{table_of, empty_table, homes_of, IsKept, IsBuilt}
 use Rattle.generations.specs.declared.cell.Entry.{Entry}
 use Rattle.generations.proofs.Entries.{values-set, values-replicate, no_values}
 use Rattle.lock_free_hashtable.proofs.Homes.{homes_in, home-is, homes_set, homes_more, home_kept, last_more, owns_none, shown_all_more, all_sound_named, sound_set, owned_none}
-use Rattle.generations.proofs.Parts.{named-replicate, shown-replicate}
+use Rattle.generations.proofs.Contents.{named-replicate, shown-replicate}
 use Rattle.generations.proofs.Counts.{set_shown}
 use Rattle.lock_free_hashtable.proofs.Sizes.{total_set, sized_of, none_of, sized_set, sized_more, sized_first, some_capacity, small_capacity, few_growths, few_buckets}
 
-module _ {T : Type 0} (first : ℕ) (gs : List (List (Part T))) (cur : List (Part T)) (size : ℕ) (kept : IsKept first gs cur size) where
-  set_count : length (set_parts cur) ≡ size
+module _ {T : Type 0} (first : ℕ) (gs : List (List (Content T))) (cur : List (Content T)) (size : ℕ) (kept : IsKept first gs cur size) where
+  set_count : length (set_contents cur) ≡ size
   set_count = set_shown gs cur kept.sound ∙ sym kept.counted
 
   pub doubled : IsDoubled first (length cur)
@@ -35,7 +35,7 @@ module _ {T : Type 0} (first : ℕ) (gs : List (List (Part T))) (cur : List (Par
 
   -- the counts of a table that has a generation
   module _ (some : 0 < length cur) where
-    pub sizes : IsSized first (length gs) (length cur) (sum_by length (homes_of gs cur)) (length (set_parts cur))
+    pub sizes : IsSized first (length gs) (length cur) (sum_by length (homes_of gs cur)) (length (set_contents cur))
     sizes = sized_of first gs cur some kept.built
 
     first_fits : first ≤ length cur
@@ -46,7 +46,7 @@ module _ {T : Type 0} (first : ℕ) (gs : List (List (Part T))) (cur : List (Par
 
     pub buckets_few : sum_by length (homes_of gs cur) ≤ max first (8 * length (values_of (values (shown_all gs cur))) - first)
     buckets_few =
-        let n : length (set_parts cur) ≡ length (values_of (values (shown_all gs cur))) = set_shown gs cur kept.sound ∙ sym (length-map (values (shown_all gs cur)) (λ e. e.value)) in
+        let n : length (set_contents cur) ≡ length (values_of (values (shown_all gs cur))) = set_shown gs cur kept.sound ∙ sym (length-map (values (shown_all gs cur)) (λ e. e.value)) in
         rw (← n) (few_buckets first (length gs) (length cur) _ _ kept.first_is sizes)
 
     pub buckets_sum : length cur - first + length cur + first ≡ 2 * length (shown_all gs cur)
@@ -62,12 +62,12 @@ module _ {T : Type 0} (first : ℕ) (gs : List (List (Part T))) (cur : List (Par
     pub generations_few : length cur < 2 ^ 64 → length gs < 60
     generations_few small = few_growths first (length gs) (length cur) _ _ kept.first_is sizes small
 
-  all_owned : (c : List (Part T)) → flat_map values (homes_of gs c) ≡ flat_map values (homes_in gs) ++ values (map owned c)
+  all_owned : (c : List (Content T)) → flat_map values (homes_of gs c) ≡ flat_map values (homes_in gs) ++ values (map owned c)
   all_owned c = rw map-append (flat_map-append values (homes_in gs) (map owned c ∷ []) ∙ rw append-nil refl)
 
   -- an entry was placed in an empty bucket of the current generation
   module _ (i : ℕ) (e : Entry T) (fits : i < length cur) (empty : value_at (shown_all gs cur) i ≡ None) where
-    abbrev placed : List (Part T)
+    abbrev placed : List (Content T)
     placed = slice_set cur i (own e)
 
     pub shows_placed : shown_all gs placed ≡ slice_set (shown_all gs cur) i (Some e)
@@ -95,7 +95,7 @@ module _ {T : Type 0} (first : ℕ) (gs : List (List (Part T))) (cur : List (Par
     built_placed : IsBuilt first gs placed
     built_placed =
         let some : 0 < length cur = omega arith in
-        let n : length (set_parts placed) ≡ length (set_parts cur) + 1 = set_shown gs placed (sound_set gs cur i e kept.sound) ∙ count_placed ∙ rw set_count refl in
+        let n : length (set_contents placed) ≡ length (set_contents cur) + 1 = set_shown gs placed (sound_set gs cur i e kept.sound) ∙ count_placed ∙ rw set_count refl in
         inr (rw (length-set, total_set gs cur i (own e), n) (sized_set first (length gs) (length cur) _ _ kept.first_is (sizes some)))
 
     pub kept_placed : IsKept first gs placed (size + 1)
@@ -114,13 +114,13 @@ module _ {T : Type 0} (first : ℕ) (gs : List (List (Part T))) (cur : List (Par
     homes_placed p x h = home-is (gs ++ placed ∷ []) p.generation p.index ∙ home_kept gs cur i (own e) (owns_none gs cur i empty) p.generation p.index x (sym (home-is (gs ++ cur ∷ []) p.generation p.index) ∙ h)
 
   -- a generation of twice the capacity was made of names
-  module _ {U : Type 0} {target : T → U} {rehash : U → ℕ → Type 0} (new : List (Part T)) (some : 0 < length cur) (wanted : length cur ≤ 2 * size) (twice : length new ≡ 2 * length cur)
-      (names : IsNamedIn (gs ++ cur ∷ []) new) (made : IsRehomed target rehash (shown_all (gs ++ cur ∷ []) (last_of (gs ++ cur ∷ []))) (shown_all (gs ++ cur ∷ []) new)) where
-    rehomed_shows : IsRehomed target rehash (shown_all gs cur) (shown_all (gs ++ cur ∷ []) new)
-    rehomed_shows = rw (last_more gs cur, shown_all_more gs (cur ∷ []) cur kept.sound) at made
+  module _ {U : Type 0} {target : T → U} {rehash : U → ℕ → Type 0} (new : List (Content T)) (some : 0 < length cur) (wanted : length cur ≤ 2 * size) (twice : length new ≡ 2 * length cur)
+      (names : IsNamedIn (gs ++ cur ∷ []) new) (made : IsRehashed target rehash (shown_all (gs ++ cur ∷ []) (last_of (gs ++ cur ∷ []))) (shown_all (gs ++ cur ∷ []) new)) where
+    rehashed_shows : IsRehashed target rehash (shown_all gs cur) (shown_all (gs ++ cur ∷ []) new)
+    rehashed_shows = rw (last_more gs cur, shown_all_more gs (cur ∷ []) cur kept.sound) at made
 
     pub count_grown : length (values (shown_all (gs ++ cur ∷ []) new)) ≡ size
-    count_grown = length_permutation _ _ rehomed_shows.kept ∙ sym kept.counted
+    count_grown = length_permutation _ _ rehashed_shows.kept ∙ sym kept.counted
 
     pub sound_grown : AllSound (gs ++ cur ∷ []) new
     sound_grown = all_sound_named (gs ++ cur ∷ []) new names
@@ -130,7 +130,7 @@ module _ {T : Type 0} (first : ℕ) (gs : List (List (Part T))) (cur : List (Par
 
     built_grown : IsBuilt first (gs ++ cur ∷ []) new
     built_grown =
-        let n : length (set_parts new) ≡ length (set_parts cur) = set_shown (gs ++ cur ∷ []) new sound_grown ∙ count_grown ∙ sym set_count in
+        let n : length (set_contents new) ≡ length (set_contents cur) = set_shown (gs ++ cur ∷ []) new sound_grown ∙ count_grown ∙ sym set_count in
         let total : sum_by length (homes_of (gs ++ cur ∷ []) new) ≡ sum_by length (homes_of gs cur) + length new =
         rw homes_grown (sum_by-append length (homes_of gs cur) (no_values (length new) ∷ []) ∙ rw length-replicate (omega arith)) in
         let counted = set_count in
@@ -140,7 +140,7 @@ module _ {T : Type 0} (first : ℕ) (gs : List (List (Part T))) (cur : List (Par
     whole_grown =
         let owned_all : flat_map values (homes_of (gs ++ cur ∷ []) new) ≡ flat_map values (homes_of gs cur) =
         rw homes_grown (flat_map-append values (homes_of gs cur) (no_values (length new) ∷ []) ∙ rw (values-replicate, append-nil) refl) in
-        rw owned_all (IsPermutation-trans _ _ _ kept.whole rehomed_shows.kept)
+        rw owned_all (IsPermutation-trans _ _ _ kept.whole rehashed_shows.kept)
 
     pub kept_grown : IsKept first (gs ++ cur ∷ []) new size
     kept_grown = record {
@@ -153,15 +153,15 @@ module _ {T : Type 0} (first : ℕ) (gs : List (List (Part T))) (cur : List (Par
 
     pub table_grown : IsGrown target rehash (table_of first gs cur size) (table_of first (gs ++ cur ∷ []) new size)
     table_grown = record {
-      rehomed = rehomed_shows;
+      rehashed = rehashed_shows;
       doubled = rw (length-map new (shown (gs ++ cur ∷ [])), length-map cur (shown gs)) twice;
       homes = rw length-map homes_grown;
       size = refl;
-      first = refl;
+      first_capacity = refl;
     }
 
 -- the first generation was opened
-module _ {T : Type 0} (first : ℕ) (gs : List (List (Part T))) (cur : List (Part T)) (size : ℕ) (kept : IsKept first gs cur size) (none : length cur ≡ 0) where
+module _ {T : Type 0} (first : ℕ) (gs : List (List (Content T))) (cur : List (Content T)) (size : ℕ) (kept : IsKept first gs cur size) (none : length cur ≡ 0) where
   no_generation : (gs ≡ []) × (cur ≡ [])
   no_generation = none_of first gs cur (let some = kept.first_is.1 in omega arith) none kept.built
 
@@ -174,27 +174,27 @@ module _ (T : Type 0) (first : ℕ) where
   owned_opened : map (owned {T = T}) (replicate first vacant) ≡ no_values first
   owned_opened = rw length-replicate at (owned_none {T = T} [] (replicate first vacant) (named-replicate [] first))
 
-  table_opened : table_of {T = T} first [] (replicate first vacant) 0 ≡ record { first = first; buckets = replicate first None; homes = replicate first None ∷ []; size = 0 }
+  table_opened : table_of {T = T} first [] (replicate first vacant) 0 ≡ record { first_capacity = first; buckets = replicate first None; homes = replicate first None ∷ []; size = 0 }
   table_opened = rw (shown-replicate {T = T} [] first) refl
 
   kept_opened : IsFirstCapacity first → IsKept {T = T} first [] (replicate first vacant) 0
   kept_opened is = record {
     first_is = is;
-    built = inr (rw (length-replicate {A = Part T} first vacant, owned_opened) (sized_first first _ _ (rw length-replicate (omega arith))));
+    built = inr (rw (length-replicate {A = Content T} first vacant, owned_opened) (sized_first first _ _ (rw length-replicate (omega arith))));
     sound = all_sound_named [] (replicate first vacant) (named-replicate [] first);
     whole = rw (owned_opened, values-replicate) (IsPermutation-refl _);
     counted = rw (shown-replicate {T = T} [] first, values-replicate) refl;
   }
 
 -- opening a table without a generation
-module _ {T : Type 0} (first : ℕ) (gs : List (List (Part T))) (cur : List (Part T)) (size : ℕ) (kept : IsKept first gs cur size) (none : length cur ≡ 0) (new : Bucketed T) (made : new ≡ blank first) where
-  pub kept_open : IsKept first gs new.parts new.size
+module _ {T : Type 0} (first : ℕ) (gs : List (List (Content T))) (cur : List (Content T)) (size : ℕ) (kept : IsKept first gs cur size) (none : length cur ≡ 0) (new : BucketRow T) (made : new ≡ blank first) where
+  pub kept_open : IsKept first gs new.contents new.size
   kept_open = rw (made, (no_generation first gs cur size kept none).0) (kept_opened T first kept.first_is)
 
-  pub table_open : IsOpened (table_of first gs cur size) (table_of first gs new.parts new.size)
+  pub table_open : IsOpened (table_of first gs cur size) (table_of first gs new.contents new.size)
   table_open = inl (table_empty first gs cur size kept none, rw (made, (no_generation first gs cur size kept none).0) (table_opened T first))
 
 -- a generation without buckets shows nothing
-pub shows_nothing : {T : Type 0} (gs : List (List (Part T))) (cur : List (Part T)) → length cur ≡ 0 → shown_all gs cur ≡ []
+pub shows_nothing : {T : Type 0} (gs : List (List (Content T))) (cur : List (Content T)) → length cur ≡ 0 → shown_all gs cur ≡ []
 shows_nothing gs [] e = refl
 shows_nothing gs (p ∷ cur) e = absurd (omega arith)

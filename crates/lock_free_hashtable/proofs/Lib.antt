@@ -2,7 +2,7 @@ pub mod Homes
 pub mod Capacities
 pub mod Sizes
 pub mod Kept
-pub mod Settled
+pub mod Tries
 pub mod Grown
 pub mod Lookups
 pub mod Inserts

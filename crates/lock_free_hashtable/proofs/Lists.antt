@@ -10,7 +10,7 @@ use Rattle.generations.specs.Growth.{entry_of}
 use Rattle.lock_free_hashtable.specs.Growth.{KeepsHomes}
 use Rattle.lock_free_hashtable.specs.Held.{InsertKeeps, InsertMarks, InsertAnswers, PlacesAsList, Inserted}
 use Rattle.generations.specs.Buckets.{values_of}
-use Rattle.lock_free_hashtable.specs.Table.{Table, IsLater, IsCounted, IsLawful, entries, entry_at, home_at, marked}
+use Rattle.lock_free_hashtable.specs.Table.{HeldTable, IsLater, IsCounted, IsLawful, entries, entry_at, home_at, marked}
 use Rattle.generations.specs.declared.cell.Entry.{Entry}
 use Rattle.generations.specs.declared.place.Place.{Place}
 use Rattle.generations.proofs.Entries.{contains_value}
@@ -29,7 +29,7 @@ module _ {T : Type 0} where
   home_with (Some e) v h = (e, refl, cc)
 
 module _ {T U : Type 0} (target : T → U) where
-  module _ (accepts : U → Bool → Type 0) (old : Table T) (hash : ℕ) (value : T) (new : Table T) where
+  module _ (accepts : U → Bool → Type 0) (old : HeldTable T) (hash : ℕ) (value : T) (new : HeldTable T) where
     marks_as : (r : Result (Place × Option T) T) → Keeps target accepts old hash value r new → InsertMarks (marked old) hash value r (marked new)
     marks_as (Ok (p, None)) k = k.1
     marks_as (Ok (p, Some back)) k = k.2
@@ -52,7 +52,7 @@ module _ {T U : Type 0} (target : T → U) where
         let x = home_with (home_at old p) v at.lives in
         record { lives = rw (homes p x.0 x.1) (ap Some x.2); among = stays r (keeps_as r k) v at.among }
 
-  module _ (same : U → U → Bool) (hash_of : U → ℕ) (eq : U → U → Bool → Type 0) (rehash : U → ℕ → Type 0) (old : Table T) (hash : ℕ) (value : T) (new : Table T) where
+  module _ (same : U → U → Bool) (hash_of : U → ℕ) (eq : U → U → Bool → Type 0) (rehash : U → ℕ → Type 0) (old : HeldTable T) (hash : ℕ) (value : T) (new : HeldTable T) where
     list_as : (r : Result (Place × Option T) T) → Keeps target (eq (target value)) old hash value r new → InsertKeeps target (eq (target value)) (entry_at new) (entries old) value r (entries new) → (IsCounted old → IsCounted new)
         → InsertAnswers target same hash_of eq rehash (IsLawful target same hash_of old) (entries old) hash value r (IsLawful target same hash_of new) → PlacesAsList target same hash_of eq rehash old hash value r new
     list_as (Ok (p, None)) k i counted lawful l M s = (
@@ -85,7 +85,7 @@ module _ {T U : Type 0} (target : T → U) where
           keeps = keeps;
           marks = marks_as (eq (target value)) old hash value new r s.keeps;
           later = later_as (eq (target value)) old hash value new r s.keeps s.homes;
-          first = s.first;
+          first_capacity = s.first_capacity;
           counted = s.counted counted;
           lawful = s.lawful;
           as_list = list_as r s.keeps keeps s.counted s.lawful;

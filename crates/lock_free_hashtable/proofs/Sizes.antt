@@ -8,7 +8,7 @@ use Rattle.std.proofs.Math.Nat.{pow-suc, le-max_left, le-max_right, le_trans}
 use Rattle.std.proofs.Math.Pow.{pow_mono}
 use Rattle.std.proofs.lemmas.List.{length-map, length-set, map-append}
 use Rattle.std.proofs.lemmas.List.Sums.{sum_by-append}
-use Rattle.generations.specs.Buckets.{Part, owned, set_parts}
+use Rattle.generations.specs.Buckets.{Content, owned, set_contents}
 use Rattle.terms.specs.Capacities.{IsFirstCapacity}
 use Rattle.lock_free_hashtable.specs.Capacity.{IsSized}
 use Rattle.lock_free_hashtable.specs.Table.{homes_of, IsBuilt}
@@ -16,11 +16,11 @@ use Rattle.lock_free_hashtable.proofs.Homes.{homes_in}
 
 module _ {T : Type 0} where
   -- the current generation has its buckets beside those of the earlier ones
-  total_split : (gs : List (List (Part T))) (cur : List (Part T)) → sum_by length (homes_of gs cur) ≡ sum_by length (homes_in gs) + length cur
+  total_split : (gs : List (List (Content T))) (cur : List (Content T)) → sum_by length (homes_of gs cur) ≡ sum_by length (homes_in gs) + length cur
   total_split gs cur = rw map-append (sum_by-append length (homes_in gs) (map owned cur ∷ []) ∙ rw length-map (omega arith))
 
   -- where a bucket is set, each generation has as many buckets as before
-  pub total_set : (gs : List (List (Part T))) (cur : List (Part T)) (i : ℕ) (p : Part T) → sum_by length (homes_of gs (slice_set cur i p)) ≡ sum_by length (homes_of gs cur)
+  pub total_set : (gs : List (List (Content T))) (cur : List (Content T)) (i : ℕ) (p : Content T) → sum_by length (homes_of gs (slice_set cur i p)) ≡ sum_by length (homes_of gs cur)
   total_set gs cur i p = rw (total_split gs (slice_set cur i p), total_split gs cur, length-set) refl
 
 -- a power of two that fits a word of 64 bits is at most 2^63
@@ -84,11 +84,11 @@ pub sized_first : (first n total : ℕ) → total ≡ first → IsSized first 0 
 sized_first first n total e = record { doubled = omega arith; all = omega arith; wanted = inl refl }
 
 -- where there is a bucket, the generations have the sizes that growth gives them
-pub sized_of : {T : Type 0} (first : ℕ) (gs : List (List (Part T))) (cur : List (Part T)) → 0 < length cur → IsBuilt first gs cur → IsSized first (length gs) (length cur) (sum_by length (homes_of gs cur)) (length (set_parts cur))
+pub sized_of : {T : Type 0} (first : ℕ) (gs : List (List (Content T))) (cur : List (Content T)) → 0 < length cur → IsBuilt first gs cur → IsSized first (length gs) (length cur) (sum_by length (homes_of gs cur)) (length (set_contents cur))
 sized_of first gs cur some (inl none) = absurd (let e : length cur ≡ 0 = rw none.1 refl in omega arith)
 sized_of first gs cur some (inr sized) = sized
 
 -- where there is none, there is no generation
-pub none_of : {T : Type 0} (first : ℕ) (gs : List (List (Part T))) (cur : List (Part T)) → 0 < first → length cur ≡ 0 → IsBuilt first gs cur → (gs ≡ []) × (cur ≡ [])
+pub none_of : {T : Type 0} (first : ℕ) (gs : List (List (Content T))) (cur : List (Content T)) → 0 < first → length cur ≡ 0 → IsBuilt first gs cur → (gs ≡ []) × (cur ≡ [])
 none_of first gs cur some e (inl none) = none
 none_of first gs cur some e (inr sized) = absurd (let c = sized.doubled in let p : 0 < first * 2 ^ length gs = mul-pos some (pow_pos (length gs)) in omega arith)

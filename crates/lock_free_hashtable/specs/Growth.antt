@@ -1,42 +1,42 @@
 -- What growth and the steps of an insert do to a table.
 use Rattle.std.specs.Prelude.{◌≡◌, ℕ, ◌-◌, ◌+◌, ◌*◌, ◌<◌, ◌≤◌, ◌++◌, ◌⊎◌, Bool, [], ◌∷◌, Option, Some, None, Result, Ok, Err, length, slice_index_or, slice_set, replicate}
 use Rattle.generations.specs.Buckets.{value_at}
-use Rattle.generations.specs.Growth.{IsRehomed, entry_of}
-use Rattle.generations.specs.Probe.{IsPassed, IsAccepted, IsVacant}
-use Rattle.lock_free_hashtable.specs.Table.{Table, empty_table, home_at}
+use Rattle.generations.specs.Growth.{IsRehashed, TryEnds, entry_of}
+use Rattle.generations.specs.Probe.{IsPassed}
+use Rattle.lock_free_hashtable.specs.Table.{HeldTable, empty_table, home_at}
 use Rattle.generations.specs.declared.cell.Entry.{Entry}
 use Rattle.generations.specs.declared.place.Place.{Place}
 use Rattle.generations.specs.declared.fixed.Refusal.{Refusal}
-use Rattle.generations.specs.declared.fixed.Refusal.TheVariants.{Full, NoMemory}
+use Rattle.generations.specs.declared.fixed.Refusal.TheVariants.{NoMemory}
 
 module _ {T U : Type 0} (target : T → U) (rehash : U → ℕ → Type 0) where
   -- a generation of twice the capacity shows the same entries, which stay where they live
-  pub record IsGrown (old new : Table T) : Type 0 where
-    pub rehomed : IsRehomed target rehash old.buckets new.buckets
+  pub record IsGrown (old new : HeldTable T) : Type 0 where
+    pub rehashed : IsRehashed target rehash old.buckets new.buckets
     pub doubled : length new.buckets ≡ 2 * length old.buckets
     pub homes : new.homes ≡ old.homes ++ replicate (length new.buckets) None ∷ []
     pub size : new.size ≡ old.size
-    pub first : new.first ≡ old.first
+    pub first_capacity : new.first_capacity ≡ old.first_capacity
 
   -- a table with at least half of its buckets set grew, and another one stayed as it was
-  abbrev pub GrowsIfWanted : Table T → Table T → Type 0
+  abbrev pub GrowsIfWanted : HeldTable T → HeldTable T → Type 0
   GrowsIfWanted old new =
       ((length old.buckets ≤ 2 * old.size) × IsGrown old new)
       ⊎ ((2 * old.size < length old.buckets) × (new ≡ old))
 
 module _ {T : Type 0} where
   -- a first generation was made, or one was there
-  abbrev pub IsOpened : Table T → Table T → Type 0
+  abbrev pub IsOpened : HeldTable T → HeldTable T → Type 0
   IsOpened old new =
-      ((old ≡ empty_table old.first) × (new ≡ record { first = old.first; buckets = replicate old.first None; homes = replicate old.first None ∷ []; size = 0 }))
+      ((old ≡ empty_table old.first_capacity) × (new ≡ record { first_capacity = old.first_capacity; buckets = replicate old.first_capacity None; homes = replicate old.first_capacity None ∷ []; size = 0 }))
       ⊎ ((new ≡ old) × (0 < length old.buckets))
 
   -- each place keeps what lives there
-  abbrev pub KeepsHomes : Table T → Table T → Type 0
+  abbrev pub KeepsHomes : HeldTable T → HeldTable T → Type 0
   KeepsHomes old new = (p : Place) (e : Entry T) → home_at old p ≡ Some e → home_at new p ≡ Some e
 
   -- bucket i of the current generation, which was empty, now owns the entry
-  abbrev pub with_entry : Table T → ℕ → Entry T → Table T
+  abbrev pub with_entry : HeldTable T → ℕ → Entry T → HeldTable T
   with_entry t i e =
       let last = length t.homes - 1 in
       record t {
@@ -47,23 +47,24 @@ module _ {T : Type 0} where
 
 module _ {T U : Type 0} (target : T → U) (answers : U → Bool → Type 0) where
   -- what one try to place a value in the current generation does
-  abbrev pub Settles : Table T → ℕ → T → Result (Place × Option T) (Refusal T) → Table T → Type 0
-  Settles old hash value (Ok (p, None)) new =
-      (i : ℕ) × IsVacant target answers old.buckets hash i × (new ≡ with_entry old i (entry_of value hash)) × (home_at new p ≡ Some (entry_of value hash)) × KeepsHomes old new
-  Settles old hash value (Ok (p, Some back)) new =
-      (i : ℕ) × IsAccepted target answers old.buckets hash i × (home_at old p ≡ value_at old.buckets i) × (back ≡ value) × (new ≡ old)
-  Settles old hash value (Err (Full back)) new = IsPassed target answers old.buckets hash (length old.buckets) × (old.size ≡ length old.buckets) × (back ≡ value) × (new ≡ old)
-  Settles old hash value (Err (NoMemory back)) new = ((i : ℕ) × IsVacant target answers old.buckets hash i) × (back ≡ value) × (new ≡ old)
+  abbrev pub TriesToPlace : HeldTable T → ℕ → T → Result (Place × Option T) (Refusal T) → HeldTable T → Type 0
+  TriesToPlace old hash value r new =
+      TryEnds target answers old.buckets hash value
+      (λ p i. (new ≡ with_entry old i (entry_of value hash)) × (home_at new p ≡ Some (entry_of value hash)) × KeepsHomes old new)
+      (λ p i. home_at old p ≡ value_at old.buckets i)
+      (old.size ≡ length old.buckets)
+      (new ≡ old)
+      r
 
 module _ {T U : Type 0} (target : T → U) (accepts : U → Bool → Type 0) (rehash : U → ℕ → Type 0) where
-  -- what a settled value leaves, in the words of one try: an Err is a refused block
-  abbrev pub SettlesIn : Table T → ℕ → T → Result (Place × Option T) T → Table T → Type 0
-  SettlesIn old hash value (Ok settled) new = Settles target accepts old hash value (Ok settled) new
-  SettlesIn old hash value (Err back) new = Settles target accepts old hash value (Err (NoMemory back)) new
+  -- what a placed value leaves, in the words of one try: an Err is a refused block
+  abbrev pub TriesWell : HeldTable T → ℕ → T → Result (Place × Option T) T → HeldTable T → Type 0
+  TriesWell old hash value (Ok placed) new = TriesToPlace target accepts old hash value (Ok placed) new
+  TriesWell old hash value (Err back) new = TriesToPlace target accepts old hash value (Err (NoMemory back)) new
 
-  -- a value is settled in the current generation, or it was full for the value, and then growth was refused, or the value is settled after growth
-  abbrev pub SettlesGrowing : Table T → ℕ → T → Result (Place × Option T) T → Table T → Type 0
-  SettlesGrowing old hash value r new =
-      SettlesIn old hash value r new
+  -- a value is placed in the current generation, or it was full for the value, and then growth was refused, or the value is placed after growth
+  abbrev pub PlacesOrGrows : HeldTable T → ℕ → T → Result (Place × Option T) T → HeldTable T → Type 0
+  PlacesOrGrows old hash value r new =
+      TriesWell old hash value r new
       ⊎ (IsPassed target accepts old.buckets hash (length old.buckets)
-      × (((r ≡ Err value) × (new ≡ old)) ⊎ ((mid : Table T) × IsGrown target rehash old mid × SettlesIn mid hash value r new)))
+      × (((r ≡ Err value) × (new ≡ old)) ⊎ ((mid : HeldTable T) × IsGrown target rehash old mid × TriesWell mid hash value r new)))

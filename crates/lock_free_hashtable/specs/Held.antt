@@ -5,7 +5,7 @@ use Rattle.std.specs.List.Sorted.{IsPermutation}
 use Rattle.terms.specs.ListObject.{ListReply, Placed, Found, Refused, Shown, Absent, Insert, Lookup, Answers}
 use Rattle.std.specs.Borrow.{Bor}
 use Rattle.generations.specs.Growth.{entry_of}
-use Rattle.lock_free_hashtable.specs.Table.{Table, Stands, IsLater, IsCounted, IsLawful, entries, entry_at, marked}
+use Rattle.lock_free_hashtable.specs.Table.{HeldTable, Stands, IsLater, IsCounted, IsLawful, entries, entry_at, marked}
 use Rattle.generations.specs.declared.cell.Entry.{Entry}
 use Rattle.generations.specs.declared.place.Place.{Place}
 
@@ -86,37 +86,37 @@ module _ {T U : Type 0} (target : T → U) (same : U → U → Bool) (hash_of : 
   equal v w = same (target v) (target w)
 
   -- a lawful insert is answered as each list that the table stands for answers it, and the table then stands for the list after
-  abbrev pub PlacesAsList : (U → U → Bool → Type 0) → (U → ℕ → Type 0) → Table T → ℕ → T → Result (Place × Option T) T → Table T → Type 0
+  abbrev pub PlacesAsList : (U → U → Bool → Type 0) → (U → ℕ → Type 0) → HeldTable T → ℕ → T → Result (Place × Option T) T → HeldTable T → Type 0
   PlacesAsList eq rehash old hash value result new =
       IsLawfulInsert target same hash_of eq rehash (IsLawful target same hash_of old) (entries old) hash value →
       (M : List T) → Stands old M →
       (r : ListReply T) × (N : List T) × InsertReplies (entry_at new) result r × Answers equal M (Insert value) r N × Stands new N
 
   -- a lawful look-up is answered as each list that the table stands for answers it
-  abbrev pub LooksUpAsList : (U → Bool → Type 0) → Table T → ℕ → Option U → Type 0
+  abbrev pub LooksUpAsList : (U → Bool → Type 0) → HeldTable T → ℕ → Option U → Type 0
   LooksUpAsList answers t hash result =
       (p : U → Bool) → IsLawfulLookup target same hash_of answers (IsLawful target same hash_of t) (entries t) hash p →
       (M : List T) → Stands t M →
       (r : ListReply T) × LookupReplies target result r × Answers equal M (Lookup (λ v. p (target v))) r M
 
   -- all that an insert says of its result and of the table that it leaves
-  pub record Inserted (eq : U → U → Bool → Type 0) (rehash : U → ℕ → Type 0) (old : Table T) (hash : ℕ) (value : T) (r : Result (Place × Option T) T) (new : Table T) : Type 0 where
+  pub record Inserted (eq : U → U → Bool → Type 0) (rehash : U → ℕ → Type 0) (old : HeldTable T) (hash : ℕ) (value : T) (r : Result (Place × Option T) T) (new : HeldTable T) : Type 0 where
     pub keeps : InsertKeeps target (eq (target value)) (entry_at new) (entries old) value r (entries new)
     pub marks : InsertMarks (marked old) hash value r (marked new)
     pub later : IsLater old new
-    pub first : new.first ≡ old.first
+    pub first_capacity : new.first_capacity ≡ old.first_capacity
     pub counted : IsCounted new
     pub lawful : InsertAnswers target same hash_of eq rehash (IsLawful target same hash_of old) (entries old) hash value r (IsLawful target same hash_of new)
     pub as_list : PlacesAsList eq rehash old hash value r new
 
   -- what is shown at once is the target of the entry at the place
-  abbrev pub ResultShows : Result (Place × Option T) T → Result (Bor U × Option T) T → Table T → Type 0
+  abbrev pub ResultShows : Result (Place × Option T) T → Result (Bor U × Option T) T → HeldTable T → Type 0
   ResultShows (Ok (p, back)) (Ok (shown, out)) new = (out ≡ back) × ShowsAt (entry_at new p) (λ e. shown.now ≡ target e)
   ResultShows (Ok (p, back)) (Err out) new = ⊥
   ResultShows (Err back) (Ok (shown, out)) new = ⊥
   ResultShows (Err back) (Err out) new = out ≡ back
 
   -- what an insert shows at once: as one shows that leaves such a table
-  abbrev pub InsertShows : (U → U → Bool → Type 0) → (U → ℕ → Type 0) → Table T → ℕ → T → Result (Bor U × Option T) T → Type 0
+  abbrev pub InsertShows : (U → U → Bool → Type 0) → (U → ℕ → Type 0) → HeldTable T → ℕ → T → Result (Bor U × Option T) T → Type 0
   InsertShows eq rehash old hash value shown =
-      (r : Result (Place × Option T) T) × (new : Table T) × Inserted eq rehash old hash value r new × ResultShows r shown new
+      (r : Result (Place × Option T) T) × (new : HeldTable T) × Inserted eq rehash old hash value r new × ResultShows r shown new

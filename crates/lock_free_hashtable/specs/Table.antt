@@ -3,7 +3,7 @@ use Rattle.std.specs.Prelude.{◌≡◌, ◌⊎◌, ℕ, ◌++◌, Bool, List, [
 use Rattle.std.specs.List.{sum_by, flat_map}
 use Rattle.std.specs.List.Sorted.{IsPermutation}
 use Rattle.terms.specs.ListObject.{Length, Counted, Answers}
-use Rattle.generations.specs.Buckets.{Part, values, values_of, value_at, owned, set_parts, shown_all, AllSound}
+use Rattle.generations.specs.Buckets.{Content, values, values_of, value_at, owned, set_contents, shown_all, AllSound}
 use Rattle.generations.specs.Ways.{IsLawfulFor}
 use Rattle.terms.specs.Capacities.{IsFirstCapacity}
 use Rattle.lock_free_hashtable.specs.Capacity.{IsSized}
@@ -11,9 +11,10 @@ use Rattle.generations.specs.declared.cell.Entry.{Entry}
 -- under the path that callers know
 pub use Rattle.generations.specs.declared.place.Place.{Place}
 
-pub record Table (T : Type 0) : Type 0 where
+-- what a table held alone shows
+pub record HeldTable (T : Type 0) : Type 0 where
   -- the capacity of the first generation
-  pub first : ℕ
+  pub first_capacity : ℕ
   -- what each bucket of the current generation shows; no bucket while there is no generation
   pub buckets : List (Option (Entry T))
   -- generation by generation, the current one last, what each bucket owns
@@ -21,73 +22,77 @@ pub record Table (T : Type 0) : Type 0 where
   -- the count that the current generation keeps
   pub size : ℕ
 
+-- a held table, under the name that callers know
+abbrev pub Table : Type 0 → Type 0
+Table T = HeldTable T
+
 module _ {T : Type 0} where
   -- the entries with their eight bits, in the order of the buckets
-  abbrev pub marked : Table T → List (Entry T)
+  abbrev pub marked : HeldTable T → List (Entry T)
   marked t = values t.buckets
 
   -- the entries, in the order of the buckets
-  abbrev pub entries : Table T → List T
+  abbrev pub entries : HeldTable T → List T
   entries t = values_of (marked t)
 
   -- the buckets of the current generation
-  abbrev pub capacity : Table T → ℕ
+  abbrev pub capacity : HeldTable T → ℕ
   capacity t = length t.buckets
 
   -- the buckets of all generations
-  abbrev pub all_buckets : Table T → ℕ
+  abbrev pub all_buckets : HeldTable T → ℕ
   all_buckets t = sum_by length t.homes
 
   -- the entry that lives at a place, with its bits
-  abbrev pub home_at : Table T → Place → Option (Entry T)
+  abbrev pub home_at : HeldTable T → Place → Option (Entry T)
   home_at t p = value_at (slice_index_or t.homes p.generation []) p.index
 
   -- the value that lives at a place
-  abbrev pub entry_at : Table T → Place → Option T
+  abbrev pub entry_at : HeldTable T → Place → Option T
   entry_at t p = option_map (λ e. e.value) (home_at t p)
 
   -- this entry lives at the place
-  pub record IsEntryAt (t : Table T) (p : Place) (v : T) : Type 0 where
+  pub record IsEntryAt (t : HeldTable T) (p : Place) (v : T) : Type 0 where
     pub lives : entry_at t p ≡ Some v
     pub among : Contains (entries t) v
 
   -- each place keeps its entry, from one table to a later one
-  abbrev pub IsLater : Table T → Table T → Type 0
+  abbrev pub IsLater : HeldTable T → HeldTable T → Type 0
   IsLater old new = (p : Place) (v : T) → IsEntryAt old p v → IsEntryAt new p v
 
   -- the size is the number of the entries
-  abbrev pub IsCounted : Table T → Type 0
+  abbrev pub IsCounted : HeldTable T → Type 0
   IsCounted t = t.size ≡ length (entries t)
 
   -- the table is counted, and its entries are those of the list, in some order
-  pub record Stands (t : Table T) (M : List T) : Type 0 where
+  pub record Stands (t : HeldTable T) (M : List T) : Type 0 where
     pub counted : IsCounted t
     pub permuted : IsPermutation (entries t) M
 
   -- each list that the table stands for answers its length with this number
-  abbrev pub CountsAsList : Table T → ℕ → Type 0
+  abbrev pub CountsAsList : HeldTable T → ℕ → Type 0
   CountsAsList t k = (equal : T → T → Bool) (M : List T) → Stands t M → Answers equal M Length (Counted k) M
 
   -- no generation yet
-  abbrev pub empty_table : ℕ → Table T
-  empty_table first = record { first = first; buckets = []; homes = [] ∷ []; size = 0 }
+  abbrev pub empty_table : ℕ → HeldTable T
+  empty_table first = record { first_capacity = first; buckets = []; homes = [] ∷ []; size = 0 }
 
   -- what each bucket of each generation owns
-  abbrev pub homes_of : List (List (Part T)) → List (Part T) → List (List (Option (Entry T)))
+  abbrev pub homes_of : List (List (Content T)) → List (Content T) → List (List (Option (Entry T)))
   homes_of gs current = map (λ ps. map owned ps) (gs ++ current ∷ [])
 
   -- the table of earlier generations and a current one
-  abbrev pub table_of : ℕ → List (List (Part T)) → List (Part T) → ℕ → Table T
-  table_of first gs current size = record { first = first; buckets = shown_all gs current; homes = homes_of gs current; size = size }
+  abbrev pub table_of : ℕ → List (List (Content T)) → List (Content T) → ℕ → HeldTable T
+  table_of first gs current size = record { first_capacity = first; buckets = shown_all gs current; homes = homes_of gs current; size = size }
 
   -- there is no generation, or the generations have the sizes that growth gives them
-  abbrev pub IsBuilt : ℕ → List (List (Part T)) → List (Part T) → Type 0
+  abbrev pub IsBuilt : ℕ → List (List (Content T)) → List (Content T) → Type 0
   IsBuilt first gs current =
       ((gs ≡ []) × (current ≡ []))
-      ⊎ IsSized first (length gs) (length current) (sum_by length (homes_of gs current)) (length (set_parts current))
+      ⊎ IsSized first (length gs) (length current) (sum_by length (homes_of gs current)) (length (set_contents current))
 
   -- what is true of the generations of every table
-  pub record IsKept (first : ℕ) (gs : List (List (Part T))) (current : List (Part T)) (size : ℕ) : Type 0 where
+  pub record IsKept (first : ℕ) (gs : List (List (Content T))) (current : List (Content T)) (size : ℕ) : Type 0 where
     pub first_is : IsFirstCapacity first
     pub built : IsBuilt first gs current
     -- each name leads to its entry
@@ -98,13 +103,13 @@ module _ {T : Type 0} where
 
 module _ {T U : Type 0} (target : T → U) (same : U → U → Bool) (hash_of : U → ℕ) where
   -- the current generation is lawful
-  abbrev pub IsLawful : Table T → Type 0
+  abbrev pub IsLawful : HeldTable T → Type 0
   IsLawful t = IsLawfulFor target same hash_of t.buckets
 
 -- the table is lawful for every equality and every hash
-abbrev pub IsLawfulForAll : {T U : Type 0} → (T → U) → Table T → Type 0
+abbrev pub IsLawfulForAll : {T U : Type 0} → (T → U) → HeldTable T → Type 0
 IsLawfulForAll {T} {U} target t = (same : U → U → Bool) (hash_of : U → ℕ) → IsLawful target same hash_of t
 
 -- a table without entries is lawful for every equality and every hash
 abbrev pub LawfulWithoutEntries : {T U : Type 0} → (T → U) → Type 0
-LawfulWithoutEntries {T} target = (t : Table T) → length (entries t) ≡ 0 → IsLawfulForAll target t
+LawfulWithoutEntries {T} target = (t : HeldTable T) → length (entries t) ≡ 0 → IsLawfulForAll target t

@@ -11,9 +11,8 @@ mod iter;
 pub mod laws;
 
 use generations::atomic_value::{AtomicValue, Law};
-use generations::cell::Look;
-use generations::fixed::{Generation, Refusal, Spot};
-use generations::growth::rehomed;
+use generations::fixed::{Generation, Refusal, ProbeEnd};
+use generations::growth::rehashed;
 use generations::place::Place;
 pub use into_iter::IntoIter;
 pub use iter::HeldIter;
@@ -40,27 +39,27 @@ pub fn is_first_capacity(first: usize) -> bool
 /// entries; with any closures no value is lost or kept twice.
 #[derive(Drop)]
 pub struct HeldRawTable<T: AtomicValue, A: Allocator + Copy = Global> {
-    first: usize,
+    first_capacity: usize,
     earlier: Vec<Generation<T, A>, A>,
     current: Generation<T, A>,
     alloc: A,
 }
 
 impl<T: AtomicValue, A: Allocator + Copy> Model for HeldRawTable<T, A> {
-    ghost use Rattle.lock_free_hashtable.specs.Table.{Table, table_of, IsKept};
-    ghost use Rattle.generations.specs.Generations.{parts_of};
+    ghost use Rattle.lock_free_hashtable.specs.Table.{HeldTable, table_of, IsKept};
+    ghost use Rattle.generations.specs.Generations.{contents_of};
 
-    ghost Value = { Table T };
+    ghost Value = { HeldTable T };
 
-    ghost view = { λ t. table_of t.first (parts_of t.earlier.items) t.current.parts t.current.size };
+    ghost view = { λ t. table_of t.first_capacity (contents_of t.earlier.items) t.current.contents t.current.size };
 
-    ghost invariant = { λ t. IsKept t.first (parts_of t.earlier.items) t.current.parts t.current.size };
+    ghost invariant = { λ t. IsKept t.first_capacity (contents_of t.earlier.items) t.current.contents t.current.size };
 }
 
 impl<T: AtomicValue, A: Allocator + Copy> HeldRawTable<T, A> {
-    ghost use Rattle.lock_free_hashtable.specs.Table.{Table, empty_table, entries, marked, capacity, all_buckets};
+    ghost use Rattle.lock_free_hashtable.specs.Table.{HeldTable, empty_table, entries, marked, capacity, all_buckets};
     ghost use Rattle.lock_free_hashtable.specs.Table.{home_at, entry_at, IsLater, IsCounted, IsLawful, IsLawfulForAll, Stands, CountsAsList};
-    ghost use Rattle.lock_free_hashtable.specs.Growth.{IsOpened, IsGrown, GrowsIfWanted, Settles, SettlesGrowing};
+    ghost use Rattle.lock_free_hashtable.specs.Growth.{IsOpened, IsGrown, GrowsIfWanted, TriesToPlace, PlacesOrGrows};
     ghost use Rattle.lock_free_hashtable.specs.Held.{InsertKeeps, InsertMarks, InsertAnswers, PlacesAsList, InsertShows};
     ghost use Rattle.lock_free_hashtable.specs.Held.{ShowsAt, FindsOne, FindsNone, LooksUpAsList};
 
@@ -73,15 +72,15 @@ impl<T: AtomicValue, A: Allocator + Copy> HeldRawTable<T, A> {
         HeldRawTable::with_first_capacity(alloc, FIRST_CAPACITY)
     }
 
-    /// The empty table, whose first generation will have `first` buckets: see `is_first_capacity`. It takes no memory.
-    pub fn with_first_capacity(alloc: A, first: usize) -> Self
-        requires { IsFirstCapacity first }
-        ensures empty { result ≡ empty_table first }
+    /// The empty table, whose first generation will have `first_capacity` buckets: see `is_first_capacity`. It takes no memory.
+    pub fn with_first_capacity(alloc: A, first_capacity: usize) -> Self
+        requires { IsFirstCapacity first_capacity }
+        ensures empty { result ≡ empty_table first_capacity }
         ensures stands { Stands result [] }
         ensures lawful { IsLawfulForAll T.target result }
     {
         HeldRawTable {
-            first,
+            first_capacity,
             earlier: Vec::new(alloc),
             current: Generation::none(alloc),
             alloc,
@@ -107,7 +106,7 @@ impl<T: AtomicValue, A: Allocator + Copy> HeldRawTable<T, A> {
     /// The buckets of the current generation; 0 while there is no generation.
     pub fn capacity_alone(&self) -> usize
         ensures current { result ≡ capacity self.now }
-        ensures doubled { IsDoubled self.now.first result }
+        ensures doubled { IsDoubled self.now.first_capacity result }
     {
         self.current.capacity()
     }
@@ -115,8 +114,8 @@ impl<T: AtomicValue, A: Allocator + Copy> HeldRawTable<T, A> {
     /// The buckets of all generations together.
     pub fn buckets_alone(&self) -> usize
         ensures all { result ≡ all_buckets self.now }
-        ensures few { result ≤ max self.now.first (8 * length (entries self.now) - self.now.first) }
-        ensures sum { 0 < capacity self.now → result + self.now.first ≡ 2 * capacity self.now }
+        ensures linear_in_entries { result ≤ max self.now.first_capacity (8 * length (entries self.now) - self.now.first_capacity) }
+        ensures twice_the_capacity { 0 < capacity self.now → result + self.now.first_capacity ≡ 2 * capacity self.now }
     {
         let capacity = self.current.capacity();
         if capacity == 0 {
@@ -124,18 +123,18 @@ impl<T: AtomicValue, A: Allocator + Copy> HeldRawTable<T, A> {
         }
         // Each generation is twice the one before, so all together are twice this one less the first; in this order no
         // sum passes 2^64.
-        capacity - self.first + capacity
+        capacity - self.first_capacity + capacity
     }
 
     /// Makes the first generation, if there is none. A refusal leaves the table as it was.
     fn open_alone(&mut self) -> Result<(), AllocError>
         ensures opened { OnOk result (IsOpened self.old self.new) }
         ensures some { OnOk result (0 < capacity self.new) }
-        ensures unchanged { OnErr result ((self.old ≡ empty_table self.old.first) × (self.new ≡ self.old)) }
+        ensures unchanged { OnErr result ((self.old ≡ empty_table self.old.first_capacity) × (self.new ≡ self.old)) }
         ensures counted { IsCounted self.old }
     {
         if self.current.capacity() == 0 {
-            self.current = Generation::with_capacity(self.alloc, self.first)?;
+            self.current = Generation::with_capacity(self.alloc, self.first_capacity)?;
         }
         Ok(())
     }
@@ -158,7 +157,7 @@ impl<T: AtomicValue, A: Allocator + Copy> HeldRawTable<T, A> {
             self.current = refused.value;
             return Err(AllocError);
         }
-        match rehomed(self.alloc, self.earlier.as_slice(), last, doubled, hash_fn) {
+        match rehashed(self.alloc, self.earlier.as_slice(), last, doubled, hash_fn) {
             Ok(built) => {
                 self.current = built;
                 Ok(())
@@ -186,29 +185,9 @@ impl<T: AtomicValue, A: Allocator + Copy> HeldRawTable<T, A> {
         Ok(())
     }
 
-    /// The place of the entry that a bucket of the current generation shows.
-    fn place_at(&self, index: usize) -> Place
-        requires { IsSome (value_at self.now.buckets index) }
-        ensures { home_at self.now result ≡ value_at self.now.buckets index }
-    {
-        match self.current.look_at(index) {
-            Look::Named {
-                generation,
-                index,
-                ..
-            } => Place {
-                generation: generation as usize,
-                index,
-            },
-            _ => Place {
-                generation: self.earlier.len(),
-                index,
-            },
-        }
-    }
-
-    /// Places the value in the current generation, unless an entry is accepted as equal. Says where the answer's entry lives.
-    fn settle_alone<E: Fn(&T::Target, &T::Target) -> bool>(
+    /// Places the value in the current generation, unless an entry is accepted as equal. Says where the answer's entry
+    /// lives.
+    fn try_place<E: Fn(&T::Target, &T::Target) -> bool>(
         &mut self,
         hash: u64,
         value: T,
@@ -216,19 +195,14 @@ impl<T: AtomicValue, A: Allocator + Copy> HeldRawTable<T, A> {
     ) -> Result<(Place, Option<T>), Refusal<T>>
         requires some { 0 < capacity self.old }
         requires callable { E.IsAlwaysCallable eq.now }
-        ensures { Settles T.target (FnReturnsAtPair E.Fn eq.now (T.target value)) self.old hash value result self.new }
+        ensures { TriesToPlace T.target (FnReturnsAtPair E.Fn eq.now (T.target value)) self.old hash value result self.new }
     {
-        match self
-            .current
+        self.current
             .insert(self.alloc, self.earlier.as_slice(), hash, value, eq)
-        {
-            Ok((index, back)) => Ok((self.place_at(index), back)),
-            Err(refused) => Err(refused),
-        }
     }
 
     /// Places the value; where the generation is full for it, grows and starts over.
-    fn settle_growing<E: Fn(&T::Target, &T::Target) -> bool, H: Fn(&T::Target) -> u64>(
+    fn place_or_grow<E: Fn(&T::Target, &T::Target) -> bool, H: Fn(&T::Target) -> u64>(
         &mut self,
         hash: u64,
         value: T,
@@ -238,19 +212,19 @@ impl<T: AtomicValue, A: Allocator + Copy> HeldRawTable<T, A> {
         requires some { 0 < capacity self.old }
         requires eq_callable { E.IsAlwaysCallable eq.now }
         requires hash_callable { H.IsAlwaysCallable hash_fn.now }
-        ensures { SettlesGrowing T.target (FnReturnsAtPair E.Fn eq.now (T.target value)) (FnReturnsAt H.Fn hash_fn.now)
+        ensures { PlacesOrGrows T.target (FnReturnsAtPair E.Fn eq.now (T.target value)) (FnReturnsAt H.Fn hash_fn.now)
             self.old hash value result self.new }
     {
-        let value = match self.settle_alone(hash, value, eq) {
-            Ok(settled) => return Ok(settled),
+        let value = match self.try_place(hash, value, eq) {
+            Ok(placed) => return Ok(placed),
             Err(Refusal::NoMemory(value)) => return Err(value),
             Err(Refusal::Full(value)) => value,
         };
         if self.grow_alone(hash_fn).is_err() {
             return Err(value);
         }
-        match self.settle_alone(hash, value, eq) {
-            Ok(settled) => Ok(settled),
+        match self.try_place(hash, value, eq) {
+            Ok(placed) => Ok(placed),
             Err(Refusal::NoMemory(value)) => Err(value),
             Err(Refusal::Full(_)) => unreachable!(),
         }
@@ -278,7 +252,7 @@ impl<T: AtomicValue, A: Allocator + Copy> HeldRawTable<T, A> {
             (entries self.old) value result (entries self.new) }
         ensures marks { InsertMarks (marked self.old) hash value result (marked self.new) }
         ensures later { IsLater self.old self.new }
-        ensures first { self.new.first ≡ self.old.first }
+        ensures first { self.new.first_capacity ≡ self.old.first_capacity }
         ensures counted { IsCounted self.new }
 
         // with lawful ones
@@ -291,15 +265,15 @@ impl<T: AtomicValue, A: Allocator + Copy> HeldRawTable<T, A> {
         if self.open_alone().is_err() {
             return Err(value);
         }
-        let settled = self.settle_growing(hash, value, eq, hash_fn)?;
+        let placed = self.place_or_grow(hash, value, eq, hash_fn)?;
         let _ = self.grow_if_wanted(hash_fn);
-        Ok(settled)
+        Ok(placed)
     }
 
     /// The generation of this number: an earlier one, or the current one, which is the last.
     fn generation_at(&self, generation: usize) -> &Generation<T, A>
         requires { generation < length self.now.homes }
-        ensures { map owned result.now.parts ≡ slice_index_or self.now.homes generation [] }
+        ensures { map owned result.now.contents ≡ slice_index_or self.now.homes generation [] }
     {
         if generation < self.earlier.len() {
             return &self.earlier[generation];
@@ -313,8 +287,8 @@ impl<T: AtomicValue, A: Allocator + Copy> HeldRawTable<T, A> {
         ensures { ShowsAt (entry_at self.now place) (λ v. result.now ≡ T.target v) }
     {
         match self
-            .generation_at(place.generation)
-            .entry_owned(place.index)
+            .generation_at(place.generation())
+            .entry_owned(place.index())
         {
             Some(entry) => entry.value.deref(),
             None => unreachable!(),
@@ -356,7 +330,7 @@ impl<T: AtomicValue, A: Allocator + Copy> HeldRawTable<T, A> {
             return None;
         }
         match self.current.probe(self.earlier.as_slice(), hash, &test) {
-            Spot::Accepted(_, entry) => Some(entry.value.deref()),
+            ProbeEnd::Accepted(_, entry) => Some(entry.value.deref()),
             _ => None,
         }
     }

@@ -7,10 +7,10 @@ use Rattle.table_core.specs.Generations.{Table, bucket_in}
 use Rattle.table_core.specs.Calls.{Call, starts, is_done}
 use Rattle.table_core.specs.Machine.{World, empty, walked_gen, refused, found_entry, reply_of_outcome, Act, acts, after, run}
 use Rattle.table_core.specs.History.{begun_by, beginnings}
-use Rattle.table_core.specs.Steps.{Row, leaves_refused, small, ends, ends_failed, gives_up, looks_none, look_empty, look_meets, look_turns, len_none, len_size, walk_none, walk_skips_last, walk_takes_last, Opens, opens_insert, opens_lookup, opens_len, opens_walk, left}
+use Rattle.table_core.specs.Steps.{Row, leaves_refused, small, ends, ends_failed, gives_up, looks_none, look_empty, look_meets, look_turns, look_turns_unasked, len_none, len_size, walk_none, walk_skips_last, walk_takes_last, Opens, opens_insert, opens_lookup, opens_len, opens_walk, left}
 use Rattle.table_core.specs.declared.event.Event.{Event}
 use Rattle.table_core.specs.declared.event.Event.TheVariants.{Insert}
-use Rattle.table_core.specs.declared.event.Entry.{Entry}
+use Rattle.table_core.specs.declared.generation.Entry.{Entry}
 use Rattle.table_core.specs.declared.call.CallState.{CallState}
 use Rattle.table_core.specs.declared.call.Phase.{Phase}
 use Rattle.table_core.specs.declared.call.Phase.TheVariants.{WantShared, LookLoad, LookProbe, LenLoad, LenSize, WalkLoad, WalkAt}
@@ -40,6 +40,7 @@ row_opening w c (looks_none _ _) = inr refl
 row_opening w c (look_empty _ _ _) = inr refl
 row_opening w c (look_meets _ _ _ _ _) = inr refl
 row_opening w c (look_turns _ _ _ _ _ _) = inr refl
+row_opening w c (look_turns_unasked _ _ _ _ _ _) = inr refl
 row_opening w c (len_none _ _) = inr refl
 row_opening w c (len_size _ _ _) = inr refl
 row_opening w c (walk_none _ _) = inr refl
@@ -185,6 +186,7 @@ row_tells w c (ends_failed _ _) op e q k = tells_value op e q (outcome_own c.sta
 row_tells w c (looks_none _ _) op e q k = told_so _ _ q k (tells_none op e)
 row_tells w c (look_empty _ _ _) op e q k = told_so _ _ q k (tells_none op e)
 row_tells w c (look_turns _ _ _ _ _ _) op e q k = told_so _ _ q k (tells_none op e)
+row_tells w c (look_turns_unasked _ _ _ _ _ _) op e q k = told_so _ _ q k (tells_none op e)
 row_tells w c (look_meets _ _ d _ _) op e q k = told_so _ _ q k (tells_some op e d.value)
 row_tells w c (len_none _ _) op e q k = told_so _ _ q k (tells_len op e 0)
 row_tells w c (len_size _ g _) op e q k = told_so _ _ q k (tells_len op e g.size)

@@ -8,7 +8,7 @@ use Rattle.terms.specs.Capacities.{IsFirstCapacity}
 use Rattle.table_core.specs.Calls.{Call, starts, is_done}
 use Rattle.table_core.specs.Machine.{World, empty, Act, Begins, Goes, acts, happens, finished_call, finished_by, finishes, run, after}
 use Rattle.table_core.specs.History.{replies, fate, answers_so, has_later}
-use Rattle.table_core.specs.Steps.{Row, shares, leaves_refused, small, ends, ends_failed, gives_up, looks_none, look_empty, look_meets, look_turns, len_none, len_size, walk_none, walk_skips_last, walk_takes_last, left}
+use Rattle.table_core.specs.Steps.{Row, shares, leaves_refused, small, ends, ends_failed, gives_up, looks_none, look_empty, look_meets, look_turns, look_turns_unasked, len_none, len_size, walk_none, walk_skips_last, walk_takes_last, left}
 use Rattle.table_core.specs.declared.event.Event.{Event}
 use Rattle.table_core.specs.declared.call.CallState.{CallState}
 use Rattle.table_core.specs.declared.call.Phase.{Phase}
@@ -116,6 +116,7 @@ row_told w c (looks_none _ _) b h = refl
 row_told w c (look_empty _ _ _) b h = refl
 row_told w c (look_meets _ _ _ _ _) b h = refl
 row_told w c (look_turns _ _ _ _ _ _) b h = refl
+row_told w c (look_turns_unasked _ _ _ _ _ _) b h = refl
 row_told w c (len_none _ _) b h = refl
 row_told w c (len_size _ _ _) b h = refl
 row_told w c (walk_none _ _) b h = refl

@@ -12,7 +12,7 @@ use Rattle.table_core.specs.History.{replies, placed_by, placed, given, handed_b
 use Rattle.table_core.specs.Steps.{Row, reads_empty, memory_refused, leaves_refused, small, ends, ends_failed, gives_up, Opens, opens_insert, opens_lookup, opens_len, opens_walk, left}
 use Rattle.table_core.specs.declared.event.Event.{Event}
 use Rattle.table_core.specs.declared.event.Event.TheVariants.{Insert}
-use Rattle.table_core.specs.declared.event.Entry.{Entry}
+use Rattle.table_core.specs.declared.generation.Entry.{Entry}
 use Rattle.table_core.specs.declared.call.CallState.{CallState}
 use Rattle.table_core.specs.declared.call.Phase.{Phase}
 use Rattle.table_core.specs.declared.call.Phase.TheVariants.{WantShared, AtEmpty, LeaveRefused, LeaveFailed, Done}
@@ -24,7 +24,7 @@ use Rattle.table_core.proofs.Locks.{weigh-le, more}
 use Rattle.std.specs.List.{list_all}
 use Rattle.std.proofs.lemmas.Bool.{eqb-true}
 use Rattle.std.proofs.lemmas.List.{append_assoc}
-use Rattle.table_core.specs.Law.{Law, accepts as accepts_value, IsLawful}
+use Rattle.table_core.specs.Law.{Law, accepts, IsLawful}
 use Rattle.table_core.specs.Lists.{is_refusal, NoneRefusedInVain, Classes, SameClasses, passes as one_if}
 use Rattle.table_core.proofs.Turns.{Turn, rests, opens, takes}
 use Rattle.table_core.proofs.Standing.{stands, pending_of}
@@ -106,10 +106,10 @@ last_none [] h = refl
 last_none (x ∷ xs) h = absurd (omega arith)
 
 -- an insert that has turned in the current generation accepts nothing that was placed
-none_at_turn_in : (l : Law) (w : World) (m : List ℕ) (rs : List Finished) (i : ℕ) (c : Call) (o : Option ℕ) → c.state.walked ≡ o → slice_get w.calls i ≡ Some c → wants_growth c.state.phase c.state.outcome ≡ true → is_asking c.state.phase ≡ true → is_current w.table.gens o ≡ true → Inv w m rs → LawOk l w → passing (accepts_value l c) m ≡ 0
+none_at_turn_in : (l : Law) (w : World) (m : List ℕ) (rs : List Finished) (i : ℕ) (c : Call) (o : Option ℕ) → c.state.walked ≡ o → slice_get w.calls i ≡ Some c → wants_growth c.state.phase c.state.outcome ≡ true → is_asking c.state.phase ≡ true → is_current w.table.gens o ≡ true → Inv w m rs → LawOk l w → passing (accepts l c) m ≡ 0
 none_at_turn_in l w m rs i c None e g u a h v o =
     let n : length w.table.gens ≡ 0 = eqb-true (length w.table.gens) 0 h in
-    let b : 0 ≡ passing (accepts_value l c) m = rw (last_none w.table.gens n) at (v.holding.bag (λ u. one_if (accepts_value l c u))) in
+    let b : 0 ≡ passing (accepts l c) m = rw (last_none w.table.gens n) at (v.holding.bag (λ u. one_if (accepts l c u))) in
     sym b
 none_at_turn_in l w m rs i c (Some k) e g u a h v o =
     let n : k + 1 ≡ length w.table.gens = eqb-true (k + 1) (length w.table.gens) h in
@@ -117,7 +117,7 @@ none_at_turn_in l w m rs i c (Some k) e g u a h v o =
     let j = o.calls i c g in
     none_placed l w m c f.0 (current_at w.table.gens k f.0 (omega arith) f.1) v.holding (misses_at_turn l c f.0 f.0.capacity (v.seated.gens k f.0 f.1) (o.gens k f.0 f.1) (j.turned u k f.0 e f.1) (j.hash a) (omega arith))
 
-pub none_at_turn : (l : Law) (w : World) (m : List ℕ) (rs : List Finished) (i : ℕ) (c : Call) → slice_get w.calls i ≡ Some c → wants_growth c.state.phase c.state.outcome ≡ true → is_asking c.state.phase ≡ true → is_current w.table.gens c.state.walked ≡ true → Inv w m rs → LawOk l w → passing (accepts_value l c) m ≡ 0
+pub none_at_turn : (l : Law) (w : World) (m : List ℕ) (rs : List Finished) (i : ℕ) (c : Call) → slice_get w.calls i ≡ Some c → wants_growth c.state.phase c.state.outcome ≡ true → is_asking c.state.phase ≡ true → is_current w.table.gens c.state.walked ≡ true → Inv w m rs → LawOk l w → passing (accepts l c) m ≡ 0
 none_at_turn l w m rs i c g u a h v o = none_at_turn_in l w m rs i c c.state.walked refl g u a h v o
 
 -- a call that has met no empty bucket since it began
@@ -138,7 +138,7 @@ record Sheltered (n v : ℕ) (w : World) : Type 0 where
 -- where an equal entry was placed, it meets none
 sheltered_row : (l : Law) (w : World) (m : List ℕ) (rs : List Finished) (i : ℕ) (c : Call) (v : ℕ) {p : Phase} {x : Event} {a : Answer} {r : CallState} {ls : List ℕ} {t : Table} {q : Option Reply} → Row w c p x a r ls t q → c.state.phase ≡ p → slice_get w.calls i ≡ Some c → c.value ≡ Some v → Inv w m rs → LawOk l w → 1 ≤ passing (l.equal v) m → meets_none p ≡ true → meets_none r.phase ≡ true
 sheltered_row l w m rs i c v (reads_empty _ _ n) e g h k o le z =
-    let none : passing (accepts_value l c) m ≡ 0 = fresh_value l w m rs i c g n (ap probing e) (ap stands e) (ap is_asking e) k o in
+    let none : passing (accepts l c) m ≡ 0 = fresh_value l w m rs i c g n (ap probing e) (ap stands e) (ap is_asking e) k o in
     let same : passing (l.equal v) m ≡ 0 = rw h at none in
     absurd (omega arith)
 sheltered_row l w m rs i c v (memory_refused _ _) e g h k o le z = absurd (cc)
@@ -208,7 +208,7 @@ sheltered_reply l n u back {w = w} m rs (takes i c p a s list u2 b g e row nu) k
       | inr z ↦ (
           let ph : c.state.phase ≡ LeaveFailed = e ∙ z.0 in
           let out : c.state.outcome ≡ Pending = pending_of c.state.outcome z.1 in
-          let none : passing (accepts_value l c) m ≡ 0 = none_at_turn l w m rs i c g (rw (ph, out) refl) (rw ph refl) z.2 k o in
+          let none : passing (accepts l c) m ≡ 0 = none_at_turn l w m rs i c g (rw (ph, out) refl) (rw ph refl) z.2 k o in
           let same : passing (l.equal u) m ≡ 0 = rw va at none in
           omega arith)
     ]
@@ -249,7 +249,7 @@ bucket_passes p w m (Some k) i e b n y = gen_passes p w m k i (slice_get w.table
 -- a value that was given up has an equal among those placed
 found_equal : (l : Law) (w : World) (m : List ℕ) (rs : List Finished) (i : ℕ) (c : Call) (e v : ℕ) → slice_get w.calls i ≡ Some c → Finding w c e v → Inv w m rs → LawOk l w → 1 ≤ passing (l.equal v) m
 found_equal l w m rs i c e v g f k o =
-    let a : accepts_value l c f.entry.value ≡ true = (o.calls i c g).met f.index f.entry f.outcome f.there in
+    let a : accepts l c f.entry.value ≡ true = (o.calls i c g).met f.index f.entry f.outcome f.there in
     let b : l.equal v f.entry.value ≡ true = rw f.own at a in
     bucket_passes (l.equal v) w m c.state.walked f.index f.entry f.there k.within b
 

@@ -9,7 +9,7 @@ use Rattle.std.specs.Map.{lookup}
 use Rattle.std.proofs.lemmas.Bool.{lt-ltb, le-ltb, eq-eqb, ne_eqb, eqb-true, cases_order}
 use Rattle.table_core.specs.Generations.{Gen, fill, bucket, put_in}
 use Rattle.table_core.specs.Bound.{entry_of}
-use Rattle.table_core.specs.declared.event.Entry.{Entry}
+use Rattle.table_core.specs.declared.generation.Entry.{Entry}
 use Rattle.table_core.specs.declared.generation.Slot.{Slot}
 use Rattle.table_core.proofs.Sizes.{length-put_in}
 

@@ -5,7 +5,7 @@ use Rattle.std.specs.List.{slice_get}
 use Rattle.std.specs.Option.{option_map}
 use Rattle.std.proofs.lemmas.Bool.{eqb-true}
 use Rattle.table_core.specs.Calls.{Call, call_numbered, replaced}
-use Rattle.table_core.specs.Machine.{World, finds, goes, goes_by, act_of, acts, after_act, happens, finishes, finished_by, finished_call, number_of, in_range, call_after}
+use Rattle.table_core.specs.Machine.{World, finds, call_acts, goes_by, act_of, acts, after_act, happens, finishes, finished_by, finished_call, number_of, in_range, call_after}
 use Rattle.table_core.specs.Bound.{position_of}
 use Rattle.table_core.specs.Openings.{opening}
 use Rattle.table_core.specs.Reached.{moved, reply_to}
@@ -58,15 +58,15 @@ no_position n [] h = refl
 no_position n (c ∷ cs) h = none_if (c.number == n) (position_of n cs) c _ h (no_position n cs)
 
 -- an event that begins no call is taken by the call of its number
-not_opened : (w : World) (x : Event) → opening x ≡ None → act_of w x ≡ goes w (call_numbered (number_of x) w.calls) x
+not_opened : (w : World) (x : Event) → opening x ≡ None → act_of w x ≡ call_acts w (call_numbered (number_of x) w.calls) x
 not_opened w (Insert c v h) e = absurd (cc)
 not_opened w (Lookup c h) e = absurd (cc)
 not_opened w (Len c) e = absurd (cc)
 not_opened w (Walk c) e = absurd (cc)
 not_opened w _ e = refl
 
-going : (w : World) (x : Event) (o : Option Call) → in_range x ≡ true → opening x ≡ None → call_numbered (number_of x) w.calls ≡ o → acts w x ≡ goes w o x
-going w x o r e h = rw r (not_opened w x e ∙ ap (λ z. goes w z x) h)
+going : (w : World) (x : Event) (o : Option Call) → in_range x ≡ true → opening x ≡ None → call_numbered (number_of x) w.calls ≡ o → acts w x ≡ call_acts w o x
+going w x o r e h = rw r (not_opened w x e ∙ ap (λ z. call_acts w z x) h)
 
 moved_by : (w : World) (x : Event) (i : ℕ) (a : At (number_of x) w.calls i) (o : Option Answer) → after_act w x (goes_by a.call o) ≡ moved w i a.call x o
 moved_by w x i a None = refl

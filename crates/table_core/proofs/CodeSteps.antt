@@ -1,19 +1,18 @@
 -- One event at the place of its call, as the code takes it.
-use Rattle.std.proofs.Common.{ℕ, suc, zero, ◌≡◌, ◌+◌, ◌<◌, List, [], ◌∷◌, Bool, true, false, refl, Option, Some, None, length, sym, ap, arith, ◌∙◌}
-use Rattle.std.specs.Prelude.{nat_lt, if◌then◌else◌, slice_set}
+use Rattle.std.proofs.Common.{ℕ, suc, zero, ◌≡◌, ◌<◌, List, [], ◌∷◌, true, refl, Option, Some, None, length, sym, ap, arith, ◌∙◌}
+use Rattle.std.specs.Prelude.{slice_set}
 use Rattle.std.specs.List.{slice_get}
 use Rattle.std.specs.Option.{option_map}
-use Rattle.table_core.specs.Replies.{ReplyWalk, reply_of}
+use Rattle.table_core.specs.Replies.{Reply, ReplyWalk, reply_of}
 use Rattle.table_core.specs.declared.reply.Reply.{Reply as RustReply}
 use Rattle.table_core.specs.Generations.{Table}
 use Rattle.table_core.specs.Calls.{Call, decided, decide, fits}
-use Rattle.table_core.specs.Machine.{list_in, reply_in, reply, call_after, with_entry}
-use Rattle.table_core.specs.Reached.{walked_entry, list_left, list_reply}
-use Rattle.table_core.specs.declared.event.Entry.{Entry}
+use Rattle.table_core.specs.Machine.{kept_list, list_in, last_reply, reply_at_end, reply_in, reply, call_after, with_entry, walked_entry, walked_list}
+use Rattle.table_core.specs.declared.generation.Entry.{Entry}
 use Rattle.table_core.specs.declared.call.CallState.{CallState}
+use Rattle.table_core.specs.declared.call.Phase.{Phase}
 use Rattle.table_core.specs.declared.call.Phase.TheVariants.{WalkAt, Done}
 use Rattle.table_core.specs.declared.call.Answer.{Answer}
-use Rattle.table_core.specs.declared.call.Answer.TheVariants.{Empty, Holds}
 use Rattle.table_core.proofs.Lists.{get-set_same, length-set}
 
 pub set_same : {X : Type 0} (xs : List X) (i : ℕ) (x : X) → slice_get xs i ≡ Some x → xs ≡ slice_set xs i x
@@ -30,65 +29,56 @@ set_set (z ∷ xs) (suc i) x y = ap (λ ys. z ∷ ys) (set_set xs i x y)
 pub decide_fits : (s : CallState) (a : Answer) → fits s.phase s a ≡ true → decide s a ≡ decided s.phase s a
 decide_fits s a h = rw h refl
 
-left_if : (b : Bool) (s r : CallState) (list : List ℕ) → s.phase ≡ WalkAt → r.phase ≡ Done → (if b then list else []) ≡ list_left (if b then s else r).phase list
-left_if true s r list e f = rw e refl
-left_if false s r list e f = rw f refl
-
-told_if : (b : Bool) (s r : CallState) (list : List ℕ) → s.phase ≡ WalkAt → r.phase ≡ Done → (if b then None else Some (ReplyWalk list)) ≡ list_reply (if b then s else r).phase list
-told_if true s r list e f = rw e refl
-told_if false s r list e f = rw f refl
-
-walk_left : (t : Table) (c : Call) (a : Answer) → fits WalkAt c.state a ≡ true → list_in WalkAt t c a ≡ list_left (decided WalkAt c.state a).phase (with_entry c.list (walked_entry t c.state a))
-walk_left t c Empty h = left_if (nat_lt (c.state.index + 1) c.state.capacity) _ _ c.list refl refl
-walk_left t c (Holds _ _) h = left_if (nat_lt (c.state.index + 1) c.state.capacity) _ _ _ refl refl
-walk_left t c _ h = absurd (cc)
-
-walk_tells : (t : Table) (c : Call) (a : Answer) → fits WalkAt c.state a ≡ true → reply_in WalkAt t c a ≡ list_reply (decided WalkAt c.state a).phase (with_entry c.list (walked_entry t c.state a))
-walk_tells t c Empty h = told_if (nat_lt (c.state.index + 1) c.state.capacity) _ _ c.list refl refl
-walk_tells t c (Holds _ _) h = told_if (nat_lt (c.state.index + 1) c.state.capacity) _ _ _ refl refl
-walk_tells t c _ h = absurd (cc)
-
 decide_at : (c : Call) (a : Answer) → c.state.phase ≡ WalkAt → fits c.state.phase c.state a ≡ true → decide c.state a ≡ decided WalkAt c.state a
 decide_at c a e h = decide_fits c.state a h ∙ ap (λ p. decided p c.state a) e
 
-fits_at : (c : Call) (a : Answer) → c.state.phase ≡ WalkAt → fits c.state.phase c.state a ≡ true → fits WalkAt c.state a ≡ true
-fits_at c a e h = ap (λ p. fits p c.state a) (sym e) ∙ h
-
 -- a walk after its bucket
 pub walk_after : (t : Table) (c : Call) (a : Answer) → c.state.phase ≡ WalkAt → fits c.state.phase c.state a ≡ true →
-    record c { list = list_left (decide c.state a).phase (with_entry c.list (walked_entry t c.state a)); state = decide c.state a } ≡ call_after t c a
+    record c { list = kept_list (decide c.state a).phase (walked_list t c a); state = decide c.state a } ≡ call_after t c a
 walk_after t c a e h =
-    let l : list_left (decide c.state a).phase (with_entry c.list (walked_entry t c.state a)) ≡ list_in c.state.phase t c a =
-    ap (λ (s : CallState). list_left s.phase (with_entry c.list (walked_entry t c.state a))) (decide_at c a e h)
-    ∙ sym (walk_left t c a (fits_at c a e h)) ∙ ap (λ p. list_in p t c a) (sym e) in
+    let l : kept_list (decide c.state a).phase (walked_list t c a) ≡ list_in c.state.phase t c a =
+    ap (λ (s : CallState). kept_list s.phase (walked_list t c a)) (decide_at c a e h) ∙ ap (λ p. list_in p t c a) (sym e) in
     ap (λ list. record c { list = list; state = decide c.state a }) l ∙ ap (λ s. record c { list = list_in c.state.phase t c a; state = s }) (decide_fits c.state a h)
 
 pub walk_is_told : (t : Table) (c : Call) (a : Answer) → c.state.phase ≡ WalkAt → fits c.state.phase c.state a ≡ true →
-    list_reply (decide c.state a).phase (with_entry c.list (walked_entry t c.state a)) ≡ reply t c a
+    reply_at_end (decide c.state a).phase (Some (ReplyWalk (walked_list t c a))) ≡ reply t c a
 walk_is_told t c a e h =
-    ap (λ (s : CallState). list_reply s.phase (with_entry c.list (walked_entry t c.state a))) (decide_at c a e h)
-    ∙ sym (walk_tells t c a (fits_at c a e h)) ∙ ap (λ p. reply_in p t c a) (sym e)
+    ap (λ (s : CallState). reply_at_end s.phase (Some (ReplyWalk (walked_list t c a)))) (decide_at c a e h) ∙ ap (λ p. reply_in p t c a) (sym e)
 
 -- a walk whose list takes an entry and whose state is the next
 pub walk_moves : (t : Table) (cs mid now : List Call) (i : ℕ) (c : Call) (a : Answer) (s n : CallState) (o : Option Entry) → slice_get cs i ≡ Some c → c.state.phase ≡ WalkAt → fits c.state.phase c.state a ≡ true →
     s ≡ c.state → o ≡ walked_entry t s a → n ≡ decide s a → mid ≡ slice_set cs i (record c { list = with_entry c.list o }) →
-    ((d : Call) → slice_get mid i ≡ Some d → now ≡ slice_set mid i (record d { list = list_left n.phase d.list; state = n })) →
+    ((d : Call) → slice_get mid i ≡ Some d → now ≡ slice_set mid i (record d { list = kept_list n.phase d.list; state = n })) →
     now ≡ slice_set cs i (call_after t c a)
 walk_moves t cs mid now i c a s n o g e h p q r x y =
     let d : Call = record c { list = with_entry c.list o } in
     let u : slice_get mid i ≡ Some d = rw x (get-set_same cs i c d g) in
-    let v : record d { list = list_left n.phase d.list; state = n } ≡ call_after t c a = rw (r, q, p) (walk_after t c a e h) in
-    y d u ∙ ap (λ z. slice_set z i (record d { list = list_left n.phase d.list; state = n })) x ∙ set_set cs i d _ ∙ ap (slice_set cs i) v
+    let v : record d { list = kept_list n.phase d.list; state = n } ≡ call_after t c a = rw (r, q, p) (walk_after t c a e h) in
+    y d u ∙ ap (λ z. slice_set z i (record d { list = kept_list n.phase d.list; state = n })) x ∙ set_set cs i d _ ∙ ap (slice_set cs i) v
 
 pub walk_tells_now : {A : Type 0} (t : Table) (cs mid : List Call) (i : ℕ) (c : Call) (a : Answer) (s n : CallState) (o : Option Entry) (r : Option (RustReply A)) → slice_get cs i ≡ Some c → c.state.phase ≡ WalkAt → fits c.state.phase c.state a ≡ true →
     s ≡ c.state → o ≡ walked_entry t s a → n ≡ decide s a → mid ≡ slice_set cs i (record c { list = with_entry c.list o }) →
-    ((d : Call) → slice_get mid i ≡ Some d → option_map reply_of r ≡ list_reply n.phase d.list) →
+    ((d : Call) → slice_get mid i ≡ Some d → option_map reply_of r ≡ reply_at_end n.phase (Some (ReplyWalk d.list))) →
     option_map reply_of r ≡ reply t c a
 walk_tells_now t cs mid i c a s n o k g e h p q r x y =
     let d : Call = record c { list = with_entry c.list o } in
     let u : slice_get mid i ≡ Some d = rw x (get-set_same cs i c d g) in
-    let v : list_reply n.phase d.list ≡ reply t c a = rw (r, q, p) (walk_is_told t c a e h) in
+    let v : reply_at_end n.phase (Some (ReplyWalk d.list)) ≡ reply t c a = rw (r, q, p) (walk_is_told t c a e h) in
     y d u ∙ v
+
+-- a call that ends is told its last reply, and no other is told anything
+not_at_end : (p : Phase) (o : Option Reply) → (p ≡ Done → ⊥) → reply_at_end p o ≡ None
+not_at_end Done o n = absurd (n refl)
+not_at_end _ o n = refl
+
+next_phase : (s n : CallState) (a : Answer) → fits s.phase s a ≡ true → n ≡ decide s a → n.phase ≡ (decided s.phase s a).phase
+next_phase s n a f e = ap (λ (s : CallState). s.phase) (e ∙ decide_fits s a f)
+
+pub tells_ended : (t : Table) (c : Call) (a : Answer) (n : CallState) → fits c.state.phase c.state a ≡ true → n ≡ decide c.state a → n.phase ≡ Done → last_reply c.state.phase t c a ≡ reply t c a
+tells_ended t c a n f e d = ap (λ p. reply_at_end p (last_reply c.state.phase t c a)) (sym d ∙ next_phase c.state n a f e)
+
+pub tells_nothing : (t : Table) (c : Call) (a : Answer) (n : CallState) → fits c.state.phase c.state a ≡ true → n ≡ decide c.state a → (n.phase ≡ Done → ⊥) → None ≡ reply t c a
+tells_nothing t c a n f e d = sym (not_at_end _ (last_reply c.state.phase t c a) (λ z. d (next_phase c.state n a f e ∙ z)))
 
 -- a write leaves as many
 pub still_within : {X : Type 0} (xs now : List X) (i : ℕ) (x : X) → now ≡ slice_set xs i x → i < length xs → i < length now

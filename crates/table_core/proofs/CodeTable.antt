@@ -14,7 +14,7 @@ use Rattle.table_core.specs.Bound.{Doubles, capacities, build_of}
 use Rattle.terms.specs.Capacities.{IsFirstCapacity, IsCapacity}
 use Rattle.table_core.specs.Indexed.{IsTable}
 use Rattle.table_core.proofs.Lists.{weigh-append, weigh-map}
-use Rattle.table_core.specs.declared.event.Entry.{Entry}
+use Rattle.table_core.specs.declared.generation.Entry.{Entry}
 
 pub capacity_le : (n : ℕ) → IsCapacity n → (0 < n) × (n ≤ 2 ^ 63)
 capacity_le n h = (rw h.1 (pow_pos h.0), rw h.1 (pow-le-pow_right {n = 2} (omega arith) h.2))
@@ -35,10 +35,10 @@ capacities_sum gens growing = weigh-map (λ c. c) (λ (g : Gen). g.capacity) (ge
 
 -- a power of two up to 2^30 has an exponent up to 63
 small_exponent : (k f : ℕ) → f ≡ 2 ^ k → f ≤ 2 ^ 30 → k ≤ 63
-small_exponent k f e le = elim (cases_order 63 k) [
+small_exponent k f e small = elim (cases_order 63 k) [
   | inl same ↦ omega arith
   | inr h ↦ elim h [
-    | inl lt ↦ absurd (let more : 2 ^ 31 ≤ 2 ^ k = pow-le-pow_right {n = 2} (omega arith) (omega arith) in omega (arith, e, le))
+    | inl lt ↦ absurd (let le : 31 ≤ k = omega arith in let more : 2 ^ 31 ≤ 2 ^ k = pow-le-pow_right {n = 2} (omega arith) le in omega (arith, e, small))
     | inr gt ↦ omega arith
   ]
 ]

@@ -11,7 +11,7 @@ use Rattle.table_core.specs.Machine.{World, empty, bucket_of, place, add_one, be
 use Rattle.table_core.specs.History.{placed_by}
 use Rattle.table_core.specs.Steps.{Row, puts, adds, begins_first, begins_next, copies, shows}
 use Rattle.table_core.specs.declared.event.Event.{Event}
-use Rattle.table_core.specs.declared.event.Entry.{Entry}
+use Rattle.table_core.specs.declared.generation.Entry.{Entry}
 use Rattle.table_core.specs.declared.call.CallState.{CallState}
 use Rattle.table_core.specs.declared.call.Phase.{Phase}
 use Rattle.table_core.specs.declared.call.Phase.TheVariants.{AtEmpty, Placed}

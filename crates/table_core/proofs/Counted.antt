@@ -10,7 +10,7 @@ use Rattle.table_core.specs.History.{replies, added_by, added, says_placed, plac
 use Rattle.table_core.specs.Steps.{Row, leaves_refused, small, ends, ends_failed, gives_up, Opens, opens_insert, left}
 use Rattle.table_core.specs.Values.{PlacedAreCounted}
 use Rattle.table_core.specs.declared.event.Event.{Event}
-use Rattle.table_core.specs.declared.event.Entry.{Entry}
+use Rattle.table_core.specs.declared.generation.Entry.{Entry}
 use Rattle.table_core.specs.declared.call.CallState.{CallState}
 use Rattle.table_core.specs.declared.call.Phase.{Phase}
 use Rattle.table_core.specs.declared.call.Phase.TheVariants.{Done}

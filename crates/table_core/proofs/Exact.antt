@@ -3,6 +3,7 @@ use Rattle.std.proofs.Common.{ℕ, ◌≡◌, ◌^◌, ◌++◌, List, [], ◌�
 use Rattle.std.specs.Prelude.{◌==◌, ◌&&◌, if◌then◌else◌, not}
 use Rattle.table_core.specs.Replies.{Reply, Finished}
 use Rattle.table_core.specs.Generations.{Table}
+use Rattle.terms.specs.Hashes.{bits_of}
 use Rattle.table_core.specs.Calls.{Call, starts, is_used, call_numbered, replaced, decided}
 use Rattle.table_core.specs.Machine.{World, finds_in, finds, changed, reply_in, list_in, number_of, in_range, Act, Begins, Goes, act_of, acts, after_act, happens, finished_call, finished_by, finishes}
 use Rattle.table_core.specs.declared.event.Event.{Event}
@@ -10,14 +11,29 @@ use Rattle.table_core.specs.declared.event.Event.TheVariants.{Insert, Lookup, Le
 use Rattle.table_core.specs.declared.call.CallState.{CallState}
 use Rattle.table_core.specs.declared.call.Phase.{Phase}
 use Rattle.table_core.specs.declared.call.Answer.{Answer}
-use Rattle.table_core.specs.declared.call.Answer.TheVariants.{Begun, Failed}
-use Rattle.table_core.specs.Machine.{goes as goes_with}
-use Rattle.table_core.specs.Steps.{IsTheStep, OnlyStep, moves_lock, HoldsAsBefore, LockStays, Row, shares, loads_none, loads, reads_empty, meets, turns, goes_on, memory_refused, puts, loses_meets, loses_turns, loses_goes_on, adds, leaves_ok, leaves_grow, leaves_refused, large, small, owns, begins_first, fails_first, unwanted, fails_largest, fails_refused, begins_next, copies, shows, ends, starts_over, ends_failed, gives_up, tries_again, looks_none, looks, look_empty, look_meets, look_turns, look_goes_on, len_none, len_loads, len_size, walk_none, walk_loads, walk_skips_last, walk_takes_last, walk_skips, walk_takes, Opens, opens_insert, opens_lookup, opens_len, opens_walk, IsNewValue, left, Takes, Step, moves, stays, begins, goes}
-use Rattle.table_core.proofs.Rows.{StepsBy, steps, pending_told}
+use Rattle.table_core.specs.declared.call.Answer.TheVariants.{Holds, HoldsUnasked, Begun, Failed}
+use Rattle.table_core.specs.Machine.{call_acts}
+use Rattle.table_core.specs.Steps.{IsTheStep, OnlyStep, moves_lock, HoldsAsBefore, LockStays, Row, shares, loads_none, loads, reads_empty, meets, turns, turns_unasked, goes_on, goes_on_unasked, memory_refused, puts, loses_meets, loses_turns, loses_turns_unasked, loses_goes_on, loses_goes_on_unasked, adds, leaves_ok, leaves_grow, leaves_refused, large, small, owns, begins_first, fails_first, unwanted, fails_largest, fails_refused, begins_next, copies, shows, ends, starts_over, ends_failed, gives_up, tries_again, looks_none, looks, look_empty, look_meets, look_turns, look_turns_unasked, look_goes_on, look_goes_on_unasked, len_none, len_loads, len_size, walk_none, walk_loads, walk_skips_last, walk_takes_last, walk_skips, walk_takes, Opens, opens_insert, opens_lookup, opens_len, opens_walk, IsNewValue, left, Takes, Step, moves, stays, begins, goes}
+use Rattle.table_core.proofs.Rows.{StepsBy, steps}
 
 never_begins : (m : Bool) → (if m && not ((2 ^ 63) == (2 ^ 63)) then Begun else Failed) ≡ Failed
 never_begins true = refl
 never_begins false = refl
+
+-- what a set bucket shows that is accepted, declined, or differs
+shows_yes : (agree y : Bool) → (agree && y) ≡ true → (if agree then Holds y else HoldsUnasked) ≡ Holds true
+shows_yes true true h = refl
+shows_yes true false h = absurd (cc)
+shows_yes false y h = absurd (cc)
+
+shows_no : (agree y : Bool) → (agree && not y) ≡ true → (if agree then Holds y else HoldsUnasked) ≡ Holds false
+shows_no true false h = refl
+shows_no true true h = absurd (cc)
+shows_no false y h = absurd (cc)
+
+shows_nothing : (agree y : Bool) → not agree ≡ true → (if agree then Holds y else HoldsUnasked) ≡ HoldsUnasked
+shows_nothing true y h = absurd (cc)
+shows_nothing false y h = refl
 
 -- what an event finds where a row takes the call, and by it the call, its list, the table and what is told
 pub record IsTaken (w : World) (c : Call) (p : Phase) (x : Event) (a : Answer) (s : CallState) (list : List ℕ) (t : Table) (o : Option Reply) : Type 0 where
@@ -33,14 +49,18 @@ taken {w = w} {c = c} (shares n h) = record { finds = rw h refl; decides = refl;
 taken {w = w} {c = c} (loads_none n h) = record { finds = rw h refl; decides = refl; keeps = refl; changes = refl; tells = refl }
 taken {w = w} {c = c} (loads n g h) = record { finds = rw h refl; decides = refl; keeps = refl; changes = refl; tells = refl }
 taken {w = w} {c = c} (reads_empty n y h) = record { finds = rw h refl; decides = refl; keeps = refl; changes = refl; tells = refl }
-taken {w = w} {c = c} (meets n y e h f) = record { finds = rw h refl; decides = rw f refl; keeps = refl; changes = refl; tells = refl }
-taken {w = w} {c = c} (turns n y e h f g) = record { finds = rw h refl; decides = rw (f, g) refl; keeps = refl; changes = refl; tells = refl }
-taken {w = w} {c = c} (goes_on n y e h f g) = record { finds = rw h refl; decides = rw (f, g) refl; keeps = refl; changes = refl; tells = refl }
+taken {w = w} {c = c} (meets n y e h f) = record { finds = rw h (ap Some (shows_yes (e.bits == bits_of c.state.hash) y f)); decides = refl; keeps = refl; changes = refl; tells = refl }
+taken {w = w} {c = c} (turns n y e h f g) = record { finds = rw h (ap Some (shows_no (e.bits == bits_of c.state.hash) y f)); decides = rw g refl; keeps = refl; changes = refl; tells = rw g refl }
+taken {w = w} {c = c} (turns_unasked n y e h f g) = record { finds = rw h (ap Some (shows_nothing (e.bits == bits_of c.state.hash) y f)); decides = rw g refl; keeps = refl; changes = refl; tells = rw g refl }
+taken {w = w} {c = c} (goes_on n y e h f g) = record { finds = rw h (ap Some (shows_no (e.bits == bits_of c.state.hash) y f)); decides = rw g refl; keeps = refl; changes = refl; tells = rw g refl }
+taken {w = w} {c = c} (goes_on_unasked n y e h f g) = record { finds = rw h (ap Some (shows_nothing (e.bits == bits_of c.state.hash) y f)); decides = rw g refl; keeps = refl; changes = refl; tells = rw g refl }
 taken {w = w} {c = c} (memory_refused n y) = record { finds = refl; decides = refl; keeps = refl; changes = refl; tells = refl }
 taken {w = w} {c = c} (puts n y h) = record { finds = rw h refl; decides = refl; keeps = refl; changes = refl; tells = refl }
-taken {w = w} {c = c} (loses_meets n y e h f) = record { finds = rw h refl; decides = rw f refl; keeps = refl; changes = refl; tells = refl }
-taken {w = w} {c = c} (loses_turns n y e h f g) = record { finds = rw h refl; decides = rw (f, g) refl; keeps = refl; changes = refl; tells = refl }
-taken {w = w} {c = c} (loses_goes_on n y e h f g) = record { finds = rw h refl; decides = rw (f, g) refl; keeps = refl; changes = refl; tells = refl }
+taken {w = w} {c = c} (loses_meets n y e h f) = record { finds = rw h (ap Some (shows_yes (e.bits == bits_of c.state.hash) y f)); decides = refl; keeps = refl; changes = refl; tells = refl }
+taken {w = w} {c = c} (loses_turns n y e h f g) = record { finds = rw h (ap Some (shows_no (e.bits == bits_of c.state.hash) y f)); decides = rw g refl; keeps = refl; changes = refl; tells = rw g refl }
+taken {w = w} {c = c} (loses_turns_unasked n y e h f g) = record { finds = rw h (ap Some (shows_nothing (e.bits == bits_of c.state.hash) y f)); decides = rw g refl; keeps = refl; changes = refl; tells = rw g refl }
+taken {w = w} {c = c} (loses_goes_on n y e h f g) = record { finds = rw h (ap Some (shows_no (e.bits == bits_of c.state.hash) y f)); decides = rw g refl; keeps = refl; changes = refl; tells = rw g refl }
+taken {w = w} {c = c} (loses_goes_on_unasked n y e h f g) = record { finds = rw h (ap Some (shows_nothing (e.bits == bits_of c.state.hash) y f)); decides = rw g refl; keeps = refl; changes = refl; tells = rw g refl }
 taken {w = w} {c = c} (adds n) = record { finds = refl; decides = refl; keeps = refl; changes = refl; tells = refl }
 taken {w = w} {c = c} (leaves_ok n) = record { finds = refl; decides = refl; keeps = refl; changes = refl; tells = refl }
 taken {w = w} {c = c} (leaves_grow n) = record { finds = refl; decides = refl; keeps = refl; changes = refl; tells = refl }
@@ -56,17 +76,19 @@ taken {w = w} {c = c} (fails_refused n g h f) = record { finds = rw (h, f) refl;
 taken {w = w} {c = c} (begins_next n g h f k) = record { finds = rw (h, f, k) refl; decides = refl; keeps = refl; changes = refl; tells = refl }
 taken {w = w} {c = c} (copies n k e h) = record { finds = rw h refl; decides = refl; keeps = refl; changes = rw h refl; tells = refl }
 taken {w = w} {c = c} (shows n h) = record { finds = rw h refl; decides = refl; keeps = refl; changes = refl; tells = refl }
-taken {w = w} {c = c} (ends n h) = record { finds = refl; decides = rw h refl; keeps = refl; changes = refl; tells = refl }
-taken {w = w} {c = c} (starts_over n h) = record { finds = refl; decides = rw h refl; keeps = refl; changes = refl; tells = pending_told w.table c.state c.value c.state.outcome h }
+taken {w = w} {c = c} (ends n h) = record { finds = refl; decides = rw h refl; keeps = refl; changes = refl; tells = rw h refl }
+taken {w = w} {c = c} (starts_over n h) = record { finds = refl; decides = rw h refl; keeps = refl; changes = refl; tells = rw h refl }
 taken {w = w} {c = c} (ends_failed n h) = record { finds = refl; decides = rw h refl; keeps = refl; changes = refl; tells = rw h refl }
 taken {w = w} {c = c} (gives_up n h k) = record { finds = rw k refl; decides = rw h refl; keeps = refl; changes = refl; tells = rw h refl }
-taken {w = w} {c = c} (tries_again n h k) = record { finds = rw k refl; decides = rw h refl; keeps = refl; changes = refl; tells = rw h (pending_told w.table c.state c.value c.state.outcome h) }
+taken {w = w} {c = c} (tries_again n h k) = record { finds = rw k refl; decides = rw h refl; keeps = refl; changes = refl; tells = rw h refl }
 taken {w = w} {c = c} (looks_none n h) = record { finds = rw h refl; decides = refl; keeps = refl; changes = refl; tells = refl }
 taken {w = w} {c = c} (looks n g h) = record { finds = rw h refl; decides = refl; keeps = refl; changes = refl; tells = refl }
 taken {w = w} {c = c} (look_empty n y h) = record { finds = rw h refl; decides = refl; keeps = refl; changes = refl; tells = refl }
-taken {w = w} {c = c} (look_meets n y e h f) = record { finds = rw h refl; decides = rw f refl; keeps = refl; changes = refl; tells = rw (f, h) refl }
-taken {w = w} {c = c} (look_turns n y e h f g) = record { finds = rw h refl; decides = rw (f, g) refl; keeps = refl; changes = refl; tells = rw (f, g) refl }
-taken {w = w} {c = c} (look_goes_on n y e h f g) = record { finds = rw h refl; decides = rw (f, g) refl; keeps = refl; changes = refl; tells = rw (f, g) refl }
+taken {w = w} {c = c} (look_meets n y e h f) = record { finds = rw h (ap Some (shows_yes (e.bits == bits_of c.state.hash) y f)); decides = refl; keeps = refl; changes = refl; tells = rw h refl }
+taken {w = w} {c = c} (look_turns n y e h f g) = record { finds = rw h (ap Some (shows_no (e.bits == bits_of c.state.hash) y f)); decides = rw g refl; keeps = refl; changes = refl; tells = rw g refl }
+taken {w = w} {c = c} (look_turns_unasked n y e h f g) = record { finds = rw h (ap Some (shows_nothing (e.bits == bits_of c.state.hash) y f)); decides = rw g refl; keeps = refl; changes = refl; tells = rw g refl }
+taken {w = w} {c = c} (look_goes_on n y e h f g) = record { finds = rw h (ap Some (shows_no (e.bits == bits_of c.state.hash) y f)); decides = rw g refl; keeps = refl; changes = refl; tells = rw g refl }
+taken {w = w} {c = c} (look_goes_on_unasked n y e h f g) = record { finds = rw h (ap Some (shows_nothing (e.bits == bits_of c.state.hash) y f)); decides = rw g refl; keeps = refl; changes = refl; tells = rw g refl }
 taken {w = w} {c = c} (len_none n h) = record { finds = rw h refl; decides = refl; keeps = refl; changes = refl; tells = refl }
 taken {w = w} {c = c} (len_loads n g h) = record { finds = rw h refl; decides = refl; keeps = refl; changes = refl; tells = refl }
 taken {w = w} {c = c} (len_size n g h) = record { finds = rw h refl; decides = refl; keeps = refl; changes = refl; tells = refl }
@@ -95,7 +117,7 @@ row_moves : (w : World) (c : Call) {p : Phase} {x : Event} {a : Answer} {s : Cal
 row_moves w c (shares n h) = refl
 row_moves w c _ = refl
 
-move_goes : (w : World) (x : Event) → is_move x ≡ true → act_of w x ≡ goes_with w (call_numbered (number_of x) w.calls) x
+move_goes : (w : World) (x : Event) → is_move x ≡ true → act_of w x ≡ call_acts w (call_numbered (number_of x) w.calls) x
 move_goes w (Insert n v h) m = absurd (cc)
 move_goes w (Lookup n h) m = absurd (cc)
 move_goes w (Len n) m = absurd (cc)
@@ -104,7 +126,7 @@ move_goes w _ m = refl
 
 goes_so : (w : World) (c : Call) {p : Phase} {x : Event} {a : Answer} {s : CallState} {ls : List ℕ} {t : Table} {o : Option Reply} → Row w c p x a s ls t o → in_range x ≡ true → call_numbered (number_of x) w.calls ≡ Some c → finds w c.state x ≡ Some a → acts w x ≡ Some (Goes c a)
 goes_so w c {x = x} {a = a} row r h f =
-    let e : goes_with w (call_numbered (number_of x) w.calls) x ≡ Some (Goes c a) = rw (h, f) refl in
+    let e : call_acts w (call_numbered (number_of x) w.calls) x ≡ Some (Goes c a) = rw (h, f) refl in
     rw r (move_goes w x (row_moves w c row) ∙ e)
 
 -- the machine does whatever the table of events says

@@ -10,14 +10,14 @@ use Rattle.terms.specs.Probes.{bucket_at}
 use Rattle.table_core.specs.Calls.{Call, stands_at_bucket}
 use Rattle.table_core.specs.Machine.{World}
 use Rattle.table_core.specs.History.{back, picks}
-use Rattle.table_core.specs.declared.event.Entry.{Entry}
+use Rattle.table_core.specs.declared.generation.Entry.{Entry}
 use Rattle.table_core.specs.declared.call.Phase.{Phase}
 use Rattle.table_core.specs.declared.call.Phase.TheVariants.{Probe, AtEmpty, Placed, LeaveOk, LeaveGrow, AskSize, WantOwned, Owned, Building, LeaveOwned, LeaveFailed, LookProbe, LenLoad, LenSize, WalkLoad, WalkAt, Done}
 use Rattle.table_core.specs.declared.call.Outcome.{Outcome}
 use Rattle.table_core.specs.declared.call.Outcome.TheVariants.{Pending, New, Existing}
 use Rattle.table_core.proofs.Lists.{tally}
 use Rattle.table_core.proofs.Locks.{Locked}
-use Rattle.table_core.specs.Law.{Law, accepts as accepts_value}
+use Rattle.table_core.specs.Law.{Law, accepts}
 use Rattle.table_core.proofs.Standing.{CallsOk}
 
 -- What the generations hold
@@ -201,7 +201,7 @@ pub record Reached (l : Law) (g : Gen) : Type 0 where
 
 -- a call accepts none of the entries in the first n buckets of its probe
 pub record Missed (l : Law) (c : Call) (g : Gen) (n : ℕ) : Type 0 where
-  pub none : (j : ℕ) (e : Entry) → j < n → bucket g.entries (bucket_at g.capacity c.state.hash j) ≡ Some e → accepts_value l c e.value ≡ false
+  pub none : (j : ℕ) (e : Entry) → j < n → bucket g.entries (bucket_at g.capacity c.state.hash j) ≡ Some e → accepts l c e.value ≡ false
 
 -- a call in a phase that it has before its reply
 abbrev pub is_asking : Phase → Bool
@@ -214,10 +214,10 @@ is_asking _ = true
 
 pub record Judged (l : Law) (gens : List Gen) (c : Call) : Type 0 where
   -- what the call accepts has its hash
-  pub hash : is_asking c.state.phase ≡ true → (x : ℕ) → accepts_value l c x ≡ true → l.hash x ≡ c.state.hash
+  pub hash : is_asking c.state.phase ≡ true → (x : ℕ) → accepts l c x ≡ true → l.hash x ≡ c.state.hash
   pub probes : probing c.state.phase ≡ true → (k : ℕ) (g : Gen) → c.state.walked ≡ Some k → slice_get gens k ≡ Some g → Missed l c g c.state.seen
   pub turned : wants_growth c.state.phase c.state.outcome ≡ true → (k : ℕ) (g : Gen) → c.state.walked ≡ Some k → slice_get gens k ≡ Some g → Missed l c g g.capacity
-  pub met : (i : ℕ) (e : Entry) → c.state.outcome ≡ Existing i → bucket_in (gen_of gens c.state.walked) i ≡ Some e → accepts_value l c e.value ≡ true
+  pub met : (i : ℕ) (e : Entry) → c.state.outcome ≡ Existing i → bucket_in (gen_of gens c.state.walked) i ≡ Some e → accepts l c e.value ≡ true
 
 pub record LawOk (l : Law) (w : World) : Type 0 where
   pub gens : (k : ℕ) (g : Gen) → slice_get w.table.gens k ≡ Some g → Reached l g

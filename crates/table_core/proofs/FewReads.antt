@@ -7,7 +7,7 @@ use Rattle.table_core.specs.Generations.{Table}
 use Rattle.table_core.specs.Calls.{Call, starts, is_used}
 use Rattle.table_core.specs.Machine.{World, empty, Act, Begins, Goes, acts, after}
 use Rattle.table_core.specs.History.{replies, placed_by, placed, is_read, read_by, reads, loaded_by, generations_loaded, begun_by, beginnings}
-use Rattle.table_core.specs.Steps.{Row, Opens, looks_none, looks, look_empty, look_meets, look_turns, look_goes_on, opens_insert, opens_lookup, opens_len, opens_walk, left}
+use Rattle.table_core.specs.Steps.{Row, Opens, looks_none, looks, look_empty, look_meets, look_turns, look_turns_unasked, look_goes_on, look_goes_on_unasked, opens_insert, opens_lookup, opens_len, opens_walk, left}
 use Rattle.table_core.specs.declared.event.Event.{Event}
 use Rattle.table_core.specs.declared.event.Event.TheVariants.{Lookup}
 use Rattle.table_core.specs.declared.call.CallState.{CallState}
@@ -130,7 +130,9 @@ row_few w c (looks m g e) reads n s f = omega arith
 row_few w c (look_empty m y e) reads n s f = let le = s refl in omega arith
 row_few w c (look_meets m y d e z) reads n s f = let le = s refl in omega arith
 row_few w c (look_turns m y d e z lt) reads n s f = let le = s refl in omega arith
+row_few w c (look_turns_unasked m y d e z lt) reads n s f = let le = s refl in omega arith
 row_few w c (look_goes_on m y d e z lt) reads n s f = omega arith
+row_few w c (look_goes_on_unasked m y d e z lt) reads n s f = omega arith
 row_few w c _ reads n s f = absurd f
 
 module _ (f : ℕ) (inv : (s : List Event) → Inv (after f s) (placed (empty f) s) (replies (empty f) s)) where

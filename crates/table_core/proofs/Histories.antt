@@ -7,7 +7,7 @@ use Rattle.terms.specs.Capacities.{IsFirstCapacity}
 use Rattle.table_core.specs.Calls.{Call, is_pending}
 use Rattle.table_core.specs.Machine.{World, empty, bucket_of, reply_of_outcome, Goes, acts, happens, finishes, run, after}
 use Rattle.table_core.specs.History.{replies, fate, placed_by, placed, has_later}
-use Rattle.table_core.specs.Steps.{Row, shares, puts, leaves_refused, small, ends, ends_failed, gives_up, looks_none, look_empty, look_meets, look_turns, len_none, len_size, walk_none, walk_skips_last, walk_takes_last}
+use Rattle.table_core.specs.Steps.{Row, shares, puts, leaves_refused, small, ends, ends_failed, gives_up, looks_none, look_empty, look_meets, look_turns, look_turns_unasked, len_none, len_size, walk_none, walk_skips_last, walk_takes_last}
 use Rattle.table_core.specs.declared.event.Event.{Event}
 use Rattle.table_core.specs.declared.call.CallState.{CallState}
 use Rattle.table_core.specs.declared.call.Phase.{Phase}
@@ -201,6 +201,7 @@ placed_told w c (looks_none _ _) f k b h = absurd (never_placed LookLoad (refl, 
 placed_told w c (look_empty _ _ _) f k b h = absurd (never_placed LookProbe (refl, λ i. refl, λ i. refl, refl, λ i. refl, λ i. refl) (is_some c.value) c.state.outcome f k)
 placed_told w c (look_meets _ _ _ _ _) f k b h = absurd (never_placed LookProbe (refl, λ i. refl, λ i. refl, refl, λ i. refl, λ i. refl) (is_some c.value) c.state.outcome f k)
 placed_told w c (look_turns _ _ _ _ _ _) f k b h = absurd (never_placed LookProbe (refl, λ i. refl, λ i. refl, refl, λ i. refl, λ i. refl) (is_some c.value) c.state.outcome f k)
+placed_told w c (look_turns_unasked _ _ _ _ _ _) f k b h = absurd (never_placed LookProbe (refl, λ i. refl, λ i. refl, refl, λ i. refl, λ i. refl) (is_some c.value) c.state.outcome f k)
 placed_told w c (len_none _ _) f k b h = absurd (never_placed LenLoad (refl, λ i. refl, λ i. refl, refl, λ i. refl, λ i. refl) (is_some c.value) c.state.outcome f k)
 placed_told w c (len_size _ _ _) f k b h = absurd (never_placed LenSize (refl, λ i. refl, λ i. refl, refl, λ i. refl, λ i. refl) (is_some c.value) c.state.outcome f k)
 placed_told w c (walk_none _ _) f k b h = absurd (never_placed WalkLoad (refl, λ i. refl, λ i. refl, refl, λ i. refl, λ i. refl) (is_some c.value) c.state.outcome f k)

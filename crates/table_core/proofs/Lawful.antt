@@ -11,10 +11,10 @@ use Rattle.terms.specs.Capacities.{IsFirstCapacity}
 use Rattle.table_core.specs.Calls.{Call, starts}
 use Rattle.table_core.specs.Machine.{World, empty, bucket_of, place, begin_growth, Act, Goes, happens, run, after}
 use Rattle.table_core.specs.History.{replies, placed_by, placed}
-use Rattle.table_core.specs.Steps.{accepts, turned, Row, shares, loads_none, loads, reads_empty, meets, turns, goes_on, puts, loses_meets, loses_turns, loses_goes_on, adds, leaves_grow, large, owns, begins_first, fails_first, unwanted, fails_largest, fails_refused, begins_next, copies, shows, looks, look_meets, look_goes_on, len_loads, walk_loads, Opens, opens_insert, opens_lookup, opens_len, opens_walk, left}
+use Rattle.table_core.specs.Steps.{is_accepted, is_declined, is_unasked, turned, Row, shares, loads_none, loads, reads_empty, meets, turns, turns_unasked, goes_on, goes_on_unasked, puts, loses_meets, loses_turns, loses_turns_unasked, loses_goes_on, loses_goes_on_unasked, adds, leaves_grow, large, owns, begins_first, fails_first, unwanted, fails_largest, fails_refused, begins_next, copies, shows, looks, look_meets, look_goes_on, look_goes_on_unasked, len_loads, walk_loads, Opens, opens_insert, opens_lookup, opens_len, opens_walk, left}
 use Rattle.table_core.specs.declared.event.Event.{Event}
 use Rattle.table_core.specs.declared.event.Event.TheVariants.{Read, Put, Copy}
-use Rattle.table_core.specs.declared.event.Entry.{Entry}
+use Rattle.table_core.specs.declared.generation.Entry.{Entry}
 use Rattle.table_core.specs.declared.call.CallState.{CallState}
 use Rattle.table_core.specs.declared.call.Phase.{Phase}
 use Rattle.table_core.specs.declared.call.Phase.TheVariants.{Shared, Probe, AtEmpty, LeaveGrow, WantOwned, Owned, Building, LeaveOwned, LeaveFailed, LookLoad, LookProbe, LenLoad, WalkLoad}
@@ -26,7 +26,7 @@ use Rattle.std.proofs.lemmas.Bool.{ltb-false, eq-eqb, eqb-true}
 use Rattle.std.proofs.Math.Nat.{mod-lt, add-mod-mod}
 use Rattle.std.specs.Option.{is_some}
 use Rattle.table_core.specs.Law.{Law, AsksBy, CopiesBy, UsesBy, OpensBy, ActsBy, RunsBy, IsLawful}
-use Rattle.table_core.specs.Law.{accepts as accepts_value}
+use Rattle.table_core.specs.Law.{accepts}
 use Rattle.table_core.specs.Lists.{passes as one_if, AllApart, PlacedApart}
 use Rattle.table_core.proofs.Turns.{Turn, rests, opens, takes}
 use Rattle.table_core.proofs.Pasts.{append-none, turn_after, placed_snoc, by_snoc}
@@ -36,20 +36,20 @@ use Rattle.table_core.proofs.Contents.{order, in_put, in_bucket, in_get, put_sta
 use Rattle.table_core.proofs.Seats.{first_empty_way, copy_room}
 use Rattle.table_core.proofs.Tracks.{growth_from, asking_outcome, load_outcome, none_shared, none_look, none_len, none_walk, tracked_row}
 use Rattle.table_core.proofs.Invariant.{inv}
-use Rattle.table_core.proofs.Truth.{and_both, not-true}
+use Rattle.table_core.proofs.Truth.{and_both, and-not, not-and, not-true}
 use Rattle.table_core.proofs.Sizes.{place_building}
 
 -- What a probe misses
 
 -- an accepted entry would be among those passed
-pub passed_all : (l : Law) (c : Call) (g : Gen) (seen d : ℕ) (e : Entry) → Seated g → Missed l c g seen → In e g.entries → e.index ≡ bucket_at g.capacity c.state.hash d → d < seen → accepts_value l c e.value ≡ true → ⊥
+pub passed_all : (l : Law) (c : Call) (g : Gen) (seen d : ℕ) (e : Entry) → Seated g → Missed l c g seen → In e g.entries → e.index ≡ bucket_at g.capacity c.state.hash d → d < seen → accepts l c e.value ≡ true → ⊥
 passed_all l c g seen d e s p i t lt y =
     let a : bucket g.entries (bucket_at g.capacity c.state.hash d) ≡ Some e = rw (← t) (s.own e i) in
-    let z : accepts_value l c e.value ≡ false = p.none d e lt a in
+    let z : accepts l c e.value ≡ false = p.none d e lt a in
     cc
 
 -- where the probe meets an empty bucket, no entry is accepted
-pub misses_at_empty : (l : Law) (c : Call) (g : Gen) (seen : ℕ) → Seated g → Reached l g → Missed l c g seen → ((x : ℕ) → accepts_value l c x ≡ true → l.hash x ≡ c.state.hash) → bucket g.entries (bucket_at g.capacity c.state.hash seen) ≡ None → (e : Entry) → In e g.entries → accepts_value l c e.value ≡ false
+pub misses_at_empty : (l : Law) (c : Call) (g : Gen) (seen : ℕ) → Seated g → Reached l g → Missed l c g seen → ((x : ℕ) → accepts l c x ≡ true → l.hash x ≡ c.state.hash) → bucket g.entries (bucket_at g.capacity c.state.hash seen) ≡ None → (e : Entry) → In e g.entries → accepts l c e.value ≡ false
 misses_at_empty l c g seen u r p t n e i = not-true _ (λ y.
     let h : l.hash e.value ≡ c.state.hash = t e.value y in
     let k : Way g.capacity g.entries c.state.hash e.index = rw h at (r.way e i) in
@@ -62,7 +62,7 @@ misses_at_empty l c g seen u r p t n e i = not-true _ (λ y.
     ])
 
 -- after a whole turn, no entry is accepted
-pub misses_at_turn : (l : Law) (c : Call) (g : Gen) (seen : ℕ) → Seated g → Reached l g → Missed l c g seen → ((x : ℕ) → accepts_value l c x ≡ true → l.hash x ≡ c.state.hash) → g.capacity ≤ seen → (e : Entry) → In e g.entries → accepts_value l c e.value ≡ false
+pub misses_at_turn : (l : Law) (c : Call) (g : Gen) (seen : ℕ) → Seated g → Reached l g → Missed l c g seen → ((x : ℕ) → accepts l c x ≡ true → l.hash x ≡ c.state.hash) → g.capacity ≤ seen → (e : Entry) → In e g.entries → accepts l c e.value ≡ false
 misses_at_turn l c g seen u r p t n e i = not-true _ (λ y.
     let h : l.hash e.value ≡ c.state.hash = t e.value y in
     let k : Way g.capacity g.entries c.state.hash e.index = rw h at (r.way e i) in
@@ -134,14 +134,21 @@ pub row_hash : (w : World) (c : Call) {p : Phase} {x : Event} {a : Answer} {r : 
 row_hash w c (shares _ _) = refl
 row_hash w c _ = refl
 
+-- an entry that is declined, or whose bits differ, isn't accepted
+pub declined : (e : Entry) (s : CallState) (y : Bool) → is_declined e s y ≡ true → is_accepted e s y ≡ false
+declined e s y h = and-not (e.bits == bits_of s.hash) y h
+
+pub differing : (e : Entry) (s : CallState) (y : Bool) → is_unasked e s ≡ true → is_accepted e s y ≡ false
+differing e s y h = not-and (e.bits == bits_of s.hash) y h
+
 -- an answer yes where the bits agree: the entry is accepted
-pub accepted_at : (l : Law) (w : World) (c : Call) (p : Phase) (x : Event) (e : Entry) (y : Bool) → c.state.phase ≡ p → (UsesBy l w c p x → AsksBy l w c y) → bucket_of w.table c.state ≡ Some e → accepts e c.state y ≡ true → UsesBy l w c c.state.phase x → accepts_value l c e.value ≡ true
+pub accepted_at : (l : Law) (w : World) (c : Call) (p : Phase) (x : Event) (e : Entry) (y : Bool) → c.state.phase ≡ p → (UsesBy l w c p x → AsksBy l w c y) → bucket_of w.table c.state ≡ Some e → is_accepted e c.state y ≡ true → UsesBy l w c c.state.phase x → accepts l c e.value ≡ true
 accepted_at l w c p x e y k s q f u =
     let b : ((e.bits == bits_of c.state.hash) ≡ true) × (y ≡ true) = and_both (e.bits == bits_of c.state.hash) y f in
     sym (s (subst (λ z. UsesBy l w c z x) k u) e q (eqb-true e.bits (bits_of c.state.hash) b.0)) ∙ b.1
 
 -- an answer no, or other bits: the entry isn't accepted
-pub refused_at : (l : Law) (w : World) (c : Call) (p : Phase) (x : Event) (e : Entry) (y b : Bool) → (e.bits == bits_of c.state.hash) ≡ b → c.state.phase ≡ p → (UsesBy l w c p x → AsksBy l w c y) → bucket_of w.table c.state ≡ Some e → (b && y) ≡ false → UsesBy l w c c.state.phase x → e.bits ≡ bits_of (l.hash e.value) → ((x : ℕ) → accepts_value l c x ≡ true → l.hash x ≡ c.state.hash) → accepts_value l c e.value ≡ false
+pub refused_at : (l : Law) (w : World) (c : Call) (p : Phase) (x : Event) (e : Entry) (y b : Bool) → (e.bits == bits_of c.state.hash) ≡ b → c.state.phase ≡ p → (UsesBy l w c p x → AsksBy l w c y) → bucket_of w.table c.state ≡ Some e → (b && y) ≡ false → UsesBy l w c c.state.phase x → e.bits ≡ bits_of (l.hash e.value) → ((x : ℕ) → accepts l c x ≡ true → l.hash x ≡ c.state.hash) → accepts l c e.value ≡ false
 refused_at l w c p x e y true h k s q f u m t = sym (s (subst (λ z. UsesBy l w c z x) k u) e q (eqb-true e.bits (bits_of c.state.hash) h)) ∙ f
 refused_at l w c p x e y false h k s q f u m t = not-true _ (λ z. let n : l.hash e.value ≡ c.state.hash = t e.value z in let v : e.bits ≡ bits_of c.state.hash = rw n at m in let o : eqb e.bits (bits_of c.state.hash) ≡ true = eq-eqb _ _ v in cc)
 
@@ -149,14 +156,14 @@ abbrev pub AllReached : Law → World → Type 0
 AllReached l w = (k : ℕ) (g : Gen) → slice_get w.table.gens k ≡ Some g → Reached l g
 
 abbrev pub HasHash : Law → Call → Type 0
-HasHash l c = (x : ℕ) → accepts_value l c x ≡ true → l.hash x ≡ c.state.hash
+HasHash l c = (x : ℕ) → accepts l c x ≡ true → l.hash x ≡ c.state.hash
 
 -- what a probing call knows where it reads an entry that it doesn't accept
-pub refused_by : (l : Law) (w : World) (c : Call) (p : Phase) (x : Event) (e : Entry) (y : Bool) → AllReached l w → c.state.phase ≡ p → (UsesBy l w c p x → AsksBy l w c y) → bucket_of w.table c.state ≡ Some e → accepts e c.state y ≡ false → UsesBy l w c c.state.phase x → HasHash l c → Probing w.table.gens c → accepts_value l c e.value ≡ false
+pub refused_by : (l : Law) (w : World) (c : Call) (p : Phase) (x : Event) (e : Entry) (y : Bool) → AllReached l w → c.state.phase ≡ p → (UsesBy l w c p x → AsksBy l w c y) → bucket_of w.table c.state ≡ Some e → is_accepted e c.state y ≡ false → UsesBy l w c c.state.phase x → HasHash l c → Probing w.table.gens c → accepts l c e.value ≡ false
 refused_by l w c p x e y r h s b f u t q = refused_at l w c p x e y _ refl h s b f u ((r q.number q.gen q.got).bits e (in_bucket e q.gen.entries c.state.index (bucket_some w.table c.state q.number q.gen e q.walked q.got b))) t
 
 -- the buckets of a probe up to the one that it reads
-pub missed_more : (l : Law) (w : World) (c : Call) (e : Entry) → (q : Probing w.table.gens c) → bucket_of w.table c.state ≡ Some e → accepts_value l c e.value ≡ false → ((k : ℕ) (g : Gen) → c.state.walked ≡ Some k → slice_get w.table.gens k ≡ Some g → Missed l c g c.state.seen) → Missed l c q.gen (c.state.seen + 1)
+pub missed_more : (l : Law) (w : World) (c : Call) (e : Entry) → (q : Probing w.table.gens c) → bucket_of w.table c.state ≡ Some e → accepts l c e.value ≡ false → ((k : ℕ) (g : Gen) → c.state.walked ≡ Some k → slice_get w.table.gens k ≡ Some g → Missed l c g c.state.seen) → Missed l c q.gen (c.state.seen + 1)
 missed_more l w c e q b n m = record {
   none = λ j d lt h. elim (order j c.state.seen) [
     | inl k ↦ (m q.number q.gen q.walked q.got).none j d k h
@@ -185,9 +192,12 @@ missed_as l gens c d n q a b e m k g wa ge =
 pub judged_probes : (l : Law) (w : World) (c : Call) {p : Phase} {x : Event} {a : Answer} {r : CallState} {ls : List ℕ} {t : Table} {q : Option Reply} → Row w c p x a r ls t q → c.state.phase ≡ p → UsesBy l w c c.state.phase x → AllReached l w → (is_asking p ≡ true → HasHash l c) → (probing p ≡ true → Probing w.table.gens c) → (probing p ≡ true → (k : ℕ) (g : Gen) → c.state.walked ≡ Some k → slice_get w.table.gens k ≡ Some g → Missed l c g c.state.seen) → probing r.phase ≡ true → (k : ℕ) (g : Gen) → r.walked ≡ Some k → slice_get w.table.gens k ≡ Some g → Missed l (left c r ls) g r.seen
 judged_probes l w c (loads _ _ _) e u r t q m z = λ k g wa ge. record { none = λ j f lt h. absurd (omega arith) }
 judged_probes l w c (looks _ _ _) e u r t q m z = λ k g wa ge. record { none = λ j f lt h. absurd (omega arith) }
-judged_probes l w c (goes_on n y d b f lt) e u r t q m z = missed_as l w.table.gens c _ _ (q refl) refl refl refl (missed_more l w c d (q refl) b (refused_by l w c Probe (Read n y) d y r e (λ x. x) b f u (t refl) (q refl)) (m refl))
-judged_probes l w c (loses_goes_on n y d b f lt) e u r t q m z = missed_as l w.table.gens c _ _ (q refl) refl refl refl (missed_more l w c d (q refl) b (refused_by l w c AtEmpty (Put n y true) d y r e (λ x. x) b f u (t refl) (q refl)) (m refl))
-judged_probes l w c (look_goes_on n y d b f lt) e u r t q m z = missed_as l w.table.gens c _ _ (q refl) refl refl refl (missed_more l w c d (q refl) b (refused_by l w c LookProbe (Read n y) d y r e (λ x. x) b f u (t refl) (q refl)) (m refl))
+judged_probes l w c (goes_on n y d b f lt) e u r t q m z = missed_as l w.table.gens c _ _ (q refl) refl refl refl (missed_more l w c d (q refl) b (refused_by l w c Probe (Read n y) d y r e (λ x. x) b (declined d c.state y f) u (t refl) (q refl)) (m refl))
+judged_probes l w c (goes_on_unasked n y d b f lt) e u r t q m z = missed_as l w.table.gens c _ _ (q refl) refl refl refl (missed_more l w c d (q refl) b (refused_by l w c Probe (Read n y) d y r e (λ x. x) b (differing d c.state y f) u (t refl) (q refl)) (m refl))
+judged_probes l w c (loses_goes_on n y d b f lt) e u r t q m z = missed_as l w.table.gens c _ _ (q refl) refl refl refl (missed_more l w c d (q refl) b (refused_by l w c AtEmpty (Put n y true) d y r e (λ x. x) b (declined d c.state y f) u (t refl) (q refl)) (m refl))
+judged_probes l w c (loses_goes_on_unasked n y d b f lt) e u r t q m z = missed_as l w.table.gens c _ _ (q refl) refl refl refl (missed_more l w c d (q refl) b (refused_by l w c AtEmpty (Put n y true) d y r e (λ x. x) b (differing d c.state y f) u (t refl) (q refl)) (m refl))
+judged_probes l w c (look_goes_on n y d b f lt) e u r t q m z = missed_as l w.table.gens c _ _ (q refl) refl refl refl (missed_more l w c d (q refl) b (refused_by l w c LookProbe (Read n y) d y r e (λ x. x) b (declined d c.state y f) u (t refl) (q refl)) (m refl))
+judged_probes l w c (look_goes_on_unasked n y d b f lt) e u r t q m z = missed_as l w.table.gens c _ _ (q refl) refl refl refl (missed_more l w c d (q refl) b (refused_by l w c LookProbe (Read n y) d y r e (λ x. x) b (differing d c.state y f) u (t refl) (q refl)) (m refl))
 judged_probes l w c (reads_empty _ _ _) e u r t q m z = λ k g wa ge. record { none = (m refl k g wa ge).none }
 judged_probes l w c _ e u r t q m z = absurd (cc)
 
@@ -214,8 +224,10 @@ pub judged_turned : (l : Law) (w : World) (c : Call) {p : Phase} {x : Event} {a 
     (wants_growth p c.state.outcome ≡ true → (k : ℕ) (g : Gen) → c.state.walked ≡ Some k → slice_get w.table.gens k ≡ Some g → Missed l c g g.capacity) →
     wants_growth r.phase r.outcome ≡ true → (k : ℕ) (g : Gen) → r.walked ≡ Some k → slice_get w.table.gens k ≡ Some g → Missed l (left c r ls) g g.capacity
 judged_turned l w c (loads_none _ _) e f u r t q m v z = λ k g wa ge. absurd (cc)
-judged_turned l w c (turns n y d b o lt) e f u r t q m v z = missed_all l w c _ _ refl (q refl) lt (missed_more l w c d (q refl) b (refused_by l w c Probe (Read n y) d y r e (λ x. x) b o u (t refl) (q refl)) (m refl))
-judged_turned l w c (loses_turns n y d b o lt) e f u r t q m v z = missed_all l w c _ _ refl (q refl) lt (missed_more l w c d (q refl) b (refused_by l w c AtEmpty (Put n y true) d y r e (λ x. x) b o u (t refl) (q refl)) (m refl))
+judged_turned l w c (turns n y d b o lt) e f u r t q m v z = missed_all l w c _ _ refl (q refl) lt (missed_more l w c d (q refl) b (refused_by l w c Probe (Read n y) d y r e (λ x. x) b (declined d c.state y o) u (t refl) (q refl)) (m refl))
+judged_turned l w c (turns_unasked n y d b o lt) e f u r t q m v z = missed_all l w c _ _ refl (q refl) lt (missed_more l w c d (q refl) b (refused_by l w c Probe (Read n y) d y r e (λ x. x) b (differing d c.state y o) u (t refl) (q refl)) (m refl))
+judged_turned l w c (loses_turns n y d b o lt) e f u r t q m v z = missed_all l w c _ _ refl (q refl) lt (missed_more l w c d (q refl) b (refused_by l w c AtEmpty (Put n y true) d y r e (λ x. x) b (declined d c.state y o) u (t refl) (q refl)) (m refl))
+judged_turned l w c (loses_turns_unasked n y d b o lt) e f u r t q m v z = missed_all l w c _ _ refl (q refl) lt (missed_more l w c d (q refl) b (refused_by l w c AtEmpty (Put n y true) d y r e (λ x. x) b (differing d c.state y o) u (t refl) (q refl)) (m refl))
 judged_turned l w c (leaves_grow _) e f u r t q m v z = missed_same l w.table.gens c _ _ refl refl (v refl)
 judged_turned l w c (large _ _ _ _) e f u r t q m v z = absurd (asking_outcome (is_some c.value) c.state.outcome f z)
 judged_turned l w c (owns _ _) e f u r t q m v z = missed_same l w.table.gens c _ _ refl refl (v (growth_from WantOwned Owned refl (λ i. refl) (λ i. refl) c.state.outcome z))
@@ -229,14 +241,14 @@ judged_turned l w c (copies _ _ _ _) e f u r t q m v z = missed_same l w.table.g
 judged_turned l w c (shows _ _) e f u r t q m v z = missed_same l w.table.gens c _ _ refl refl (v (growth_from Building LeaveOwned refl (λ i. refl) (λ i. refl) c.state.outcome z))
 judged_turned l w c _ e f u r t q m v z = absurd (cc)
 
-pub met_accepted : (l : Law) (w : World) (c : Call) (d : Entry) → bucket_of w.table c.state ≡ Some d → accepts_value l c d.value ≡ true → (i : ℕ) (e : Entry) → Existing c.state.index ≡ Existing i → bucket_in (gen_of w.table.gens c.state.walked) i ≡ Some e → accepts_value l c e.value ≡ true
+pub met_accepted : (l : Law) (w : World) (c : Call) (d : Entry) → bucket_of w.table c.state ≡ Some d → accepts l c d.value ≡ true → (i : ℕ) (e : Entry) → Existing c.state.index ≡ Existing i → bucket_in (gen_of w.table.gens c.state.walked) i ≡ Some e → accepts l c e.value ≡ true
 met_accepted l w c d b y i e h k =
     let x : c.state.index ≡ i = cc in
     let z : bucket_in (gen_of w.table.gens c.state.walked) i ≡ Some d = rw (← x) b in
     let q : d ≡ e = same_entry d e _ z k in
     rw (← q) y
 
-pub judged_met : (l : Law) (w : World) (c : Call) {p : Phase} {x : Event} {a : Answer} {r : CallState} {ls : List ℕ} {t : Table} {q : Option Reply} → Row w c p x a r ls t q → c.state.phase ≡ p → fitting (is_some c.value) p c.state.outcome ≡ true → UsesBy l w c c.state.phase x → ((i : ℕ) (e : Entry) → c.state.outcome ≡ Existing i → bucket_in (gen_of w.table.gens c.state.walked) i ≡ Some e → accepts_value l c e.value ≡ true) → (i : ℕ) (e : Entry) → r.outcome ≡ Existing i → bucket_in (gen_of w.table.gens r.walked) i ≡ Some e → accepts_value l c e.value ≡ true
+pub judged_met : (l : Law) (w : World) (c : Call) {p : Phase} {x : Event} {a : Answer} {r : CallState} {ls : List ℕ} {t : Table} {q : Option Reply} → Row w c p x a r ls t q → c.state.phase ≡ p → fitting (is_some c.value) p c.state.outcome ≡ true → UsesBy l w c c.state.phase x → ((i : ℕ) (e : Entry) → c.state.outcome ≡ Existing i → bucket_in (gen_of w.table.gens c.state.walked) i ≡ Some e → accepts l c e.value ≡ true) → (i : ℕ) (e : Entry) → r.outcome ≡ Existing i → bucket_in (gen_of w.table.gens r.walked) i ≡ Some e → accepts l c e.value ≡ true
 judged_met l w c (meets n y d b o) e f u m = met_accepted l w c d b (accepted_at l w c Probe (Read n y) d y e (λ x. x) b o u)
 judged_met l w c (loses_meets n y d b o) e f u m = met_accepted l w c d b (accepted_at l w c AtEmpty (Put n y true) d y e (λ x. x) b o u)
 judged_met l w c (look_meets n y d b o) e f u m = met_accepted l w c d b (accepted_at l w c LookProbe (Read n y) d y e (λ x. x) b o u)
@@ -391,14 +403,14 @@ pub current_at : (gens : List Gen) (k : ℕ) (g : Gen) → suc k ≡ length gens
 current_at gens k g e h = let x : length gens - 1 ≡ k = omega arith in rw x h
 
 -- nothing that was placed is accepted, where no entry of the current generation is
-pub none_placed : (l : Law) (w : World) (m : List ℕ) (c : Call) (g : Gen) → current w.table ≡ Some g → Holding w.table m → ((e : Entry) → In e g.entries → accepts_value l c e.value ≡ false) → weigh (λ u. one_if (accepts_value l c u)) m ≡ 0
+pub none_placed : (l : Law) (w : World) (m : List ℕ) (c : Call) (g : Gen) → current w.table ≡ Some g → Holding w.table m → ((e : Entry) → In e g.entries → accepts l c e.value ≡ false) → weigh (λ u. one_if (accepts l c u)) m ≡ 0
 none_placed l w m c g h o f =
-    let z : weigh (λ e. one_if (accepts_value l c e.value)) g.entries ≡ 0 = none_passes (accepts_value l c) g.entries f in
-    let b : weigh (λ e. one_if (accepts_value l c e.value)) g.entries ≡ weigh (λ u. one_if (accepts_value l c u)) m = rw h at (o.bag (λ u. one_if (accepts_value l c u))) in
+    let z : weigh (λ e. one_if (accepts l c e.value)) g.entries ≡ 0 = none_passes (accepts l c) g.entries f in
+    let b : weigh (λ e. one_if (accepts l c e.value)) g.entries ≡ weigh (λ u. one_if (accepts l c u)) m = rw h at (o.bag (λ u. one_if (accepts l c u))) in
     sym b ∙ z
 
 -- where an insert meets an empty bucket of the current generation, it accepts nothing that was placed
-pub fresh_value : (l : Law) (w : World) (m : List ℕ) (rs : List Finished) (i : ℕ) (c : Call) → slice_get w.calls i ≡ Some c → bucket_of w.table c.state ≡ None → probing c.state.phase ≡ true → stands c.state.phase ≡ true → is_asking c.state.phase ≡ true → Inv w m rs → LawOk l w → weigh (λ u. one_if (accepts_value l c u)) m ≡ 0
+pub fresh_value : (l : Law) (w : World) (m : List ℕ) (rs : List Finished) (i : ℕ) (c : Call) → slice_get w.calls i ≡ Some c → bucket_of w.table c.state ≡ None → probing c.state.phase ≡ true → stands c.state.phase ≡ true → is_asking c.state.phase ≡ true → Inv w m rs → LawOk l w → weigh (λ u. one_if (accepts l c u)) m ≡ 0
 fresh_value l w m rs i c gc n pr st ask v o =
     let k = (v.calls.at i c gc).stands st in
     let q = (v.tracked.at i c gc).probes pr in
@@ -421,7 +433,7 @@ apart_more_at l m v x true h z o = omega (arith, weigh-le (λ u. one_if (l.equal
 pub apart_more : (l : Law) (m : List ℕ) (v : ℕ) → weigh (λ u. one_if (l.equal v u)) m ≡ 0 → AllApart l.equal m → AllApart l.equal (m ++ v ∷ [])
 apart_more l m v z o x = rw weigh-append (apart_more_at l m v x (l.equal x v) refl z (o x))
 
-pub apart_place : (l : Law) (w : World) (m : List ℕ) (rs : List Finished) (i : ℕ) (c : Call) (v : Option ℕ) → c.value ≡ v → weigh (λ u. one_if (accepts_value l c u)) m ≡ 0 → AllApart l.equal m → AllApart l.equal (m ++ option_to_list v)
+pub apart_place : (l : Law) (w : World) (m : List ℕ) (rs : List Finished) (i : ℕ) (c : Call) (v : Option ℕ) → c.value ≡ v → weigh (λ u. one_if (accepts l c u)) m ≡ 0 → AllApart l.equal m → AllApart l.equal (m ++ option_to_list v)
 apart_place l w m rs i c None e z q = rw append-none q
 apart_place l w m rs i c (Some v) e z q = apart_more l m v (rw e at z) q
 

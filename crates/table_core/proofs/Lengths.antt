@@ -9,7 +9,7 @@ use Rattle.table_core.specs.History.{replies, placed_by, placed, added_by, added
 use Rattle.table_core.specs.Steps.{Row, puts, leaves_refused, small, ends, ends_failed, gives_up, len_none, len_loads, len_size, Opens, opens_insert, left}
 use Rattle.table_core.specs.declared.event.Event.{Event}
 use Rattle.table_core.specs.declared.event.Event.TheVariants.{Load}
-use Rattle.table_core.specs.declared.event.Entry.{Entry}
+use Rattle.table_core.specs.declared.generation.Entry.{Entry}
 use Rattle.table_core.specs.declared.call.CallState.{CallState}
 use Rattle.table_core.specs.declared.call.Phase.{Phase}
 use Rattle.table_core.specs.declared.call.Phase.TheVariants.{LenSize}

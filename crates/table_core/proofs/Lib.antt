@@ -2,7 +2,6 @@ mod Truth
 mod CodeEvents
 mod CodeFits
 mod CodeSteps
-mod CodeTold
 mod CodeTable
 mod CodeCalls
 mod CodeEntries

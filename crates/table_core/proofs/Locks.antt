@@ -9,7 +9,7 @@ use Rattle.table_core.specs.Calls.{Call, starts, holds_shared, holds_owned, is_o
 use Rattle.table_core.specs.Machine.{World, empty, place, Act}
 use Rattle.table_core.specs.Steps.{Row, shares, puts, owns, begins_first, begins_next, copies, shows, Opens, opens_insert, left}
 use Rattle.table_core.specs.declared.event.Event.{Event}
-use Rattle.table_core.specs.declared.event.Entry.{Entry}
+use Rattle.table_core.specs.declared.generation.Entry.{Entry}
 use Rattle.table_core.specs.declared.call.CallState.{CallState}
 use Rattle.table_core.specs.declared.call.Phase.{Phase}
 use Rattle.table_core.specs.declared.call.Phase.TheVariants.{Owned, Building, LeaveOwned, LeaveFailed}

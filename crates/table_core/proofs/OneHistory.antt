@@ -1,11 +1,11 @@
 -- One history: each finished call once, nothing else, in the order of the calls.
-use Rattle.std.proofs.Common.{eqb-true, ℕ, suc, zero, ◌≡◌, ◌+◌, ◌≤◌, ◌++◌, ◌⊎◌, inl, inr, List, [], ◌∷◌, Bool, true, false, refl, Option, Some, None, length, sym, subst, ap, arith, ◌∙◌}
+use Rattle.std.proofs.Common.{eqb-true, ℕ, ◌≡◌, ◌+◌, ◌≤◌, ◌++◌, ◌⊎◌, inl, inr, List, [], ◌∷◌, Bool, true, false, refl, Option, Some, None, length, sym, subst, ap, arith, ◌∙◌}
 use Rattle.std.specs.Prelude.{◌==◌, ◌&&◌, ◌||◌, if◌then◌else◌, option_to_list, not}
-use Rattle.std.specs.List.{slice_get, find}
+use Rattle.std.specs.List.{find}
 use Rattle.table_core.specs.Bags.{weigh}
 use Rattle.table_core.specs.Replies.{ReplyPlaced, Finished}
 use Rattle.terms.specs.Capacities.{IsFirstCapacity}
-use Rattle.table_core.specs.Calls.{Call, is_used}
+use Rattle.table_core.specs.Calls.{Call}
 use Rattle.table_core.specs.Machine.{World, empty, Act, Begins, Goes, acts, happens, finishes, run, after}
 use Rattle.table_core.specs.History.{replies, fate, placed_by, placed, has_later}
 use Rattle.table_core.specs.Steps.{left}
@@ -19,7 +19,7 @@ use Rattle.std.specs.Prelude.{Contains}
 use Rattle.std.proofs.Common.{append_assoc}
 use Rattle.std.proofs.lemmas.Bool.{eq-eqb, eqb-true}
 use Rattle.table_core.specs.Law.{Law, IsLawful}
-use Rattle.table_core.specs.Lists.{is_list_reply, placed_here, reply_here, stands_here, history_at, history, is_moment, may_be_refused, is_refusal, IsRight, HasPlaced, OneHistory, InOrder}
+use Rattle.table_core.specs.Lists.{HasBegun, is_list_reply, placed_here, reply_here, stands_here, history_at, history, is_moment, may_be_refused, is_refusal, IsRight, HasPlaced, OneHistory, InOrder}
 use Rattle.table_core.proofs.Pasts.{after_snoc, has_later_append}
 use Rattle.table_core.proofs.Invariant.{inv}
 use Rattle.table_core.proofs.Members.{Is, is_left, is_right, is_either, in_of, contains_of}
@@ -28,12 +28,11 @@ use Rattle.table_core.proofs.Right.{right}
 use Rattle.table_core.proofs.Callings.{Took, took_after, Has, Kept, has_after, run_after, IsDone, replied, reply_ends, acts_untold, done_later, find_append_none}
 use Rattle.table_core.specs.Values.{IsOwn}
 use Rattle.table_core.proofs.OwnAnswers.{own_answers}
-use Rattle.table_core.proofs.Beginnings.{own_later, placed_own}
+use Rattle.table_core.proofs.Beginnings.{all_began, own_later, placed_own}
 use Rattle.table_core.proofs.Settled.{moment_once}
 use Rattle.table_core.proofs.Pasts.{replies_append, placed_append, after_taken}
 use Rattle.table_core.proofs.Histories.{heads, won_row, apart_moments}
 use Rattle.table_core.proofs.HistoryRuns.{runs_from, Standing, unfinished, finished, StandsFor, InHistory, in_history, stands_for}
-use Rattle.table_core.proofs.Truth.{or_second}
 
 -- A history cut in two
 
@@ -289,16 +288,12 @@ IsThere c = Unit {0}
 pub there_kept : Kept IsThere
 there_kept w c p x a r ls t q row e f h = tt
 
-pub used_at : (n : ℕ) (cs : List Call) (i : ℕ) (c : Call) → slice_get cs i ≡ Some c → c.number ≡ n → is_used n cs ≡ true
-used_at n [] i c h e = absurd (cc)
-used_at n (x ∷ cs) zero c h e = let m : x ≡ c = cc in let z : (x.number == n) ≡ true = eq-eqb x.number n (ap (λ (z : Call). z.number) m ∙ e) in rw z refl
-used_at n (x ∷ cs) (suc i) c h e = or_second (x.number == n) _ (used_at n cs i c h e)
-
-pub begun_before : (f : ℕ) → IsFirstCapacity f → (b : List Event) (x : Event) (d : List Event) (c : Call) (a : Answer) → acts (after f b) x ≡ Some (Goes c a) → is_used c.number (after f (b ++ x ∷ d)).calls ≡ true
+begun_before : (f : ℕ) → IsFirstCapacity f → (b : List Event) (x : Event) (d : List Event) (c : Call) (a : Answer) → acts (after f b) x ≡ Some (Goes c a) → HasBegun f (b ++ x ∷ d) c.number
 begun_before f i b x d c a h =
     let t = took_after f b x c a h in
     let m : Has IsThere (after f (b ++ x ∷ d)) c.number = has_after IsThere there_kept f i b (x ∷ d) c.number (record { at = t.at; call = c; there = t.there; number = refl; holds = tt }) in
-    used_at c.number (after f (b ++ x ∷ d)).calls m.at m.call m.there m.number
+    let k = all_began f (b ++ x ∷ d) m.at m.call m.there in
+    subst (λ n. HasBegun f (b ++ x ∷ d) n) m.number (k.start, k.once)
 
 pub in_part : (m es : List Event) (w : World) (r : Finished) → Is r (part w m es) → InPart w m es r
 in_part [] es w r i = absurd i
@@ -307,11 +302,11 @@ in_part (x ∷ m) es w r i = elim (is_either r (history_at w x (m ++ es) (acts w
   | inr k ↦ (let h = in_part m es (happens w x) r k in record { before = x ∷ h.before; event = h.event; rest = h.rest; split = ap (λ l. x ∷ l) h.split; stands = h.stands })
 ]
 
-pub part_begun : (f : ℕ) → IsFirstCapacity f → (s more : List Event) (r : Finished) → Contains (part (empty f) s more) r → is_used r.call (after f s).calls ≡ true
+pub part_begun : (f : ℕ) → IsFirstCapacity f → (s more : List Event) (r : Finished) → Contains (part (empty f) s more) r → HasBegun f s r.call
 part_begun f i s more r c =
     let g = in_part s more (empty f) r (in_of (part (empty f) s more) r c) in
     let z = begun_before f i g.before g.event g.rest g.stands.call g.stands.found g.stands.taken in
-    subst (λ n. is_used n (after f s).calls ≡ true) (sym g.stands.number) (subst (λ e. is_used g.stands.call.number (after f e).calls ≡ true) (sym g.split) z)
+    subst (λ n. HasBegun f s n) (sym g.stands.number) (subst (λ e. HasBegun f e g.stands.call.number) (sym g.split) z)
 
 pub fate_prefix_at : (n : ℕ) (x : Finished) (xs ys : List Finished) (b : Bool) → (x.call == n) ≡ b → (if b then Some x else find (λ (r : Finished). r.call == n) (xs ++ ys)) ≡ None → (find (λ (r : Finished). r.call == n) (xs ++ ys) ≡ None → find (λ (r : Finished). r.call == n) xs ≡ None) → (if b then Some x else find (λ (r : Finished). r.call == n) xs) ≡ None
 fate_prefix_at n x xs ys true e h k = absurd (cc)

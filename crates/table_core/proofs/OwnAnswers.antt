@@ -8,10 +8,10 @@ use Rattle.terms.specs.Hashes.{bits_of}
 use Rattle.table_core.specs.Calls.{Call, starts, finds_entry}
 use Rattle.table_core.specs.Machine.{World, empty, walked_gen, bucket_of, refused, found_entry, reply_of_outcome, Act, Goes, acts, finished_call, after}
 use Rattle.table_core.specs.History.{replies, placed, TakenEvent, bucket_then}
-use Rattle.table_core.specs.Steps.{accepts, Row, loads_none, loads, meets, loses_meets, adds, leaves_refused, small, ends, ends_failed, gives_up, looks_none, looks, look_empty, look_meets, look_turns, len_none, len_loads, len_size, walk_none, walk_loads, walk_skips_last, walk_takes_last, left}
+use Rattle.table_core.specs.Steps.{is_accepted, Row, loads_none, loads, meets, loses_meets, adds, leaves_refused, small, ends, ends_failed, gives_up, looks_none, looks, look_empty, look_meets, look_turns, look_turns_unasked, len_none, len_loads, len_size, walk_none, walk_loads, walk_skips_last, walk_takes_last, left}
 use Rattle.table_core.specs.declared.event.Event.{Event}
 use Rattle.table_core.specs.declared.event.Event.TheVariants.{Read, Put}
-use Rattle.table_core.specs.declared.event.Entry.{Entry}
+use Rattle.table_core.specs.declared.generation.Entry.{Entry}
 use Rattle.table_core.specs.declared.call.CallState.{CallState}
 use Rattle.table_core.specs.declared.call.Phase.{Phase}
 use Rattle.table_core.specs.declared.call.Phase.TheVariants.{Shared, LeaveOk, LookLoad, LenLoad, WalkLoad, Done}
@@ -56,12 +56,12 @@ data Meeting (w : World) (c : Call) (x : Event) (r : CallState) (k : ℕ) : Type
   meets_now : (e : Entry) → SaysYes x c.state e → bucket_of w.table c.state ≡ Some e → bucket_in (gen_of w.table.gens r.walked) k ≡ Some e → Meeting w c x r k
   met_before : c.state.outcome ≡ Existing k → r.walked ≡ c.state.walked → Meeting w c x r k
 
-says_yes_to : (x : Event) (s : CallState) (e : Entry) (y : Bool) → says_yes x ≡ y → accepts e s y ≡ true → SaysYes x s e
+says_yes_to : (x : Event) (s : CallState) (e : Entry) (y : Bool) → says_yes x ≡ y → is_accepted e s y ≡ true → SaysYes x s e
 says_yes_to x s e y q h =
     let both : ((e.bits == bits_of s.hash) ≡ true) × (y ≡ true) = and_both (e.bits == bits_of s.hash) y h in
     record { yes = q ∙ both.1; bits = eqb-true e.bits (bits_of s.hash) both.0 }
 
-meeting_now : (w : World) (c : Call) (p : Phase) (x : Event) (y : Bool) (e : Entry) (k : ℕ) → says_yes x ≡ y → bucket_of w.table c.state ≡ Some e → accepts e c.state y ≡ true → Existing c.state.index ≡ Existing k → Meeting w c x (finds_entry p c.state) k
+meeting_now : (w : World) (c : Call) (p : Phase) (x : Event) (y : Bool) (e : Entry) (k : ℕ) → says_yes x ≡ y → bucket_of w.table c.state ≡ Some e → is_accepted e c.state y ≡ true → Existing c.state.index ≡ Existing k → Meeting w c x (finds_entry p c.state) k
 meeting_now w c p x y e k q b h o =
     let i : c.state.index ≡ k = cc in
     meets_now e (says_yes_to x c.state e y q h) b (subst (λ j. bucket_in (gen_of w.table.gens c.state.walked) j ≡ Some e) i b)
@@ -147,6 +147,7 @@ row_names w c (gives_up n k d) q h e m = absurd (refused_names c.value q e h m)
 row_names w c (looks_none n k) q h e m = absurd (no_entry _ q e h refl m)
 row_names w c (look_empty n y k) q h e m = absurd (no_entry _ q e h refl m)
 row_names w c (look_turns n y d k b lt) q h e m = absurd (no_entry _ q e h refl m)
+row_names w c (look_turns_unasked n y d k b lt) q h e m = absurd (no_entry _ q e h refl m)
 row_names w c (len_none n k) q h e m = absurd (no_entry _ q e h refl m)
 row_names w c (len_size n g k) q h e m = absurd (no_entry _ q e h refl m)
 row_names w c (walk_none n k) q h e m = absurd (no_entry _ q e h refl m)

@@ -8,9 +8,9 @@ use Rattle.table_core.specs.Generations.{Table, current, bucket_in, entries_of}
 use Rattle.table_core.specs.Calls.{Call, starts, is_pending}
 use Rattle.table_core.specs.Machine.{World, empty, walked_gen, refused, reply_of_outcome, Act, Goes, finished_call}
 use Rattle.table_core.specs.History.{placed_by, handed_back, back, kept, runs, picks, running}
-use Rattle.table_core.specs.Steps.{Row, shares, meets, puts, loses_meets, adds, leaves_refused, small, ends, ends_failed, gives_up, looks_none, look_empty, look_meets, look_turns, len_none, len_size, walk_none, walk_skips_last, walk_takes_last, Opens, opens_insert, opens_lookup, opens_len, opens_walk, left}
+use Rattle.table_core.specs.Steps.{Row, shares, meets, puts, loses_meets, adds, leaves_refused, small, ends, ends_failed, gives_up, looks_none, look_empty, look_meets, look_turns, look_turns_unasked, len_none, len_size, walk_none, walk_skips_last, walk_takes_last, Opens, opens_insert, opens_lookup, opens_len, opens_walk, left}
 use Rattle.table_core.specs.declared.event.Event.{Event}
-use Rattle.table_core.specs.declared.event.Entry.{Entry}
+use Rattle.table_core.specs.declared.generation.Entry.{Entry}
 use Rattle.table_core.specs.declared.call.CallState.{CallState}
 use Rattle.table_core.specs.declared.call.Phase.{Phase}
 use Rattle.table_core.specs.declared.call.Phase.TheVariants.{WantShared, Shared, Probe, AtEmpty, Placed, LeaveOk, LeaveGrow, LeaveRefused, AskSize, WantOwned, Owned, Building, LeaveOwned, LeaveFailed, LookLoad, LookProbe, LenLoad, LenSize, WalkLoad, WalkAt, Done}
@@ -95,6 +95,7 @@ move_back w c (looks_none _ _) f m h = none_back h _ c.value (no_value LookLoad 
 move_back w c (look_empty _ _ _) f m h = none_back h _ c.value (no_value LookProbe (refl, λ i. refl, λ i. refl, refl, λ i. refl, λ i. refl) c.value c.state.outcome f)
 move_back w c (look_meets _ _ _ _ _) f m h = none_back h (is_back Done (Existing c.state.index)) c.value (no_value LookProbe (refl, λ i. refl, λ i. refl, refl, λ i. refl, λ i. refl) c.value c.state.outcome f)
 move_back w c (look_turns _ _ _ _ _ _) f m h = none_back h _ c.value (no_value LookProbe (refl, λ i. refl, λ i. refl, refl, λ i. refl, λ i. refl) c.value c.state.outcome f)
+move_back w c (look_turns_unasked _ _ _ _ _ _) f m h = none_back h _ c.value (no_value LookProbe (refl, λ i. refl, λ i. refl, refl, λ i. refl, λ i. refl) c.value c.state.outcome f)
 move_back w c (len_none _ _) f m h = none_back h _ c.value (no_value LenLoad (refl, λ i. refl, λ i. refl, refl, λ i. refl, λ i. refl) c.value c.state.outcome f)
 move_back w c (len_size _ _ _) f m h = none_back h _ c.value (no_value LenSize (refl, λ i. refl, λ i. refl, refl, λ i. refl, λ i. refl) c.value c.state.outcome f)
 move_back w c (walk_none _ _) f m h = none_back h _ c.value (no_value WalkLoad (refl, λ i. refl, λ i. refl, refl, λ i. refl, λ i. refl) c.value c.state.outcome f)

@@ -11,7 +11,7 @@ use Rattle.table_core.specs.History.{replies, placed, picks, TakenEvent, answers
 use Rattle.table_core.specs.Steps.{Row, memory_refused, leaves_refused, small, fails_first, fails_largest, fails_refused, ends, ends_failed, gives_up, Opens, opens_insert, left}
 use Rattle.table_core.specs.declared.event.Event.{Event}
 use Rattle.table_core.specs.declared.event.Event.TheVariants.{Put}
-use Rattle.table_core.specs.declared.event.Entry.{Entry}
+use Rattle.table_core.specs.declared.generation.Entry.{Entry}
 use Rattle.table_core.specs.declared.call.CallState.{CallState}
 use Rattle.table_core.specs.declared.call.Phase.{Phase}
 use Rattle.table_core.specs.declared.call.Phase.TheVariants.{LeaveRefused, LeaveFailed, Done}

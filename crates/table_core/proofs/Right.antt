@@ -1,6 +1,6 @@
 -- Each finished insert and look-up is right at one moment of its span.
 use Rattle.std.proofs.Common.{eqb-true, ℕ, ◌≡◌, ◌+◌, ◌-◌, ◌≤◌, ◌++◌, inl, inr, List, [], ◌∷◌, Bool, true, false, refl, Option, Some, None, length, sym, subst, ap, arith, ◌∙◌}
-use Rattle.std.specs.Prelude.{◌==◌, ◌&&◌, if◌then◌else◌, option_to_list}
+use Rattle.std.specs.Prelude.{◌==◌, if◌then◌else◌, option_to_list}
 use Rattle.std.specs.List.{slice_get}
 use Rattle.table_core.specs.Bags.{weigh}
 use Rattle.table_core.specs.Replies.{Reply, ReplyPlaced, ReplyFound, ReplyRefused, ReplySome, ReplyNone, ReplyLen, ReplyWalk, Finished}
@@ -10,10 +10,10 @@ use Rattle.terms.specs.Capacities.{IsFirstCapacity}
 use Rattle.table_core.specs.Calls.{Call, starts}
 use Rattle.table_core.specs.Machine.{World, empty, walked_gen, bucket_of, refused, found_entry, reply_of_outcome, Act, Goes, acts, finished_call, run, after}
 use Rattle.table_core.specs.History.{replies, placed_by, placed, TakenEvent, answers_so}
-use Rattle.table_core.specs.Steps.{Row, loads_none, loads, reads_empty, meets, memory_refused, puts, loses_meets, adds, leaves_refused, small, fails_first, fails_largest, fails_refused, ends, ends_failed, gives_up, looks_none, looks, look_empty, look_meets, look_turns, look_goes_on, len_none, len_loads, len_size, walk_none, walk_loads, walk_skips_last, walk_takes_last, Opens, opens_insert, opens_lookup, opens_len, opens_walk, left}
+use Rattle.table_core.specs.Steps.{Row, loads_none, loads, reads_empty, meets, memory_refused, puts, loses_meets, adds, leaves_refused, small, fails_first, fails_largest, fails_refused, ends, ends_failed, gives_up, looks_none, looks, look_empty, look_meets, look_turns, look_turns_unasked, look_goes_on, look_goes_on_unasked, len_none, len_loads, len_size, walk_none, walk_loads, walk_skips_last, walk_takes_last, Opens, opens_insert, opens_lookup, opens_len, opens_walk, left}
 use Rattle.table_core.specs.declared.event.Event.{Event}
 use Rattle.table_core.specs.declared.event.Event.TheVariants.{Free, Load, Read, Put, Add, Size, Check}
-use Rattle.table_core.specs.declared.event.Entry.{Entry}
+use Rattle.table_core.specs.declared.generation.Entry.{Entry}
 use Rattle.table_core.specs.declared.call.CallState.{CallState}
 use Rattle.table_core.specs.declared.call.Phase.{Phase}
 use Rattle.table_core.specs.declared.call.Phase.TheVariants.{Shared, Probe, AtEmpty, Placed, LeaveOk, LeaveRefused, AskSize, Owned, Building, LeaveOwned, LeaveFailed, LookLoad, LookProbe, LenLoad, WalkLoad, Done}
@@ -28,7 +28,7 @@ use Rattle.std.proofs.lemmas.Bool.{ltb-false, eq-eqb, eqb-true}
 use Rattle.std.specs.Option.{is_some}
 use Rattle.table_core.specs.ListObject.{AcceptsNone, Answers}
 use Rattle.table_core.specs.Law.{Law, UsesBy, ActsBy, IsLawful}
-use Rattle.table_core.specs.Law.{accepts as accepts_value}
+use Rattle.table_core.specs.Law.{accepts}
 use Rattle.table_core.specs.Values.{Ends, entry_named}
 use Rattle.table_core.specs.Lists.{asked, answered, is_list_reply, is_refusal, is_moment, may_be_refused, Meets, IsRight}
 use Rattle.table_core.specs.Lists.{passes as one_if}
@@ -40,7 +40,7 @@ use Rattle.table_core.proofs.Facts.{values, In, Holding, Within, AllGrew, probin
 use Rattle.table_core.proofs.Contents.{in_bucket, bucket_none, bucket_some, row_grew, fit_at, same_grew}
 use Rattle.table_core.proofs.Places.{by_class, no_value}
 use Rattle.table_core.proofs.Tracks.{load_outcome, none_shared, none_look, none_len, none_walk}
-use Rattle.table_core.proofs.Lawful.{accepted_at, refused_by, missed_more, misses_at_empty, misses_at_turn, none_placed, fresh_value, same_entry, same_gen, same_walk, entry_stays, lawful_before, lawful_then, law_after, none_passes}
+use Rattle.table_core.proofs.Lawful.{accepted_at, refused_by, declined, differing, missed_more, misses_at_empty, misses_at_turn, none_placed, fresh_value, same_entry, same_gen, same_walk, entry_stays, lawful_before, lawful_then, law_after, none_passes}
 use Rattle.table_core.proofs.Members.{none_in, counted, contains_of}
 use Rattle.table_core.proofs.Invariant.{InvAfter, inv}
 use Rattle.table_core.proofs.Truth.{not-true, and-false}
@@ -181,29 +181,23 @@ fated_other l f s x gens now c g t n e k = record {
 pub not_try : (c : Call) (p : Phase) (a : Answer) (n : ℕ) → c.state.phase ≡ p → may_be_refused p a ≡ false → answers_so may_be_refused (Some (Goes c a)) n ≡ false
 not_try c p a n e h = let z : may_be_refused c.state.phase a ≡ false = ap (λ q. may_be_refused q a) e ∙ h in rw z refl
 
-pub value_none : (l : Law) (c : Call) (v : ℕ) (m : List ℕ) → c.value ≡ Some v → weigh (λ u. one_if (accepts_value l c u)) m ≡ 0 → AcceptsNone (l.equal v) m
+pub value_none : (l : Law) (c : Call) (v : ℕ) (m : List ℕ) → c.value ≡ Some v → weigh (λ u. one_if (accepts l c u)) m ≡ 0 → AcceptsNone (l.equal v) m
 value_none l c v m e z = none_in (l.equal v) m (rw e at z)
 
-pub place_answer : (l : Law) (m : List ℕ) (c : Call) (v : ℕ) → c.value ≡ Some v → weigh (λ u. one_if (accepts_value l c u)) m ≡ 0 → Answers l.equal m (asked l (say c.number (ReplyPlaced v))) (answered (ReplyPlaced v)) (m ++ option_to_list c.value)
+pub place_answer : (l : Law) (m : List ℕ) (c : Call) (v : ℕ) → c.value ≡ Some v → weigh (λ u. one_if (accepts l c u)) m ≡ 0 → Answers l.equal m (asked l (say c.number (ReplyPlaced v))) (answered (ReplyPlaced v)) (m ++ option_to_list c.value)
 place_answer l m c v e z = subst (λ o. Answers l.equal m (asked l (say c.number (ReplyPlaced v))) (answered (ReplyPlaced v)) (m ++ option_to_list o)) (sym e) (answer_placed l m c.number v (value_none l c v m e z))
 
 pub moment_placed : (v : ℕ) (p : Phase) → p ≡ AtEmpty → is_moment (ReplyPlaced v) p Won ≡ true
 moment_placed v p e = rw e refl
 
-pub moment_read : (e v : ℕ) (p : Phase) (a b : Bool) → p ≡ Probe → (a && b) ≡ true → is_moment (ReplyFound e v) p (Holds a b) ≡ true
-moment_read e v p true true h k = rw h refl
-moment_read e v p true false h k = absurd (cc)
-moment_read e v p false b h k = absurd (cc)
+pub moment_read : (e v : ℕ) (p : Phase) → p ≡ Probe → is_moment (ReplyFound e v) p (Holds true) ≡ true
+moment_read e v p h = rw h refl
 
-pub moment_put : (e v : ℕ) (p : Phase) (a b : Bool) → p ≡ AtEmpty → (a && b) ≡ true → is_moment (ReplyFound e v) p (Holds a b) ≡ true
-moment_put e v p true true h k = rw h refl
-moment_put e v p true false h k = absurd (cc)
-moment_put e v p false b h k = absurd (cc)
+pub moment_put : (e v : ℕ) (p : Phase) → p ≡ AtEmpty → is_moment (ReplyFound e v) p (Holds true) ≡ true
+moment_put e v p h = rw h refl
 
-pub moment_look : (e : ℕ) (p : Phase) (a b : Bool) → p ≡ LookProbe → (a && b) ≡ true → is_moment (ReplySome e) p (Holds a b) ≡ true
-moment_look e p true true h k = rw h refl
-moment_look e p true false h k = absurd (cc)
-moment_look e p false b h k = absurd (cc)
+pub moment_look : (e : ℕ) (p : Phase) → p ≡ LookProbe → is_moment (ReplySome e) p (Holds true) ≡ true
+moment_look e p h = rw h refl
 
 pub meets_none : (t : Reply) (o : Option Entry) → entry_named t ≡ None → Meets t o
 meets_none t o h e k = absurd (let z : None ≡ Some e = sym h ∙ k in cc)
@@ -227,13 +221,13 @@ placed_row l f s i c (look_meets n y d b u) h e iv o k v w z = later_placed l f 
 placed_row l f s i c {p = p} {x = x} {r = r} _ h e iv o k v w z = later_placed l f s x (after f s).table.gens c _ (class_at c p _ e (by_class p r.phase (λ o. o) (refl, λ i. refl, λ i. refl, refl, λ i. refl, λ i. refl) (is_some c.value) c.state.outcome (fit_at c _ _ (iv.calls.at i c h.1) e))) k v w z
 
 -- an entry that this very event accepts
-pub found_now : (l : Law) (f : ℕ) (s : List Event) (x : Event) (i : ℕ) (c : Call) (b y : Bool) (d : Entry) → Here l f s x c (Holds b y) i → probing c.state.phase ≡ true → InvAfter f s → bucket_of (after f s).table c.state ≡ Some d → accepts_value l c d.value ≡ true → ((v : ℕ) → is_moment (ReplyFound d.value v) c.state.phase (Holds b y) ≡ true) → (v j : ℕ) (e : Entry) → c.value ≡ Some v → Existing c.state.index ≡ Existing j → bucket_in (gen_of (after f s).table.gens c.state.walked) j ≡ Some e → IsRight l f (s ++ x ∷ []) (say c.number (ReplyFound e.value v))
-found_now l f s x i c b y d h pr iv at ac mo v j e w o k =
+pub found_now : (l : Law) (f : ℕ) (s : List Event) (x : Event) (i : ℕ) (c : Call) (d : Entry) → Here l f s x c (Holds true) i → probing c.state.phase ≡ true → InvAfter f s → bucket_of (after f s).table c.state ≡ Some d → accepts l c d.value ≡ true → ((v : ℕ) → is_moment (ReplyFound d.value v) c.state.phase (Holds true) ≡ true) → (v j : ℕ) (e : Entry) → c.value ≡ Some v → Existing c.state.index ≡ Existing j → bucket_in (gen_of (after f s).table.gens c.state.walked) j ≡ Some e → IsRight l f (s ++ x ∷ []) (say c.number (ReplyFound e.value v))
+found_now l f s x i c d h pr iv at ac mo v j e w o k =
     let q : c.state.index ≡ j = cc in
     let z : bucket_in (gen_of (after f s).table.gens c.state.walked) j ≡ Some d = rw (← q) at in
     let u : d ≡ e = same_entry d e _ z k in
     let eq : l.equal v d.value ≡ true = rw w at ac in
-    let r : IsRight l f (s ++ x ∷ []) (say c.number (ReplyFound d.value v)) = right_here l f s x (say c.number (ReplyFound d.value v)) c (Holds b y) h.0 refl (mo v) (λ n g. (d, at, (let t : d.value ≡ n = cc in t))) (answer_found l (placed (empty f) s) c.number d.value v (bucket_placed (after f s) (placed (empty f) s) c d iv.within ((iv.tracked.at i c h.1).probes pr) at) eq) in
+    let r : IsRight l f (s ++ x ∷ []) (say c.number (ReplyFound d.value v)) = right_here l f s x (say c.number (ReplyFound d.value v)) c (Holds true) h.0 refl (mo v) (λ n g. (d, at, (let t : d.value ≡ n = cc in t))) (answer_found l (placed (empty f) s) c.number d.value v (bucket_placed (after f s) (placed (empty f) s) c d iv.within ((iv.tracked.at i c h.1).probes pr) at) eq) in
     rw (← u) r
 
 -- an entry that was accepted before
@@ -244,8 +238,8 @@ found_before l f s x gens now c g t k v j e w o b =
     rw (← q) (right_later l f s x (say c.number (ReplyFound m.0.value v)) (no_refusal _) (k.found v j m.0 w o m.1))
 
 pub found_row : (l : Law) (f : ℕ) (s : List Event) (i : ℕ) (c : Call) {p : Phase} {x : Event} {a : Answer} {r : CallState} {ls : List ℕ} {t : Table} {q : Option Reply} → Row (after f s) c p x a r ls t q → AllGrew (after f s).table.gens t.gens → Here l f s x c a i → c.state.phase ≡ p → InvAfter f s → UsesBy l (after f s) c c.state.phase x → Fated l f s (after f s).table.gens c → (v j : ℕ) (e : Entry) → c.value ≡ Some v → r.outcome ≡ Existing j → bucket_in (gen_of t.gens r.walked) j ≡ Some e → IsRight l f (s ++ x ∷ []) (say c.number (ReplyFound e.value v))
-found_row l f s i c (meets n y d b u) g h e iv fb k = found_now l f s (Read n y) i c _ y d h (ap probing e) iv b (accepted_at l (after f s) c Probe (Read n y) d y e (λ x. x) b u fb) (λ v. moment_read d.value v c.state.phase _ y e u)
-found_row l f s i c (loses_meets n y d b u) g h e iv fb k = found_now l f s (Put n y true) i c _ y d h (ap probing e) iv b (accepted_at l (after f s) c AtEmpty (Put n y true) d y e (λ x. x) b u fb) (λ v. moment_put d.value v c.state.phase _ y e u)
+found_row l f s i c (meets n y d b u) g h e iv fb k = found_now l f s (Read n y) i c d h (ap probing e) iv b (accepted_at l (after f s) c Probe (Read n y) d y e (λ x. x) b u fb) (λ v. moment_read d.value v c.state.phase e)
+found_row l f s i c (loses_meets n y d b u) g h e iv fb k = found_now l f s (Put n y true) i c d h (ap probing e) iv b (accepted_at l (after f s) c AtEmpty (Put n y true) d y e (λ x. x) b u fb) (λ v. moment_put d.value v c.state.phase e)
 found_row l f s i c (look_meets n y d b u) g h e iv fb k = λ v j d w o b. absurd (let z : c.value ≡ None = no_value LookProbe (refl, λ i. refl, λ i. refl, refl, λ i. refl, λ i. refl) c.value c.state.outcome (fit_at c _ _ (iv.calls.at i c h.1) e) in let q : Some v ≡ None = sym w ∙ z in cc)
 found_row l f s i c (adds _) g h e iv fb k = λ v j d w o b. absurd (cc)
 found_row l f s i c (loads _ _ _) g h e iv fb k = λ v j d w o b. absurd (load_outcome Shared none_shared (is_some c.value) c.state.outcome (fit_at c _ _ (iv.calls.at i c h.1) e) j o)
@@ -270,8 +264,8 @@ pub moment_failed : (v : ℕ) (p : Phase) → p ≡ Owned → is_moment (ReplyRe
 moment_failed v p e = rw e refl
 
 -- there is nothing yet
-pub none_at_first : (l : Law) (w : World) (m : List ℕ) (c : Call) → current w.table ≡ None → Holding w.table m → weigh (λ u. one_if (accepts_value l c u)) m ≡ 0
-none_at_first l w m c h o = let b : 0 ≡ weigh (λ u. one_if (accepts_value l c u)) m = rw h at (o.bag (λ u. one_if (accepts_value l c u))) in sym b
+pub none_at_first : (l : Law) (w : World) (m : List ℕ) (c : Call) → current w.table ≡ None → Holding w.table m → weigh (λ u. one_if (accepts l c u)) m ≡ 0
+none_at_first l w m c h o = let b : 0 ≡ weigh (λ u. one_if (accepts l c u)) m = rw h at (o.bag (λ u. one_if (accepts l c u))) in sym b
 
 pub last_of_current : (gens : List Gen) (o : Option ℕ) (g : Gen) → last_of gens ≡ Some g → is_current gens o ≡ true → (k : ℕ) × (o ≡ Some k) × (slice_get gens k ≡ Some g)
 last_of_current [] None g h e = absurd (cc)
@@ -282,14 +276,14 @@ last_of_current gens (Some k) g h e =
     (k, refl, rw q at h)
 
 -- a growth fails for a call that has seen every bucket of the current generation
-pub none_at_failure : (l : Law) (f : ℕ) (s : List Event) (i : ℕ) (c : Call) (g : Gen) → slice_get (after f s).calls i ≡ Some c → c.state.phase ≡ Owned → c.state.outcome ≡ Pending → is_current (after f s).table.gens c.state.walked ≡ true → current (after f s).table ≡ Some g → InvAfter f s → LawOk l (after f s) → weigh (λ u. one_if (accepts_value l c u)) (placed (empty f) s) ≡ 0
+pub none_at_failure : (l : Law) (f : ℕ) (s : List Event) (i : ℕ) (c : Call) (g : Gen) → slice_get (after f s).calls i ≡ Some c → c.state.phase ≡ Owned → c.state.outcome ≡ Pending → is_current (after f s).table.gens c.state.walked ≡ true → current (after f s).table ≡ Some g → InvAfter f s → LawOk l (after f s) → weigh (λ u. one_if (accepts l c u)) (placed (empty f) s) ≡ 0
 none_at_failure l f s i c g gc e p cu h iv o =
     let q = last_of_current (after f s).table.gens c.state.walked g h cu in
     let j = o.calls i c gc in
     let w : wants_growth c.state.phase c.state.outcome ≡ true = rw (e, p) refl in
     none_placed l (after f s) (placed (empty f) s) c g h iv.holding (misses_at_turn l c g g.capacity (iv.seated.gens q.0 g q.2) (o.gens q.0 g q.2) (j.turned w q.0 g q.1 q.2) (j.hash (ap is_asking e)) (omega arith))
 
-pub refused_now : (l : Law) (f : ℕ) (s : List Event) (x : Event) (c : Call) (a : Answer) (v : ℕ) → acts (after f s) x ≡ Some (Goes c a) → c.value ≡ Some v → is_moment (ReplyRefused v) c.state.phase a ≡ true → placed_by (Some (Goes c a)) ≡ [] → weigh (λ u. one_if (accepts_value l c u)) (placed (empty f) s) ≡ 0 → IsRight l f (s ++ x ∷ []) (say c.number (ReplyRefused v))
+pub refused_now : (l : Law) (f : ℕ) (s : List Event) (x : Event) (c : Call) (a : Answer) (v : ℕ) → acts (after f s) x ≡ Some (Goes c a) → c.value ≡ Some v → is_moment (ReplyRefused v) c.state.phase a ≡ true → placed_by (Some (Goes c a)) ≡ [] → weigh (λ u. one_if (accepts l c u)) (placed (empty f) s) ≡ 0 → IsRight l f (s ++ x ∷ []) (say c.number (ReplyRefused v))
 refused_now l f s x c a v h w m n z = right_here l f s x (say c.number (ReplyRefused v)) c a h refl m (meets_none (ReplyRefused v) _ refl) (subst (λ b. Answers l.equal (placed (empty f) s) (asked l (say c.number (ReplyRefused v))) (answered (ReplyRefused v)) (placed (empty f) s ++ b)) (sym n) (answer_refused l (placed (empty f) s) c.number v (value_none l c v (placed (empty f) s) w z)))
 
 pub refused_failed : (l : Law) (f : ℕ) (s : List Event) (x : Event) (i : ℕ) (c : Call) (g : Gen) → current (after f s).table ≡ Some g → Here l f s x c Failed i → c.state.phase ≡ Owned → InvAfter f s → LawOk l (after f s) → (v : ℕ) → c.value ≡ Some v → may_refuse LeaveFailed c.state.outcome (is_current (after f s).table.gens c.state.walked) ≡ true → IsRight l f (s ++ x ∷ []) (say c.number (ReplyRefused v))
@@ -325,6 +319,7 @@ looked_row l f s i c (looks n g b) h e iv k z = record {
       omega arith;
 }
 looked_row l f s i c (look_goes_on n y d b u lt) h e iv k z = looked_later f s (Read n y) (after f s).table.gens (after f s).table.gens c _ _ refl (same_grew (after f s).table.gens) ((iv.tracked.at i c h.1).probes (ap probing e)) (k.looked e)
+looked_row l f s i c (look_goes_on_unasked n y d b u lt) h e iv k z = looked_later f s (Read n y) (after f s).table.gens (after f s).table.gens c _ _ refl (same_grew (after f s).table.gens) ((iv.tracked.at i c h.1).probes (ap probing e)) (k.looked e)
 looked_row l f s i c _ h e iv k z = absurd (let q : is_look_probe LookProbe ≡ true = refl in let m = ap is_look_probe z in cc)
 
 pub fated_row : (l : Law) (f : ℕ) (s : List Event) (i : ℕ) (c : Call) {p : Phase} {x : Event} {a : Answer} {r : CallState} {ls : List ℕ} {t : Table} {q : Option Reply} → Row (after f s) c p x a r ls t q → AllGrew (after f s).table.gens t.gens → Here l f s x c a i → c.state.phase ≡ p → InvAfter f s → LawOk l (after f s) → UsesBy l (after f s) c c.state.phase x → Fated l f s (after f s).table.gens c → Fated l f (s ++ x ∷ []) t.gens (left c r ls)
@@ -408,18 +403,18 @@ right_outcome_at l f s x c (Existing i) (Some v) e w n k b h =
 pub new_in_table : (p q : Phase) → q ≡ p → ((i : ℕ) → in_table p (New i) ≡ true) → (i : ℕ) → in_table q (New i) ≡ true
 new_in_table p q e h i = ap (λ z. in_table z (New i)) e ∙ h i
 
-pub look_value : (l : Law) (c : Call) (m : List ℕ) → c.value ≡ None → weigh (λ u. one_if (accepts_value l c u)) m ≡ 0 → AcceptsNone (l.test c.number) m
+pub look_value : (l : Law) (c : Call) (m : List ℕ) → c.value ≡ None → weigh (λ u. one_if (accepts l c u)) m ≡ 0 → AcceptsNone (l.test c.number) m
 look_value l c m e z = none_in (l.test c.number) m (rw e at z)
 
 pub moment_none : (p : Phase) (a : Answer) → p ≡ LookLoad → is_moment ReplyNone p a ≡ true
 moment_none p a e = rw e refl
 
 -- a look-up that accepts nothing in its generation accepted nothing that was placed at its load
-pub right_none : (l : Law) (f : ℕ) (s : List Event) (x : Event) (c : Call) (k : ℕ) (g : Gen) → c.value ≡ None → c.state.walked ≡ Some k → slice_get (after f s).table.gens k ≡ Some g → ((e : Entry) → In e g.entries → accepts_value l c e.value ≡ false) → LookedAt f s (after f s).table.gens c → IsRight l f (s ++ x ∷ []) (say c.number ReplyNone)
+pub right_none : (l : Law) (f : ℕ) (s : List Event) (x : Event) (c : Call) (k : ℕ) (g : Gen) → c.value ≡ None → c.state.walked ≡ Some k → slice_get (after f s).table.gens k ≡ Some g → ((e : Entry) → In e g.entries → accepts l c e.value ≡ false) → LookedAt f s (after f s).table.gens c → IsRight l f (s ++ x ∷ []) (say c.number ReplyNone)
 right_none l f s x c k g v wa ge none q =
-    let z : weigh (λ e. one_if (accepts_value l c e.value)) g.entries ≡ 0 = none_passes (accepts_value l c) g.entries none in
-    let m : weigh (λ u. one_if (accepts_value l c u)) (placed (empty f) q.at.before) ≤ values (λ u. one_if (accepts_value l c u)) g.entries = q.bound k g wa ge (λ u. one_if (accepts_value l c u)) in
-    let y : weigh (λ u. one_if (accepts_value l c u)) (placed (empty f) q.at.before) ≡ 0 = omega arith in
+    let z : weigh (λ e. one_if (accepts l c e.value)) g.entries ≡ 0 = none_passes (accepts l c) g.entries none in
+    let m : weigh (λ u. one_if (accepts l c u)) (placed (empty f) q.at.before) ≤ values (λ u. one_if (accepts l c u)) g.entries = q.bound k g wa ge (λ u. one_if (accepts l c u)) in
+    let y : weigh (λ u. one_if (accepts l c u)) (placed (empty f) q.at.before) ≡ 0 = omega arith in
     record {
       at = taken_later f s c.number q.at x;
       moment = moment_none q.at.call.state.phase q.at.found q.load;
@@ -454,16 +449,26 @@ right_row l f s i c (look_turns n y d u nay lt) h e iv o fb k b w z =
     let pr : probing c.state.phase ≡ true = ap probing e in
     let g = (iv.tracked.at i c h.1).probes pr in
     let j = o.calls i c h.1 in
-    let ref : accepts_value l c d.value ≡ false = refused_by l (after f s) c LookProbe (Read n y) d y o.gens e (λ x. x) u nay fb (j.hash (ap is_asking e)) g in
+    let ref : accepts l c d.value ≡ false = refused_by l (after f s) c LookProbe (Read n y) d y o.gens e (λ x. x) u (declined d c.state y nay) fb (j.hash (ap is_asking e)) g in
+    let all = missed_more l (after f s) c d g u ref (j.probes pr) in
+    let full : c.state.capacity ≤ c.state.seen + 1 = ltb-false (c.state.seen + 1) c.state.capacity lt in
+    let cap : g.gen.capacity ≤ c.state.seen + 1 = rw g.capacity at full in
+    right_told l f _ c.number ReplyNone b (let y : ReplyNone ≡ b = cc in sym y) (right_none l f s (Read n y) c g.number g.gen v g.walked g.got (misses_at_turn l c g.gen (c.state.seen + 1) (iv.seated.gens g.number g.gen g.got) (o.gens g.number g.gen g.got) all (j.hash (ap is_asking e)) cap) (k.looked e))
+right_row l f s i c (look_turns_unasked n y d u nay lt) h e iv o fb k b w z =
+    let v : c.value ≡ None = no_value LookProbe (refl, λ i. refl, λ i. refl, refl, λ i. refl, λ i. refl) c.value c.state.outcome (fit_at c _ _ (iv.calls.at i c h.1) e) in
+    let pr : probing c.state.phase ≡ true = ap probing e in
+    let g = (iv.tracked.at i c h.1).probes pr in
+    let j = o.calls i c h.1 in
+    let ref : accepts l c d.value ≡ false = refused_by l (after f s) c LookProbe (Read n y) d y o.gens e (λ x. x) u (differing d c.state y nay) fb (j.hash (ap is_asking e)) g in
     let all = missed_more l (after f s) c d g u ref (j.probes pr) in
     let full : c.state.capacity ≤ c.state.seen + 1 = ltb-false (c.state.seen + 1) c.state.capacity lt in
     let cap : g.gen.capacity ≤ c.state.seen + 1 = rw g.capacity at full in
     right_told l f _ c.number ReplyNone b (let y : ReplyNone ≡ b = cc in sym y) (right_none l f s (Read n y) c g.number g.gen v g.walked g.got (misses_at_turn l c g.gen (c.state.seen + 1) (iv.seated.gens g.number g.gen g.got) (o.gens g.number g.gen g.got) all (j.hash (ap is_asking e)) cap) (k.looked e))
 right_row l f s i c (look_meets n y d u ok) h e iv o fb k b w z =
     let v : c.value ≡ None = no_value LookProbe (refl, λ i. refl, λ i. refl, refl, λ i. refl, λ i. refl) c.value c.state.outcome (fit_at c _ _ (iv.calls.at i c h.1) e) in
-    let ac : accepts_value l c d.value ≡ true = accepted_at l (after f s) c LookProbe (Read n y) d y e (λ x. x) u ok fb in
+    let ac : accepts l c d.value ≡ true = accepted_at l (after f s) c LookProbe (Read n y) d y e (λ x. x) u ok fb in
     let te : l.test c.number d.value ≡ true = rw v at ac in
-    right_told l f _ c.number (ReplySome d.value) b (let y : ReplySome d.value ≡ b = cc in sym y) (right_here l f s (Read n y) (say c.number (ReplySome d.value)) c _ h.0 refl (moment_look d.value c.state.phase _ y e ok) (λ n g. (d, u, (let t : d.value ≡ n = cc in t))) (answer_some l (placed (empty f) s) c.number d.value (bucket_placed (after f s) (placed (empty f) s) c d iv.within ((iv.tracked.at i c h.1).probes (ap probing e)) u) te))
+    right_told l f _ c.number (ReplySome d.value) b (let y : ReplySome d.value ≡ b = cc in sym y) (right_here l f s (Read n y) (say c.number (ReplySome d.value)) c _ h.0 refl (moment_look d.value c.state.phase e) (λ n g. (d, u, (let t : d.value ≡ n = cc in t))) (answer_some l (placed (empty f) s) c.number d.value (bucket_placed (after f s) (placed (empty f) s) c d iv.within ((iv.tracked.at i c h.1).probes (ap probing e)) u) te))
 right_row l f s i c (len_none _ _) h e iv o fb k b w z = absurd (let y : ReplyLen 0 ≡ b = cc in let m : is_list_reply (ReplyLen 0) ≡ true = ap is_list_reply y ∙ z in cc)
 right_row l f s i c (len_size n g u) h e iv o fb k b w z = absurd (let y : ReplyLen g.size ≡ b = cc in let m : is_list_reply (ReplyLen g.size) ≡ true = ap is_list_reply y ∙ z in cc)
 right_row l f s i c (walk_none _ _) h e iv o fb k b w z = absurd (let y : ReplyWalk [] ≡ b = cc in let m : is_list_reply (ReplyWalk []) ≡ true = ap is_list_reply y ∙ z in cc)

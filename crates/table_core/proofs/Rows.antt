@@ -2,23 +2,20 @@
 use Rattle.std.proofs.Common.{eqb-true, ℕ, ◌≡◌, ◌+◌, ◌/◌, ◌^◌, ◌++◌, [], ◌∷◌, Bool, true, false, refl, Option, Some, None, length, subst}
 use Rattle.std.specs.Prelude.{◌==◌, ◌&&◌, ◌||◌, nat_lt, if◌then◌else◌, not}
 use Rattle.table_core.specs.Replies.{ReplyNone, ReplyWalk}
-use Rattle.table_core.specs.Generations.{Gen, Table, current, is_current, next_copied}
+use Rattle.table_core.specs.Generations.{Gen, current, is_current, next_copied}
 use Rattle.terms.specs.Hashes.{bits_of}
 use Rattle.table_core.specs.Calls.{Call, starts, is_used, is_used_value, call_numbered, is_owned, is_locked, to, is_pending, decided}
-use Rattle.table_core.specs.Machine.{World, takes_unless, loaded, walked_gen, bucket_of, read, exchanged, sized, checked, finds_in, finds, changed, refused, reply_of_outcome, by_outcome, look_reply, reply_in, list_in, number_of, in_range, Act, begins_unless, goes_by, act_of, acts, after_act, finished_by}
-use Rattle.table_core.specs.Calls.{meets as meets_at, looks as looks_at}
-use Rattle.table_core.specs.Machine.{copies as copies_left, shows as shows_left, goes as goes_with}
-use Rattle.table_core.specs.Steps.{accepts, next_bucket, turned, Row, shares, loads_none, loads, reads_empty, meets, turns, goes_on, memory_refused, puts, loses_meets, loses_turns, loses_goes_on, adds, leaves_ok, leaves_grow, leaves_refused, large, small, owns, begins_first, fails_first, unwanted, fails_largest, fails_refused, begins_next, copies, shows, ends, starts_over, ends_failed, gives_up, tries_again, looks_none, looks, look_empty, look_meets, look_turns, look_goes_on, len_none, len_loads, len_size, walk_none, walk_loads, walk_skips_last, walk_takes_last, walk_skips, walk_takes, Opens, opens_insert, opens_lookup, opens_len, opens_walk, IsNewValue, Takes, begins, goes}
+use Rattle.table_core.specs.Machine.{World, takes_unless, loaded, walked_gen, bucket_of, read, read_unasked, exchanged, sized, checked, finds_in, finds, changed, refused, by_outcome, reply_at_end, reply_in, kept_list, list_in, number_of, in_range, Act, begins_unless, goes_by, act_of, acts, after_act, finished_by}
+use Rattle.table_core.specs.Machine.{finds_copy, finds_show, call_acts}
+use Rattle.table_core.specs.Steps.{is_declined, is_unasked, next_bucket, turned, Row, shares, loads_none, loads, reads_empty, meets, turns, turns_unasked, goes_on, goes_on_unasked, memory_refused, puts, loses_meets, loses_turns, loses_turns_unasked, loses_goes_on, loses_goes_on_unasked, adds, leaves_ok, leaves_grow, leaves_refused, large, small, owns, begins_first, fails_first, unwanted, fails_largest, fails_refused, begins_next, copies, shows, ends, starts_over, ends_failed, gives_up, tries_again, looks_none, looks, look_empty, look_meets, look_turns, look_turns_unasked, look_goes_on, look_goes_on_unasked, len_none, len_loads, len_size, walk_none, walk_loads, walk_skips_last, walk_takes_last, walk_skips, walk_takes, Opens, opens_insert, opens_lookup, opens_len, opens_walk, IsNewValue, Takes, begins, goes}
 use Rattle.table_core.specs.declared.event.Event.{Event}
 use Rattle.table_core.specs.declared.event.Event.TheVariants.{Insert, Lookup, Len, Walk, Share, Own, Free, Load, Read, Put, Add, Size, Check, Copy, Show}
-use Rattle.table_core.specs.declared.event.Entry.{Entry}
+use Rattle.table_core.specs.declared.generation.Entry.{Entry}
 use Rattle.table_core.specs.declared.call.CallState.{CallState}
 use Rattle.table_core.specs.declared.call.Phase.{Phase}
 use Rattle.table_core.specs.declared.call.Phase.TheVariants.{WantShared, Shared, Probe, AtEmpty, Placed, LeaveOk, LeaveGrow, LeaveRefused, AskSize, WantOwned, Owned, Building, LeaveOwned, LeaveFailed, LookLoad, LookProbe, LenLoad, LenSize, WalkLoad, WalkAt, Done}
-use Rattle.table_core.specs.declared.call.Outcome.{Outcome}
-use Rattle.table_core.specs.declared.call.Outcome.TheVariants.{Pending, New, Existing}
 use Rattle.table_core.specs.declared.call.Answer.{Answer}
-use Rattle.table_core.specs.declared.call.Answer.TheVariants.{Taken, Released, Empty, Holds, MemoryRefused, Sized, Begun, Unwanted, Failed}
+use Rattle.table_core.specs.declared.call.Answer.TheVariants.{Taken, Released, ReleasedAfterFailure, Empty, Holds, HoldsUnasked, MemoryRefused, Sized, Begun, Unwanted, Failed}
 use Rattle.table_core.proofs.Truth.{or-false}
 
 -- what a phase makes of an event and its answer is a row
@@ -52,65 +49,88 @@ pub row_walk : (w : World) (c : Call) (n : ℕ) (o : Option Gen) → current w.t
 row_walk w c n None h = walk_none n h
 row_walk w c n (Some g) h = walk_loads n g h
 
-pub pass_row : (w : World) (c : Call) (n : ℕ) (y : Bool) (e : Entry) → bucket_of w.table c.state ≡ Some e → accepts e c.state y ≡ false → (b : Bool) → nat_lt (c.state.seen + 1) c.state.capacity ≡ b → Row w c Probe (Read n y) (Holds (e.bits == bits_of c.state.hash) y) (if b then next_bucket Probe c.state else turned LeaveGrow c.state) c.list w.table None
-pass_row w c n y e h f true g = goes_on n y e h f g
-pass_row w c n y e h f false g = turns n y e h f g
+-- what a set bucket shows, by whether its bits agree and what the closure says
+abbrev shown : Bool → Bool → Answer
+shown agree y = if agree then Holds y else HoldsUnasked
 
-pub meet_row : (w : World) (c : Call) (n : ℕ) (y : Bool) (e : Entry) → bucket_of w.table c.state ≡ Some e → (b : Bool) → accepts e c.state y ≡ b → Row w c Probe (Read n y) (Holds (e.bits == bits_of c.state.hash) y) (meets_at c.state b) c.list w.table None
-meet_row w c n y e h true f = meets n y e h f
-meet_row w c n y e h false f = pass_row w c n y e h f (nat_lt (c.state.seen + 1) c.state.capacity) refl
+pub pass_row : (w : World) (c : Call) (n : ℕ) (e : Entry) → bucket_of w.table c.state ≡ Some e → is_declined e c.state false ≡ true → (b : Bool) → nat_lt (c.state.seen + 1) c.state.capacity ≡ b → Row w c Probe (Read n false) (Holds false) (if b then next_bucket Probe c.state else turned LeaveGrow c.state) c.list w.table (reply_at_end (if b then next_bucket Probe c.state else turned LeaveGrow c.state).phase None)
+pass_row w c n e h f true g = goes_on n false e h f g
+pass_row w c n e h f false g = turns n false e h f g
+
+pub pass_unasked_row : (w : World) (c : Call) (n : ℕ) (y : Bool) (e : Entry) → bucket_of w.table c.state ≡ Some e → is_unasked e c.state ≡ true → (b : Bool) → nat_lt (c.state.seen + 1) c.state.capacity ≡ b → Row w c Probe (Read n y) HoldsUnasked (if b then next_bucket Probe c.state else turned LeaveGrow c.state) c.list w.table (reply_at_end (if b then next_bucket Probe c.state else turned LeaveGrow c.state).phase None)
+pass_unasked_row w c n y e h f true g = goes_on_unasked n y e h f g
+pass_unasked_row w c n y e h f false g = turns_unasked n y e h f g
+
+pub meet_row : (w : World) (c : Call) (n : ℕ) (y : Bool) (e : Entry) → bucket_of w.table c.state ≡ Some e → (b : Bool) → (e.bits == bits_of c.state.hash) ≡ b → Rows w c Probe (Read n y) (shown b y)
+meet_row w c n true e h true f = meets n true e h (rw f refl)
+meet_row w c n false e h true f = pass_row w c n e h (rw f refl) (nat_lt (c.state.seen + 1) c.state.capacity) refl
+meet_row w c n y e h false f = pass_unasked_row w c n y e h (rw f refl) (nat_lt (c.state.seen + 1) c.state.capacity) refl
 
 pub row_probe : (w : World) (c : Call) (n : ℕ) (y : Bool) (o : Option Entry) → bucket_of w.table c.state ≡ o → Rows w c Probe (Read n y) (read o c.state.hash y)
 row_probe w c n y None h = reads_empty n y h
-row_probe w c n y (Some e) h = meet_row w c n y e h (accepts e c.state y) refl
+row_probe w c n y (Some e) h = meet_row w c n y e h (e.bits == bits_of c.state.hash) refl
 
-pub lost_pass_row : (w : World) (c : Call) (n : ℕ) (y : Bool) (e : Entry) → bucket_of w.table c.state ≡ Some e → accepts e c.state y ≡ false → (b : Bool) → nat_lt (c.state.seen + 1) c.state.capacity ≡ b → Row w c AtEmpty (Put n y true) (Holds (e.bits == bits_of c.state.hash) y) (if b then next_bucket Probe c.state else turned LeaveGrow c.state) c.list w.table None
-lost_pass_row w c n y e h f true g = loses_goes_on n y e h f g
-lost_pass_row w c n y e h f false g = loses_turns n y e h f g
+pub lost_pass_row : (w : World) (c : Call) (n : ℕ) (e : Entry) → bucket_of w.table c.state ≡ Some e → is_declined e c.state false ≡ true → (b : Bool) → nat_lt (c.state.seen + 1) c.state.capacity ≡ b → Row w c AtEmpty (Put n false true) (Holds false) (if b then next_bucket Probe c.state else turned LeaveGrow c.state) c.list w.table (reply_at_end (if b then next_bucket Probe c.state else turned LeaveGrow c.state).phase None)
+lost_pass_row w c n e h f true g = loses_goes_on n false e h f g
+lost_pass_row w c n e h f false g = loses_turns n false e h f g
 
-pub lost_meet_row : (w : World) (c : Call) (n : ℕ) (y : Bool) (e : Entry) → bucket_of w.table c.state ≡ Some e → (b : Bool) → accepts e c.state y ≡ b → Row w c AtEmpty (Put n y true) (Holds (e.bits == bits_of c.state.hash) y) (meets_at c.state b) c.list w.table None
-lost_meet_row w c n y e h true f = loses_meets n y e h f
-lost_meet_row w c n y e h false f = lost_pass_row w c n y e h f (nat_lt (c.state.seen + 1) c.state.capacity) refl
+pub lost_pass_unasked_row : (w : World) (c : Call) (n : ℕ) (y : Bool) (e : Entry) → bucket_of w.table c.state ≡ Some e → is_unasked e c.state ≡ true → (b : Bool) → nat_lt (c.state.seen + 1) c.state.capacity ≡ b → Row w c AtEmpty (Put n y true) HoldsUnasked (if b then next_bucket Probe c.state else turned LeaveGrow c.state) c.list w.table (reply_at_end (if b then next_bucket Probe c.state else turned LeaveGrow c.state).phase None)
+lost_pass_unasked_row w c n y e h f true g = loses_goes_on_unasked n y e h f g
+lost_pass_unasked_row w c n y e h f false g = loses_turns_unasked n y e h f g
+
+pub lost_meet_row : (w : World) (c : Call) (n : ℕ) (y : Bool) (e : Entry) → bucket_of w.table c.state ≡ Some e → (b : Bool) → (e.bits == bits_of c.state.hash) ≡ b → Rows w c AtEmpty (Put n y true) (shown b y)
+lost_meet_row w c n true e h true f = loses_meets n true e h (rw f refl)
+lost_meet_row w c n false e h true f = lost_pass_row w c n e h (rw f refl) (nat_lt (c.state.seen + 1) c.state.capacity) refl
+lost_meet_row w c n y e h false f = lost_pass_unasked_row w c n y e h (rw f refl) (nat_lt (c.state.seen + 1) c.state.capacity) refl
 
 pub row_exchange : (w : World) (c : Call) (n : ℕ) (y : Bool) (o : Option Entry) → bucket_of w.table c.state ≡ o → Rows w c AtEmpty (Put n y true) (exchanged o c.state.hash y)
 row_exchange w c n y None h = puts n y h
-row_exchange w c n y (Some e) h = lost_meet_row w c n y e h (accepts e c.state y) refl
+row_exchange w c n y (Some e) h = lost_meet_row w c n y e h (e.bits == bits_of c.state.hash) refl
 
 pub row_put : (w : World) (c : Call) (n : ℕ) (y m : Bool) → Rows w c AtEmpty (Put n y m) (if m then exchanged (bucket_of w.table c.state) c.state.hash y else MemoryRefused)
 row_put w c n y true = row_exchange w c n y (bucket_of w.table c.state) refl
 row_put w c n y false = memory_refused n y
 
-pub look_pass_row : (w : World) (c : Call) (n : ℕ) (y : Bool) (e : Entry) → bucket_of w.table c.state ≡ Some e → accepts e c.state y ≡ false → (b : Bool) → nat_lt (c.state.seen + 1) c.state.capacity ≡ b → Row w c LookProbe (Read n y) (Holds (e.bits == bits_of c.state.hash) y) (if b then next_bucket LookProbe c.state else turned Done c.state) c.list w.table (if b then None else Some ReplyNone)
-look_pass_row w c n y e h f true g = look_goes_on n y e h f g
-look_pass_row w c n y e h f false g = look_turns n y e h f g
+pub look_pass_row : (w : World) (c : Call) (n : ℕ) (e : Entry) → bucket_of w.table c.state ≡ Some e → is_declined e c.state false ≡ true → (b : Bool) → nat_lt (c.state.seen + 1) c.state.capacity ≡ b → Row w c LookProbe (Read n false) (Holds false) (if b then next_bucket LookProbe c.state else turned Done c.state) c.list w.table (reply_at_end (if b then next_bucket LookProbe c.state else turned Done c.state).phase (Some ReplyNone))
+look_pass_row w c n e h f true g = look_goes_on n false e h f g
+look_pass_row w c n e h f false g = look_turns n false e h f g
 
-pub look_meet_row : (w : World) (c : Call) (n : ℕ) (y : Bool) (e : Entry) → bucket_of w.table c.state ≡ Some e → (b : Bool) → accepts e c.state y ≡ b → Row w c LookProbe (Read n y) (Holds (e.bits == bits_of c.state.hash) y) (looks_at c.state b) c.list w.table (look_reply w.table c.state b)
-look_meet_row w c n y e h true f = rw h (look_meets n y e h f)
-look_meet_row w c n y e h false f = look_pass_row w c n y e h f (nat_lt (c.state.seen + 1) c.state.capacity) refl
+pub look_pass_unasked_row : (w : World) (c : Call) (n : ℕ) (y : Bool) (e : Entry) → bucket_of w.table c.state ≡ Some e → is_unasked e c.state ≡ true → (b : Bool) → nat_lt (c.state.seen + 1) c.state.capacity ≡ b → Row w c LookProbe (Read n y) HoldsUnasked (if b then next_bucket LookProbe c.state else turned Done c.state) c.list w.table (reply_at_end (if b then next_bucket LookProbe c.state else turned Done c.state).phase (Some ReplyNone))
+look_pass_unasked_row w c n y e h f true g = look_goes_on_unasked n y e h f g
+look_pass_unasked_row w c n y e h f false g = look_turns_unasked n y e h f g
+
+pub look_meet_row : (w : World) (c : Call) (n : ℕ) (y : Bool) (e : Entry) → bucket_of w.table c.state ≡ Some e → (b : Bool) → (e.bits == bits_of c.state.hash) ≡ b → Rows w c LookProbe (Read n y) (shown b y)
+look_meet_row w c n true e h true f = rw h (look_meets n true e h (rw f refl))
+look_meet_row w c n false e h true f = look_pass_row w c n e h (rw f refl) (nat_lt (c.state.seen + 1) c.state.capacity) refl
+look_meet_row w c n y e h false f = look_pass_unasked_row w c n y e h (rw f refl) (nat_lt (c.state.seen + 1) c.state.capacity) refl
 
 pub row_look_probe : (w : World) (c : Call) (n : ℕ) (y : Bool) (o : Option Entry) → bucket_of w.table c.state ≡ o → Rows w c LookProbe (Read n y) (read o c.state.hash y)
 row_look_probe w c n y None h = look_empty n y h
-row_look_probe w c n y (Some e) h = look_meet_row w c n y e h (accepts e c.state y) refl
+row_look_probe w c n y (Some e) h = look_meet_row w c n y e h (e.bits == bits_of c.state.hash) refl
 
-pub walk_skip_row : (w : World) (c : Call) (n : ℕ) (y : Bool) → bucket_of w.table c.state ≡ None → (b : Bool) → nat_lt (c.state.index + 1) c.state.capacity ≡ b → Row w c WalkAt (Read n y) Empty (if b then record c.state { phase = WalkAt; index = c.state.index + 1 } else record c.state { phase = Done; index = c.state.index + 1 }) (if b then c.list else []) w.table (if b then None else Some (ReplyWalk c.list))
+-- a walk's next state, by whether there is a bucket left
+abbrev walked : CallState → Bool → CallState
+walked s b = if b then record s { phase = WalkAt; index = s.index + 1 } else record s { phase = Done; index = s.index + 1 }
+
+pub walk_skip_row : (w : World) (c : Call) (n : ℕ) (y : Bool) → bucket_of w.table c.state ≡ None → (b : Bool) → nat_lt (c.state.index + 1) c.state.capacity ≡ b → Row w c WalkAt (Read n y) Empty (walked c.state b) (kept_list (walked c.state b).phase c.list) w.table (reply_at_end (walked c.state b).phase (Some (ReplyWalk c.list)))
 walk_skip_row w c n y h true g = walk_skips n y h g
 walk_skip_row w c n y h false g = walk_skips_last n y h g
 
-pub walk_take_row : (w : World) (c : Call) (n : ℕ) (y : Bool) (e : Entry) → bucket_of w.table c.state ≡ Some e → (b : Bool) → nat_lt (c.state.index + 1) c.state.capacity ≡ b → Row w c WalkAt (Read n y) (Holds (e.bits == bits_of c.state.hash) y) (if b then record c.state { phase = WalkAt; index = c.state.index + 1 } else record c.state { phase = Done; index = c.state.index + 1 }) (if b then c.list ++ e.value ∷ [] else []) w.table (if b then None else Some (ReplyWalk (c.list ++ e.value ∷ [])))
+pub walk_take_row : (w : World) (c : Call) (n : ℕ) (y : Bool) (e : Entry) → bucket_of w.table c.state ≡ Some e → (b : Bool) → nat_lt (c.state.index + 1) c.state.capacity ≡ b → Row w c WalkAt (Read n y) HoldsUnasked (walked c.state b) (kept_list (walked c.state b).phase (c.list ++ e.value ∷ [])) w.table (reply_at_end (walked c.state b).phase (Some (ReplyWalk (c.list ++ e.value ∷ []))))
 walk_take_row w c n y e h true g = walk_takes n y e h g
 walk_take_row w c n y e h false g = walk_takes_last n y e h g
 
-pub row_walk_read : (w : World) (c : Call) (n : ℕ) (y : Bool) (o : Option Entry) → bucket_of w.table c.state ≡ o → Rows w c WalkAt (Read n y) (read o c.state.hash y)
+pub row_walk_read : (w : World) (c : Call) (n : ℕ) (y : Bool) (o : Option Entry) → bucket_of w.table c.state ≡ o → Rows w c WalkAt (Read n y) (read_unasked o)
 row_walk_read w c n y None h = walk_skip_row w c n y h (nat_lt (c.state.index + 1) c.state.capacity) refl
 row_walk_read w c n y (Some e) h = rw h (walk_take_row w c n y e h (nat_lt (c.state.index + 1) c.state.capacity) refl)
 
-pub ask_row : (w : World) (c : Call) (n : ℕ) (g : Gen) → walked_gen w.table c.state ≡ Some g → (b : Bool) → nat_lt g.size (c.state.capacity / 2) ≡ b → Row w c AskSize (Size n) (Sized g.size) (if b then to Done c.state else to WantOwned c.state) c.list w.table (if b then by_outcome w.table c else None)
-ask_row w c n g h true f = small n g h f
-ask_row w c n g h false f = large n g h f
+pub size_row : (w : World) (c : Call) (n : ℕ) (g : Gen) → walked_gen w.table c.state ≡ Some g → (b : Bool) → nat_lt g.size (c.state.capacity / 2) ≡ b → Row w c AskSize (Size n) (Sized g.size) (if b then to Done c.state else to WantOwned c.state) c.list w.table (reply_at_end (if b then to Done c.state else to WantOwned c.state).phase (by_outcome w.table c))
+size_row w c n g h true f = small n g h f
+size_row w c n g h false f = large n g h f
 
-pub row_ask : (w : World) (c : Call) (n : ℕ) (o : Option Gen) → walked_gen w.table c.state ≡ o → (a : Answer) → sized o ≡ Some a → Rows w c AskSize (Size n) a
-row_ask w c n None h a f = absurd (cc)
-row_ask w c n (Some g) h a f = along (Rows w c AskSize (Size n)) _ a f (ask_row w c n g h (nat_lt g.size (c.state.capacity / 2)) refl)
+pub row_size : (w : World) (c : Call) (n : ℕ) (o : Option Gen) → walked_gen w.table c.state ≡ o → (a : Answer) → sized o ≡ Some a → Rows w c AskSize (Size n) a
+row_size w c n None h a f = absurd (cc)
+row_size w c n (Some g) h a f = along (Rows w c AskSize (Size n)) _ a f (size_row w c n g h (nat_lt g.size (c.state.capacity / 2)) refl)
 
 pub row_len_size : (w : World) (c : Call) (n : ℕ) (o : Option Gen) → walked_gen w.table c.state ≡ o → (a : Answer) → sized o ≡ Some a → Rows w c LenSize (Size n) a
 row_len_size w c n None h a f = absurd (cc)
@@ -131,27 +151,21 @@ row_check w c n true None h = begins_first n h
 row_check w c n false None h = fails_first n h
 row_check w c n m (Some g) h = check_next w c n g m (nat_lt g.size (g.capacity / 2)) h refl
 
-pub row_copy : (w : World) (c : Call) (n k : ℕ) (o : Option Entry) → next_copied w.table ≡ o → (a : Answer) → copies_left o ≡ Some a → Rows w c Building (Copy n k) a
+pub row_copy : (w : World) (c : Call) (n k : ℕ) (o : Option Entry) → next_copied w.table ≡ o → (a : Answer) → finds_copy o ≡ Some a → Rows w c Building (Copy n k) a
 row_copy w c n k None h a f = absurd (cc)
 row_copy w c n k (Some e) h a f = along (Rows w c Building (Copy n k)) _ a f (rw h (copies n k e h))
 
-pub row_show : (w : World) (c : Call) (n : ℕ) (o : Option Entry) → next_copied w.table ≡ o → (a : Answer) → shows_left o ≡ Some a → Rows w c Building (Show n) a
+pub row_show : (w : World) (c : Call) (n : ℕ) (o : Option Entry) → next_copied w.table ≡ o → (a : Answer) → finds_show o ≡ Some a → Rows w c Building (Show n) a
 row_show w c n None h a f = along (Rows w c Building (Show n)) _ a f (shows n h)
 row_show w c n (Some e) h a f = absurd (cc)
 
-pub pending_told : (t : Table) (s : CallState) (v : Option ℕ) (o : Outcome) → is_pending o ≡ true → reply_of_outcome o t s v ≡ None
-pending_told t s None Pending h = refl
-pending_told t s (Some v) Pending h = refl
-pending_told t s v (New i) h = absurd (cc)
-pending_told t s v (Existing i) h = absurd (cc)
-
-pub end_row : (w : World) (c : Call) (n : ℕ) (b : Bool) → is_pending c.state.outcome ≡ b → Row w c LeaveOwned (Free n) (Released (is_current w.table.gens c.state.walked)) (if b then to WantShared c.state else to Done c.state) c.list w.table (by_outcome w.table c)
-end_row w c n true h = rw (pending_told w.table c.state c.value c.state.outcome h) (starts_over n h)
+pub end_row : (w : World) (c : Call) (n : ℕ) (b : Bool) → is_pending c.state.outcome ≡ b → Row w c LeaveOwned (Free n) Released (if b then to WantShared c.state else to Done c.state) c.list w.table (reply_at_end (if b then to WantShared c.state else to Done c.state).phase (by_outcome w.table c))
+end_row w c n true h = starts_over n h
 end_row w c n false h = ends n h
 
-pub fail_row : (w : World) (c : Call) (n : ℕ) (b k : Bool) → is_pending c.state.outcome ≡ b → is_current w.table.gens c.state.walked ≡ k → Row w c LeaveFailed (Free n) (Released k) (if b && (if k then false else true) then to WantShared c.state else to Done c.state) c.list w.table (if b && k then refused c.value else by_outcome w.table c)
+pub fail_row : (w : World) (c : Call) (n : ℕ) (b k : Bool) → is_pending c.state.outcome ≡ b → is_current w.table.gens c.state.walked ≡ k → Row w c LeaveFailed (Free n) (ReleasedAfterFailure k) (if b && (if k then false else true) then to WantShared c.state else to Done c.state) c.list w.table (reply_at_end (if b && (if k then false else true) then to WantShared c.state else to Done c.state).phase (if b then refused c.value else by_outcome w.table c))
 fail_row w c n true true h k = gives_up n h k
-fail_row w c n true false h k = rw (pending_told w.table c.state c.value c.state.outcome h) (tries_again n h k)
+fail_row w c n true false h k = tries_again n h k
 fail_row w c n false true h k = rw (← k) (ends_failed n h)
 fail_row w c n false false h k = rw (← k) (ends_failed n h)
 
@@ -165,7 +179,7 @@ row w c Placed (Add n) a f = along (Rows w c Placed (Add n)) _ a f (adds n)
 row w c LeaveOk (Free n) a f = along (Rows w c LeaveOk (Free n)) _ a f (leaves_ok n)
 row w c LeaveGrow (Free n) a f = along (Rows w c LeaveGrow (Free n)) _ a f (leaves_grow n)
 row w c LeaveRefused (Free n) a f = along (Rows w c LeaveRefused (Free n)) _ a f (leaves_refused n)
-row w c AskSize (Size n) a f = row_ask w c n (walked_gen w.table c.state) refl a f
+row w c AskSize (Size n) a f = row_size w c n (walked_gen w.table c.state) refl a f
 row w c WantOwned (Own n) a f = row_own w c n (is_locked w.calls) refl a f
 row w c Owned (Check n m) a f = along (Rows w c Owned (Check n m)) _ a f (row_check w c n m (current w.table) refl)
 row w c Building (Copy n k) a f = row_copy w c n k (next_copied w.table) refl a f
@@ -193,7 +207,7 @@ pub step_finds : (w : World) (x : Event) (c : Call) (o : Option Answer) → in_r
 step_finds w x c None r h f = tt
 step_finds w x c (Some a) r h f = goes c c.state.phase a (decided c.state.phase c.state a) (list_in c.state.phase w.table c a) (changed w.table c x a) (reply_in c.state.phase w.table c a) r h refl (row w c c.state.phase x a f)
 
-pub step_goes : (w : World) (x : Event) (o : Option Call) → in_range x ≡ true → call_numbered (number_of x) w.calls ≡ o → StepsBy w x (goes_with w o x)
+pub step_goes : (w : World) (x : Event) (o : Option Call) → in_range x ≡ true → call_numbered (number_of x) w.calls ≡ o → StepsBy w x (call_acts w o x)
 step_goes w x None r h = tt
 step_goes w x (Some c) r h = step_finds w x c (finds w c.state x) r h refl
 

@@ -11,7 +11,7 @@ use Rattle.table_core.specs.Calls.{Call}
 use Rattle.table_core.specs.Machine.{World, empty, bucket_of, place, begin_growth, Act}
 use Rattle.table_core.specs.Steps.{Row, puts, adds, begins_first, begins_next, copies, shows}
 use Rattle.table_core.specs.declared.event.Event.{Event}
-use Rattle.table_core.specs.declared.event.Entry.{Entry}
+use Rattle.table_core.specs.declared.generation.Entry.{Entry}
 use Rattle.table_core.specs.declared.call.CallState.{CallState}
 use Rattle.table_core.specs.declared.call.Phase.{Phase}
 use Rattle.table_core.specs.declared.call.Answer.{Answer}
@@ -19,7 +19,6 @@ use Rattle.table_core.proofs.Lists.{get-set, get-push, tally, weigh-plus, weigh-
 use Rattle.table_core.proofs.Locks.{weigh-le}
 use Rattle.std.proofs.lemmas.Bool.{eq-eqb, eqb-true}
 use Rattle.std.proofs.Math.Nat.{mod-lt, mod-add-mod, mod-eq_of_lt, add-mod_right}
-use Rattle.std.proofs.lemmas.Nat.{pow_pos}
 use Rattle.table_core.proofs.Turns.{Turn, rests, opens, takes}
 use Rattle.table_core.proofs.Facts.{values, In, IsSet, Holding, Seated, AllSeated, Roomy, probing, Probing, AllTracked, Way}
 use Rattle.table_core.proofs.Contents.{weigh-put_in, order, put_new, put_stays, in_put, entry_of, bucket_none}

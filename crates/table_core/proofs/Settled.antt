@@ -1,14 +1,13 @@
 -- A call passes the moment of its reply once.
 use Rattle.std.proofs.Common.{ℕ, ◌≡◌, ◌++◌, ◌⊎◌, inl, inr, List, [], ◌∷◌, Bool, true, false, refl, Option, Some, sym, subst, ap, ◌∙◌}
-use Rattle.std.specs.Prelude.{◌==◌, ◌&&◌, ◌||◌, not}
+use Rattle.std.specs.Prelude.{◌==◌, ◌||◌, not}
 use Rattle.table_core.specs.Replies.{Reply, ReplyPlaced, ReplyFound, ReplyRefused, ReplySome, ReplyNone, ReplyLen, ReplyWalk}
 use Rattle.table_core.specs.Generations.{Table}
-use Rattle.terms.specs.Hashes.{bits_of}
 use Rattle.terms.specs.Capacities.{IsFirstCapacity}
 use Rattle.table_core.specs.Calls.{Call}
 use Rattle.table_core.specs.Machine.{World, Goes, acts, run, after}
 use Rattle.table_core.specs.History.{answers_so, has_later}
-use Rattle.table_core.specs.Steps.{Row, shares, meets, turns, goes_on, puts, loses_meets, loses_turns, loses_goes_on, adds, looks_none, looks, look_empty, look_meets, look_turns, look_goes_on, left}
+use Rattle.table_core.specs.Steps.{Row, shares, meets, puts, loses_meets, adds, looks_none, looks, look_empty, look_meets, look_turns, look_turns_unasked, look_goes_on, look_goes_on_unasked, left}
 use Rattle.table_core.specs.declared.event.Event.{Event}
 use Rattle.table_core.specs.declared.call.CallState.{CallState}
 use Rattle.table_core.specs.declared.call.Phase.{Phase}
@@ -16,7 +15,7 @@ use Rattle.table_core.specs.declared.call.Phase.TheVariants.{Probe, AtEmpty, Pla
 use Rattle.table_core.specs.declared.call.Outcome.{Outcome}
 use Rattle.table_core.specs.declared.call.Outcome.TheVariants.{Existing}
 use Rattle.table_core.specs.declared.call.Answer.{Answer}
-use Rattle.table_core.specs.declared.call.Answer.TheVariants.{Empty, Holds, Failed}
+use Rattle.table_core.specs.declared.call.Answer.TheVariants.{Empty, Failed}
 use Rattle.table_core.proofs.Lists.{get-set_same}
 use Rattle.table_core.proofs.Locks.{more}
 use Rattle.std.proofs.Common.{append_assoc}
@@ -53,7 +52,9 @@ pub none_stays : (w : World) (c : Call) {p : Phase} {x : Event} {a : Answer} {r 
 none_stays w c (look_empty _ _ _) h = refl
 none_stays w c (look_meets _ _ _ _ _) h = refl
 none_stays w c (look_turns _ _ _ _ _ _) h = refl
+none_stays w c (look_turns_unasked _ _ _ _ _ _) h = refl
 none_stays w c (look_goes_on _ _ _ _ _ _) h = refl
+none_stays w c (look_goes_on_unasked _ _ _ _ _ _) h = refl
 none_stays w c _ h = absurd (cc)
 
 pub some_stays : (w : World) (c : Call) (e : ℕ) {p : Phase} {x : Event} {a : Answer} {r : CallState} {ls : List ℕ} {t : Table} {q : Option Reply} → Row w c p x a r ls t q → settled (ReplySome e) p c.state.outcome ≡ true → settled (ReplySome e) r.phase r.outcome ≡ true
@@ -92,12 +93,6 @@ settled_stays (ReplyWalk es) w c p x a r ls t q row e f h = absurd (cc)
 
 -- It comes with the moment
 
-pub moment_both : (m : Bool → Bool → Bool) → (m true false ≡ false) → (m false true ≡ false) → (m false false ≡ false) → (a b : Bool) → (a && b) ≡ false → m a b ≡ true → ⊥
-moment_both m x y z true true h k = cc
-moment_both m x y z true false h k = cc
-moment_both m x y z false true h k = cc
-moment_both m x y z false false h k = cc
-
 pub none_now : (w : World) (c : Call) {p : Phase} {x : Event} {a : Answer} {r : CallState} {ls : List ℕ} {t : Table} {q : Option Reply} → Row w c p x a r ls t q → is_moment ReplyNone p a ≡ true → settled ReplyNone r.phase r.outcome ≡ true
 none_now w c (looks_none _ _) h = refl
 none_now w c (looks _ _ _) h = refl
@@ -105,23 +100,15 @@ none_now w c _ h = absurd (cc)
 
 pub some_now : (w : World) (c : Call) (n : ℕ) {p : Phase} {x : Event} {a : Answer} {r : CallState} {ls : List ℕ} {t : Table} {q : Option Reply} → Row w c p x a r ls t q → is_moment (ReplySome n) p a ≡ true → settled (ReplySome n) r.phase r.outcome ≡ true
 some_now w c n (look_meets _ _ _ _ _) h = refl
-some_now w c n (look_turns _ y e _ f _) h = refl
-some_now w c n (look_goes_on _ y e _ f _) h = absurd (moment_both (λ a b. is_moment (ReplySome n) LookProbe (Holds a b)) refl refl refl (e.bits == bits_of c.state.hash) y f h)
-some_now w c n (look_empty _ _ _) h = refl
 some_now w c n _ h = absurd (cc)
 
 pub placed_now : (w : World) (c : Call) (v : ℕ) {p : Phase} {x : Event} {a : Answer} {r : CallState} {ls : List ℕ} {t : Table} {q : Option Reply} → Row w c p x a r ls t q → is_moment (ReplyPlaced v) p a ≡ true → in_table r.phase r.outcome ≡ true
 placed_now w c v (puts _ _ _) h = refl
-placed_now w c v (loses_meets _ _ _ _ _) h = absurd (cc)
 placed_now w c v _ h = absurd (cc)
 
 pub found_now : (w : World) (c : Call) (n v : ℕ) {p : Phase} {x : Event} {a : Answer} {r : CallState} {ls : List ℕ} {t : Table} {q : Option Reply} → Row w c p x a r ls t q → is_moment (ReplyFound n v) p a ≡ true → is_existing r.outcome ≡ true
 found_now w c n v (meets _ _ _ _ _) h = refl
 found_now w c n v (loses_meets _ _ _ _ _) h = refl
-found_now w c n v (turns _ y e _ f _) h = absurd (moment_both (λ a b. is_moment (ReplyFound n v) Probe (Holds a b)) refl refl refl (e.bits == bits_of c.state.hash) y f h)
-found_now w c n v (goes_on _ y e _ f _) h = absurd (moment_both (λ a b. is_moment (ReplyFound n v) Probe (Holds a b)) refl refl refl (e.bits == bits_of c.state.hash) y f h)
-found_now w c n v (loses_turns _ y e _ f _) h = absurd (moment_both (λ a b. is_moment (ReplyFound n v) AtEmpty (Holds a b)) refl refl refl (e.bits == bits_of c.state.hash) y f h)
-found_now w c n v (loses_goes_on _ y e _ f _) h = absurd (moment_both (λ a b. is_moment (ReplyFound n v) AtEmpty (Holds a b)) refl refl refl (e.bits == bits_of c.state.hash) y f h)
 found_now w c n v _ h = absurd (cc)
 
 pub settled_now : (t : Reply) (w : World) (c : Call) {p : Phase} {x : Event} {a : Answer} {r : CallState} {ls : List ℕ} {b : Table} {q : Option Reply} → Row w c p x a r ls b q → is_moment t p a ≡ true → is_refusal t ≡ false → settled t r.phase r.outcome ≡ true

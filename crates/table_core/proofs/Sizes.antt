@@ -1,5 +1,5 @@
 -- The sizes of the generations, and how many buckets they have.
-use Rattle.std.proofs.Common.{ℕ, suc, ◌≡◌, ◌+◌, ◌-◌, ◌*◌, ◌/◌, ◌^◌, ◌≤◌, ◌++◌, ◌⊎◌, inl, inr, List, [], ◌∷◌, true, false, refl, Option, Some, None, length, sym, ap, arith, ltb, ◌∙◌}
+use Rattle.std.proofs.Common.{ℕ, zero, suc, ◌≡◌, ◌+◌, ◌-◌, ◌*◌, ◌/◌, ◌^◌, ◌≤◌, ◌++◌, ◌⊎◌, inl, inr, List, [], ◌∷◌, true, false, refl, Option, Some, None, length, sym, ap, arith, ltb, ◌∙◌}
 use Rattle.std.specs.Prelude.{option_to_list}
 use Rattle.std.specs.List.{slice_get}
 use Rattle.table_core.specs.Bags.{weigh}
@@ -11,7 +11,7 @@ use Rattle.table_core.specs.Machine.{World, empty, place, add_one, begin_growth,
 use Rattle.table_core.specs.History.{placed_by, buckets}
 use Rattle.table_core.specs.Steps.{Row, puts, adds, begins_first, begins_next, copies, shows, Opens, opens_insert, opens_lookup, opens_len, opens_walk}
 use Rattle.table_core.specs.declared.event.Event.{Event}
-use Rattle.table_core.specs.declared.event.Entry.{Entry}
+use Rattle.table_core.specs.declared.generation.Entry.{Entry}
 use Rattle.table_core.specs.declared.call.CallState.{CallState}
 use Rattle.table_core.specs.declared.call.Phase.{Phase}
 use Rattle.table_core.specs.declared.call.Phase.TheVariants.{AtEmpty, Placed}
@@ -236,9 +236,6 @@ pub few_buckets_at : (t : Table) (n : ℕ) → Roomy t n → buckets t ≤ max t
 few_buckets_at t n r = under _ _ _ (bounded t n r (current t) t.building refl refl)
 
 -- Powers of two
-
-pub power_more : (k : ℕ) → 2 ^ (k + 1) ≡ 2 * 2 ^ k
-power_more k = let e : k + 1 ≡ suc k = omega arith in ap (λ z. 2 ^ z) e ∙ pow-succ' 2 k
 
 even_power : (k f : ℕ) → f ≡ 2 ^ k → 16 ≤ f → (m : ℕ) × (f ≡ 2 * m)
 even_power zero f e le = absurd (omega (arith, e, le))

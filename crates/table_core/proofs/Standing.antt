@@ -7,7 +7,7 @@ use Rattle.table_core.specs.Generations.{Gen, Table, fill, count, last_of, chang
 use Rattle.terms.specs.Hashes.{bits_of}
 use Rattle.table_core.specs.Calls.{Call, starts, holds_shared, holds_owned, is_pending}
 use Rattle.table_core.specs.Machine.{World, empty, place, Act}
-use Rattle.table_core.specs.Steps.{Row, loads, reads_empty, meets, goes_on, puts, loses_meets, loses_goes_on, adds, shows, starts_over, tries_again, look_meets, Opens, opens_insert, opens_lookup, opens_len, opens_walk, left}
+use Rattle.table_core.specs.Steps.{Row, loads, reads_empty, meets, goes_on, goes_on_unasked, puts, loses_meets, loses_goes_on, loses_goes_on_unasked, adds, shows, starts_over, tries_again, look_meets, Opens, opens_insert, opens_lookup, opens_len, opens_walk, left}
 use Rattle.table_core.specs.declared.event.Event.{Event}
 use Rattle.table_core.specs.declared.call.CallState.{CallState}
 use Rattle.table_core.specs.declared.call.Phase.{Phase}
@@ -110,7 +110,9 @@ last_number (x ∷ xs) g h = omega arith
 pub move_stands : (w : World) (c : Call) {p : Phase} {x : Event} {a : Answer} {r : CallState} {ls : List ℕ} {t : Table} {q : Option Reply} → Row w c p x a r ls t q → (stands p ≡ true → IsLast (length w.table.gens) c.state.walked) → stands r.phase ≡ true → IsLast (length w.table.gens) r.walked
 move_stands w c (loads n g h) l k = (length w.table.gens - 1, refl, last_number w.table.gens g h)
 move_stands w c (goes_on _ _ _ _ _ _) l k = l refl
+move_stands w c (goes_on_unasked _ _ _ _ _ _) l k = l refl
 move_stands w c (loses_goes_on _ _ _ _ _ _) l k = l refl
+move_stands w c (loses_goes_on_unasked _ _ _ _ _ _) l k = l refl
 move_stands w c (reads_empty _ _ _) l k = l refl
 move_stands w c (puts _ _ _) l k = l refl
 move_stands w c _ l k = absurd (cc)

@@ -9,9 +9,9 @@ use Rattle.terms.specs.Capacities.{IsFirstCapacity}
 use Rattle.table_core.specs.Calls.{Call, starts, is_used, call_numbered, is_done, is_finished, is_pending}
 use Rattle.table_core.specs.Machine.{World, empty, walked_gen, refused, reply_of_outcome, Act, finishes, finished_call, after}
 use Rattle.table_core.specs.History.{replies, fate}
-use Rattle.table_core.specs.Steps.{Row, leaves_refused, small, ends, ends_failed, gives_up, looks_none, look_empty, look_meets, look_turns, len_none, len_size, walk_none, walk_skips_last, walk_takes_last, Opens, opens_insert, opens_lookup, opens_len, opens_walk, left}
+use Rattle.table_core.specs.Steps.{Row, leaves_refused, small, ends, ends_failed, gives_up, looks_none, look_empty, look_meets, look_turns, look_turns_unasked, len_none, len_size, walk_none, walk_skips_last, walk_takes_last, Opens, opens_insert, opens_lookup, opens_len, opens_walk, left}
 use Rattle.table_core.specs.declared.event.Event.{Event}
-use Rattle.table_core.specs.declared.event.Entry.{Entry}
+use Rattle.table_core.specs.declared.generation.Entry.{Entry}
 use Rattle.table_core.specs.declared.call.CallState.{CallState}
 use Rattle.table_core.specs.declared.call.Phase.{Phase}
 use Rattle.table_core.specs.declared.call.Phase.TheVariants.{LeaveRefused, AskSize, LeaveOwned, LeaveFailed}
@@ -62,6 +62,7 @@ row_tells_end w c (looks_none _ _) f m d = refl
 row_tells_end w c (look_empty _ _ _) f m d = refl
 row_tells_end w c (look_meets _ _ _ _ _) f m d = refl
 row_tells_end w c (look_turns _ _ _ _ _ _) f m d = refl
+row_tells_end w c (look_turns_unasked _ _ _ _ _ _) f m d = refl
 row_tells_end w c (len_none _ _) f m d = refl
 row_tells_end w c (len_size _ _ _) f m d = refl
 row_tells_end w c (walk_none _ _) f m d = refl

@@ -7,9 +7,9 @@ use Rattle.table_core.specs.Generations.{Gen, Table, bucket, current, gen_of, bu
 use Rattle.terms.specs.Probes.{bucket_at}
 use Rattle.table_core.specs.Calls.{Call, starts, probes, finds_entry, stands_at_bucket}
 use Rattle.table_core.specs.Machine.{World, empty, bucket_of, Act}
-use Rattle.table_core.specs.Steps.{next_bucket, turned, Row, loads_none, loads, reads_empty, meets, turns, goes_on, puts, loses_meets, loses_turns, loses_goes_on, adds, leaves_ok, leaves_grow, large, owns, begins_first, fails_first, unwanted, fails_largest, fails_refused, begins_next, copies, shows, looks, look_meets, look_goes_on, len_loads, walk_loads, walk_skips, walk_takes, Opens, opens_insert, opens_lookup, opens_len, opens_walk, left}
+use Rattle.table_core.specs.Steps.{next_bucket, turned, Row, loads_none, loads, reads_empty, meets, turns, turns_unasked, goes_on, goes_on_unasked, puts, loses_meets, loses_turns, loses_turns_unasked, loses_goes_on, loses_goes_on_unasked, adds, leaves_ok, leaves_grow, large, owns, begins_first, fails_first, unwanted, fails_largest, fails_refused, begins_next, copies, shows, looks, look_meets, look_goes_on, look_goes_on_unasked, len_loads, walk_loads, walk_skips, walk_takes, Opens, opens_insert, opens_lookup, opens_len, opens_walk, left}
 use Rattle.table_core.specs.declared.event.Event.{Event}
-use Rattle.table_core.specs.declared.event.Entry.{Entry}
+use Rattle.table_core.specs.declared.generation.Entry.{Entry}
 use Rattle.table_core.specs.declared.call.CallState.{CallState}
 use Rattle.table_core.specs.declared.call.Phase.{Phase}
 use Rattle.table_core.specs.declared.call.Phase.TheVariants.{Shared, Probe, LeaveOk, LeaveGrow, AskSize, WantOwned, Owned, Building, LeaveOwned, LeaveFailed, LookLoad, LookProbe, LenLoad, WalkLoad, WalkAt, Done}
@@ -125,8 +125,11 @@ pub probing_row : (w : World) (c : Call) {p : Phase} {x : Event} {a : Answer} {r
 probing_row w c (loads n g h) s q z = probing_first w.table c g Probe _ h (s.gens _ g h).roomy
 probing_row w c (looks n g h) s q z = probing_first w.table c g LookProbe _ h (s.gens _ g h).roomy
 probing_row w c (goes_on _ _ e b f lt) s q z = probing_on w c Probe _ e b lt (q refl)
+probing_row w c (goes_on_unasked _ _ e b f lt) s q z = probing_on w c Probe _ e b lt (q refl)
 probing_row w c (loses_goes_on _ _ e b f lt) s q z = probing_on w c Probe _ e b lt (q refl)
+probing_row w c (loses_goes_on_unasked _ _ e b f lt) s q z = probing_on w c Probe _ e b lt (q refl)
 probing_row w c (look_goes_on _ _ e b f lt) s q z = probing_on w c LookProbe _ e b lt (q refl)
+probing_row w c (look_goes_on_unasked _ _ e b f lt) s q z = probing_on w c LookProbe _ e b lt (q refl)
 probing_row w c (reads_empty _ _ _) s q z = let o = q refl in record { number = o.number; gen = o.gen; walked = o.walked; got = o.got; capacity = o.capacity; index = o.index; below = o.below; passed = o.passed }
 probing_row w c _ s q z = absurd (cc)
 
@@ -189,7 +192,9 @@ asking_outcome b (Existing i) f h = cc
 pub turned_row : (w : World) (c : Call) {p : Phase} {x : Event} {a : Answer} {r : CallState} {ls : List ℕ} {t : Table} {q : Option Reply} → Row w c p x a r ls t q → fitting (is_some c.value) p c.state.outcome ≡ true → (probing p ≡ true → Probing w.table.gens c) → (wants_growth p c.state.outcome ≡ true → Turned w.table.gens c) → wants_growth r.phase r.outcome ≡ true → Turned w.table.gens (left c r ls)
 turned_row w c (loads_none _ _) f q u z = record { full = λ k h. absurd (cc) }
 turned_row w c (turns _ _ e b _ lt) f q u z = turned_now w c _ e b lt (q refl)
+turned_row w c (turns_unasked _ _ e b _ lt) f q u z = turned_now w c _ e b lt (q refl)
 turned_row w c (loses_turns _ _ e b _ lt) f q u z = turned_now w c _ e b lt (q refl)
+turned_row w c (loses_turns_unasked _ _ e b _ lt) f q u z = turned_now w c _ e b lt (q refl)
 turned_row w c (leaves_grow _) f q u z = turned_same w.table.gens c _ _ refl refl (u refl)
 turned_row w c (large _ _ _ _) f q u z = absurd (asking_outcome (is_some c.value) c.state.outcome f z)
 turned_row w c (owns _ _) f q u z = turned_same w.table.gens c _ _ refl refl (u (growth_from WantOwned Owned refl (λ i. refl) (λ i. refl) c.state.outcome z))

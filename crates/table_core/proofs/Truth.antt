@@ -37,3 +37,12 @@ or-false true b h = absurd (cc)
 pub or_second : (a b : Bool) → b ≡ true → (a || b) ≡ true
 or_second true b h = refl
 or_second false b h = h
+
+pub and-not : (a b : Bool) → (a && not b) ≡ true → (a && b) ≡ false
+and-not true true h = absurd (cc)
+and-not true false h = refl
+and-not false b h = refl
+
+pub not-and : (a b : Bool) → not a ≡ true → (a && b) ≡ false
+not-and true b h = absurd (cc)
+not-and false b h = refl

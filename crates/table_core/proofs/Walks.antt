@@ -11,7 +11,7 @@ use Rattle.table_core.specs.History.{replies, placed_by, placed, picks, TakenEve
 use Rattle.table_core.specs.Steps.{Row, leaves_refused, small, ends, ends_failed, gives_up, walk_none, walk_loads, walk_skips_last, walk_takes_last, walk_skips, walk_takes, Opens, opens_insert, left}
 use Rattle.table_core.specs.declared.event.Event.{Event}
 use Rattle.table_core.specs.declared.event.Event.TheVariants.{Load, Read}
-use Rattle.table_core.specs.declared.event.Entry.{Entry}
+use Rattle.table_core.specs.declared.generation.Entry.{Entry}
 use Rattle.table_core.specs.declared.call.CallState.{CallState}
 use Rattle.table_core.specs.declared.call.Phase.{Phase}
 use Rattle.table_core.specs.declared.call.Phase.TheVariants.{WalkLoad, WalkAt}

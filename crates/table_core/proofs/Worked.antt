@@ -11,7 +11,7 @@ use Rattle.table_core.specs.Law.{Law, accepts, AsksBy, CopiesBy, UsesBy, OpensBy
 use Rattle.table_core.specs.Worked.{IsWorked, LooksForWhatComes, say, all_placed, lost_to_equal, told_lost_to_equal, lost_to_other, told_lost_to_other, refused_put, told_refused_put, uncounted, late_none, told_late_none, stands_late_none, shared_lock, double_growth, two_growers, starts_again, told_starts_again, refused_first, empty_walk, short_walk, right_round, told_right_round, past_the_end, told_past_the_end, other_bits}
 use Rattle.table_core.specs.declared.event.Event.{Event}
 use Rattle.table_core.specs.declared.event.Event.TheVariants.{Insert, Lookup, Read, Put, Copy}
-use Rattle.table_core.specs.declared.event.Entry.{Entry}
+use Rattle.table_core.specs.declared.generation.Entry.{Entry}
 use Rattle.table_core.specs.declared.call.Phase.{Phase}
 use Rattle.table_core.specs.declared.call.Phase.TheVariants.{Probe, AtEmpty, Building, LookProbe}
 use Rattle.table_core.proofs.Truth.{and_both}

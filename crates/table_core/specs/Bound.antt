@@ -1,38 +1,41 @@
 -- How the fast structures of the code stand for the machine's lists.
-use Rattle.std.specs.Prelude.{ℕ, suc, ◌*◌, ◌^◌, ◌==◌, ◌≡◌, ◌≤◌, ◌<◌, length, if◌then◌else◌, Bool, true, false, Option, Some, None, List, [], ◌∷◌, ◌++◌, map, option_to_list}
+use Rattle.std.specs.Prelude.{ℕ, suc, ◌*◌, ◌^◌, ◌==◌, ◌≡◌, ◌≤◌, ◌<◌, length, if◌then◌else◌, Bool}
+use Rattle.std.specs.Prelude.{true, false, Option, Some, None, List, [], ◌∷◌, ◌++◌, map}
+use Rattle.std.specs.Prelude.{option_to_list}
 use Rattle.table_core.specs.Bags.{weigh}
 use Rattle.std.specs.Option.{option_map}
 use Rattle.table_core.specs.Generations.{Gen, Build, bucket}
 use Rattle.terms.specs.Probes.{bucket_at}
+use Rattle.terms.specs.Capacities.{IsCapacity}
 use Rattle.table_core.specs.Calls.{Call, holds_shared, holds_owned}
-use Rattle.table_core.specs.declared.event.Entry.{Entry}
+use Rattle.table_core.specs.declared.generation.Entry.{Entry}
 use Rattle.table_core.specs.declared.generation.Slot.{Slot}
 
--- an entry as a map keeps it, by its place
+-- an entry as a map keeps it, by its index
 abbrev pub entry_of : ℕ × Slot → Entry
 entry_of p = record { index = p.0; value = p.1.value; bits = p.1.bits }
 
--- so many buckets from a place on, in turn, are set
+-- so many buckets from this one on, in turn, are set
 abbrev pub AllSet : Gen → ℕ → ℕ → Type 0
-AllSet g index n = (j : ℕ) → j < n → (e : Entry) × (bucket g.entries (bucket_at g.capacity index j) ≡ Some e)
+AllSet g index n =
+    (j : ℕ) → j < n → (e : Entry) × (bucket g.entries (bucket_at g.capacity index j) ≡ Some e)
 
--- a run of so many buckets from a set one on: there are as many entries, and those after it are set too
+-- a run of so many buckets from a set one on: there are as many entries, and those after it are
+-- set too
 abbrev pub IsRun : ℕ → List Entry → ℕ → ℕ → Type 0
-IsRun capacity es index n = (1 ≤ n) × (n ≤ length es) × ((j : ℕ) → 1 ≤ j → j < n → (e : Entry) × (bucket es (bucket_at capacity index j) ≡ Some e))
+IsRun capacity es index n = (1 ≤ n) × (n ≤ length es) ×
+    ((j : ℕ) → 1 ≤ j → j < n → (e : Entry) × (bucket es (bucket_at capacity index j) ≡ Some e))
 
 -- what each of these slots keeps is a run among es
 abbrev pub RunsHold : ℕ → List Entry → List (ℕ × Slot) → Type 0
 RunsHold capacity es [] = Unit {0}
 RunsHold capacity es (p ∷ ps) = IsRun capacity es p.0 p.1.run × RunsHold capacity es ps
 
--- a capacity is a power of two up to 2^63
-abbrev pub IsCapacity : ℕ → Type 0
-IsCapacity n = (k : ℕ) × (n ≡ 2 ^ k) × (k ≤ 63)
-
 -- where the call of this number stands among the calls
 abbrev pub position_of : ℕ → List Call → Option ℕ
 position_of n [] = None
-position_of n (c ∷ calls) = if c.number == n then Some 0 else option_map (λ i. suc i) (position_of n calls)
+position_of n (c ∷ calls) =
+    if c.number == n then Some 0 else option_map (λ i. suc i) (position_of n calls)
 
 abbrev pub one_if : Bool → ℕ
 one_if true = 1

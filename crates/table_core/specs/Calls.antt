@@ -1,12 +1,24 @@
 -- The calls: where each stands, and where an answer takes it.
-use Rattle.std.specs.Prelude.{ℕ, ◌+◌, ◌/◌, ◌%◌, ◌==◌, ◌&&◌, ◌||◌, nat_lt, if◌then◌else◌, Bool, true, false, Option, Some, None, List, [], ◌∷◌}
+use Rattle.std.specs.Prelude.{ℕ, ◌+◌, ◌/◌, ◌%◌, ◌==◌, ◌&&◌, ◌||◌, nat_lt, if◌then◌else◌, Bool}
+use Rattle.std.specs.Prelude.{true, false, Option, Some, None, List, [], ◌∷◌}
 use Rattle.std.specs.List.{find, list_any}
 use Rattle.table_core.specs.declared.call.Phase.{Phase}
-use Rattle.table_core.specs.declared.call.Phase.TheVariants.{WantShared, Shared, Probe, AtEmpty, Placed, LeaveOk, LeaveGrow, LeaveRefused, AskSize, WantOwned, Owned, Building, LeaveOwned, LeaveFailed, LookLoad, LookProbe, LenLoad, LenSize, WalkLoad, WalkAt, Done}
+use Rattle.table_core.specs.declared.call.Phase.TheVariants.{WantShared, Shared, Probe, AtEmpty}
+use Rattle.table_core.specs.declared.call.Phase.TheVariants.{Placed, LeaveOk, LeaveGrow}
+use Rattle.table_core.specs.declared.call.Phase.TheVariants.{LeaveRefused, AskSize, WantOwned}
+use Rattle.table_core.specs.declared.call.Phase.TheVariants.{Owned, Building, LeaveOwned}
+use Rattle.table_core.specs.declared.call.Phase.TheVariants.{LeaveFailed, LookLoad, LookProbe}
+use Rattle.table_core.specs.declared.call.Phase.TheVariants.{LenLoad, LenSize, WalkLoad, WalkAt}
+use Rattle.table_core.specs.declared.call.Phase.TheVariants.{Done}
 use Rattle.table_core.specs.declared.call.Outcome.{Outcome}
 use Rattle.table_core.specs.declared.call.Outcome.TheVariants.{Pending, New, Existing}
 use Rattle.table_core.specs.declared.call.Answer.{Answer}
-use Rattle.table_core.specs.declared.call.Answer.TheVariants.{Taken, Released, NoGeneration, Loaded, Empty, Holds, Won, MemoryRefused, Counted, Sized, Begun, Unwanted, Failed, Copied, Shown}
+use Rattle.table_core.specs.declared.call.Answer.TheVariants.{Taken, Released}
+use Rattle.table_core.specs.declared.call.Answer.TheVariants.{ReleasedAfterFailure, NoGeneration}
+use Rattle.table_core.specs.declared.call.Answer.TheVariants.{Loaded, Empty, Holds, HoldsUnasked}
+use Rattle.table_core.specs.declared.call.Answer.TheVariants.{Won, MemoryRefused, Counted, Sized}
+use Rattle.table_core.specs.declared.call.Answer.TheVariants.{Begun, Unwanted, Failed, Copied}
+use Rattle.table_core.specs.declared.call.Answer.TheVariants.{Shown}
 use Rattle.table_core.specs.declared.call.CallState.{CallState}
 
 -- a call: its number, the value of an insert, the list so far of a walk, and its state
@@ -16,14 +28,33 @@ pub record Call : Type 0 where
   pub list : List ℕ
   pub state : CallState
 
+-- the state of a call that starts in this phase, with this hash
+abbrev pub starting : Phase → ℕ → CallState
+starting phase hash =
+    record { phase = phase; hash = hash; walked = None; capacity = 0; index = 0; seen = 0;
+        outcome = Pending }
+
+-- the states in which an insert, a look-up, a length and a walk start
+
+abbrev pub insert_start : ℕ → CallState
+insert_start hash = starting WantShared hash
+
+abbrev pub lookup_start : ℕ → CallState
+lookup_start hash = starting LookLoad hash
+
+abbrev pub length_start : CallState
+length_start = starting LenLoad 0
+
+abbrev pub walk_start : CallState
+walk_start = starting WalkLoad 0
+
+-- a new call in this state
+abbrev pub new_call : ℕ → Option ℕ → CallState → Call
+new_call n value state = record { number = n; value = value; list = []; state = state }
+
 -- a call that starts in this phase
 abbrev pub starts : ℕ → Option ℕ → Phase → ℕ → Call
-starts n value phase hash = record {
-  number = n;
-  value = value;
-  list = [];
-  state = record { phase = phase; hash = hash; walked = None; capacity = 0; index = 0; seen = 0; outcome = Pending };
-}
+starts n value phase hash = new_call n value (starting phase hash)
 
 abbrev pub is_used : ℕ → List Call → Bool
 is_used n calls = list_any (λ c. c.number == n) calls
@@ -90,7 +121,8 @@ to p s = record s { phase = p }
 -- at the first bucket of a probe
 abbrev pub probes : Phase → CallState → ℕ → ℕ → CallState
 probes p s generation capacity =
-    record s { phase = p; walked = Some generation; capacity = capacity; index = s.hash % capacity; seen = 0 }
+    record s { phase = p; walked = Some generation; capacity = capacity; index = s.hash % capacity;
+        seen = 0 }
 
 -- one set bucket further, or in this other phase once all were seen
 abbrev pub passes : Phase → Phase → CallState → CallState
@@ -104,30 +136,35 @@ abbrev pub finds_entry : Phase → CallState → CallState
 finds_entry p s = record s { phase = p; outcome = Existing s.index }
 
 -- an insert at a set bucket
-abbrev pub meets : CallState → Bool → CallState
-meets s true = finds_entry LeaveOk s
-meets s false = passes Probe LeaveGrow s
+abbrev pub insert_meets : CallState → Bool → CallState
+insert_meets s true = finds_entry LeaveOk s
+insert_meets s false = passes Probe LeaveGrow s
 
 -- a look-up at a set bucket
-abbrev pub looks : CallState → Bool → CallState
-looks s true = finds_entry Done s
-looks s false = passes LookProbe Done s
+abbrev pub lookup_meets : CallState → Bool → CallState
+lookup_meets s true = finds_entry Done s
+lookup_meets s false = passes LookProbe Done s
 
 -- a walk goes on to the next bucket, until there is none
-abbrev pub walks : CallState → CallState
-walks s = if nat_lt (s.index + 1) s.capacity then record s { phase = WalkAt; index = s.index + 1 } else record s { phase = Done; index = s.index + 1 }
+abbrev pub walk_passes : CallState → CallState
+walk_passes s =
+    if nat_lt (s.index + 1) s.capacity
+    then record s { phase = WalkAt; index = s.index + 1 }
+    else record s { phase = Done; index = s.index + 1 }
 
 abbrev pub is_pending : Outcome → Bool
 is_pending Pending = true
 is_pending _ = false
 
 -- growth is over: a call without an outcome starts over
-abbrev pub ends : CallState → CallState
-ends s = if is_pending s.outcome then to WantShared s else to Done s
+abbrev pub growth_ends : CallState → CallState
+growth_ends s = if is_pending s.outcome then to WantShared s else to Done s
 
 -- growth has failed: a call without an outcome gives up, unless there is another generation by now
-abbrev pub fails : CallState → Bool → CallState
-fails s still_current = if is_pending s.outcome && (if still_current then false else true) then to WantShared s else to Done s
+abbrev pub growth_fails : CallState → Bool → CallState
+growth_fails s still_current =
+    if is_pending s.outcome && (if still_current then false else true) then to WantShared s
+        else to Done s
 
 -- the state after an answer, in the phases' order; an answer that has no row changes nothing
 abbrev pub decided : Phase → CallState → Answer → CallState
@@ -135,14 +172,16 @@ decided WantShared s Taken = to Shared s
 decided Shared s NoGeneration = record s { phase = LeaveGrow; walked = None }
 decided Shared s (Loaded g n) = probes Probe s g n
 decided Probe s Empty = to AtEmpty s
-decided Probe s (Holds same accepted) = meets s (same && accepted)
+decided Probe s (Holds accepted) = insert_meets s accepted
+decided Probe s HoldsUnasked = insert_meets s false
 decided AtEmpty s MemoryRefused = to LeaveRefused s
 decided AtEmpty s Won = to Placed s
-decided AtEmpty s (Holds same accepted) = meets s (same && accepted)
+decided AtEmpty s (Holds accepted) = insert_meets s accepted
+decided AtEmpty s HoldsUnasked = insert_meets s false
 decided Placed s Counted = record s { phase = LeaveOk; outcome = New s.index }
-decided LeaveOk s (Released _) = to AskSize s
-decided LeaveGrow s (Released _) = to WantOwned s
-decided LeaveRefused s (Released _) = to Done s
+decided LeaveOk s Released = to AskSize s
+decided LeaveGrow s Released = to WantOwned s
+decided LeaveRefused s Released = to Done s
 decided AskSize s (Sized k) = if nat_lt k (s.capacity / 2) then to Done s else to WantOwned s
 decided WantOwned s Taken = to Owned s
 decided Owned s Begun = to Building s
@@ -150,19 +189,21 @@ decided Owned s Unwanted = to LeaveOwned s
 decided Owned s Failed = to LeaveFailed s
 decided Building s Copied = to Building s
 decided Building s Shown = to LeaveOwned s
-decided LeaveOwned s (Released _) = ends s
-decided LeaveFailed s (Released still_current) = fails s still_current
+decided LeaveOwned s Released = growth_ends s
+decided LeaveFailed s (ReleasedAfterFailure still_current) = growth_fails s still_current
 decided LookLoad s NoGeneration = to Done s
 decided LookLoad s (Loaded g n) = probes LookProbe s g n
 decided LookProbe s Empty = to Done s
-decided LookProbe s (Holds same accepted) = looks s (same && accepted)
+decided LookProbe s (Holds accepted) = lookup_meets s accepted
+decided LookProbe s HoldsUnasked = lookup_meets s false
 decided LenLoad s NoGeneration = to Done s
 decided LenLoad s (Loaded g n) = record s { phase = LenSize; walked = Some g; capacity = n }
 decided LenSize s (Sized k) = to Done s
 decided WalkLoad s NoGeneration = to Done s
-decided WalkLoad s (Loaded g n) = record s { phase = WalkAt; walked = Some g; capacity = n; index = 0 }
-decided WalkAt s Empty = walks s
-decided WalkAt s (Holds _ _) = walks s
+decided WalkLoad s (Loaded g n) =
+    record s { phase = WalkAt; walked = Some g; capacity = n; index = 0 }
+decided WalkAt s Empty = walk_passes s
+decided WalkAt s HoldsUnasked = walk_passes s
 decided _ s _ = s
 
 -- Answers that fit
@@ -177,14 +218,16 @@ fits WantShared s Taken = true
 fits Shared s NoGeneration = true
 fits Shared s (Loaded g n) = nat_lt 0 n
 fits Probe s Empty = stands_at_bucket s
-fits Probe s (Holds _ _) = stands_at_bucket s
+fits Probe s (Holds _) = stands_at_bucket s
+fits Probe s HoldsUnasked = stands_at_bucket s
 fits AtEmpty s MemoryRefused = stands_at_bucket s
 fits AtEmpty s Won = stands_at_bucket s
-fits AtEmpty s (Holds _ _) = stands_at_bucket s
+fits AtEmpty s (Holds _) = stands_at_bucket s
+fits AtEmpty s HoldsUnasked = stands_at_bucket s
 fits Placed s Counted = stands_at_bucket s
-fits LeaveOk s (Released _) = true
-fits LeaveGrow s (Released _) = true
-fits LeaveRefused s (Released _) = true
+fits LeaveOk s Released = true
+fits LeaveGrow s Released = true
+fits LeaveRefused s Released = true
 fits AskSize s (Sized k) = nat_lt 0 s.capacity
 fits WantOwned s Taken = true
 fits Owned s Begun = true
@@ -192,19 +235,20 @@ fits Owned s Unwanted = true
 fits Owned s Failed = true
 fits Building s Copied = true
 fits Building s Shown = true
-fits LeaveOwned s (Released _) = true
-fits LeaveFailed s (Released _) = true
+fits LeaveOwned s Released = true
+fits LeaveFailed s (ReleasedAfterFailure _) = true
 fits LookLoad s NoGeneration = true
 fits LookLoad s (Loaded g n) = nat_lt 0 n
 fits LookProbe s Empty = stands_at_bucket s
-fits LookProbe s (Holds _ _) = stands_at_bucket s
+fits LookProbe s (Holds _) = stands_at_bucket s
+fits LookProbe s HoldsUnasked = stands_at_bucket s
 fits LenLoad s NoGeneration = true
 fits LenLoad s (Loaded g n) = nat_lt 0 n
 fits LenSize s (Sized k) = nat_lt 0 s.capacity
 fits WalkLoad s NoGeneration = true
 fits WalkLoad s (Loaded g n) = nat_lt 0 n
 fits WalkAt s Empty = nat_lt s.index s.capacity
-fits WalkAt s (Holds _ _) = nat_lt s.index s.capacity
+fits WalkAt s HoldsUnasked = nat_lt s.index s.capacity
 fits _ _ _ = false
 
 -- the state after an answer; one that doesn't fit changes nothing

@@ -1,9 +1,12 @@
 -- The table: its generations and their buckets.
-use Rattle.std.specs.Prelude.{ℕ, suc, zero, ◌+◌, ◌-◌, ◌*◌, ◌/◌, ◌%◌, ◌^◌, ◌==◌, ◌≡◌, ◌≤◌, nat_lt, if◌then◌else◌, Bool, Option, Some, None, List, [], ◌∷◌, length, slice_set}
+use Rattle.std.specs.Prelude.{ℕ, suc, zero, ◌+◌, ◌-◌, ◌*◌, ◌/◌, ◌%◌, ◌^◌, ◌==◌, ◌≡◌, ◌≤◌, nat_lt}
+use Rattle.std.specs.Prelude.{if◌then◌else◌, Bool, Option, Some, None, List, [], ◌∷◌, length}
+use Rattle.std.specs.Prelude.{slice_set}
 use Rattle.std.specs.List.{find, slice_get}
-use Rattle.table_core.specs.declared.event.Entry.{Entry}
+use Rattle.terms.specs.Probes.{bucket_at}
+use Rattle.table_core.specs.declared.generation.Entry.{Entry}
 
--- a generation: its capacity, its size, and its set buckets in order of their places
+-- a generation: its capacity, its size, and its set buckets in order of their indices
 pub record Gen : Type 0 where
   pub capacity : ℕ
   pub size : ℕ
@@ -20,40 +23,30 @@ pub record Table : Type 0 where
   pub gens : List Gen
   pub building : Option Build
 
--- a first capacity is a power of two from 16 to 2^30
-abbrev pub IsFirstCapacity : ℕ → Type 0
-IsFirstCapacity f = (k : ℕ) × (f ≡ 2 ^ k) × (4 ≤ k) × (k ≤ 30)
-
 -- Buckets
 
--- the eight bits of a hash that a bucket carries
-abbrev pub bits_of : ℕ → ℕ
-bits_of hash = hash / 2 ^ 32 % 256
-
--- the bucket at a place
+-- the bucket of an index
 abbrev pub bucket : List Entry → ℕ → Option Entry
 bucket es i = find (λ e. e.index == i) es
 
--- an entry more, in order of the places
+-- an entry more, in order of the indices
 abbrev pub put_in : Entry → List Entry → List Entry
 put_in e [] = e ∷ []
 put_in e (x ∷ xs) = if nat_lt e.index x.index then e ∷ x ∷ xs else x ∷ put_in e xs
-
--- the place that is d buckets on from a hash's own
-abbrev pub bucket_at : ℕ → ℕ → ℕ → ℕ
-bucket_at capacity hash d = (hash + d) % capacity
 
 abbrev pub if_empty : Option Entry → ℕ → ℕ → ℕ
 if_empty None here further = here
 if_empty (Some e) here further = further
 
--- the first empty place of those d, d + 1, .. buckets on; no more than so many can be set
+-- the first empty bucket of those d, d + 1, .. on from a hash's own; no more than so many can be
+-- set
 abbrev pub empty_from : ℕ → List Entry → ℕ → ℕ → ℕ → ℕ
 empty_from capacity es hash d zero = bucket_at capacity hash d
 empty_from capacity es hash d (suc set) =
-    if_empty (bucket es (bucket_at capacity hash d)) (bucket_at capacity hash d) (empty_from capacity es hash (suc d) set)
+    if_empty (bucket es (bucket_at capacity hash d)) (bucket_at capacity hash d)
+        (empty_from capacity es hash (suc d) set)
 
--- the first empty place from a hash's own on
+-- the first empty bucket from a hash's own on
 abbrev pub first_empty : Gen → ℕ → ℕ
 first_empty g hash = empty_from g.capacity g.entries hash 0 (length g.entries)
 
@@ -68,7 +61,7 @@ fill g e = record g { entries = put_in e g.entries }
 abbrev pub count : Gen → Gen
 count g = record g { size = g.size + 1 }
 
--- an entry copied to a place, whose size is counted at once
+-- an entry copied to a bucket, and counted at once
 abbrev pub copy_in : Gen → Entry → ℕ → Gen
 copy_in g e index = count (fill g (record e { index = index }))
 
@@ -120,10 +113,11 @@ entry_left es (Some b) = slice_get es b.copied
 abbrev pub next_copied : Table → Option Entry
 next_copied t = entry_left (entries_of (current t)) t.building
 
--- this entry copied to the first empty place from this hash's own on
+-- this entry copied to the first empty bucket from this hash's own on
 abbrev pub copy_on : Option Build → Entry → ℕ → Option Build
 copy_on None e hash = None
-copy_on (Some b) e hash = Some (record { gen = copy_in b.gen e (first_empty b.gen hash); copied = b.copied + 1 })
+copy_on (Some b) e hash =
+    Some (record { gen = copy_in b.gen e (first_empty b.gen hash); copied = b.copied + 1 })
 
 abbrev pub built : Option Build → List Gen
 built None = []

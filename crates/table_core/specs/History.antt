@@ -1,14 +1,16 @@
 -- What the calls of a schedule did, and what they were told.
-use Rattle.std.specs.Prelude.{ℕ, ◌+◌, ◌==◌, ◌&&◌, ◌||◌, ◌≡◌, if◌then◌else◌, Bool, true, false, Option, Some, List, [], ◌∷◌, ◌++◌, map, option_to_list}
+use Rattle.std.specs.Prelude.{ℕ, ◌+◌, ◌==◌, ◌&&◌, ◌||◌, ◌≡◌, if◌then◌else◌, Bool, true, false}
+use Rattle.std.specs.Prelude.{Option, Some, List, [], ◌∷◌, ◌++◌, map, option_to_list}
 use Rattle.std.specs.List.{find, flat_map}
 use Rattle.table_core.specs.Bags.{weigh}
 use Rattle.table_core.specs.Replies.{Reply, ReplyPlaced, ReplyFound, ReplyRefused, Finished}
 use Rattle.table_core.specs.Generations.{Table, current, entries_of}
 use Rattle.table_core.specs.Calls.{Call}
-use Rattle.table_core.specs.Machine.{World, number_of, Act, Begins, Goes, acts, happens, finishes, after, bucket_of}
+use Rattle.table_core.specs.Machine.{World, number_of, Act, Begins, Goes, acts, happens, finishes}
+use Rattle.table_core.specs.Machine.{after, bucket_of}
 use Rattle.table_core.specs.declared.event.Event.{Event}
 use Rattle.table_core.specs.declared.event.Event.TheVariants.{Insert, Read}
-use Rattle.table_core.specs.declared.event.Entry.{Entry}
+use Rattle.table_core.specs.declared.generation.Entry.{Entry}
 use Rattle.table_core.specs.declared.call.Phase.{Phase}
 use Rattle.table_core.specs.declared.call.Phase.TheVariants.{Placed, Done}
 use Rattle.table_core.specs.declared.call.Outcome.{Outcome}
@@ -80,7 +82,8 @@ running calls = flat_map (λ c. picks (runs c.state.phase c.state.outcome) c.val
 
 -- the capacities of all generations, the one being built included
 abbrev pub buckets : Table → ℕ
-buckets t = weigh (λ g. g.capacity) t.gens + weigh (λ b. b.gen.capacity) (option_to_list t.building)
+buckets t =
+    weigh (λ g. g.capacity) t.gens + weigh (λ b. b.gen.capacity) (option_to_list t.building)
 
 -- Counts over a schedule
 
@@ -132,7 +135,8 @@ abbrev pub beginnings : World → List Event → ℕ → List Event
 beginnings w [] n = []
 beginnings w (x ∷ xs) n = begun_by (acts w x) x n ++ beginnings (happens w x) xs n
 
--- A taken event of call n in a schedule: what came before it, the call as it was, and what it found.
+-- A taken event of call n in a schedule: what came before it, the call as it was, and what it
+-- found.
 pub record TakenEvent (f : ℕ) (s : List Event) (n : ℕ) : Type 0 where
   pub before : List Event
   pub event : Event

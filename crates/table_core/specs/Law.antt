@@ -6,7 +6,7 @@ use Rattle.table_core.specs.Calls.{Call}
 use Rattle.table_core.specs.Machine.{World, empty, Act, Begins, Goes, acts, happens, bucket_of}
 use Rattle.table_core.specs.declared.event.Event.{Event}
 use Rattle.table_core.specs.declared.event.Event.TheVariants.{Insert, Lookup, Read, Put, Copy}
-use Rattle.table_core.specs.declared.event.Entry.{Entry}
+use Rattle.table_core.specs.declared.generation.Entry.{Entry}
 use Rattle.table_core.specs.declared.call.Phase.{Phase}
 use Rattle.table_core.specs.declared.call.Phase.TheVariants.{Probe, AtEmpty, Building, LookProbe}
 
@@ -30,13 +30,15 @@ accepts l c e = accepts_by l c.number c.value e
 
 -- where the bucket is set and its bits agree the closure is asked, and its answer is the law's
 abbrev pub AsksBy : Law → World → Call → Bool → Type 0
-AsksBy l w c y = (e : Entry) → bucket_of w.table c.state ≡ Some e → e.bits ≡ bits_of c.state.hash → y ≡ accepts l c e.value
+AsksBy l w c y = (e : Entry) → bucket_of w.table c.state ≡ Some e → e.bits ≡ bits_of c.state.hash →
+    y ≡ accepts l c e.value
 
 -- a copy carries the hash of what it copies
 abbrev pub CopiesBy : Law → World → ℕ → Type 0
 CopiesBy l w hash = (e : Entry) → next_copied w.table ≡ Some e → hash ≡ l.hash e.value
 
--- the answers that are used: those of a read or a granted put of an insert, of a read of a look-up, and of a copy
+-- the answers that are used: those of a read or a granted put of an insert, of a read of a
+-- look-up, and of a copy
 abbrev pub UsesBy : Law → World → Call → Phase → Event → Type 0
 UsesBy l w c Probe (Read n y) = AsksBy l w c y
 UsesBy l w c AtEmpty (Put n y true) = AsksBy l w c y
@@ -44,7 +46,8 @@ UsesBy l w c LookProbe (Read n y) = AsksBy l w c y
 UsesBy l w c Building (Copy n hash) = CopiesBy l w hash
 UsesBy l w c _ x = Unit {0}
 
--- an insert begins with the hash of its value, a look-up with the one hash of all that its test accepts
+-- an insert begins with the hash of its value, a look-up with the one hash of all that its test
+-- accepts
 abbrev pub OpensBy : Law → Event → Type 0
 OpensBy l (Insert n v hash) = hash ≡ l.hash v
 OpensBy l (Lookup n hash) = (e : ℕ) → l.test n e ≡ true → l.hash e ≡ hash

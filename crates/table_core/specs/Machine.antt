@@ -1,19 +1,37 @@
 -- The machine: what an event finds, what it changes, and what a call is told.
-use Rattle.std.specs.Prelude.{ℕ, ◌+◌, ◌/◌, ◌^◌, ◌==◌, ◌&&◌, ◌||◌, nat_lt, if◌then◌else◌, Bool, true, false, not, Option, Some, None, List, [], ◌∷◌, ◌++◌, length, ◌-◌}
-use Rattle.table_core.specs.Replies.{Reply, ReplyPlaced, ReplyFound, ReplyRefused, ReplySome, ReplyNone, ReplyLen, ReplyWalk, Finished}
-use Rattle.table_core.specs.Generations.{Gen, Table, fresh, fill, count, current, gen_of, bucket_in, is_current, change, next_capacity, next_copied, copy_on, built}
+use Rattle.std.specs.Prelude.{ℕ, ◌/◌, ◌^◌, ◌==◌, ◌&&◌, ◌||◌, nat_lt, if◌then◌else◌, Bool, true}
+use Rattle.std.specs.Prelude.{false, not, Option, Some, None, List, [], ◌∷◌, ◌++◌, length, ◌-◌}
+use Rattle.table_core.specs.Replies.{Reply, ReplyPlaced, ReplyFound, ReplyRefused, ReplySome}
+use Rattle.table_core.specs.Replies.{ReplyNone, ReplyLen, ReplyWalk, Finished}
+use Rattle.table_core.specs.Generations.{Gen, Table, fresh, fill, count, current, gen_of}
+use Rattle.table_core.specs.Generations.{bucket_in, is_current, change, next_capacity}
+use Rattle.table_core.specs.Generations.{next_copied, copy_on, built}
 use Rattle.terms.specs.Hashes.{bits_of}
-use Rattle.table_core.specs.Calls.{Call, starts, is_used, is_used_value, call_numbered, replaced, is_owned, is_locked, decided, is_pending}
+use Rattle.table_core.specs.Calls.{Call, starts, is_used, is_used_value, call_numbered, replaced}
+use Rattle.table_core.specs.Calls.{is_owned, is_locked, decided, is_pending}
 use Rattle.table_core.specs.declared.event.Event.{Event}
-use Rattle.table_core.specs.declared.event.Event.TheVariants.{Insert, Lookup, Len, Walk, Share, Own, Free, Load, Read, Put, Add, Size, Check, Copy, Show}
-use Rattle.table_core.specs.declared.event.Entry.{Entry}
+use Rattle.table_core.specs.declared.event.Event.TheVariants.{Insert, Lookup, Len, Walk, Share}
+use Rattle.table_core.specs.declared.event.Event.TheVariants.{Own, Free, Load, Read, Put, Add}
+use Rattle.table_core.specs.declared.event.Event.TheVariants.{Size, Check, Copy, Show}
+use Rattle.table_core.specs.declared.generation.Entry.{Entry}
 use Rattle.table_core.specs.declared.call.CallState.{CallState}
 use Rattle.table_core.specs.declared.call.Phase.{Phase}
-use Rattle.table_core.specs.declared.call.Phase.TheVariants.{WantShared, Shared, Probe, AtEmpty, Placed, LeaveOk, LeaveGrow, LeaveRefused, AskSize, WantOwned, Owned, Building, LeaveOwned, LeaveFailed, LookLoad, LookProbe, LenLoad, LenSize, WalkLoad, WalkAt}
+use Rattle.table_core.specs.declared.call.Phase.TheVariants.{WantShared, Shared, Probe, AtEmpty}
+use Rattle.table_core.specs.declared.call.Phase.TheVariants.{Placed, LeaveOk, LeaveGrow}
+use Rattle.table_core.specs.declared.call.Phase.TheVariants.{LeaveRefused, AskSize, WantOwned}
+use Rattle.table_core.specs.declared.call.Phase.TheVariants.{Owned, Building, LeaveOwned}
+use Rattle.table_core.specs.declared.call.Phase.TheVariants.{LeaveFailed, LookLoad, LookProbe}
+use Rattle.table_core.specs.declared.call.Phase.TheVariants.{LenLoad, LenSize, WalkLoad, WalkAt}
+use Rattle.table_core.specs.declared.call.Phase.TheVariants.{Done}
 use Rattle.table_core.specs.declared.call.Outcome.{Outcome}
 use Rattle.table_core.specs.declared.call.Outcome.TheVariants.{New, Existing}
 use Rattle.table_core.specs.declared.call.Answer.{Answer}
-use Rattle.table_core.specs.declared.call.Answer.TheVariants.{Taken, Released, NoGeneration, Loaded, Empty, Holds, Won, MemoryRefused, Counted, Sized, Begun, Unwanted, Failed, Copied, Shown}
+use Rattle.table_core.specs.declared.call.Answer.TheVariants.{Taken, Released}
+use Rattle.table_core.specs.declared.call.Answer.TheVariants.{ReleasedAfterFailure, NoGeneration}
+use Rattle.table_core.specs.declared.call.Answer.TheVariants.{Loaded, Empty, Holds, HoldsUnasked}
+use Rattle.table_core.specs.declared.call.Answer.TheVariants.{Won, MemoryRefused, Counted, Sized}
+use Rattle.table_core.specs.declared.call.Answer.TheVariants.{Begun, Unwanted, Failed, Copied}
+use Rattle.table_core.specs.declared.call.Answer.TheVariants.{Shown}
 
 -- a table and its calls
 pub record World : Type 0 where
@@ -46,13 +64,19 @@ walked_gen t s = gen_of t.gens s.walked
 abbrev pub bucket_of : Table → CallState → Option Entry
 bucket_of t s = bucket_in (walked_gen t s) s.index
 
--- a set bucket whose bits are those of the hash shows the closure's answer
+-- a set bucket shows the closure's answer where its bits are those of the hash; else nothing is
+-- asked
 abbrev pub holds : Entry → ℕ → Bool → Answer
-holds e hash accepted = Holds (e.bits == bits_of hash) accepted
+holds e hash accepted = if e.bits == bits_of hash then Holds accepted else HoldsUnasked
 
 abbrev pub read : Option Entry → ℕ → Bool → Answer
 read None hash accepted = Empty
 read (Some e) hash accepted = holds e hash accepted
+
+-- a walk asks nothing
+abbrev pub read_unasked : Option Entry → Answer
+read_unasked None = Empty
+read_unasked (Some e) = HoldsUnasked
 
 abbrev pub exchanged : Option Entry → ℕ → Bool → Answer
 exchanged None hash accepted = Won
@@ -71,17 +95,19 @@ checked (Some g) granted =
     else (if granted && not (g.capacity == 2 ^ 63) then Begun else Failed)
 
 -- one more entry is copied, if there is one left
-abbrev pub copies : Option Entry → Option Answer
-copies (Some e) = Some Copied
-copies None = None
+abbrev pub finds_copy : Option Entry → Option Answer
+finds_copy (Some e) = Some Copied
+finds_copy None = None
 
 -- the generation is shown, if no entry is left
-abbrev pub shows : Option Entry → Option Answer
-shows None = Some Shown
-shows (Some e) = None
+abbrev pub finds_show : Option Entry → Option Answer
+finds_show None = Some Shown
+finds_show (Some e) = None
 
-abbrev pub frees : World → CallState → Option Answer
-frees w s = Some (Released (is_current w.table.gens s.walked))
+-- after a failed growth the lock's release says whether the walked generation is the current one,
+-- or there is none still
+abbrev pub released_after_failure : Table → CallState → Answer
+released_after_failure t s = ReleasedAfterFailure (is_current t.gens s.walked)
 
 -- what an event finds in each phase; None where it has no row, or isn't enabled
 abbrev pub finds_in : Phase → World → CallState → Event → Option Answer
@@ -91,22 +117,22 @@ finds_in Probe w s (Read _ accepted) = Some (read (bucket_of w.table s) s.hash a
 finds_in AtEmpty w s (Put _ accepted granted) =
     Some (if granted then exchanged (bucket_of w.table s) s.hash accepted else MemoryRefused)
 finds_in Placed w s (Add _) = Some Counted
-finds_in LeaveOk w s (Free _) = frees w s
-finds_in LeaveGrow w s (Free _) = frees w s
-finds_in LeaveRefused w s (Free _) = frees w s
+finds_in LeaveOk w s (Free _) = Some Released
+finds_in LeaveGrow w s (Free _) = Some Released
+finds_in LeaveRefused w s (Free _) = Some Released
 finds_in AskSize w s (Size _) = sized (walked_gen w.table s)
 finds_in WantOwned w s (Own _) = takes_unless (is_locked w.calls)
 finds_in Owned w s (Check _ granted) = Some (checked (current w.table) granted)
-finds_in Building w s (Copy _ hash) = copies (next_copied w.table)
-finds_in Building w s (Show _) = shows (next_copied w.table)
-finds_in LeaveOwned w s (Free _) = frees w s
-finds_in LeaveFailed w s (Free _) = frees w s
+finds_in Building w s (Copy _ hash) = finds_copy (next_copied w.table)
+finds_in Building w s (Show _) = finds_show (next_copied w.table)
+finds_in LeaveOwned w s (Free _) = Some Released
+finds_in LeaveFailed w s (Free _) = Some (released_after_failure w.table s)
 finds_in LookLoad w s (Load _) = Some (loads w.table)
 finds_in LookProbe w s (Read _ accepted) = Some (read (bucket_of w.table s) s.hash accepted)
 finds_in LenLoad w s (Load _) = Some (loads w.table)
 finds_in LenSize w s (Size _) = sized (walked_gen w.table s)
 finds_in WalkLoad w s (Load _) = Some (loads w.table)
-finds_in WalkAt w s (Read _ accepted) = Some (read (bucket_of w.table s) s.hash accepted)
+finds_in WalkAt w s (Read _ _) = Some (read_unasked (bucket_of w.table s))
 finds_in _ w s _ = None
 
 abbrev pub finds : World → CallState → Event → Option Answer
@@ -117,14 +143,16 @@ finds w s x = finds_in s.phase w s x
 -- the value of a call in the bucket at which it stands
 abbrev pub place : Table → CallState → Option ℕ → Table
 place t s None = t
-place t s (Some v) = record t { gens = change t.gens s.walked (λ g. fill g (record { index = s.index; value = v; bits = bits_of s.hash })) }
+place t s (Some v) = record t { gens = change t.gens s.walked
+    (λ g. fill g (record { index = s.index; value = v; bits = bits_of s.hash })) }
 
 abbrev pub add_one : Table → CallState → Table
 add_one t s = record t { gens = change t.gens s.walked count }
 
 -- an empty generation, of the first capacity or of twice the current one
 abbrev pub begin_growth : Table → Table
-begin_growth t = record t { building = Some (record { gen = fresh (next_capacity t.first (current t)); copied = 0 }) }
+begin_growth t = record t { building = Some
+    (record { gen = fresh (next_capacity t.first (current t)); copied = 0 }) }
 
 abbrev pub copy_next : Table → Option Entry → ℕ → Table
 copy_next t None hash = t
@@ -162,58 +190,73 @@ reply_of_outcome _ t s _ = None
 abbrev pub by_outcome : Table → Call → Option Reply
 by_outcome t c = reply_of_outcome c.state.outcome t c.state c.value
 
-abbrev pub by_failure : Table → Call → Bool → Option Reply
-by_failure t c still_current = if is_pending c.state.outcome && still_current then refused c.value else by_outcome t c
+-- the reply after a failed growth: without an outcome the value goes back
+abbrev pub by_failure : Table → Call → Option Reply
+by_failure t c = if is_pending c.state.outcome then refused c.value else by_outcome t c
 
 abbrev pub shown_entry : Option Entry → Option Reply
 shown_entry None = None
 shown_entry (Some e) = Some (ReplySome e.value)
 
--- a look-up that goes on until it has seen all buckets
-abbrev pub look_reply : Table → CallState → Bool → Option Reply
-look_reply t s true = shown_entry (bucket_of t s)
-look_reply t s false = if nat_lt (s.seen + 1) s.capacity then None else Some ReplyNone
+-- the entry of its bucket, or none
+abbrev pub lookup_reply : Table → CallState → Bool → Option Reply
+lookup_reply t s true = shown_entry (bucket_of t s)
+lookup_reply t s false = Some ReplyNone
 
--- the list of a walk with what its bucket holds
+-- a list with an entry's value behind it
 abbrev pub with_entry : List ℕ → Option Entry → List ℕ
 with_entry list None = list
 with_entry list (Some e) = list ++ e.value ∷ []
 
--- a walk tells its list after the last bucket
-abbrev pub walk_reply : CallState → List ℕ → Option Reply
-walk_reply s list = if nat_lt (s.index + 1) s.capacity then None else Some (ReplyWalk list)
+-- the entry that an answer shows to a walk
+abbrev pub walked_entry : Table → CallState → Answer → Option Entry
+walked_entry t s HoldsUnasked = bucket_of t s
+walked_entry t s _ = None
 
--- what a call is told that finishes by an answer, in the phases' order
+-- the list of a walk after an answer
+abbrev pub walked_list : Table → Call → Answer → List ℕ
+walked_list t c a = with_entry c.list (walked_entry t c.state a)
+
+-- what a call is told that ends in this phase by this answer
+abbrev pub last_reply : Phase → Table → Call → Answer → Option Reply
+last_reply LeaveRefused t c a = refused c.value
+last_reply AskSize t c a = by_outcome t c
+last_reply LeaveOwned t c a = by_outcome t c
+last_reply LeaveFailed t c a = by_failure t c
+last_reply LookLoad t c a = Some ReplyNone
+last_reply LookProbe t c (Holds accepted) = lookup_reply t c.state accepted
+last_reply LookProbe t c _ = Some ReplyNone
+last_reply LenLoad t c a = Some (ReplyLen 0)
+last_reply LenSize t c (Sized k) = Some (ReplyLen k)
+last_reply WalkLoad t c a = Some (ReplyWalk [])
+last_reply WalkAt t c a = Some (ReplyWalk (walked_list t c a))
+last_reply _ t c _ = None
+
+-- only a call that ends is told anything
+abbrev pub reply_at_end : Phase → Option Reply → Option Reply
+reply_at_end Done o = o
+reply_at_end _ o = None
+
+-- what a call is told by an answer in this phase
 abbrev pub reply_in : Phase → Table → Call → Answer → Option Reply
-reply_in LeaveRefused t c (Released _) = refused c.value
-reply_in AskSize t c (Sized k) = if nat_lt k (c.state.capacity / 2) then by_outcome t c else None
-reply_in LeaveOwned t c (Released _) = by_outcome t c
-reply_in LeaveFailed t c (Released still_current) = by_failure t c still_current
-reply_in LookLoad t c NoGeneration = Some ReplyNone
-reply_in LookProbe t c Empty = Some ReplyNone
-reply_in LookProbe t c (Holds same accepted) = look_reply t c.state (same && accepted)
-reply_in LenLoad t c NoGeneration = Some (ReplyLen 0)
-reply_in LenSize t c (Sized k) = Some (ReplyLen k)
-reply_in WalkLoad t c NoGeneration = Some (ReplyWalk [])
-reply_in WalkAt t c Empty = walk_reply c.state c.list
-reply_in WalkAt t c (Holds _ _) = walk_reply c.state (with_entry c.list (bucket_of t c.state))
-reply_in _ t c _ = None
+reply_in p t c a = reply_at_end (decided p c.state a).phase (last_reply p t c a)
 
 abbrev pub reply : Table → Call → Answer → Option Reply
 reply t c a = reply_in c.state.phase t c a
 
--- the list that a walk keeps: its reply takes it
-abbrev pub kept_list : CallState → List ℕ → List ℕ
-kept_list s list = if nat_lt (s.index + 1) s.capacity then list else []
+-- the list that a walk keeps whose next phase is this: its reply takes it
+abbrev pub kept_list : Phase → List ℕ → List ℕ
+kept_list Done list = []
+kept_list _ list = list
 
 abbrev pub list_in : Phase → Table → Call → Answer → List ℕ
-list_in WalkAt t c Empty = kept_list c.state c.list
-list_in WalkAt t c (Holds _ _) = kept_list c.state (with_entry c.list (bucket_of t c.state))
-list_in _ t c _ = c.list
+list_in WalkAt t c a = kept_list (decided WalkAt c.state a).phase (walked_list t c a)
+list_in _ t c a = c.list
 
 -- the call after an answer
 abbrev pub call_after : Table → Call → Answer → Call
-call_after t c a = record c { list = list_in c.state.phase t c a; state = decided c.state.phase c.state a }
+call_after t c a =
+    record c { list = list_in c.state.phase t c a; state = decided c.state.phase c.state a }
 
 -- One event
 
@@ -257,16 +300,17 @@ abbrev pub goes_by : Call → Option Answer → Option Act
 goes_by c None = None
 goes_by c (Some a) = Some (Goes c a)
 
-abbrev pub goes : World → Option Call → Event → Option Act
-goes w None x = None
-goes w (Some c) x = goes_by c (finds w c.state x)
+abbrev pub call_acts : World → Option Call → Event → Option Act
+call_acts w None x = None
+call_acts w (Some c) x = goes_by c (finds w c.state x)
 
 abbrev pub act_of : World → Event → Option Act
-act_of w (Insert n v h) = begins_unless (is_used n w.calls || is_used_value v w.calls) (starts n (Some v) WantShared h)
+act_of w (Insert n v h) =
+    begins_unless (is_used n w.calls || is_used_value v w.calls) (starts n (Some v) WantShared h)
 act_of w (Lookup n h) = begins_unless (is_used n w.calls) (starts n None LookLoad h)
 act_of w (Len n) = begins_unless (is_used n w.calls) (starts n None LenLoad 0)
 act_of w (Walk n) = begins_unless (is_used n w.calls) (starts n None WalkLoad 0)
-act_of w x = goes w (call_numbered (number_of x) w.calls) x
+act_of w x = call_acts w (call_numbered (number_of x) w.calls) x
 
 -- what an event does, if it is taken
 abbrev pub acts : World → Event → Option Act
@@ -275,7 +319,8 @@ acts w x = if in_range x then act_of w x else None
 abbrev pub after_act : World → Event → Option Act → World
 after_act w x None = w
 after_act w x (Some (Begins c)) = record w { calls = w.calls ++ c ∷ [] }
-after_act w x (Some (Goes c a)) = record { table = changed w.table c x a; calls = replaced (call_after w.table c a) w.calls }
+after_act w x (Some (Goes c a)) =
+    record { table = changed w.table c x a; calls = replaced (call_after w.table c a) w.calls }
 
 -- the world after an event
 abbrev pub happens : World → Event → World

@@ -1,18 +1,18 @@
--- The states that schedules lead to, and what one event does to such a state at the place of its call.
-use Rattle.std.specs.Prelude.{ℕ, ◌≡◌, ◌<◌, ◌++◌, ◌&&◌, ◌||◌, Bool, true, false, Option, Some, None, List, [], ◌∷◌, length, slice_set}
-use Rattle.table_core.specs.Replies.{Reply, ReplyPlaced, ReplyNone, ReplyLen, ReplyWalk}
+-- The states that schedules lead to, and what one event does to such a state at the position of
+-- its call.
+use Rattle.std.specs.Prelude.{ℕ, ◌≡◌, ◌<◌, ◌++◌, ◌||◌, Bool, true, false, Option, Some, None}
+use Rattle.std.specs.Prelude.{List, [], ◌∷◌, length, slice_set}
+use Rattle.table_core.specs.Replies.{Reply, ReplyPlaced}
 use Rattle.table_core.specs.Generations.{Gen, Build, Table, bucket, first_empty, current}
 use Rattle.terms.specs.Capacities.{IsFirstCapacity}
 use Rattle.table_core.specs.Calls.{Call, is_used, is_used_value}
-use Rattle.table_core.specs.Machine.{World, after, walked_gen, bucket_of, checked, changed, call_after, reply, refused, found_entry, shown_entry, by_outcome, by_failure}
-use Rattle.table_core.specs.declared.event.Entry.{Entry}
+use Rattle.table_core.specs.Machine.{World, after, walked_gen, bucket_of, checked, changed}
+use Rattle.table_core.specs.Machine.{call_after, reply, found_entry}
+use Rattle.table_core.specs.declared.generation.Entry.{Entry}
 use Rattle.table_core.specs.declared.event.Event.{Event}
 use Rattle.table_core.specs.declared.event.Event.TheVariants.{Put, Add, Check, Copy}
-use Rattle.table_core.specs.declared.call.CallState.{CallState}
-use Rattle.table_core.specs.declared.call.Phase.{Phase}
-use Rattle.table_core.specs.declared.call.Phase.TheVariants.{LeaveRefused, AskSize, LeaveOwned, LeaveFailed, LookLoad, LookProbe, LenLoad, LenSize, WalkLoad, Done}
 use Rattle.table_core.specs.declared.call.Answer.{Answer}
-use Rattle.table_core.specs.declared.call.Answer.TheVariants.{Holds, Won, Counted, Sized, Begun, Copied}
+use Rattle.table_core.specs.declared.call.Answer.TheVariants.{Won, Counted, Begun, Copied}
 
 -- some schedule leads to this world
 pub record IsReached (w : World) : Type 0 where
@@ -27,14 +27,15 @@ may_not_begin n None calls = is_used n calls
 may_not_begin n (Some v) calls = is_used n calls || is_used_value v calls
 
 -- the world with this call more, unless it may not begin
-abbrev pub begun : World → Bool → Call → World
-begun w true c = w
-begun w false c = record w { calls = w.calls ++ c ∷ [] }
+abbrev pub with_call_unless : World → Bool → Call → World
+with_call_unless w true c = w
+with_call_unless w false c = record w { calls = w.calls ++ c ∷ [] }
 
--- the world after the call at this place has found this
+-- the world after the call at this position has found this
 abbrev pub moved : World → ℕ → Call → Event → Option Answer → World
 moved w i c x None = w
-moved w i c x (Some a) = record { table = changed w.table c x a; calls = slice_set w.calls i (call_after w.table c a) }
+moved w i c x (Some a) =
+    record { table = changed w.table c x a; calls = slice_set w.calls i (call_after w.table c a) }
 
 -- what it is told
 abbrev pub reply_to : World → Call → Option Answer → Option Reply
@@ -44,9 +45,11 @@ reply_to w c (Some a) = reply w.table c a
 -- the table can be changed so
 abbrev pub CanChange : Table → Call → Event → Answer → Type 0
 CanChange t c (Put _ _ _) Won = (bucket_of t c.state ≡ None) × (t.building ≡ None)
-CanChange t c (Add _) Counted = (t.building ≡ None) × ((g : Gen) → walked_gen t c.state ≡ Some g → g.size < length g.entries)
+CanChange t c (Add _) Counted =
+    (t.building ≡ None) × ((g : Gen) → walked_gen t c.state ≡ Some g → g.size < length g.entries)
 CanChange t c (Check _ _) Begun = checked (current t) true ≡ Begun
-CanChange t c (Copy _ hash) Copied = (b : Build) → t.building ≡ Some b → bucket b.gen.entries (first_empty b.gen hash) ≡ None
+CanChange t c (Copy _ hash) Copied =
+    (b : Build) → t.building ≡ Some b → bucket b.gen.entries (first_empty b.gen hash) ≡ None
 CanChange t c _ _ = Unit {0}
 
 -- what an insert is told that has placed its value
@@ -58,36 +61,3 @@ reply_placed (Some v) = Some (ReplyPlaced v)
 abbrev pub reply_found : Option Entry → Option ℕ → Option Reply
 reply_found o None = None
 reply_found o (Some v) = found_entry o v
-
--- the entry that an answer shows to a walk
-abbrev pub walked_entry : Table → CallState → Answer → Option Entry
-walked_entry t s (Holds _ _) = bucket_of t s
-walked_entry t s _ = None
-
--- a walk's list after its next phase: its reply takes it
-abbrev pub list_left : Phase → List ℕ → List ℕ
-list_left Done list = []
-list_left _ list = list
-
-abbrev pub list_reply : Phase → List ℕ → Option Reply
-list_reply Done list = Some (ReplyWalk list)
-list_reply _ list = None
-
--- what a look-up is told that ends at a set bucket
-abbrev pub look_ended : Table → CallState → Bool → Option Reply
-look_ended t s true = shown_entry (bucket_of t s)
-look_ended t s false = Some ReplyNone
-
--- what a call, other than a walk at a bucket, is told that ends in this phase by an answer that fits
-abbrev pub reply_ended : Phase → Table → Call → Answer → Option Reply
-reply_ended LeaveRefused t c _ = refused c.value
-reply_ended AskSize t c _ = by_outcome t c
-reply_ended LeaveOwned t c _ = by_outcome t c
-reply_ended LeaveFailed t c _ = by_failure t c true
-reply_ended LookLoad t c _ = Some ReplyNone
-reply_ended LookProbe t c (Holds same accepted) = look_ended t c.state (same && accepted)
-reply_ended LookProbe t c _ = Some ReplyNone
-reply_ended LenLoad t c _ = Some (ReplyLen 0)
-reply_ended LenSize t c (Sized k) = Some (ReplyLen k)
-reply_ended WalkLoad t c _ = Some (ReplyWalk [])
-reply_ended _ t c _ = None

@@ -1,14 +1,16 @@
 -- What a finished call is told.
 use Rattle.std.specs.Prelude.{ℕ, List}
 use Rattle.table_core.specs.declared.reply.Reply.{Reply as RustReply}
-use Rattle.table_core.specs.declared.reply.Reply.TheVariants.{Placed, Found, Refused, Some, None, Len, Walk}
+use Rattle.table_core.specs.declared.reply.Reply.TheVariants.{Placed, Found, Refused, Some, None}
+use Rattle.table_core.specs.declared.reply.Reply.TheVariants.{Len, Walk}
 
 pub data Reply : Type 0 where
   -- the call's value is an entry now
   ReplyPlaced : (value : ℕ) → Reply
   -- this entry was accepted, and the call's value comes back
   ReplyFound : (entry : ℕ) → (back : ℕ) → Reply
-  -- the call's value comes back: memory was refused, for its entry or for growth, or the table can't grow
+  -- the call's value comes back: memory was refused, for its entry or for growth, or the table
+  -- can't grow
   ReplyRefused : (back : ℕ) → Reply
   -- the look-up accepted this entry
   ReplySome : (entry : ℕ) → Reply

@@ -1,16 +1,21 @@
 -- What holds of every schedule, whatever the closures answer.
-use Rattle.std.specs.Prelude.{ℕ, ◌+◌, ◌-◌, ◌*◌, ◌/◌, ◌^◌, ◌==◌, ◌≡◌, ◌≤◌, ◌⊎◌, max, if◌then◌else◌, Bool, true, false, Option, Some, None, List, [], ◌∷◌, ◌++◌, length}
+use Rattle.std.specs.Prelude.{ℕ, ◌+◌, ◌-◌, ◌*◌, ◌/◌, ◌^◌, ◌==◌, ◌≡◌, ◌≤◌, ◌⊎◌, max, if◌then◌else◌}
+use Rattle.std.specs.Prelude.{Bool, true, false, Option, Some, None, List, [], ◌∷◌, ◌++◌, length}
 use Rattle.std.specs.Option.{is_some}
 use Rattle.table_core.specs.Bags.{weigh, SameBag, count_of}
-use Rattle.table_core.specs.Replies.{Reply, ReplyPlaced, ReplyFound, ReplyRefused, ReplySome, ReplyNone, ReplyLen, ReplyWalk, Finished}
+use Rattle.table_core.specs.Replies.{Reply, ReplyPlaced, ReplyFound, ReplyRefused, ReplySome}
+use Rattle.table_core.specs.Replies.{ReplyNone, ReplyLen, ReplyWalk, Finished}
 use Rattle.table_core.specs.Generations.{Gen, current}
 use Rattle.terms.specs.Hashes.{bits_of}
 use Rattle.table_core.specs.Calls.{Call, call_numbered, is_finished, holds_shared}
 use Rattle.table_core.specs.Machine.{empty, Begins, acts, after, finishes}
-use Rattle.table_core.specs.History.{replies, fate, placed, given, back, kept, running, buckets, added, placed_told, reads, generations_loaded, beginnings, TakenEvent, bucket_then, has_later}
+use Rattle.table_core.specs.History.{replies, fate, placed, given, back, kept, running, buckets}
+use Rattle.table_core.specs.History.{added, placed_told, reads, generations_loaded, beginnings}
+use Rattle.table_core.specs.History.{TakenEvent, bucket_then, has_later}
 use Rattle.table_core.specs.declared.event.Event.{Event}
-use Rattle.table_core.specs.declared.event.Event.TheVariants.{Insert, Lookup, Len, Walk, Load, Read, Put, Check}
-use Rattle.table_core.specs.declared.event.Entry.{Entry}
+use Rattle.table_core.specs.declared.event.Event.TheVariants.{Insert, Lookup, Len, Walk, Load}
+use Rattle.table_core.specs.declared.event.Event.TheVariants.{Read, Put, Check}
+use Rattle.table_core.specs.declared.generation.Entry.{Entry}
 use Rattle.table_core.specs.declared.call.CallState.{CallState}
 use Rattle.table_core.specs.declared.call.Phase.{Phase}
 use Rattle.table_core.specs.declared.call.Phase.TheVariants.{AtEmpty, Owned}
@@ -21,9 +26,11 @@ use Rattle.table_core.specs.declared.call.Answer.TheVariants.{MemoryRefused, Fai
 abbrev pub Ends : ℕ → List Event → Event → Finished → Type 0
 Ends f s x r = finishes (after f s) x ≡ Some r
 
--- the values of the inserts that have begun are those handed back, those kept and those of calls that still run
+-- the values of the inserts that have begun are those handed back, those kept and those of calls
+-- that still run
 abbrev pub ValuesStay : ℕ → List Event → Type 0
-ValuesStay f s = SameBag (given (empty f) s) (back (replies (empty f) s) ++ kept (after f s) ++ running (after f s).calls)
+ValuesStay f s = SameBag (given (empty f) s)
+    (back (replies (empty f) s) ++ kept (after f s) ++ running (after f s).calls)
 
 -- the current generation holds what was placed, up to order
 abbrev pub KeptIsPlaced : ℕ → List Event → Type 0
@@ -31,7 +38,8 @@ KeptIsPlaced f s = SameBag (kept (after f s)) (placed (empty f) s)
 
 -- what was placed stays, and more comes only after it
 abbrev pub PlacedGrows : ℕ → List Event → List Event → Type 0
-PlacedGrows f s more = (rest : List ℕ) × (placed (empty f) (s ++ more) ≡ placed (empty f) s ++ rest)
+PlacedGrows f s more =
+    (rest : List ℕ) × (placed (empty f) (s ++ more) ≡ placed (empty f) s ++ rest)
 
 -- Answers
 
@@ -60,7 +68,8 @@ pub record AcceptedEntry (f : ℕ) (s : List Event) (n e : ℕ) : Type 0 where
   pub there : bucket_then f s n at ≡ Some entry
   pub value : entry.value ≡ e
 
--- what a call may be told that begins at this event: an insert what became of its own value, each other call what it asked for
+-- what a call may be told that begins at this event: an insert what became of its own value, each
+-- other call what it asked for
 abbrev pub MayTell : Event → Reply → Type 0
 MayTell (Insert n v h) (ReplyPlaced u) = u ≡ v
 MayTell (Insert n v h) (ReplyFound e u) = u ≡ v
@@ -71,7 +80,8 @@ MayTell (Len n) (ReplyLen k) = Unit {0}
 MayTell (Walk n) (ReplyWalk es) = Unit {0}
 MayTell _ _ = ⊥
 
--- a reply is its call's own: the schedule has one taken event at which that call begins, and by that event it may be told this
+-- a reply is its call's own: the schedule has one taken event at which that call begins, and by
+-- that event it may be told this
 pub record IsOwn (f : ℕ) (s : List Event) (r : Finished) : Type 0 where
   pub start : Event
   pub once : beginnings (empty f) s r.call ≡ start ∷ []
@@ -93,11 +103,13 @@ ToldOnce f s n = weigh (λ r. if r.call == n then 1 else 0) (replies (empty f) s
 abbrev pub ToldAtEnd : ℕ → List Event → ℕ → Type 0
 ToldAtEnd f s n = is_finished (call_numbered n (after f s).calls) ≡ is_some (fate (empty f) s n)
 
--- why a call may be refused at an event, by what it found there: its memory was asked for and refused, or there is no greater capacity
+-- why a call may be refused at an event, by what it found there: its memory was asked for and
+-- refused, or there is no greater capacity
 abbrev pub IsCause : Option Gen → Event → Answer → Type 0
 IsCause g (Put n y granted) MemoryRefused = granted ≡ false
 IsCause None (Check n granted) Failed = granted ≡ false
-IsCause (Some g) (Check n granted) Failed = (g.capacity / 2 ≤ g.size) × ((granted ≡ false) ⊎ (g.capacity ≡ 2 ^ 63))
+IsCause (Some g) (Check n granted) Failed =
+    (g.capacity / 2 ≤ g.size) × ((granted ≡ false) ⊎ (g.capacity ≡ 2 ^ 63))
 IsCause g _ _ = ⊥
 
 -- a put or a check
@@ -114,11 +126,13 @@ pub record IsRefusal (f : ℕ) (s : List Event) (n v : ℕ) : Type 0 where
   pub never : (more : List Event) → count_of v (placed (empty f) (s ++ more)) ≡ 0
 
 abbrev pub RefusalCauses : ℕ → List Event → Event → ℕ → ℕ → Type 0
-RefusalCauses f s x n v = Ends f s x (record { call = n; reply = ReplyRefused v }) → IsRefusal f (s ++ x ∷ []) n v
+RefusalCauses f s x n v =
+    Ends f s x (record { call = n; reply = ReplyRefused v }) → IsRefusal f (s ++ x ∷ []) n v
 
 -- Lengths and walks
 
--- a length lies between the adds taken at its load and what is placed at its end, and is at least the number of inserts told Placed before its load
+-- a length lies between the adds taken at its load and what is placed at its end, and is at least
+-- the number of inserts told Placed before its load
 pub record IsBetween (f : ℕ) (s : List Event) (n k : ℕ) : Type 0 where
   pub at : TakenEvent f s n
   pub loads : at.event ≡ Load n
@@ -127,7 +141,8 @@ pub record IsBetween (f : ℕ) (s : List Event) (n k : ℕ) : Type 0 where
   pub most : k ≤ length (placed (empty f) s)
 
 abbrev pub LengthsBetween : ℕ → List Event → Event → ℕ → ℕ → Type 0
-LengthsBetween f s x n k = Ends f s x (record { call = n; reply = ReplyLen k }) → IsBetween f (s ++ x ∷ []) n k
+LengthsBetween f s x n k =
+    Ends f s x (record { call = n; reply = ReplyLen k }) → IsBetween f (s ++ x ∷ []) n k
 
 -- an insert is counted before it is told Placed: no more are told so than adds were taken
 abbrev pub PlacedAreCounted : ℕ → List Event → Type 0
@@ -142,25 +157,30 @@ pub record IsWholeWalk (f : ℕ) (s : List Event) (n : ℕ) (list : List ℕ) : 
   pub only : (v : ℕ) → count_of v list ≤ count_of v (placed (empty f) s)
 
 abbrev pub WalksWhole : ℕ → List Event → Event → ℕ → List ℕ → Type 0
-WalksWhole f s x n list = Ends f s x (record { call = n; reply = ReplyWalk list }) → IsWholeWalk f (s ++ x ∷ []) n list
+WalksWhole f s x n list =
+    Ends f s x (record { call = n; reply = ReplyWalk list }) → IsWholeWalk f (s ++ x ∷ []) n list
 
 -- Growth
 
--- while a call holds the lock shared, as each does that puts its value, no generation is being built
+-- while a call holds the lock shared, as each does that puts its value, no generation is being
+-- built
 abbrev pub GrowsAlone : ℕ → List Event → ℕ → Call → Type 0
-GrowsAlone f s n c = call_numbered n (after f s).calls ≡ Some c → holds_shared c.state.phase ≡ true → (after f s).table.building ≡ None
+GrowsAlone f s n c = call_numbered n (after f s).calls ≡ Some c →
+    holds_shared c.state.phase ≡ true → (after f s).table.building ≡ None
 
 -- Bounds
 
 -- all generations together have few buckets
 abbrev pub FewBuckets : ℕ → List Event → Type 0
-FewBuckets f s = let n = length (placed (empty f) s) in buckets (after f s).table ≤ max f (8 * n - f)
+FewBuckets f s =
+    let n = length (placed (empty f) s) in buckets (after f s).table ≤ max f (8 * n - f)
 
 -- a look-up that was begun takes at most one read more than there are values placed
 abbrev pub LookupsReadFew : ℕ → List Event → ℕ → ℕ → List Event → Type 0
 LookupsReadFew f s n h more =
     (c : Call) → acts (after f s) (Lookup n h) ≡ Some (Begins c) →
-    reads (empty f) (s ++ Lookup n h ∷ more) n ≤ length (placed (empty f) (s ++ Lookup n h ∷ more)) + 1
+    reads (empty f) (s ++ Lookup n h ∷ more) n ≤ length
+        (placed (empty f) (s ++ Lookup n h ∷ more)) + 1
 
 -- a call loads each generation at most once
 abbrev pub LoadsOnce : ℕ → List Event → ℕ → ℕ → Type 0

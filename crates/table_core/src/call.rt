@@ -1,4 +1,6 @@
 //! Where a call stands, and what its events find.
+ghost use Rattle.std.specs.Prelude.{◌≡◌};
+ghost use Rattle.table_core.specs.Calls.{starting, insert_start, lookup_start, length_start, walk_start};
 
 /// Where a call stands. The phase says which events it can take.
 #[derive(Clone, Copy, Debug, PartialEq, Eq)]
@@ -77,22 +79,71 @@ pub struct CallState {
     pub outcome: Outcome,
 }
 
+impl CallState {
+    /// Where an insert of a value with this hash starts.
+    pub fn insert(hash: u64) -> CallState
+        ensures { result ≡ insert_start hash }
+    {
+        CallState::in_first_phase(Phase::WantShared, hash)
+    }
+
+    /// Where a look-up of this hash starts.
+    pub fn lookup(hash: u64) -> CallState
+        ensures { result ≡ lookup_start hash }
+    {
+        CallState::in_first_phase(Phase::LookLoad, hash)
+    }
+
+    /// Where a length starts.
+    pub fn length() -> CallState
+        ensures { result ≡ length_start }
+    {
+        CallState::in_first_phase(Phase::LenLoad, 0)
+    }
+
+    /// Where a walk over all entries starts.
+    pub fn walk() -> CallState
+        ensures { result ≡ walk_start }
+    {
+        CallState::in_first_phase(Phase::WalkLoad, 0)
+    }
+
+    fn in_first_phase(phase: Phase, hash: u64) -> CallState
+        ensures { result ≡ starting phase hash }
+    {
+        CallState {
+            phase,
+            hash,
+            walked: None,
+            capacity: 0,
+            index: 0,
+            seen: 0,
+            outcome: Outcome::Pending,
+        }
+    }
+}
+
 /// What an event found.
 #[derive(Clone, Copy, Debug, PartialEq, Eq)]
 pub enum Answer {
     /// The lock is held now.
     Taken,
-    /// The lock is released, and whether the walked generation is the current one still, or there
-    /// is none still.
-    Released { still_current: bool },
+    /// The lock is released, other than after a failed growth.
+    Released,
+    /// The lock is released after a failed growth, and whether the walked generation is the current
+    /// one still, or there is none still.
+    ReleasedAfterFailure { still_current: bool },
     /// There is no generation yet.
     NoGeneration,
     /// The number of the current generation, and its capacity.
     Loaded { number: u64, capacity: u64 },
     /// The bucket is empty.
     Empty,
-    /// The bucket is set: whether its bits agree with those of the call's hash, and what the closure said.
-    Holds { agrees: bool, accepted: bool },
+    /// The bucket is set, its bits are those of the call's hash, and this is what the closure said.
+    Holds { accepted: bool },
+    /// The bucket is set, and the closure was not asked: its bits are others than those of the call's
+    /// hash, or the call is a walk.
+    HoldsUnasked,
     /// The bucket was still empty, and holds the call's value now.
     Won,
     /// The memory for the value was refused.

@@ -2,11 +2,11 @@
 ghost use Rattle.std.specs.Prelude.{◌≡◌, ℕ, nat_eq, ◌||◌, ◌≤◌, ◌<◌, ◌+◌, ◌^◌, ◌++◌, ◌∷◌, [], Option, Some, None, false, length, slice_set, vec_len, OnOk, OnErr};
 ghost use Rattle.std.specs.HashSet as set;
 ghost use Rattle.std.specs.List.{slice_get};
-ghost use Rattle.table_core.specs.Calls.{starts, is_used, is_value, is_used_value, is_owned, is_locked, holds_shared, holds_owned, Call as SpecCall};
+ghost use Rattle.table_core.specs.Calls.{new_call, is_used, is_value, is_used_value, is_owned, is_locked, holds_shared, holds_owned, Call as SpecCall};
 ghost use Rattle.table_core.specs.Steps.{IsNewValue};
 ghost use Rattle.table_core.specs.Bound.{position_of, one_if};
 
-use crate::call::{CallState, Outcome, Phase};
+use crate::call::{CallState, Phase};
 use std::alloc::{AllocError, Allocator};
 use std::collections::{HashMap, HashSet};
 use std::hash::{BuildHasherDefault, FoldHasher};
@@ -230,34 +230,25 @@ impl<A: Allocator + Copy> Calls<A> {
         self.sharing > 0 || self.owning > 0
     }
 
-    /// A call more, in its first phase.
+    /// A call more, in its first state.
     pub fn begin(
         &mut self,
         alloc: A,
         number: u64,
         value: Option<u64>,
-        phase: Phase,
-        hash: u64,
+        state: CallState,
     ) -> Result<(), AllocError>
         requires number { is_used number self.old ≡ false }
         requires value { IsNewValue self.old value }
-        requires unlocked { (holds_shared phase ≡ false) × (holds_owned phase ≡ false) }
-        ensures ok { OnOk result (self.new ≡ self.old ++ starts number value phase hash ∷ []) }
+        requires unlocked { (holds_shared state.phase ≡ false) × (holds_owned state.phase ≡ false) }
+        ensures ok { OnOk result (self.new ≡ self.old ++ new_call number value state ∷ []) }
         ensures err { OnErr result (self.new ≡ self.old) }
     {
         let call = Call {
             number,
             value,
             list: Vec::new(alloc),
-            state: CallState {
-                phase,
-                hash,
-                walked: None,
-                capacity: 0,
-                index: 0,
-                seen: 0,
-                outcome: Outcome::Pending,
-            },
+            state,
         };
         self.all.reserve(1)?;
         self.positions.reserve(1)?;

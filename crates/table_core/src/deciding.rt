@@ -1,6 +1,7 @@
 //! Where an answer takes a call: the table of events as code.
-ghost use Rattle.std.specs.Prelude.{◌≡◌, true, Some, None, nat_lt, ◌/◌, if◌then◌else◌};
-ghost use Rattle.table_core.specs.Calls.{decide as after_answer, stands_at_bucket, to, probes, meets, looks, passes, walks, finds_entry, ends, fails};
+ghost use Rattle.std.specs.Prelude.{◌≡◌, true, Some, None, nat_lt, ◌/◌, ◌%◌, ◌+◌, ◌<◌, if◌then◌else◌};
+ghost use Rattle.table_core.specs.Calls.{decide as after_answer, stands_at_bucket, to, probes, passes, finds_entry};
+ghost use Rattle.table_core.specs.Calls.{insert_meets, lookup_meets, walk_passes, growth_ends, growth_fails};
 
 use crate::call::Answer::*;
 use crate::call::Phase::*;
@@ -11,46 +12,54 @@ use crate::call::{Answer, CallState, Outcome, Phase};
 /// Every rule of where an answer takes a call is here, and only here. It takes no memory. An answer
 /// that has no place in the call's phase, or whose numbers can't be (a capacity of 0, a bucket or a
 /// count of buckets beyond the capacity), gives the state back as it was.
+#[inline(always)]
 pub fn decide(state: CallState, answer: Answer) -> CallState
     ensures { result ≡ after_answer state answer }
 {
     match (state.phase, answer) {
         (WantShared, Taken) => in_phase(state, Shared),
-        (Shared, NoGeneration) => leave_without(state),
+        (Shared, NoGeneration) => after_empty_load(state),
         (Shared, Loaded { number, capacity }) => probe(state, Probe, number, capacity),
         (Probe, Empty) => at_bucket(state, AtEmpty),
-        (Probe, Holds { agrees, accepted }) => meet(state, agrees && accepted),
+        (Probe, Holds { accepted }) => after_insert_met(state, accepted),
+        (Probe, HoldsUnasked) => after_insert_met(state, false),
         (AtEmpty, MemoryRefused) => at_bucket(state, LeaveRefused),
         (AtEmpty, Won) => at_bucket(state, Placed),
-        (AtEmpty, Holds { agrees, accepted }) => meet(state, agrees && accepted),
-        (Placed, Counted) => counted(state),
-        (LeaveOk, Released { .. }) => in_phase(state, AskSize),
-        (LeaveGrow, Released { .. }) => in_phase(state, WantOwned),
-        (LeaveRefused, Released { .. }) => in_phase(state, Done),
-        (AskSize, Sized { size }) => ask(state, size),
+        (AtEmpty, Holds { accepted }) => after_insert_met(state, accepted),
+        (AtEmpty, HoldsUnasked) => after_insert_met(state, false),
+        (Placed, Counted) => after_count(state),
+        (LeaveOk, Released) => in_phase(state, AskSize),
+        (LeaveGrow, Released) => in_phase(state, WantOwned),
+        (LeaveRefused, Released) => in_phase(state, Done),
+        (AskSize, Sized { size }) => after_insert_size(state, size),
         (WantOwned, Taken) => in_phase(state, Owned),
         (Owned, Begun) => in_phase(state, Building),
         (Owned, Unwanted) => in_phase(state, LeaveOwned),
         (Owned, Failed) => in_phase(state, LeaveFailed),
         (Building, Copied) => in_phase(state, Building),
         (Building, Shown) => in_phase(state, LeaveOwned),
-        (LeaveOwned, Released { .. }) => end(state),
-        (LeaveFailed, Released { still_current }) => fail(state, still_current),
+        (LeaveOwned, Released) => after_growth(state),
+        (LeaveFailed, ReleasedAfterFailure { still_current }) => {
+            after_failed_growth(state, still_current)
+        }
         (LookLoad, NoGeneration) => in_phase(state, Done),
         (LookLoad, Loaded { number, capacity }) => probe(state, LookProbe, number, capacity),
         (LookProbe, Empty) => at_bucket(state, Done),
-        (LookProbe, Holds { agrees, accepted }) => look(state, agrees && accepted),
+        (LookProbe, Holds { accepted }) => after_lookup_met(state, accepted),
+        (LookProbe, HoldsUnasked) => after_lookup_met(state, false),
         (LenLoad, NoGeneration) => in_phase(state, Done),
-        (LenLoad, Loaded { number, capacity }) => measure(state, number, capacity),
-        (LenSize, Sized { .. }) => measured(state),
+        (LenLoad, Loaded { number, capacity }) => after_length_load(state, number, capacity),
+        (LenSize, Sized { .. }) => after_length_size(state),
         (WalkLoad, NoGeneration) => in_phase(state, Done),
-        (WalkLoad, Loaded { number, capacity }) => walk_from_start(state, number, capacity),
-        (WalkAt, Empty) => walk_on(state),
-        (WalkAt, Holds { .. }) => walk_on(state),
+        (WalkLoad, Loaded { number, capacity }) => after_walk_load(state, number, capacity),
+        (WalkAt, Empty) => after_walk_read(state),
+        (WalkAt, HoldsUnasked) => after_walk_read(state),
         _ => state,
     }
 }
 
+/// Another phase, and nothing else.
+#[inline(always)]
 fn in_phase(state: CallState, phase: Phase) -> CallState
     ensures { result ≡ to phase state }
 {
@@ -58,6 +67,7 @@ fn in_phase(state: CallState, phase: Phase) -> CallState
 }
 
 /// Whether a probe stands at a bucket of its generation.
+#[inline(always)]
 fn stands(state: CallState) -> bool
     ensures { result ≡ stands_at_bucket state }
 {
@@ -65,6 +75,7 @@ fn stands(state: CallState) -> bool
 }
 
 /// Another phase at the same bucket.
+#[inline(always)]
 fn at_bucket(state: CallState, phase: Phase) -> CallState
     ensures { result ≡ (if stands_at_bucket state then to phase state else state) }
 {
@@ -75,8 +86,9 @@ fn at_bucket(state: CallState, phase: Phase) -> CallState
     }
 }
 
-/// A call that found no generation.
-fn leave_without(state: CallState) -> CallState
+/// An insert that found no generation.
+#[inline(always)]
+fn after_empty_load(state: CallState) -> CallState
     ensures { result ≡ record state { phase = Phase.LeaveGrow; walked = None } }
 {
     CallState {
@@ -87,6 +99,7 @@ fn leave_without(state: CallState) -> CallState
 }
 
 /// A probe from the bucket of its hash.
+#[inline(always)]
 fn probe(state: CallState, phase: Phase, number: u64, capacity: u64) -> CallState
     ensures { result ≡ (if nat_lt 0 capacity then probes phase state number capacity else state) }
 {
@@ -103,7 +116,18 @@ fn probe(state: CallState, phase: Phase, number: u64, capacity: u64) -> CallStat
     }
 }
 
+/// The bucket after this one, round the end.
+#[inline(always)]
+fn bucket_after(index: u64, capacity: u64) -> u64
+    requires { index < capacity }
+    ensures { result ≡ (index + 1) % capacity }
+{
+    let next = index + 1;
+    if next < capacity { next } else { 0 }
+}
+
 /// The next bucket, or the phase `turned` once all buckets were seen.
+#[inline(always)]
 fn pass(state: CallState, on: Phase, turned: Phase) -> CallState
     requires { stands_at_bucket state ≡ true }
     ensures { result ≡ passes on turned state }
@@ -112,7 +136,7 @@ fn pass(state: CallState, on: Phase, turned: Phase) -> CallState
     if seen < state.capacity {
         CallState {
             phase: on,
-            index: (state.index + 1) % state.capacity,
+            index: bucket_after(state.index, state.capacity),
             seen,
             ..state
         }
@@ -125,7 +149,9 @@ fn pass(state: CallState, on: Phase, turned: Phase) -> CallState
     }
 }
 
-fn find_here(state: CallState, phase: Phase) -> CallState
+/// The entry in the call's bucket is accepted.
+#[inline(always)]
+fn accept_here(state: CallState, phase: Phase) -> CallState
     ensures { result ≡ finds_entry phase state }
 {
     CallState {
@@ -136,20 +162,22 @@ fn find_here(state: CallState, phase: Phase) -> CallState
 }
 
 /// An insert at a set bucket.
-fn meet(state: CallState, accepted: bool) -> CallState
-    ensures { result ≡ (if stands_at_bucket state then meets state accepted else state) }
+#[inline(always)]
+fn after_insert_met(state: CallState, accepted: bool) -> CallState
+    ensures { result ≡ (if stands_at_bucket state then insert_meets state accepted else state) }
 {
     if !stands(state) {
         state
     } else if accepted {
-        find_here(state, Phase::LeaveOk)
+        accept_here(state, Phase::LeaveOk)
     } else {
         pass(state, Phase::Probe, Phase::LeaveGrow)
     }
 }
 
-/// The value in its bucket is counted.
-fn counted(state: CallState) -> CallState
+/// An insert whose value is counted.
+#[inline(always)]
+fn after_count(state: CallState) -> CallState
     ensures { result ≡ (if stands_at_bucket state then record state { phase = Phase.LeaveOk; outcome = Outcome.New state.index } else state) }
 {
     if !stands(state) {
@@ -162,8 +190,10 @@ fn counted(state: CallState) -> CallState
     }
 }
 
-/// The size of an insert's generation: growth is due where it is at least half of the capacity.
-fn ask(state: CallState, size: u64) -> CallState
+/// An insert that has the size of its generation: growth is due where it is at least half of the
+/// capacity.
+#[inline(always)]
+fn after_insert_size(state: CallState, size: u64) -> CallState
     ensures { result ≡ (if nat_lt 0 state.capacity then (if nat_lt size (state.capacity / 2) then to Phase.Done state else to Phase.WantOwned state) else state) }
 {
     if state.capacity == 0 {
@@ -175,8 +205,9 @@ fn ask(state: CallState, size: u64) -> CallState
     }
 }
 
-/// The size that a length asked for.
-fn measured(state: CallState) -> CallState
+/// A length that has its size.
+#[inline(always)]
+fn after_length_size(state: CallState) -> CallState
     ensures { result ≡ (if nat_lt 0 state.capacity then to Phase.Done state else state) }
 {
     if state.capacity == 0 {
@@ -186,20 +217,22 @@ fn measured(state: CallState) -> CallState
 }
 
 /// A look-up at a set bucket.
-fn look(state: CallState, accepted: bool) -> CallState
-    ensures { result ≡ (if stands_at_bucket state then looks state accepted else state) }
+#[inline(always)]
+fn after_lookup_met(state: CallState, accepted: bool) -> CallState
+    ensures { result ≡ (if stands_at_bucket state then lookup_meets state accepted else state) }
 {
     if !stands(state) {
         state
     } else if accepted {
-        find_here(state, Phase::Done)
+        accept_here(state, Phase::Done)
     } else {
         pass(state, Phase::LookProbe, Phase::Done)
     }
 }
 
 /// A length that has its generation.
-fn measure(state: CallState, number: u64, capacity: u64) -> CallState
+#[inline(always)]
+fn after_length_load(state: CallState, number: u64, capacity: u64) -> CallState
     ensures { result ≡ (if nat_lt 0 capacity then record state { phase = Phase.LenSize; walked = Some number; capacity = capacity } else state) }
 {
     if capacity == 0 {
@@ -214,7 +247,8 @@ fn measure(state: CallState, number: u64, capacity: u64) -> CallState
 }
 
 /// A walk that has its generation.
-fn walk_from_start(state: CallState, number: u64, capacity: u64) -> CallState
+#[inline(always)]
+fn after_walk_load(state: CallState, number: u64, capacity: u64) -> CallState
     ensures { result ≡ (if nat_lt 0 capacity then record state { phase = Phase.WalkAt; walked = Some number; capacity = capacity; index = 0 } else state) }
 {
     if capacity == 0 {
@@ -229,9 +263,10 @@ fn walk_from_start(state: CallState, number: u64, capacity: u64) -> CallState
     }
 }
 
-/// One bucket further, or the end of the walk.
-fn walk_on(state: CallState) -> CallState
-    ensures { result ≡ (if nat_lt state.index state.capacity then walks state else state) }
+/// A walk that has read a bucket: one bucket further, or its end.
+#[inline(always)]
+fn after_walk_read(state: CallState) -> CallState
+    ensures { result ≡ (if nat_lt state.index state.capacity then walk_passes state else state) }
 {
     if state.index >= state.capacity {
         return state;
@@ -249,9 +284,10 @@ fn walk_on(state: CallState) -> CallState
     }
 }
 
-/// Growth is over.
-fn end(state: CallState) -> CallState
-    ensures { result ≡ ends state }
+/// An insert whose growth is over: without an outcome it starts over.
+#[inline(always)]
+fn after_growth(state: CallState) -> CallState
+    ensures { result ≡ growth_ends state }
 {
     match state.outcome {
         Outcome::Pending => in_phase(state, Phase::WantShared),
@@ -259,10 +295,11 @@ fn end(state: CallState) -> CallState
     }
 }
 
-/// Growth has failed: a call without an outcome looks again where another generation is current by
-/// now.
-fn fail(state: CallState, still_current: bool) -> CallState
-    ensures { result ≡ fails state still_current }
+/// An insert whose growth has failed: without an outcome it looks again where another generation is
+/// current by now.
+#[inline(always)]
+fn after_failed_growth(state: CallState, still_current: bool) -> CallState
+    ensures { result ≡ growth_fails state still_current }
 {
     match (state.outcome, still_current) {
         (Outcome::Pending, false) => in_phase(state, Phase::WantShared),

@@ -104,11 +104,3 @@ impl Event {
         }
     }
 }
-
-/// What a set bucket holds: its index, a value, and eight bits of the hash of its insert.
-#[derive(Clone, Copy, Debug, PartialEq, Eq)]
-pub struct Entry {
-    pub index: u64,
-    pub value: u64,
-    pub bits: u8,
-}

@@ -6,10 +6,17 @@ ghost use Rattle.terms.specs.Probes.{bucket_at};
 ghost use Rattle.table_core.specs.Generations.{bucket, fresh, fill, count, copy_in, first_empty};
 ghost use Rattle.table_core.specs.Bound.{entry_of, AllSet};
 
-use crate::event::Entry;
 use std::alloc::{AllocError, Allocator};
 use std::collections::BTreeMap;
 use std::marker::Model;
+
+/// What a set bucket holds: its index, a value, and eight bits of the hash of its insert.
+#[derive(Clone, Copy)]
+pub struct Entry {
+    pub index: u64,
+    pub value: u64,
+    pub bits: u8,
+}
 
 /// What a set bucket holds, beside its index.
 #[derive(Clone, Copy)]

@@ -17,6 +17,6 @@ pub mod theorems;
 
 pub use call::{Answer, CallState, Outcome, Phase};
 pub use deciding::decide;
-pub use event::{Entry, Event};
+pub use event::Event;
 pub use reply::{Finished, Reply};
 pub use state::{NoMemory, State, run, run_with};

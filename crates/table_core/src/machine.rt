@@ -2,19 +2,22 @@
 ghost use Rattle.std.specs.Prelude.{◌≡◌, ◌≢◌, ◌<◌, true, false, if◌then◌else◌, Option, Some, None, length, slice_set, OnOk, OnErr, IfOk, IfSome};
 ghost use Rattle.std.specs.Option.{option_map};
 ghost use Rattle.std.specs.List.{slice_get};
-ghost use Rattle.table_core.specs.Replies.{reply_of};
+ghost use Rattle.table_core.specs.Replies.{ReplyWalk, reply_of};
 ghost use Rattle.terms.specs.Capacities.{IsFirstCapacity};
 ghost use Rattle.table_core.specs.Generations.{next_copied};
 ghost use Rattle.table_core.specs.History.{buckets};
-ghost use Rattle.table_core.specs.Calls.{Call as SpecCall, decide as after_answer, starts, fits, holds_shared, holds_owned};
-ghost use Rattle.table_core.specs.Machine.{empty, happens, finishes, finds, takes_unless, holds, read, exchanged, sized, copies, shows, frees, walked_gen, with_entry, call_after, bucket_of as bucket_stood_at, refused, by_outcome, by_failure, reply, place, changed};
+ghost use Rattle.table_core.specs.Calls.{Call as SpecCall, decide as after_answer, new_call, fits, holds_shared, holds_owned};
+ghost use Rattle.table_core.specs.Machine.{empty, happens, finishes, finds, takes_unless, holds, read, read_unasked, exchanged, sized, finds_copy, finds_show, released_after_failure};
+ghost use Rattle.table_core.specs.Machine.{walked_gen, walked_entry, with_entry, kept_list, call_after, bucket_of as bucket_stood_at, place, changed};
+ghost use Rattle.table_core.specs.Machine.{refused, by_outcome, by_failure, lookup_reply, last_reply, reply_at_end, reply};
 ghost use Rattle.table_core.specs.Openings.{opening};
-ghost use Rattle.table_core.specs.Reached.{IsReached, CanChange, reply_placed, reply_found, may_not_begin, begun, moved, reply_to, walked_entry, list_left, list_reply, look_ended, reply_ended};
+ghost use Rattle.table_core.specs.Reached.{IsReached, CanChange, reply_placed, reply_found, may_not_begin, with_call_unless, moved, reply_to};
 
 use crate::call::{Answer, CallState, Outcome, Phase};
 use crate::calls::{Call, Calls};
 use crate::deciding::decide;
-use crate::event::{Entry, Event};
+use crate::event::Event;
+use crate::generation::Entry;
 use crate::reply::{Finished, Reply};
 use crate::table::Table;
 use std::alloc::{AllocError, Allocator};
@@ -41,9 +44,10 @@ impl<A: Allocator + Copy> Model for Machine<A> {
 fn show_entry(entry: Entry, hash: u64, accepted: bool) -> Answer
     ensures { result ≡ holds entry hash accepted }
 {
-    Answer::Holds {
-        agrees: entry.bits == bits_of_hash(hash),
-        accepted,
+    if entry.bits == bits_of_hash(hash) {
+        Answer::Holds { accepted }
+    } else {
+        Answer::HoldsUnasked
     }
 }
 
@@ -54,6 +58,16 @@ fn read_bucket(bucket: Option<Entry>, hash: u64, accepted: bool) -> Answer
     match bucket {
         None => Answer::Empty,
         Some(entry) => show_entry(entry, hash, accepted),
+    }
+}
+
+/// What a walk's read of a bucket finds.
+fn read_bucket_unasked(bucket: Option<Entry>) -> Answer
+    ensures { result ≡ read_unasked bucket }
+{
+    match bucket {
+        None => Answer::Empty,
+        Some(_) => Answer::HoldsUnasked,
     }
 }
 
@@ -120,7 +134,7 @@ fn tell_outcome<A: Allocator + Copy>(table: &Table<A>, call: &Call<A>) -> Option
 /// What a call is told that ends after its growth has failed: without an outcome it gives its value
 /// back.
 fn tell_failure<A: Allocator + Copy>(table: &Table<A>, call: &Call<A>) -> Option<Reply<A>>
-    ensures { option_map reply_of result ≡ by_failure table.now call.now true }
+    ensures { option_map reply_of result ≡ by_failure table.now call.now }
 {
     match call.state().outcome {
         Outcome::Pending => tell_refused(call.value()),
@@ -129,12 +143,12 @@ fn tell_failure<A: Allocator + Copy>(table: &Table<A>, call: &Call<A>) -> Option
 }
 
 /// What a look-up is told that ends at a set bucket.
-fn tell_look<A: Allocator + Copy>(
+fn tell_lookup<A: Allocator + Copy>(
     table: &Table<A>,
     state: CallState,
     accepted: bool,
 ) -> Option<Reply<A>>
-    ensures { option_map reply_of result ≡ look_ended table.now state accepted }
+    ensures { option_map reply_of result ≡ lookup_reply table.now state accepted }
 {
     if !accepted {
         return Some(Reply::None);
@@ -152,7 +166,8 @@ fn tell_ended<A: Allocator + Copy>(
     call: &Call<A>,
     answer: Answer,
 ) -> Option<Reply<A>>
-    ensures { option_map reply_of result ≡ reply_ended call.now.state.phase table.now call.now answer }
+    requires { call.now.state.phase ≢ Phase.WalkAt }
+    ensures { option_map reply_of result ≡ last_reply call.now.state.phase table.now call.now answer }
 {
     match (call.state().phase, answer) {
         (Phase::LeaveRefused, _) => tell_refused(call.value()),
@@ -160,11 +175,9 @@ fn tell_ended<A: Allocator + Copy>(
         (Phase::LeaveOwned, _) => tell_outcome(table, call),
         (Phase::LeaveFailed, _) => tell_failure(table, call),
         (Phase::LookLoad, _) => Some(Reply::None),
-        (Phase::LookProbe, Answer::Holds { agrees, accepted }) => tell_look(
-            table,
-            call.state(),
-            agrees && accepted,
-        ),
+        (Phase::LookProbe, Answer::Holds { accepted }) => {
+            tell_lookup(table, call.state(), accepted)
+        }
         (Phase::LookProbe, _) => Some(Reply::None),
         (Phase::LenLoad, _) => Some(Reply::Len(0)),
         (Phase::LenSize, Answer::Sized { size }) => Some(Reply::Len(size)),
@@ -281,22 +294,22 @@ impl<A: Allocator + Copy> Machine<A> {
                 },
             ) => Some(self.put(state, accepted, granted)),
             (Phase::Placed, Event::Add { .. }) => Some(Answer::Counted),
-            (Phase::LeaveOk, Event::Free { .. }) => Some(self.free(state)),
-            (Phase::LeaveGrow, Event::Free { .. }) => Some(self.free(state)),
-            (Phase::LeaveRefused, Event::Free { .. }) => Some(self.free(state)),
+            (Phase::LeaveOk, Event::Free { .. }) => Some(Answer::Released),
+            (Phase::LeaveGrow, Event::Free { .. }) => Some(Answer::Released),
+            (Phase::LeaveRefused, Event::Free { .. }) => Some(Answer::Released),
             (Phase::AskSize, Event::Size { .. }) => self.size(state),
             (Phase::WantOwned, Event::Own { .. }) => take_unless(self.calls.is_locked()),
             (Phase::Owned, Event::Check { granted, .. }) => Some(self.table.check(granted)),
             (Phase::Building, Event::Copy { .. }) => self.copy(),
             (Phase::Building, Event::Show { .. }) => self.show(),
-            (Phase::LeaveOwned, Event::Free { .. }) => Some(self.free(state)),
-            (Phase::LeaveFailed, Event::Free { .. }) => Some(self.free(state)),
+            (Phase::LeaveOwned, Event::Free { .. }) => Some(Answer::Released),
+            (Phase::LeaveFailed, Event::Free { .. }) => Some(self.free_after_failure(state)),
             (Phase::LookLoad, Event::Load { .. }) => Some(self.table.load()),
             (Phase::LookProbe, Event::Read { accepted, .. }) => Some(self.read(state, accepted)),
             (Phase::LenLoad, Event::Load { .. }) => Some(self.table.load()),
             (Phase::LenSize, Event::Size { .. }) => self.size(state),
             (Phase::WalkLoad, Event::Load { .. }) => Some(self.table.load()),
-            (Phase::WalkAt, Event::Read { accepted, .. }) => Some(self.read(state, accepted)),
+            (Phase::WalkAt, Event::Read { .. }) => Some(self.read_unasked(state)),
             _ => None,
         }
     }
@@ -306,6 +319,13 @@ impl<A: Allocator + Copy> Machine<A> {
         ensures { result ≡ read (bucket_stood_at self.now.table state) state.hash accepted }
     {
         read_bucket(bucket_of(&self.table, state), state.hash, accepted)
+    }
+
+    /// What a walk's read finds there.
+    fn read_unasked(&self, state: CallState) -> Answer
+        ensures { result ≡ read_unasked (bucket_stood_at self.now.table state) }
+    {
+        read_bucket_unasked(bucket_of(&self.table, state))
     }
 
     /// What an exchange finds there.
@@ -319,11 +339,11 @@ impl<A: Allocator + Copy> Machine<A> {
         }
     }
 
-    /// What a release of the lock finds.
-    fn free(&self, state: CallState) -> Answer
-        ensures { Some result ≡ frees self.now state }
+    /// What a release of the lock finds after a failed growth.
+    fn free_after_failure(&self, state: CallState) -> Answer
+        ensures { result ≡ released_after_failure self.now.table state }
     {
-        Answer::Released {
+        Answer::ReleasedAfterFailure {
             still_current: self.table.is_current(state.walked),
         }
     }
@@ -338,7 +358,7 @@ impl<A: Allocator + Copy> Machine<A> {
 
     /// Whether an entry is left to copy.
     fn copy(&self) -> Option<Answer>
-        ensures { result ≡ copies (next_copied self.now.table) }
+        ensures { result ≡ finds_copy (next_copied self.now.table) }
     {
         let _next = self.table.next()?;
         Some(Answer::Copied)
@@ -346,7 +366,7 @@ impl<A: Allocator + Copy> Machine<A> {
 
     /// Whether all entries are copied.
     fn show(&self) -> Option<Answer>
-        ensures { result ≡ shows (next_copied self.now.table) }
+        ensures { result ≡ finds_show (next_copied self.now.table) }
     {
         match self.table.next() {
             Some(_) => None,
@@ -364,7 +384,7 @@ fn entry_shown<A: Allocator + Copy>(
     ensures { result ≡ walked_entry table.now state answer }
 {
     match answer {
-        Answer::Holds { .. } => bucket_of(table, state),
+        Answer::HoldsUnasked => bucket_of(table, state),
         _ => None,
     }
 }
@@ -393,8 +413,8 @@ fn end_walk<A: Allocator + Copy>(
     next: CallState,
 ) -> Option<Reply<A>>
     requires { at < length calls.old }
-    ensures left { (c : SpecCall) → slice_get calls.old at ≡ Some c → calls.new ≡ slice_set calls.old at (record c { list = list_left next.phase c.list; state = next }) }
-    ensures reply { (c : SpecCall) → slice_get calls.old at ≡ Some c → option_map reply_of result ≡ list_reply next.phase c.list }
+    ensures left { (c : SpecCall) → slice_get calls.old at ≡ Some c → calls.new ≡ slice_set calls.old at (record c { list = kept_list next.phase c.list; state = next }) }
+    ensures reply { (c : SpecCall) → slice_get calls.old at ≡ Some c → option_map reply_of result ≡ reply_at_end next.phase (Some (ReplyWalk c.list)) }
 {
     calls.set_state(at, next);
     match next.phase {
@@ -450,20 +470,15 @@ impl<A: Allocator + Copy> Machine<A> {
 
     /// A call begins, unless its number or its value is used.
     fn begin(&mut self, number: u64, opening: Opening) -> Result<(), AllocError>
-        requires { (holds_shared opening.phase ≡ false) × (holds_owned opening.phase ≡ false) }
-        ensures ok { OnOk result (self.new ≡ begun self.old (may_not_begin number opening.value self.old.calls) (starts number opening.value opening.phase opening.hash)) }
+        requires { (holds_shared opening.state.phase ≡ false) × (holds_owned opening.state.phase ≡ false) }
+        ensures ok { OnOk result (self.new ≡ with_call_unless self.old (may_not_begin number opening.value self.old.calls) (new_call number opening.value opening.state)) }
         ensures err { OnErr result (self.new ≡ self.old) }
     {
         if self.may_not_begin(number, opening.value) {
             return Ok(());
         }
-        self.calls.begin(
-            self.alloc,
-            number,
-            opening.value,
-            opening.phase,
-            opening.hash,
-        )
+        self.calls
+            .begin(self.alloc, number, opening.value, opening.state)
     }
 
     /// Whether a call of this number, with this value, can't begin: one of them was used.
@@ -515,21 +530,20 @@ impl<A: Allocator + Copy> Machine<A> {
 #[derive(Clone, Copy)]
 struct Opening {
     value: Option<u64>,
-    phase: Phase,
-    hash: u64,
+    state: CallState,
 }
 
 /// How the call of an event begins, if the event begins one.
 fn opening_of(event: Event) -> Option<Opening>
     ensures opening { result ≡ opening event }
-    ensures unlocked { IfSome result (λ o. (holds_shared o.phase ≡ false) × (holds_owned o.phase ≡ false)) }
+    ensures unlocked { IfSome result (λ o. (holds_shared o.state.phase ≡ false) × (holds_owned o.state.phase ≡ false)) }
 {
-    let (value, phase, hash) = match event {
-        Event::Insert { value, hash, .. } => (Some(value), Phase::WantShared, hash),
-        Event::Lookup { hash, .. } => (None, Phase::LookLoad, hash),
-        Event::Len { .. } => (None, Phase::LenLoad, 0),
-        Event::Walk { .. } => (None, Phase::WalkLoad, 0),
+    let (value, state) = match event {
+        Event::Insert { value, hash, .. } => (Some(value), CallState::insert(hash)),
+        Event::Lookup { hash, .. } => (None, CallState::lookup(hash)),
+        Event::Len { .. } => (None, CallState::length()),
+        Event::Walk { .. } => (None, CallState::walk()),
         _ => return None,
     };
-    Some(Opening { value, phase, hash })
+    Some(Opening { value, state })
 }

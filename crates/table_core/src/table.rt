@@ -8,8 +8,7 @@ ghost use Rattle.table_core.specs.Machine.{loads, checked, begin_growth, copy_ne
 ghost use Rattle.table_core.specs.History.{buckets};
 
 use crate::call::Answer;
-use crate::event::Entry;
-use crate::generation::Generation;
+use crate::generation::{Entry, Generation};
 use std::alloc::{AllocError, Allocator};
 use std::marker::Model;
 

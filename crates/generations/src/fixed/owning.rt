@@ -46,7 +46,7 @@ impl<T: AtomicValue, A: Allocator + Copy> Iterator for OwnValues<T, A> {
 impl<T: AtomicValue, A: Allocator + Copy> Generation<T, A> {
     /// Takes the generation apart. It takes no memory.
     pub fn into_own_values(self) -> OwnValues<T, A>
-        ensures { result ≡ owned_values self.parts }
+        ensures { result ≡ owned_values self.contents }
     {
         OwnValues {
             cells: self.cells.into_iter(),

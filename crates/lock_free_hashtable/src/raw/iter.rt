@@ -24,15 +24,15 @@ pub struct HeldIter<'a, T: AtomicValue, A: Allocator + Copy = Global> {
 impl<'a, T: AtomicValue, A: Allocator + Copy> Model for HeldIter<'a, T, A> {
     ghost use Rattle.std.specs.Prelude.{◌≡◌, List, length};
     ghost use Rattle.generations.specs.Buckets.{AllSound};
-    ghost use Rattle.generations.specs.Generations.{parts_of};
+    ghost use Rattle.generations.specs.Generations.{contents_of};
     ghost use Rattle.lock_free_hashtable.specs.Walks.{shown_from};
 
     ghost Value = { List T };
 
-    ghost view = { λ it. shown_from (parts_of it.earlier.now) it.current.now.parts it.index };
+    ghost view = { λ it. shown_from (contents_of it.earlier.now) it.current.now.contents it.index };
 
-    ghost invariant = { λ it. AllSound (parts_of it.earlier.now) it.current.now.parts
-        × (it.left ≡ length (shown_from (parts_of it.earlier.now) it.current.now.parts it.index)) };
+    ghost invariant = { λ it. AllSound (contents_of it.earlier.now) it.current.now.contents
+        × (it.left ≡ length (shown_from (contents_of it.earlier.now) it.current.now.contents it.index)) };
 }
 
 impl<'a, V: 'a, T: AtomicValue<Target = V>, A: Allocator + Copy> Iterator for HeldIter<'a, T, A> {

@@ -5,29 +5,28 @@ use crate::deciding::decide;
 use std::process::Abort;
 use std::test::Fail;
 
-const HOLDS: Answer = Answer::Holds {
-    agrees: true,
-    accepted: true,
-};
+const HOLDS: Answer = Answer::Holds { accepted: true };
 
 const LOADED: Answer = Answer::Loaded {
     number: 1,
     capacity: 32,
 };
 
-const RELEASED: Answer = Answer::Released {
+const AFTER_FAILURE: Answer = Answer::ReleasedAfterFailure {
     still_current: true,
 };
 
 const SIZED: Answer = Answer::Sized { size: 8 };
 
-const ANSWERS: [Answer; 15] = [
+const ANSWERS: [Answer; 17] = [
     Answer::Taken,
-    RELEASED,
+    Answer::Released,
+    AFTER_FAILURE,
     Answer::NoGeneration,
     LOADED,
     Answer::Empty,
     HOLDS,
+    Answer::HoldsUnasked,
     Answer::Won,
     Answer::MemoryRefused,
     Answer::Counted,
@@ -68,16 +67,25 @@ fn check_phase(rt: &impl Abort, phase: Phase, answers: &[Answer]) {
 fn answers_that_do_not_fit_change_nothing(rt: HostRuntime) -> Result<(), Fail> {
     check_phase(&rt, Phase::WantShared, &[Answer::Taken]);
     check_phase(&rt, Phase::Shared, &[Answer::NoGeneration, LOADED]);
-    check_phase(&rt, Phase::Probe, &[Answer::Empty, HOLDS]);
+    check_phase(
+        &rt,
+        Phase::Probe,
+        &[Answer::Empty, HOLDS, Answer::HoldsUnasked],
+    );
     check_phase(
         &rt,
         Phase::AtEmpty,
-        &[Answer::MemoryRefused, Answer::Won, HOLDS],
+        &[
+            Answer::MemoryRefused,
+            Answer::Won,
+            HOLDS,
+            Answer::HoldsUnasked,
+        ],
     );
     check_phase(&rt, Phase::Placed, &[Answer::Counted]);
-    check_phase(&rt, Phase::LeaveOk, &[RELEASED]);
-    check_phase(&rt, Phase::LeaveGrow, &[RELEASED]);
-    check_phase(&rt, Phase::LeaveRefused, &[RELEASED]);
+    check_phase(&rt, Phase::LeaveOk, &[Answer::Released]);
+    check_phase(&rt, Phase::LeaveGrow, &[Answer::Released]);
+    check_phase(&rt, Phase::LeaveRefused, &[Answer::Released]);
     check_phase(&rt, Phase::AskSize, &[SIZED]);
     check_phase(&rt, Phase::WantOwned, &[Answer::Taken]);
     check_phase(
@@ -86,14 +94,18 @@ fn answers_that_do_not_fit_change_nothing(rt: HostRuntime) -> Result<(), Fail> {
         &[Answer::Begun, Answer::Unwanted, Answer::Failed],
     );
     check_phase(&rt, Phase::Building, &[Answer::Copied, Answer::Shown]);
-    check_phase(&rt, Phase::LeaveOwned, &[RELEASED]);
-    check_phase(&rt, Phase::LeaveFailed, &[RELEASED]);
+    check_phase(&rt, Phase::LeaveOwned, &[Answer::Released]);
+    check_phase(&rt, Phase::LeaveFailed, &[AFTER_FAILURE]);
     check_phase(&rt, Phase::LookLoad, &[Answer::NoGeneration, LOADED]);
-    check_phase(&rt, Phase::LookProbe, &[Answer::Empty, HOLDS]);
+    check_phase(
+        &rt,
+        Phase::LookProbe,
+        &[Answer::Empty, HOLDS, Answer::HoldsUnasked],
+    );
     check_phase(&rt, Phase::LenLoad, &[Answer::NoGeneration, LOADED]);
     check_phase(&rt, Phase::LenSize, &[SIZED]);
     check_phase(&rt, Phase::WalkLoad, &[Answer::NoGeneration, LOADED]);
-    check_phase(&rt, Phase::WalkAt, &[Answer::Empty, HOLDS]);
+    check_phase(&rt, Phase::WalkAt, &[Answer::Empty, Answer::HoldsUnasked]);
     check_phase(&rt, Phase::Done, &[]);
     Ok(())
 }
@@ -139,7 +151,7 @@ fn numbers_that_can_not_be_change_nothing(rt: HostRuntime) -> Result<(), Fail> {
         (Phase::AskSize, SIZED),
         (Phase::LenSize, SIZED),
         (Phase::WalkAt, Answer::Empty),
-        (Phase::WalkAt, HOLDS),
+        (Phase::WalkAt, Answer::HoldsUnasked),
     ] {
         let odd = CallState {
             capacity: 0,

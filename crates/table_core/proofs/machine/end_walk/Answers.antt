@@ -3,7 +3,7 @@ use Rattle.std.specs.Prelude.{slice_set}
 use Rattle.std.specs.List.{slice_get}
 use Rattle.table_core.specs.Calls.{Call}
 use Rattle.table_core.specs.Replies.{ReplyWalk}
-use Rattle.table_core.specs.Reached.{list_left, list_reply}
+use Rattle.table_core.specs.Machine.{kept_list, reply_at_end}
 use Rattle.table_core.proofs.Lists.{get-set_same}
 use Rattle.table_core.proofs.CodeCalls.{call_within}
 use Rattle.table_core.proofs.CodeSteps.{set_set, still_within}
@@ -20,10 +20,10 @@ returns-in-Done-clause-left g c = λ d h.
     let x : Call = record d { state = c.args.next } in
     let u : slice_get c.set_state.new.self c.args.at ≡ Some x = rw e (get-set_same c.args.calls.now c.args.at d x h) in
     c.take_list.ensures.left x u ∙ ap (λ z. slice_set z c.args.at (record x { list = [] })) e ∙ set_set c.args.calls.now c.args.at x _
-    ∙ ap (λ list. slice_set c.args.calls.now c.args.at (record x { list = list })) (ap (λ p. list_left p d.list) (sym c.in-Done.is))
+    ∙ ap (λ list. slice_set c.args.calls.now c.args.at (record x { list = list })) (ap (λ p. kept_list p d.list) (sym c.in-Done.is))
 
 pub returns-in-Done-clause-reply : goal.returns-in-Done-clause-reply
 returns-in-Done-clause-reply g c = λ d h.
     let x : Call = record d { state = c.args.next } in
     let u : slice_get c.set_state.new.self c.args.at ≡ Some x = rw (c.set_state.ensures d h) (get-set_same c.args.calls.now c.args.at d x h) in
-    ap (λ list. Some (ReplyWalk list)) (c.take_list.ensures.list x u) ∙ ap (λ p. list_reply p d.list) (sym c.in-Done.is)
+    ap (λ list. Some (ReplyWalk list)) (c.take_list.ensures.list x u) ∙ ap (λ p. reply_at_end p (Some (ReplyWalk d.list))) (sym c.in-Done.is)

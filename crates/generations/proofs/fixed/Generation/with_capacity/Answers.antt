@@ -1,5 +1,5 @@
 use Rattle.std.proofs.Common.{◌≡◌, arith}
-use Rattle.generations.proofs.Parts.{generation-replicate}
+use Rattle.generations.proofs.Contents.{generation-replicate}
 use Rattle.generations.proofs.fixed.Generation.with_capacity.Goals as goal
 
 pub invariant_of-result : goal.invariant_of-result

@@ -4,16 +4,16 @@ use Rattle.lock_free_hashtable.proofs.raw.HeldRawTable.buckets_alone.Goals as go
 
 pub overflow_add-result : goal.overflow_add-result
 overflow_add-result g c =
-    let some : 0 < length c.self.inside.current.parts = omega arith in
-    let small : length c.self.inside.current.parts < 2 ^ 64 = omega arith in
+    let some : 0 < length c.self.inside.current.contents = omega arith in
+    let small : length c.self.inside.current.contents < 2 ^ 64 = omega arith in
     record { fits = rw c.capacity-capacity.ensures (buckets_fit _ _ _ _ c.self.invariant some small) }
 
-pub returns-clause-few : goal.returns-clause-few
-returns-clause-few g c =
-    let some : 0 < length c.self.inside.current.parts = omega arith in
+pub returns-clause-linear_in_entries : goal.returns-clause-linear_in_entries
+returns-clause-linear_in_entries g c =
+    let some : 0 < length c.self.inside.current.contents = omega arith in
     rw (c.capacity-capacity.ensures, buckets_are _ _ _ _ c.self.invariant some, ← c.self.view_is) (buckets_few _ _ _ _ c.self.invariant some)
 
-pub returns-clause-sum : goal.returns-clause-sum
-returns-clause-sum g c some_buckets =
-    let some : 0 < length c.self.inside.current.parts = omega arith in
+pub returns-clause-twice_the_capacity : goal.returns-clause-twice_the_capacity
+returns-clause-twice_the_capacity g c some_buckets =
+    let some : 0 < length c.self.inside.current.contents = omega arith in
     rw (c.capacity-capacity.ensures, ← c.self.view_is) (buckets_sum _ _ _ _ c.self.invariant some)

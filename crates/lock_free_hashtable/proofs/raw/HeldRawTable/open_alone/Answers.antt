@@ -3,7 +3,7 @@ use Rattle.lock_free_hashtable.proofs.Kept.{kept_open, table_open}
 use Rattle.lock_free_hashtable.proofs.raw.HeldRawTable.open_alone.Goals as goal
 
 pub invariant_of-self : goal.invariant_of-self
-invariant_of-self g c = kept_open c.self.inside.first _ _ c.self.inside.current.size c.self.invariant (search rules) c.in_ok-self-inside.field-0 (search rules)
+invariant_of-self g c = kept_open c.self.inside.first_capacity _ _ c.self.inside.current.size c.self.invariant (search rules) c.in_ok-self-inside.field-0 (search rules)
 
 pub returns-in_ok-self-inside-clause-opened : goal.returns-in_ok-self-inside-clause-opened
-returns-in_ok-self-inside-clause-opened g c = rw (← c.self.view_is) (table_open c.self.inside.first _ _ c.self.inside.current.size c.self.invariant (search rules) c.in_ok-self-inside.field-0 (search rules))
+returns-in_ok-self-inside-clause-opened g c = rw (← c.self.view_is) (table_open c.self.inside.first_capacity _ _ c.self.inside.current.size c.self.invariant (search rules) c.in_ok-self-inside.field-0 (search rules))

@@ -1,0 +1,199 @@
+//! A bucket that is set at most once.
+ghost use Rattle.std.specs.Prelude.{◌≡◌, IfOk, IfErr, IfSome, Some, OnOk, option_copied, option_map};
+ghost use Rattle.cell.specs.Contents.{vacant, own, named, bucket, shown, owned, entry_from, naming, Lies, Reads, HandsBack, Misses};
+
+use crate::home::{Closed, Home, Homed};
+use crate::loose_block::LooseBlock;
+use crate::low::Low;
+use crate::name::Name;
+use crate::word::Word;
+use std::alloc::{Allocator, Global};
+use std::marker::Model;
+use std::mem::size_of;
+
+/// What the block of a bucket holds: a value, and the eight bits of the hash that was given with it.
+#[derive(Drop)]
+pub struct Entry<T> {
+    pub value: T,
+    pub bits: u8,
+}
+
+/// An entry fits every home: it names no block.
+impl<T> Homed for Entry<T> {
+    ghost fits = { λ _ _. Unit {0} };
+}
+
+/// What stands beside the word of a bucket, so that a probe that skips follows nothing.
+#[derive(Clone, Copy)]
+pub enum Mark {
+    /// The word is null, or was set through `&`.
+    Vacant,
+    /// The word owns the block of an entry with these bits.
+    Own(u8),
+    /// The word names the block of an entry with these bits.
+    Named(u8),
+}
+
+/// A value that a bucket held alone did not take.
+pub enum Refusal<T> {
+    /// The bucket was set before.
+    Taken(T),
+    /// The block was refused. The bucket is as it was.
+    NoMemory(T),
+}
+
+/// A value that a shared bucket did not take.
+pub enum Missed<'a, T> {
+    /// The bucket was set before, to this entry.
+    Taken(T, &'a Entry<T>),
+    /// The block was refused. The bucket was not touched.
+    NoMemory(T),
+}
+
+/// A bucket of one home and one allocator: vacant, with an entry of its own, or with the name of an entry that another
+/// bucket owns. A vacant one is set through `&mut`, or once through `&`.
+///
+/// A bucket that is dropped frees no block: `take` ends it.
+#[derive(Drop)]
+pub struct Bucket<T: Drop, A: Allocator + Copy> {
+    mark: Mark,
+    word: Word<Entry<T>, A>,
+}
+
+const _: () = prove!(size_of::<Home>() == 0);
+const _: () = prove!(size_of::<Word<Entry<u64>, Global>>() == 8);
+const _: () = prove!(size_of::<Mark>() == 2);
+const _: () = prove!(size_of::<Bucket<u64, Global>>() == 16);
+
+impl<T: Drop, A: Allocator + Copy> Model for Bucket<T, A> {
+    ghost use Rattle.cell.specs.Contents.{BucketView, bucket_of, IsMarked};
+
+    ghost Value = { BucketView A T };
+
+    ghost view = { λ b. bucket_of b.mark b.word };
+
+    ghost invariant = { λ b. IsMarked b.mark b.word };
+}
+
+impl<T: Drop, A: Allocator + Copy> Bucket<T, A> {
+    /// A vacant bucket. It takes no memory.
+    pub fn new(alloc: &A, home: &Home) -> Self
+        ensures { result ≡ bucket alloc.now home.now.id vacant }
+    {
+        Bucket {
+            mark: Mark::Vacant,
+            word: Word::new(alloc, home),
+        }
+    }
+
+    /// The eight bits of the entry that the bucket holds alone. Nothing is followed.
+    pub fn mark(&self) -> Mark
+        ensures { Reads self.now.content result }
+    {
+        self.mark
+    }
+
+    /// A bucket that names the entry of this one. Nothing is followed.
+    pub fn naming(&self, alloc: A) -> Option<Self>
+        requires { self.now.from ≡ alloc }
+        ensures { result ≡ option_map (bucket alloc self.now.home) (naming self.now.content) }
+    {
+        let mark = match self.mark {
+            Mark::Vacant => return None,
+            Mark::Own(bits) => Mark::Named(bits),
+            Mark::Named(bits) => Mark::Named(bits),
+        };
+        Some(Bucket {
+            mark,
+            word: Word::of_name(self.word.name(), &alloc),
+        })
+    }
+
+    /// The entry that the bucket holds alone.
+    pub fn get_alone<'a>(&'a self, home: &'a Home) -> Option<&'a Entry<T>>
+        requires { self.now.home ≡ home.now.id }
+        ensures { option_copied result ≡ shown self.now.content }
+    {
+        match self.mark {
+            Mark::Vacant => None,
+            _ => Some(self.word.name().get(home)),
+        }
+    }
+
+    /// The entry that the bucket holds, or was set to through `&`.
+    pub fn get<'a>(&'a self, home: &'a Home) -> Option<&'a Entry<T>>
+        requires { self.now.home ≡ home.now.id }
+        ensures { IfSome (shown self.now.content) (λ e. option_copied result ≡ Some e) }
+    {
+        match self.mark {
+            Mark::Vacant => Some(self.word.name_if_set()?.get(home)),
+            _ => Some(self.word.name().get(home)),
+        }
+    }
+
+    /// Sets the bucket to the value, in a block of its own. The block is asked for before the bucket is looked at.
+    pub fn place_alone(&mut self, home: &Home, alloc: A, value: T, bits: u8) -> Result<(), Refusal<T>>
+        requires lies { Lies home.now.id alloc self.old }
+        ensures ok { OnOk result ((self.old.content ≡ vacant) × (self.new ≡ bucket alloc home.now.id (own (entry_from value bits)))) }
+        ensures refused { IfErr result (λ r. (self.new ≡ self.old) × HandsBack self.old.content value r) }
+    {
+        let block = match Box::new(alloc, Entry { value, bits }) {
+            Ok(block) => block,
+            Err(refused) => return Err(Refusal::NoMemory(refused.value.value)),
+        };
+        match self.mark {
+            Mark::Vacant => {
+                *self = Bucket {
+                    mark: Mark::Own(bits),
+                    word: Word::own(home, LooseBlock::of(block)),
+                };
+                Ok(())
+            }
+            _ => Err(Refusal::Taken(Box::into_inner(block).value)),
+        }
+    }
+
+    /// Ends the bucket, and hands out the value that it owns alone.
+    pub fn take_alone(self, closed: &Closed, alloc: A) -> Option<T>
+        requires { Lies closed.now.id alloc self }
+        ensures { result ≡ option_map (λ e. e.value) (owned self.content) }
+    {
+        match self.mark {
+            Mark::Own(_) => Some(Box::into_inner(self.word.into_block(closed).into_box(alloc)).value),
+            _ => None,
+        }
+    }
+
+    /// Ends the bucket, and hands out the value that it owns, alone or since it was set through `&`.
+    pub fn take(self, closed: &Closed, alloc: A) -> Option<T>
+        requires { Lies closed.now.id alloc self }
+        ensures { IfSome (shown self.content) (λ _. result ≡ option_map (λ e. e.value) (owned self.content)) }
+    {
+        match self.mark {
+            Mark::Own(_) => Some(Box::into_inner(self.word.into_block(closed).into_box(alloc)).value),
+            Mark::Named(_) => None,
+            Mark::Vacant => Some(Box::into_inner(self.word.into_block_if_set(closed)?.into_box(alloc)).value),
+        }
+    }
+}
+
+impl<T: Drop, A: Low + Copy> Bucket<T, A> {
+    /// Sets a vacant bucket by one exchange. The block is asked for before the bucket is looked at.
+    pub fn place<'a>(&'a self, home: &'a Home, alloc: A, value: T, bits: u8) -> Result<&'a Entry<T>, Missed<'a, T>>
+        requires lies { Lies home.now.id alloc self.now }
+        ensures ok { IfOk result (λ e. (self.now.content ≡ vacant) × (e.now ≡ entry_from value bits)) }
+        ensures missed { IfErr result (λ m. Misses self.now.content value m) }
+    {
+        let block = match Box::new(alloc, Entry { value, bits }) {
+            Ok(block) => block,
+            Err(refused) => return Err(Missed::NoMemory(refused.value.value)),
+        };
+        if !matches!(self.mark, Mark::Vacant) {
+            return Err(Missed::Taken(Box::into_inner(block).value, self.word.name().get(home)));
+        }
+        match self.word.offer(home, LooseBlock::of(block)) {
+            (entry, None) => Ok(entry),
+            (first, Some(back)) => Err(Missed::Taken(Box::into_inner(back.into_box(alloc)).value, first)),
+        }
+    }
+}

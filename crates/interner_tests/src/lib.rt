@@ -1,0 +1,5 @@
+//! Tests of the interner.
+#![tactic(auto)]
+
+#[cfg(test)]
+mod tests;
