@@ -6,7 +6,7 @@ use Rattle.terms.specs.declared.insertion.Insertion.{Insertion}
 use Rattle.terms.specs.declared.insertion.Insertion.TheVariants as insertion
 use Rattle.commands.specs.declared.spelling.Line.{Line}
 use Rattle.commands.specs.declared.spelling.Line.TheVariants as line
-use Rattle.lock_free_hashtable.specs.Table.{Table, capacity, all_buckets}
+use Rattle.lock_free_hashtable.specs.Table.{HeldTable, capacity, all_buckets}
 use Rattle.commands.specs.Pairs.{InsertsPair, LooksUpPair, ListsNumbers, HoldsPairs}
 
 -- each number after a comma and a space
@@ -42,7 +42,7 @@ lookup_text None = codes "none"
 
 -- the table t was asked the line when it held the pairs ps; it is told this text, and then holds
 -- the pairs qs
-abbrev pub AnswersLine : {T : Type 0} → Table T → List (ℕ × ℕ) → Line → List ℕ → List (ℕ × ℕ)
+abbrev pub AnswersLine : {T : Type 0} → HeldTable T → List (ℕ × ℕ) → Line → List ℕ → List (ℕ × ℕ)
     → Type 0
 AnswersLine t ps (line.Insert hash number) text qs =
     (how : Insertion) × InsertsPair ps (hash, number) how qs × (text ≡ insertion_text how)
@@ -57,6 +57,6 @@ AnswersLine t ps line.Buckets text qs = (text ≡ decimal (all_buckets t)) × (q
 
 -- on each list of pairs that the old table holds, the line is told this text, and the new table
 -- holds the list after
-abbrev pub AnswersAsPairs : {T : Type 0} → (T → ℕ × ℕ) → Table T → Line → List ℕ → Table T → Type 0
+abbrev pub AnswersAsPairs : {T : Type 0} → (T → ℕ × ℕ) → HeldTable T → Line → List ℕ → HeldTable T → Type 0
 AnswersAsPairs pair_of old line text new = (ps : List (ℕ × ℕ)) → HoldsPairs pair_of old ps
     → (qs : List (ℕ × ℕ)) × AnswersLine new ps line text qs × HoldsPairs pair_of new qs
