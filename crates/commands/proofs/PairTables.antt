@@ -8,9 +8,8 @@ use Rattle.std.proofs.lemmas.List.Sorted.{length_permutation, IsPermutation-map,
 use Rattle.std.specs.Prelude.{IsSorted}
 use Rattle.std.specs.Ordering.{nat_cmp}
 use Rattle.std.proofs.Math.ListN.{get_or-map}
-use Rattle.lock_free_hashtable.specs.Table.{Table, Stands, entries, entry_at}
+use Rattle.lock_free_hashtable.specs.Table.{HeldTable, Place, Stands, entries, entry_at}
 use Rattle.lock_free_hashtable.specs.Held.{ShowsAt, IsLawfulInsert, PlacesAsList, InsertReplies, equal, LooksUpAsList, LookupReplies, IsLawfulLookup}
-use Rattle.generations.specs.declared.place.Place.{Place}
 use Rattle.terms.specs.ListObject.{ListReply, Placed, Found, Refused, Insert, Lookup, Answers, AcceptsNone}
 use Rattle.terms.specs.declared.insertion.Insertion.{Insertion}
 use Rattle.terms.specs.declared.insertion.Insertion.TheVariants as insertion
@@ -68,7 +67,7 @@ module _ {T : Type 0} (pair_of : T → ℕ × ℕ) where
   insertion_of (Ok (p, Some back)) = insertion.Found
   insertion_of (Err back) = insertion.Refused
 
-  module _ (old new : Table T) (value : T) (M N : List T) (reply : ListReply T) (stands : Stands new N) where
+  module _ (old new : HeldTable T) (value : T) (M N : List T) (reply : ListReply T) (stands : Stands new N) where
     pub inserted : (r : Result (Place × Option T) T) → InsertReplies (entry_at new) r reply → Answers (equal pair_of same_pair pair_hash) M (Insert value) reply N
         → (qs : List (ℕ × ℕ)) × InsertsPair (map pair_of M) (pair_of value) (insertion_of r) qs × HoldsPairs pair_of new qs
     inserted (Ok (p, None)) replies h =
@@ -84,7 +83,7 @@ module _ {T : Type 0} (pair_of : T → ℕ × ℕ) where
         (map pair_of N, (has_none M (pair_of value) told.0, rw told.1 refl), (N, stands, refl))
 
   -- an insert of a value, on every list of pairs
-  pub inserts : (eq : ℕ × ℕ → ℕ × ℕ → Bool → Type 0) (rehash : ℕ × ℕ → ℕ → Type 0) (old new : Table T) (hash : ℕ) (value : T) (r : Result (Place × Option T) T)
+  pub inserts : (eq : ℕ × ℕ → ℕ × ℕ → Bool → Type 0) (rehash : ℕ × ℕ → ℕ → Type 0) (old new : HeldTable T) (hash : ℕ) (value : T) (r : Result (Place × Option T) T)
       → PlacesAsList pair_of same_pair pair_hash eq rehash old hash value r new
       → IsLawfulInsert pair_of same_pair pair_hash eq rehash (IsPairTable pair_of old) (entries old) hash value
       → (ps : List (ℕ × ℕ)) → HoldsPairs pair_of old ps → (qs : List (ℕ × ℕ)) × InsertsPair ps (pair_of value) (insertion_of r) qs × HoldsPairs pair_of new qs
@@ -93,7 +92,7 @@ module _ {T : Type 0} (pair_of : T → ℕ × ℕ) where
       rw (← is) (inserted old new value M told.1 told.0 told.4 r told.2 told.3)
 
   -- the length of a table is that of the list
-  pub held_length : (t : Table T) (ps : List (ℕ × ℕ)) → HoldsPairs pair_of t ps → length (entries t) ≡ length ps
+  pub held_length : (t : HeldTable T) (ps : List (ℕ × ℕ)) → HoldsPairs pair_of t ps → length (entries t) ≡ length ps
   held_length t ps (M, stands, is) = sym (length_permutation _ _ stands.permuted) ∙ sym (length-map M pair_of) ∙ ap length is
 
   -- a look-up of a pair, on every list of pairs
@@ -106,7 +105,7 @@ module _ {T : Type 0} (pair_of : T → ℕ × ℕ) where
         let same : pair_of e ≡ x = same_equal x (pair_of e) told.0.1 in
         ((rw same at (has_pair M e told.0.0)), ap (λ z. z.1) (shown_is ∙ same))
 
-  pub looks_up : (answers : ℕ × ℕ → Bool → Type 0) (t : Table T) (x : ℕ × ℕ) (hash : ℕ) (shown : Option (ℕ × ℕ))
+  pub looks_up : (answers : ℕ × ℕ → Bool → Type 0) (t : HeldTable T) (x : ℕ × ℕ) (hash : ℕ) (shown : Option (ℕ × ℕ))
       → LooksUpAsList pair_of same_pair pair_hash answers t hash shown
       → IsLawfulLookup pair_of same_pair pair_hash answers (IsPairTable pair_of t) (entries t) hash (same_pair x)
       → (ps : List (ℕ × ℕ)) → HoldsPairs pair_of t ps → LooksUpPair ps x (Rattle.std.specs.Prelude.option_map (λ y. y.1) shown)
@@ -116,7 +115,7 @@ module _ {T : Type 0} (pair_of : T → ℕ × ℕ) where
 
 -- closures that answer as pairs do are lawful
 module _ {T : Type 0} (pair_of : T → ℕ × ℕ) where
-  pub lawful_insert : (eq : ℕ × ℕ → ℕ × ℕ → Bool → Type 0) (rehash : ℕ × ℕ → ℕ → Type 0) (t : Table T) (hash : ℕ) (value : T)
+  pub lawful_insert : (eq : ℕ × ℕ → ℕ × ℕ → Bool → Type 0) (rehash : ℕ × ℕ → ℕ → Type 0) (t : HeldTable T) (hash : ℕ) (value : T)
       → ((x y : ℕ × ℕ) (answer : Bool) → eq x y answer → answer ≡ same_pair x y)
       → ((x : ℕ × ℕ) (h : ℕ) → rehash x h → h ≡ pair_hash x)
       → hash ≡ pair_hash (pair_of value) → IsPairTable pair_of t
@@ -129,7 +128,7 @@ module _ {T : Type 0} (pair_of : T → ℕ × ℕ) where
     table_is = lawful;
   }
 
-  pub lawful_lookup : (answers : ℕ × ℕ → Bool → Type 0) (t : Table T) (x : ℕ × ℕ) → x.0 < 2 ^ 64
+  pub lawful_lookup : (answers : ℕ × ℕ → Bool → Type 0) (t : HeldTable T) (x : ℕ × ℕ) → x.0 < 2 ^ 64
       → ((y : ℕ × ℕ) (answer : Bool) → answers y answer → answer ≡ same_pair x y) → IsPairTable pair_of t
       → IsLawfulLookup pair_of same_pair pair_hash answers (IsPairTable pair_of t) (entries t) x.0 (same_pair x)
   lawful_lookup answers t x small asks lawful = record {
@@ -150,7 +149,7 @@ module _ {T : Type 0} (pair_of : T → ℕ × ℕ) where
       sym (append-nil gathered) ∙ whole ∙ ap numbers_of is
 
   -- the sorted second parts of the entries' pairs
-  pub lists_numbers : (t : Table T) (gathered ns : List ℕ) → gathered ≡ numbers_of (entries t) → IsPermutation gathered ns → IsSorted nat_cmp ns
+  pub lists_numbers : (t : HeldTable T) (gathered ns : List ℕ) → gathered ≡ numbers_of (entries t) → IsPermutation gathered ns → IsSorted nat_cmp ns
       → (ps : List (ℕ × ℕ)) → HoldsPairs pair_of t ps → ListsNumbers ps ns
   lists_numbers t gathered ns is sorting sorted ps (M, stands, pairs_are) =
       let of_pairs : IsPermutation (map pair_of (entries t)) ps = rw pairs_are at (IsPermutation-map pair_of (entries t) M stands.permuted) in

@@ -3,7 +3,7 @@ use Rattle.std.specs.Prelude.{◌≡◌, ℕ, ◌++◌, List, [], ◌∷◌, Opt
 use Rattle.std.specs.List.Sorted.{IsPermutation}
 use Rattle.std.specs.Prelude.{IsSorted}
 use Rattle.std.specs.Ordering.{nat_cmp}
-use Rattle.lock_free_hashtable.specs.Table.{Table, Stands, IsLawful}
+use Rattle.lock_free_hashtable.specs.Table.{HeldTable, Stands, IsLawful}
 use Rattle.terms.specs.Laws.{same_pair, pair_hash}
 use Rattle.terms.specs.declared.insertion.Insertion.{Insertion}
 use Rattle.terms.specs.declared.insertion.Insertion.TheVariants.{Placed, Found, Refused}
@@ -24,7 +24,7 @@ pub record ListsNumbers (ps : List (ℕ × ℕ)) (ns : List ℕ) : Type 0 where
   pub permuted : IsPermutation (map (λ x. x.1) ps) ns
   pub sorted : IsSorted nat_cmp ns
 
-module _ {T : Type 0} (pair_of : T → ℕ × ℕ) (t : Table T) where
+module _ {T : Type 0} (pair_of : T → ℕ × ℕ) (t : HeldTable T) where
   -- the table is lawful for pairs
   abbrev pub IsPairTable : Type 0
   IsPairTable = IsLawful pair_of same_pair pair_hash t
@@ -33,9 +33,9 @@ module _ {T : Type 0} (pair_of : T → ℕ × ℕ) (t : Table T) where
   abbrev pub HoldsPairs : List (ℕ × ℕ) → Type 0
   HoldsPairs ps = (M : List T) × Stands t M × (map pair_of M ≡ ps)
 
--- on each list of pairs that the old table holds, an insert of the pair x ends so, and the new table holds
--- the list after
-abbrev pub InsertsAsPairs : {T : Type 0} → (T → ℕ × ℕ) → Table T → ℕ × ℕ → Insertion → Table T
+-- on each list of pairs that the old table holds, an insert of the pair x ends so, and the new table
+-- holds the list after
+abbrev pub InsertsAsPairs : {T : Type 0} → (T → ℕ × ℕ) → HeldTable T → ℕ × ℕ → Insertion → HeldTable T
     → Type 0
 InsertsAsPairs pair_of old x how new = (ps : List (ℕ × ℕ)) → HoldsPairs pair_of old ps
     → (qs : List (ℕ × ℕ)) × InsertsPair ps x how qs × HoldsPairs pair_of new qs

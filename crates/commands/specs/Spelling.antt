@@ -14,7 +14,8 @@ pub record Writes (radix most : ℕ) (digits : List ℕ) (n : ℕ) : Type 0 wher
 -- 1 to 20 decimal digits, or 0x and 1 to 16 hexadecimal digits of either case
 abbrev pub SpellsNumber : List ℕ → ℕ → Type 0
 SpellsNumber text n =
-    Writes 10 20 text n ⊎ ((digits : List ℕ) × (text ≡ codes "0x" ++ digits) × Writes 16 16 digits n)
+    Writes 10 20 text n
+    ⊎ ((digits : List ℕ) × (text ≡ codes "0x" ++ digits) × Writes 16 16 digits n)
 
 -- no byte is a space
 abbrev pub HasNoSpace : List ℕ → Type 0

@@ -48,7 +48,7 @@ impl<A: Allocator + Copy> LineCommand for PairTable<A> {
     /// Asks the table, and writes its reply. The text is that of the list of pairs which the table holds.
     fn take<W: Write>(&mut self, line: Line, output: &mut W) -> Result<(), Fault>
         ensures fault { IfErr result IsLineFault }
-        ensures first { self.new.first ≡ self.old.first }
+        ensures first { self.new.first_capacity ≡ self.old.first_capacity }
         ensures answered { OnOk result ((text : List ℕ) × AnswersAsPairs (λ b. b.value) self.old line text self.new
             × Appends (W.contents output.old) (W.contents output.new) (text ++ codes "\n")) }
     {

@@ -20,10 +20,10 @@ pub struct PairTable<A: Allocator + Copy> {
 impl<A: Allocator + Copy> Model for PairTable<A> {
     ghost use Rattle.std.specs.Prelude.{ℕ};
     ghost use Rattle.std.specs.declared.boxed.Box.{Box};
-    ghost use Rattle.lock_free_hashtable.specs.Table.{Table};
+    ghost use Rattle.lock_free_hashtable.specs.Table.{HeldTable};
     ghost use Rattle.commands.specs.Pairs.{IsPairTable};
 
-    ghost Value = { Table (Box (ℕ × ℕ) A) };
+    ghost Value = { HeldTable (Box (ℕ × ℕ) A) };
 
     ghost view = { λ t. t.table };
 
@@ -38,7 +38,7 @@ impl<A: Allocator + Copy> PairTable<A> {
     pub fn new(alloc: A, first: usize) -> Self
         requires { IsFirstCapacity first }
         ensures empty { HoldsPairs (λ b. b.value) result [] }
-        ensures first { result.first ≡ first }
+        ensures first { result.first_capacity ≡ first }
     {
         PairTable {
             table: HeldRawTable::with_first_capacity(alloc, first),
@@ -48,7 +48,7 @@ impl<A: Allocator + Copy> PairTable<A> {
 
     /// Inserts the pair, unless it is an entry. It is refused only where it is none.
     pub fn insert(&mut self, hash: u64, number: u64) -> Insertion
-        ensures first { self.new.first ≡ self.old.first }
+        ensures first { self.new.first_capacity ≡ self.old.first_capacity }
         ensures inserts { InsertsAsPairs (λ b. b.value) self.old (hash, number) result self.new }
     {
         let Ok(pair) = Box::new(self.alloc, (hash, number)) else {
@@ -91,7 +91,7 @@ impl<A: Allocator + Copy> PairTable<A> {
     /// The buckets of the current generation.
     pub fn capacity(&self) -> usize
         ensures current { result ≡ capacity self.now }
-        ensures doubled { IsDoubled self.now.first result }
+        ensures doubled { IsDoubled self.now.first_capacity result }
     {
         self.table.capacity_alone()
     }
@@ -99,7 +99,7 @@ impl<A: Allocator + Copy> PairTable<A> {
     /// The buckets of all generations.
     pub fn buckets(&self) -> usize
         ensures all { result ≡ all_buckets self.now }
-        ensures sum { 0 < capacity self.now → result + self.now.first ≡ 2 * capacity self.now }
+        ensures twice_the_capacity { 0 < capacity self.now → result + self.now.first_capacity ≡ 2 * capacity self.now }
     {
         self.table.buckets_alone()
     }

@@ -16,12 +16,11 @@ use crate::schedules::run_core;
 use crate::seats::run_seats;
 use std::alloc::Allocator;
 use std::convert::AsStr;
-use std::env;
-use std::io;
 use std::io::{ErrorKind, Read, Write};
 use std::rt::Env;
 use std::sync::Wait;
 use std::thread::Threads;
+use std::{env, io};
 
 /// Runs the command that the words of the environment stand for, and answers the status. `run_words` says what is written
 /// where.

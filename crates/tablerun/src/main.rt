@@ -7,13 +7,6 @@ use std::process::ExitCode;
 fn main(rt: HostRuntime) -> ExitCode {
     let mut output = rt.stdout();
     let mut messages = rt.stderr();
-    let status = run_program(
-        &rt,
-        &rt,
-        rt.alloc(),
-        rt.stdin(),
-        &mut output,
-        &mut messages,
-    );
+    let status = run_program(&rt, &rt, rt.alloc(), rt.stdin(), &mut output, &mut messages);
     ExitCode::from(status)
 }
