@@ -56,7 +56,6 @@ module _ {M : Type 1} {𝓤 : Ura M} (𝓛 : Logic 𝓤) (R : RattleType) (L : L
 
   infix 26 ◌⊢◌
   infixr 35 ◌∗◌
-
   abbrev home : Lft
   home = h ∷ []
 
@@ -88,7 +87,7 @@ module _ {M : Type 1} {𝓤 : Ura M} (𝓛 : Logic 𝓤) (R : RattleType) (L : L
       move ! (1 ∷ []) $ bor_new ! tt both $ move ! (2 ∷ 3 ∷ 4 ∷ []) $ group ! 3 $ move ! (1 ∷ 0 ∷ []) $
       use2 𝓛 (later (‵ (lent_at R p x both) ⊛ ‵ (flft (ν ∷ []) full_share) ⊛ ‵ (flft home s) ⊛ ‵ (flft μ r)))
       (Lends-first 𝓛 (lies_at R full_share p x) (k (bare (lone R.mir)) p) (lent_at R p x) R.lives (Lends-lies 𝓛 R R.lives p x (L.shares 𝓛 x)) both
-        ((ν ∷ [], full_share) ∷ (home, s) ∷ (μ, r) ∷ []) (Incl-trans (Incl-trans (meet_⊑_right (ν ∷ []) (home ++ μ)) (meet_⊑_right home μ)) within) (meet_⊑_left both μ)) $
+      ((ν ∷ [], full_share) ∷ (home, s) ∷ (μ, r) ∷ []) (Incl-trans (Incl-trans (meet_⊑_right (ν ∷ []) (home ++ μ)) (meet_⊑_right home μ)) within) (meet_⊑_left both μ)) $
       await ! tt $ split3 ! $ move ! (1 ∷ 0 ∷ []) $ fjoin ! $ move ! (0 ∷ 2 ∷ []) $ fjoin ! $ now ! $
       show ! (λ (i : ℕ). ⟦ mine p x i ⟧ ∗ A.lft home s ∗ A.lft μ r) ν $ done !)
 

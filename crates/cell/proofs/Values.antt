@@ -64,7 +64,7 @@ module _ (R : RattleType) where
   module _ {M : Type 1} {𝓤 : Ura M} {𝓛 : Logic 𝓤} {K : Type 0} {Γ : List (Item 𝓤)} {G : Goal 𝓤 𝓛.H} where
     pub name_out : K → (n : Name.Denot) (vs : List Val)
         → ((b o : ℕ) → n.at ≡ block_ptr b o → vs ≡ alone (vptr b o) ∷ []
-          → Seq K 𝓛 (‵ (lent_at R (block_ptr b o) n.value (n.home ∷ [])) ∷ Γ) G)
+        → Seq K 𝓛 (‵ (lent_at R (block_ptr b o) n.value (n.home ∷ [])) ∷ Γ) G)
         → Seq K 𝓛 (‵ (Name.own_val n vs) ∷ Γ) G
     name_out t n vs k =
         fsplit t $ fpick t (λ vss. fsplit t $ feq_l t (λ ev. fsplit t $ feq_l t (λ ep. drop t $
@@ -90,7 +90,7 @@ module _ (R Y : RattleType) (g : Ghosts Y.Denot) where
   module _ {M : Type 1} {𝓤 : Ura M} {𝓛 : Logic 𝓤} {K : Type 0} {Γ : List (Item 𝓤)} {G : Goal 𝓤 𝓛.H} where
     pub loose_out : K → (d : Loose.Denot) (vs : List Val)
         → ((b o : ℕ) → d.at ≡ block_ptr b o → vs ≡ marked (vptr b o) ∷ []
-          → Seq K 𝓛 (‵ (boxed R (g.dealloc_token d.from) (block_ptr b o) d.value) ∷ Γ) G)
+        → Seq K 𝓛 (‵ (boxed R (g.dealloc_token d.from) (block_ptr b o) d.value) ∷ Γ) G)
         → Seq K 𝓛 (‵ (Loose.own_val d vs) ∷ Γ) G
     loose_out t d vs k =
         fsplit t $ fpick t (λ vss. fsplit t $ feq_l t (λ ev. fsplit t $ feq_l t (λ ep. fsplit t $

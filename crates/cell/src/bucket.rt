@@ -35,6 +35,7 @@ pub enum Mark {
 }
 
 /// A value that a bucket held alone did not take.
+#[derive(Drop)]
 pub enum Refusal<T> {
     /// The bucket was set before.
     Taken(T),
@@ -43,6 +44,7 @@ pub enum Refusal<T> {
 }
 
 /// A value that a shared bucket did not take.
+#[derive(Drop)]
 pub enum Missed<'a, T> {
     /// The bucket was set before, to this entry.
     Taken(T, &'a Entry<T>),
@@ -61,8 +63,11 @@ pub struct Bucket<T: Drop, A: Allocator + Copy> {
 }
 
 const _: () = prove!(size_of::<Home>() == 0);
+
 const _: () = prove!(size_of::<Word<Entry<u64>, Global>>() == 8);
+
 const _: () = prove!(size_of::<Mark>() == 2);
+
 const _: () = prove!(size_of::<Bucket<u64, Global>>() == 16);
 
 impl<T: Drop, A: Allocator + Copy> Model for Bucket<T, A> {
@@ -132,7 +137,13 @@ impl<T: Drop, A: Allocator + Copy> Bucket<T, A> {
     }
 
     /// Sets the bucket to the value, in a block of its own. The block is asked for before the bucket is looked at.
-    pub fn place_alone(&mut self, home: &Home, alloc: A, value: T, bits: u8) -> Result<(), Refusal<T>>
+    pub fn place_alone(
+        &mut self,
+        home: &Home,
+        alloc: A,
+        value: T,
+        bits: u8,
+    ) -> Result<(), Refusal<T>>
         requires lies { Lies home.now.id alloc self.old }
         ensures ok { OnOk result ((self.old.content ≡ vacant) × (self.new ≡ bucket alloc home.now.id (own (entry_from value bits)))) }
         ensures refused { IfErr result (λ r. (self.new ≡ self.old) × HandsBack self.old.content value r) }
@@ -159,7 +170,9 @@ impl<T: Drop, A: Allocator + Copy> Bucket<T, A> {
         ensures { result ≡ option_map (λ e. e.value) (owned self.content) }
     {
         match self.mark {
-            Mark::Own(_) => Some(Box::into_inner(self.word.into_block(closed).into_box(alloc)).value),
+            Mark::Own(_) => Some(
+                Box::into_inner(self.word.into_block(closed).into_box(alloc)).value,
+            ),
             _ => None,
         }
     }
@@ -170,16 +183,26 @@ impl<T: Drop, A: Allocator + Copy> Bucket<T, A> {
         ensures { IfSome (shown self.content) (λ _. result ≡ option_map (λ e. e.value) (owned self.content)) }
     {
         match self.mark {
-            Mark::Own(_) => Some(Box::into_inner(self.word.into_block(closed).into_box(alloc)).value),
+            Mark::Own(_) => Some(
+                Box::into_inner(self.word.into_block(closed).into_box(alloc)).value,
+            ),
             Mark::Named(_) => None,
-            Mark::Vacant => Some(Box::into_inner(self.word.into_block_if_set(closed)?.into_box(alloc)).value),
+            Mark::Vacant => Some(
+                Box::into_inner(self.word.into_block_if_set(closed)?.into_box(alloc)).value,
+            ),
         }
     }
 }
 
 impl<T: Drop, A: Low + Copy> Bucket<T, A> {
     /// Sets a vacant bucket by one exchange. The block is asked for before the bucket is looked at.
-    pub fn place<'a>(&'a self, home: &'a Home, alloc: A, value: T, bits: u8) -> Result<&'a Entry<T>, Missed<'a, T>>
+    pub fn place<'a>(
+        &'a self,
+        home: &'a Home,
+        alloc: A,
+        value: T,
+        bits: u8,
+    ) -> Result<&'a Entry<T>, Missed<'a, T>>
         requires lies { Lies home.now.id alloc self.now }
         ensures ok { IfOk result (λ e. (self.now.content ≡ vacant) × (e.now ≡ entry_from value bits)) }
         ensures missed { IfErr result (λ m. Misses self.now.content value m) }
@@ -193,7 +216,10 @@ impl<T: Drop, A: Low + Copy> Bucket<T, A> {
         }
         match self.word.offer(home, LooseBlock::of(block)) {
             (entry, None) => Ok(entry),
-            (first, Some(back)) => Err(Missed::Taken(Box::into_inner(back.into_box(alloc)).value, first)),
+            (first, Some(back)) => {
+                let value = Box::into_inner(back.into_box(alloc)).value;
+                Err(Missed::Taken(value, first))
+            }
         }
     }
 }

@@ -2,6 +2,6 @@
 #![tactic(auto)]
 
 #[cfg(test)]
-mod counting;
+mod held;
 #[cfg(test)]
-mod tests;
+mod shared;

@@ -9,8 +9,8 @@ invariant_of-result g c =
     let old = c.self.inside.word in
     let e = c.name.result.value in
     elim c.match-self.branch [
-    | in-Own w ↦ let b = w.in-Own.bits in subst (λ m. IsMarked m c.of_name.result) (sym w.mark-is) (is_named b c.args.alloc c.name.result.home e c.of_name.result c.of_name.ensures
-        (own_bits b old e (subst (λ m. IsMarked m old) w.in-Own.is c.self.invariant) c.name.ensures.1.0))
-    | in-Named w ↦ let b = w.in-Named.bits in subst (λ m. IsMarked m c.of_name.result) (sym w.mark-is) (is_named b c.args.alloc c.name.result.home e c.of_name.result c.of_name.ensures
-        (named_bits b old e (subst (λ m. IsMarked m old) w.in-Named.is c.self.invariant) c.name.ensures.1.0))
+      | in-Own w ↦ let b = w.in-Own.bits in subst (λ m. IsMarked m c.of_name.result) (sym w.mark-is) (is_named b c.args.alloc c.name.result.home e c.of_name.result c.of_name.ensures
+          (own_bits b old e (subst (λ m. IsMarked m old) w.in-Own.is c.self.invariant) c.name.ensures.1.0))
+      | in-Named w ↦ let b = w.in-Named.bits in subst (λ m. IsMarked m c.of_name.result) (sym w.mark-is) (is_named b c.args.alloc c.name.result.home e c.of_name.result c.of_name.ensures
+          (named_bits b old e (subst (λ m. IsMarked m old) w.in-Named.is c.self.invariant) c.name.ensures.1.0))
     ]

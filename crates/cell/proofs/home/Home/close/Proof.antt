@@ -38,7 +38,7 @@ close_spec 𝓤 𝓛 𝓜 𝓡 wired =
     let d = z.0.3.0 in let r : Q.Denot = record { mark = record {}; id = d.id } in
     qed 𝓛 ((raw (alive 𝓛 En.signature κs qs) ⊛ ‵ (owns (types_at En.signature.params κs) z.0.3 z.0.4)) ∷ raw ((c κs z.0.3).requires z.1) ∷ []) ∵ split ! $ keep ! (0 ∷ 1 ∷ []) $ move ! (1 ∷ []) $ fsplit ! $ home_out ! d z.0.4.0 (λ ws.
     suffices ! (Run (token ∷ [])) (subst (λ (us : List Val). ent 𝓤 (Run (token ∷ [])) (Run us)) (sym (λ i. ws i ++ [])) (id⊢ 𝓤 _)) $
-    enter ! 𝓣.C 𝓣.Λ fn (token ∷ []) Post $ alloc_all ! (λ l. pass_all ! refl ((tt, (tt, tt)), tt) $ 
+    enter ! 𝓣.C 𝓣.Λ fn (token ∷ []) Post $ alloc_all ! (λ l. pass_all ! refl ((tt, (tt, tt)), tt) $
     lft_end ! tt $ sets ! (of_opd ! (get_in ! (fld ! refl (stop !)) (sub ! 0 refl (whole !)))) refl (tt, tt) $ sets ! (agg ! (and_then ! (get ! refl) (no_more !))) refl (tt, (tt, tt)) $
     use0 𝓛 (‵ ClosedData) (closed_made 𝓛) $ fjoin ! $ use0 𝓛 (raw (fact 𝓤 (d.id ≡ d.id))) (fact_i 𝓤 (d.id ≡ d.id) (emp 𝓤) refl) $ nothing ! $ nothing ! $ fjoin ! $
     returns ! (look_at ! 0 refl) $ free_all ! refl $ keep ! (4 ∷ 0 ∷ 2 ∷ 1 ∷ []) $ by ! (leaves 𝓛 En hs c z token r (tt, tt) (tt, tt)))))

@@ -54,7 +54,7 @@ into_box_spec 𝓤 𝓛 𝓜 𝓡 wired T A L LA g d dd allocator glued =
     loose_out R Y g ! v z.0.4.0 (λ b o e ws. let p : Ptr = block_ptr b o in rewrite ! 0 (λ (s : A.Denot). ‵ (boxed R (g.dealloc_token s) p v.value)) (sym asked) refl $
     -- [the block; the handle; nothing; the tokens; two bounds]
     let args : List Val = marked (vptr b o) ∷ hv ∷ [] in let k = triple_of 𝓛 (callee.signature T A g d dd) (callee.spec T A g d dd 𝓛 𝓜.mem 𝓡.returns) in
-    let y : k.Ghost = ((κs, qs, tt, (a, (p, tt)), (hv ∷ [], (vptr b o ∷ [], tt))), v.value) in 
+    let y : k.Ghost = ((κs, qs, tt, (a, (p, tt)), (hv ∷ [], (vptr b o ∷ [], tt))), v.value) in
     move ! (5 ∷ 0 ∷ []) $ join ! $ move ! (4 ∷ 0 ∷ []) $ join ! $ move ! (2 ∷ []) $ feq_i ! (List Val) (vptr b o ∷ []) (vptr b o ∷ []) refl $ fjoin ! $ move ! (2 ∷ 0 ∷ []) $ fjoin ! $ move ! (2 ∷ 0 ∷ []) $ join ! $ join ! $
     use1 𝓛 (raw (k.pre y)) (id⊢ 𝓤 _) $
     suffices ! (Run args) (subst (λ (us : List Val). ent 𝓤 (Run args) (Run us)) (sym (λ i. ws i ++ (ha i ++ []))) (id⊢ 𝓤 (Run args))) $

@@ -15,7 +15,12 @@ fields_send T Y f g = recorded_send (inside.the_field T Y f g).row _ _ (inside.t
 
 pub send : (T Y : RattleType) (f : HomedGhosts T.Denot) (g : Ghosts Y.Denot) → IsSend T → IsSend Y → IsSync T → Frees g g.dealloc_token → IsSend (the_row T Y f g)
 send T Y f g s sy y frees = record {
-  owned = λ w vs. ((λ _. tt), λ p. ((fields_send T Y f g).owned (record { inner = atomic_ptr_holding p; marker = record {} }) vs,
-    kept_keyless T s y (g.dealloc_token w.from) (frees.frees w.from) w.home w.owning w.value (Shows f.fits w) p));
+  owned = λ w vs. (
+    (λ _. tt),
+    λ p. (
+      (fields_send T Y f g).owned (record { inner = atomic_ptr_holding p; marker = record {} }) vs,
+      kept_keyless T s y (g.dealloc_token w.from) (frees.frees w.from) w.home w.owning w.value (Shows f.fits w) p,
+    ),
+  );
   leaving = λ k d w. tt;
 }

@@ -71,7 +71,7 @@ into_block_if_set_spec 𝓤 𝓛 𝓜 𝓡 wired T A L LA f fd g d dd homed allo
     move ! (1 ∷ 3 ∷ []) $ heard ! (κT ⊑ T.lives) (λ within. heard ! Asked (λ asked. keep ! (0 ∷ []) $ split ! $ split3 ! $ move ! (3 ∷ []) $ fsplit3 ! $ move ! (1 ∷ []) $ fsplit ! $ drop ! $ unhide ! $ fsplit ! $ drop ! $
     rewrite ! 0 (λ (i : ℕ). ‵ (fdead (i ∷ []))) asked.0 refl $ move ! (1 ∷ []) $ fsplit ! $ fpick ! (λ laid. drop ! $ fpick ! (λ p. fsplit ! $
     word_out P Y (atomic_ptr_holding p) ! refl (LP.lawful 𝓛) z.0.4.0 (λ v gv ws. let w : Val = marked v in
-    let y : k.Ghost = (((κT, tt), (qT, tt), tt, (atomic_ptr_holding p, tt), (v ∷ [], tt)), tt) in 
+    let y : k.Ghost = (((κT, tt), (qT, tt), tt, (atomic_ptr_holding p, tt), (v ∷ [], tt)), tt) in
     -- [the pointer; beside it; the home's end; nothing; κ's token; T's token; the other tokens]
     nothing ! $ move ! (1 ∷ 0 ∷ []) $ fjoin ! $ move ! (5 ∷ 3 ∷ []) $ join ! $ join ! $ use0 𝓛 (raw (fact 𝓤 (κT ⊑ T.lives))) (fact_i 𝓤 (κT ⊑ T.lives) (emp 𝓤) within) $ nothing ! $ move ! (1 ∷ 0 ∷ []) $ join ! $ move ! (1 ∷ 0 ∷ []) $ join ! $
     use1 𝓛 (raw (k.pre y)) (id⊢ 𝓤 _) $

@@ -112,7 +112,7 @@ offer_spec 𝓤 𝓛 𝓜 𝓡 wired T A L LA f fd gl dl g d dd homed shows_low 
     await ! tt $ pick ! (λ r'. split ! $ move ! (1 ∷ []) $ pick ! (λ _. split ! $ drop ! $ fsplit ! $ fpick ! (λ low. drop ! $ move ! (1 ∷ []) $ split ! $ move ! (1 ∷ []) $ feq_l ! (λ ev.
     lands_last ! refl (subst (Good (layout unit)) (sym (ap only ev)) (tt, tt)) $ exec ! 𝓣.C 𝓣.Λ Ev (after 2 fn.body) (at_ret Ev Post) $
     -- [the other tokens; the right; κ's token; T's token; the memory; before the home; before α; the word; its fields]
-    move ! (4 ∷ 1 ∷ []) $ fjoin ! $ 
+    move ! (4 ∷ 1 ∷ []) $ fjoin ! $
     -- [the block; the other tokens; κ's token; T's token; before the home; before α; the word; its fields]
     move ! (4 ∷ []) $ use1 𝓛 (‵ (before κ life) ⊛ ‵ (before κ life)) (before_dup 𝓛 κ life) $ split ! $ move ! (0 ∷ 4 ∷ []) $
     let Whole : SProp 𝓤 = H.⇛ (𝓛.A.lft κ q) in let Half : SProp 𝓤 = H.⇛ (𝓛.A.lft κ (right q)) in
