@@ -8,9 +8,8 @@ use Rattle.std.proofs.lemmas.Option.{slice_get-map, slice_get-get_or}
 use Rattle.std.proofs.lemmas.Slice.Eq.{bytes_eq-Decides}
 use Rattle.std.proofs.Math.ListN.{get_or-map}
 use Rattle.terms.specs.ListObject.{ListReply, Placed, Found, Refused, Insert, Lookup, Answers}
-use Rattle.lock_free_hashtable.specs.Table.{Table, IsLawful, entries, entry_at}
+use Rattle.lock_free_hashtable.specs.Table.{HeldTable, Place, IsLawful, entries, entry_at}
 use Rattle.lock_free_hashtable.specs.Held.{ShowsAt, IsLawfulInsert, IsLawfulLookup, LookupReplies, PlacesAsList, LooksUpAsList, InsertAnswers, equal}
-use Rattle.generations.specs.declared.place.Place.{Place}
 use Rattle.interner.specs.Texts.{text_hash, same_by_text, hash_by_text, HasNumber, greatest_number}
 use Rattle.interner.specs.Kept.{IsKept}
 use Rattle.interner.proofs.Numbers.{push_cases, different_push}
@@ -37,7 +36,7 @@ module _ {T V : Type 0} (target : T → V) (text : V → List ℕ) (number : V �
       (k, omega arith, sym (get_or-map target values k e) ∙ ap (λ vs. get_or vs k (target e)) (sym is) ∙ get_or-map target M k e ∙ ap target at)
 
   -- the value at place k of an interner has the text and the number of that place
-  has_number : (values : List T) (t : Table T) (k : ℕ) (e : T) → IsKept target text number values t → k < length values → target (get_or values k e) ≡ target e → HasNumber (map text_of values) (text_of e) (number (target e))
+  has_number : (values : List T) (t : HeldTable T) (k : ℕ) (e : T) → IsKept target text number values t → k < length values → target (get_or values k e) ≡ target e → HasNumber (map text_of values) (text_of e) (number (target e))
   has_number values t k e kept within is =
       let at : slice_get values k ≡ Some (get_or values k e) = slice_get-get_or values k e within in
       let numbered : number (target e) ≡ k + 1 = rw is at (kept.numbered k (get_or values k e) at) in
@@ -56,7 +55,7 @@ module _ {T V : Type 0} (target : T → V) (text : V → List ℕ) (number : V �
   abbrev pub has_text : List ℕ → V → Bool
   has_text x v = bytes_eq (text v) x
 
-  module _ (t : Table T) where
+  module _ (t : HeldTable T) where
     abbrev IsTextTable : Type 0
     IsTextTable = IsLawful target (same_by_text text) (hash_by_text text) t
 
@@ -73,7 +72,7 @@ module _ {T V : Type 0} (target : T → V) (text : V → List ℕ) (number : V �
   ShowsNumber texts x (Some v) = HasNumber texts x (number v)
   ShowsNumber texts x None = ¬ Contains texts x
 
-  shows : (values M : List T) (t : Table T) (x : List ℕ) (shown : Option V) (reply : ListReply T) → IsKept target text number values t → map target M ≡ map target values
+  shows : (values M : List T) (t : HeldTable T) (x : List ℕ) (shown : Option V) (reply : ListReply T) → IsKept target text number values t → map target M ≡ map target values
       → LookupReplies target shown reply → Answers (equal target (same_by_text text) (hash_by_text text)) M (Lookup (λ e. has_text x (target e))) reply M → ShowsNumber (map text_of values) x shown
   shows values M t x None reply kept is replies answers =
       let told = rw replies at answers in
@@ -85,7 +84,7 @@ module _ {T V : Type 0} (target : T → V) (text : V → List ℕ) (number : V �
       let text_is : text_of e ≡ x = (bytes_eq-Decides (text_of e) x).0 told.0.1 in
       rw shown_is (rw text_is at has)
 
-  pub looks_up : (answers : V → Bool → Type 0) (values : List T) (t : Table T) (x : List ℕ) (hash : ℕ) (shown : Option V) → IsKept target text number values t
+  pub looks_up : (answers : V → Bool → Type 0) (values : List T) (t : HeldTable T) (x : List ℕ) (hash : ℕ) (shown : Option V) → IsKept target text number values t
       → ((v : V) (answer : Bool) → answers v answer → answer ≡ has_text x v) → hash ≡ text_hash x
       → LooksUpAsList target (same_by_text text) (hash_by_text text) answers t hash shown → ShowsNumber (map text_of values) x shown
   looks_up answers values t x hash shown kept test_is hash_is as_list =
@@ -111,7 +110,7 @@ module _ {T V : Type 0} (target : T → V) (text : V → List ℕ) (number : V �
     found back (Some e) s h = let told = rw s at h in (e, told.0.0, (bytes_eq-Decides (text_of value) (text_of e)).0 told.0.1)
 
   -- an insert of a value whose text is new, by closures that answer as texts do
-  module _ (eq : V → V → Bool → Type 0) (rehash : V → ℕ → Type 0) (values : List T) (t new : Table T) (hash : ℕ) (value : T) (x : List ℕ) (texts : List (List ℕ))
+  module _ (eq : V → V → Bool → Type 0) (rehash : V → ℕ → Type 0) (values : List T) (t new : HeldTable T) (hash : ℕ) (value : T) (x : List ℕ) (texts : List (List ℕ))
       (kept : IsKept target text number values t)
       (eq_is : (a b : V) (answer : Bool) → eq a b answer → answer ≡ same_by_text text a b)
       (rehash_is : (a : V) (h : ℕ) → rehash a h → h ≡ hash_by_text text a)

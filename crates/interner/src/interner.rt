@@ -108,7 +108,7 @@ impl<A: Allocator + Copy> Interner<A> {
     fn next_number(&self) -> Result<NonZeroU32, Refused>
         ensures { GivesNext self.now result }
     {
-        let given = self.by_number.len();
+        let given = self.len_alone();
         if given == u32::MAX as usize {
             return Err(Refused::Numbers);
         }
