@@ -1,5 +1,5 @@
 -- The mark beside a word agrees with it.
-use Rattle.std.proofs.Common.{◌≡◌, ℕ, Option, Some, None, true, false, refl, sym, ap, ◌∙◌, subst}
+use Rattle.std.proofs.Common.{◌≡◌, ℕ, Option, Some, true, false, refl, ap, subst}
 use Rattle.cell.specs.Words.{WordView, word_view, Agrees}
 use Rattle.cell.specs.Contents.{IsMarked, Reads, content_of}
 use Rattle.cell.specs.declared.bucket.Entry.{Entry}

@@ -17,7 +17,7 @@ use base.Logic.{SProp, ent, sep, ex, emp, guard, upd_i, id⊢}
 use base.Fml.{Lft, Share, Fml, ftrue, ffalse, fsep, fex, flft, fdead, fbor, finv, Incl-refl, Incl-trans}
 use base.Before.{before}
 use types.Logic.{Logic, sem}
-use types.Kit.{Item, Goal, Seq, learn, ‵, ◌⊛◌, raw, some, given, later, mean, ◌$◌, ◌∵◌, !, qed, by, move, keep, drop, split, split3, group, fsplit, fsplit3, fjoin, fjoin3, fpick, fpack, pick, rewrite, check, show, frame, assume, suffices, done, use0, use1, use2, updating, await, now}
+use types.Kit.{Item, Goal, Seq, learn, ‵, ◌⊛◌, raw, some, given, later, mean, ◌$◌, ◌∵◌, !, qed, by, move, keep, drop, split, split3, group, fsplit, fsplit3, fjoin, fjoin3, fpick, fpack, rewrite, check, show, frame, assume, suffices, done, use0, use1, use2, updating, await, now}
 use types.Tokens.{lft_new, lft_end, bor_new, lent_back, bor_fracture}
 use types.Na.{before-Incl, before_lent}
 use contract.BorrowLft.{◌⊑◌, meet_⊑_left, meet_⊑_right}

@@ -9,7 +9,7 @@ use denote.RattleType.{RattleType}
 use denote.Memory.{lone}
 use denote.RawPtr.{Ptr, block_ptr, null_ptr}
 use denote.Param.Send.{IsSend, IsSync, part_keyless}
-use Rattle.cell.specs.Words.{tested, boxed, right, kept}
+use Rattle.cell.specs.Words.{tested, right, kept}
 
 module _ (R : RattleType) (s : IsSend R) (y : IsSync R) (k : Ty → Ptr → Fml) (frees : (t : Ty) (p : Ptr) → Keyless (k t p)) (h : ℕ) where
   tested_keyless : (v : Option R.Denot) (p : Ptr) → Keyless (tested v p)

@@ -3,14 +3,14 @@
 --     name_out, name_in      a name is what its home lends at a block
 --     loose_out, loose_in      a loose block is the block and the right to free it
 --     word_out, word_in      the fields of a word are a pointer cell and a mark
-use Rattle.std.proofs.Common.{◌≡◌, ℕ, List, [], ◌∷◌, ◌++◌, refl, subst, ◌∙◌}
+use Rattle.std.proofs.Common.{◌≡◌, ℕ, List, [], ◌∷◌, ◌++◌, refl, subst}
 use mathlib.Core.Bool.{true, ◌&&◌}
 use lib.Dec.{T}
 use seplogic.Ra.Ura.{Ura}
 use mir.Raw.{raw as bare}
 use mir.Syntax.{Ty}
-use mir.Val.{Val, vptr, vstruct, vcons, vnil, of_list, has_ty, WT}
-use base.Logic.{SProp, ent, emp, never, fst∗}
+use mir.Val.{Val, vptr, vstruct, vcons, vnil, of_list}
+use base.Logic.{ent, emp, never, fst∗}
 use types.Logic.{Logic, sem}
 use types.Kit.{Item, Goal, Seq, Step, step, ‵, ◌$◌, move, drop, fsplit, fsplit3, fjoin, fjoin3, fpick, fpack, rewrite, feq_i, feq_l, use0}
 use denote.RattleType.{RattleType, Valss}
@@ -20,7 +20,6 @@ use denote.RawPtr.{Ptr, block_ptr, null_ptr, ptr_val, in_a_block}
 use denote.Shadow.{makes_shadow}
 use denote.Steps.{nothing, peeks}
 use denote.Param.{layout}
-use denote.Param.Laws.{Laws}
 use denote.Struct.Lending.{lent_at}
 use denote.Struct.Struct.{Struct, within}
 use denote.Struct.Owning.{shape}

@@ -1,6 +1,6 @@
 use denote.Struct.Struct.{exits_of}
 use denote.Struct.Owning.{shape, fields, to}
-use denote.Param.Send.{IsSend, IsSync, AllSend, owning_send, struct_send, struct_sync, sendable}
+use denote.Param.Send.{IsSend, AllSend, owning_send, struct_send, sendable}
 use Rattle.std_alloc.proofs.SendSync.{quiet}
 use Rattle.cell.specs.contracts.home.Closed as C
 

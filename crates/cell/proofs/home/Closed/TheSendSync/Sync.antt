@@ -1,7 +1,5 @@
-use denote.Struct.Struct.{exits_of}
-use denote.Struct.Owning.{shape, fields, to}
-use denote.Param.Send.{IsSend, IsSync, AllSend, owning_send, struct_send, struct_sync, sendable}
-use Rattle.std_alloc.proofs.SendSync.{quiet}
+use denote.Struct.Owning.{shape, to}
+use denote.Param.Send.{IsSync, struct_sync, sendable}
 use Rattle.cell.specs.contracts.home.Closed as C
 
 pub sync : IsSync C.the_row

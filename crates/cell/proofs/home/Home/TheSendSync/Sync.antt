@@ -1,9 +1,7 @@
 use mathlib.Core.List.{[], ◌∷◌}
 use Rattle.core.proofs.atomic.Sent.{chain-Keyless}
-use denote.Struct.Struct.{exits_of}
-use denote.Struct.Owning.{shape, fields, to}
-use denote.Param.Send.{IsSend, IsSync, AllSend, owning_send, struct_send, struct_sync, sendable}
-use Rattle.std_alloc.proofs.SendSync.{quiet}
+use denote.Struct.Owning.{shape, to}
+use denote.Param.Send.{IsSync, struct_sync, sendable}
 use Rattle.cell.specs.contracts.home.Home as C
 
 pub sync : IsSync C.the_row

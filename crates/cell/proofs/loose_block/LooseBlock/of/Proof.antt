@@ -5,10 +5,10 @@ use mir.Raw.{raw as bare}
 use mir.Val.{Val, vptr}
 use mir.MapTy.{inst_fn}
 use base.Logic.{SProp, ent, emp, never, id⊢, fst∗}
-use base.Fml.{ftrue, fsep, flft}
+use base.Fml.{ftrue, flft}
 use prog.Wp.{WpFn}
 use types.Logic.{sem}
-use types.Kit.{‵, raw, ◌⊛◌, some, later, ◌$◌, ◌∵◌, !, qed, by, move, keep, drop, split, split3, join, fsplit, fjoin, pick, suffices, use0, use1, await, feq_l}
+use types.Kit.{‵, raw, ◌⊛◌, some, later, ◌$◌, ◌∵◌, !, qed, by, move, keep, drop, split, join, fsplit, fjoin, pick, suffices, use0, use1, await, feq_l}
 use types.Run.{of_opd, no_more, and_then, returns, enter}
 use types.ByLocal.{alloc_all, pass_all, free_all, look_at, get, sets, lands_as}
 use types.Part.{agg}
@@ -21,7 +21,6 @@ use denote.Builtin.{RawPtr}
 use denote.RawPtr.{Ptr, block_ptr, null_ptr, ptr_val, in_a_block}
 use denote.Steps.{nothing, only}
 use denote.Param.{param, layout, bounded}
-use denote.Param.Laws.{param_laws}
 use denote.Triple.Clauses.{Lasts, lasts}
 use denote.Triple.Spec.{triple_of}
 use denote.Triple.Call.{calls_at}
@@ -34,7 +33,7 @@ use Rattle.std_alloc.proofs.BoxSteps.Steps.{box_out, box_in}
 use Rattle.std_alloc.proofs.ResultValues.{and_tt}
 use Rattle.std.proofs.raw_atomic.Walks.{proved_at, leaves}
 use Rattle.cell.specs.Words.{boxed}
-use Rattle.cell.proofs.Values.{marked, Loose, loose_good, loose_in}
+use Rattle.cell.proofs.Values.{marked, loose_good, loose_in}
 use Rattle.std_alloc.specs.contracts.boxed.Box.into_raw as callee
 use Rattle.std_alloc.proofs.boxed.Box.into_raw.Met.{met}
 use Rattle.cell.specs.contracts.loose_block.LooseBlock.of.{ended, clauses}

@@ -7,8 +7,7 @@ use base.Logic.{SProp, ent, emp, id⊢}
 use base.Fml.{Lft, ftrue, flft}
 use base.Before.{before}
 use prog.Wp.{WpFn}
-use types.Logic.{sem}
-use types.Kit.{‵, raw, ◌⊛◌, at_ret, ◌$◌, ◌∵◌, !, qed, by, move, keep, drop, split, join, fsplit, fjoin, suffices, use0, use2, rewrite, feq_i}
+use types.Kit.{‵, raw, ◌⊛◌, at_ret, ◌$◌, ◌∵◌, !, qed, by, move, keep, drop, split, fsplit, fjoin, suffices, use0, use2, rewrite, feq_i}
 use types.Run.{stop, fld, addr, of_opd, first, blocks, exec, returns, enter}
 use types.ByLocal.{alloc_all, pass_all, free_all, look_at, get, get_in, through, sets, sets_last, env}
 use types.Part.{sub, whole}
@@ -17,13 +16,13 @@ use contract.BorrowLft.{◌⊑◌}
 use contract.Running.{tables}
 use denote.Exit.{yes, no}
 use denote.RattleType.{RattleType, owns}
-use denote.Signature.{types_at, type_at, plain}
+use denote.Signature.{types_at, plain}
 use denote.Builtin.{RefOf}
 use denote.Ref.{ShrRef}
 use denote.Bor.{Bor}
 use denote.Opens.{unhide, hide}
 use denote.Steps.{nothing, heard}
-use denote.Param.{param, layout, layouts}
+use denote.Param.{param, layouts}
 use denote.Param.Laws.{param_laws}
 use denote.Struct.Lending.{lent_at}
 use denote.RawPtr.{block_ptr}

@@ -1,18 +1,15 @@
 -- A `&` to a word is made of a borrow of it: the pointer and what stands beside it go into an invariant. Assumes `Logic`.
-use Rattle.std.proofs.Common.{ℕ, ◌+◌, Bool, Option, List, [], ◌∷◌, ◌++◌}
+use Rattle.std.proofs.Common.{ℕ, ◌+◌, List, [], ◌∷◌}
 use seplogic.Ra.Ura.{Ura}
-use mir.Syntax.{Ty}
 use mir.Val.{Val}
-use base.Fraction.{full_share, left, right}
+use base.Fraction.{full_share}
 use base.Logic.{SProp, ent, sep, wand, ex, all_e, upd_i, apply∗, id⊢}
-use base.Fml.{Lft, Share, Fml, ftrue, fsep, fseps, fwand, fupd, fdead, fbor, flft, finv, Incl-refl, Incl-trans}
-use ghost.Rules.{span, thinned}
+use base.Fml.{Lft, Share, Fml, ftrue, fsep, fseps, fwand, fupd, fdead, fbor, flft, finv, Incl-refl}
 use base.Before.{before}
 use types.Logic.{Logic, sem}
 use types.Kit.{‵, raw, ◌⊛◌, some, later, ◌$◌, ◌∵◌, !, qed, by, move, keep, drop, use0, use1, use2, use3, split, split3, fsplit, fsplit3, fjoin, fjoin3, fpick, fpack, pick, show, assume, suffices, await, updating, now, done}
 use types.Tokens.{bor_open, obor_alter}
 use types.Na.{before-Incl}
-use contract.BorrowLft.{◌⊑◌, meet_⊑_left}
 use denote.RattleType.{RattleType, Denots}
 use denote.Memory.{part_of, part_at, cell_at, shared_of, lone}
 use denote.RawPtr.{Ptr, block_ptr, null_ptr}

@@ -1,17 +1,16 @@
 -- `offer` lends the block, and ends its lifetime if another came first.
-use Rattle.std.proofs.Common.{◌≡◌, ℕ, ◌+◌, Bool, true, false, Option, Some, None, List, [], ◌∷◌, ◌++◌, refl, sym, ap, ◌∙◌, subst, lit<}
+use Rattle.std.proofs.Common.{◌≡◌, ℕ, ◌+◌, true, Option, Some, None, List, [], ◌∷◌, ◌++◌, refl, sym, ap, subst, lit<}
 use mir.Syntax.{a_type, dcons, dnil}
-use mir.Val.{Val, vnull, vptr, vcons, vnil, vunit, has_ty}
+use mir.Val.{Val, vnull, vptr, vcons, vnil}
 use mir.MapTy.{inst_fn}
 use base.Fraction.{full_share, left, right}
 use base.Logic.{SProp, ent, wand, emp, id⊢, apply∗}
-use base.Fml.{Lft, Share, Fml, ftrue, ffalse, fsep, fex, flft, fdead}
+use base.Fml.{Lft, Share, Fml, ftrue, ffalse, fsep, flft}
 use base.Before.{before}
 use prog.Wp.{WpFn, Wp, after_seq, at_return}
-use types.Logic.{sem}
-use types.Kit.{‵, raw, ◌⊛◌, some, given, later, mean, at_ret, any_q, ◌$◌, ◌∵◌, !, qed, by, move, keep, drop, split, split3, join, fsplit, fsplit3, fjoin, fjoin3, fpick, fpack, pick, learn, suffices, use0, use1, use2, use3, await, rewrite, feq_i, feq_l}
-use types.Run.{stop, fld, addr, lit, unit_lit, of_opd, bin, no_more, and_then, first, blocks, branches, exec, Calls-last, returns, enter}
-use types.ByLocal.{alloc_all, pass_all, free_all, look_at, get, get_in, through, sets, sets_last, lands_as, lands_last, env}
+use types.Kit.{‵, raw, ◌⊛◌, some, later, mean, at_ret, any_q, ◌$◌, ◌∵◌, !, qed, by, move, keep, drop, split, split3, join, fsplit, fsplit3, fjoin, fpick, pick, suffices, use0, use1, use2, use3, await, rewrite, feq_i, feq_l}
+use types.Run.{stop, fld, addr, lit, of_opd, no_more, and_then, first, blocks, exec, Calls-last, returns, enter}
+use types.ByLocal.{alloc_all, pass_all, free_all, look_at, get, get_in, through, sets, sets_last, lands_last, env}
 use types.Part.{agg, sub, whole}
 use types.Match.{live}
 use contract.Monad.{fact, fact_i}
@@ -20,34 +19,27 @@ use contract.Running.{tables}
 use contract.Shared.{Lends-one}
 use denote.Exit.{yes, no}
 use denote.RattleType.{RattleType, owns}
-use denote.Laws.{Is, Typed, shows}
 use denote.Signature.{types_at, type_at, plain}
-use denote.Builtin.{RefOf, RawPtr}
-use denote.RawPtr.{Ptr, block_ptr, null_ptr, ptr_val, tests_null, Testable}
+use denote.Builtin.{RefOf}
+use denote.RawPtr.{Ptr, block_ptr, null_ptr, ptr_val}
 use denote.Opens.{unhide, hide}
-use denote.Steps.{nothing, only, heard, peeks}
+use denote.Steps.{nothing, only, heard}
 use denote.Param.{param, layout, bounded}
 use denote.Param.Laws.{param_laws}
 use denote.Struct.Lending.{lent_at}
 use denote.Triple.Clauses.{Lasts, lasts}
 use denote.Triple.Spec.{triple_of}
-use denote.Triple.Call.{calls_at}
 use denote.Triple.Walked.{Stays, stay_dropped, walk_of, Goes-dropped}
-use Rattle.std.specs.Sync.Atomic.Pointer.{atomic_ptr_value, atomic_ptr_holding}
-use Rattle.core.specs.contracts.atomic.ptr.AtomicPtr as atomic
-use Rattle.core.proofs.atomic.ptr.AtomicPtr.TheLaws as atomic_laws
 use Rattle.core.proofs.alloc.Calls.{Goes-blank}
 use Rattle.core.proofs.alloc.Shapes.{after}
-use Rattle.core.proofs.atomic.Steps.{Ptr-Good, fm}
-use Rattle.core.proofs.cell.Inside.{Good, one}
+use Rattle.core.proofs.atomic.Steps.{fm}
+use Rattle.core.proofs.cell.Inside.{Good}
 use Rattle.std.proofs.raw_atomic.Walks.{proved_at, leaves}
-use Rattle.cell.specs.Words.{WordView, word_view, Shows, view, held, kept, tested}
+use Rattle.cell.specs.Words.{Shows}
 use Rattle.cell.specs.contracts.home.Home as home
-use Rattle.cell.specs.contracts.home.Closed as closed
 use Rattle.cell.specs.contracts.word.Word as word
-use Rattle.cell.specs.contracts.word.Word.TheInside as inside
 use Rattle.cell.proofs.Moves as moves
-use Rattle.cell.proofs.Values.{alone, marked, marked_typed, Mark, Name, name_out, name_in, Loose, loose_good, loose_out, loose_in, word_in, word_out}
+use Rattle.cell.proofs.Values.{marked, Loose, loose_good, loose_out, loose_in}
 use Rattle.cell.specs.contracts.word.Word.offer.{ended, clauses}
 use Rattle.cell.specs.contracts.word.Word.offer.Key.{name as #self}
 use Rattle.cell.proofs.word.Word.offer.Statement.{statement}
@@ -59,12 +51,10 @@ use types.Run.{switches_on}
 use types.ByLocal.{get_tag, is as equals}
 use types.Match.{vrt, in_variant}
 use base.Logic.{never}
-use denote.Bor.{Bor}
 use denote.Builtin.{unit}
 use denote.Memory.{lone}
 use denote.Ref.{ShrRef}
-use denote.RawPtr.{lies_at, in_a_block}
-use denote.Struct.Tuple.{Tuple}
+use denote.RawPtr.{in_a_block}
 use denote.Triple.Call.{calls_at_last}
 use Rattle.core.specs.contracts.option.Option as options
 use Rattle.core.specs.declared.option.Option.TheVariants as option

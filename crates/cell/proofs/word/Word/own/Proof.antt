@@ -1,19 +1,16 @@
 -- `own` lends the block, and makes the pointer.
-use Rattle.std.proofs.Common.{◌≡◌, ℕ, ◌+◌, Bool, true, false, Option, Some, None, List, [], ◌∷◌, ◌++◌, refl, sym, ap, ◌∙◌, subst, lit<}
+use Rattle.std.proofs.Common.{◌≡◌, ℕ, true, Option, Some, List, [], ◌∷◌, ◌++◌, refl, sym, ap, subst}
 use mir.Syntax.{a_type, dcons, dnil}
-use mir.Val.{Val, vnull, vptr, vcons, vnil, vunit, has_ty}
+use mir.Val.{Val, vptr, has_ty}
 use mir.MapTy.{inst_fn}
-use base.Fraction.{full_share, left, right}
+use base.Fraction.{full_share}
 use base.Logic.{SProp, ent, wand, emp, id⊢, apply∗}
-use base.Fml.{Lft, Share, Fml, ftrue, ffalse, fsep, fex, flft, fdead}
-use base.Before.{before}
-use prog.Wp.{WpFn, Wp, after_seq, at_return}
-use types.Logic.{sem}
-use types.Kit.{‵, raw, ◌⊛◌, some, given, later, mean, at_ret, any_q, ◌$◌, ◌∵◌, !, qed, by, move, keep, drop, split, split3, join, fsplit, fsplit3, fjoin, fjoin3, fpick, fpack, pick, learn, suffices, use0, use1, use2, use3, await, rewrite, feq_i, feq_l}
-use types.Run.{stop, fld, addr, lit, unit_lit, of_opd, bin, no_more, and_then, first, blocks, branches, exec, Calls-last, returns, enter}
-use types.ByLocal.{alloc_all, pass_all, free_all, look_at, get, get_in, through, sets, sets_last, lands_as, lands_last, env}
+use base.Fml.{Lft, Share, ftrue, fsep, flft}
+use prog.Wp.{WpFn}
+use types.Kit.{‵, raw, ◌⊛◌, some, later, ◌$◌, ◌∵◌, !, qed, by, move, keep, drop, split, split3, join, fsplit, fjoin, fjoin3, fpack, pick, suffices, use0, use1, use2, use3, await, rewrite, feq_i}
+use types.Run.{stop, fld, of_opd, no_more, and_then, returns, enter}
+use types.ByLocal.{alloc_all, pass_all, free_all, look_at, get, get_in, sets, lands_as}
 use types.Part.{agg, sub, whole}
-use types.Match.{live}
 use contract.Monad.{fact, fact_i}
 use contract.BorrowLft.{◌⊑◌}
 use contract.Running.{tables}
@@ -22,13 +19,12 @@ use denote.Exit.{yes, no}
 use denote.RattleType.{RattleType, owns}
 use denote.Laws.{Is, Typed, shows}
 use denote.Signature.{types_at, type_at, plain}
-use denote.Builtin.{RefOf, RawPtr}
-use denote.RawPtr.{Ptr, block_ptr, null_ptr, ptr_val, tests_null, Testable}
-use denote.Opens.{unhide, hide}
+use denote.Builtin.{RefOf}
+use denote.RawPtr.{Ptr, block_ptr}
+use denote.Opens.{unhide}
 use denote.Steps.{nothing, only, heard, peeks}
 use denote.Param.{param, layout, bounded}
 use denote.Param.Laws.{param_laws}
-use denote.Struct.Lending.{lent_at}
 use denote.Triple.Clauses.{Lasts, lasts}
 use denote.Triple.Spec.{triple_of}
 use denote.Triple.Call.{calls_at}
@@ -37,22 +33,18 @@ use Rattle.std.specs.Sync.Atomic.Pointer.{atomic_ptr_value, atomic_ptr_holding}
 use Rattle.core.specs.contracts.atomic.ptr.AtomicPtr as atomic
 use Rattle.core.proofs.atomic.ptr.AtomicPtr.TheLaws as atomic_laws
 use Rattle.core.proofs.alloc.Calls.{Goes-blank}
-use Rattle.core.proofs.alloc.Shapes.{after}
-use Rattle.core.proofs.atomic.Steps.{Ptr-Good, fm}
+use Rattle.core.proofs.atomic.Steps.{fm}
 use Rattle.core.proofs.cell.Inside.{Good, one}
 use Rattle.std.proofs.raw_atomic.Walks.{proved_at, leaves}
-use Rattle.cell.specs.Words.{WordView, word_view, Shows, view, held, kept, tested}
+use Rattle.cell.specs.Words.{WordView, word_view, Shows, held, kept}
 use Rattle.cell.specs.contracts.home.Home as home
-use Rattle.cell.specs.contracts.home.Closed as closed
-use Rattle.cell.specs.contracts.word.Word as word
 use Rattle.cell.specs.contracts.word.Word.TheInside as inside
 use Rattle.cell.proofs.Moves as moves
-use Rattle.cell.proofs.Values.{alone, marked, marked_typed, Mark, Name, name_out, name_in, Loose, loose_good, loose_out, loose_in, word_in, word_out}
+use Rattle.cell.proofs.Values.{marked, marked_typed, Loose, loose_good, loose_out, word_in}
 use Rattle.cell.specs.contracts.word.Word.own.{ended, clauses}
 use Rattle.cell.specs.contracts.word.Word.own.Key.{name as #self}
 use Rattle.cell.proofs.word.Word.own.Statement.{statement}
 use Rattle.cell.proofs.word.Word.own.Code as code
-use contract.Shared.{Lends-one as lends_one}
 use Rattle.core.specs.contracts.atomic.ptr.AtomicPtr.new as callee
 use Rattle.core.proofs.atomic.ptr.AtomicPtr.new.Met.{met}
 
