@@ -3,7 +3,8 @@ use Rattle.std.specs.Prelude.{◌≡◌, ℕ, List, [], ◌∷◌, Option, Some,
 use Rattle.generations.specs.declared.cell.Entry.{Entry}
 use Rattle.generations.specs.declared.place.Place.{Place}
 
--- a bucket: empty, with an entry of its own, or with the name of an entry that a bucket of an earlier generation owns
+-- a bucket: empty, with an entry of its own, or with the name of an entry that a bucket of an
+-- earlier generation owns
 pub data Content (T : Type 0) : Type 0 where
   vacant : Content T
   own : (entry : Entry T) → Content T
@@ -43,7 +44,8 @@ module _ {T : Type 0} where
   abbrev pub home : List (List (Content T)) → ℕ → ℕ → Option (Entry T)
   home gs g i = owned (content_at (slice_index_or gs g []) i)
 
-  -- where the entry of bucket i lives, after so many earlier generations: in that bucket, or where its name leads
+  -- where the entry of bucket i lives, after so many earlier generations: in that bucket, or
+  -- where its name leads
   abbrev pub home_place : ℕ → ℕ → Content T → Place
   home_place earlier i (named b g j) = record { generation = g; index = j }
   home_place earlier i (own e) = record { generation = earlier; index = i }

@@ -35,7 +35,8 @@ module _ {T : Type 0} where
 
   -- the name leads to an entry with these bits
   abbrev pub NamesEntry : List (List (Content T)) → ℕ → ℕ → ℕ → Type 0
-  NamesEntry gs bits generation index = (e : Entry T) × (home gs generation index ≡ Some e) × (e.bits ≡ bits)
+  NamesEntry gs bits generation index = (e : Entry T) × (home gs generation index ≡ Some e)
+      × (e.bits ≡ bits)
 
   -- the name leads to this entry, and carries its bits
   abbrev pub Leads : List (List (Content T)) → Name → Entry T → Type 0

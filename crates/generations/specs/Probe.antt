@@ -28,12 +28,14 @@ module _ {T U : Type 0} (target : T → U) (answers : U → Bool → Type 0) whe
   abbrev pub ComparisonGives : ℕ → Option (Entry T) → Place → Comparison T → Type 0
   ComparisonGives bits shown place comparison.Vacant = shown ≡ None
   ComparisonGives bits shown place comparison.Different = IsPassedBy bits shown
-  ComparisonGives bits shown place (comparison.Accepted p entry) = IsAcceptedBy bits shown × (shown ≡ Some entry.now) × (p ≡ place)
+  ComparisonGives bits shown place (comparison.Accepted p entry) = IsAcceptedBy bits shown
+      × (shown ≡ Some entry.now) × (p ≡ place)
 
   module _ (ps : List (Option (Entry T))) (hash : ℕ) where
     -- each of the first d buckets of the probe holds an entry that was not accepted
     pub record IsPassed (d : ℕ) : Type 0 where
-      pub refused : (k : ℕ) → k < d → IsPassedBy (bits_of hash) (value_at ps (bucket_at (length ps) hash k))
+      pub refused : (k : ℕ) → k < d
+          → IsPassedBy (bits_of hash) (value_at ps (bucket_at (length ps) hash k))
 
     -- the probe passed the buckets before i, and accepted the entry there
     pub record IsAccepted (i : ℕ) : Type 0 where
@@ -55,6 +57,7 @@ module _ {T U : Type 0} (target : T → U) (answers : U → Bool → Type 0) whe
   module _ (gs : List (List (Content T))) (ps : List (Content T)) (hash : ℕ) where
     abbrev pub ProbeGives : ProbeEnd T → Type 0
     ProbeGives (Accepted p entry) = (i : ℕ) × IsAccepted (shown_all gs ps) hash i
-        × (value_at (shown_all gs ps) i ≡ Some entry.now) × (p ≡ home_place (length gs) i (content_at ps i))
+        × (value_at (shown_all gs ps) i ≡ Some entry.now)
+        × (p ≡ home_place (length gs) i (content_at ps i))
     ProbeGives (Vacant i) = IsVacant (shown_all gs ps) hash i
     ProbeGives Full = IsPassed (shown_all gs ps) hash (length (shown_all gs ps))

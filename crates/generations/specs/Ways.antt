@@ -11,7 +11,8 @@ module _ {X : Type 0} where
   abbrev pub IsHeld : List (Option X) → ℕ → Type 0
   IsHeld ps i = (v : X) × (value_at ps i ≡ Some v)
 
-  -- bucket i lies on the cyclic way from the hash's first bucket, and every bucket before it on that way is set
+  -- bucket i lies on the cyclic way from the hash's first bucket, and every bucket before it on
+  -- that way is set
   pub record IsReached (ps : List (Option X)) (hash i : ℕ) : Type 0 where
     pub steps : ℕ
     pub within : steps < length ps
@@ -21,11 +22,13 @@ module _ {X : Type 0} where
 module _ {T U : Type 0} (target : T → U) (hash_of : U → ℕ) where
   -- each entry is reached from its hash
   abbrev pub AllReached : List (Option (Entry T)) → Type 0
-  AllReached ps = (i : ℕ) (e : Entry T) → value_at ps i ≡ Some e → IsReached ps (hash_of (target e.value)) i
+  AllReached ps = (i : ℕ) (e : Entry T) → value_at ps i ≡ Some e
+      → IsReached ps (hash_of (target e.value)) i
 
   -- each entry carries the eight bits of its hash
   abbrev pub AllMarked : List (Option (Entry T)) → Type 0
-  AllMarked ps = (i : ℕ) (e : Entry T) → value_at ps i ≡ Some e → e.bits ≡ bits_of (hash_of (target e.value))
+  AllMarked ps = (i : ℕ) (e : Entry T) → value_at ps i ≡ Some e
+      → e.bits ≡ bits_of (hash_of (target e.value))
 
 module _ {T U : Type 0} (target : T → U) (same : U → U → Bool) (hash_of : U → ℕ) where
   -- each entry is reached from its hash and carries its bits, and no two entries are the same

@@ -28,7 +28,16 @@ module _ {T : Type 0} where
   -- a first generation was made, or one was there
   abbrev pub IsOpened : HeldTable T → HeldTable T → Type 0
   IsOpened old new =
-      ((old ≡ empty_table old.first_capacity) × (new ≡ record { first_capacity = old.first_capacity; buckets = replicate old.first_capacity None; homes = replicate old.first_capacity None ∷ []; size = 0 }))
+      ((old ≡ empty_table old.first_capacity)
+      × (new ≡ record {
+        first_capacity =
+            old.first_capacity;
+        buckets =
+            replicate old.first_capacity None;
+        homes =
+            replicate old.first_capacity None ∷ [];
+        size = 0;
+      }))
       ⊎ ((new ≡ old) × (0 < length old.buckets))
 
   -- each place keeps what lives there
@@ -47,24 +56,33 @@ module _ {T : Type 0} where
 
 module _ {T U : Type 0} (target : T → U) (answers : U → Bool → Type 0) where
   -- what one try to place a value in the current generation does
-  abbrev pub TriesToPlace : HeldTable T → ℕ → T → Result (Place × Option T) (Refusal T) → HeldTable T → Type 0
+  abbrev pub TriesToPlace : HeldTable T → ℕ → T → Result (Place × Option T) (Refusal T)
+      → HeldTable T → Type 0
   TriesToPlace old hash value r new =
       TryEnds target answers old.buckets hash value
-      (λ p i. (new ≡ with_entry old i (entry_of value hash)) × (home_at new p ≡ Some (entry_of value hash)) × KeepsHomes old new)
+      (λ p i. (new ≡ with_entry old i (entry_of value hash))
+      × (home_at new p ≡ Some (entry_of value hash)) × KeepsHomes old new)
       (λ p i. home_at old p ≡ value_at old.buckets i)
       (old.size ≡ length old.buckets)
       (new ≡ old)
       r
 
-module _ {T U : Type 0} (target : T → U) (accepts : U → Bool → Type 0) (rehash : U → ℕ → Type 0) where
+module _ {T U : Type 0} (target : T → U) (accepts : U → Bool → Type 0)
+    (rehash : U → ℕ → Type 0) where
   -- what a placed value leaves, in the words of one try: an Err is a refused block
   abbrev pub TriesWell : HeldTable T → ℕ → T → Result (Place × Option T) T → HeldTable T → Type 0
-  TriesWell old hash value (Ok placed) new = TriesToPlace target accepts old hash value (Ok placed) new
-  TriesWell old hash value (Err back) new = TriesToPlace target accepts old hash value (Err (NoMemory back)) new
+  TriesWell old hash value (Ok placed) new =
+      TriesToPlace target accepts old hash value (Ok placed) new
+  TriesWell old hash value (Err back) new =
+      TriesToPlace target accepts old hash value (Err (NoMemory back)) new
 
-  -- a value is placed in the current generation, or it was full for the value, and then growth was refused, or the value is placed after growth
-  abbrev pub PlacesOrGrows : HeldTable T → ℕ → T → Result (Place × Option T) T → HeldTable T → Type 0
+  -- a value is placed in the current generation, or it was full for the value, and then growth
+  -- was refused, or the value is placed after growth
+  abbrev pub PlacesOrGrows : HeldTable T → ℕ → T → Result (Place × Option T) T → HeldTable T
+      → Type 0
   PlacesOrGrows old hash value r new =
       TriesWell old hash value r new
       ⊎ (IsPassed target accepts old.buckets hash (length old.buckets)
-      × (((r ≡ Err value) × (new ≡ old)) ⊎ ((mid : HeldTable T) × IsGrown target rehash old mid × TriesWell mid hash value r new)))
+      × (((r ≡ Err value) × (new ≡ old))
+      ⊎ ((mid : HeldTable T) × IsGrown target rehash old mid
+      × TriesWell mid hash value r new)))

@@ -66,22 +66,32 @@ module _ {T : Type 0} where
 
   -- the table of earlier generations and a current one
   abbrev pub table_of : ℕ → List (List (Content T)) → List (Content T) → ℕ → HeldTable T
-  table_of first gs current size = record { first_capacity = first; buckets = shown_all gs current; homes = homes_of gs current; size = size }
+  table_of first gs current size =
+      record {
+        first_capacity =
+            first;
+        buckets = shown_all gs current;
+        homes = homes_of gs current;
+        size = size;
+      }
 
   -- there is no generation, or the generations have the sizes that growth gives them
   abbrev pub IsBuilt : ℕ → List (List (Content T)) → List (Content T) → Type 0
   IsBuilt first gs current =
       ((gs ≡ []) × (current ≡ []))
-      ⊎ IsSized first (length gs) (length current) (sum_by length (homes_of gs current)) (length (set_contents current))
+      ⊎ IsSized first (length gs) (length current)
+      (sum_by length (homes_of gs current)) (length (set_contents current))
 
   -- what is true of the generations of every table
-  pub record IsKept (first : ℕ) (gs : List (List (Content T))) (current : List (Content T)) (size : ℕ) : Type 0 where
+  pub record IsKept (first : ℕ) (gs : List (List (Content T))) (current : List (Content T))
+      (size : ℕ) : Type 0 where
     pub first_is : IsFirstCapacity first
     pub built : IsBuilt first gs current
     -- each name leads to its entry
     pub sound : AllSound gs current
     -- the entries shown are those that some bucket owns, each once
-    pub whole : IsPermutation (flat_map values (homes_of gs current)) (values (shown_all gs current))
+    pub whole : IsPermutation (flat_map values (homes_of gs current))
+        (values (shown_all gs current))
     pub counted : size ≡ length (values (shown_all gs current))
 
 module _ {T U : Type 0} (target : T → U) (same : U → U → Bool) (hash_of : U → ℕ) where
@@ -91,11 +101,13 @@ module _ {T U : Type 0} (target : T → U) (same : U → U → Bool) (hash_of : 
 
 -- the table is lawful for every equality and every hash
 abbrev pub IsLawfulForAll : {T U : Type 0} → (T → U) → HeldTable T → Type 0
-IsLawfulForAll {T} {U} target t = (same : U → U → Bool) (hash_of : U → ℕ) → IsLawful target same hash_of t
+IsLawfulForAll {T} {U} target t = (same : U → U → Bool) (hash_of : U → ℕ)
+    → IsLawful target same hash_of t
 
 -- a table without entries is lawful for every equality and every hash
 abbrev pub LawfulWithoutEntries : {T U : Type 0} → (T → U) → Type 0
-LawfulWithoutEntries {T} target = (t : HeldTable T) → length (entries t) ≡ 0 → IsLawfulForAll target t
+LawfulWithoutEntries {T} target = (t : HeldTable T) → length (entries t) ≡ 0
+    → IsLawfulForAll target t
 
 -- a table held alone shows its entries so
 abbrev pub held : {T : Type 0} → Shows (HeldTable T) T Place

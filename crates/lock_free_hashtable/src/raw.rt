@@ -11,7 +11,7 @@ mod iter;
 pub mod laws;
 
 use generations::atomic_value::{AtomicValue, Law};
-use generations::fixed::{Generation, Refusal, ProbeEnd};
+use generations::fixed::{Generation, ProbeEnd, Refusal};
 use generations::growth::rehashed;
 use generations::place::Place;
 pub use into_iter::IntoIter;
