@@ -11,8 +11,6 @@ mod machine;
 pub mod reply;
 pub mod state;
 mod table;
-#[cfg(test)]
-mod tests;
 pub mod theorems;
 
 pub use call::{Answer, CallState, Outcome, Phase};

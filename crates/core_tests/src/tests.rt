@@ -1,0 +1,6 @@
+//! Tests of `table_core` over all of its modules.
+
+mod decisions;
+mod load;
+mod schedules;
+mod script;

@@ -1,0 +1,183 @@
+//! Answers that have no place in a call's phase, or whose numbers can't be.
+
+use std::process::Abort;
+use table_core::call::{Answer, CallState, Outcome, Phase};
+use table_core::deciding::decide;
+
+const HOLDS: Answer = Answer::Holds { accepted: true };
+
+const LOADED: Answer = Answer::Loaded {
+    number: 1,
+    capacity: 32,
+};
+
+const AFTER_FAILURE: Answer = Answer::ReleasedAfterFailure {
+    still_current: true,
+};
+
+const SIZED: Answer = Answer::Sized { size: 8 };
+
+const ANSWERS: [Answer; 17] = [
+    Answer::Taken,
+    Answer::Released,
+    AFTER_FAILURE,
+    Answer::NoGeneration,
+    LOADED,
+    Answer::Empty,
+    HOLDS,
+    Answer::HoldsUnasked,
+    Answer::Won,
+    Answer::MemoryRefused,
+    Answer::Counted,
+    SIZED,
+    Answer::Begun,
+    Answer::Unwanted,
+    Answer::Failed,
+    Answer::Copied,
+    Answer::Shown,
+];
+
+/// Each phase with the answers that it can get.
+const FITTING: [(Phase, &[Answer]); 21] = [
+    (Phase::WantShared, &[Answer::Taken]),
+    (Phase::Shared, &[Answer::NoGeneration, LOADED]),
+    (Phase::Probe, &[Answer::Empty, HOLDS, Answer::HoldsUnasked]),
+    (
+        Phase::AtEmpty,
+        &[
+            Answer::MemoryRefused,
+            Answer::Won,
+            HOLDS,
+            Answer::HoldsUnasked,
+        ],
+    ),
+    (Phase::Placed, &[Answer::Counted]),
+    (Phase::LeaveOk, &[Answer::Released]),
+    (Phase::LeaveGrow, &[Answer::Released]),
+    (Phase::LeaveRefused, &[Answer::Released]),
+    (Phase::AskSize, &[SIZED]),
+    (Phase::WantOwned, &[Answer::Taken]),
+    (
+        Phase::Owned,
+        &[Answer::Begun, Answer::Unwanted, Answer::Failed],
+    ),
+    (Phase::Building, &[Answer::Copied, Answer::Shown]),
+    (Phase::LeaveOwned, &[Answer::Released]),
+    (Phase::LeaveFailed, &[AFTER_FAILURE]),
+    (Phase::LookLoad, &[Answer::NoGeneration, LOADED]),
+    (
+        Phase::LookProbe,
+        &[Answer::Empty, HOLDS, Answer::HoldsUnasked],
+    ),
+    (Phase::LenLoad, &[Answer::NoGeneration, LOADED]),
+    (Phase::LenSize, &[SIZED]),
+    (Phase::WalkLoad, &[Answer::NoGeneration, LOADED]),
+    (Phase::WalkAt, &[Answer::Empty, Answer::HoldsUnasked]),
+    (Phase::Done, &[]),
+];
+
+/// A call at bucket 3 of 16, with two buckets behind it.
+const STANDING: CallState = CallState {
+    phase: Phase::Done,
+    hash: 1,
+    walked: Some(0),
+    capacity: 16,
+    index: 3,
+    seen: 2,
+    outcome: Outcome::Pending,
+};
+
+/// In this phase this answer moves a call, or it doesn't.
+fn check_answer(rt: &impl Abort, at: CallState, phase: Phase, answer: Answer, moves: bool) {
+    let state = CallState { phase, ..at };
+    assert_eq!(rt;
+        decide(state, answer) != state,
+        moves,
+        "{phase:?} {answer:?}"
+    );
+}
+
+/// In this phase these answers move a call, and no other does. A copy leaves its call where it is.
+fn check_phase(rt: &impl Abort, phase: Phase, fitting: &[Answer]) {
+    for answer in ANSWERS {
+        let moves = fitting.contains(&answer) && answer != Answer::Copied;
+        check_answer(rt, STANDING, phase, answer, moves);
+    }
+}
+
+#[test]
+fn answers_that_do_not_fit_change_nothing(rt: HostRuntime) {
+    for (phase, fitting) in FITTING {
+        check_phase(&rt, phase, fitting);
+    }
+}
+
+/// Phases that load a generation.
+const LOADING: [Phase; 4] = [
+    Phase::Shared,
+    Phase::LookLoad,
+    Phase::LenLoad,
+    Phase::WalkLoad,
+];
+
+const LOADED_NOTHING: Answer = Answer::Loaded {
+    number: 0,
+    capacity: 0,
+};
+
+/// What is answered at a bucket of a probe.
+const AT_A_BUCKET: [(Phase, Answer); 11] = [
+    (Phase::Probe, Answer::Empty),
+    (Phase::Probe, HOLDS),
+    (Phase::Probe, Answer::HoldsUnasked),
+    (Phase::AtEmpty, Answer::Won),
+    (Phase::AtEmpty, Answer::MemoryRefused),
+    (Phase::AtEmpty, HOLDS),
+    (Phase::AtEmpty, Answer::HoldsUnasked),
+    (Phase::Placed, Answer::Counted),
+    (Phase::LookProbe, Answer::Empty),
+    (Phase::LookProbe, HOLDS),
+    (Phase::LookProbe, Answer::HoldsUnasked),
+];
+
+/// What else is answered of a generation.
+const OF_A_GENERATION: [(Phase, Answer); 4] = [
+    (Phase::AskSize, SIZED),
+    (Phase::LenSize, SIZED),
+    (Phase::WalkAt, Answer::Empty),
+    (Phase::WalkAt, Answer::HoldsUnasked),
+];
+
+/// The call stands at a bucket that isn't, or has passed so many buckets.
+const AT_NO_BUCKET: [CallState; 3] = [
+    CallState {
+        index: 16,
+        ..STANDING
+    },
+    CallState {
+        seen: 16,
+        ..STANDING
+    },
+    WITHOUT_BUCKETS,
+];
+
+/// The call's generation has no bucket.
+const WITHOUT_BUCKETS: CallState = CallState {
+    capacity: 0,
+    ..STANDING
+};
+
+#[test]
+fn numbers_that_can_not_be_change_nothing(rt: HostRuntime) {
+    for phase in LOADING {
+        check_answer(&rt, STANDING, phase, LOADED_NOTHING, false);
+    }
+    for (phase, answer) in AT_A_BUCKET {
+        for state in AT_NO_BUCKET {
+            check_answer(&rt, state, phase, answer, false);
+        }
+    }
+    for (phase, answer) in OF_A_GENERATION {
+        check_answer(&rt, WITHOUT_BUCKETS, phase, answer, false);
+    }
+}
