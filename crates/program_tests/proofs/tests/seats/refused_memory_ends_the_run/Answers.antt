@@ -5,5 +5,5 @@ use Rattle.program_tests.proofs.tests.seats.refused_memory_ends_the_run.Goals as
 pub assert_ends-requires-frees-A-Allocator : goal.assert_ends-requires-frees-A-Allocator
 assert_ends-requires-frees-A-Allocator g c = λ κs. record { frees = λ heap τ p. global.frees.frees heap.now.inner τ p }
 
-pub assert_ends-requires-2-frees-A-Allocator : goal.assert_ends-requires-2-frees-A-Allocator
-assert_ends-requires-2-frees-A-Allocator g c = λ κs. record { frees = λ heap τ p. global.frees.frees heap.now.inner τ p }
+pub assert_ends-requires-in-loop-granted-frees-A-Allocator : goal.assert_ends-requires-in-loop-granted-frees-A-Allocator
+assert_ends-requires-in-loop-granted-frees-A-Allocator g c = λ κs. record { frees = λ heap τ p. global.frees.frees heap.now.inner τ p }
