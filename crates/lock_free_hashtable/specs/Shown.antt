@@ -1,6 +1,6 @@
 -- What tables show to their callers, and what the calls on them say by it: with any closures,
--- with lawful ones, and in the
--- words of the list object. A table held alone is one kind of table, and shards of it are another.
+-- with lawful ones, and in the words of the list object. A table held alone is one kind of table,
+-- and shards of it are another.
 use Rattle.std.specs.Prelude.{◌≡◌, ℕ, ◌++◌, Bool, true, false, List, [], ◌∷◌, Option, Some, None, Result, Ok, Err, Contains, option_map}
 use Rattle.std.specs.List.Sorted.{IsPermutation}
 use Rattle.std.specs.Borrow.{Bor}

@@ -68,8 +68,7 @@ module _ {T : Type 0} where
   abbrev pub table_of : ℕ → List (List (Content T)) → List (Content T) → ℕ → HeldTable T
   table_of first gs current size =
       record {
-        first_capacity =
-            first;
+        first_capacity = first;
         buckets = shown_all gs current;
         homes = homes_of gs current;
         size = size;
