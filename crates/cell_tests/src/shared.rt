@@ -107,7 +107,7 @@ fn round(rt: &impl Threads, alloc: Global, drops: &Arc<AtomicU64>) -> Result<boo
             && agree(first, second, shown)
             && kept
             && lost % 2 == 1
-            && drops.load(SeqCst) == lost + 1,
+            && drops.load(SeqCst) == lost.wrapping_add(1),
     )
 }
 
