@@ -10,16 +10,10 @@
 //! Other words print the usage, and the status is 1.
 #![tactic(auto)]
 
-mod measures;
-mod numbers;
-mod report;
-mod schedules;
-mod seats;
-
-use crate::measures::{check_held, measure_held};
-use crate::report::{Report, refuse_words};
-use crate::schedules::{check_schedules, measure_schedules};
-use crate::seats::{check_seats, measure_seats};
+use measures::held::{check_held, measure_held};
+use measures::report::{Report, refuse_words};
+use measures::schedules::{check_schedules, measure_schedules};
+use measures::seats::{check_seats, measure_seats};
 use std::convert::AsStr;
 use std::{env, io};
 

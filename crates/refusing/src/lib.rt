@@ -7,9 +7,6 @@ ghost use Rattle.refusing.specs.Rules.{least_counted, most_counted, Counts, memo
 use std::alloc::{AllocError, Allocator};
 use std::sync::atomic::{AtomicU64, Ordering};
 
-#[cfg(test)]
-mod tests;
-
 /// Which requests are refused. Requests of other sizes pass and are not counted.
 pub struct Rule {
     least: usize,

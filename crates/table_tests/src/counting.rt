@@ -1,9 +1,9 @@
 //! A value that counts how often it is dropped.
 ghost use Rattle.std.specs.Prelude.{◌≡◌};
 
-use lock_free_hashtable::atomic_value::Law;
 use std::cell::Cell;
 use std::rc::Rc;
+use terms::law::Law;
 
 /// A number, with the count of its drops.
 pub struct Counting {
@@ -31,11 +31,11 @@ impl Drop for Counting {
 pub struct CountingLaw {}
 
 impl Law<Counting> for CountingLaw {
-    ghost use Rattle.table_tests.specs.Laws.{same_number, number_hash, number_lawful};
+    ghost use Rattle.terms.specs.Laws.{same_by_number, hash_by_number, number_lawful};
 
-    ghost same = { same_number (λ value. value.number) };
+    ghost same = { same_by_number (λ value. value.number) };
 
-    ghost hash_of = { number_hash (λ value. value.number) };
+    ghost hash_of = { hash_by_number (λ value. value.number) };
 
     ghost lawful = { number_lawful (λ value. value.number) };
 }

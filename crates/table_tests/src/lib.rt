@@ -2,7 +2,6 @@
 #![tactic(auto)]
 
 pub mod counting;
-pub mod laws;
 pub mod slow_list;
 #[cfg(test)]
 mod tests;

@@ -1,19 +1,12 @@
 //! The list object as a plain list that is scanned from the front: slow, and plainly right.
 ghost use Rattle.std.specs.Prelude.{◌≡◌, [], IsTrue, IsFalse};
-ghost use Rattle.table_core.specs.ListObject.{Insert, Lookup, Length, Walk, Counted, Walked, Answers, AcceptsNone, AcceptsEntry};
-ghost use Rattle.table_tests.specs.Laws.{same_pair};
+ghost use Rattle.terms.specs.ListObject.{Insert, Lookup, Length, Walk, Counted, Walked, Answers, AcceptsNone, AcceptsEntry};
+ghost use Rattle.terms.specs.Laws.{same_pair};
 ghost use Rattle.table_tests.specs.SlowList.{inserted, looked_up};
 
 use std::alloc::Global;
 use std::marker::Model;
-
-/// How an insert into the list ended.
-#[derive(Clone, Copy, Debug, PartialEq, Eq)]
-pub enum Insertion {
-    Placed,
-    Found,
-    Refused,
-}
+use terms::insertion::Insertion;
 
 /// A growing list of pairs, no two of them equal.
 #[derive(Drop)]

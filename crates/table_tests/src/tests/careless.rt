@@ -1,10 +1,26 @@
 //! Closures that keep no law: no value is lost, and none is kept twice.
-use super::pairs::{Pairs, hash, same};
-use crate::laws::PairLaw;
+use super::pairs::{Pairs, assert_size, hash, same};
 use lock_free_hashtable::raw::HeldRawTable;
 use std::alloc::{AllocError, Global};
 use std::cell::Cell;
+use std::ops::Range;
+use std::process::Abort;
 use std::test::Fail;
+use terms::law::PairLaw;
+
+/// Pairs that are inserted: whether each is placed, and how often `eq` is asked.
+const INSERT_ASKS: [((u64, u64), (bool, u64)); 3] = [
+    ((0, 1), (true, 0)),
+    ((1 << 32, 2), (true, 0)),
+    ((0, 1), (false, 1)),
+];
+
+/// Hashes that are looked up then: whether an entry is shown, and how often the test is asked.
+const LOOKUP_ASKS: [(u64, (bool, u64)); 3] = [
+    (0, (true, 1)),
+    (1 << 32, (true, 1)),
+    (2 << 32, (false, 0)),
+];
 
 /// Inserts a pair under a hash of the caller's. Whether it was placed.
 fn places<E: Fn(&(u64, u64), &(u64, u64)) -> bool, H: Fn(&(u64, u64)) -> u64>(
@@ -25,36 +41,114 @@ fn places<E: Fn(&(u64, u64), &(u64, u64)) -> bool, H: Fn(&(u64, u64)) -> u64>(
     }
 }
 
-/// The second parts of the pairs that a table gives back, in ascending order.
-fn numbers_in(table: Pairs, alloc: Global) -> Result<Vec<u64>, AllocError> {
+/// The pair of the number and itself is placed under that number as its hash.
+fn assert_places<E: Fn(&(u64, u64), &(u64, u64)) -> bool, H: Fn(&(u64, u64)) -> u64>(
+    rt: &impl Abort,
+    table: &mut Pairs,
+    alloc: Global,
+    number: u64,
+    eq: E,
+    hash_fn: H,
+) -> Result<(), AllocError>
+    requires eq_callable { E.IsAlwaysCallable eq }
+    requires hash_callable { H.IsAlwaysCallable hash_fn }
+{
+    let placed = places(table, alloc, number, (number, number), eq, hash_fn)?;
+    assert!(rt; placed, "at {number}");
+    Ok(())
+}
+
+/// The second parts of the pairs that a table gives back, in ascending order, are these.
+fn assert_numbers(
+    rt: &impl Abort,
+    table: Pairs,
+    alloc: Global,
+    expected: Range<u64>,
+) -> Result<(), AllocError> {
     let mut numbers = Vec::new(alloc);
     for pair in table {
         numbers.push(pair.1)?;
     }
     numbers.sort_unstable();
-    Ok(numbers)
+    let expected: Vec<u64> = expected.collect(alloc)?;
+    assert_eq!(rt; numbers.as_slice(), expected.as_slice());
+    Ok(())
+}
+
+/// The number that a look-up for it shows, under a hash of the caller's.
+fn shown_at(table: &Pairs, given: u64, number: u64) -> Option<u64> {
+    let shown = table.lookup_alone::<PairLaw, _>(given, |pair: &(u64, u64)| pair.1 == number);
+    shown.map(|pair: &(u64, u64)| pair.1)
+}
+
+/// An equality that is always met shows the first entry at the insert of a number. The number that comes back.
+fn insert_beside_one(
+    rt: &impl Abort,
+    table: &mut Pairs,
+    alloc: Global,
+    number: u64,
+) -> Result<Option<u64>, AllocError> {
+    let value = Box::new(alloc, (0, number))?;
+    match table.insert_alone::<PairLaw, _, _>(
+        0,
+        value,
+        |_: &(u64, u64), _: &(u64, u64)| true,
+        hash,
+    ) {
+        Ok((shown, back)) => {
+            assert_eq!(rt; *shown, (0, 1));
+            Ok(back.map(|pair: Box<(u64, u64)>| pair.1))
+        }
+        Err(_) => Err(AllocError),
+    }
+}
+
+/// Whether the pair is placed, and how often `eq` is asked.
+fn asks_of_insert(
+    table: &mut Pairs,
+    alloc: Global,
+    pair: (u64, u64),
+) -> Result<(bool, u64), AllocError> {
+    let asked = Cell::new(0u64);
+    let placed = places(
+        table,
+        alloc,
+        pair.0,
+        pair,
+        |a: &(u64, u64), b: &(u64, u64)| {
+            asked.set(asked.get().wrapping_add(1));
+            a == b
+        },
+        hash,
+    )?;
+    Ok((placed, asked.get()))
+}
+
+/// Whether an entry of this hash is shown, and how often the test is asked.
+fn asks_of_lookup(table: &Pairs, given: u64) -> (bool, u64) {
+    let asked = Cell::new(0u64);
+    let shown = table.lookup_alone::<PairLaw, _>(given, |pair: &(u64, u64)| {
+        asked.set(asked.get().wrapping_add(1));
+        pair.0 == given
+    });
+    (shown.is_some(), asked.get())
 }
 
 #[test]
 fn one_place_for_all_in_growth(rt: HostRuntime) -> Result<(), Fail> {
     let mut table = HeldRawTable::new(rt.alloc());
     for number in 1..=8 {
-        assert!(rt;
-            places(
-                &mut table,
-                rt.alloc(),
-                number,
-                (number, number),
-                same,
-                |_: &(u64, u64)| 0
-            )?
-        );
+        assert_places(
+            &rt,
+            &mut table,
+            rt.alloc(),
+            number,
+            same,
+            |_: &(u64, u64)| 0,
+        )?;
     }
-    assert_eq!(rt; table.capacity_alone(), 32);
-    assert_eq!(rt;
-        numbers_in(table, rt.alloc())?.as_slice(),
-        [1u64, 2, 3, 4, 5, 6, 7, 8].as_slice()
-    );
+    assert_size(&rt, &table, 8, 32);
+    assert_numbers(&rt, table, rt.alloc(), 1..9)?;
     Ok(())
 }
 
@@ -67,23 +161,10 @@ fn another_place_at_each_call(rt: HostRuntime) -> Result<(), Fail> {
             calls.set(calls.get().wrapping_add(1));
             calls.get()
         };
-        assert!(rt;
-            places(
-                &mut table,
-                rt.alloc(),
-                number,
-                (number, number),
-                same,
-                counting
-            )?
-        );
+        assert_places(&rt, &mut table, rt.alloc(), number, same, counting)?;
     }
     assert!(rt; calls.get() > 0);
-    let numbers = numbers_in(table, rt.alloc())?;
-    assert_eq!(rt; numbers.len(), 40);
-    for (number, expected) in numbers.iter().zip(0u64..) {
-        assert_eq!(rt; *number, expected);
-    }
+    assert_numbers(&rt, table, rt.alloc(), 0..40)?;
     Ok(())
 }
 
@@ -91,52 +172,35 @@ fn another_place_at_each_call(rt: HostRuntime) -> Result<(), Fail> {
 fn an_equality_that_is_never_met(rt: HostRuntime) -> Result<(), Fail> {
     let mut table = HeldRawTable::new(rt.alloc());
     for _twice in 0..2 {
-        assert!(rt;
-            places(
-                &mut table,
-                rt.alloc(),
-                1,
-                (1, 1),
-                |_: &(u64, u64), _: &(u64, u64)| false,
-                hash
-            )?
-        );
+        assert_places(
+            &rt,
+            &mut table,
+            rt.alloc(),
+            1,
+            |_: &(u64, u64), _: &(u64, u64)| false,
+            hash,
+        )?;
     }
-    assert_eq!(rt; table.len_alone(), 2);
+    assert_size(&rt, &table, 2, 16);
     Ok(())
 }
 
 #[test]
 fn an_equality_that_is_always_met(rt: HostRuntime) -> Result<(), Fail> {
     let mut table: Pairs = HeldRawTable::new(rt.alloc());
-    for number in 1..=3u64 {
-        let value = Box::new(rt.alloc(), (0, number))?;
-        match table.insert_alone::<PairLaw, _, _>(
-            0,
-            value,
-            |_: &(u64, u64), _: &(u64, u64)| true,
-            hash,
-        ) {
-            Ok((shown, back)) => {
-                assert_eq!(rt; *shown, (0, 1));
-                let came_back = back.map(|pair: Box<(u64, u64)>| pair.1);
-                assert_eq!(rt; came_back, if number == 1 { None } else { Some(number) });
-            }
-            Err(_) => return Err("no memory".into()),
-        }
-    }
-    assert_eq!(rt; table.len_alone(), 1);
+    assert_eq!(rt; insert_beside_one(&rt, &mut table, rt.alloc(), 1)?, None);
+    assert_eq!(rt; insert_beside_one(&rt, &mut table, rt.alloc(), 2)?, Some(2));
+    assert_eq!(rt; insert_beside_one(&rt, &mut table, rt.alloc(), 3)?, Some(3));
+    assert_size(&rt, &table, 1, 16);
     Ok(())
 }
 
 #[test]
 fn a_hash_fn_that_disagrees_with_the_hash_given(rt: HostRuntime) -> Result<(), Fail> {
     let mut table = HeldRawTable::new(rt.alloc());
-    assert!(rt; places(&mut table, rt.alloc(), 3, (3, 5), same, |_: &(u64, u64)| 9)?);
-    for (given, found) in [(3, true), (4, false)] {
-        let shown = table.lookup_alone::<PairLaw, _>(given, |pair: &(u64, u64)| pair.1 == 5);
-        assert_eq!(rt; shown.is_some(), found);
-    }
+    assert_places(&rt, &mut table, rt.alloc(), 3, same, |_: &(u64, u64)| 9)?;
+    assert_eq!(rt; shown_at(&table, 3, 3), Some(3));
+    assert_eq!(rt; shown_at(&table, 4, 3), None);
     Ok(())
 }
 
@@ -144,21 +208,18 @@ fn a_hash_fn_that_disagrees_with_the_hash_given(rt: HostRuntime) -> Result<(), F
 fn growth_keeps_the_bits_of_the_hash_given(rt: HostRuntime) -> Result<(), Fail> {
     let mut table = HeldRawTable::new(rt.alloc());
     for number in 0..8 {
-        assert!(rt;
-            places(
-                &mut table,
-                rt.alloc(),
-                0,
-                (0, number),
-                same,
-                |_: &(u64, u64)| 1 << 32
-            )?
-        );
+        assert_places(
+            &rt,
+            &mut table,
+            rt.alloc(),
+            number,
+            same,
+            |_: &(u64, u64)| 1 << 32,
+        )?;
     }
-    assert_eq!(rt; table.capacity_alone(), 32);
+    assert_size(&rt, &table, 8, 32);
     for number in 0..8 {
-        let shown = table.lookup_alone::<PairLaw, _>(0, |pair: &(u64, u64)| pair.1 == number);
-        assert_eq!(rt; shown.map(|pair: &(u64, u64)| pair.1), Some(number));
+        assert_eq!(rt; shown_at(&table, 0, number), Some(number));
     }
     Ok(())
 }
@@ -166,37 +227,11 @@ fn growth_keeps_the_bits_of_the_hash_given(rt: HostRuntime) -> Result<(), Fail> 
 #[test]
 fn entries_with_other_bits_are_not_asked_about(rt: HostRuntime) -> Result<(), Fail> {
     let mut table = HeldRawTable::new(rt.alloc());
-    let asked = Cell::new(0u64);
-    for (given, number, asks, placed) in [
-        (0, 1, 0, true),
-        (1 << 32, 2, 0, true),
-        (0, 1, 1, false),
-    ] {
-        asked.set(0);
-        let counting = |a: &(u64, u64), b: &(u64, u64)| {
-            asked.set(asked.get().wrapping_add(1));
-            a == b
-        };
-        assert_eq!(rt;
-            places(
-                &mut table,
-                rt.alloc(),
-                given,
-                (given, number),
-                counting,
-                hash
-            )?,
-            placed
-        );
-        assert_eq!(rt; asked.get(), asks, "at {given} {number}");
+    for (pair, told) in INSERT_ASKS {
+        assert_eq!(rt; asks_of_insert(&mut table, rt.alloc(), pair)?, told);
     }
-    for (given, asks) in [(0, 1), (1 << 32, 1), (2 << 32, 0)] {
-        asked.set(0);
-        let shown = table.lookup_alone::<PairLaw, _>(given, |pair: &(u64, u64)| {
-            asked.set(asked.get().wrapping_add(1));
-            pair.0 == given
-        });
-        assert_eq!(rt; (shown.is_some(), asked.get()), (asks == 1, asks));
+    for (given, told) in LOOKUP_ASKS {
+        assert_eq!(rt; asks_of_lookup(&table, given), told);
     }
     Ok(())
 }

@@ -1,11 +1,12 @@
 //! Each value is dropped once.
 use crate::counting::{Counting, CountingLaw};
-use crate::laws::spread;
 use lock_free_hashtable::raw::HeldRawTable;
 use std::alloc::{AllocError, Global};
 use std::cell::Cell;
+use std::process::Abort;
 use std::rc::Rc;
 use std::test::Fail;
+use terms::law::hash_number;
 
 type Countings = HeldRawTable<Box<Counting>>;
 
@@ -18,10 +19,10 @@ fn places(
 ) -> Result<bool, AllocError> {
     let value = Box::new(alloc, Counting::new(number, drops.clone()?))?;
     match table.insert_alone::<CountingLaw, _, _>(
-        spread(number),
+        hash_number(number),
         value,
         |a: &Counting, b: &Counting| a.number == b.number,
-        |a: &Counting| spread(a.number),
+        |a: &Counting| hash_number(a.number),
     ) {
         Ok((_, back)) => Ok(back.is_none()),
         Err(_) => Err(AllocError),
@@ -54,24 +55,37 @@ fn dropped(counts: &[Rc<Cell<u64>>], times: u64) -> usize {
         .count()
 }
 
+/// So many values weren't dropped, and so many once.
+fn assert_dropped(rt: &impl Abort, counts: &[Rc<Cell<u64>>], never: usize, once: usize) {
+    assert_eq!(rt; (dropped(counts, 0), dropped(counts, 1)), (never, once));
+}
+
+/// The first two of so many values are kept from an iterator that is dropped then, and so is the rest; they go last.
+fn assert_rest_dropped(
+    rt: &impl Abort,
+    alloc: Global,
+    values: u64,
+    capacity: usize,
+) -> Result<(), AllocError> {
+    let counts = counts(alloc, values)?;
+    let count = counts.len();
+    let table = table_of(alloc, &counts)?;
+    assert_eq!(rt; table.capacity_alone(), capacity);
+    let mut rest = table.into_iter();
+    let kept = (rest.next(), rest.next());
+    assert!(rt; kept.0.is_some() && kept.1.is_some());
+    assert_dropped(rt, &counts, count, 0);
+    drop(rest);
+    assert_dropped(rt, &counts, 2, count.saturating_sub(2));
+    drop(kept);
+    assert_dropped(rt, &counts, 0, count);
+    Ok(())
+}
+
 #[test]
 fn an_owning_iterator_that_ends_early_drops_the_rest(rt: HostRuntime) -> Result<(), Fail> {
-    for (values, capacity, rest_dropped) in [(5, 16, 3), (20, 64, 18)] {
-        let counts = counts(rt.alloc(), values)?;
-        let table = table_of(rt.alloc(), &counts)?;
-        assert_eq!(rt; table.capacity_alone(), capacity);
-        let mut rest = table.into_iter();
-        let kept = (rest.next(), rest.next());
-        assert!(rt; kept.0.is_some() && kept.1.is_some());
-        assert_eq!(rt; dropped(&counts, 0), counts.len());
-        drop(rest);
-        assert_eq!(rt;
-            (dropped(&counts, 0), dropped(&counts, 1)),
-            (2, rest_dropped)
-        );
-        drop(kept);
-        assert_eq!(rt; dropped(&counts, 1), counts.len());
-    }
+    assert_rest_dropped(&rt, rt.alloc(), 5, 16)?;
+    assert_rest_dropped(&rt, rt.alloc(), 20, 64)?;
     Ok(())
 }
 
@@ -85,7 +99,7 @@ fn an_owning_iterator_stays_at_its_end(rt: HostRuntime) -> Result<(), Fail> {
     for _again in 0..3 {
         assert!(rt; rest.next().is_none());
     }
-    assert_eq!(rt; dropped(&counts, 1), 20);
+    assert_dropped(&rt, &counts, 0, 20);
     Ok(())
 }
 
@@ -97,9 +111,9 @@ fn the_end_of_a_table_drops_each_value(rt: HostRuntime) -> Result<(), Fail> {
     let mut walk = table.iter_alone();
     assert!(rt; walk.next().is_some());
     drop(walk);
-    assert_eq!(rt; dropped(&counts, 0), 40);
+    assert_dropped(&rt, &counts, 40, 0);
     drop(table);
-    assert_eq!(rt; dropped(&counts, 1), 40);
+    assert_dropped(&rt, &counts, 0, 40);
     Ok(())
 }
 
@@ -112,6 +126,6 @@ fn a_value_that_is_found_comes_back(rt: HostRuntime) -> Result<(), Fail> {
         assert_eq!(rt; drops.get(), if placed { 0 } else { 1 });
     }
     drop(table);
-    assert_eq!(rt; dropped(&counts, 1), 2);
+    assert_dropped(&rt, &counts, 0, 2);
     Ok(())
 }

@@ -1,40 +1,45 @@
 //! Generated runs, held against the slow list reply by reply.
 use super::pairs::{Pairs, Told, hash, insert, lookup, same};
-use crate::laws::PairLaw;
-use crate::slow_list::{Insertion, SlowList};
-use linked_list_allocator::LocalHeap;
+use crate::slow_list::SlowList;
 use lock_free_hashtable::raw::HeldRawTable;
+use rand_core::{Rng, SeedableRng};
+use rand_xoshiro::SplitMix64;
+use refusing::{Refusing, Rule};
 use std::alloc::{AllocError, Allocator, Global};
-use std::ops::Range;
 use std::process::Abort;
 use std::test::Fail;
+use terms::insertion::Insertion;
+use terms::law::PairLaw;
 
-/// Numbers that are drawn from a seed.
-#[derive(Drop)]
-struct Draws(u64);
+/// Hashes some of which share a bucket or their eight bits.
+const HASHES: [u64; 7] = [0, 1, 15, 16, 1 << 32, 1 << 40, u64::MAX];
 
-impl Draws {
-    /// The next number below `bound`; 0 where that is 0.
-    fn below(&mut self, bound: u64) -> u64 {
-        self.0 = self
-            .0
-            .wrapping_mul(6_364_136_223_846_793_005)
-            .wrapping_add(1_442_695_040_888_963_407);
-        (self.0 >> 33).checked_rem(bound).unwrap_or(0)
-    }
+/// The numbers of a run that is refused memory.
+const NUMBERS: u64 = 40;
 
-    /// A pair of one of a few hashes, some of which share a bucket or their eight bits.
-    fn pair(&mut self) -> (u64, u64) {
-        let hash = match self.below(7) {
-            0 => 0,
-            1 => 1,
-            2 => 15,
-            3 => 16,
-            4 => 1 << 32,
-            5 => 1 << 40,
-            _ => u64::MAX,
+/// A number below `bound`; 0 where that is 0.
+fn draw(numbers: &mut SplitMix64, bound: u64) -> u64 {
+    numbers.next_u64().checked_rem(bound).unwrap_or(0)
+}
+
+/// A pair of one of a few hashes.
+fn draw_pair(numbers: &mut SplitMix64) -> (u64, u64) {
+    let index = draw(numbers, 7) as usize;
+    (HASHES.get(index).copied().unwrap_or(0), draw(numbers, 12))
+}
+
+/// What the list tells of a pair that the table was handed: it may refuse where a request was refused and no entry is equal.
+fn expected(list: &mut SlowList, pair: (u64, u64), told: Told, refused: bool) -> Option<Told> {
+    if let Told::Refused(_) = told {
+        return match (refused, list.lookup(pair)) {
+            (true, None) => Some(Told::Refused(pair)),
+            _ => None,
         };
-        (hash, self.below(12))
+    }
+    match list.insert(pair) {
+        Insertion::Placed => Some(Told::Placed(pair)),
+        Insertion::Found => Some(Told::Found(pair, pair)),
+        Insertion::Refused => None,
     }
 }
 
@@ -55,23 +60,26 @@ impl<A: Allocator + Copy> Both<A> {
         }
     }
 
-    /// Inserts the pair into both. The table may be refused memory only where the list has no equal.
-    fn insert(&mut self, rt: &impl Abort, pair: (u64, u64)) -> Result<(), Fail> {
-        match insert(&mut self.table, self.alloc, pair)? {
-            Told::Refused(back) => {
-                assert_eq!(rt; back, pair);
-                assert_eq!(rt; self.list.lookup(pair), None);
-            }
-            told => {
-                let expected = match self.list.insert(pair) {
-                    Insertion::Placed => Told::Placed(pair),
-                    Insertion::Found => Told::Found(pair, pair),
-                    Insertion::Refused => return Err("no memory".into()),
-                };
-                assert_eq!(rt; told, expected);
-            }
-        }
+    /// Inserts the pair into both. `refusals` is how many requests the table's heap is still going to refuse.
+    fn insert(
+        &mut self,
+        rt: &impl Abort,
+        heap: &Refusing<Global>,
+        pair: (u64, u64),
+    ) -> Result<(), Fail> {
+        let before = heap.refusals_left();
+        let capacity = self.table.capacity_alone();
+        let told = insert(&mut self.table, self.alloc, pair)?;
+        let refused = heap.refusals_left() < before;
+        assert_eq!(rt; Some(told), expected(&mut self.list, pair, told, refused));
+        self.assert_grown(rt, capacity, refused);
         Ok(())
+    }
+
+    /// Where no request was refused, a generation of which half was set has grown.
+    fn assert_grown(&self, rt: &impl Abort, capacity: usize, refused: bool) {
+        let wanted = 2 * (self.list.len() as u128) >= capacity as u128;
+        assert!(rt; refused || !wanted || self.table.capacity_alone() > capacity);
     }
 
     fn lookup(&self, rt: &impl Abort, pair: (u64, u64)) {
@@ -91,6 +99,24 @@ impl<A: Allocator + Copy> Both<A> {
         assert_eq!(rt; walked.as_slice(), expected.as_slice());
         Ok(())
     }
+
+    /// Inserts the pair until it is an entry, so many times at most.
+    fn insert_at_last(
+        &mut self,
+        rt: &impl Abort,
+        heap: &Refusing<Global>,
+        pair: (u64, u64),
+        tries: u64,
+    ) -> Result<(), Fail> {
+        for _tried in 0..tries {
+            if self.list.lookup(pair).is_none() {
+                self.insert(rt, heap, pair)?;
+            }
+        }
+        assert_eq!(rt; self.list.lookup(pair), Some(pair));
+        self.lookup(rt, pair);
+        Ok(())
+    }
 }
 
 /// The pairs of a table, in the order of its walk.
@@ -105,64 +131,63 @@ fn walk<A: Allocator + Copy>(
     Ok(pairs)
 }
 
-#[test]
-fn generated_runs_answer_as_the_list(rt: HostRuntime) -> Result<(), Fail> {
-    for seed in 0..40 {
-        let mut draws = Draws(seed);
-        let mut both = Both::new(rt.alloc(), rt.alloc());
-        for _call in 0..300 {
-            match draws.below(8) {
-                0..=4 => both.insert(&rt, draws.pair())?,
-                5 | 6 => both.lookup(&rt, draws.pair()),
-                _ => both.count(&rt),
-            }
-        }
-        both.walk(&rt)?;
-    }
-    Ok(())
-}
-
-/// A run of inserts during some of whose calls the table's heap has only so many bytes left.
-fn run_pinched(
-    rt: &impl Abort,
-    alloc: Global,
-    pinched: Range<u64>,
-    left: usize,
-) -> Result<(), Fail> {
-    let heap = LocalHeap::new(alloc, 1 << 16)?;
+/// So many calls that a seed draws.
+fn run_drawn(rt: &impl Abort, alloc: Global, seed: u64, calls: u64) -> Result<(), Fail> {
+    let heap = Refusing::new(alloc, Rule::new(0, 0, 0, 0));
+    let mut numbers = SplitMix64::seed_from_u64(seed);
     let mut both = Both::new(&heap, alloc);
-    for call in 0..40 {
-        let ballast = if pinched.contains(&call) {
-            let bytes: Vec<u8, &LocalHeap> = Vec::with_capacity(
-                &heap,
-                heap.free().saturating_sub(left),
-            )?;
-            Some(bytes)
-        } else {
-            None
-        };
-        both.insert(rt, (call % 5, call))?;
-        both.insert(rt, (call / 2 % 5, call / 2))?;
-        both.count(rt);
-        drop(ballast);
+    for _call in 0..calls {
+        match draw(&mut numbers, 8) {
+            0..=4 => both.insert(rt, &heap, draw_pair(&mut numbers))?,
+            5 | 6 => both.lookup(rt, draw_pair(&mut numbers)),
+            _ => both.count(rt),
+        }
     }
-    for call in 0..40 {
-        both.insert(rt, (call % 5, call))?;
-        both.lookup(rt, (call % 5, call));
-    }
-    both.count(rt);
     both.walk(rt)
 }
 
 #[test]
-fn each_request_of_memory_refused_in_turn(rt: HostRuntime) -> Result<(), Fail> {
-    for left in 0..=64 {
-        run_pinched(&rt, rt.alloc(), 0..40, 64 * left)?;
+fn generated_runs_answer_as_the_list(rt: HostRuntime) -> Result<(), Fail> {
+    for seed in 0..40 {
+        run_drawn(&rt, rt.alloc(), seed, 300)?;
     }
-    for call in 0..40 {
-        for left in [0, 16, 32, 64, 128, 256, 512, 1024] {
-            run_pinched(&rt, rt.alloc(), call..call + 1, left)?;
+    Ok(())
+}
+
+/// A run of inserts in which so many requests are granted, and so many after them refused. What was refused is tried
+/// again until memory is ample. Whether all were refused that were going to be.
+fn run_refused(rt: &impl Abort, alloc: Global, granted: u64, refused: u64) -> Result<bool, Fail> {
+    let heap = Refusing::new(alloc, Rule::new(0, usize::MAX, granted, refused));
+    let mut both = Both::new(&heap, alloc);
+    for number in 0..NUMBERS {
+        both.insert(rt, &heap, (number % 5, number))?;
+        both.insert(rt, &heap, (number / 2 % 5, number / 2))?;
+        both.count(rt);
+    }
+    for number in 0..NUMBERS {
+        both.insert_at_last(rt, &heap, (number % 5, number), refused.saturating_add(1))?;
+    }
+    both.count(rt);
+    both.walk(rt)?;
+    Ok(heap.refusals_left() == 0)
+}
+
+/// How many requests can be granted before so many that follow each other are refused, in a run that asks for fewer than 1000.
+fn run_each(rt: &impl Abort, alloc: Global, refused: u64) -> Result<u64, Fail> {
+    for granted in 0..1000 {
+        if !run_refused(rt, alloc, granted, refused)? {
+            return Ok(granted);
         }
+    }
+    Ok(1000)
+}
+
+/// Each of the forty entries has a block of its own, and one request made its generation at least.
+#[test]
+fn each_request_of_memory_refused_in_turn(rt: HostRuntime) -> Result<(), Fail> {
+    for refused in [1, 2, 8, 30] {
+        let turns = run_each(&rt, rt.alloc(), refused)?;
+        assert!(rt; NUMBERS < turns && turns < 1000, "{turns} turns");
     }
     Ok(())
 }
@@ -196,29 +221,40 @@ fn assert_alike(
     Ok(())
 }
 
+/// Both forms of insert tell the same of the pair, and leave the same table.
+fn assert_inserts_alike(
+    rt: &impl Abort,
+    alloc: Global,
+    shown: &mut Pairs,
+    placed: &mut Pairs,
+    pair: (u64, u64),
+) -> Result<(), AllocError> {
+    assert_eq!(rt; insert(shown, alloc, pair)?, place(placed, alloc, pair)?);
+    assert_alike(rt, alloc, shown, placed)
+}
+
+/// The table shows each of the pairs.
+fn assert_all_shown(rt: &impl Abort, table: &Pairs, pairs: &[(u64, u64)]) {
+    for pair in pairs {
+        assert_eq!(rt; lookup(table, *pair), Some(*pair));
+    }
+}
+
 #[test]
 fn both_forms_of_insert_leave_the_same_table(rt: HostRuntime) -> Result<(), Fail> {
-    let mut draws = Draws(1);
+    let mut numbers = SplitMix64::seed_from_u64(1);
     let mut shown: Pairs = HeldRawTable::new(rt.alloc());
     let mut placed: Pairs = HeldRawTable::new(rt.alloc());
     let mut pairs = Vec::new(rt.alloc());
     for number in 0..128 {
-        let pair = (draws.pair().0, number);
+        let pair = (draw_pair(&mut numbers).0, number);
         pairs.push(pair)?;
-        let repeated = pairs
-            .get(draws.below(number) as usize)
-            .copied()
-            .unwrap_or(pair);
+        let earlier = draw(&mut numbers, number) as usize;
+        let repeated = pairs.get(earlier).copied().unwrap_or(pair);
         for pair in [pair, repeated] {
-            assert_eq!(rt;
-                insert(&mut shown, rt.alloc(), pair)?,
-                place(&mut placed, rt.alloc(), pair)?
-            );
-            assert_alike(&rt, rt.alloc(), &shown, &placed)?;
+            assert_inserts_alike(&rt, rt.alloc(), &mut shown, &mut placed, pair)?;
         }
-        for pair in pairs.iter() {
-            assert_eq!(rt; lookup(&shown, *pair), Some(*pair));
-        }
+        assert_all_shown(&rt, &shown, pairs.as_slice());
     }
     assert_eq!(rt; (shown.len_alone(), shown.capacity_alone()), (128, 512));
     Ok(())

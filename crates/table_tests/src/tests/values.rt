@@ -1,14 +1,112 @@
 //! The kinds of values that a table holds.
-use crate::laws::{NumberLaw, spread};
 use lock_free_hashtable::atomic_value::AtomicValue;
 use lock_free_hashtable::raw::{HeldRawTable, is_first_capacity};
+use std::alloc::{AllocError, Global};
 use std::num::{NonZeroU32, NonZeroU64};
+use std::process::Abort;
 use std::sync::Arc;
 use std::test::Fail;
+use terms::law::{NumberLaw, hash_number};
 
 /// The target of a value, known by its bounds alone.
 fn target_of<V: AtomicValue>(value: &V) -> &V::Target {
     value.deref()
+}
+
+/// Inserts a boxed number. Whether it was placed and is shown.
+fn places_short(
+    table: &mut HeldRawTable<Box<u16>>,
+    alloc: Global,
+    number: u16,
+) -> Result<bool, AllocError> {
+    let value = Box::new(alloc, number)?;
+    let told = table.insert_alone::<NumberLaw, _, _>(
+        hash_number(u64::from(number)),
+        value,
+        |a: &u16, b: &u16| a == b,
+        |a: &u16| hash_number(u64::from(*a)),
+    );
+    Ok(matches!(&told, Ok((shown, None)) if **shown == number))
+}
+
+/// Inserts a shared number. Whether it was placed.
+fn places_shared(
+    table: &mut HeldRawTable<Arc<u16>>,
+    alloc: Global,
+    number: u16,
+) -> Result<bool, AllocError> {
+    let value = Arc::new(alloc, number)?;
+    let told = table.insert_alone::<NumberLaw, _, _>(
+        hash_number(u64::from(number)),
+        value,
+        |a: &u16, b: &u16| a == b,
+        |a: &u16| hash_number(u64::from(*a)),
+    );
+    Ok(matches!(&told, Ok((_, None))))
+}
+
+/// Inserts a number that stands in the bucket itself. Whether it was placed.
+fn places_narrow(table: &mut HeldRawTable<NonZeroU32>, value: NonZeroU32) -> bool {
+    let told = table.insert_alone::<NumberLaw, _, _>(
+        hash_number(u64::from(value.get())),
+        value,
+        |a: &NonZeroU32, b: &NonZeroU32| a == b,
+        |a: &NonZeroU32| hash_number(u64::from(a.get())),
+    );
+    matches!(&told, Ok((_, None)))
+}
+
+/// Whether the number is an entry.
+fn holds_narrow(table: &HeldRawTable<NonZeroU32>, number: u32) -> bool {
+    table
+        .lookup_alone::<NumberLaw, _>(hash_number(u64::from(number)), |a: &NonZeroU32| {
+            a.get() == number
+        })
+        .is_some()
+}
+
+/// Inserts a boxed number. Whether it was placed.
+fn places_long(
+    table: &mut HeldRawTable<Box<u32>>,
+    alloc: Global,
+    number: u32,
+) -> Result<bool, AllocError> {
+    let value = Box::new(alloc, number)?;
+    let told = table.insert_alone::<NumberLaw, _, _>(
+        hash_number(u64::from(number)),
+        value,
+        |a: &u32, b: &u32| a == b,
+        |a: &u32| hash_number(u64::from(*a)),
+    );
+    Ok(matches!(&told, Ok((_, None))))
+}
+
+/// The number that a look-up shows.
+fn shown_long(table: &HeldRawTable<Box<u32>>, number: u32) -> Option<u32> {
+    table
+        .lookup_alone::<NumberLaw, _>(hash_number(u64::from(number)), |a: &u32| *a == number)
+        .copied()
+}
+
+/// Inserts the number. The number shown, and whether it was placed; None where it was refused.
+fn insert_wide(
+    table: &mut HeldRawTable<NonZeroU64>,
+    value: NonZeroU64,
+) -> Option<(NonZeroU64, bool)> {
+    match table.insert_alone::<NumberLaw, _, _>(
+        hash_number(value.get()),
+        value,
+        |a: &NonZeroU64, b: &NonZeroU64| a == b,
+        |a: &NonZeroU64| hash_number(a.get()),
+    ) {
+        Ok((shown, back)) => Some((*shown, back.is_none())),
+        Err(_) => None,
+    }
+}
+
+/// It holds for this number.
+fn assert_at(rt: &impl Abort, number: u32, holds: bool) {
+    assert!(rt; holds, "at {number}");
 }
 
 #[test]
@@ -26,17 +124,11 @@ fn values_show_their_targets(rt: HostRuntime) -> Result<(), Fail> {
 fn a_hundred_boxes(rt: HostRuntime) -> Result<(), Fail> {
     let mut table: HeldRawTable<Box<u16>> = HeldRawTable::new(rt.alloc());
     for number in 0..100u16 {
-        let hash = spread(u64::from(number));
-        let value = Box::new(rt.alloc(), number)?;
-        match table.insert_alone::<NumberLaw, _, _>(
-            hash,
-            value,
-            |a: &u16, b: &u16| a == b,
-            |a: &u16| spread(u64::from(*a)),
-        ) {
-            Ok((shown, back)) => assert!(rt; *shown == number && back.is_none(), "at {number}"),
-            Err(_) => return Err("no memory".into()),
-        }
+        assert_at(
+            &rt,
+            u32::from(number),
+            places_short(&mut table, rt.alloc(), number)?,
+        );
     }
     assert_eq!(rt; table.len_alone(), 100);
     Ok(())
@@ -46,15 +138,11 @@ fn a_hundred_boxes(rt: HostRuntime) -> Result<(), Fail> {
 fn ten_shared_values_sorted(rt: HostRuntime) -> Result<(), Fail> {
     let mut table: HeldRawTable<Arc<u16>> = HeldRawTable::new(rt.alloc());
     for number in 0..10u16 {
-        let hash = spread(u64::from(number));
-        let value = Arc::new(rt.alloc(), number)?;
-        let placed = table.insert_alone::<NumberLaw, _, _>(
-            hash,
-            value,
-            |a: &u16, b: &u16| a == b,
-            |a: &u16| spread(u64::from(*a)),
+        assert_at(
+            &rt,
+            u32::from(number),
+            places_shared(&mut table, rt.alloc(), number)?,
         );
-        assert!(rt; matches!(&placed, Ok((_, None))));
     }
     let mut numbers = vec![in rt.alloc()]?;
     for value in table {
@@ -73,20 +161,10 @@ fn narrow_numbers_are_found(rt: HostRuntime) -> Result<(), Fail> {
     let mut table: HeldRawTable<NonZeroU32> = HeldRawTable::new(rt.alloc());
     for number in 1..10_000u32 {
         let value = NonZeroU32::new(number).ok_or("zero")?;
-        let placed = table.insert_alone::<NumberLaw, _, _>(
-            spread(u64::from(number)),
-            value,
-            |a: &NonZeroU32, b: &NonZeroU32| a == b,
-            |a: &NonZeroU32| spread(u64::from(a.get())),
-        );
-        assert!(rt; matches!(&placed, Ok((_, None))), "at {number}");
+        assert_at(&rt, number, places_narrow(&mut table, value));
     }
     for number in 1..10_000u32 {
-        let found = table.lookup_alone::<NumberLaw, _>(
-            spread(u64::from(number)),
-            |a: &NonZeroU32| a.get() == number,
-        );
-        assert!(rt; found.is_some(), "at {number}");
+        assert_at(&rt, number, holds_narrow(&table, number));
     }
     Ok(())
 }
@@ -95,23 +173,13 @@ fn narrow_numbers_are_found(rt: HostRuntime) -> Result<(), Fail> {
 fn a_million_numbers(rt: HostRuntime) -> Result<(), Fail> {
     let mut table: HeldRawTable<Box<u32>> = HeldRawTable::new(rt.alloc());
     for number in 0..1_000_000u32 {
-        let value = Box::new(rt.alloc(), number)?;
-        let placed = table.insert_alone::<NumberLaw, _, _>(
-            spread(u64::from(number)),
-            value,
-            |a: &u32, b: &u32| a == b,
-            |a: &u32| spread(u64::from(*a)),
-        );
-        assert!(rt; matches!(&placed, Ok((_, None))), "at {number}");
+        assert_at(&rt, number, places_long(&mut table, rt.alloc(), number)?);
     }
     for number in 0..1_000_000u32 {
-        let found = table.lookup_alone::<NumberLaw, _>(
-            spread(u64::from(number)),
-            |a: &u32| *a == number,
-        );
-        assert!(rt; found == Some(&number), "at {number}");
+        assert_at(&rt, number, shown_long(&table, number) == Some(number));
     }
     assert_eq!(rt; table.iter_alone().count(), 1_000_000);
+    assert_eq!(rt; table.capacity_alone(), 1 << 21);
     Ok(())
 }
 
@@ -120,17 +188,8 @@ fn wide_numbers_come_back(rt: HostRuntime) -> Result<(), Fail> {
     assert!(rt; is_first_capacity(64) && !is_first_capacity(48));
     let mut table: HeldRawTable<NonZeroU64> = HeldRawTable::with_first_capacity(rt.alloc(), 64);
     let value = NonZeroU64::MAX;
-    let hash = spread(value.get());
     for placed in [true, false] {
-        match table.insert_alone::<NumberLaw, _, _>(
-            hash,
-            value,
-            |a: &NonZeroU64, b: &NonZeroU64| a == b,
-            |a: &NonZeroU64| spread(a.get()),
-        ) {
-            Ok((shown, back)) => assert_eq!(rt; (*shown, back.is_none()), (value, placed)),
-            Err(_) => return Err("no memory".into()),
-        }
+        assert_eq!(rt; insert_wide(&mut table, value), Some((value, placed)));
     }
     assert_eq!(rt; (table.capacity_alone(), table.buckets_alone()), (64, 64));
     for shown in &table {

@@ -1,5 +1,5 @@
 use Rattle.std.proofs.Common.{◌≡◌, ℕ, ◌<◌, false, get_or}
-use Rattle.table_tests.specs.Laws.{same_pair}
+use Rattle.terms.specs.Laws.{same_pair}
 use Rattle.table_tests.proofs.slow_list.SlowList.holds.Given as goal
 
 -- no entry so far is the same as the pair

@@ -1,0 +1,8 @@
+//! What `bench` measures: the tables and the machine of all schedules, each workload also counted without a clock.
+#![tactic(auto)]
+
+pub mod held;
+mod numbers;
+pub mod report;
+pub mod schedules;
+pub mod seats;
