@@ -37,6 +37,14 @@ fn refusals_in<R: Abort>(rt: &R, first: &[&str], again: &[&str]) -> u64 {
     refusals
 }
 
+/// How many of the pairs were refused, by the replies to the lines, to the same lines again and to a length.
+fn refusals_of_both<R: Abort>(rt: &R, replies: &[&str]) -> u64 {
+    assert_eq!(rt; replies.len(), 37);
+    assert_eq!(rt; replies[36], "17");
+    let (first, again) = replies.split_at(18);
+    refusals_in(rt, first, again)
+}
+
 /// Refuses one request of a run, and answers how many pairs were refused.
 fn refuse_one<R: Threads + Wait + AllocGlobal + Abort>(
     rt: &R,
@@ -48,9 +56,7 @@ fn refuse_one<R: Threads + Wait + AllocGlobal + Abort>(
     let (ended, _) = run_refusing(rt, rule, &["calls", first], input)?;
     assert_eq!(rt; ended.status, 0, "after {granted} requests");
     let replies: Vec<&str> = ended.output.lines().collect(rt.alloc())?;
-    assert_eq!(rt; replies.len(), 37);
-    assert_eq!(rt; replies.as_slice()[36], "17", "after {granted} requests");
-    Ok(refusals_in(rt, &replies.as_slice()[..18], &replies.as_slice()[18..36]))
+    Ok(refusals_of_both(rt, replies.as_slice()))
 }
 
 /// Refuses each request of a run in turn.
