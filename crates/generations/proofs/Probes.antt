@@ -1,10 +1,9 @@
 -- A probe's steps.
-use Rattle.std.proofs.Common.{◌≡◌, ℕ, ◌+◌, ◌<◌, ◌⊎◌, Bool, true, List, [], Option, Some, slice_index_or, refl, sym, ap, ◌∙◌, subst, arith, inl, inr, below_more, length}
+use Rattle.std.proofs.Common.{◌≡◌, ℕ, ◌+◌, ◌<◌, Bool, true, List, Option, Some, slice_index_or, refl, sym, ap, ◌∙◌, subst, arith, inl, inr, below_more, length}
 use Rattle.std.proofs.lemmas.Grind.{common_steps}
 use Rattle.std.proofs.lemmas.List.{length-map}
 use Rattle.terms.specs.Hashes.{bits_of}
 use Rattle.generations.specs.Buckets.{Content, vacant, named, values, value_at, content_at, shown, shown_all, IsSound, AllSound}
-use Rattle.std.specs.Int.{IsPowerOfTwo}
 use Rattle.terms.specs.Probes.{bucket_at}
 use Rattle.generations.specs.Probe.{IsAcceptedBy, IsPassedBy, IsPassed, IsVacant, ProbeGives}
 use Rattle.generations.specs.Generations.{NamesShown}
@@ -34,10 +33,6 @@ module _ {T : Type 0} (gs : List (List (Content T))) (ps : List (Content T)) whe
   -- a generation shows as many places as it has buckets
   pub length-shown_all : length (shown_all gs ps) ≡ length ps
   length-shown_all = length-map ps (shown gs)
-
-  -- where there is a bucket, there are a power of two of them
-  pub powered_room : (ps ≡ []) ⊎ IsPowerOfTwo (length ps) → 0 < length ps → IsPowerOfTwo (length ps)
-  powered_room powered room = elim powered [ inl none ↦ absurd (let e : length ps ≡ 0 = ap length none in omega arith) | inr two ↦ two ]
 
   -- a bucket of a probe is one of the generation
   pub bucket_below : (hash k i : ℕ) → 0 < length ps → i ≡ bucket_at (length (shown_all gs ps)) hash k → i < length ps

@@ -1,5 +1,4 @@
 pub mod Homes
-pub mod Capacities
 pub mod Sizes
 pub mod Kept
 pub mod Tries
