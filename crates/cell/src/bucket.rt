@@ -1,5 +1,5 @@
 //! A bucket that is set at most once.
-ghost use Rattle.std.specs.Prelude.{◌≡◌, IfOk, IfErr, IfSome, Some, OnOk, option_copied, option_map};
+ghost use Rattle.std.specs.Prelude.{◌≡◌, IfOk, IfErr, IfSome, IsSome, Some, OnOk, option_copied, option_map};
 ghost use Rattle.cell.specs.Contents.{vacant, own, named, bucket, shown, owned, entry_from, naming, Lies, Reads, HandsBack, Misses};
 
 use crate::home::{Closed, Home, Homed};
@@ -112,6 +112,15 @@ impl<T: Drop, A: Allocator + Copy> Bucket<T, A> {
             mark,
             word: Word::of_name(self.word.name(), &alloc),
         })
+    }
+
+    /// The entry of a bucket that is set alone. Its mark isn't read.
+    pub fn entry<'a>(&'a self, home: &'a Home) -> &'a Entry<T>
+        requires home { self.now.home ≡ home.now.id }
+        requires set { IsSome (shown self.now.content) }
+        ensures { shown self.now.content ≡ Some result.now }
+    {
+        self.word.name().get(home)
     }
 
     /// The entry that the bucket holds alone.

@@ -1,92 +1,126 @@
 -- The buckets of a generation: which are set, and what they show.
-use Rattle.std.proofs.Common.{◌≡◌, ◌≢◌, ℕ, zero, suc, ◌+◌, ◌<◌, ◌≤◌, inl, inr, List, [], ◌∷◌, None, length, refl, ap, ◌∙◌, arith, replicate}
-use Rattle.std.specs.Prelude.{slice_index_or, slice_set}
-use Rattle.std.proofs.Math.ListN.{get_or-map}
-use Rattle.std.proofs.lemmas.List.{length-set, length-replicate, set-get_or}
+use Rattle.std.proofs.Common.{◌≡◌, ℕ, zero, suc, ◌+◌, ◌<◌, ◌≤◌, inl, inr, List, [], ◌∷◌, ◌++◌, Option, Some, None, length, refl, sym, ap, ◌∙◌, arith, replicate}
+use Rattle.std.specs.Prelude.{All, option_map, slice_index_or, slice_set}
 use Rattle.std.specs.Int.{IsPowerOfTwo}
-use Rattle.generations.specs.Generations.{IsGeneration, NamesEntry, IsNamedIn}
-use Rattle.generations.specs.Buckets.{Content, vacant, own, named, value_at, content_at, set_contents, shown, shown_all, IsSound}
-use Rattle.generations.proofs.Entries.{no_values}
+use Rattle.std.proofs.Math.ListN.{get_or-map}
+use Rattle.std.proofs.lemmas.List.{length-append, length-map, length-replicate, length-set, map-set, set-get_or}
+use Rattle.std.proofs.lemmas.List.Elements.{All-set, All-replicate}
+use Rattle.std.proofs.lemmas.List.Sorted.{length_permutation}
+use Rattle.cell.specs.Contents.{BucketView, Lies, bucket, naming}
+use Rattle.cell.specs.declared.bucket.Entry.{Entry}
+use Rattle.generations.specs.Generations.{IsGeneration, IsName, OwnsNone, AllOwnNone, contents_of}
+use Rattle.generations.specs.Buckets.{Content, vacant, own, named, values, value_at, content_at, owned, owned_values, shown, shown_all, shown_entries}
+use Rattle.generations.proofs.Entries.{no_values, values-set, values-replicate}
+
+-- no more places are set than there are
+length-values : {X : Type 0} (ps : List (Option X)) → length (values ps) ≤ length ps
+length-values [] = omega arith
+length-values (None ∷ ps) = let h = length-values ps in omega arith
+length-values (Some v ∷ ps) = let h = length-values ps in omega arith
 
 module _ {T : Type 0} where
-  -- no more buckets are set than there are
-  pub length-set_contents : (ps : List (Content T)) → length (set_contents ps) ≤ length ps
-  length-set_contents [] = omega arith
-  length-set_contents (vacant ∷ ps) = let h = length-set_contents ps in omega arith
-  length-set_contents (own e ∷ ps) = let h = length-set_contents ps in omega arith
-  length-set_contents (named b g i ∷ ps) = let h = length-set_contents ps in omega arith
+  -- a generation shows as many places as it has buckets
+  pub length-shown_all : (ps : List (Content T)) → length (shown_all ps) ≡ length ps
+  length-shown_all ps = length-map ps shown
 
-  -- of empty buckets none is set
-  pub set_contents-replicate : (n : ℕ) → set_contents {T = T} (replicate n vacant) ≡ []
-  set_contents-replicate zero = refl
-  set_contents-replicate (suc n) = set_contents-replicate n
+  -- empty buckets show nothing
+  pub shown-replicate : (n : ℕ) → shown_all {T = T} (replicate n vacant) ≡ no_values n
+  shown-replicate zero = refl
+  shown-replicate (suc n) = ap (λ os. None ∷ os) (shown-replicate n)
 
-  pub content_at-replicate : (n k : ℕ) → content_at {T = T} (replicate n vacant) k ≡ vacant
-  content_at-replicate zero k = refl
-  content_at-replicate (suc n) zero = refl
-  content_at-replicate (suc n) (suc k) = content_at-replicate n k
+  -- what a generation shows at an index is what its bucket there shows
+  pub shown_at : (ps : List (Content T)) (i : ℕ) → value_at (shown_all ps) i ≡ shown (content_at ps i)
+  shown_at ps i = get_or-map shown ps i vacant
 
-  -- an empty bucket that is set is one more
-  pub set_contents-set : (ps : List (Content T)) (i : ℕ) (p : Content T) → i < length ps → content_at ps i ≡ vacant → p ≢ vacant → length (set_contents (slice_set ps i p)) ≡ length (set_contents ps) + 1
-  set_contents-set [] i p lt e h = absurd (omega arith)
-  set_contents-set (vacant ∷ ps) zero vacant lt e h = absurd (h refl)
-  set_contents-set (vacant ∷ ps) zero (own x) lt e h = omega arith
-  set_contents-set (vacant ∷ ps) zero (named b g j) lt e h = omega arith
-  set_contents-set (own x ∷ ps) zero p lt e h = absurd (cc)
-  set_contents-set (named b g j ∷ ps) zero p lt e h = absurd (cc)
-  set_contents-set (vacant ∷ ps) (suc i) p lt e h = set_contents-set ps i p (omega arith) e h
-  set_contents-set (own x ∷ ps) (suc i) p lt e h = let r = set_contents-set ps i p (omega arith) e h in omega arith
-  set_contents-set (named b g j ∷ ps) (suc i) p lt e h = let r = set_contents-set ps i p (omega arith) e h in omega arith
+  -- a bucket that shows nothing is empty
+  pub shows_none : (p : Content T) → shown p ≡ None → p ≡ vacant
+  shows_none vacant e = refl
+  shows_none (own x) e = absurd (cc)
+  shows_none (named x) e = absurd (cc)
 
-  module _ (gs : List (List (Content T))) where
-    -- empty buckets show nothing
-    pub shown-replicate : (n : ℕ) → shown_all gs (replicate n vacant) ≡ no_values n
-    shown-replicate zero = refl
-    shown-replicate (suc n) = ap (λ os. None ∷ os) (shown-replicate n)
+  -- a name shows an entry
+  pub name_shows : (p : Content T) → IsName p → (e : Entry T) × (shown p ≡ Some e) × (p ≡ named e)
+  name_shows vacant n = absurd n
+  name_shows (own x) n = absurd n
+  name_shows (named x) n = (x, refl, refl)
 
-    -- what a generation shows at an index is what its bucket there shows
-    pub shown_at : (ps : List (Content T)) (i : ℕ) → value_at (shown_all gs ps) i ≡ shown gs (content_at ps i)
-    shown_at ps i = get_or-map (shown gs) ps i vacant
+  -- no more buckets show an entry than there are
+  few_shown : (ps : List (Content T)) → length (shown_entries ps) ≤ length ps
+  few_shown ps = let few = length-values (shown_all ps) in let long = length-shown_all ps in omega arith
 
-    -- a sound bucket that shows nothing is empty
-    pub shows_none : (p : Content T) → IsSound gs p → shown gs p ≡ None → p ≡ vacant
-    shows_none vacant s e = refl
-    shows_none (own x) s e = absurd (cc)
-    shows_none (named b g i) (x, leads, marked) e = absurd (cc)
+  -- an empty bucket that is set shows one entry more
+  pub shown_more : (ps : List (Content T)) (i : ℕ) (p : Content T) (e : Entry T) → i < length ps → value_at (shown_all ps) i ≡ None → shown p ≡ Some e
+      → length (shown_entries (slice_set ps i p)) ≡ length (shown_entries ps) + 1
+  shown_more ps i p e lt empty shows =
+      let set : shown_all (slice_set ps i p) ≡ slice_set (shown_all ps) i (Some e) = map-set shown ps i p ∙ ap (slice_set (shown_all ps) i) shows in
+      let within : i < length (shown_all ps) = rw length-shown_all lt in
+      let counts : length (values (shown_all ps) ++ e ∷ []) ≡ length (values (slice_set (shown_all ps) i (Some e))) = sym (length_permutation _ _ (values-set (shown_all ps) i e within empty)) in
+      rw set (sym counts ∙ length-append (shown_entries ps) (e ∷ []))
 
-    -- of empty buckets none owns an entry
-    pub named-replicate : (n : ℕ) → IsNamedIn gs (replicate n vacant)
-    named-replicate n k = rw (content_at-replicate n k) tt
+  -- a bucket that owns nothing adds no value
+  pub owned_skipped : (p : Content T) (ps : List (Content T)) → None ≡ option_map (λ (e : Entry T). e.value) (owned p) → owned_values (p ∷ ps) ≡ owned_values ps
+  owned_skipped vacant ps none = refl
+  owned_skipped (own e) ps none = absurd (cc)
+  owned_skipped (named e) ps none = refl
 
-    -- where a bucket is set to the name of an entry, still none owns one
-    pub named_set : (ps : List (Content T)) (i b g j : ℕ) → IsNamedIn gs ps → NamesEntry gs b g j → IsNamedIn gs (slice_set ps i (named b g j))
-    named_set [] i b g j all h k = all k
-    named_set (q ∷ ps) zero b g j all h zero = h
-    named_set (q ∷ ps) zero b g j all h (suc k) = all (suc k)
-    named_set (q ∷ ps) (suc i) b g j all h zero = all zero
-    named_set (q ∷ ps) (suc i) b g j all h (suc k) = named_set ps i b g j (λ n. all (suc n)) h k
+  -- of empty buckets none owns an entry
+  pub own_none-replicate : (n : ℕ) → AllOwnNone {T = T} (replicate n vacant)
+  own_none-replicate n = All-replicate OwnsNone n vacant tt
+
+  -- where a bucket is set to a name, still none owns one
+  pub own_none_set : (ps : List (Content T)) (i : ℕ) (e : Entry T) → AllOwnNone ps → AllOwnNone (slice_set ps i (named e))
+  own_none_set ps i e none = All-set OwnsNone ps i (named e) tt none
+
+module _ {A T : Type 0} where
+  -- a bucket that names another's entry shows it
+  pub naming_shows : (from : A) (home : ℕ) (p : Content T) (b : BucketView A T) → Some b ≡ option_map (bucket from home) (naming p) → (e : Entry T) × (b.content ≡ named e) × (shown p ≡ Some e)
+  naming_shows from home vacant b is = absurd (cc)
+  naming_shows from home (own x) b is = (x, (let same : b ≡ bucket from home (named x) = cc in ap (λ b. b.content) same), refl)
+  naming_shows from home (named x) b is = (x, (let same : b ≡ bucket from home (named x) = cc in ap (λ b. b.content) same), refl)
+
+  -- where a bucket is set, its generation holds what the bucket holds
+  pub contents_set : (bs : List (BucketView A T)) (i : ℕ) (b : BucketView A T) → contents_of (slice_set bs i b) ≡ slice_set (contents_of bs) i b.content
+  contents_set bs i b = map-set (λ b. b.content) bs i b
+
+  -- no more of a generation's buckets show an entry than it has
+  pub few_set : (bs : List (BucketView A T)) → length (shown_entries (contents_of bs)) ≤ length bs
+  few_set bs = let few = few_shown (contents_of bs) in let long = length-map bs (λ b. b.content) in omega arith
+
+  -- empty buckets hold nothing
+  pub contents-replicate : (n : ℕ) (b : BucketView A T) → contents_of (replicate n b) ≡ replicate n b.content
+  contents-replicate zero b = refl
+  contents-replicate (suc n) b = ap (λ ps. b.content ∷ ps) (contents-replicate n b)
 
   -- empty buckets, a power of two of them, are a generation
-  pub generation-replicate : (n : ℕ) → IsPowerOfTwo n → IsGeneration {T = T} (replicate n vacant) 0
-  generation-replicate n two = rw (length-replicate, set_contents-replicate) (inr two, refl)
+  pub generation-replicate : (from : A) (home n : ℕ) → IsPowerOfTwo n → IsGeneration from home (replicate n (bucket {A = A} {T = T} from home vacant)) 0
+  generation-replicate from home n two = record {
+    powered = inr (rw (length-replicate n (bucket {A = A} {T = T} from home vacant)) two);
+    counted = rw (contents-replicate n (bucket from home vacant), shown-replicate {T = T} n, values-replicate {X = Entry T} n) refl;
+    lies = All-replicate (Lies home from) n (bucket from home vacant) (refl, refl);
+  }
 
   -- with an empty bucket set, a generation is one of a size greater by one
-  pub generation_set : (ps : List (Content T)) (size i : ℕ) (p : Content T) → IsGeneration ps size → i < length ps → content_at ps i ≡ vacant → p ≢ vacant → IsGeneration (slice_set ps i p) (size + 1)
-  generation_set ps size i p (powered, counted) lt at set =
-      let more = set_contents-set ps i p lt at set in (
-        elim powered [
-          | inl none ↦ absurd (let e : length ps ≡ 0 = ap length none in omega arith)
+  pub generation_set : (from : A) (home : ℕ) (bs : List (BucketView A T)) (size i : ℕ) (b : BucketView A T) (e : Entry T) → IsGeneration from home bs size → i < length bs
+      → value_at (shown_all (contents_of bs)) i ≡ None → shown b.content ≡ Some e → Lies home from b → IsGeneration from home (slice_set bs i b) (size + 1)
+  generation_set from home bs size i b e g lt empty shows lies =
+      let within : i < length (contents_of bs) = rw length-map lt in
+      record {
+        powered = elim g.powered [
+          | inl none ↦ absurd (let n : length bs ≡ 0 = ap length none in omega arith)
           | inr two ↦ inr (rw length-set two)
-        ],
-        omega arith,
-      )
+        ];
+        counted = (let more = shown_more (contents_of bs) i b.content e within empty shows in let was = g.counted in rw contents_set (omega arith));
+        lies = All-set (Lies home from) bs i b lies g.lies;
+      }
 
   -- a generation with an empty bucket has a size below its capacity
-  pub generation_room : (ps : List (Content T)) (size i : ℕ) → IsGeneration ps size → i < length ps → content_at ps i ≡ vacant → size < length ps
-  generation_room ps size i g lt at =
-      let (powered, counted) = generation_set ps size i (named 0 0 0) g lt at (λ e. (cc)) in
-      let few = length-set_contents (slice_set ps i (named 0 0 0)) in
-      let long : length (slice_set ps i (named 0 0 0)) ≡ length ps = length-set ps i _ in
+  pub generation_room : (from : A) (home : ℕ) (bs : List (BucketView A T)) (size i : ℕ) (e : Entry T) → IsGeneration from home bs size → i < length bs → value_at (shown_all (contents_of bs)) i ≡ None → size < length bs
+  generation_room from home bs size i e g lt empty =
+      let within : i < length (contents_of bs) = rw length-map lt in
+      let more = shown_more (contents_of bs) i (named e) e within empty refl in
+      let few = few_shown (slice_set (contents_of bs) i (named e)) in
+      let long : length (slice_set (contents_of bs) i (named e)) ≡ length bs = length-set (contents_of bs) i _ ∙ length-map bs (λ b. b.content) in
+      let was = g.counted in
       omega arith
 
 -- what was read, written back, changes nothing

@@ -1,20 +1,12 @@
--- How many buckets of a generation are set, and how many show an entry.
-use Rattle.std.proofs.Common.{◌≡◌, ℕ, suc, ◌+◌, ◌-◌, ◌%◌, Bool, ◌<◌, inl, inr, List, [], ◌∷◌, Option, length, refl, sym, ap, ◌∙◌, arith}
+-- Where a probe passed every bucket, each of them is set.
+use Rattle.std.proofs.Common.{◌≡◌, ℕ, ◌+◌, ◌-◌, ◌%◌, Bool, ◌<◌, inl, inr, List, Option, length, sym, ◌∙◌, arith}
 use Rattle.std.proofs.lemmas.Bool.{cases_lt}
 use Rattle.std.proofs.Math.Nat.{mod-add-mod, add-mod_right, mod-eq_of_lt, mod-lt}
-use Rattle.generations.specs.Buckets.{Content, vacant, own, named, values, set_contents, shown_all, AllSound}
+use Rattle.generations.specs.Buckets.{values}
 use Rattle.generations.specs.Probe.{IsPassed}
 use Rattle.terms.specs.Probes.{bucket_at}
-use Rattle.generations.specs.declared.cell.Entry.{Entry}
+use Rattle.cell.specs.declared.bucket.Entry.{Entry}
 use Rattle.generations.proofs.Entries.{all_set}
-
-module _ {T : Type 0} where
-  -- as many buckets are set as show an entry
-  pub set_shown : (gs : List (List (Content T))) (ps : List (Content T)) → AllSound gs ps → length (set_contents ps) ≡ length (values (shown_all gs ps))
-  set_shown gs [] s = refl
-  set_shown gs (vacant ∷ ps) s = set_shown gs ps (λ k. s (suc k))
-  set_shown gs (own e ∷ ps) s = ap suc (set_shown gs ps (λ k. s (suc k)))
-  set_shown gs (named b g i ∷ ps) s = rw ((s 0).1) (ap suc (set_shown gs ps (λ k. s (suc k))))
 
 module _ {X : Type 0} (ps : List (Option X)) (hash : ℕ) where
   -- each bucket lies on the way of each hash

@@ -8,7 +8,7 @@ use Rattle.std.proofs.lemmas.List.Elements.{Contains-append_right}
 use Rattle.std.proofs.lemmas.List.Sorted.{IsPermutation-to_front, IsPermutation-cons}
 use Rattle.generations.specs.Buckets.{values, value_at}
 use Rattle.generations.specs.Buckets.{values_of}
-use Rattle.generations.specs.declared.cell.Entry.{Entry}
+use Rattle.cell.specs.declared.bucket.Entry.{Entry}
 
 module _ {X : Type 0} where
   -- n places without a value

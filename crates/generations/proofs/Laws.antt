@@ -8,7 +8,7 @@ use Rattle.terms.specs.Probes.{bucket_at}
 use Rattle.generations.specs.Buckets.{values, value_at}
 use Rattle.generations.specs.Ways.{IsHeld, IsReached, AllReached, AllMarked}
 use Rattle.generations.specs.Probe.{IsPassed, IsVacant}
-use Rattle.generations.specs.declared.cell.Entry.{Entry}
+use Rattle.cell.specs.declared.bucket.Entry.{Entry}
 use Rattle.generations.proofs.Entries.{Contains-values, some_same, not_both, value_at-set}
 
 module _ {X : Type 0} where

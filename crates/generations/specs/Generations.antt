@@ -1,64 +1,70 @@
--- A generation as the layer above sees it, and a row of generations.
-use Rattle.std.specs.Prelude.{◌≡◌, ◌⊎◌, ℕ, ◌-◌, ◌+◌, List, [], Option, Some, None, Result, Ok, Err, length, map, replicate, slice_index_or}
-use Rattle.generations.specs.Buckets.{Content, vacant, own, named, set_contents, home, shown, content_at}
+-- A generation as the layer above sees it.
+use Rattle.std.specs.Prelude.{◌≡◌, ◌⊎◌, ℕ, ◌+◌, ⊤, List, [], Option, Some, None, Result, Ok, Err, All, length, map, replicate}
 use Rattle.std.specs.Int.{IsPowerOfTwo}
-use Rattle.generations.specs.declared.cell.Entry.{Entry}
-use Rattle.generations.specs.declared.place.Place.{Place}
-use Rattle.generations.specs.declared.fixed.Name.{Name}
+use Rattle.cell.specs.Contents.{BucketView, Lies}
+use Rattle.cell.specs.declared.bucket.Entry.{Entry}
+use Rattle.generations.specs.Buckets.{Content, vacant, own, named, shown_entries, owned_values}
 use Rattle.generations.specs.declared.fixed.Refusal.{Refusal}
 
--- the buckets of a generation, and how many are set
-pub record BucketRow (T : Type 0) : Type 0 where
+-- a generation: the allocator and the home of its blocks, its buckets, and how many of them are set
+pub record GenerationView (A T : Type 0) : Type 0 where
+  pub from : A
+  pub home : ℕ
   pub contents : List (Content T)
   pub size : ℕ
 
-module _ {T : Type 0} where
-  -- no bucket
-  abbrev pub no_buckets : BucketRow T
-  no_buckets = record { contents = []; size = 0 }
+-- values that are taken out of a generation of this home: those that are left
+pub record OwnValuesView (T : Type 0) : Type 0 where
+  pub home : ℕ
+  pub values : List T
+
+module _ {A T : Type 0} where
+  -- what the buckets hold
+  abbrev pub contents_of : List (BucketView A T) → List (Content T)
+  contents_of bs = map (λ b. b.content) bs
+
+  abbrev pub generation_of : A → ℕ → List (BucketView A T) → ℕ → GenerationView A T
+  generation_of from home bs size =
+      record { from = from; home = home; contents = contents_of bs; size = size }
 
   -- n empty buckets
-  abbrev pub blank : ℕ → BucketRow T
-  blank n = record { contents = replicate n vacant; size = 0 }
+  abbrev pub blank : A → ℕ → ℕ → GenerationView A T
+  blank from home n =
+      record { from = from; home = home; contents = replicate n vacant; size = 0 }
 
-  -- there is no bucket, or a power of two, and the size counts those that are set
-  abbrev pub IsGeneration : List (Content T) → ℕ → Type 0
-  IsGeneration ps size = ((ps ≡ []) ⊎ IsPowerOfTwo (length ps)) × (size ≡ length (set_contents ps))
+  -- there is no bucket, or a power of two; the size counts those that are set; and each is of this
+  -- home and this allocator
+  pub record IsGeneration (from : A) (home : ℕ) (bs : List (BucketView A T)) (size : ℕ) : Type 0 where
+    pub powered : (bs ≡ []) ⊎ IsPowerOfTwo (length bs)
+    pub counted : size ≡ length (shown_entries (contents_of bs))
+    pub lies : All (Lies home from) bs
 
-  -- the buckets of each generation
-  abbrev pub contents_of : List (BucketRow T) → List (List (Content T))
-  contents_of gs = map (λ g. g.contents) gs
+  -- two generations of one home and one allocator
+  abbrev pub AreOfOneHome : GenerationView A T → GenerationView A T → Type 0
+  AreOfOneHome a b = (a.home ≡ b.home) × (a.from ≡ b.from)
 
-  -- the buckets of the last generation
-  abbrev pub last_of : List (List (Content T)) → List (Content T)
-  last_of gs = slice_index_or gs (length gs - 1) []
+  abbrev pub own_values_of : ℕ → List (BucketView A T) → OwnValuesView T
+  own_values_of home bs = record { home = home; values = owned_values (contents_of bs) }
 
-  -- the name leads to an entry with these bits
-  abbrev pub NamesEntry : List (List (Content T)) → ℕ → ℕ → ℕ → Type 0
-  NamesEntry gs bits generation index = (e : Entry T) × (home gs generation index ≡ Some e)
-      × (e.bits ≡ bits)
+module _ {T : Type 0} where
+  -- the bucket names an entry
+  abbrev pub IsName : Content T → Type 0
+  IsName vacant = ⊥
+  IsName (own e) = ⊥
+  IsName (named e) = ⊤
 
-  -- the name leads to this entry, and carries its bits
-  abbrev pub Leads : List (List (Content T)) → Name → Entry T → Type 0
-  Leads gs name e = (home gs name.generation name.index ≡ Some e) × (e.bits ≡ name.bits)
+  -- the bucket owns no entry
+  abbrev pub OwnsNone : Content T → Type 0
+  OwnsNone vacant = ⊤
+  OwnsNone (own e) = ⊥
+  OwnsNone (named e) = ⊤
 
-  -- a name that leads to the entry that a bucket shows, or nothing where the bucket shows nothing
-  abbrev pub NamesShown : List (List (Content T)) → Content T → Option Name → Type 0
-  NamesShown gs p None = shown gs p ≡ None
-  NamesShown gs p (Some name) = (e : Entry T) × Leads gs name e × (shown gs p ≡ Some e)
-
-  -- the bucket is empty, or names an entry
-  abbrev pub IsName : List (List (Content T)) → Content T → Type 0
-  IsName gs vacant = Unit {0}
-  IsName gs (own e) = ⊥
-  IsName gs (named b g i) = NamesEntry gs b g i
-
-  -- no bucket owns an entry, and each name leads to one
-  abbrev pub IsNamedIn : List (List (Content T)) → List (Content T) → Type 0
-  IsNamedIn gs ps = (k : ℕ) → IsName gs (content_at ps k)
+  -- no bucket owns an entry
+  abbrev pub AllOwnNone : List (Content T) → Type 0
+  AllOwnNone ps = All OwnsNone ps
 
   -- only a placed value is counted
-  abbrev pub CountsInsert : ℕ → Result (Place × Option T) (Refusal T) → ℕ → Type 0
+  abbrev pub CountsInsert : {P : Type 0} → ℕ → Result (P × Option T) (Refusal T) → ℕ → Type 0
   CountsInsert old (Ok (p, None)) new = new ≡ old + 1
   CountsInsert old (Ok (p, Some back)) new = new ≡ old
   CountsInsert old (Err r) new = new ≡ old

@@ -1,5 +1,4 @@
 pub mod Buckets
-pub mod Cells
 pub mod Ways
 pub mod Probe
 pub mod Generations

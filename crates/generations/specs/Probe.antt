@@ -1,10 +1,9 @@
 -- What a probe answers.
 use Rattle.std.specs.Prelude.{◌≡◌, ◌≢◌, ◌⊎◌, ℕ, ◌<◌, Bool, true, false, List, Option, Some, None, length}
 use Rattle.terms.specs.Hashes.{bits_of}
-use Rattle.generations.specs.Buckets.{Content, value_at, content_at, shown_all, home_place}
 use Rattle.terms.specs.Probes.{bucket_at}
-use Rattle.generations.specs.declared.cell.Entry.{Entry}
-use Rattle.generations.specs.declared.place.Place.{Place}
+use Rattle.generations.specs.Buckets.{value_at}
+use Rattle.cell.specs.declared.bucket.Entry.{Entry}
 use Rattle.generations.specs.declared.fixed.Comparison.{Comparison}
 use Rattle.generations.specs.declared.fixed.Comparison.TheVariants as comparison
 use Rattle.generations.specs.declared.fixed.ProbeEnd.{ProbeEnd}
@@ -24,12 +23,12 @@ module _ {T U : Type 0} (target : T → U) (answers : U → Bool → Type 0) whe
     pub held : shown ≡ Some entry
     pub refused : (entry.bits ≢ bits) ⊎ answers (target entry.value) false
 
-  -- what a probe for these bits learns of one bucket, whose entry lives at that place
-  abbrev pub ComparisonGives : ℕ → Option (Entry T) → Place → Comparison T → Type 0
-  ComparisonGives bits shown place comparison.Vacant = shown ≡ None
-  ComparisonGives bits shown place comparison.Different = IsPassedBy bits shown
-  ComparisonGives bits shown place (comparison.Accepted p entry) = IsAcceptedBy bits shown
-      × (shown ≡ Some entry.now) × (p ≡ place)
+  -- what a probe for these bits learns of one bucket
+  abbrev pub ComparisonGives : ℕ → Option (Entry T) → Comparison T → Type 0
+  ComparisonGives bits shown comparison.Vacant = shown ≡ None
+  ComparisonGives bits shown comparison.Different = IsPassedBy bits shown
+  ComparisonGives bits shown (comparison.Accepted entry) = IsAcceptedBy bits shown
+      × (shown ≡ Some entry.now)
 
   module _ (ps : List (Option (Entry T))) (hash : ℕ) where
     -- each of the first d buckets of the probe holds an entry that was not accepted
@@ -53,11 +52,8 @@ module _ {T U : Type 0} (target : T → U) (answers : U → Bool → Type 0) whe
       pub passed : IsPassed steps
       pub vacant : value_at ps i ≡ None
 
-  -- how a probe ends in the buckets ps of a generation that comes right after the generations gs
-  module _ (gs : List (List (Content T))) (ps : List (Content T)) (hash : ℕ) where
+    -- how a probe of the buckets of a generation ends
     abbrev pub ProbeGives : ProbeEnd T → Type 0
-    ProbeGives (Accepted p entry) = (i : ℕ) × IsAccepted (shown_all gs ps) hash i
-        × (value_at (shown_all gs ps) i ≡ Some entry.now)
-        × (p ≡ home_place (length gs) i (content_at ps i))
-    ProbeGives (Vacant i) = IsVacant (shown_all gs ps) hash i
-    ProbeGives Full = IsPassed (shown_all gs ps) hash (length (shown_all gs ps))
+    ProbeGives (Accepted i entry) = IsAccepted i × (value_at ps i ≡ Some entry.now)
+    ProbeGives (Vacant i) = IsVacant i
+    ProbeGives Full = IsPassed (length ps)

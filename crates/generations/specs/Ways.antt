@@ -4,7 +4,7 @@ use Rattle.terms.specs.Hashes.{bits_of}
 use Rattle.terms.specs.Laws.{AllApart}
 use Rattle.terms.specs.Probes.{bucket_at}
 use Rattle.generations.specs.Buckets.{values, value_at}
-use Rattle.generations.specs.declared.cell.Entry.{Entry}
+use Rattle.cell.specs.declared.bucket.Entry.{Entry}
 
 module _ {X : Type 0} where
   -- bucket i is set

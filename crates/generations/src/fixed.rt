@@ -1,27 +1,25 @@
 //! One generation: a fixed table of buckets.
-ghost use Rattle.std.specs.Prelude.{◌≡◌, ◌+◌, ◌-◌, ◌*◌, ◌<◌, ◌≤◌, ◌↔◌, length, option_copied, IfOk, IsSome, Some, None, IsTrue};
+ghost use Rattle.std.specs.Prelude.{◌≡◌, ◌+◌, ◌-◌, ◌*◌, ◌<◌, ◌≤◌, ◌↔◌, length, option_copied, option_map, IfOk, Some, IsTrue};
 ghost use Rattle.std.specs.Fn.{FnReturnsAt, FnReturnsAtPair};
-ghost use Rattle.generations.specs.Buckets.{named, owned, home, shown, content_at, set_contents, IsSound, AllSound, home_place};
-ghost use Rattle.generations.specs.Cells.{Sees};
 ghost use Rattle.std.specs.Int.{IsPowerOfTwo};
+ghost use Rattle.cell.specs.Contents.{bucket, naming, shown, Lies};
+ghost use Rattle.generations.specs.Buckets.{shown_all, shown_entries, content_at};
 ghost use Rattle.generations.specs.Probe.{ComparisonGives, ProbeGives};
 ghost use Rattle.generations.specs.Growth.{Inserts, PutsName};
-ghost use Rattle.generations.specs.Generations.{contents_of, NamesEntry, CountsInsert};
+ghost use Rattle.generations.specs.Generations.{CountsInsert, AreOfOneHome, IsName};
 
 pub mod owning;
 
 use crate::atomic_value::AtomicValue;
-use crate::cell::{BucketView, Cell, Entry, Refusal as CellRefusal};
-use crate::place::Place;
+use cell::{Bucket, Entry, Home, Mark, Refusal as BucketRefusal, Word};
 use std::alloc::{AllocError, Allocator};
 use std::marker::Model;
 use terms::probe::{bits_of_hash, first_bucket, next_bucket};
 
-/// How a probe ended: at an entry that was accepted, with the place where it lives; at the index of an empty bucket; or
-/// after a whole turn.
+/// How a probe ended: at the index of an entry that was accepted; at the index of an empty bucket; or after a whole turn.
 #[derive(Clone, Copy)]
 pub enum ProbeEnd<'a, T> {
-    Accepted(Place, &'a Entry<T>),
+    Accepted(usize, &'a Entry<T>),
     Vacant(usize),
     Full,
 }
@@ -31,10 +29,11 @@ pub enum ProbeEnd<'a, T> {
 enum Comparison<'a, T> {
     Vacant,
     Different,
-    Accepted(Place, &'a Entry<T>),
+    Accepted(&'a Entry<T>),
 }
 
 /// A value that a generation did not take.
+#[derive(Drop)]
 pub enum Refusal<T> {
     /// All buckets are set, and no entry was accepted as equal.
     Full(T),
@@ -42,138 +41,104 @@ pub enum Refusal<T> {
     NoMemory(T),
 }
 
-/// The name of an entry: the bits that it carries, and the bucket that owns it.
-#[derive(Clone, Copy)]
-pub struct Name {
-    pub bits: u8,
-    pub generation: u8,
-    pub index: usize,
-}
-
-/// A generation: as many buckets as its capacity, a power of two, or none.
+/// A generation: as many buckets as its capacity, a power of two, or none; all of one home and one allocator.
 #[derive(Drop)]
 pub struct Generation<T: AtomicValue, A: Allocator + Copy> {
-    cells: Vec<Cell<T, A>, A>,
+    alloc: A,
+    /// Never set: it says of which home the buckets are.
+    mark: Word<Entry<T>, A>,
+    buckets: Vec<Bucket<T, A>, A>,
     size: usize,
 }
 
 impl<T: AtomicValue, A: Allocator + Copy> Model for Generation<T, A> {
-    ghost use Rattle.std.specs.Prelude.{◌≡◌, length};
-    ghost use Rattle.generations.specs.Generations.{BucketRow, IsGeneration};
+    ghost use Rattle.generations.specs.Generations.{GenerationView, generation_of, IsGeneration};
 
-    ghost Value = { BucketRow T };
+    ghost Value = { GenerationView A T };
 
-    ghost view = { λ g. record { contents = g.cells.items; size = g.size } };
+    ghost view = { λ g. generation_of g.alloc g.mark.home g.buckets.items g.size };
 
-    ghost invariant = { λ g. IsGeneration g.cells.items g.size };
+    ghost invariant = { λ g. IsGeneration g.alloc g.mark.home g.buckets.items g.size };
 }
 
-/// The entry that a name leads to.
-pub fn entry_named<'a, T: AtomicValue, A: Allocator + Copy>(
-    earlier: &'a [Generation<T, A>],
-    generation: u8,
-    index: usize,
-) -> &'a Entry<T>
-    requires { IsSome (home (contents_of earlier.now) generation index) }
-    ensures { home (contents_of earlier.now) generation index ≡ Some result.now }
-{
-    let owner = &earlier[generation as usize];
-    match owner.cells[index].get_alone() {
-        Some(entry) => entry,
-        None => unreachable!(),
-    }
-}
-
-/// What the test says of an entry that lives at this place.
+/// What the test says of an entry.
 fn compare_entry<'a, T: AtomicValue, F: Fn(&T::Target) -> bool>(
-    place: Place,
     entry: &'a Entry<T>,
     test: &F,
 ) -> Comparison<'a, T>
     requires { F.IsAlwaysCallable test.now }
-    ensures { ComparisonGives T.target (FnReturnsAt F.Fn test.now) entry.now.bits (Some entry.now) place result }
+    ensures { ComparisonGives T.target (FnReturnsAt F.Fn test.now) entry.now.bits (Some entry.now) result }
 {
     if test(entry.value.deref()) {
-        Comparison::Accepted(place, entry)
+        Comparison::Accepted(entry)
     } else {
         Comparison::Different
     }
 }
 
-/// What a probe for these bits learns of a bucket, which has this index in its generation. An entry with other bits is not asked about.
+/// What a probe for these bits learns of a bucket. An entry with other bits is not asked about, and its block not read.
 fn compare_bucket<'a, T: AtomicValue, A: Allocator + Copy, F: Fn(&T::Target) -> bool>(
-    earlier: &'a [Generation<T, A>],
-    cell: &'a Cell<T, A>,
-    bucket: usize,
+    home: &'a Home,
+    bucket: &'a Bucket<T, A>,
     sought: u8,
     test: &F,
 ) -> Comparison<'a, T>
-    requires sound { IsSound (contents_of earlier.now) cell.now }
+    requires home { bucket.now.home ≡ home.now.id }
     requires callable { F.IsAlwaysCallable test.now }
-    ensures { ComparisonGives T.target (FnReturnsAt F.Fn test.now) sought (shown (contents_of earlier.now) cell.now)
-        (home_place (length (contents_of earlier.now)) bucket cell.now) result }
+    ensures { ComparisonGives T.target (FnReturnsAt F.Fn test.now) sought (shown bucket.now.content) result }
 {
-    match cell.look() {
-        BucketView::Vacant => Comparison::Vacant,
-        BucketView::Own { bits, entry } if bits == sought => compare_entry(
-            Place {
-                generation: earlier.len(),
-                index: bucket,
-            },
-            entry,
-            test,
-        ),
-        BucketView::Named {
-            bits,
-            generation,
-            index,
-        } if bits == sought => compare_entry(
-            Place {
-                generation: generation as usize,
-                index,
-            },
-            entry_named(earlier, generation, index),
-            test,
-        ),
+    match bucket.mark() {
+        Mark::Vacant => Comparison::Vacant,
+        Mark::Own(bits) if bits == sought => compare_entry(bucket.entry(home), test),
+        Mark::Named(bits) if bits == sought => compare_entry(bucket.entry(home), test),
         _ => Comparison::Different,
     }
 }
 
 impl<T: AtomicValue, A: Allocator + Copy> Generation<T, A> {
-    ghost use Rattle.generations.specs.Generations.{no_buckets, blank};
+    ghost use Rattle.generations.specs.Generations.{blank};
 
     /// No bucket at all. It takes no memory.
-    pub fn none(alloc: A) -> Self
-        ensures { result ≡ no_buckets }
+    pub fn none(alloc: A, home: &Home) -> Self
+        ensures { result ≡ blank alloc home.now.id 0 }
     {
         Generation {
-            cells: Vec::new(alloc),
+            alloc,
+            mark: Word::new(&alloc, home),
+            buckets: Vec::new(alloc),
             size: 0,
         }
     }
 
     /// Empty buckets.
-    pub fn with_capacity(alloc: A, capacity: usize) -> Result<Self, AllocError>
+    pub fn with_capacity(alloc: A, home: &Home, capacity: usize) -> Result<Self, AllocError>
         requires { IsPowerOfTwo capacity }
-        ensures { IfOk result (λ g. g ≡ blank capacity) }
+        ensures { IfOk result (λ g. g ≡ blank alloc home.now.id capacity) }
     {
-        let mut cells = Vec::with_capacity(alloc, capacity)?;
+        let mut buckets = Vec::with_capacity(alloc, capacity)?;
         for _made in 0..capacity {
-            cells.push_reserved(Cell::new());
+            buckets.push_reserved(Bucket::new(&alloc, home));
         }
-        Ok(Generation { cells, size: 0 })
+        let mark = Word::new(&alloc, home);
+        Ok(Generation {
+            alloc,
+            mark,
+            buckets,
+            size: 0,
+        })
     }
 
     /// The number of buckets.
     pub fn capacity(&self) -> usize
         ensures { result ≡ length self.now.contents }
     {
-        self.cells.len()
+        self.buckets.len()
     }
 
     /// The number of set buckets.
     pub fn size(&self) -> usize
-        ensures { result ≡ self.now.size }
+        ensures size { result ≡ self.now.size }
+        ensures counted { result ≡ length (shown_entries self.now.contents) }
     {
         self.size
     }
@@ -182,65 +147,54 @@ impl<T: AtomicValue, A: Allocator + Copy> Generation<T, A> {
     pub fn wants_growth(&self) -> bool
         ensures { IsTrue result ↔ (length self.now.contents ≤ 2 * self.now.size) }
     {
-        self.cells.len() - self.size <= self.size
-    }
-
-    /// The entry that the bucket at this index owns.
-    pub fn entry_owned(&self, index: usize) -> Option<&Entry<T>>
-        requires { index < length self.now.contents }
-        ensures { option_copied result ≡ owned (content_at self.now.contents index) }
-    {
-        self.cells[index].get_alone()
+        self.buckets.len() - self.size <= self.size
     }
 
     /// The entry that the bucket at this index shows: its own, or the one that it names.
-    pub fn entry_shown<'a>(
-        &'a self,
-        earlier: &'a [Generation<T, A>],
-        index: usize,
-    ) -> Option<&'a Entry<T>>
+    pub fn entry_shown<'a>(&'a self, home: &'a Home, index: usize) -> Option<&'a Entry<T>>
+        requires home { self.now.home ≡ home.now.id }
         requires within { index < length self.now.contents }
-        requires sound { AllSound (contents_of earlier.now) self.now.contents }
-        ensures { option_copied result ≡ shown (contents_of earlier.now) (content_at self.now.contents index) }
+        ensures { option_copied result ≡ shown (content_at self.now.contents index) }
     {
-        match self.cells[index].look() {
-            BucketView::Vacant => None,
-            BucketView::Own { entry, .. } => Some(entry),
-            BucketView::Named {
-                generation,
-                index,
-                ..
-            } => Some(entry_named(earlier, generation, index)),
-        }
+        self.buckets[index].get_alone(home)
     }
 
-    /// What the bucket at this index holds.
-    pub fn look_at(&self, index: usize) -> BucketView<'_, T>
+    /// A bucket that names the entry that the bucket at this index shows. No block is read.
+    pub fn naming(&self, index: usize) -> Option<Bucket<T, A>>
         requires { index < length self.now.contents }
-        ensures { Sees (content_at self.now.contents index) result }
+        ensures { result ≡ option_map (bucket self.now.from self.now.home) (naming (content_at self.now.contents index)) }
     {
-        self.cells[index].look()
+        self.buckets[index].naming(self.alloc)
+    }
+
+    /// Empty buckets of the same home and the same allocator.
+    pub fn sibling(&self, home: &Home, capacity: usize) -> Result<Self, AllocError>
+        requires home { self.now.home ≡ home.now.id }
+        requires power { IsPowerOfTwo capacity }
+        ensures { IfOk result (λ g. g ≡ blank self.now.from self.now.home capacity) }
+    {
+        Generation::with_capacity(self.alloc, home, capacity)
     }
 
     /// Looks at the buckets from the hash's first one on, and stops at an empty one or at an accepted entry.
     pub fn probe<'a, F: Fn(&T::Target) -> bool>(
         &'a self,
-        earlier: &'a [Generation<T, A>],
+        home: &'a Home,
         hash: u64,
         test: &F,
     ) -> ProbeEnd<'a, T>
+        requires home { self.now.home ≡ home.now.id }
         requires room { 0 < length self.now.contents }
-        requires sound { AllSound (contents_of earlier.now) self.now.contents }
         requires callable { F.IsAlwaysCallable test.now }
-        ensures { ProbeGives T.target (FnReturnsAt F.Fn test.now) (contents_of earlier.now) self.now.contents hash result }
+        ensures { ProbeGives T.target (FnReturnsAt F.Fn test.now) (shown_all self.now.contents) hash result }
     {
         let sought = bits_of_hash(hash);
-        let capacity = self.cells.len();
+        let capacity = self.buckets.len();
         let mut index = first_bucket(hash, capacity);
         for _seen in 0..capacity {
-            match compare_bucket(earlier, &self.cells[index], index, sought, test) {
+            match compare_bucket(home, &self.buckets[index], sought, test) {
                 Comparison::Vacant => return ProbeEnd::Vacant(index),
-                Comparison::Accepted(place, entry) => return ProbeEnd::Accepted(place, entry),
+                Comparison::Accepted(entry) => return ProbeEnd::Accepted(index, entry),
                 Comparison::Different => (),
             }
             index = next_bucket(index, capacity);
@@ -251,67 +205,67 @@ impl<T: AtomicValue, A: Allocator + Copy> Generation<T, A> {
     /// A probe for an entry that `eq` accepts as equal to the key: the key is handed in first.
     fn probe_same<'a, E: Fn(&T::Target, &T::Target) -> bool>(
         &'a self,
-        earlier: &'a [Generation<T, A>],
+        home: &'a Home,
         hash: u64,
         key: &T::Target,
         eq: &E,
     ) -> ProbeEnd<'a, T>
+        requires home { self.now.home ≡ home.now.id }
         requires room { 0 < length self.now.contents }
-        requires sound { AllSound (contents_of earlier.now) self.now.contents }
         requires callable { E.IsAlwaysCallable eq.now }
-        ensures { ProbeGives T.target (FnReturnsAtPair E.Fn eq.now key.now) (contents_of earlier.now) self.now.contents hash result }
+        ensures { ProbeGives T.target (FnReturnsAtPair E.Fn eq.now key.now) (shown_all self.now.contents) hash result }
     {
-        self.probe(earlier, hash, &|target: &T::Target| eq(key, target))
+        self.probe(home, hash, &|target: &T::Target| eq(key, target))
     }
 
-    /// Places the value at the first empty bucket, unless an entry before it is accepted as equal. Says where the entry of
-    /// the answer lives: this generation comes right after the earlier ones.
+    /// Places the value at the first empty bucket, unless an entry before it is accepted as equal. Says at which index the
+    /// entry of the answer is shown.
     pub fn insert<E: Fn(&T::Target, &T::Target) -> bool>(
         &mut self,
-        alloc: A,
-        earlier: &[Generation<T, A>],
+        home: &Home,
         hash: u64,
         value: T,
         eq: &E,
-    ) -> Result<(Place, Option<T>), Refusal<T>>
+    ) -> Result<(usize, Option<T>), Refusal<T>>
+        requires home { self.old.home ≡ home.now.id }
         requires room { 0 < length self.old.contents }
-        requires sound { AllSound (contents_of earlier.now) self.old.contents }
         requires callable { E.IsAlwaysCallable eq.now }
-        ensures inserts { Inserts T.target (FnReturnsAtPair E.Fn eq.now (T.target value)) (contents_of earlier.now)
-            self.old.contents hash value result self.new.contents }
+        ensures inserts { Inserts T.target (FnReturnsAtPair E.Fn eq.now (T.target value)) self.old.contents hash value result self.new.contents }
         ensures size { CountsInsert self.old.size result self.new.size }
+        ensures home { AreOfOneHome self.new self.old }
     {
-        match self.probe_same(earlier, hash, value.deref(), eq) {
-            ProbeEnd::Accepted(place, _) => Ok((place, Some(value))),
+        match self.probe_same(home, hash, value.deref(), eq) {
+            ProbeEnd::Accepted(index, _) => Ok((index, Some(value))),
             ProbeEnd::Full => Err(Refusal::Full(value)),
-            ProbeEnd::Vacant(index) => match self.cells[index].place_alone(
-                alloc,
-                value,
-                bits_of_hash(hash),
-            ) {
-                Ok(()) => {
-                    self.size += 1;
-                    let generation = earlier.len();
-                    Ok((Place { generation, index }, None))
+            ProbeEnd::Vacant(index) => {
+                let alloc = self.alloc;
+                let bits = bits_of_hash(hash);
+                match self.buckets[index].place_alone(home, alloc, value, bits) {
+                    Ok(()) => {
+                        self.size += 1;
+                        Ok((index, None))
+                    }
+                    Err(BucketRefusal::NoMemory(value)) => Err(Refusal::NoMemory(value)),
+                    Err(BucketRefusal::Taken(_value)) => unreachable!(),
                 }
-                Err(CellRefusal::NoMemory(value)) => Err(Refusal::NoMemory(value)),
-                Err(CellRefusal::Taken(_value)) => unreachable!(),
-            },
+            }
         }
     }
 
-    /// Puts the name of an entry into the first empty bucket of this hash, without asking about equals.
-    pub fn insert_unique(&mut self, earlier: &[Generation<T, A>], hash: u64, name: Name)
+    /// Puts a bucket that names an entry into the place of the first empty one of this hash, without asking about equals.
+    pub fn insert_unique(&mut self, home: &Home, hash: u64, name: Bucket<T, A>)
+        requires home { self.old.home ≡ home.now.id }
         requires room { self.old.size < length self.old.contents }
-        requires sound { AllSound (contents_of earlier.now) self.old.contents }
-        requires leads { NamesEntry (contents_of earlier.now) name.bits name.generation name.index }
-        ensures put { PutsName T.target (contents_of earlier.now) self.old.contents self.new.contents hash (named name.bits name.generation name.index) }
+        requires lies { Lies self.old.home self.old.from name }
+        requires name { IsName name.content }
+        ensures put { PutsName T.target self.old.contents self.new.contents hash name.content }
         ensures size { self.new.size ≡ self.old.size + 1 }
-        ensures counted { self.new.size ≡ length (set_contents self.new.contents) }
+        ensures counted { self.new.size ≡ length (shown_entries self.new.contents) }
+        ensures home { AreOfOneHome self.new self.old }
     {
-        match self.probe(earlier, hash, &|_target: &T::Target| false) {
+        match self.probe(home, hash, &|_target: &T::Target| false) {
             ProbeEnd::Vacant(index) => {
-                self.cells[index].name_alone(name.bits, name.generation, name.index);
+                self.buckets[index] = name;
                 self.size += 1;
             }
             _ => unreachable!(),

@@ -1,55 +1,79 @@
-//! The values of one generation, taken out of it.
+//! The values of one generation, taken out of it once its home has ended.
 ghost use Rattle.std.specs.Prelude.{◌≡◌};
-ghost use Rattle.std.specs.Iterator.{YieldsFirst, item_count};
+ghost use Rattle.std.specs.Iterator.{YieldsFirst};
 ghost use Rattle.generations.specs.Buckets.{owned_values};
 
 use crate::atomic_value::AtomicValue;
-use crate::cell::Cell;
 use crate::fixed::Generation;
+use cell::{Bucket, Closed, Entry, Word};
 use std::alloc::Allocator;
 use std::marker::Model;
 use std::vec;
 
 /// The values that the buckets of a generation own, in the order of the buckets, seen as the list of those that are left.
+/// `end` drops the rest; who drops it in another way leaves their blocks unfreed.
 #[derive(Drop)]
 pub struct OwnValues<T: AtomicValue, A: Allocator + Copy> {
-    cells: vec::IntoIter<Cell<T, A>, A>,
+    alloc: A,
+    mark: Word<Entry<T>, A>,
+    buckets: vec::IntoIter<Bucket<T, A>, A>,
 }
 
 impl<T: AtomicValue, A: Allocator + Copy> Model for OwnValues<T, A> {
-    ghost use Rattle.std.specs.Prelude.{List};
+    ghost use Rattle.std.specs.Prelude.{All};
     ghost use Rattle.std.specs.Vec.Iter.{into_iter_items};
-    ghost use Rattle.generations.specs.Buckets.{owned_values};
+    ghost use Rattle.cell.specs.Contents.{Lies};
+    ghost use Rattle.generations.specs.Generations.{OwnValuesView, own_values_of};
 
-    ghost Value = { List T };
+    ghost Value = { OwnValuesView T };
 
-    ghost view = { λ it. owned_values (into_iter_items it.cells) };
+    ghost view = { λ it. own_values_of it.mark.home (into_iter_items it.buckets) };
+
+    ghost invariant = { λ it. All (Lies it.mark.home it.alloc) (into_iter_items it.buckets) };
 }
 
-impl<T: AtomicValue, A: Allocator + Copy> Iterator for OwnValues<T, A> {
-    type Item = T;
-
-    ghost next_gives = { YieldsFirst (λ rest. rest) };
-
-    ghost remaining = { item_count (λ rest. rest) };
-
-    fn next(&mut self) -> Option<T> {
-        while let Some(cell) = self.cells.next() {
-            if let Some(value) = cell.take_alone() {
+impl<T: AtomicValue, A: Allocator + Copy> OwnValues<T, A> {
+    /// The next value, out of its block, which is freed.
+    pub fn next_value(&mut self, closed: &Closed) -> Option<T>
+        requires { self.old.home ≡ closed.now.id }
+        ensures home { self.new.home ≡ self.old.home }
+        ensures first { YieldsFirst (λ rest. rest) self.old.values result self.new.values }
+    {
+        while let Some(bucket) = self.buckets.next() {
+            if let Some(value) = bucket.take_alone(closed, self.alloc) {
                 return Some(value);
             }
         }
         None
+    }
+
+    /// Drops the values that are left, and frees their blocks.
+    pub fn end(self, closed: &Closed)
+        requires { self.home ≡ closed.now.id }
+    {
+        let mut rest = self;
+        while let Some(value) = rest.next_value(closed) {
+            drop(value);
+        }
     }
 }
 
 impl<T: AtomicValue, A: Allocator + Copy> Generation<T, A> {
     /// Takes the generation apart. It takes no memory.
     pub fn into_own_values(self) -> OwnValues<T, A>
-        ensures { result ≡ owned_values self.contents }
+        ensures home { result.home ≡ self.home }
+        ensures values { result.values ≡ owned_values self.contents }
     {
+        let Generation {
+            alloc,
+            mark,
+            buckets,
+            size: _,
+        } = self;
         OwnValues {
-            cells: self.cells.into_iter(),
+            alloc,
+            mark,
+            buckets: buckets.into_iter(),
         }
     }
 }

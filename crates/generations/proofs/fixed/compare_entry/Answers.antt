@@ -10,7 +10,6 @@ returns-then-test g c = (
     accepted = record { shown = c.deref.result; shows = c.deref.ensures; says = record { met = c.if-test.ensures } };
   },
   refl,
-  refl,
 )
 
 pub returns-else-test : goal.returns-else-test

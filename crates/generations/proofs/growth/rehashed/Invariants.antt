@@ -1,23 +1,25 @@
 use Rattle.std.proofs.Common.{◌≡◌, ◌≤◌, ◌+◌, length, take}
 use Rattle.std.specs.Fn.{FnReturnsAt}
-use Rattle.generations.specs.Buckets.{set_contents, shown_all}
+use Rattle.generations.specs.Buckets.{shown_all, shown_entries}
 use Rattle.generations.specs.Growth.{IsRehashed, AreHashes}
-use Rattle.generations.specs.Generations.{contents_of, last_of, IsNamedIn}
+use Rattle.generations.specs.Generations.{AllOwnNone, AreOfOneHome}
 use Rattle.generations.proofs.growth.rehashed.Given as goal
 
-pub record IsUnderWay (A B C D E F : Type 0) : Type 0 where
-  pub long : A
-  pub grown : B
-  pub counted : C
-  pub names : D
-  pub rehashed : E
-  pub window : F
+pub record IsUnderWay (A B C D E F G : Type 0) : Type 0 where
+  pub home : A
+  pub long : B
+  pub grown : C
+  pub counted : D
+  pub names : E
+  pub rehashed : F
+  pub window : G
 
 abbrev pub invariant-loop-index : goal.invariant-loop-index
 invariant-loop-index g l =
-    IsUnderWay (length l.built.contents ≡ l.capacity)
+    IsUnderWay (AreOfOneHome l.built l.old)
+    (length l.built.contents ≡ l.capacity)
     (l.built.size ≤ l.index)
-    (l.built.size ≡ length (set_contents l.built.contents))
-    (IsNamedIn (contents_of l.earlier) l.built.contents)
-    (IsRehashed g.T.AtomicValue.target (FnReturnsAt g.H.Fn l.hash_fn) (take l.index (shown_all (contents_of l.earlier) (last_of (contents_of l.earlier)))) (shown_all (contents_of l.earlier) l.built.contents))
-    ((l.from ≤ l.index) × (l.index ≤ l.from + 64) × AreHashes g.T.AtomicValue.target (FnReturnsAt g.H.Fn l.hash_fn) (contents_of l.earlier) (last_of (contents_of l.earlier)) l.from 64 l.hashes)
+    (l.built.size ≡ length (shown_entries l.built.contents))
+    (AllOwnNone l.built.contents)
+    (IsRehashed g.T.AtomicValue.target (FnReturnsAt g.H.Fn l.hash_fn) (take l.index (shown_all l.old.contents)) (shown_all l.built.contents))
+    ((l.from ≤ l.index) × (l.index ≤ l.from + 64) × AreHashes g.T.AtomicValue.target (FnReturnsAt g.H.Fn l.hash_fn) l.old.contents l.from 64 l.hashes)
