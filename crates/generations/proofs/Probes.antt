@@ -1,6 +1,5 @@
 -- A probe's steps.
-use Rattle.std.proofs.Common.{◌≡◌, ℕ, ◌+◌, ◌<◌, Bool, true, List, Option, Some, slice_index_or, refl, sym, ap, ◌∙◌, arith, inl, inr, below_more, length}
-use Rattle.std.proofs.lemmas.Grind.{common_steps}
+use Rattle.std.proofs.Common.{◌≡◌, ℕ, ◌+◌, ◌<◌, Bool, true, List, Option, slice_index_or, refl, sym, ap, ◌∙◌, arith, inl, inr, below_more, length}
 use Rattle.std.proofs.lemmas.List.{get_or-map, length-map}
 use Rattle.std.specs.Prelude.{All, None}
 use Rattle.std.proofs.lemmas.List.Elements.{All-get_or}
@@ -8,7 +7,7 @@ use Rattle.terms.specs.Hashes.{bits_of}
 use Rattle.terms.specs.Probes.{bucket_at}
 use Rattle.cell.specs.Contents.{BucketView, Lies}
 use Rattle.cell.specs.declared.bucket.Entry.{Entry}
-use Rattle.generations.specs.Buckets.{Content, vacant, values, value_at, content_at, shown, shown_all}
+use Rattle.generations.specs.Buckets.{vacant, values, value_at, content_at, shown, shown_all}
 use Rattle.generations.specs.Generations.{contents_of}
 use Rattle.generations.specs.Probe.{IsAcceptedBy, IsPassedBy, IsPassed, IsVacant, ProbeGives}
 use Rattle.generations.specs.declared.fixed.ProbeEnd.{ProbeEnd}

@@ -1,5 +1,5 @@
 -- Hashes are asked for in a window of buckets before their entries are named.
-use Rattle.std.proofs.Common.{◌≡◌, ℕ, ◌+◌, ◌-◌, ◌<◌, ◌≤◌, ◌≢◌, inl, inr, List, Option, Some, None, length, arith, get_or-set_same, get_or-set_other}
+use Rattle.std.proofs.Common.{◌≡◌, ℕ, ◌+◌, ◌-◌, ◌<◌, ◌≤◌, ◌≢◌, inl, inr, List, Some, None, length, arith, get_or-set_same, get_or-set_other}
 use Rattle.std.specs.Prelude.{slice_set, slice_index}
 use Rattle.std.proofs.lemmas.Bool.{cases_lt}
 use Rattle.generations.specs.Buckets.{Content, content_at, shown}

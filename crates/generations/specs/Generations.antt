@@ -2,7 +2,6 @@
 use Rattle.std.specs.Prelude.{◌≡◌, ◌⊎◌, ℕ, ◌+◌, ⊤, List, [], Option, Some, None, Result, Ok, Err, All, length, map, replicate}
 use Rattle.std.specs.Int.{IsPowerOfTwo}
 use Rattle.cell.specs.Contents.{BucketView, Lies}
-use Rattle.cell.specs.declared.bucket.Entry.{Entry}
 use Rattle.generations.specs.Buckets.{Content, vacant, own, named, shown_entries, owned_values}
 use Rattle.generations.specs.declared.fixed.Refusal.{Refusal}
 

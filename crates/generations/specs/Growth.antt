@@ -3,7 +3,7 @@
 use Rattle.std.specs.Prelude.{◌≡◌, ℕ, ◌+◌, ◌<◌, ◌⊎◌, ⊤, Bool, List, Option, Some, None, Result, Ok, Err, length, slice_index, slice_set, take, Contains}
 use Rattle.std.specs.List.Sorted.{IsPermutation}
 use Rattle.terms.specs.Hashes.{bits_of}
-use Rattle.generations.specs.Buckets.{Content, own, named, values, value_at, shown, shown_all, content_at}
+use Rattle.generations.specs.Buckets.{Content, own, named, values, shown, shown_all, content_at}
 use Rattle.generations.specs.Ways.{AllReached}
 use Rattle.generations.specs.Probe.{IsPassed, IsAccepted, IsVacant}
 use Rattle.cell.specs.declared.bucket.Entry.{Entry}

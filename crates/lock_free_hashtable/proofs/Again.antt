@@ -9,7 +9,7 @@ use Rattle.std.proofs.lemmas.List.Sums.{sum_by-cons}
 use Rattle.terms.specs.ListObject.{ListReply, Lookup, Answers}
 use Rattle.terms.specs.Laws.{IsLaw, AllApart}
 use Rattle.generations.specs.Buckets.{values_of}
-use Rattle.generations.specs.declared.cell.Entry.{Entry}
+use Rattle.cell.specs.declared.bucket.Entry.{Entry}
 use Rattle.lock_free_hashtable.specs.Shown.{Shows, IsEntryAt, IsLawfulInsert, IsLawfulLookup, InsertKeeps, LookupReplies, entries_of, value_of, equal}
 use Rattle.lock_free_hashtable.specs.Again.{LaterIsReflexive, LaterIsTransitive, AnswersLive, FindsAgain}
 

@@ -14,7 +14,7 @@ use Rattle.generations.specs.Probe.{IsPassed, IsVacant}
 use Rattle.generations.specs.Growth.{entry_of}
 use Rattle.lock_free_hashtable.specs.Held.{IsLawfulInsert, IsNew}
 use Rattle.lock_free_hashtable.specs.Table.{HeldTable, IsLawful, entries, marked}
-use Rattle.generations.specs.declared.cell.Entry.{Entry}
+use Rattle.cell.specs.declared.bucket.Entry.{Entry}
 use Rattle.generations.proofs.Entries.{values-set, place_of, contains_value, entry_with}
 use Rattle.generations.proofs.Laws.{before_vacant, passed_refuses, reached_after, marked_after}
 

@@ -1,4 +1,4 @@
-pub mod Homes
+pub mod Rows
 pub mod Sizes
 pub mod Kept
 pub mod Tries

@@ -7,12 +7,12 @@ use Rattle.std.proofs.lemmas.List.Sorted.{IsPermutation-sym, IsPermutation-trans
 use Rattle.std.proofs.lemmas.List.Elements.{Contains-append_left}
 use Rattle.terms.specs.ListObject.{Placed, Found, Refused}
 use Rattle.generations.specs.Growth.{entry_of}
-use Rattle.lock_free_hashtable.specs.Growth.{KeepsHomes}
+use Rattle.lock_free_hashtable.specs.Growth.{KeepsPlaces}
 use Rattle.lock_free_hashtable.specs.Held.{InsertKeeps, InsertMarks, InsertAnswers, PlacesAsList, Inserted}
 use Rattle.generations.specs.Buckets.{values_of}
-use Rattle.lock_free_hashtable.specs.Table.{HeldTable, IsLater, IsCounted, IsLawful, entries, entry_at, home_at, marked}
-use Rattle.generations.specs.declared.cell.Entry.{Entry}
-use Rattle.generations.specs.declared.place.Place.{Place}
+use Rattle.lock_free_hashtable.specs.Table.{HeldTable, IsLater, IsCounted, IsLawful, entries, entry_at, marked_at, marked}
+use Rattle.cell.specs.declared.bucket.Entry.{Entry}
+use Rattle.lock_free_hashtable.specs.declared.place.Place.{Place}
 use Rattle.generations.proofs.Entries.{contains_value}
 use Rattle.lock_free_hashtable.proofs.Placed.{Keeps, Places}
 
@@ -47,10 +47,10 @@ module _ {T U : Type 0} (target : T → U) where
     stays (Ok (p, Some back)) k v h = Contains-permutation (entries old) (entries new) v k.2 h
     stays (Err back) k v h = Contains-permutation (entries old) (entries new) v k.1 h
 
-    later_as : (r : Result (Place × Option T) T) → Keeps target accepts old hash value r new → KeepsHomes old new → IsLater old new
-    later_as r k homes p v at =
-        let x = home_with (home_at old p) v at.lives in
-        record { lives = rw (homes p x.0 x.1) (ap Some x.2); among = stays r (keeps_as r k) v at.among }
+    later_as : (r : Result (Place × Option T) T) → Keeps target accepts old hash value r new → KeepsPlaces old new → IsLater old new
+    later_as r k kept p v at =
+        let x = home_with (marked_at old p) v at.lives in
+        record { lives = rw (kept p x.0 x.1) (ap Some x.2); among = stays r (keeps_as r k) v at.among }
 
   module _ (same : U → U → Bool) (hash_of : U → ℕ) (eq : U → U → Bool → Type 0) (rehash : U → ℕ → Type 0) (old : HeldTable T) (hash : ℕ) (value : T) (new : HeldTable T) where
     list_as : (r : Result (Place × Option T) T) → Keeps target (eq (target value)) old hash value r new → InsertKeeps target (eq (target value)) (entry_at new) (entries old) value r (entries new) → (IsCounted old → IsCounted new)
@@ -85,7 +85,7 @@ module _ {T U : Type 0} (target : T → U) where
           says = record {
             keeps = keeps;
             marks = marks_as (eq (target value)) old hash value new r s.keeps;
-            later = later_as (eq (target value)) old hash value new r s.keeps s.homes;
+            later = later_as (eq (target value)) old hash value new r s.keeps s.places;
             counted = s.counted counted;
             lawful = s.lawful;
             as_list = list_as r s.keeps keeps s.counted s.lawful;

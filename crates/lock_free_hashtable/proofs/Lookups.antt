@@ -1,10 +1,10 @@
 -- A look-up shows an entry that its test accepted, and one that finds nothing has met every entry that it accepts.
-use Rattle.std.proofs.Common.{◌≡◌, ℕ, ◌<◌, Bool, true, List, [], Some, None, length, refl, sym, ap, ◌∙◌, subst, arith, inl, inr}
+use Rattle.std.proofs.Common.{◌≡◌, ℕ, ◌<◌, Bool, true, [], Some, None, length, refl, sym, ap, ◌∙◌, subst, arith, inl, inr}
 use Rattle.std.proofs.lemmas.Bool.{cases_Bool}
 use Rattle.std.proofs.lemmas.List.Sorted.{IsPermutation-sym, Contains-permutation}
 use Rattle.terms.specs.ListObject.{Shown, Absent}
 use Rattle.terms.specs.Hashes.{bits_of}
-use Rattle.generations.specs.Buckets.{Content, value_at, shown_all}
+use Rattle.generations.specs.Buckets.{value_at}
 use Rattle.generations.specs.Ways.{IsReached}
 use Rattle.generations.specs.Probe.{IsPassed, IsAccepted, IsVacant, ProbeGives}
 use Rattle.generations.specs.declared.fixed.ProbeEnd.{ProbeEnd}
@@ -12,8 +12,7 @@ use Rattle.generations.specs.declared.fixed.ProbeEnd.TheVariants.{Accepted, Vaca
 use Rattle.std.specs.Borrow.{Bor}
 use Rattle.lock_free_hashtable.specs.Held.{FindsOne, FindsNone, LooksUpAsList}
 use Rattle.lock_free_hashtable.specs.Table.{HeldTable, IsLawful, entries, marked}
-use Rattle.generations.specs.declared.cell.Entry.{Entry}
-use Rattle.generations.specs.declared.place.Place.{Place}
+use Rattle.cell.specs.declared.bucket.Entry.{Entry}
 use Rattle.generations.proofs.Entries.{Contains-values, place_of, some_same, contains_value, entry_with}
 use Rattle.generations.proofs.Laws.{before_vacant, passed_refuses}
 
@@ -62,8 +61,7 @@ module _ {T U : Type 0} (target : T → U) (same : U → U → Bool) (hash_of : 
   none_as_list f p l M s = (Absent, refl, ((λ v h. f p l v (Contains-permutation M (entries t) v (IsPermutation-sym (entries t) M s.permuted) h)), refl))
 
   -- a probe that accepts nothing finds none
-  pub none_unless_accepted : (gs : List (List (Content T))) (cur : List (Content T)) → shown_all gs cur ≡ t.buckets → (s : ProbeEnd T) → ProbeGives target answers gs cur hash s
-      → ((p : Place) (e : Bor (Entry T)) → s ≡ Accepted p e → ⊥) → none_found
-  none_unless_accepted gs cur is (Accepted p e) gives no_accepted = absurd (no_accepted p e refl)
-  none_unless_accepted gs cur is (Vacant i) gives no_accepted = none_at_vacant i (rw is at gives)
-  none_unless_accepted gs cur is Full gives no_accepted = none_if_full (rw is at gives)
+  pub none_unless_accepted : (s : ProbeEnd T) → ProbeGives target answers t.buckets hash s → ((i : ℕ) (e : Bor (Entry T)) → s ≡ Accepted i e → ⊥) → none_found
+  none_unless_accepted (Accepted i e) gives no_accepted = absurd (no_accepted i e refl)
+  none_unless_accepted (Vacant i) gives no_accepted = none_at_vacant i gives
+  none_unless_accepted Full gives no_accepted = none_if_full gives

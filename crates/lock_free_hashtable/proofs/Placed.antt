@@ -7,22 +7,22 @@ use Rattle.std.proofs.lemmas.List.Sorted.{IsPermutation-refl, IsPermutation-sym,
 use Rattle.std.proofs.lemmas.List.Elements.{Contains-push_cases}
 use Rattle.generations.specs.Buckets.{value_at}
 use Rattle.generations.specs.Growth.{entry_of}
-use Rattle.lock_free_hashtable.specs.Growth.{IsGrown, IsOpened, KeepsHomes}
+use Rattle.lock_free_hashtable.specs.Growth.{IsGrown, IsOpened, KeepsPlaces}
 use Rattle.lock_free_hashtable.specs.Held.{IsLawfulInsert, IsNewUnlessFound}
-use Rattle.lock_free_hashtable.specs.Table.{HeldTable, IsLawful, IsCounted, empty_table, entries, marked, home_at}
-use Rattle.generations.specs.declared.cell.Entry.{Entry}
-use Rattle.generations.specs.declared.place.Place.{Place}
+use Rattle.lock_free_hashtable.specs.Table.{HeldTable, IsLawful, IsCounted, empty_table, entries, marked, marked_at}
+use Rattle.cell.specs.declared.bucket.Entry.{Entry}
+use Rattle.lock_free_hashtable.specs.declared.place.Place.{Place}
 use Rattle.generations.proofs.Entries.{values-replicate, value_at-replicate, Contains-values, place_of, not_both, contains_value}
 
--- with one generation more, what lives at a place lives there
-lives_more : {X : Type 0} (hs more : List (List (Option X))) (g i : ℕ) (x : X) → value_at (slice_index_or hs g []) i ≡ Some x → value_at (slice_index_or (hs ++ more) g []) i ≡ Some x
-lives_more [] more g i x h = absurd (cc)
-lives_more (o ∷ hs) more zero i x h = h
-lives_more (o ∷ hs) more (suc g) i x h = lives_more hs more g i x h
+-- with one generation more, what is shown at a place is shown there
+shown_more : {X : Type 0} (hs more : List (List (Option X))) (g i : ℕ) (x : X) → value_at (slice_index_or hs g []) i ≡ Some x → value_at (slice_index_or (hs ++ more) g []) i ≡ Some x
+shown_more [] more g i x h = absurd (cc)
+shown_more (o ∷ hs) more zero i x h = h
+shown_more (o ∷ hs) more (suc g) i x h = shown_more hs more g i x h
 
--- nothing lives in a table without a generation
-none_lives : {T : Type 0} (f : ℕ) (p : Place) (e : Entry T) → home_at (empty_table f) p ≡ Some e → ⊥
-none_lives f p e h = none_in p.generation p.index e h where
+-- no place of a table without a generation shows anything
+nothing_shown : {T : Type 0} (f : ℕ) (p : Place) (e : Entry T) → marked_at (empty_table f) p ≡ Some e → ⊥
+nothing_shown f p e h = none_in p.generation p.index e h where
   none_in : {T : Type 0} (g i : ℕ) (e : Entry T) → value_at (slice_index_or ([] ∷ []) g []) i ≡ Some e → ⊥
   none_in zero i e h = cc
   none_in (suc g) i e h = cc
@@ -35,7 +35,7 @@ module _ {T U : Type 0} (target : T → U) (same : U → U → Bool) (hash_of : 
   -- the table changed, and its entries didn't
   pub record Carries (old new : HeldTable T) : Type 0 where
     pub kept : IsPermutation (marked old) (marked new)
-    pub homes : KeepsHomes old new
+    pub places : KeepsPlaces old new
     pub first_capacity : new.first_capacity ≡ old.first_capacity
     pub counted : IsCounted old → IsCounted new
     pub lawful : RehashesByLaw (marked old) → IsLawful target same hash_of old → IsLawful target same hash_of new
@@ -43,7 +43,7 @@ module _ {T U : Type 0} (target : T → U) (same : U → U → Bool) (hash_of : 
   pub carries_same : (t : HeldTable T) → Carries t t
   carries_same t = record {
     kept = IsPermutation-refl (marked t);
-    homes = λ p e h. h;
+    places = λ p e h. h;
     first_capacity = refl;
     counted = λ c. c;
     lawful = λ r l. l;
@@ -58,23 +58,23 @@ module _ {T U : Type 0} (target : T → U) (same : U → U → Bool) (hash_of : 
       apart = λ x. rw (sum_by-IsPermutation (λ e. cond (same x (target e.value)) 1 0) (marked old) (marked new) g.rehashed.kept) (l.apart x);
     }
 
-    homes_grown : KeepsHomes old new
-    homes_grown p e h = rw g.homes (lives_more old.homes _ p.generation p.index e h)
+    places_grown_kept : KeepsPlaces old new
+    places_grown_kept p e h = rw g.generations (shown_more old.generations _ p.generation p.index e h)
 
     pub carries_grown : Carries old new
     carries_grown = record {
       kept = g.rehashed.kept;
-      homes = homes_grown;
+      places = places_grown_kept;
       first_capacity = g.first_capacity;
       counted = λ c. g.size ∙ c ∙ (let n : length (marked new) ≡ length (marked old) = length_permutation (marked old) (marked new) g.rehashed.kept in rw (length-map (marked old) (λ e. e.value), length-map (marked new) (λ e. e.value)) (sym n));
       lawful = lawful_grown;
     }
 
   -- the first generation
-  carries_first : (f : ℕ) → Carries (empty_table f) (record { first_capacity = f; buckets = replicate f None; homes = replicate f None ∷ []; size = 0 })
+  carries_first : (f : ℕ) → Carries (empty_table f) (record { first_capacity = f; buckets = replicate f None; generations = replicate f None ∷ []; size = 0 })
   carries_first f = record {
     kept = rw values-replicate (IsPermutation-refl []);
-    homes = λ p e h. absurd (none_lives f p e h);
+    places = λ p e h. absurd (nothing_shown f p e h);
     first_capacity = refl;
     counted = λ c. rw values-replicate refl;
     lawful = λ r l. record {
@@ -91,16 +91,16 @@ module _ {T U : Type 0} (target : T → U) (same : U → U → Bool) (hash_of : 
 module _ {T U : Type 0} (target : T → U) where
   -- what an insert's result says of the entries with their bits
   abbrev pub Keeps : (U → Bool → Type 0) → HeldTable T → ℕ → T → Result (Place × Option T) T → HeldTable T → Type 0
-  Keeps accepts old hash value (Ok (p, None)) new = (home_at new p ≡ Some (entry_of value hash)) × IsPermutation (marked old ++ entry_of value hash ∷ []) (marked new)
+  Keeps accepts old hash value (Ok (p, None)) new = (marked_at new p ≡ Some (entry_of value hash)) × IsPermutation (marked old ++ entry_of value hash ∷ []) (marked new)
   Keeps accepts old hash value (Ok (p, Some back)) new =
-      (back ≡ value) × ((e : Entry T) × (home_at new p ≡ Some e) × Contains (marked old) e × accepts (target e.value) true) × IsPermutation (marked old) (marked new)
+      (back ≡ value) × ((e : Entry T) × (marked_at new p ≡ Some e) × Contains (marked old) e × accepts (target e.value) true) × IsPermutation (marked old) (marked new)
   Keeps accepts old hash value (Err back) new = (back ≡ value) × IsPermutation (marked old) (marked new)
 
   module _ (same : U → U → Bool) (hash_of : U → ℕ) (eq : U → U → Bool → Type 0) (rehash : U → ℕ → Type 0) where
     -- all that an insert's result says of the table that it leaves
     pub record Places (old : HeldTable T) (hash : ℕ) (value : T) (r : Result (Place × Option T) T) (new : HeldTable T) : Type 0 where
       pub keeps : Keeps (eq (target value)) old hash value r new
-      pub homes : KeepsHomes old new
+      pub places : KeepsPlaces old new
       pub first_capacity : new.first_capacity ≡ old.first_capacity
       pub counted : IsCounted old → IsCounted new
       pub lawful : IsLawfulInsert target same hash_of eq rehash (IsLawful target same hash_of old) (entries old) hash value → IsLawful target same hash_of new × IsNewUnlessFound target same hash_of (entries old) value r
@@ -150,7 +150,7 @@ module _ {T U : Type 0} (target : T → U) where
       pub places_before : (r : Result (Place × Option T) T) (new : HeldTable T) → Places base hash value r new → Places old hash value r new
       places_before r new s = record {
         keeps = keeps_before r new s.keeps;
-        homes = λ p e h. s.homes p e (carried.homes p e h);
+        places = λ p e h. s.places p e (carried.places p e h);
         first_capacity = s.first_capacity ∙ carried.first_capacity;
         counted = λ c. s.counted (carried.counted c);
         lawful = λ l. (let both = s.lawful (lawful_carried l) in (both.0, new_before r both.1));
@@ -159,8 +159,8 @@ module _ {T U : Type 0} (target : T → U) where
     -- a step after the insert that leaves the entries
     module _ (old mid new : HeldTable T) (hash : ℕ) (value : T) (carried : Carries target same hash_of rehash mid new) where
       keeps_after : (r : Result (Place × Option T) T) → Keeps (eq (target value)) old hash value r mid → Keeps (eq (target value)) old hash value r new
-      keeps_after (Ok (p, None)) k = (carried.homes p _ k.0, IsPermutation-trans _ _ _ k.1 carried.kept)
-      keeps_after (Ok (p, Some back)) (back_is, (e, lives, among, accepted), kept) = (back_is, (e, carried.homes p e lives, among, accepted), IsPermutation-trans _ _ _ kept carried.kept)
+      keeps_after (Ok (p, None)) k = (carried.places p _ k.0, IsPermutation-trans _ _ _ k.1 carried.kept)
+      keeps_after (Ok (p, Some back)) (back_is, (e, lives, among, accepted), kept) = (back_is, (e, carried.places p e lives, among, accepted), IsPermutation-trans _ _ _ kept carried.kept)
       keeps_after (Err back) k = (k.0, IsPermutation-trans _ _ _ k.1 carried.kept)
 
       rehash_kept : (es : List (Entry T)) → IsPermutation es (marked mid) → RehashesByLaw target same hash_of rehash es → RehashesByLaw target same hash_of rehash (marked mid)
@@ -174,7 +174,7 @@ module _ {T U : Type 0} (target : T → U) where
       pub places_after : (r : Result (Place × Option T) T) → Places old hash value r mid → Places old hash value r new
       places_after r s = record {
         keeps = keeps_after r s.keeps;
-        homes = λ p e h. carried.homes p e (s.homes p e h);
+        places = λ p e h. carried.places p e (s.places p e h);
         first_capacity = carried.first_capacity ∙ s.first_capacity;
         counted = λ c. carried.counted (s.counted c);
         lawful = λ l. (let both = s.lawful l in (carried.lawful (rehash_mid r s.keeps l) both.0, both.1));

@@ -8,7 +8,7 @@ use Rattle.generations.specs.Probe.{IsPassed}
 use Rattle.generations.specs.Growth.{entry_of}
 use Rattle.lock_free_hashtable.specs.Growth.{GrowsIfWanted, IsOpened, TriesWell, PlacesOrGrows, with_entry}
 use Rattle.lock_free_hashtable.specs.Table.{HeldTable, entries, marked}
-use Rattle.generations.specs.declared.place.Place.{Place}
+use Rattle.lock_free_hashtable.specs.declared.place.Place.{Place}
 use Rattle.generations.proofs.Entries.{values-set, Contains-values}
 use Rattle.generations.proofs.Laws.{vacant_fits}
 use Rattle.lock_free_hashtable.proofs.Inserts.{new_at_vacant, new_if_full, lawful_after}
@@ -27,12 +27,12 @@ module _ {T U : Type 0} (target : T → U) (same : U → U → Bool) (hash_of : 
       omega arith
 
   places_tried : (base : HeldTable T) (r : Result (Place × Option T) T) (new : HeldTable T) → 0 < length base.buckets → TriesWell target (eq (target value)) rehash base hash value r new → Leaves base r new
-  places_tried base (Ok (p, None)) new some (i, vac, (is, lives, homes)) =
+  places_tried base (Ok (p, None)) new some (i, vac, (is, lives, kept)) =
       let fits : i < length base.buckets = vacant_fits target (eq (target value)) base.buckets hash i some vac in
       let more : IsPermutation (marked base ++ entry_of value hash ∷ []) (marked (with_entry base i (entry_of value hash))) = values-set base.buckets i (entry_of value hash) fits vac.vacant in
       record {
         keeps = (lives, rw is more);
-        homes = homes;
+        places = kept;
         first_capacity = rw is refl;
         counted = λ c. rw is (count_one_more base i more c);
         lawful = λ l. (rw is (lawful_after target same hash_of law eq rehash base hash value l i vac fits), new_at_vacant target same hash_of law eq rehash base hash value l i vac);
@@ -41,14 +41,14 @@ module _ {T U : Type 0} (target : T → U) (same : U → U → Bool) (hash_of : 
       let a = accepted.accepted in
       record {
         keeps = (back_is, (a.entry, rw is (lives ∙ a.held), Contains-values base.buckets i a.entry a.held, a.accepted), rw is (IsPermutation-refl (marked base)));
-        homes = λ q e h. rw is h;
+        places = λ q e h. rw is h;
         first_capacity = rw is refl;
         counted = λ c. rw is c;
         lawful = λ l. (rw is l.table_is, tt);
       }
   places_tried base (Err back) new some ((i, vac), back_is, is) = record {
     keeps = (back_is, rw is (IsPermutation-refl (marked base)));
-    homes = λ q e h. rw is h;
+    places = λ q e h. rw is h;
     first_capacity = rw is refl;
     counted = λ c. rw is c;
     lawful = λ l. (rw is l.table_is, new_at_vacant target same hash_of law eq rehash base hash value l i vac);
@@ -58,7 +58,7 @@ module _ {T U : Type 0} (target : T → U) (same : U → U → Bool) (hash_of : 
   places_full : (base : HeldTable T) → IsPassed target (eq (target value)) base.buckets hash (length base.buckets) → Leaves base (Err value) base
   places_full base passed = record {
     keeps = (refl, IsPermutation-refl (marked base));
-    homes = λ q e h. h;
+    places = λ q e h. h;
     first_capacity = refl;
     counted = λ c. c;
     lawful = λ l. (l.table_is, new_if_full target same hash_of law eq rehash base hash value l passed);

@@ -8,19 +8,18 @@ use Rattle.std.proofs.Math.Nat.{pow-suc, le-max_left, le-max_right, le_trans}
 use Rattle.std.proofs.Math.Pow.{pow_mono}
 use Rattle.std.proofs.lemmas.List.{length-map, length-set, map-append}
 use Rattle.std.proofs.lemmas.List.Sums.{sum_by-append}
-use Rattle.generations.specs.Buckets.{Content, owned, set_contents}
+use Rattle.generations.specs.Buckets.{Content, shown_all, shown_entries}
 use Rattle.terms.specs.Capacities.{IsFirstCapacity}
 use Rattle.lock_free_hashtable.specs.Capacity.{IsSized}
-use Rattle.lock_free_hashtable.specs.Table.{homes_of, IsBuilt}
-use Rattle.lock_free_hashtable.proofs.Homes.{homes_in}
+use Rattle.lock_free_hashtable.specs.Table.{shown_rows, IsBuilt}
 
 module _ {T : Type 0} where
   -- the current generation has its buckets beside those of the earlier ones
-  total_split : (gs : List (List (Content T))) (cur : List (Content T)) → sum_by length (homes_of gs cur) ≡ sum_by length (homes_in gs) + length cur
-  total_split gs cur = rw map-append (sum_by-append length (homes_in gs) (map owned cur ∷ []) ∙ rw length-map (omega arith))
+  total_split : (gs : List (List (Content T))) (cur : List (Content T)) → sum_by length (shown_rows gs cur) ≡ sum_by length (map shown_all gs) + length cur
+  total_split gs cur = rw map-append (sum_by-append length (map shown_all gs) (shown_all cur ∷ []) ∙ rw length-map (omega arith))
 
   -- where a bucket is set, each generation has as many buckets as before
-  pub total_set : (gs : List (List (Content T))) (cur : List (Content T)) (i : ℕ) (p : Content T) → sum_by length (homes_of gs (slice_set cur i p)) ≡ sum_by length (homes_of gs cur)
+  pub total_set : (gs : List (List (Content T))) (cur : List (Content T)) (i : ℕ) (p : Content T) → sum_by length (shown_rows gs (slice_set cur i p)) ≡ sum_by length (shown_rows gs cur)
   total_set gs cur i p = rw (total_split gs (slice_set cur i p), total_split gs cur, length-set) refl
 
 -- a power of two that fits a word of 64 bits is at most 2^63
@@ -84,7 +83,7 @@ pub sized_first : (first n total : ℕ) → total ≡ first → IsSized first 0 
 sized_first first n total e = record { doubled = omega arith; all = omega arith; wanted = inl refl }
 
 -- where there is a bucket, the generations have the sizes that growth gives them
-pub sized_of : {T : Type 0} (first : ℕ) (gs : List (List (Content T))) (cur : List (Content T)) → 0 < length cur → IsBuilt first gs cur → IsSized first (length gs) (length cur) (sum_by length (homes_of gs cur)) (length (set_contents cur))
+pub sized_of : {T : Type 0} (first : ℕ) (gs : List (List (Content T))) (cur : List (Content T)) → 0 < length cur → IsBuilt first gs cur → IsSized first (length gs) (length cur) (sum_by length (shown_rows gs cur)) (length (shown_entries cur))
 sized_of first gs cur some (inl none) = absurd (let e : length cur ≡ 0 = rw none.1 refl in omega arith)
 sized_of first gs cur some (inr sized) = sized
 

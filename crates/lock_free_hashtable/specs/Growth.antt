@@ -3,18 +3,18 @@ use Rattle.std.specs.Prelude.{◌≡◌, ℕ, ◌-◌, ◌+◌, ◌*◌, ◌<◌
 use Rattle.generations.specs.Buckets.{value_at}
 use Rattle.generations.specs.Growth.{IsRehashed, TryEnds, entry_of}
 use Rattle.generations.specs.Probe.{IsPassed}
-use Rattle.lock_free_hashtable.specs.Table.{HeldTable, empty_table, home_at}
-use Rattle.generations.specs.declared.cell.Entry.{Entry}
-use Rattle.generations.specs.declared.place.Place.{Place}
+use Rattle.lock_free_hashtable.specs.Table.{HeldTable, empty_table, marked_at}
+use Rattle.cell.specs.declared.bucket.Entry.{Entry}
+use Rattle.lock_free_hashtable.specs.declared.place.Place.{Place}
 use Rattle.generations.specs.declared.fixed.Refusal.{Refusal}
 use Rattle.generations.specs.declared.fixed.Refusal.TheVariants.{NoMemory}
 
 module _ {T U : Type 0} (target : T → U) (rehash : U → ℕ → Type 0) where
-  -- a generation of twice the capacity shows the same entries, which stay where they live
+  -- a generation of twice the capacity shows the same entries, and the others stay as they are
   pub record IsGrown (old new : HeldTable T) : Type 0 where
     pub rehashed : IsRehashed target rehash old.buckets new.buckets
     pub doubled : length new.buckets ≡ 2 * length old.buckets
-    pub homes : new.homes ≡ old.homes ++ replicate (length new.buckets) None ∷ []
+    pub generations : new.generations ≡ old.generations ++ new.buckets ∷ []
     pub size : new.size ≡ old.size
     pub first_capacity : new.first_capacity ≡ old.first_capacity
 
@@ -34,23 +34,24 @@ module _ {T : Type 0} where
             old.first_capacity;
         buckets =
             replicate old.first_capacity None;
-        homes =
+        generations =
             replicate old.first_capacity None ∷ [];
         size = 0;
       }))
       ⊎ ((new ≡ old) × (0 < length old.buckets))
 
-  -- each place keeps what lives there
-  abbrev pub KeepsHomes : HeldTable T → HeldTable T → Type 0
-  KeepsHomes old new = (p : Place) (e : Entry T) → home_at old p ≡ Some e → home_at new p ≡ Some e
+  -- each place keeps what it shows
+  abbrev pub KeepsPlaces : HeldTable T → HeldTable T → Type 0
+  KeepsPlaces old new = (p : Place) (e : Entry T) → marked_at old p ≡ Some e → marked_at new p ≡ Some e
 
-  -- bucket i of the current generation, which was empty, now owns the entry
+  -- bucket i of the current generation, which was empty, now shows the entry
   abbrev pub with_entry : HeldTable T → ℕ → Entry T → HeldTable T
   with_entry t i e =
-      let last = length t.homes - 1 in
+      let last = length t.generations - 1 in
       record t {
         buckets = slice_set t.buckets i (Some e);
-        homes = slice_set t.homes last (slice_set (slice_index_or t.homes last []) i (Some e));
+        generations = slice_set t.generations last
+            (slice_set (slice_index_or t.generations last []) i (Some e));
         size = t.size + 1;
       }
 
@@ -61,8 +62,8 @@ module _ {T U : Type 0} (target : T → U) (answers : U → Bool → Type 0) whe
   TriesToPlace old hash value r new =
       TryEnds target answers old.buckets hash value
       (λ p i. (new ≡ with_entry old i (entry_of value hash))
-      × (home_at new p ≡ Some (entry_of value hash)) × KeepsHomes old new)
-      (λ p i. home_at old p ≡ value_at old.buckets i)
+      × (marked_at new p ≡ Some (entry_of value hash)) × KeepsPlaces old new)
+      (λ p i. marked_at old p ≡ value_at old.buckets i)
       (old.size ≡ length old.buckets)
       (new ≡ old)
       r

@@ -4,7 +4,7 @@ use Rattle.std.specs.Borrow.{Bor}
 use Rattle.lock_free_hashtable.specs.Table.{HeldTable, held}
 use Rattle.lock_free_hashtable.specs.Shown as shown
 pub use Rattle.lock_free_hashtable.specs.Shown.{ShowsAt, FindsOne, FindsNone, InsertKeeps, InsertMarks, InsertAnswers, InsertReplies, LookupReplies, IsNew, IsNewUnlessFound, IsLawfulInsert, IsLawfulLookup, equal}
-use Rattle.generations.specs.declared.place.Place.{Place}
+use Rattle.lock_free_hashtable.specs.declared.place.Place.{Place}
 
 module _ {T U : Type 0} (target : T → U) (same : U → U → Bool) (hash_of : U → ℕ) where
   -- a lawful insert is answered as each list that the table stands for answers it, and the table

@@ -7,14 +7,14 @@ use Rattle.std.specs.Borrow.{Bor}
 use Rattle.terms.specs.ListObject.{ListReply, Placed, Found, Refused, Shown, Absent, Counted, Walked, Insert, Lookup, Length, Walk, Answers}
 use Rattle.generations.specs.Buckets.{values_of}
 use Rattle.generations.specs.Growth.{entry_of}
-use Rattle.generations.specs.declared.cell.Entry.{Entry}
+use Rattle.cell.specs.declared.bucket.Entry.{Entry}
 
 -- how tables of type X show their entries, values of type T that live at places of type P
 pub record Shows (X T P : Type 0) : Type 1 where
   -- the entries with their eight bits, in some order
   pub marked : X → List (Entry T)
   -- the entry that lives at a place, with its bits
-  pub home_at : X → P → Option (Entry T)
+  pub marked_at : X → P → Option (Entry T)
   -- the table counts its entries
   pub counted : X → Type 0
   -- the table is lawful, for the target of a value, an equality and a hash of targets
@@ -27,7 +27,7 @@ module _ {X T P : Type 0} (s : Shows X T P) where
 
   -- the value that lives at a place
   abbrev pub value_of : X → P → Option T
-  value_of t p = option_map (λ e. e.value) (s.home_at t p)
+  value_of t p = option_map (λ e. e.value) (s.marked_at t p)
 
   -- this entry lives at the place
   pub record IsEntryAt (t : X) (p : P) (v : T) : Type 0 where

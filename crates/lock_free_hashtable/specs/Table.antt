@@ -1,16 +1,17 @@
 -- A table held alone, as its callers see it.
-use Rattle.std.specs.Prelude.{◌≡◌, ◌⊎◌, ℕ, ◌++◌, Bool, List, [], ◌∷◌, Option, length, map, option_map, slice_index_or}
+use Rattle.std.specs.Prelude.{◌≡◌, ◌⊎◌, ℕ, ◌++◌, Bool, List, [], ◌∷◌, All, Option, length, map, option_map, slice_index_or}
 use Rattle.std.specs.List.{sum_by, flat_map}
 use Rattle.std.specs.List.Sorted.{IsPermutation}
 use Rattle.lock_free_hashtable.specs.Shown as shown
 use Rattle.lock_free_hashtable.specs.Shown.{Shows}
-use Rattle.generations.specs.Buckets.{Content, values, values_of, value_at, owned, set_contents, shown_all, AllSound}
+use Rattle.generations.specs.Buckets.{Content, values, values_of, value_at, owned, shown_all, shown_entries}
+use Rattle.generations.specs.Generations.{GenerationView}
 use Rattle.generations.specs.Ways.{IsLawfulFor}
 use Rattle.terms.specs.Capacities.{IsFirstCapacity}
 use Rattle.lock_free_hashtable.specs.Capacity.{IsSized}
-use Rattle.generations.specs.declared.cell.Entry.{Entry}
+use Rattle.cell.specs.declared.bucket.Entry.{Entry}
 -- under the path that callers know
-pub use Rattle.generations.specs.declared.place.Place.{Place}
+pub use Rattle.lock_free_hashtable.specs.declared.place.Place.{Place}
 
 -- what a table held alone shows
 pub record HeldTable (T : Type 0) : Type 0 where
@@ -18,8 +19,8 @@ pub record HeldTable (T : Type 0) : Type 0 where
   pub first_capacity : ℕ
   -- what each bucket of the current generation shows; no bucket while there is no generation
   pub buckets : List (Option (Entry T))
-  -- generation by generation, the current one last, what each bucket owns
-  pub homes : List (List (Option (Entry T)))
+  -- generation by generation, the current one last, what each bucket shows
+  pub generations : List (List (Option (Entry T)))
   -- the count that the current generation keeps
   pub size : ℕ
 
@@ -42,15 +43,15 @@ module _ {T : Type 0} where
 
   -- the buckets of all generations
   abbrev pub all_buckets : HeldTable T → ℕ
-  all_buckets t = sum_by length t.homes
+  all_buckets t = sum_by length t.generations
 
-  -- the entry that lives at a place, with its bits
-  abbrev pub home_at : HeldTable T → Place → Option (Entry T)
-  home_at t p = value_at (slice_index_or t.homes p.generation []) p.index
+  -- the entry that the bucket at a place shows, with its bits
+  abbrev pub marked_at : HeldTable T → Place → Option (Entry T)
+  marked_at t p = value_at (slice_index_or t.generations p.generation []) p.index
 
   -- the value that lives at a place
   abbrev pub entry_at : HeldTable T → Place → Option T
-  entry_at t p = option_map (λ e. e.value) (home_at t p)
+  entry_at t p = option_map (λ e. e.value) (marked_at t p)
 
   -- the size is the number of the entries
   abbrev pub IsCounted : HeldTable T → Type 0
@@ -58,19 +59,29 @@ module _ {T : Type 0} where
 
   -- no generation yet
   abbrev pub empty_table : ℕ → HeldTable T
-  empty_table first = record { first_capacity = first; buckets = []; homes = [] ∷ []; size = 0 }
+  empty_table first = record { first_capacity = first; buckets = []; generations = [] ∷ []; size = 0 }
 
-  -- what each bucket of each generation owns
-  abbrev pub homes_of : List (List (Content T)) → List (Content T) → List (List (Option (Entry T)))
-  homes_of gs current = map (λ ps. map owned ps) (gs ++ current ∷ [])
+  -- what the buckets of each generation hold
+  abbrev pub contents_in : {A : Type 0} → List (GenerationView A T) → List (List (Content T))
+  contents_in gs = map (λ g. g.contents) gs
+
+  -- generation by generation, the current one last, what each bucket shows
+  abbrev pub shown_rows : List (List (Content T)) → List (Content T)
+      → List (List (Option (Entry T)))
+  shown_rows gs current = map shown_all (gs ++ current ∷ [])
+
+  -- generation by generation, the current one last, what each bucket owns
+  abbrev pub owned_rows : List (List (Content T)) → List (Content T)
+      → List (List (Option (Entry T)))
+  owned_rows gs current = map (λ ps. map owned ps) (gs ++ current ∷ [])
 
   -- the table of earlier generations and a current one
   abbrev pub table_of : ℕ → List (List (Content T)) → List (Content T) → ℕ → HeldTable T
   table_of first gs current size =
       record {
         first_capacity = first;
-        buckets = shown_all gs current;
-        homes = homes_of gs current;
+        buckets = shown_all current;
+        generations = shown_rows gs current;
         size = size;
       }
 
@@ -79,19 +90,20 @@ module _ {T : Type 0} where
   IsBuilt first gs current =
       ((gs ≡ []) × (current ≡ []))
       ⊎ IsSized first (length gs) (length current)
-      (sum_by length (homes_of gs current)) (length (set_contents current))
+      (sum_by length (shown_rows gs current)) (length (shown_entries current))
 
   -- what is true of the generations of every table
   pub record IsKept (first : ℕ) (gs : List (List (Content T))) (current : List (Content T))
       (size : ℕ) : Type 0 where
     pub first_is : IsFirstCapacity first
     pub built : IsBuilt first gs current
-    -- each name leads to its entry
-    pub sound : AllSound gs current
     -- the entries shown are those that some bucket owns, each once
-    pub whole : IsPermutation (flat_map values (homes_of gs current))
-        (values (shown_all gs current))
-    pub counted : size ≡ length (values (shown_all gs current))
+    pub whole : IsPermutation (flat_map values (owned_rows gs current)) (shown_entries current)
+    pub counted : size ≡ length (shown_entries current)
+
+  -- generations of one home
+  abbrev pub AreOfHome : {A : Type 0} → ℕ → List (GenerationView A T) → GenerationView A T → Type 0
+  AreOfHome home gs current = All (λ g. g.home ≡ home) gs × (current.home ≡ home)
 
 module _ {T U : Type 0} (target : T → U) (same : U → U → Bool) (hash_of : U → ℕ) where
   -- the current generation is lawful
@@ -112,7 +124,7 @@ LawfulWithoutEntries {T} target = (t : HeldTable T) → length (entries t) ≡ 0
 abbrev pub held : {T : Type 0} → Shows (HeldTable T) T Place
 held = record {
   marked = marked;
-  home_at = home_at;
+  marked_at = marked_at;
   counted = IsCounted;
   lawful = λ U target same hash_of t. IsLawful target same hash_of t;
 }

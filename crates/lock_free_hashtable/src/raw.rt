@@ -1,19 +1,21 @@
 //! The table held alone.
-ghost use Rattle.std.specs.Prelude.{◌≡◌, ◌-◌, ◌+◌, ◌*◌, ◌<◌, ◌≤◌, ◌↔◌, max, length, [], map, slice_index_or};
+ghost use Rattle.std.specs.Prelude.{◌≡◌, ℕ, ◌-◌, ◌+◌, ◌*◌, ◌<◌, ◌≤◌, ◌↔◌, max, length, [], slice_index_or};
 ghost use Rattle.std.specs.Prelude.{OnOk, OnErr, IfSome, IfNone, IsSome, IsTrue, option_copied};
 ghost use Rattle.std.specs.Fn.{FnReturnsAt, FnReturnsAtPair};
-ghost use Rattle.generations.specs.Buckets.{value_at, owned};
+ghost use Rattle.generations.specs.Buckets.{shown_all};
 ghost use Rattle.terms.specs.Capacities.{IsFirstCapacity};
 ghost use Rattle.lock_free_hashtable.specs.Capacity.{IsDoubled};
+ghost use Rattle.lock_free_hashtable.specs.Table.{contents_in, shown_rows, AreOfHome};
 
 mod into_iter;
 mod iter;
 pub mod laws;
 
+use crate::place::Place;
+use cell::Home;
 use generations::atomic_value::{AtomicValue, Law};
 use generations::fixed::{Generation, ProbeEnd, Refusal};
 use generations::growth::rehashed;
-use generations::place::Place;
 pub use into_iter::IntoIter;
 pub use iter::HeldIter;
 use std::alloc::{AllocError, Allocator, Global};
@@ -37,28 +39,45 @@ pub fn is_first_capacity(first: usize) -> bool
 /// Each call takes the hash and the closures of its caller. With lawful ones (one equivalence, one hash that agrees
 /// with it, and tests that accept only targets of the hash asked for) the table answers as a growing list without equal
 /// entries; with any closures no value is lost or kept twice.
-#[derive(Drop)]
 pub struct HeldRawTable<T: AtomicValue, A: Allocator + Copy = Global> {
     first_capacity: usize,
+    home: Home,
     earlier: Vec<Generation<T, A>, A>,
     current: Generation<T, A>,
     alloc: A,
 }
 
 impl<T: AtomicValue, A: Allocator + Copy> Model for HeldRawTable<T, A> {
-    ghost use Rattle.lock_free_hashtable.specs.Table.{HeldTable, table_of, IsKept};
-    ghost use Rattle.generations.specs.Generations.{contents_of};
+    ghost use Rattle.std.specs.Prelude.{◌≡◌};
+    ghost use Rattle.lock_free_hashtable.specs.Table.{HeldTable, table_of, contents_in, IsKept, AreOfHome};
 
     ghost Value = { HeldTable T };
 
-    ghost view = { λ t. table_of t.first_capacity (contents_of t.earlier.items) t.current.contents t.current.size };
+    ghost view = { λ t. table_of t.first_capacity (contents_in t.earlier.items) t.current.contents t.current.size };
 
-    ghost invariant = { λ t. IsKept t.first_capacity (contents_of t.earlier.items) t.current.contents t.current.size };
+    ghost invariant = { λ t. IsKept t.first_capacity (contents_in t.earlier.items) t.current.contents t.current.size
+        × AreOfHome t.home.id t.earlier.items t.current };
+}
+
+/// The generation of this number: an earlier one, or the current one, which is the last.
+fn generation_at<'a, T: AtomicValue, A: Allocator + Copy>(
+    earlier: &'a [Generation<T, A>],
+    current: &'a Generation<T, A>,
+    generation: usize,
+) -> &'a Generation<T, A>
+    requires { generation ≤ length earlier.now }
+    ensures row { shown_all result.now.contents ≡ slice_index_or (shown_rows (contents_in earlier.now) current.now.contents) generation [] }
+    ensures home { (home : ℕ) → AreOfHome home earlier.now current.now → result.now.home ≡ home }
+{
+    if generation < earlier.len() {
+        return &earlier[generation];
+    }
+    current
 }
 
 impl<T: AtomicValue, A: Allocator + Copy> HeldRawTable<T, A> {
     ghost use Rattle.lock_free_hashtable.specs.Table.{HeldTable, empty_table, entries, marked, capacity, all_buckets};
-    ghost use Rattle.lock_free_hashtable.specs.Table.{home_at, entry_at, IsLater, IsCounted, IsLawful, IsLawfulForAll, Stands, CountsAsList};
+    ghost use Rattle.lock_free_hashtable.specs.Table.{entry_at, IsLater, IsCounted, IsLawful, IsLawfulForAll, Stands, CountsAsList};
     ghost use Rattle.lock_free_hashtable.specs.Growth.{IsOpened, IsGrown, GrowsIfWanted, TriesToPlace, PlacesOrGrows};
     ghost use Rattle.lock_free_hashtable.specs.Held.{InsertKeeps, InsertMarks, InsertAnswers, PlacesAsList, InsertShows};
     ghost use Rattle.lock_free_hashtable.specs.Held.{ShowsAt, FindsOne, FindsNone, LooksUpAsList};
@@ -79,10 +98,13 @@ impl<T: AtomicValue, A: Allocator + Copy> HeldRawTable<T, A> {
         ensures stands { Stands result [] }
         ensures lawful { IsLawfulForAll T.target result }
     {
+        let home = Home::new();
+        let current = Generation::none(alloc, &home);
         HeldRawTable {
             first_capacity,
+            home,
             earlier: Vec::new(alloc),
-            current: Generation::none(alloc),
+            current,
             alloc,
         }
     }
@@ -134,7 +156,7 @@ impl<T: AtomicValue, A: Allocator + Copy> HeldRawTable<T, A> {
         ensures counted { IsCounted self.old }
     {
         if self.current.capacity() == 0 {
-            self.current = Generation::with_capacity(self.alloc, self.first_capacity)?;
+            self.current = Generation::with_capacity(self.alloc, &self.home, self.first_capacity)?;
         }
         Ok(())
     }
@@ -150,26 +172,11 @@ impl<T: AtomicValue, A: Allocator + Copy> HeldRawTable<T, A> {
         let Some(doubled) = self.current.capacity().checked_mul(2) else {
             return Err(AllocError);
         };
-        // Each generation is twice the one before, and a capacity is below 2^64: fewer than 60 are earlier ones.
-        let last = self.earlier.len() as u8;
-        let old = mem::replace(&mut self.current, Generation::none(self.alloc));
-        if let Err(refused) = self.earlier.push(old) {
-            self.current = refused.value;
-            return Err(AllocError);
-        }
-        match rehashed(self.alloc, self.earlier.as_slice(), last, doubled, hash_fn) {
-            Ok(built) => {
-                self.current = built;
-                Ok(())
-            }
-            Err(refused) => {
-                match self.earlier.pop() {
-                    Some(old) => self.current = old,
-                    None => unreachable!(),
-                }
-                Err(refused)
-            }
-        }
+        self.earlier.reserve(1)?;
+        let built = rehashed(&self.home, &self.current, doubled, hash_fn)?;
+        let old = mem::replace(&mut self.current, built);
+        self.earlier.push_reserved(old);
+        Ok(())
     }
 
     /// Grows, if at least half of the buckets are set. A refused growth changes nothing.
@@ -186,7 +193,7 @@ impl<T: AtomicValue, A: Allocator + Copy> HeldRawTable<T, A> {
     }
 
     /// Places the value in the current generation, unless an entry is accepted as equal. Says where the answer's entry
-    /// lives.
+    /// is shown.
     fn try_place<E: Fn(&T::Target, &T::Target) -> bool>(
         &mut self,
         hash: u64,
@@ -197,8 +204,13 @@ impl<T: AtomicValue, A: Allocator + Copy> HeldRawTable<T, A> {
         requires callable { E.IsAlwaysCallable eq.now }
         ensures { TriesToPlace T.target (FnReturnsAtPair E.Fn eq.now (T.target value)) self.old hash value result self.new }
     {
-        self.current
-            .insert(self.alloc, self.earlier.as_slice(), hash, value, eq)
+        match self.current.insert(&self.home, hash, value, eq) {
+            Ok((index, back)) => {
+                let generation = self.earlier.len();
+                Ok((Place { generation, index }, back))
+            }
+            Err(refusal) => Err(refusal),
+        }
     }
 
     /// Places the value; where the generation is full for it, grows and starts over.
@@ -270,26 +282,13 @@ impl<T: AtomicValue, A: Allocator + Copy> HeldRawTable<T, A> {
         Ok(placed)
     }
 
-    /// The generation of this number: an earlier one, or the current one, which is the last.
-    fn generation_at(&self, generation: usize) -> &Generation<T, A>
-        requires { generation < length self.now.homes }
-        ensures { map owned result.now.contents ≡ slice_index_or self.now.homes generation [] }
-    {
-        if generation < self.earlier.len() {
-            return &self.earlier[generation];
-        }
-        &self.current
-    }
-
     /// The target of the entry that lives at a place of this table.
     pub fn target_at(&self, place: Place) -> &T::Target
         requires { IsSome (entry_at self.now place) }
         ensures { ShowsAt (entry_at self.now place) (λ v. result.now ≡ T.target v) }
     {
-        match self
-            .generation_at(place.generation())
-            .entry_owned(place.index())
-        {
+        let generation = generation_at(self.earlier.as_slice(), &self.current, place.generation());
+        match generation.entry_shown(&self.home, place.index()) {
             Some(entry) => entry.value.deref(),
             None => unreachable!(),
         }
@@ -329,9 +328,16 @@ impl<T: AtomicValue, A: Allocator + Copy> HeldRawTable<T, A> {
         if self.current.capacity() == 0 {
             return None;
         }
-        match self.current.probe(self.earlier.as_slice(), hash, &test) {
+        match self.current.probe(&self.home, hash, &test) {
             ProbeEnd::Accepted(_, entry) => Some(entry.value.deref()),
             _ => None,
         }
+    }
+}
+
+impl<T: AtomicValue, A: Allocator + Copy> Drop for HeldRawTable<T, A> {
+    /// Drops each entry once, and frees its block.
+    fn drop(self) {
+        drop(self.into_iter());
     }
 }

@@ -5,6 +5,7 @@ ghost use Rattle.std.specs.Iterator.SizeHint.{IsWithinCount};
 ghost use Rattle.lock_free_hashtable.specs.Walks.{GivesEntries};
 
 use crate::raw::HeldRawTable;
+use cell::Closed;
 use generations::atomic_value::AtomicValue;
 use generations::fixed::Generation;
 use generations::fixed::owning::OwnValues;
@@ -14,23 +15,23 @@ use std::marker::Model;
 use std::vec;
 
 /// The values of a table, by value and each once, seen as the list of those that are left. Dropped early, it drops them.
-#[derive(Drop)]
 pub struct IntoIter<T: AtomicValue, A: Allocator + Copy = Global> {
+    closed: Closed,
     values: OwnValues<T, A>,
     earlier: vec::IntoIter<Generation<T, A>, A>,
     left: usize,
 }
 
 impl<T: AtomicValue, A: Allocator + Copy> Model for IntoIter<T, A> {
-    ghost use Rattle.std.specs.Prelude.{◌≡◌, ◌++◌, List, length};
+    ghost use Rattle.std.specs.Prelude.{List};
     ghost use Rattle.std.specs.Vec.Iter.{into_iter_items};
-    ghost use Rattle.lock_free_hashtable.specs.Walks.{all_owned};
+    ghost use Rattle.lock_free_hashtable.specs.Walks.{all_left, AreCounted};
 
     ghost Value = { List T };
 
-    ghost view = { λ it. it.values ++ all_owned (into_iter_items it.earlier) };
+    ghost view = { λ it. all_left it.values (into_iter_items it.earlier) };
 
-    ghost invariant = { λ it. it.left ≡ length (it.values ++ all_owned (into_iter_items it.earlier)) };
+    ghost invariant = { λ it. AreCounted it.closed.id it.values (into_iter_items it.earlier) it.left };
 }
 
 impl<T: AtomicValue, A: Allocator + Copy> Iterator for IntoIter<T, A> {
@@ -42,7 +43,7 @@ impl<T: AtomicValue, A: Allocator + Copy> Iterator for IntoIter<T, A> {
 
     fn next(&mut self) -> Option<T> {
         loop {
-            if let Some(value) = self.values.next() {
+            if let Some(value) = self.values.next_value(&self.closed) {
                 self.left -= 1;
                 return Some(value);
             }
@@ -77,10 +78,34 @@ impl<T: AtomicValue, A: Allocator + Copy> IntoIterator for HeldRawTable<T, A> {
     /// Takes the table apart, and hands out each value that it holds. It takes no memory.
     fn into_iter(self) -> IntoIter<T, A> {
         let left = self.len_alone();
+        let HeldRawTable {
+            first_capacity: _,
+            home,
+            earlier,
+            current,
+            alloc: _,
+        } = self;
         IntoIter {
-            values: self.current.into_own_values(),
-            earlier: self.earlier.into_iter(),
+            closed: home.close(),
+            values: current.into_own_values(),
+            earlier: earlier.into_iter(),
             left,
+        }
+    }
+}
+
+impl<T: AtomicValue, A: Allocator + Copy> Drop for IntoIter<T, A> {
+    /// Drops the values that are left, and frees their blocks.
+    fn drop(self) {
+        let IntoIter {
+            closed,
+            values,
+            earlier,
+            left: _,
+        } = self;
+        values.end(&closed);
+        for generation in earlier {
+            generation.into_own_values().end(&closed);
         }
     }
 }

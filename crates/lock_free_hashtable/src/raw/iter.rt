@@ -6,6 +6,7 @@ ghost use Rattle.lock_free_hashtable.specs.Table.{entries};
 ghost use Rattle.lock_free_hashtable.specs.Walks.{WalksAsList};
 
 use crate::raw::HeldRawTable;
+use cell::Home;
 use generations::atomic_value::AtomicValue;
 use generations::fixed::Generation;
 use std::alloc::{Allocator, Global};
@@ -15,7 +16,7 @@ use std::marker::Model;
 /// The targets of a table's entries, each once, in the order of the buckets. It is seen as the list of the entries that are left.
 #[derive(Drop)]
 pub struct HeldIter<'a, T: AtomicValue, A: Allocator + Copy = Global> {
-    earlier: &'a [Generation<T, A>],
+    home: &'a Home,
     current: &'a Generation<T, A>,
     index: usize,
     left: usize,
@@ -23,16 +24,14 @@ pub struct HeldIter<'a, T: AtomicValue, A: Allocator + Copy = Global> {
 
 impl<'a, T: AtomicValue, A: Allocator + Copy> Model for HeldIter<'a, T, A> {
     ghost use Rattle.std.specs.Prelude.{◌≡◌, List, length};
-    ghost use Rattle.generations.specs.Buckets.{AllSound};
-    ghost use Rattle.generations.specs.Generations.{contents_of};
     ghost use Rattle.lock_free_hashtable.specs.Walks.{shown_from};
 
     ghost Value = { List T };
 
-    ghost view = { λ it. shown_from (contents_of it.earlier.now) it.current.now.contents it.index };
+    ghost view = { λ it. shown_from it.current.now.contents it.index };
 
-    ghost invariant = { λ it. AllSound (contents_of it.earlier.now) it.current.now.contents
-        × (it.left ≡ length (shown_from (contents_of it.earlier.now) it.current.now.contents it.index)) };
+    ghost invariant = { λ it. (it.current.now.home ≡ it.home.now.id)
+        × (it.left ≡ length (shown_from it.current.now.contents it.index)) };
 }
 
 impl<'a, V: 'a, T: AtomicValue<Target = V>, A: Allocator + Copy> Iterator for HeldIter<'a, T, A> {
@@ -46,7 +45,7 @@ impl<'a, V: 'a, T: AtomicValue<Target = V>, A: Allocator + Copy> Iterator for He
         while self.index < self.current.capacity() {
             let index = self.index;
             self.index += 1;
-            if let Some(entry) = self.current.entry_shown(self.earlier, index) {
+            if let Some(entry) = self.current.entry_shown(self.home, index) {
                 self.left -= 1;
                 return Some(entry.value.deref());
             }
@@ -81,7 +80,7 @@ impl<T: AtomicValue, A: Allocator + Copy> HeldRawTable<T, A> {
         ensures as_list { WalksAsList self.now result }
     {
         HeldIter {
-            earlier: self.earlier.as_slice(),
+            home: &self.home,
             current: &self.current,
             index: 0,
             left: self.len_alone(),

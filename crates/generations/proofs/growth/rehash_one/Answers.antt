@@ -1,4 +1,4 @@
-use Rattle.std.proofs.Common.{inr, rules}
+use Rattle.std.proofs.Common.{inr}
 use Rattle.generations.proofs.Contents.{naming_shows}
 use Rattle.generations.proofs.growth.rehash_one.Goals as goal
 

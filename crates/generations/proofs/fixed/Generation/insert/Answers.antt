@@ -1,5 +1,4 @@
-use Rattle.std.proofs.Common.{◌≡◌, ◌∙◌, arith, refl, sym, ap}
-use Rattle.terms.specs.Hashes.{bits_of}
+use Rattle.std.proofs.Common.{arith, refl, sym, ap}
 use Rattle.generations.specs.Generations.{contents_of}
 use Rattle.generations.specs.Buckets.{shown}
 use Rattle.generations.specs.Growth.{entry_of}

@@ -1,4 +1,4 @@
-use Rattle.std.proofs.Common.{◌≡◌, ◌∙◌, true, false, refl, sym, arith, rules}
+use Rattle.std.proofs.Common.{◌≡◌, true, false, arith, rules}
 use Rattle.std.proofs.lemmas.List.{length-map}
 use Rattle.generations.specs.Generations.{contents_of}
 use Rattle.generations.specs.Buckets.{shown_all}

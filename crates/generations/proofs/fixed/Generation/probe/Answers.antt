@@ -1,4 +1,4 @@
-use Rattle.std.proofs.Common.{◌≡◌, ◌∙◌, sym, ap, length, arith}
+use Rattle.std.proofs.Common.{◌≡◌, ◌∙◌, sym, length, arith}
 use Rattle.terms.specs.Probes.{bucket_at}
 use Rattle.generations.proofs.Probes.{lies_read, shown_read, passed_more, length-shown}
 use Rattle.generations.proofs.fixed.Generation.probe.Goals as goal

@@ -1,6 +1,5 @@
 use Rattle.std.proofs.Common.{◌≡◌, arith, ap}
 use Rattle.cell.specs.Contents.{bucket, vacant}
-use Rattle.generations.specs.Generations.{generation_of, IsGeneration}
 use Rattle.generations.proofs.Contents.{contents-replicate, generation-replicate}
 use Rattle.generations.proofs.fixed.Generation.with_capacity.Goals as goal
 

@@ -3,4 +3,4 @@ use Rattle.lock_free_hashtable.proofs.Found.{counts_as_list}
 use Rattle.lock_free_hashtable.proofs.raw.HeldRawTable.len_alone.Goals as goal
 
 pub returns-clause-as_list : goal.returns-clause-as_list
-returns-clause-as_list g c = counts_as_list c.args.self.now c.size.result (omega arith) (rw (← c.self.view_is) c.size.ensures)
+returns-clause-as_list g c = counts_as_list c.args.self.now c.size.result (omega arith) (rw (← c.self.view_is) c.size.ensures.size)

@@ -4,12 +4,16 @@ use Rattle.lock_free_hashtable.proofs.raw.into_iter.HeldRawTableIntoIterator.int
 
 pub invariant_of-result : goal.invariant_of-result
 invariant_of-result g c =
-    let counted = length-owned _ c.self.inside.earlier.items c.self.inside.current.contents _ c.self.invariant in
+    let counted = length-owned _ c.self.inside.earlier.items c.self.inside.current.contents _ c.self.invariant.0 in
     let left : c.len_alone-left.result ≡ c.self.inside.current.size = c.len_alone-left.ensures.size ∙ sym (ap (λ t. t.size) c.self.view_is) in
-    rw (c.into_own_values.ensures, c.into_iter.ensures.rest) (left ∙ counted)
+    record {
+      first_is = c.into_own_values.ensures.home ∙ c.self.invariant.1.1 ∙ sym c.close.ensures;
+      others = rw (c.into_iter.ensures.rest, c.close.ensures) c.self.invariant.1.0;
+      counted = rw (c.into_own_values.ensures.values, c.into_iter.ensures.rest) (left ∙ counted);
+    }
 
 pub returns : goal.returns
 returns g c =
     let left : c.len_alone-left.result ≡ c.self.inside.current.size = c.len_alone-left.ensures.size ∙ sym (ap (λ t. t.size) c.self.view_is) in
-    let given = owned-give_entries _ c.self.inside.earlier.items c.self.inside.current.contents _ (rw left at c.len_alone-left.type_inv) c.self.invariant in
-    record { into_iter_gives = rw (← c.self.view_is, c.into_own_values.ensures, c.into_iter.ensures.rest) given }
+    let given = owned-give_entries _ c.self.inside.earlier.items c.self.inside.current.contents _ (rw left at c.len_alone-left.type_inv) c.self.invariant.0 in
+    record { into_iter_gives = rw (← c.self.view_is, c.into_own_values.ensures.values, c.into_iter.ensures.rest) given }
