@@ -4,4 +4,6 @@
 #[cfg(test)]
 mod held;
 #[cfg(test)]
+mod refused;
+#[cfg(test)]
 mod shared;

@@ -10,8 +10,11 @@ use Rattle.generations.specs.Ways.{IsLawfulFor}
 use Rattle.terms.specs.Capacities.{IsFirstCapacity}
 use Rattle.lock_free_hashtable.specs.Capacity.{IsSized}
 use Rattle.cell.specs.declared.bucket.Entry.{Entry}
--- under the path that callers know
-pub use Rattle.lock_free_hashtable.specs.declared.place.Place.{Place}
+use Rattle.lock_free_hashtable.specs.declared.place.Place as place
+
+-- a place, under the path that callers know
+abbrev pub Place : Type 0
+Place = place.Place
 
 -- what a table held alone shows
 pub record HeldTable (T : Type 0) : Type 0 where

@@ -4,6 +4,7 @@
 ghost use Rattle.std.specs.Prelude.{◌≡◌, ◌↔◌, IsTrue};
 ghost use Rattle.refusing.specs.Rules.{least_counted, most_counted, Counts, memory_of, rule_of};
 
+use cell::Low;
 use std::alloc::{AllocError, Allocator};
 use std::sync::atomic::{AtomicU64, Ordering};
 
@@ -102,5 +103,11 @@ unsafe impl<B: Allocator> Allocator for Refusing<B> {
 
     unsafe fn deallocate(&self, ptr: *mut u8, size: usize, align: usize) {
         self.inner.deallocate(ptr, size, align);
+    }
+}
+
+unsafe impl<B: Low> Low for Refusing<B> {
+    unsafe fn show_low(at: *const u8) {
+        unsafe { B::show_low(at) }
     }
 }
