@@ -46,8 +46,6 @@ pub fn insert_then_find(
     let (place, _) = table.place_alone::<Words, _, _>(wanted, word, &same, &hash)?;
     // A law is a function that does nothing: to call it is to know what it says.
     inserted_is_found_again::<Box<u64>, Words, _, _, _>(&same, &hash, &is_wanted);
-    let shown = table
-        .lookup_alone::<Words, _>(wanted, is_wanted)
-        .copied();
+    let shown = table.lookup_alone::<Words, _>(wanted, is_wanted).copied();
     Ok(Lookup { place, shown })
 }

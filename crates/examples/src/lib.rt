@@ -3,3 +3,6 @@
 
 pub mod held;
 pub mod memo;
+pub mod memo_lines;
+pub mod schedules;
+pub mod seats;

@@ -4,6 +4,7 @@ ghost use Rattle.examples.specs.Fibonacci.{fibonacci_word};
 
 use lock_free_hashtable::{HeldRawTable, Law};
 use std::alloc::{AllocError, Allocator, Global};
+use std::marker::Model;
 use terms::law::{NumberLaw, hash_number};
 
 /// An argument and the function's answer to it. Every value of this type is right, so a table of them holds only right answers.
@@ -34,9 +35,28 @@ pub struct Memo<A: Allocator + Copy = Global> {
     alloc: A,
 }
 
+impl<A: Allocator + Copy> Model for Memo<A> {
+    ghost use Rattle.std.specs.declared.boxed.Box.{Box};
+    ghost use Rattle.lock_free_hashtable.specs.Table.{HeldTable};
+    ghost use Rattle.examples.specs.Memo.{IsByArgument};
+    ghost use Rattle.examples.specs.declared.memo.Answer.{Answer};
+
+    ghost Value = { HeldTable (Box Answer A) };
+
+    ghost view = { λ m. m.answers };
+
+    ghost invariant = { λ m. IsByArgument m.answers };
+}
+
 impl<A: Allocator + Copy> Memo<A> {
+    ghost use Rattle.std.specs.Prelude.{IfNone, IsOk, OnOk};
+    ghost use Rattle.lock_free_hashtable.specs.Table.{empty_table};
+    ghost use Rattle.examples.specs.Memo.{Keeps, KeepsAll};
+
     /// No answer is kept yet. It takes no memory.
-    pub fn new(alloc: A) -> Self {
+    pub fn new(alloc: A) -> Self
+        ensures { result ≡ empty_table 16 }
+    {
         Memo {
             answers: HeldRawTable::new(alloc),
             alloc,
@@ -45,7 +65,9 @@ impl<A: Allocator + Copy> Memo<A> {
 
     /// The answer to the argument, if it is kept.
     fn recall(&self, argument: u64) -> Option<u64>
-        ensures { IfSome result (λ answer. answer ≡ fibonacci_word argument) }
+        ensures right { IfSome result (λ answer. answer ≡ fibonacci_word argument) }
+        ensures found { IfSome result (λ answer. Keeps self.now argument) }
+        ensures missing { IfNone result (¬ Keeps self.now argument) }
     {
         let kept = self
             .answers
@@ -55,8 +77,11 @@ impl<A: Allocator + Copy> Memo<A> {
         Some(kept.answer)
     }
 
-    /// Keeps the answer. An Err is refused memory, and changes nothing.
-    fn keep(&mut self, kept: Answer) -> Result<(), AllocError> {
+    /// Keeps the answer. An Err is refused memory.
+    fn keep(&mut self, kept: Answer) -> Result<(), AllocError>
+        ensures kept { OnOk result (Keeps self.new kept.argument) }
+        ensures stays { KeepsAll self.old self.new }
+    {
         let hash = hash_number(kept.argument);
         let kept = Box::new(self.alloc, kept)?;
         match self.answers.place_alone::<Arguments, _, _>(
@@ -65,17 +90,22 @@ impl<A: Allocator + Copy> Memo<A> {
             &|a: &Answer, b: &Answer| a.argument == b.argument,
             &|a: &Answer| hash_number(a.argument),
         ) {
-            Ok(_) => Ok(()),
+            Ok((_, None)) => Ok(()),
+            Ok((_, Some(_))) => Ok(()),
             Err(_) => Err(AllocError),
         }
     }
 
-    /// The Fibonacci number of the argument, modulo 2^64. What was asked before changes nothing but the time that it takes:
-    /// at most 128 answers are computed.
+    /// The Fibonacci number of the argument, modulo 2^64. What was asked before changes only how long it takes: at most
+    /// three answers are computed for each halving of the argument, so fewer than 200 a call.
     ///
     /// An Err is refused memory: no answer is wrong for want of it, those that are kept stay, and the call can be made again.
+    /// An argument that is kept is never refused.
     pub fn fibonacci(&mut self, argument: u64) -> Result<u64, AllocError>
-        ensures { IfOk result (λ answer. answer ≡ fibonacci_word argument) }
+        ensures right { IfOk result (λ answer. answer ≡ fibonacci_word argument) }
+        ensures kept { OnOk result (2 ≤ argument → Keeps self.new argument) }
+        ensures known { Keeps self.old argument → IsOk result }
+        ensures stays { KeepsAll self.old self.new }
     {
         if argument < 2 {
             return Ok(argument);
