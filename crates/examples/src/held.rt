@@ -21,6 +21,7 @@ impl Law<u64> for Words {
 }
 
 /// A word's place in its table, and what a look-up of the word shows.
+#[derive(Clone, Copy, Debug)]
 pub struct Lookup {
     pub place: Place,
     pub shown: Option<u64>,

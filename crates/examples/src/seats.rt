@@ -8,6 +8,7 @@ use std::alloc::Allocator;
 use std::num::NonZeroU64;
 
 /// What two seats were told: first by their inserts, and after they had met by a look for the other's number.
+#[derive(Clone, Copy, Debug)]
 pub struct Met {
     pub first_insert: NumberAnswer,
     pub second_insert: NumberAnswer,
