@@ -18,13 +18,22 @@ fn assert_answers(rt: &impl Abort, memo: &mut Memo, argument: u64, answer: u64) 
     assert_eq!(rt; ask(memo, argument), Some(answer), "at {argument}");
 }
 
-/// Asks a memo for the great ones, and for each of the small ones in this order.
-fn assert_all(rt: &impl Abort, memo: &mut Memo, order: fn(u64) -> u64) {
+/// The argument that is asked in a turn, from the least on or from the greatest.
+fn argument_in(turn: u64, is_upward: bool) -> u64 {
+    if is_upward {
+        turn
+    } else {
+        ARGUMENTS.saturating_sub(turn)
+    }
+}
+
+/// Asks a memo for the great ones, and for each of the small ones.
+fn assert_all(rt: &impl Abort, memo: &mut Memo, is_upward: bool) {
     for (argument, answer) in &GREAT {
         assert_answers(rt, memo, *argument, *answer);
     }
     for turn in 0..ARGUMENTS {
-        let argument = order(turn);
+        let argument = argument_in(turn, is_upward);
         assert_answers(rt, memo, argument, slow_fibonacci(argument));
     }
 }
@@ -32,9 +41,9 @@ fn assert_all(rt: &impl Abort, memo: &mut Memo, order: fn(u64) -> u64) {
 #[test]
 fn answers_are_those_of_additions(rt: HostRuntime) {
     let mut memo = Memo::new(rt.alloc());
-    assert_all(&rt, &mut memo, |turn: u64| turn);
+    assert_all(&rt, &mut memo, true);
     // Again, where all are kept, and in the other order.
-    assert_all(&rt, &mut memo, |turn: u64| turn);
+    assert_all(&rt, &mut memo, true);
     let mut other = Memo::new(rt.alloc());
-    assert_all(&rt, &mut other, |turn: u64| ARGUMENTS.saturating_sub(turn));
+    assert_all(&rt, &mut other, false);
 }
