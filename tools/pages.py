@@ -15,7 +15,7 @@ PAGE = TOP / "docs" / "CALLS.md"
 HEAD = """# Public calls
 
 Every public call of every crate, with its signature as it stands in the code and the first sentence of its docs. What a call promises is
-its contract, in the file named; README.md says the promises in words. `tools/pages.py` writes this page.
+its contract, in the file named; README.md says the promises in words. Methods of std's traits, as `into_iter`, aren't listed. `tools/pages.py` writes this page.
 """
 
 
@@ -44,35 +44,46 @@ def shown(root):
     return names
 
 
+def public_types(names):
+    """The names of the types and traits that a crate's users can name."""
+    types = set()
+    for file, only in names.items():
+        defined = set(re.findall(r"^pub (?:struct|enum|trait) (\w+)", file.read_text(), re.M))
+        types |= defined if only is None else defined & only
+    return types
+
+
 def first_sentence(docs):
     """The first sentence of a call's docs."""
     text = " ".join(docs[:docs.index("")] if "" in docs else docs)
     return re.split(r"(?<=[.:]) (?=[A-Z`])", text, maxsplit=1)[0].rstrip(":") if text else ""
 
 
-def calls(text, names):
+def owner_of(line):
+    """The type or trait whose methods a block holds that begins with this line, or None for an impl of a trait."""
+    if " for " in line:
+        return None
+    head = re.sub(r"^(unsafe )?(impl(<.*?>)?|pub trait|trait) (?=\w)", "", line)
+    return re.match(r"\w+", head).group()
+
+
+def calls(text, names, types):
     """The signatures of a file's public calls, each with its docs and the type that it is of."""
     lines = text.splitlines()
-    owner, trait, public, docs = None, False, True, []
+    owner, block, docs = None, "", []
     for at, line in enumerate(lines):
-        if line.startswith(("impl", "pub trait", "trait", "unsafe impl")):
-            head = re.sub(r"<.*", "", re.sub(r"^(unsafe )?impl(<.*?>)? (?=\w)", "", line)) if "impl" in line else line
-            of_trait = " for " in line
-            trait = line.startswith("pub trait")
-            owner = None if of_trait or line.startswith("trait") else re.sub(r"^pub trait ", "", head).split("<")[0].split(":")[0].split(" ")[0].strip(" {")
-            public = owner is not None and (names is None or owner in names)
-        elif line.startswith("}"):
-            owner, trait, public = None, False, True
+        start = re.match(r"(unsafe )?(impl|pub trait|trait)\b", line)
+        if start or line.startswith("}"):
+            block = line if start else ""
+            owner = owner_of(line) if start else None
         stripped = line.strip()
         if stripped.startswith("///"):
             docs.append(stripped[3:].strip())
             continue
-        inside = line.startswith("    ")
-        marked = re.match(r"(pub )(unsafe )?fn (\w+)", stripped)
-        bare = trait and inside and re.match(r"(unsafe )?fn (\w+)", stripped)
-        if (marked or bare) and (inside if owner else not inside) and public:
-            name = (marked or bare).group(3 if marked else 2)
-            if owner or names is None or name in names:
+        call = re.match(r"(pub )?(unsafe )?fn (\w+)", stripped)
+        if call and (call.group(1) or block.startswith("pub trait")):
+            shown_free = not block and (names is None or call.group(3) in names) and not line.startswith(" ")
+            if shown_free or owner in types:
                 yield owner, signature(lines, at), first_sentence(docs)
         if not stripped.startswith("#["):
             docs = []
@@ -88,9 +99,8 @@ def signature(lines, at):
         parts.append(re.sub(r"\s*[{;]$", "", stripped))
         if stripped.endswith(("{", ";")):
             break
-    text = " ".join(parts)
-    text = re.sub(r"([(<]) ", r"\1", re.sub(r",? ([)>])(?!=)", r"\1", text))
-    return re.sub(r"- >", "->", text.replace("-> ", "-> ")).replace("pub ", "", 1)
+    text = re.sub(r",? ([)>])", r"\1", " ".join(parts))
+    return re.sub(r"([(<]) ", r"\1", text).replace("pub ", "", 1)
 
 
 def page():
@@ -101,8 +111,10 @@ def page():
         if not root.exists():
             continue
         rows = []
-        for file, names in sorted(shown(root).items()):
-            for owner, text, docs in calls(file.read_text(), names):
+        files = shown(root)
+        types = public_types(files)
+        for file, names in sorted(files.items()):
+            for owner, text, docs in calls(file.read_text(), names, types):
                 rows.append((file.relative_to(TOP / "crates" / crate / "src"), owner, text, docs))
         if not rows:
             continue
