@@ -1,11 +1,11 @@
 //! A memo table: the answers of a recursive function, each kept once it is computed.
-ghost use Rattle.std.specs.Prelude.{◌≡◌, ◌+◌, ◌-◌, ◌*◌, ◌/◌, ◌%◌, ◌^◌, ◌≤◌, IfOk, IfSome};
+ghost use Rattle.std.specs.Prelude.{◌≡◌, ◌+◌, ◌-◌, ◌*◌, ◌/◌, ◌%◌, ◌^◌, ◌<◌, ◌≤◌, IfOk, IfSome};
 ghost use Rattle.examples.specs.Fibonacci.{fibonacci_word};
 
 use lock_free_hashtable::{HeldRawTable, Law};
 use std::alloc::{AllocError, Allocator, Global};
 use std::marker::Model;
-use terms::law::{NumberLaw, hash_number};
+use terms::law::hash_number;
 
 /// An argument and the function's answer to it. Every value of this type is right, so a table of them holds only right answers.
 #[derive(Drop)]
@@ -100,10 +100,11 @@ impl<A: Allocator + Copy> Memo<A> {
     /// three answers are computed for each halving of the argument, so fewer than 200 a call.
     ///
     /// An Err is refused memory: no answer is wrong for want of it, those that are kept stay, and the call can be made again.
-    /// An argument that is kept is never refused.
+    /// An argument that is below 2 or kept is never refused.
     pub fn fibonacci(&mut self, argument: u64) -> Result<u64, AllocError>
         ensures right { IfOk result (λ answer. answer ≡ fibonacci_word argument) }
         ensures kept { OnOk result (2 ≤ argument → Keeps self.new argument) }
+        ensures small { argument < 2 → IsOk result }
         ensures known { Keeps self.old argument → IsOk result }
         ensures stays { KeepsAll self.old self.new }
     {
