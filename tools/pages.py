@@ -4,7 +4,7 @@
     tools/pages.py [--check]
 
 With --check it writes nothing, and ends by 1 where that page isn't what it would write, or where a block of docs/EXAMPLE.md isn't part
-of the file that is named right above it. Crates of tests have no calls.
+of the file that is named right above it.
 """
 import pathlib
 import re
@@ -23,7 +23,7 @@ def crates():
     """The crates in the order of crates.txt, lowest first."""
     for line in (TOP / "crates.txt").read_text().splitlines():
         name = line.partition("#")[0].partition(":")[0].strip()
-        if name and not name.endswith("_tests"):
+        if name:
             yield name.split()[0]
 
 
