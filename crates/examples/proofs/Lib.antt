@@ -1,0 +1,5 @@
+pub mod Doubling
+pub mod Kept
+pub mod Lookups
+pub mod Meetings
+pub mod Runs

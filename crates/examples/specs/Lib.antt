@@ -1,0 +1,4 @@
+pub mod Words
+pub mod Fibonacci
+pub mod Memo
+pub mod Schedules
