@@ -1,0 +1,2 @@
+//! The tools, run over streams in memory.
+mod texts;
