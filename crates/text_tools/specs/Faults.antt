@@ -1,7 +1,14 @@
--- The message and the status of each fault.
+-- The names of the tools, and the message and the status of each fault.
 use Rattle.std.specs.Prelude.{ℕ, List, ◌++◌, codes, decimal}
+use Rattle.text_tools.specs.declared.tool.Tool.{Tool}
+use Rattle.text_tools.specs.declared.tool.Tool.TheVariants.{Words, Dedup}
 use Rattle.text_tools.specs.declared.faults.Fault.{Fault}
 use Rattle.text_tools.specs.declared.faults.Fault.TheVariants.{Usage, NotUtf8, ReadFailed, WriteFailed, NoMemory, TooManyWords}
+
+-- what a tool is called
+abbrev pub name_of : Tool → List ℕ
+name_of Words = codes "words"
+name_of Dedup = codes "dedup"
 
 -- what a fault prints
 abbrev pub message_of : Fault → List ℕ
