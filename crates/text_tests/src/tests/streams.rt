@@ -67,10 +67,12 @@ fn assert_given(rt: &impl Abort, heap: Global, at_once: usize, given: usize, fai
     assert_ended(rt, &ended, "dedup", wanted, messages, status);
 }
 
-/// A reader that fails at each of its calls, which give so many bytes at once.
-fn fail_at_each_call(rt: &impl Abort, heap: Global, at_once: usize) {
-    // Two calls find the end: that of the last line, which has no line break, and that of the input.
-    let calls = INPUT.len().div_ceil(at_once) + 2;
+/// How many bytes a reader gives at a call, and how many calls are then made for the 22 bytes of the input. Two of them find the end:
+/// that of the last line, which has no line break, and that of the input.
+const CALLS: [(usize, usize); 4] = [(1, 24), (2, 13), (7, 6), (100, 3)];
+
+/// A reader that fails at each of so many calls, which give so many bytes at once.
+fn fail_at_each_call(rt: &impl Abort, heap: Global, at_once: usize, calls: usize) {
     for given in 0..=calls {
         assert_given(rt, heap, at_once, given, given < calls);
     }
@@ -78,8 +80,8 @@ fn fail_at_each_call(rt: &impl Abort, heap: Global, at_once: usize) {
 
 #[test]
 fn a_reader_that_fails_at_each_call(rt: HostRuntime) {
-    for at_once in [1, 2, 7, 100] {
-        fail_at_each_call(&rt, rt.alloc(), at_once);
+    for (at_once, calls) in CALLS {
+        fail_at_each_call(&rt, rt.alloc(), at_once, calls);
     }
 }
 

@@ -28,7 +28,7 @@ pub fn measure(group: &str) {
     time("back", &mut || {
         for _ in 0..rounds {
             for index in 1..=count as u32 {
-                assert!(!black_box(interner.text(NonZeroU32::new(index).unwrap()).unwrap()).is_empty());
+                assert!(interner.text(NonZeroU32::new(black_box(index)).unwrap()).unwrap().as_bytes()[0] == b'n');
             }
         }
     });
