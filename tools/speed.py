@@ -6,6 +6,7 @@
                                             docs/speed/ratios.svg, with ratios to the table BASE, as plain-rust
     tools/speed.py show seats BASE          prints the number tables that threads share, as plain-atomics
     tools/speed.py show core core           prints the machine of all schedules
+    tools/speed.py show interner BASE       prints the interners, as plain-interner
 
 A PROGRAM answers `PROGRAM list` with the names of its tables, one a line, and `PROGRAM NAME GROUP` with lines
 `NAME MEASUREMENT NUMBER`. Each group runs in a process of its own; every second round goes backwards. The best of all
@@ -21,17 +22,22 @@ RAW = os.path.join(HERE, "raw.txt")
 PLOT = os.path.join(HERE, "ratios.svg")
 # Number tables that threads share. Every other table is held alone, but for the machine of all schedules, `core`.
 SEATED = ["seats", "plain-atomics"]
-GROUPS = {"held": ["one", "seq"], "seats": ["one", "seq", "same", "ins"], "core": ["one"]}
+# Interners of texts.
+INTERNERS = ["interner", "plain-interner"]
+GROUPS = {"held": ["one", "seq"], "seats": ["one", "seq", "same", "ins"], "core": ["one"], "interner": ["1e4", "1e5", "1e6"]}
 MEASUREMENTS = {
     "held": ["a_ins1", "b_hit1", "c_miss1", "seq_ins1", "seq_hit1", "g_rss"],
     "seats": ["a_ins1", "b_hit1", "c_miss1", "d_same4", "e_ins4", "f_hit4", "seq_ins1", "seq_hit1"],
     "core": ["event"],
+    "interner": ["new_1e4", "known_1e4", "back_1e4", "new_1e5", "known_1e5", "back_1e5", "new_1e6", "known_1e6", "back_1e6"],
 }
 
 
 def kind_of(name):
     if name == "core":
         return "core"
+    if name in INTERNERS:
+        return "interner"
     return "seats" if name in SEATED else "held"
 
 

@@ -4,6 +4,7 @@
 //!     bench held GROUP    the table held alone: runs a group of measurements once, in a fresh process: one or seq
 //!     bench seats GROUP   the number table of seated threads: one, seq, same or ins
 //!     bench core one      the machine of all schedules
+//!     bench interner N    the interner with 1e4, 1e5 or 1e6 texts
 //!     bench               a small check, without a clock
 //!
 //! Each line is the name, the measurement and nanoseconds of wall time an operation (`g_rss`: resident bytes an entry).
@@ -11,6 +12,7 @@
 #![tactic(auto)]
 
 use measures::held::{check_held, measure_held};
+use measures::interner::{check_interner, measure_interner};
 use measures::report::{Report, refuse_words};
 use measures::schedules::{check_schedules, measure_schedules};
 use measures::seats::{check_seats, measure_seats};
@@ -23,15 +25,18 @@ const SEATS: &str = "seats";
 
 const CORE: &str = "core";
 
+const INTERNER: &str = "interner";
+
 fn main(rt: HostRuntime) -> io::Result<()> {
     let words: Vec<String> = env::args(&rt)?.skip(1).collect(rt.alloc())?;
     match words.as_slice() {
         [] => {
             check_held(&rt)?;
             check_seats(&rt)?;
-            check_schedules(&rt)
+            check_schedules(&rt)?;
+            check_interner(&rt)
         }
-        [word] if word.as_str() == "list" => println!(rt; "{HELD}\n{SEATS}\n{CORE}"),
+        [word] if word.as_str() == "list" => println!(rt; "{HELD}\n{SEATS}\n{CORE}\n{INTERNER}"),
         [name, group] if name.as_str() == HELD => {
             measure_held(&rt, &Report { name: HELD }, group.as_str())
         }
@@ -40,6 +45,9 @@ fn main(rt: HostRuntime) -> io::Result<()> {
         }
         [name, group] if name.as_str() == CORE => {
             measure_schedules(&rt, &Report { name: CORE }, group.as_str())
+        }
+        [name, group] if name.as_str() == INTERNER => {
+            measure_interner(&rt, &Report { name: INTERNER }, group.as_str())
         }
         _ => refuse_words(&rt),
     }

@@ -1,7 +1,8 @@
-//! What `bench` measures: the tables and the machine of all schedules, each workload also counted without a clock.
+//! What `bench` measures: the tables, the interner and the machine of all schedules, each workload also counted without a clock.
 #![tactic(auto)]
 
 pub mod held;
+pub mod interner;
 mod numbers;
 pub mod report;
 pub mod schedules;

@@ -2,9 +2,10 @@
 //!
 //! A bucket is two words: the plain part, which holds the name of an entry of an earlier generation and its eight bits,
 //! and the block of an own entry. The table is held alone, so no word is atomic and no lock is taken.
-//! `atomics` is another table: numbers that threads share.
+//! `atomics` is another table: numbers that threads share. `interner` is one over std's map.
 
 pub mod atomics;
+pub mod interner;
 
 struct Block<T> {
     value: Box<T>,

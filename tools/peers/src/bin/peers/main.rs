@@ -1,7 +1,9 @@
 //! The measurements of the crate `bench`, on the plain-Rust tables and on std's set.
 //!
-//!     peers list | peers PEER one | peers PEER seq | peers plain-atomics same | peers plain-atomics ins
+//!     peers list | peers PEER one | peers PEER seq | peers plain-atomics same | peers plain-atomics ins |
+//!     peers plain-interner 1e4 | 1e5 | 1e6
 
+mod interner;
 mod seats;
 
 use std::collections::HashSet;
@@ -103,10 +105,11 @@ fn measure<S: Set>(name: &str, group: &str) {
 fn main() {
     let words: Vec<String> = std::env::args().skip(1).collect();
     match words.iter().map(String::as_str).collect::<Vec<_>>()[..] {
-        ["list"] => println!("plain-rust\nstd-HashSet\nplain-atomics"),
+        ["list"] => println!("plain-rust\nstd-HashSet\nplain-atomics\nplain-interner"),
         ["plain-rust", group] => measure::<peers::Table<u64>>("plain-rust", group),
         ["std-HashSet", group] => measure::<StdSet>("std-HashSet", group),
         ["plain-atomics", group] => seats::measure(group),
+        ["plain-interner", group] => interner::measure(group),
         _ => {}
     }
 }

@@ -1,0 +1,5 @@
+//! Tests of the tools over text.
+#![tactic(auto)]
+
+#[cfg(test)]
+mod tests;

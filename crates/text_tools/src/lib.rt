@@ -1,0 +1,12 @@
+//! Two tools over text: `words` counts the words of a text, `dedup` gives each different line once.
+//!
+//! Each is a function over a reader and a writer, with what it keeps in memory in a type of its own.
+#![tactic(auto)]
+
+pub mod dedup;
+pub mod faults;
+pub mod lines;
+pub mod seen;
+pub mod tool;
+pub mod word_counts;
+pub mod words;
