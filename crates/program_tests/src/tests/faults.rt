@@ -248,7 +248,13 @@ fn an_input_cut_at_every_byte(rt: HostRuntime) -> Result<(), Fail> {
     let mut before = String::new(rt.alloc());
     let mut wanted = String::new(rt.alloc());
     for (number, line, reply) in &LINES {
-        assert_cuts(&rt, before.as_str(), line.as_bytes(), wanted.as_str(), *number)?;
+        assert_cuts(
+            &rt,
+            before.as_str(),
+            line.as_bytes(),
+            wanted.as_str(),
+            *number,
+        )?;
         before.push_str(line)?;
         wanted.push_str(reply)?;
         assert_cut(&rt, before.as_str(), b"", wanted.as_str(), *number)?;
