@@ -111,7 +111,7 @@ impl<A: Allocator + Copy> Load<A> {
 }
 
 /// What an insert does that finds no generation and makes the first one.
-pub(crate) fn first_generation(call: u64) -> [Event; 7] {
+fn first_generation(call: u64) -> [Event; 7] {
     [
         Event::Share { call },
         Event::Load { call },
@@ -127,7 +127,7 @@ pub(crate) fn first_generation(call: u64) -> [Event; 7] {
 }
 
 /// What an insert does that places its value in the bucket of its hash, which is empty, up to the size that it asks for.
-pub(crate) fn placement(call: u64) -> [Event; 7] {
+fn placement(call: u64) -> [Event; 7] {
     [
         Event::Share { call },
         Event::Load { call },

@@ -2,5 +2,3 @@
 
 mod decisions;
 mod load;
-mod schedules;
-mod script;

@@ -1,9 +1,11 @@
 //! The program, run over streams in memory.
 mod faults;
+mod machine;
 mod memory;
 mod refusals;
 mod rows;
 mod schedules;
+mod script;
 mod seats;
 mod streams;
 mod words;

@@ -5,7 +5,7 @@ use Rattle.std.specs.List.{slice_get}
 use Rattle.std.specs.Option.{option_map}
 use Rattle.std.proofs.lemmas.Bool.{eqb-true}
 use Rattle.table_core.specs.Calls.{Call, call_numbered, replaced}
-use Rattle.table_core.specs.Machine.{World, finds, call_acts, goes_by, act_of, acts, after_act, happens, finishes, finished_by, finished_call, number_of, in_range, call_after}
+use Rattle.table_core.specs.Machine.{World, finds, call_acts, goes_by, act_of, acts, after_act, happens, finishes, finished_by, finished_call, number_of, in_range, call_after, act_takes_memory, finding_takes_memory, AsksMemory}
 use Rattle.table_core.specs.Bound.{position_of}
 use Rattle.table_core.specs.Openings.{opening}
 use Rattle.table_core.specs.Reached.{moved, reply_to}
@@ -81,6 +81,14 @@ happens_at w x i a r e = sym (ap (after_act w x) (going w x (Some a.call) r e a.
 
 pub reply_at : (w : World) (x : Event) (i : ℕ) (a : At (number_of x) w.calls i) → in_range x ≡ true → opening x ≡ None → finished_call (number_of x) (reply_to w a.call (finds w a.call.state x)) ≡ finishes w x
 reply_at w x i a r e = sym (ap (finished_by w) (going w x (Some a.call) r e a.numbered) ∙ told_by w a.call (number_of x) (finds w a.call.state x) a.number)
+
+asked_by : (c : Call) (o : Option Answer) → act_takes_memory (goes_by c o) ≡ finding_takes_memory c.state.phase o
+asked_by c None = refl
+asked_by c (Some b) = refl
+
+-- an event at which its call finds what takes memory asks for memory
+pub asks_at : (w : World) (x : Event) (i : ℕ) (a : At (number_of x) w.calls i) → in_range x ≡ true → opening x ≡ None → finding_takes_memory a.call.state.phase (finds w a.call.state x) ≡ true → AsksMemory w x
+asks_at w x i a r e h = ap act_takes_memory (going w x (Some a.call) r e a.numbered) ∙ asked_by a.call (finds w a.call.state x) ∙ h
 
 pub happens_none : (w : World) (x : Event) → in_range x ≡ true → opening x ≡ None → position_of (number_of x) w.calls ≡ None → w ≡ happens w x
 happens_none w x r e h = sym (ap (after_act w x) (going w x None r e (no_position (number_of x) w.calls h)))

@@ -1,5 +1,5 @@
 -- The machine: what an event finds, what it changes, and what a call is told.
-use Rattle.std.specs.Prelude.{ℕ, ◌/◌, ◌^◌, ◌==◌, ◌&&◌, ◌||◌, nat_lt, if◌then◌else◌, Bool, true}
+use Rattle.std.specs.Prelude.{◌≡◌, ℕ, ◌/◌, ◌^◌, ◌==◌, ◌&&◌, ◌||◌, nat_lt, if◌then◌else◌, Bool, true}
 use Rattle.std.specs.Prelude.{false, not, Option, Some, None, List, [], ◌∷◌, ◌++◌, length, ◌-◌}
 use Rattle.table_core.specs.Replies.{Reply, ReplyPlaced, ReplyFound, ReplyRefused, ReplySome}
 use Rattle.table_core.specs.Replies.{ReplyNone, ReplyLen, ReplyWalk, Finished}
@@ -336,6 +336,31 @@ act_of w x = call_acts w (call_numbered (number_of x) w.calls) x
 -- what an event does, if it is taken
 abbrev pub acts : World → Event → Option Act
 acts w x = if in_range x then act_of w x else None
+
+-- a call in this phase that finds this takes memory: a value is placed, a generation begun, an
+-- entry copied, a generation shown, or an entry put into a walk's list
+abbrev pub takes_memory : Answer → Phase → Bool
+takes_memory Won p = true
+takes_memory Begun p = true
+takes_memory Copied p = true
+takes_memory Shown p = true
+takes_memory HoldsUnasked WalkAt = true
+takes_memory _ p = false
+
+-- whether what a call finds, if anything, takes memory
+abbrev pub finding_takes_memory : Phase → Option Answer → Bool
+finding_takes_memory p None = false
+finding_takes_memory p (Some a) = takes_memory a p
+
+-- whether what an event did takes memory: a call that begins does
+abbrev pub act_takes_memory : Option Act → Bool
+act_takes_memory None = false
+act_takes_memory (Some (Begins c)) = true
+act_takes_memory (Some (Goes c a)) = takes_memory a c.state.phase
+
+-- this event asks for memory: by it a call begins, or finds what takes memory
+abbrev pub AsksMemory : World → Event → Type 0
+AsksMemory w x = act_takes_memory (acts w x) ≡ true
 
 -- the world after what an event did
 abbrev pub after_act : World → Event → Option Act → World

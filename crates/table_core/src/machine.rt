@@ -1,6 +1,6 @@
 //! What each event finds, tells and changes.
 ghost use Rattle.std.specs.Prelude.{◌≡◌, ◌≢◌, ◌<◌, true, false, if◌then◌else◌, Option, Some, None, length, slice_set, OnOk, OnErr, IfOk, IfSome};
-ghost use Rattle.std.specs.Option.{option_map};
+ghost use Rattle.std.specs.Option.{option_map, is_some};
 ghost use Rattle.std.specs.List.{slice_get};
 ghost use Rattle.table_core.specs.Replies.{ReplyWalk, reply_of};
 ghost use Rattle.terms.specs.Capacities.{IsFirstCapacity};
@@ -8,7 +8,7 @@ ghost use Rattle.table_core.specs.Generations.{next_copied};
 ghost use Rattle.table_core.specs.History.{buckets};
 ghost use Rattle.table_core.specs.Calls.{Call as SpecCall, decide as after_answer, new_call, fits, holds_shared, holds_owned};
 ghost use Rattle.table_core.specs.Machine.{empty, happens, finishes, finds, takes_unless, holds, read, read_unasked, exchanged, sized, finds_copy, finds_show, released_after_failure};
-ghost use Rattle.table_core.specs.Machine.{walked_gen, walked_entry, with_entry, kept_list, call_after, bucket_of as bucket_stood_at, place, changed};
+ghost use Rattle.table_core.specs.Machine.{walked_gen, walked_entry, with_entry, takes_memory, finding_takes_memory, AsksMemory, kept_list, call_after, bucket_of as bucket_stood_at, place, changed};
 ghost use Rattle.table_core.specs.Machine.{refused, by_outcome, by_failure, lookup_reply, last_reply, reply_at_end, reply};
 ghost use Rattle.table_core.specs.Openings.{opening};
 ghost use Rattle.table_core.specs.Reached.{IsReached, CanChange, reply_placed, reply_found, may_not_begin, with_call_unless, moved, reply_to};
@@ -241,6 +241,7 @@ fn change<A: Allocator + Copy>(
     requires { CanChange table.old call.now event answer }
     ensures ok { OnOk result (table.new ≡ changed table.old call.now event answer) }
     ensures err { OnErr result (table.new ≡ table.old) }
+    ensures asks { OnErr result (takes_memory answer call.now.state.phase ≡ true) }
 {
     let state = call.state();
     match (event, answer) {
@@ -398,6 +399,7 @@ fn list_entry<A: Allocator + Copy>(
     requires { at < length calls.old }
     ensures ok { (c : SpecCall) → slice_get calls.old at ≡ Some c → OnOk result (calls.new ≡ slice_set calls.old at (record c { list = with_entry c.list entry })) }
     ensures err { OnErr result (calls.new ≡ calls.old) }
+    ensures asks { OnErr result (is_some entry ≡ true) }
 {
     match entry {
         Some(entry) => calls.list_value(at, entry.value),
@@ -436,6 +438,7 @@ fn walk<A: Allocator + Copy>(
     ensures ok { (c : SpecCall) → slice_get calls.old at ≡ Some c → OnOk result (calls.new ≡ slice_set calls.old at (call_after table.now c answer)) }
     ensures reply { (c : SpecCall) → slice_get calls.old at ≡ Some c → IfOk result (λ r. option_map reply_of r ≡ reply table.now c answer) }
     ensures err { OnErr result (calls.new ≡ calls.old) }
+    ensures asks { OnErr result (takes_memory answer Phase.WalkAt ≡ true) }
 {
     let state = calls.get(at).state();
     let entry = entry_shown(table, state, answer);
@@ -451,6 +454,7 @@ impl<A: Allocator + Copy> Machine<A> {
         ensures ok { (c : SpecCall) → slice_get self.old.calls at ≡ Some c → OnOk result (self.new ≡ moved self.old at c event (finds self.old c.state event)) }
         ensures reply { (c : SpecCall) → slice_get self.old.calls at ≡ Some c → IfOk result (λ r. option_map reply_of r ≡ reply_to self.old c (finds self.old c.state event)) }
         ensures err { OnErr result (self.new ≡ self.old) }
+        ensures asks { (c : SpecCall) → slice_get self.old.calls at ≡ Some c → OnErr result (finding_takes_memory c.state.phase (finds self.old c.state event) ≡ true) }
     {
         let state = self.calls.get(at).state();
         let Some(answer) = self.answer(state, event) else {
@@ -473,6 +477,7 @@ impl<A: Allocator + Copy> Machine<A> {
         requires { (holds_shared opening.state.phase ≡ false) × (holds_owned opening.state.phase ≡ false) }
         ensures ok { OnOk result (self.new ≡ with_call_unless self.old (may_not_begin number opening.value self.old.calls) (new_call number opening.value opening.state)) }
         ensures err { OnErr result (self.new ≡ self.old) }
+        ensures asks { OnErr result (may_not_begin number opening.value self.old.calls ≡ false) }
     {
         if self.may_not_begin(number, opening.value) {
             return Ok(());
@@ -498,6 +503,7 @@ impl<A: Allocator + Copy> Machine<A> {
         ensures ok { OnOk result (self.new ≡ happens self.old event) }
         ensures reply { IfOk result (λ r. r ≡ finishes self.old event) }
         ensures err { OnErr result (self.new ≡ self.old) }
+        ensures asks { OnErr result (AsksMemory self.old event) }
     {
         let call = event.call();
         let Some(at) = self.calls.position(call) else {
@@ -515,6 +521,7 @@ impl<A: Allocator + Copy> Machine<A> {
         ensures ok { OnOk result (self.new ≡ happens self.old event) }
         ensures reply { IfOk result (λ r. r ≡ finishes self.old event) }
         ensures err { OnErr result (self.new ≡ self.old) }
+        ensures asks { OnErr result (AsksMemory self.old event) }
     {
         match opening_of(event) {
             Some(opening) => {

@@ -2,7 +2,7 @@
 ghost use Rattle.std.specs.Prelude.{◌≡◌, ◌++◌, option_to_list, OnOk, OnErr, IfOk};
 ghost use Rattle.terms.specs.Capacities.{IsFirstCapacity};
 ghost use Rattle.table_core.specs.History.{replies, buckets};
-ghost use Rattle.table_core.specs.Machine.{empty, happens, finishes};
+ghost use Rattle.table_core.specs.Machine.{empty, happens, finishes, AsksMemory};
 
 use crate::event::Event;
 use crate::machine::Machine;
@@ -63,11 +63,13 @@ impl<A: Allocator + Copy> State<A> {
     }
 
     /// Takes one event: the call that finishes by it, with its reply. An event that isn't enabled
-    /// changes nothing. Where memory is refused the state is as it was.
+    /// changes nothing. Where memory is refused the state is as it was; it is asked for only by an event
+    /// that begins a call, places a value, begins, goes on with or ends a growth, or shows a walk an entry.
     pub fn step(&mut self, event: Event) -> Result<Option<Finished<A>>, NoMemory>
         ensures ok { OnOk result (self.new ≡ happens self.old event) }
         ensures reply { IfOk result (λ r. r ≡ finishes self.old event) }
         ensures err { OnErr result (self.new ≡ self.old) }
+        ensures asks { OnErr result (AsksMemory self.old event) }
     {
         let finished = self.machine.step(event)?;
         Ok(finished)

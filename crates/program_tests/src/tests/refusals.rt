@@ -2,10 +2,10 @@
 ghost use Rattle.std.specs.Prelude.{◌<◌};
 ghost use Rattle.terms.specs.Capacities.{IsFirstCapacity};
 
-use super::schedules::{LOST_TO_AN_EQUAL, push_events};
+use super::machine::{events_of, lines_of_replies, push_line, replies};
+use super::schedules::LOST_TO_AN_EQUAL;
+use super::script::push_events;
 use super::{Ended, run_refusing};
-use commands::answers::Answer;
-use commands::events::{ScheduleLine, parse_schedule_line};
 use commands::program::run_words;
 use refusing::{Refusing, Rule};
 use std::alloc::{Allocator, Global};
@@ -18,7 +18,8 @@ use std::test::Fail;
 use std::thread::Threads;
 use table_core::event::Event;
 use table_core::reply::Finished;
-use table_core::state::{NoMemory, State, run, run_with};
+use table_core::state::{NoMemory, State};
+use terms::capacity::is_first_capacity;
 
 /// More requests than any schedule here makes.
 const REQUESTS: u64 = 10_000;
@@ -48,13 +49,7 @@ impl Schedule {
         push_schedule(&mut input, alloc, first)?;
         let mut told = String::new(alloc);
         push_told(&mut told, first)?;
-        let mut events = Vec::new(alloc);
-        for line in input.lines() {
-            let Some(ScheduleLine::Step(event)) = parse_schedule_line(line.as_bytes()) else {
-                return Err(Fail::from("no event"));
-            };
-            events.push(event)?;
-        }
+        let events = events_of(alloc, input.as_str())?;
         Ok(Schedule {
             input,
             events,
@@ -143,37 +138,6 @@ fn push_told(told: &mut String, first: u64) -> Result<(), Fail>
     Ok(())
 }
 
-/// The line of a finished call.
-fn push_line<A: Allocator + Copy>(lines: &mut String, finished: &Finished<A>) -> Result<(), Fail> {
-    let answer = Answer { finished };
-    writeln!(lines, "{answer}")?;
-    Ok(())
-}
-
-/// The lines of finished calls.
-fn lines_of<A: Allocator + Copy>(alloc: Global, told: &[Finished<A>]) -> Result<String, Fail> {
-    let mut lines = String::new(alloc);
-    for finished in told {
-        push_line(&mut lines, finished)?;
-    }
-    Ok(lines)
-}
-
-/// The replies of a schedule, by `run` where the first generation has 16 buckets.
-fn replies<A: Allocator + Copy>(
-    alloc: A,
-    first: u64,
-    events: &[Event],
-) -> Result<Vec<Finished<A>, A>, NoMemory>
-    requires { IsFirstCapacity first }
-{
-    if first == 16 {
-        run(alloc, events)
-    } else {
-        run_with(alloc, first, events)
-    }
-}
-
 /// How a run went on memory of which requests are refused.
 #[derive(Clone, Copy)]
 struct Outcome {
@@ -227,7 +191,7 @@ fn refuse_run<R: Abort + AllocGlobal>(
     let memory = Refusing::new(rt.alloc(), Rule::new(0, usize::MAX, granted, refused));
     match replies(&memory, first, schedule.events.as_slice()) {
         Ok(told) => {
-            let lines = lines_of(rt.alloc(), told.as_slice())?;
+            let lines = lines_of_replies(rt.alloc(), told.as_slice())?;
             assert_eq!(rt; lines.as_str(), schedule.told.as_str(), "after {granted}");
             Ok(Outcome {
                 is_refused: false,
@@ -242,32 +206,6 @@ fn refuse_run<R: Abort + AllocGlobal>(
             })
         }
     }
-}
-
-/// Refuses each request of a run in turn, and those after it, `refused` in all.
-fn refuse_runs<R: Abort + AllocGlobal>(rt: &R, first: u64, refused: u64) -> Result<(), Fail>
-    requires first { IsFirstCapacity first }
-    requires small { first < 64 }
-{
-    let schedule = Schedule::new(rt.alloc(), first)?;
-    let mut outcomes = Outcomes::none();
-    for granted in 0..REQUESTS {
-        outcomes.note(refuse_run(rt, first, &schedule, granted, refused)?);
-        if outcomes.is_whole {
-            break;
-        }
-    }
-    outcomes.assert_all(rt);
-    Ok(())
-}
-
-#[test]
-fn runs_are_whole_or_refused(rt: HostRuntime) -> Result<(), Fail> {
-    for refused in [1, u64::MAX] {
-        refuse_runs(&rt, 16, refused)?;
-        refuse_runs(&rt, 32, refused)?;
-    }
-    Ok(())
 }
 
 /// Takes an event, and takes it once more where it is refused, which it notes. A refused step leaves as many buckets as there
@@ -289,6 +227,23 @@ fn take_again<R: Abort, A: Allocator + Copy>(
     }
 }
 
+/// Takes an event on both states, once more where it is refused, and answers whether it was: both leave as many buckets.
+fn take_both<R: Abort, A: Allocator + Copy>(
+    rt: &R,
+    ample: &mut State,
+    state: &mut State<A>,
+    event: Event,
+    lines: &mut String,
+) -> Result<bool, Fail> {
+    let mut refused = false;
+    ample.step(event)?;
+    if let Some(finished) = take_again(rt, state, event, &mut refused)? {
+        push_line(lines, &finished)?;
+    }
+    assert_eq!(rt; state.buckets(), ample.buckets());
+    Ok(refused)
+}
+
 /// Takes the schedule's events on memory of which one request is refused, and answers whether a step was refused: what the
 /// calls are told, and how many buckets there are after each event, is as with ample memory.
 fn take_all<R: Abort + AllocGlobal, A: Allocator + Copy>(
@@ -304,11 +259,9 @@ fn take_all<R: Abort + AllocGlobal, A: Allocator + Copy>(
     let mut lines = String::new(rt.alloc());
     let mut refused = false;
     for event in &schedule.events {
-        ample.step(*event)?;
-        if let Some(finished) = take_again(rt, &mut state, *event, &mut refused)? {
-            push_line(&mut lines, &finished)?;
+        if take_both(rt, &mut ample, &mut state, *event, &mut lines)? {
+            refused = true;
         }
-        assert_eq!(rt; state.buckets(), ample.buckets());
     }
     assert_eq!(rt; lines.as_str(), schedule.told.as_str());
     assert_eq!(rt; state.buckets(), schedule.buckets);
@@ -332,38 +285,17 @@ fn refuse_step<R: Abort + AllocGlobal>(
     })
 }
 
-/// Refuses each request of the schedule's steps in turn.
-fn refuse_steps<R: Abort + AllocGlobal>(rt: &R, first: u64) -> Result<(), Fail>
-    requires first { IsFirstCapacity first }
-    requires small { first < 64 }
-{
-    let schedule = Schedule::new(rt.alloc(), first)?;
-    let mut outcomes = Outcomes::none();
-    for granted in 0..REQUESTS {
-        outcomes.note(refuse_step(rt, first, &schedule, granted)?);
-        if outcomes.is_whole {
-            break;
-        }
-    }
-    outcomes.assert_all(rt);
-    Ok(())
-}
-
-#[test]
-fn refused_steps_can_be_taken_again(rt: HostRuntime) -> Result<(), Fail> {
-    refuse_steps(&rt, 16)?;
-    refuse_steps(&rt, 32)
-}
-
 /// Runs `core` over the schedule where one request is refused.
 fn refuse_command<R: Threads + Wait + Abort + AllocGlobal>(
     rt: &R,
-    words: &[&str],
+    first: u64,
     schedule: &Schedule,
     granted: u64,
 ) -> Result<Outcome, Fail> {
+    let word = format!(in rt.alloc(); "{first}")?;
+    let words = ["core", word.as_str()];
     let rule = Rule::new(0, usize::MAX, granted, 1);
-    let (ended, left) = run_refusing(rt, rule, words, schedule.input.as_bytes())?;
+    let (ended, left) = run_refusing(rt, rule, &words, schedule.input.as_bytes())?;
     let is_refused = is_refused(rt, &ended, schedule.told.as_str());
     assert!(rt; left == 0 || !is_refused);
     assert!(rt; granted > 0 || is_refused && ended.output.is_empty());
@@ -373,18 +305,49 @@ fn refuse_command<R: Threads + Wait + Abort + AllocGlobal>(
     })
 }
 
-/// Refuses each request of the command in turn.
-fn refuse_commands<R: Threads + Wait + Abort + AllocGlobal>(
+/// How a schedule is taken.
+#[derive(Clone, Copy)]
+enum Way {
+    /// By `run` or `run_with`, on memory that refuses so many requests.
+    Run(u64),
+    /// Step by step. A refused step is taken again.
+    Steps,
+    /// By the program.
+    Command,
+}
+
+const WAYS: [Way; 4] = [Way::Run(1), Way::Run(u64::MAX), Way::Steps, Way::Command];
+
+/// Takes the schedule where requests are refused after so many.
+fn refuse<R: Threads + Wait + Abort + AllocGlobal>(
     rt: &R,
-    words: &[&str],
+    way: Way,
+    first: u64,
+    schedule: &Schedule,
+    granted: u64,
+) -> Result<Outcome, Fail>
+    requires { IsFirstCapacity first }
+{
+    match way {
+        Way::Run(refused) => refuse_run(rt, first, schedule, granted, refused),
+        Way::Steps => refuse_step(rt, first, schedule, granted),
+        Way::Command => refuse_command(rt, first, schedule, granted),
+    }
+}
+
+/// Refuses each request of the schedule in turn.
+fn refuse_each<R: Threads + Wait + Abort + AllocGlobal>(
+    rt: &R,
+    way: Way,
     first: u64,
 ) -> Result<(), Fail>
     requires { first < 64 }
 {
+    assert!(rt; is_first_capacity(first));
     let schedule = Schedule::new(rt.alloc(), first)?;
     let mut outcomes = Outcomes::none();
     for granted in 0..REQUESTS {
-        outcomes.note(refuse_command(rt, words, &schedule, granted)?);
+        outcomes.note(refuse(rt, way, first, &schedule, granted)?);
         if outcomes.is_whole {
             break;
         }
@@ -394,9 +357,12 @@ fn refuse_commands<R: Threads + Wait + Abort + AllocGlobal>(
 }
 
 #[test]
-fn the_command_prints_whole_lines_until_it_is_refused(rt: HostRuntime) -> Result<(), Fail> {
-    refuse_commands(&rt, &["core", "16"], 16)?;
-    refuse_commands(&rt, &["core", "32"], 32)
+fn each_request_of_a_schedule_is_refused_in_turn(rt: HostRuntime) -> Result<(), Fail> {
+    for way in WAYS {
+        refuse_each(&rt, way, 16)?;
+        refuse_each(&rt, way, 32)?;
+    }
+    Ok(())
 }
 
 /// Whether a run was refused memory. Then it has printed some of the lines of a run with ample memory, from the first on and

@@ -1,7 +1,7 @@
 //! Readers and writers that fail, and replies that are there when the next line is asked for.
 use super::{assert_ended, run_on};
 use commands::program::run_words;
-use std::cell::RefCell;
+use std::cell::Cell;
 use std::io;
 use std::io::{ErrorKind, Read, Write};
 use std::process::Abort;
@@ -15,10 +15,31 @@ struct Failing<'a> {
     rest: &'a [u8],
     at_once: usize,
     calls_left: u64,
+    /// How many calls are interrupted, one before each that gives bytes.
+    interruptions: u64,
+    is_interrupted: bool,
+}
+
+impl<'a> Failing<'a> {
+    /// A reader that gives so many bytes at each of so many calls.
+    fn new(rest: &'a [u8], at_once: usize, calls_left: u64) -> Failing<'a> {
+        Failing {
+            rest,
+            at_once,
+            calls_left,
+            interruptions: 0,
+            is_interrupted: false,
+        }
+    }
 }
 
 impl Read for Failing<'_> {
     fn read(&mut self, buf: &mut [u8]) -> io::Result<usize> {
+        self.is_interrupted = !self.is_interrupted && self.interruptions > 0;
+        if self.is_interrupted {
+            self.interruptions -= 1;
+            return Err(io::Error::from(ErrorKind::Interrupted));
+        }
         if self.calls_left == 0 {
             return Err(io::Error::from(ErrorKind::Other));
         }
@@ -54,11 +75,7 @@ fn assert_given<R: Threads + Wait + AllocGlobal + Abort>(
     given: usize,
     fails: bool,
 ) -> Result<(), Fail> {
-    let reader = Failing {
-        rest: INPUT.as_bytes(),
-        at_once,
-        calls_left: given as u64,
-    };
+    let reader = Failing::new(INPUT.as_bytes(), at_once, given as u64);
     let ended = run_on(rt, rt.alloc(), &[], reader)?;
     let mut wanted = String::new(rt.alloc());
     replies_to(&mut wanted, given.saturating_mul(at_once))?;
@@ -80,28 +97,6 @@ fn a_reader_that_fails_at_each_call(rt: HostRuntime) -> Result<(), Fail> {
     Ok(())
 }
 
-/// A reader that gives so many bytes at a call, and is interrupted before each of them.
-#[derive(Drop)]
-struct Interrupted<'a> {
-    rest: &'a [u8],
-    at_once: usize,
-    is_next: bool,
-}
-
-impl Read for Interrupted<'_> {
-    fn read(&mut self, buf: &mut [u8]) -> io::Result<usize> {
-        self.is_next = !self.is_next;
-        if self.is_next {
-            return Err(io::Error::from(ErrorKind::Interrupted));
-        }
-        let count = self.at_once.min(buf.len()).min(self.rest.len());
-        let (now, later) = self.rest.split_at(count);
-        buf[..count].copy_from_slice(now);
-        self.rest = later;
-        Ok(count)
-    }
-}
-
 /// Asserts that all replies are printed where each read is interrupted first.
 fn assert_interrupted<R: Threads + Wait + AllocGlobal + Abort>(
     rt: &R,
@@ -109,11 +104,8 @@ fn assert_interrupted<R: Threads + Wait + AllocGlobal + Abort>(
 ) -> Result<(), Fail> {
     let mut wanted = String::new(rt.alloc());
     replies_to(&mut wanted, INPUT.len())?;
-    let reader = Interrupted {
-        rest: INPUT.as_bytes(),
-        at_once,
-        is_next: false,
-    };
+    let mut reader = Failing::new(INPUT.as_bytes(), at_once, u64::MAX);
+    reader.interruptions = u64::MAX;
     let ended = run_on(rt, rt.alloc(), &[], reader)?;
     assert_ended(rt, &ended, "an interrupted read", wanted.as_str(), "", 0);
     Ok(())
@@ -121,9 +113,10 @@ fn assert_interrupted<R: Threads + Wait + AllocGlobal + Abort>(
 
 #[test]
 fn an_interrupted_read_is_tried_again(rt: HostRuntime) -> Result<(), Fail> {
-    assert_interrupted(&rt, 1)?;
-    assert_interrupted(&rt, 7)?;
-    assert_interrupted(&rt, 100)
+    for at_once in [1, 7, 100] {
+        assert_interrupted(&rt, at_once)?;
+    }
+    Ok(())
 }
 
 /// Asserts how a run ends whose reader fails after so many thousand bytes of one line.
@@ -132,11 +125,7 @@ fn assert_fails_in_a_line<R: Threads + Wait + AllocGlobal + Abort>(
     given: u64,
 ) -> Result<(), Fail> {
     let long = vec![in rt.alloc(); b'0'; 100_000]?;
-    let reader = Failing {
-        rest: long.as_slice(),
-        at_once: 1000,
-        calls_left: given,
-    };
+    let reader = Failing::new(long.as_slice(), 1000, given);
     let ended = run_on(rt, rt.alloc(), &[], reader)?;
     assert_ended(rt, &ended, "a long line", "", "read failed\n", 1);
     Ok(())
@@ -144,16 +133,29 @@ fn assert_fails_in_a_line<R: Threads + Wait + AllocGlobal + Abort>(
 
 #[test]
 fn a_reader_that_fails_in_a_long_line(rt: HostRuntime) -> Result<(), Fail> {
-    assert_fails_in_a_line(&rt, 1)?;
-    assert_fails_in_a_line(&rt, 2)?;
-    assert_fails_in_a_line(&rt, 50)
+    for given in [1, 2, 50] {
+        assert_fails_in_a_line(&rt, given)?;
+    }
+    Ok(())
 }
 
-/// A writer over memory that fails from some call on.
+/// A writer over memory that fails from some call on, and notes how many bytes it was given.
 #[derive(Drop)]
 struct Full<'a> {
     kept: &'a mut Vec<u8>,
     calls_left: u64,
+    count: &'a Cell<usize>,
+}
+
+impl<'a> Full<'a> {
+    /// A writer that fails after so many calls.
+    fn new(kept: &'a mut Vec<u8>, calls_left: u64, count: &'a Cell<usize>) -> Full<'a> {
+        Full {
+            kept,
+            calls_left,
+            count,
+        }
+    }
 }
 
 impl Write for Full<'_> {
@@ -163,6 +165,7 @@ impl Write for Full<'_> {
         }
         self.calls_left -= 1;
         self.kept.extend_from_slice(buf)?;
+        self.count.set(self.kept.len());
         Ok(buf.len())
     }
 
@@ -191,16 +194,10 @@ fn assert_writes<R: Threads + Wait + AllocGlobal + Abort>(
     given: usize,
 ) -> Result<(), Fail> {
     // One byte is read at a time, so each reply is written by a call of its own, before the next line is read.
-    let reader = Failing {
-        rest: INPUT.as_bytes(),
-        at_once: 1,
-        calls_left: u64::MAX,
-    };
+    let reader = Failing::new(INPUT.as_bytes(), 1, u64::MAX);
     let mut output = Vec::new(rt.alloc());
-    let mut writer = Full {
-        kept: &mut output,
-        calls_left: given as u64,
-    };
+    let count = Cell::new(0);
+    let mut writer = Full::new(&mut output, given as u64, &count);
     if given < REPLIES.len() {
         assert_run(rt, reader, &mut writer, "write failed\n", 1);
     } else {
@@ -226,10 +223,8 @@ fn a_writer_that_fails_at_each_call(rt: HostRuntime) -> Result<(), Fail> {
 fn the_first_failure_wins(rt: HostRuntime) {
     // The reply before the bad line cannot be written.
     let mut output = Vec::new(rt.alloc());
-    let mut writer = Full {
-        kept: &mut output,
-        calls_left: 0,
-    };
+    let count = Cell::new(0);
+    let mut writer = Full::new(&mut output, 0, &count);
     let input = b"i 0 1\nx\n".as_slice();
     assert_run(&rt, input, &mut writer, "write failed\n", 1);
 
@@ -242,10 +237,8 @@ fn the_first_failure_wins(rt: HostRuntime) {
 fn assert_dropped<R: Threads + Wait + AllocGlobal + Abort>(rt: &R, words: &[&str]) {
     let mut output = Vec::new(rt.alloc());
     let mut messages = Vec::new(rt.alloc());
-    let mut writer = Full {
-        kept: &mut messages,
-        calls_left: 0,
-    };
+    let count = Cell::new(0);
+    let mut writer = Full::new(&mut messages, 0, &count);
     let input = b"n\nx\n".as_slice();
     let status = run_words(rt, rt.alloc(), words, input, &mut output, &mut writer);
     assert_eq!(rt; status, 2);
@@ -258,27 +251,18 @@ fn a_message_that_cannot_be_written_is_dropped(rt: HostRuntime) {
     assert_dropped(&rt, &["calls", "24"]);
 }
 
-/// The error of a log that is in use.
-fn busy() -> io::Error {
-    io::Error::from(ErrorKind::ResourceBusy)
-}
-
 /// A reader that gives a line at a call, and notes how many bytes were written by then.
 #[derive(Drop)]
 struct Asking<'a> {
     lines: &'a [&'static str],
     asked: usize,
-    written: &'a RefCell<Vec<u8>>,
-    seen: &'a RefCell<Vec<usize>>,
+    written: &'a Cell<usize>,
+    seen: &'a mut Vec<usize>,
 }
 
 impl Read for Asking<'_> {
     fn read(&mut self, buf: &mut [u8]) -> io::Result<usize> {
-        let written = self.written.try_borrow().map_err(|_used| busy())?.len();
-        self.seen
-            .try_borrow_mut()
-            .map_err(|_used| busy())?
-            .push(written)?;
+        self.seen.push(self.written.get())?;
         let Some(line) = self.lines.get(self.asked) else {
             return Ok(0);
         };
@@ -289,29 +273,12 @@ impl Read for Asking<'_> {
     }
 }
 
-/// A writer into the same log.
-#[derive(Drop)]
-struct Logged<'a>(&'a RefCell<Vec<u8>>);
-
-impl Write for Logged<'_> {
-    fn write(&mut self, buf: &[u8]) -> io::Result<usize> {
-        self.0
-            .try_borrow_mut()
-            .map_err(|_used| busy())?
-            .extend_from_slice(buf)?;
-        Ok(buf.len())
-    }
-
-    fn flush(&mut self) -> io::Result<()> {
-        Ok(())
-    }
-}
-
 /// A writer that takes a byte at a call, and sends what it took when it is flushed.
 #[derive(Drop)]
 struct Keeping<'a> {
     kept: Vec<u8>,
-    sent: &'a RefCell<Vec<u8>>,
+    sent: &'a mut Vec<u8>,
+    count: &'a Cell<usize>,
 }
 
 impl Write for Keeping<'_> {
@@ -324,56 +291,54 @@ impl Write for Keeping<'_> {
     }
 
     fn flush(&mut self) -> io::Result<()> {
-        self.sent
-            .try_borrow_mut()
-            .map_err(|_used| busy())?
-            .extend_from_slice(self.kept.as_slice())?;
+        self.sent.extend_from_slice(self.kept.as_slice())?;
+        self.count.set(self.sent.len());
         self.kept.clear();
         Ok(())
     }
 }
 
-/// Runs five lines, and looks into the log each time that the next one is asked for.
+/// Runs five lines, and looks each time that the next one is asked for how many bytes the writer has sent.
 fn assert_replies_before_reads<R: Threads + Wait + AllocGlobal + Abort, W: Write>(
     rt: &R,
-    written: &RefCell<Vec<u8>>,
+    written: &Cell<usize>,
     writer: &mut W,
-) -> Result<(), Fail> {
+) {
     let lines = ["i 0 1\n", "i 0 1\n", "l 0 1\n", "n\n", "w"];
-    let seen = RefCell::new(Vec::new(rt.alloc()));
+    let mut seen = Vec::new(rt.alloc());
     let mut messages = Vec::new(rt.alloc());
     let reader = Asking {
         lines: &lines,
         asked: 0,
         written,
-        seen: &seen,
+        seen: &mut seen,
     };
     let status = run_words(rt, rt.alloc(), &["calls"], reader, writer, &mut messages);
     assert_eq!(rt; status, 0);
     // 0 bytes before the first line, then those of one reply more at each call; the last part is no line before the end.
-    assert_eq!(rt;
-        seen.into_inner().as_slice(),
-        [0, 7, 13, 20, 22, 22].as_slice()
-    );
-    assert_eq!(rt;
-        written.try_borrow().map_err(|_used| busy())?.as_slice(),
-        b"placed\nfound\nsome 1\n1\n[1]\n".as_slice()
-    );
-    Ok(())
+    assert_eq!(rt; seen.as_slice(), [0, 7, 13, 20, 22, 22].as_slice());
+}
+
+const SENT: &[u8] = b"placed\nfound\nsome 1\n1\n[1]\n";
+
+#[test]
+fn each_reply_is_there_when_the_next_line_is_asked_for(rt: HostRuntime) {
+    let count = Cell::new(0);
+    let mut sent = Vec::new(rt.alloc());
+    assert_replies_before_reads(&rt, &count, &mut Full::new(&mut sent, u64::MAX, &count));
+    assert_eq!(rt; sent.as_slice(), SENT);
 }
 
 #[test]
-fn each_reply_is_there_when_the_next_line_is_asked_for(rt: HostRuntime) -> Result<(), Fail> {
-    let written = RefCell::new(Vec::new(rt.alloc()));
-    assert_replies_before_reads(&rt, &written, &mut Logged(&written))
-}
-
-#[test]
-fn a_writer_that_keeps_what_it_takes_is_flushed(rt: HostRuntime) -> Result<(), Fail> {
-    let sent = RefCell::new(Vec::new(rt.alloc()));
+fn a_writer_that_keeps_what_it_takes_is_flushed(rt: HostRuntime) {
+    let count = Cell::new(0);
+    let mut sent = Vec::new(rt.alloc());
     let mut writer = Keeping {
         kept: Vec::new(rt.alloc()),
-        sent: &sent,
+        sent: &mut sent,
+        count: &count,
     };
-    assert_replies_before_reads(&rt, &sent, &mut writer)
+    assert_replies_before_reads(&rt, &count, &mut writer);
+    drop(writer);
+    assert_eq!(rt; sent.as_slice(), SENT);
 }

@@ -1,4 +1,5 @@
 use Rattle.std.proofs.Common.{arith}
+use Rattle.std.proofs.lemmas.Grind.{common_steps}
 use Rattle.commands.proofs.LetterCalls.{no_insert, no_lookup}
 use Rattle.commands.proofs.spelling.parse_line.Goals as goal
 
@@ -7,3 +8,6 @@ returns-in_err-hash-in-105-clause-bad c = rw c.from_residual.ensures (no_insert 
 
 pub returns-in_err-hash-in-108-clause-bad : goal.returns-in_err-hash-in-108-clause-bad
 returns-in_err-hash-in-108-clause-bad c = rw c.from_residual-in_err-hash-in-108.ensures (no_lookup _ (omega arith) (omega arith) c.in_err-hash-in-108.ensures.bad)
+
+pub returns-in_ok-hash-in-108-clause-spelled : goal.returns-in_ok-hash-in-108-clause-spelled
+returns-in_ok-hash-in-108-clause-spelled c = grind (arith, common_steps)

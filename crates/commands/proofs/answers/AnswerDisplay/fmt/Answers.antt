@@ -1,4 +1,5 @@
-use Rattle.std.proofs.Common.{append_assoc}
+use Rattle.std.proofs.Common.{arith, append_assoc}
+use Rattle.std.proofs.lemmas.Grind.{common_steps}
 use Rattle.commands.proofs.NumberLists.{debug_list-numbers}
 use Rattle.commands.proofs.answers.AnswerDisplay.fmt.Goals as goal
 
@@ -6,3 +7,6 @@ pub returns-in-Walk-clause-writes : goal.returns-in-Walk-clause-writes
 returns-in-Walk-clause-writes g c =
     rw (← c.finished.view_is, c.in-Walk.is, append_assoc)
     (rw (debug_list-numbers c.in-Walk.entries.items) at c.write-in-Walk.ensures.writes)
+
+pub returns-in-Found-clause-writes : goal.returns-in-Found-clause-writes
+returns-in-Found-clause-writes g c = grind (arith, common_steps)

@@ -55,6 +55,7 @@ returns-in-WalkAt g c =
           let f : finds w d.state c.args.event ≡ Some c.in-Some.answer = finds_same w c.args.self.now _ _ c.args.event _ c.in-Some.answer c.self.view_is s c.answer.ensures c.in-Some.is in
           go_told w c.args.self.now d c.args.event c.in-Some.answer _ c.self.view_is f (c.in_ok-reply.ensures.reply d k);
       err = tt;
+      asks = λ d h. tt;
     }
 
 pub returns : goal.returns
@@ -80,4 +81,5 @@ returns g c =
           let f : finds w d.state c.args.event ≡ Some c.in-Some.answer = finds_same w c.args.self.now _ _ c.args.event _ c.in-Some.answer c.self.view_is s c.answer.ensures c.in-Some.is in
           go_told w c.args.self.now d c.args.event c.in-Some.answer _ c.self.view_is f (c.tell-reply.ensures ∙ ap (λ x. reply c.self.inside.table x c.in-Some.answer) same);
       err = tt;
+      asks = λ d h. tt;
     }

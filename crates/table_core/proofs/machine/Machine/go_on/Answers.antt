@@ -1,10 +1,10 @@
-use Rattle.std.proofs.Common.{◌≡◌, ap, sym, ◌∙◌, Some, None}
+use Rattle.std.proofs.Common.{◌≡◌, ap, sym, ◌∙◌, Some, None, rules}
 use Rattle.std.specs.Option.{option_map}
 use Rattle.std.proofs.lemmas.Option.{slice_get_within}
 use Rattle.table_core.specs.Replies.{reply_of}
-use Rattle.table_core.specs.Machine.{World, number_of, finished_call}
+use Rattle.table_core.specs.Machine.{World, number_of, finished_call, AsksMemory}
 use Rattle.table_core.specs.Bound.{position_of}
-use Rattle.table_core.proofs.CodeEvents.{at_position, nothing_there, happens_at, reply_at, happens_none, reply_none}
+use Rattle.table_core.proofs.CodeEvents.{at_position, nothing_there, happens_at, reply_at, happens_none, reply_none, asks_at}
 use Rattle.table_core.proofs.machine.Machine.go_on.Goals as goal
 
 pub go-requires-clause-within : goal.go-requires-clause-within
@@ -48,3 +48,10 @@ returns-in-None-clause-reply g c =
     let a = at_position (number_of c.args.event) c.args.self.now.calls c.in-Some.at p in
     ap (finished_call (number_of c.args.event)) (ap (option_map reply_of) (sym c.in-None.is) ∙ c.in_ok-reply.ensures.reply a.call a.there)
     ∙ reply_at c.args.self.now c.args.event c.in-Some.at a c.call-call.ensures.in_range c.requires.going
+
+pub returns-in_err-reply-clause-asks : goal.returns-in_err-reply-clause-asks
+returns-in_err-reply-clause-asks g c =
+    let p : position_of (number_of c.args.event) c.args.self.now.calls ≡ Some c.in-Some.at = ap (position_of (number_of c.args.event)) (ap (λ (w : World). w.calls) (sym c.self.view_is)) ∙ ap (λ n. position_of n c.self.inside.calls) (sym c.call-call.ensures.number) ∙ sym c.in-Some.ensures in
+    let a = at_position (number_of c.args.event) c.args.self.now.calls c.in-Some.at p in
+    let h : AsksMemory c.args.self.now c.args.event = asks_at c.args.self.now c.args.event c.in-Some.at a c.call-call.ensures.in_range c.requires.going (c.in_err-reply.ensures.asks a.call a.there) in
+    search rules

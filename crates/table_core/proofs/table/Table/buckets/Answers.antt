@@ -1,4 +1,4 @@
-use Rattle.std.proofs.Common.{◌≡◌, ◌∙◌, ◌+◌, ap, arith}
+use Rattle.std.proofs.Common.{◌≡◌, ◌∙◌, ◌+◌, ap, arith, rules}
 use Rattle.std.specs.Prelude.{option_to_list, sum_by}
 use Rattle.table_core.specs.Generations.{Gen}
 use Rattle.table_core.proofs.CodeTable.{table_fits}
@@ -14,3 +14,6 @@ overflow_add-result g c =
     let q : c.capacity_of-buckets.result ≡ sum_by (λ (g : Gen). g.capacity) c.self.inside.generations.items = c.capacity_of-buckets.ensures ∙ ap (sum_by (λ (g : Gen). g.capacity)) c.as_slice.ensures.value in
     let r = c.capacity.ensures.value in
     omega arith
+
+pub returns-in-Some : goal.returns-in-Some
+returns-in-Some g c = search rules

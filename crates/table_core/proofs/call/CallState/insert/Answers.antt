@@ -1,0 +1,4 @@
+use Rattle.table_core.proofs.call.CallState.insert.Goals as goal
+
+pub returns : goal.returns
+returns c = c.in_first_phase.ensures
