@@ -110,9 +110,7 @@ impl<R: Read> Lines<R> {
         }
         let start = self.start;
         let rest = self.end - start;
-        for index in 0..rest {
-            self.block[index] = self.block[start + index];
-        }
+        self.block[..].copy_within(start..self.end, 0);
         self.start = 0;
         self.searched = rest;
         self.end = rest;
