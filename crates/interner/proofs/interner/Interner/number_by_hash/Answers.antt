@@ -13,3 +13,9 @@ pub returns-clause-finds : goal.returns-clause-finds
 returns-clause-finds g c = rw (← c.self.view_is)
     (looks_up (λ name. name.value) (λ name. string_bytes name.text) (λ name. non_zero_u32_get name.number) _ _ _ c.args.text.now _ (Some c.in_ok-name.name.now)
     c.self.invariant (λ v answer s. search rules) c.requires c.in_ok-name.ensures.as_list)
+
+pub returns-in_err-name-clause-different : goal.returns-in_err-name-clause-different
+returns-in_err-name-clause-different g c = rw (← c.self.view_is) c.self.invariant.different
+
+pub returns-clause-different : goal.returns-clause-different
+returns-clause-different g c = rw (← c.self.view_is) c.self.invariant.different
