@@ -3,8 +3,8 @@
 
     tools/pages.py [--check]
 
-With --check it writes nothing, and ends by 1 where that page isn't what it would write, or where a block of docs/EXAMPLE.md isn't part
-of the file that is named right above it.
+With --check it writes nothing, and ends by 1 where that page isn't what it would write, or where a block of README.md or docs/EXAMPLE.md
+isn't part of the file that is named right above it.
 """
 import pathlib
 import re
@@ -138,9 +138,10 @@ def check(text):
     """What is stale in the pages, or 0."""
     if PAGE.read_text() != text:
         return "docs/CALLS.md is stale: run tools/pages.py"
-    for name, block in quotes((TOP / "docs" / "EXAMPLE.md").read_text()):
-        if block not in (TOP / name).read_text():
-            return f"docs/EXAMPLE.md quotes {name} as it isn't"
+    for quoting in ("README.md", "docs/EXAMPLE.md"):
+        for name, block in quotes((TOP / quoting).read_text()):
+            if block not in (TOP / name).read_text():
+                return f"{quoting} quotes {name} as it isn't"
     return 0
 
 
