@@ -3,8 +3,8 @@ ghost use Rattle.std.specs.Prelude.{◌≡◌, IfOk, string_bytes};
 ghost use Rattle.std.specs.Int.NonZero.{non_zero_u32_get};
 ghost use Rattle.interner.specs.Texts.{text_hash};
 
-use lock_free_hashtable::atomic_value::AtomicValue;
 use lock_free_hashtable::Law;
+use lock_free_hashtable::atomic_value::AtomicValue;
 use std::alloc::{AllocError, Allocator};
 use std::num::NonZeroU32;
 
