@@ -4,9 +4,9 @@ ghost use Rattle.std.specs.Int.NonZero.{non_zero_u32_get};
 ghost use Rattle.interner.specs.Texts.{text_hash};
 
 use lock_free_hashtable::Law;
+use lock_free_hashtable::atomic_value::AtomicValue;
 use std::alloc::{AllocError, Allocator};
 use std::num::NonZeroU32;
-use std::sync::Arc;
 
 /// A text and its number.
 #[derive(Drop)]
@@ -16,13 +16,24 @@ pub struct Name<A: Allocator> {
 }
 
 impl<A: Allocator + Copy> Name<A> {
-    /// A name on the heap.
-    pub fn shared(alloc: A, text: &str, number: NonZeroU32) -> Result<Arc<Name<A>, A>, AllocError>
-        ensures text { IfOk result (λ name. string_bytes name.value.text ≡ text.now) }
-        ensures number { IfOk result (λ name. name.value.number ≡ number) }
+    /// The name of a copy of the text.
+    pub fn new(alloc: A, text: &str, number: NonZeroU32) -> Result<Name<A>, AllocError>
+        ensures text { IfOk result (λ name. string_bytes name.text ≡ text.now) }
+        ensures number { IfOk result (λ name. name.number ≡ number) }
     {
         let text = String::from_str(alloc, text)?;
-        Ok(Arc::new(alloc, Name { text, number })?)
+        Ok(Name { text, number })
+    }
+}
+
+/// A name is compared, hashed and shown by itself.
+impl<A: Allocator> AtomicValue for Name<A> {
+    type Target = Name<A>;
+
+    ghost target = { λ name. name };
+
+    fn deref(&self) -> &Name<A> {
+        self
     }
 }
 

@@ -18,9 +18,27 @@ pub fn measure_interner<R: Print + Eprint + Clock + AllocGlobal>(
     group: &str,
 ) -> io::Result<()> {
     match group {
-        "1e4" => measure_texts(rt, report, 10_000, 100, ["new_1e4", "known_1e4", "back_1e4"]),
-        "1e5" => measure_texts(rt, report, 100_000, 10, ["new_1e5", "known_1e5", "back_1e5"]),
-        "1e6" => measure_texts(rt, report, 1_000_000, 1, ["new_1e6", "known_1e6", "back_1e6"]),
+        "1e4" => measure_texts(
+            rt,
+            report,
+            10_000,
+            100,
+            ["new_1e4", "known_1e4", "back_1e4"],
+        ),
+        "1e5" => measure_texts(
+            rt,
+            report,
+            100_000,
+            10,
+            ["new_1e5", "known_1e5", "back_1e5"],
+        ),
+        "1e6" => measure_texts(
+            rt,
+            report,
+            1_000_000,
+            1,
+            ["new_1e6", "known_1e6", "back_1e6"],
+        ),
         _ => refuse_words(rt),
     }
 }
@@ -113,7 +131,9 @@ fn texts_back<A: Allocator + Copy>(interner: &Interner<A>, count: u32) -> u64 {
     for index in 1..=count {
         if let Some(number) = NonZeroU32::new(index) {
             match interner.text_alone(number) {
-                Some(text) if text.as_bytes().first() == Some(&b'n') => shown = shown.wrapping_add(1),
+                Some(text) if text.as_bytes().first() == Some(&b'n') => shown = shown.wrapping_add(
+                    1,
+                ),
                 _ => {}
             }
         }
