@@ -1,4 +1,4 @@
-//! An allocator for tests, which refuses the requests that a rule names.
+//! An allocator for tests, which refuses the requests that a rule names, and counts the blocks that it grants and gets back.
 #![tactic(auto)]
 
 ghost use Rattle.std.specs.Prelude.{◌≡◌, ◌↔◌, IsTrue};
@@ -14,6 +14,8 @@ pub struct Rule {
     most: usize,
     passing: AtomicU64,
     refused: AtomicU64,
+    granted: AtomicU64,
+    given_back: AtomicU64,
 }
 
 impl Rule {
@@ -28,6 +30,8 @@ impl Rule {
             most,
             passing: AtomicU64::new(passing),
             refused: AtomicU64::new(refused),
+            granted: AtomicU64::new(0),
+            given_back: AtomicU64::new(0),
         }
     }
 
@@ -39,12 +43,23 @@ impl Rule {
     }
 }
 
-/// Whether the rule refuses a request of this size, which it then counts.
+/// Whether the rule refuses a request of this size, which it then counts. A request that it doesn't refuse is granted.
 fn refuses(rule: &Rule, size: usize) -> bool {
-    if !rule.counts(size) || take_one(&rule.passing) {
-        return false;
+    let passes = !rule.counts(size) || take_one(&rule.passing) || !take_one(&rule.refused);
+    if passes {
+        add_one(&rule.granted);
     }
-    take_one(&rule.refused)
+    !passes
+}
+
+/// Counts a block that is given back.
+fn count_given_back(rule: &Rule) {
+    add_one(&rule.given_back);
+}
+
+/// Adds one to the count.
+fn add_one(count: &AtomicU64) {
+    count.fetch_add(1, Ordering::SeqCst);
 }
 
 /// Takes one from the count, unless it is 0. Of threads that ask at once, no two take the same one.
@@ -75,6 +90,16 @@ impl<B: Allocator> Refusing<B> {
     pub fn refusals_left(&self) -> u64 {
         self.rule.refused.load(Ordering::SeqCst)
     }
+
+    /// How many requests were passed on to the memory below: so many blocks were granted, where that refused none.
+    pub fn granted(&self) -> u64 {
+        self.rule.granted.load(Ordering::SeqCst)
+    }
+
+    /// How many blocks were given back.
+    pub fn given_back(&self) -> u64 {
+        self.rule.given_back.load(Ordering::SeqCst)
+    }
 }
 
 impl<B: Allocator> Drop for Refusing<B> {
@@ -86,6 +111,8 @@ impl<B: Allocator> Drop for Refusing<B> {
                 most: _,
                 passing: _,
                 refused: _,
+                granted: _,
+                given_back: _,
             },
         } = self;
     }
@@ -102,6 +129,7 @@ unsafe impl<B: Allocator> Allocator for Refusing<B> {
     }
 
     unsafe fn deallocate(&self, ptr: *mut u8, size: usize, align: usize) {
+        count_given_back(&self.rule);
         self.inner.deallocate(ptr, size, align);
     }
 }

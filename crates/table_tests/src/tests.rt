@@ -1,4 +1,5 @@
 //! The table held alone, run.
+mod blocks;
 mod careless;
 mod drops;
 mod growth;

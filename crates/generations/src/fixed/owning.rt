@@ -1,5 +1,5 @@
 //! The values of one generation, taken out of it once its home has ended.
-ghost use Rattle.std.specs.Prelude.{◌≡◌};
+ghost use Rattle.std.specs.Prelude.{◌≡◌, []};
 ghost use Rattle.std.specs.Iterator.{YieldsFirst};
 ghost use Rattle.generations.specs.Buckets.{owned_values};
 
@@ -11,7 +11,7 @@ use std::marker::Model;
 use std::vec;
 
 /// The values that the buckets of a generation own, in the order of the buckets, seen as the list of those that are left.
-/// `end` drops the rest; who drops it in another way leaves their blocks unfreed.
+/// `drop_rest` drops them; who lets it go with values left leaves their blocks unfreed.
 #[derive(Drop)]
 pub struct OwnValues<T: AtomicValue, A: Allocator + Copy> {
     alloc: A,
@@ -47,12 +47,12 @@ impl<T: AtomicValue, A: Allocator + Copy> OwnValues<T, A> {
         None
     }
 
-    /// Drops the values that are left, and frees their blocks.
-    pub fn end(self, closed: &Closed)
-        requires { self.home ≡ closed.now.id }
+    /// Drops the values that are left, and frees their blocks: none is left.
+    pub fn drop_rest(&mut self, closed: &Closed)
+        requires { self.old.home ≡ closed.now.id }
+        ensures { self.new.values ≡ [] }
     {
-        let mut rest = self;
-        while let Some(value) = rest.next_value(closed) {
+        while let Some(value) = self.next_value(closed) {
             drop(value);
         }
     }

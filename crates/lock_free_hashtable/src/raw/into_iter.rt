@@ -99,13 +99,14 @@ impl<T: AtomicValue, A: Allocator + Copy> Drop for IntoIter<T, A> {
     fn drop(self) {
         let IntoIter {
             closed,
-            values,
+            mut values,
             earlier,
             left: _,
         } = self;
-        values.end(&closed);
+        values.drop_rest(&closed);
         for generation in earlier {
-            generation.into_own_values().end(&closed);
+            let mut values = generation.into_own_values();
+            values.drop_rest(&closed);
         }
     }
 }
