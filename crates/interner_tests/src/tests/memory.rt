@@ -13,7 +13,7 @@ const TEXTS: [&str; 9] = [
 /// More requests than these texts make.
 const ENOUGH: u64 = 100;
 
-/// The requests of the third text: two copies of it, and a block of the table.
+/// The requests of the third text: room in the vector, its text and its name.
 const REQUESTS_OF_THIRD: u32 = 3;
 
 /// The interner knows the first `known` texts and nothing else.
