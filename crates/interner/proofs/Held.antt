@@ -18,20 +18,30 @@ module _ {T V : Type 0} (target : T → V) (text : V → List ℕ) (number : V �
   abbrev text_of : T → List ℕ
   text_of e = text (target e)
 
-  -- a name that the table stands for has the number of its text
-  has_number : (texts : List (List ℕ)) (t : HeldTable T) (kept : IsKept target text number texts t) (e : T) → Contains kept.names e → HasNumber texts (text_of e) (number (target e))
-  has_number texts t kept e (k, below, at) =
-      let there : slice_get kept.names k ≡ Some e = slice_get-get_or kept.names k e below ∙ ap Some at in
-      let numbered : number (target e) ≡ k + 1 = kept.numbered k e there in
-      let before : number (target e) - 1 ≡ k = omega arith in
-      let texts_at : slice_get (map text_of kept.names) k ≡ Some (text_of e) = rw (slice_get-map text_of kept.names k, there) refl in
-      (omega arith, rw (before, ← kept.texts_are) texts_at)
+  -- lists of the same targets have the same texts
+  same_texts : (M values : List T) → map target M ≡ map target values → map text_of M ≡ map text_of values
+  same_texts [] [] is = refl
+  same_texts [] (v ∷ values) is = absurd (cc)
+  same_texts (e ∷ M) [] is = absurd (cc)
+  same_texts (e ∷ M) (v ∷ values) is =
+      let head : target e ≡ target v = cc in
+      let tail : map target M ≡ map target values = cc in
+      let rest = same_texts M values tail in
+      rw (head, rest)
 
-  -- and its text is one of the texts
-  among_texts_of : (texts : List (List ℕ)) (t : HeldTable T) (kept : IsKept target text number texts t) (e : T) → Contains kept.names e → Contains texts (text_of e)
-  among_texts_of texts t kept e (k, below, at) =
-      let among : Contains (map text_of kept.names) (text_of e) = (k, rw length-map below, get_or-map text_of kept.names k e ∙ ap text_of at) in
-      rw kept.texts_are at among
+  -- what is in one of them stands at a place of the other
+  named : (M values : List T) (e : T) → map target M ≡ map target values → Contains M e → (k : ℕ) × (k < length values) × (target (get_or values k e) ≡ target e)
+  named M values e is (k, within, at) =
+      let lengths : length M ≡ length values = sym (length-map M target) ∙ ap length is ∙ length-map values target in
+      (k, omega arith, sym (get_or-map target values k e) ∙ ap (λ vs. get_or vs k (target e)) (sym is) ∙ get_or-map target M k e ∙ ap target at)
+
+  -- the value at place k of an interner has the text and the number of that place
+  has_number : (values : List T) (t : HeldTable T) (k : ℕ) (e : T) → IsKept target text number values t → k < length values → target (get_or values k e) ≡ target e → HasNumber (map text_of values) (text_of e) (number (target e))
+  has_number values t k e kept within is =
+      let at : slice_get values k ≡ Some (get_or values k e) = slice_get-get_or values k e within in
+      let numbered : number (target e) ≡ k + 1 = rw is at (kept.numbered k (get_or values k e) at) in
+      let before : number (target e) - 1 ≡ k = omega arith in
+      (omega arith, rw (before, slice_get-map text_of values k, at, is))
 
   -- where none of these has the text, it is not among their texts
   not_among : (M : List T) (x : List ℕ) → ((e : T) → Contains M e → bytes_eq (text_of e) x ≡ false) → ¬ Contains (map text_of M) x
@@ -62,24 +72,26 @@ module _ {T V : Type 0} (target : T → V) (text : V → List ℕ) (number : V �
   ShowsNumber texts x (Some v) = HasNumber texts x (number v)
   ShowsNumber texts x None = ¬ Contains texts x
 
-  shows : (texts : List (List ℕ)) (t : HeldTable T) (x : List ℕ) (shown : Option V) (reply : ListReply T) (kept : IsKept target text number texts t) → LookupReplies target shown reply
-      → Answers (equal target (same_by_text text) (hash_by_text text)) kept.names (Lookup (λ e. has_text x (target e))) reply kept.names → ShowsNumber texts x shown
-  shows texts t x None reply kept replies answers =
+  shows : (values M : List T) (t : HeldTable T) (x : List ℕ) (shown : Option V) (reply : ListReply T) → IsKept target text number values t → map target M ≡ map target values
+      → LookupReplies target shown reply → Answers (equal target (same_by_text text) (hash_by_text text)) M (Lookup (λ e. has_text x (target e))) reply M → ShowsNumber (map text_of values) x shown
+  shows values M t x None reply kept is replies answers =
       let told = rw replies at answers in
-      rw kept.texts_are at (not_among kept.names x told.0)
-  shows texts t x (Some v) reply kept (e, shown_is, replies) answers =
+      rw (← same_texts M values is) (not_among M x told.0)
+  shows values M t x (Some v) reply kept is (e, shown_is, replies) answers =
       let told = rw replies at answers in
-      let has : HasNumber texts (text_of e) (number (target e)) = has_number texts t kept e told.0.0 in
+      let found = named M values e is told.0.0 in
+      let has : HasNumber (map text_of values) (text_of e) (number (target e)) = has_number values t found.0 e kept found.1 found.2 in
       let text_is : text_of e ≡ x = (bytes_eq-Decides (text_of e) x).0 told.0.1 in
       rw shown_is (rw text_is at has)
 
-  pub looks_up : (answers : V → Bool → Type 0) (texts : List (List ℕ)) (t : HeldTable T) (x : List ℕ) (hash : ℕ) (shown : Option V) → IsKept target text number texts t
+  pub looks_up : (answers : V → Bool → Type 0) (values : List T) (t : HeldTable T) (x : List ℕ) (hash : ℕ) (shown : Option V) → IsKept target text number values t
       → ((v : V) (answer : Bool) → answers v answer → answer ≡ has_text x v) → hash ≡ text_hash x
-      → LooksUpAsList target (same_by_text text) (hash_by_text text) answers t hash shown → ShowsNumber texts x shown
-  looks_up answers texts t x hash shown kept test_is hash_is as_list =
+      → LooksUpAsList target (same_by_text text) (hash_by_text text) answers t hash shown → ShowsNumber (map text_of values) x shown
+  looks_up answers values t x hash shown kept test_is hash_is as_list =
+      let held = kept.held in
       let at_hash : LooksUpAsList target (same_by_text text) (hash_by_text text) answers t (text_hash x) shown = rw hash_is at as_list in
-      let told = at_hash (has_text x) (lawful_lookup t answers x test_is kept.lawful) kept.names kept.stands in
-      shows texts t x shown told.0 kept told.1 told.2
+      let told = at_hash (has_text x) (lawful_lookup t answers x test_is kept.lawful) held.0 held.1 in
+      shows values held.0 t x shown told.0 kept held.2 told.1 told.2
 
   -- what an insert is told by the list of the entries
   module _ (M N : List T) (value : T) (reply : ListReply T) where
@@ -98,12 +110,13 @@ module _ {T V : Type 0} (target : T → V) (text : V → List ℕ) (number : V �
     found back (Some e) s h = let told = rw s at h in (e, told.0.0, (bytes_eq-Decides (text_of value) (text_of e)).0 told.0.1)
 
   -- an insert of a value whose text is new, by closures that answer as texts do
-  module _ (eq : V → V → Bool → Type 0) (rehash : V → ℕ → Type 0) (texts : List (List ℕ)) (t new : HeldTable T) (hash : ℕ) (value : T) (x : List ℕ)
-      (kept : IsKept target text number texts t)
+  module _ (eq : V → V → Bool → Type 0) (rehash : V → ℕ → Type 0) (values : List T) (t new : HeldTable T) (hash : ℕ) (value : T) (x : List ℕ) (texts : List (List ℕ))
+      (kept : IsKept target text number values t)
       (eq_is : (a b : V) (answer : Bool) → eq a b answer → answer ≡ same_by_text text a b)
       (rehash_is : (a : V) (h : ℕ) → rehash a h → h ≡ hash_by_text text a)
       (hash_is : hash ≡ text_hash x)
       (text_is : text_of value ≡ x)
+      (texts_are : map text_of values ≡ texts)
       (is_new : ¬ Contains texts x) where
     lawful_insert : IsLawfulInsert target (same_by_text text) (hash_by_text text) eq rehash (IsTextTable t) (entries t) hash value
     lawful_insert = record {
@@ -123,38 +136,37 @@ module _ {T V : Type 0} (target : T → V) (text : V → List ℕ) (number : V �
     -- no entry is its equal
     pub never_found : (p : Place) (back : T) → AsList (Ok (p, Some back)) → ⊥
     never_found p back as_list =
-        let told = as_list lawful_insert kept.names kept.stands in
-        let e = found kept.names told.1 value told.0 back (entry_at new p) told.2 told.3 in
-        is_new (rw (← e.2, text_is) at (among_texts_of texts t kept e.0 e.1))
+        let told = as_list lawful_insert kept.held.0 kept.held.1 in
+        let e = found kept.held.0 told.1 value told.0 back (entry_at new p) told.2 told.3 in
+        let at = named kept.held.0 values e.0 kept.held.2 e.1 in
+        let among : Contains (map text_of values) (text_of e.0) = (at.0, rw length-map at.1, get_or-map text_of values at.0 e.0 ∙ ap text at.2) in
+        is_new (rw (texts_are, ← e.2, text_is) at among)
 
     -- a refused insert keeps what is kept
-    pub kept_refused : (back : T) → AsList (Err back) → Lawfully (Err back) → IsKept target text number texts new
+    pub kept_refused : (back : T) → AsList (Err back) → Lawfully (Err back) → IsKept target text number values new
     kept_refused back as_list lawful =
-        let told = as_list lawful_insert kept.names kept.stands in
-        let same : told.1 ≡ kept.names = refused kept.names told.1 value told.0 back told.2 told.3 in
+        let told = as_list lawful_insert kept.held.0 kept.held.1 in
+        let same : told.1 ≡ kept.held.0 = refused kept.held.0 told.1 value told.0 back told.2 told.3 in
         record {
-          names = kept.names;
-          stands = rw same at told.4;
-          texts_are = kept.texts_are;
           numbered = kept.numbered;
           different = kept.different;
           few = kept.few;
+          held = (told.1, told.4, ap (map target) same ∙ kept.held.2);
           lawful = (lawful lawful_insert).0;
         }
 
-    -- with the next number all is kept, and the text stands behind the others
-    pub kept_placed : (p : Place) → number (target value) ≡ length texts + 1 → length texts < greatest_number
-        → AsList (Ok (p, None)) → Lawfully (Ok (p, None)) → IsKept target text number (texts ++ x ∷ []) new
-    kept_placed p next few as_list lawful =
-        let told = as_list lawful_insert kept.names kept.stands in
-        let more : told.1 ≡ kept.names ++ value ∷ [] = placed kept.names told.1 value told.0 (entry_at new p) told.2 told.3 in
-        let lengths : length texts ≡ length kept.names = sym (ap length kept.texts_are) ∙ length-map kept.names text_of in
+    -- with a name of the value's target behind the others, all is kept
+    pub kept_placed : (p : Place) (name : T) → target name ≡ target value → number (target name) ≡ length texts + 1 → length texts < greatest_number
+        → AsList (Ok (p, None)) → Lawfully (Ok (p, None)) → IsKept target text number (values ++ name ∷ []) new
+    kept_placed p name name_is next few as_list lawful =
+        let told = as_list lawful_insert kept.held.0 kept.held.1 in
+        let more : told.1 ≡ kept.held.0 ++ value ∷ [] = placed kept.held.0 told.1 value told.0 (entry_at new p) told.2 told.3 in
+        let lengths : length texts ≡ length values = sym (ap length texts_are) ∙ length-map values text_of in
+        let fresh : ¬ Contains (map text_of values) (text_of name) = rw (texts_are, ap text name_is, text_is) is_new in
         record {
-          names = kept.names ++ value ∷ [];
-          stands = rw more at told.4;
-          texts_are = map_push text_of kept.names value ∙ ap (λ ts. ts ++ text_of value ∷ []) kept.texts_are ∙ ap (λ y. texts ++ y ∷ []) text_is;
-          numbered = λ k e at. elim (push_cases kept.names value k e at) [ inl old ↦ kept.numbered k e old | inr last ↦ rw (last.1, last.0, next, lengths) refl ];
-          different = different_push texts x kept.different is_new;
-          few = omega (arith, length-append texts (x ∷ []));
+          numbered = λ k v at. elim (push_cases values name k v at) [ inl old ↦ kept.numbered k v old | inr last ↦ rw (last.1, last.0, next, lengths) ];
+          different = rw (map_push text_of values name) (different_push _ _ kept.different fresh);
+          few = omega (arith, length-append values (name ∷ []));
+          held = (told.1, told.4, rw (more, map_push target kept.held.0 value, map_push target values name, kept.held.2, name_is));
           lawful = (lawful lawful_insert).0;
         }

@@ -11,14 +11,15 @@ use lock_free_hashtable::HeldRawTable;
 use std::alloc::{AllocError, Allocator, Global};
 use std::marker::Model;
 use std::num::NonZeroU32;
+use std::sync::Arc;
 
 /// Different texts, numbered from 1 on in the order of first appearance. One owner holds them alone.
 ///
 /// A contract sees the list of the texts, each as its bytes.
 #[derive(Drop)]
 pub struct Interner<A: Allocator + Copy = Global> {
-    by_text: HeldRawTable<Name<A>, A>,
-    by_number: Vec<String<A>, A>,
+    by_text: HeldRawTable<Arc<Name<A>, A>, A>,
+    by_number: Vec<Arc<Name<A>, A>, A>,
     alloc: A,
 }
 
@@ -29,10 +30,10 @@ impl<A: Allocator + Copy> Model for Interner<A> {
 
     ghost Value = { List (List ℕ) };
 
-    ghost view = { λ t. map (λ text. string_bytes text) t.by_number.items };
+    ghost view = { λ t. map (λ name. string_bytes name.value.text) t.by_number.items };
 
-    ghost invariant = { λ t. IsKept (λ name. name) (λ name. string_bytes name.text)
-        (λ name. non_zero_u32_get name.number) (map (λ text. string_bytes text) t.by_number.items) t.by_text };
+    ghost invariant = { λ t. IsKept (λ name. name.value) (λ name. string_bytes name.text)
+        (λ name. non_zero_u32_get name.number) t.by_number.items t.by_text };
 }
 
 impl<A: Allocator + Copy> Interner<A> {
@@ -78,8 +79,8 @@ impl<A: Allocator + Copy> Interner<A> {
     pub fn text_alone(&self, number: NonZeroU32) -> Option<&str>
         ensures { option_copied result ≡ slice_get self.now (non_zero_u32_get number - 1) }
     {
-        let text = self.by_number.get(number.get() as usize - 1)?;
-        Some(text.as_str())
+        let name = self.by_number.get(number.get() as usize - 1)?;
+        Some(name.text.as_str())
     }
 
     /// How many texts have a number.
@@ -127,11 +128,11 @@ impl<A: Allocator + Copy> Interner<A> {
         ensures unchanged { OnErr result (self.new ≡ self.old) }
     {
         self.by_number.reserve(1)?;
-        let copy = String::from_str(self.alloc, text)?;
-        let name = Name::new(self.alloc, text, number)?;
+        let name = Name::shared(self.alloc, text, number)?;
+        let shared = Arc::try_clone(&name)?;
         match self.by_text.place_alone::<TextLaw, _, _>(
             hash,
-            name,
+            shared,
             &|new: &Name<A>, entry: &Name<A>| new.text.as_str() == entry.text.as_str(),
             &|entry: &Name<A>| hash_text(entry.text.as_str()),
         ) {
@@ -139,7 +140,7 @@ impl<A: Allocator + Copy> Interner<A> {
             Ok((_, Some(_))) => unreachable!(),
             Err(_) => return Err(AllocError),
         }
-        match self.by_number.push(copy) {
+        match self.by_number.push(name) {
             Ok(()) => Ok(()),
             Err(_) => unreachable!(),
         }

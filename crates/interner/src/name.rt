@@ -7,6 +7,7 @@ use lock_free_hashtable::Law;
 use lock_free_hashtable::atomic_value::AtomicValue;
 use std::alloc::{AllocError, Allocator};
 use std::num::NonZeroU32;
+use std::sync::Arc;
 
 /// A text and its number.
 #[derive(Drop)]
@@ -16,24 +17,13 @@ pub struct Name<A: Allocator> {
 }
 
 impl<A: Allocator + Copy> Name<A> {
-    /// The name of a copy of the text.
-    pub fn new(alloc: A, text: &str, number: NonZeroU32) -> Result<Name<A>, AllocError>
-        ensures text { IfOk result (λ name. string_bytes name.text ≡ text.now) }
-        ensures number { IfOk result (λ name. name.number ≡ number) }
+    /// A name on the heap.
+    pub fn shared(alloc: A, text: &str, number: NonZeroU32) -> Result<Arc<Name<A>, A>, AllocError>
+        ensures text { IfOk result (λ name. string_bytes name.value.text ≡ text.now) }
+        ensures number { IfOk result (λ name. name.value.number ≡ number) }
     {
         let text = String::from_str(alloc, text)?;
-        Ok(Name { text, number })
-    }
-}
-
-/// A name is compared, hashed and shown by itself.
-impl<A: Allocator> AtomicValue for Name<A> {
-    type Target = Name<A>;
-
-    ghost target = { λ name. name };
-
-    fn deref(&self) -> &Name<A> {
-        self
+        Ok(Arc::new(alloc, Name { text, number })?)
     }
 }
 
