@@ -146,6 +146,9 @@ impl<T: Drop, A: Allocator + Copy> Bucket<T, A> {
     }
 
     /// Sets the bucket to the value, in a block of its own. The block is asked for before the bucket is looked at.
+    ///
+    /// It is for a bucket that no `place` has set: it knows of what was placed alone, as do `get_alone`, `naming` and
+    /// `take_alone`, and would forget what was set through `&`.
     pub fn place_alone(
         &mut self,
         home: &Home,
