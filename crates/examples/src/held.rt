@@ -1,6 +1,7 @@
 //! Words in a table held alone: what was inserted is found.
-ghost use Rattle.std.specs.Prelude.{◌≡◌, IfOk};
-ghost use Rattle.lock_free_hashtable.specs.Table.{entry_at};
+ghost use Rattle.std.specs.Prelude.{◌≡◌, IfOk, IfErr};
+ghost use Rattle.lock_free_hashtable.specs.Table.{entries, entry_at, IsLater};
+ghost use Rattle.std.specs.List.Sorted.{IsPermutation};
 ghost use Rattle.lock_free_hashtable.specs.Held.{ShowsAt};
 ghost use Rattle.examples.specs.Words.{HoldsWords};
 
@@ -30,13 +31,16 @@ pub struct Lookup {
 /// Inserts the word, unless an equal one is an entry, and looks it up: the look-up shows the very entry that the insert
 /// named, and it is equal to the word.
 ///
-/// An Err hands the word back: memory was refused. The table holds words before and after, whatever is answered.
+/// An Err hands the word back: memory was refused, and the entries are those before. The table holds words before and after,
+/// and each place keeps its entry, whatever is answered.
 pub fn insert_then_find(
     table: &mut HeldRawTable<Box<u64>>,
     word: Box<u64>,
 ) -> Result<Lookup, Box<u64>>
     requires { HoldsWords (λ b. b.value) table.old }
     ensures holds { HoldsWords (λ b. b.value) table.new }
+    ensures later { IsLater table.old table.new }
+    ensures refused { IfErr result (λ back. (back ≡ word) × IsPermutation (entries table.old) (entries table.new)) }
     ensures found { IfOk result (λ r. ShowsAt (entry_at table.new r.place)
         (λ entry. (r.shown ≡ Some entry.value) × (entry.value ≡ word.value))) }
 {

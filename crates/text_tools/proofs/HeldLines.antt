@@ -13,7 +13,7 @@ use Rattle.text_tools.specs.Hashes.{line_hash, same_by_bytes, hash_by_bytes}
 use Rattle.std.specs.Io.KnownBytes.{Appends}
 use Rattle.std.proofs.KnownBytes.{Appends-trans}
 use Rattle.text_tools.specs.Firsts.{firsts, deduped, with_break}
-use Rattle.text_tools.specs.Seen.{IsLineTable, HoldsLines, SeesLine, TakesLine}
+use Rattle.text_tools.specs.Seen.{IsLineTable, HoldsLines, SeesLine, RefusesLine, TakesLine}
 use Rattle.text_tools.proofs.Firsts.{firsts_known, firsts_new, Contains_from_firsts, Contains_in_firsts, deduped_known, deduped_new}
 
 module _ {T V : Type 0} (target : T → V) (bytes : V → List ℕ) where
@@ -140,6 +140,11 @@ module _ {T V : Type 0} (target : T → V) (bytes : V → List ℕ) where
   sees_known t x known lines (M, stands, is) =
       let among = known lines (M, stands, is) in
       ((λ yes. among, λ held. refl), (M, stands, is ∙ sym (firsts_known lines x among)))
+
+  -- a line that is not known, and a table that holds the same lines
+  pub refuses_new : (old new : HeldTable T) (x : List ℕ) → ((lines : List (List ℕ)) → HoldsLines target bytes old lines → IsTrue false ↔ Contains lines x)
+      → ((lines : List (List ℕ)) → HoldsLines target bytes old lines → HoldsLines target bytes new lines) → RefusesLine target bytes old x new
+  refuses_new old new x unknown stay lines held = (λ known. false≢true ((unknown lines held).1 known), stay lines held)
 
   pub takes_known : (old new : HeldTable T) (x : List ℕ) (before : Option (List ℕ)) → SeesLine target bytes old x true new → TakesLine target bytes old x new before before
   takes_known old new x before sees lines start held wrote =

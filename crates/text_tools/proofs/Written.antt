@@ -1,6 +1,6 @@
 -- What was written on success, as what was told.
 use Rattle.std.proofs.Common.{Result, Ok, Err, ◌≡◌, ◌+◌, ◌-◌, ◌<◌, ◌++◌, ℕ, List, [], ◌∷◌, Option, Some, None, length, get_or, drop, refl, sym, ap, ◌∙◌, arith, append_assoc, append-nil}
-use Rattle.std.specs.Prelude.{OnOk, IfSome, slice_get}
+use Rattle.std.specs.Prelude.{OnOk, OnErr, IfSome, slice_get}
 use Rattle.std.specs.Io.KnownBytes.{Appends, Keeps}
 use Rattle.std.proofs.lemmas.List.{drop_more, drop_all, get_or_read}
 use Rattle.std.proofs.lemmas.Option.{get_or_from_slice_get}
@@ -13,6 +13,11 @@ on_ok (Err e) P Q f h = h
 pub on_both : {V E : Type 0} (r : Result V E) (P Q : Type 0) → OnOk r P → OnOk r Q → OnOk r (P × Q)
 on_both (Ok v) P Q p q = (p, q)
 on_both (Err e) P Q p q = p
+
+-- what holds in any case holds on an error
+pub on_err_always : {V E : Type 0} (r : Result V E) (P : Type 0) → P → OnErr r P
+on_err_always (Ok v) P p = tt
+on_err_always (Err e) P p = p
 
 -- what was kept and then grew, or grew and was then kept
 pub Appends_after_Keeps : (a b c : Option (List ℕ)) (bytes : List ℕ) → Keeps a b → Appends b c bytes → Appends a c bytes

@@ -20,6 +20,11 @@ abbrev pub SeesLine : {T V : Type 0} → (T → V) → (V → List ℕ) → Held
 SeesLine target bytes old line seen new = (lines : List (List ℕ)) → HoldsLines target bytes old lines
     → (IsTrue seen ↔ Contains lines line) × HoldsLines target bytes new (lines ++ line ∷ [])
 
+-- on all lines that the old table holds, the line is none of them, and the new table holds the same
+abbrev pub RefusesLine : {T V : Type 0} → (T → V) → (V → List ℕ) → HeldTable T → List ℕ → HeldTable T → Type 0
+RefusesLine target bytes old line new = (lines : List (List ℕ)) → HoldsLines target bytes old lines
+    → ¬ Contains lines line × HoldsLines target bytes new lines
+
 -- on all lines that the old table holds, and whatever was written before: what is written of them
 -- becomes what is written of them and the line, and the new table holds these
 abbrev pub TakesLine : {T V : Type 0} → (T → V) → (V → List ℕ) → HeldTable T → List ℕ → HeldTable T

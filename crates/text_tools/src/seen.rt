@@ -1,7 +1,7 @@
 //! The different lines of a text.
 ghost use Rattle.std.specs.Prelude.{◌≡◌, ◌↔◌, ◌++◌, ◌∷◌, [], IfOk, OnOk, OnErr, IsTrue, List, ℕ, Contains};
 ghost use Rattle.text_tools.specs.Hashes.{line_hash};
-ghost use Rattle.text_tools.specs.Seen.{HoldsLines, SeesLine};
+ghost use Rattle.text_tools.specs.Seen.{HoldsLines, SeesLine, RefusesLine};
 
 use lock_free_hashtable::{HeldRawTable, Law};
 use std::alloc::{AllocError, Allocator, Global};
@@ -41,9 +41,10 @@ impl<A: Allocator + Copy> Seen<A> {
 
     /// Whether the line is one of those before. It is one of them from now on. A known line takes no memory.
     ///
-    /// An Err: the line is new, and memory was refused. Nothing has changed.
+    /// An Err: the line is new, and memory was refused. The lines are those before.
     pub fn seen_before(&mut self, line: &[u8]) -> Result<bool, AllocError>
         ensures sees { IfOk result (λ seen. SeesLine (λ b. b.value) (λ v. v.items) self.old line.now seen self.new) }
+        ensures refused { OnErr result (RefusesLine (λ b. b.value) (λ v. v.items) self.old line.now self.new) }
     {
         let hash = hash_line(line);
         if self.knows(hash, line) {
@@ -67,10 +68,11 @@ impl<A: Allocator + Copy> Seen<A> {
         }
     }
 
-    /// Keeps a line that was not seen.
+    /// Keeps a line that was not seen. An Err is refused memory, and the lines are those before.
     fn keep(&mut self, hash: u64, line: &[u8]) -> Result<(), AllocError>
         requires hash { hash ≡ line_hash line.now }
         ensures kept { OnOk result ((lines : List (List ℕ)) → HoldsLines (λ b. b.value) (λ v. v.items) self.old lines → HoldsLines (λ b. b.value) (λ v. v.items) self.new (lines ++ line.now ∷ [])) }
+        ensures refused { OnErr result ((lines : List (List ℕ)) → HoldsLines (λ b. b.value) (λ v. v.items) self.old lines → HoldsLines (λ b. b.value) (λ v. v.items) self.new lines) }
     {
         let kept = Box::new(self.alloc, copy_of(self.alloc, line)?)?;
         match self.lines.place_alone::<LineLaw, _, _>(

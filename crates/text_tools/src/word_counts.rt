@@ -1,5 +1,5 @@
 //! The different words of a text, with their counts.
-ghost use Rattle.std.specs.Prelude.{◌≡◌, ◌+◌, slice_set, slice_index, slice_index_or, ◌<◌, ◌≤◌, ◌-◌, ◌++◌, ◌∷◌, [], ℕ, List, length, vec_len, OnOk, OnErr, Contains};
+ghost use Rattle.std.specs.Prelude.{◌≡◌, ◌+◌, slice_set, slice_index, slice_index_or, ◌<◌, ◌≤◌, ◌-◌, ◌++◌, ◌∷◌, [], ℕ, List, length, vec_len, ◌^◌, OnOk, OnErr, IfErr, Contains};
 ghost use Rattle.std.specs.Io.KnownBytes.{Appends};
 ghost use Rattle.std.specs.Int.NonZero.{non_zero_u32_get};
 ghost use Rattle.interner.specs.Texts.{greatest_number};
@@ -34,6 +34,7 @@ impl<A: Allocator + Copy> WordCounts<A> {
     pub fn count(&mut self, word: &str) -> Result<(), Fault>
         ensures counts { OnOk result ((words : List (List ℕ)) → Counts words self.old.interner self.old.counts.items
             → Counts (words ++ word.now ∷ []) self.new.interner self.new.counts.items) }
+        ensures known { IfErr result (λ fault. Contains self.old.interner word.now → fault ≡ Fault.TooManyWords) }
         ensures unchanged { OnErr result ((self.new.interner ≡ self.old.interner) × (self.new.counts.items ≡ self.old.counts.items)) }
     {
         match self.interner.number_alone(word) {
@@ -42,13 +43,15 @@ impl<A: Allocator + Copy> WordCounts<A> {
         }
     }
 
-    /// Counts the word of this number once more.
+    /// Counts the word of this number once more. It is refused only where it stood 2^64 - 1 times.
     fn count_again(&mut self, number: NonZeroU32) -> Result<(), Fault>
         requires { non_zero_u32_get number ≤ length self.old.interner }
         ensures interner { self.new.interner ≡ self.old.interner }
         ensures counted { OnOk result (self.new.counts.items ≡ slice_set self.old.counts.items (non_zero_u32_get number - 1)
             (slice_index self.old.counts.items (non_zero_u32_get number - 1) + 1)) }
         ensures unchanged { OnErr result (self.new.counts.items ≡ self.old.counts.items) }
+        ensures most { IfErr result (λ fault. (fault ≡ Fault.TooManyWords)
+            × (slice_index self.old.counts.items (non_zero_u32_get number - 1) ≡ 2 ^ 64 - 1)) }
     {
         let at = number.get() as usize - 1;
         match self.counts[at].checked_add(1) {
