@@ -67,6 +67,17 @@ fn shared<A: Low + Copy>(alloc: A) -> ([Fared; 3], Option<u64>) {
     ([first, second, third], bucket.take(&closed, alloc))
 }
 
+/// A value for a bucket held alone, and then two that are offered to it through `&`.
+fn shared_after_alone<A: Low + Copy>(alloc: A) -> ([Fared; 3], Option<u64>) {
+    let home = Home::new();
+    let mut bucket = Bucket::new(&alloc, &home);
+    let first = fared_alone(bucket.place_alone(&home, alloc, 5, 1));
+    let second = place(&home, &bucket, alloc, 6);
+    let third = place(&home, &bucket, alloc, 7);
+    let closed = home.close();
+    ([first, second, third], bucket.take(&closed, alloc))
+}
+
 /// An allocator that grants the first requests for the block of an entry of a number, and refuses the next one.
 fn refusing_after<B: Allocator>(inner: B, passing: u64) -> Refusing<B> {
     Refusing::new(inner, Rule::new(16, 16, passing, 1))
@@ -78,6 +89,8 @@ fn a_block_is_asked_for_before_the_bucket_is_looked_at(rt: HostRuntime) {
     assert_eq!(rt; alone(&second), SECOND_REFUSED);
     let second = refusing_after(rt.alloc(), 1);
     assert_eq!(rt; shared(&second), SECOND_REFUSED);
+    let second = refusing_after(rt.alloc(), 1);
+    assert_eq!(rt; shared_after_alone(&second), SECOND_REFUSED);
 }
 
 #[test]
@@ -86,4 +99,6 @@ fn a_refused_block_leaves_the_bucket_vacant(rt: HostRuntime) {
     assert_eq!(rt; alone(&first), FIRST_REFUSED);
     let first = refusing_after(rt.alloc(), 0);
     assert_eq!(rt; shared(&first), FIRST_REFUSED);
+    let first = refusing_after(rt.alloc(), 0);
+    assert_eq!(rt; shared_after_alone(&first), FIRST_REFUSED);
 }

@@ -13,7 +13,7 @@ use crate::gate::{GATE_TURNS, MeetingGate};
 use crate::lines::Lines;
 use crate::output::Output;
 use crate::schedules::run_core;
-use crate::seats::run_seats;
+use crate::seats::{WORKER_STACK, run_seats};
 use std::alloc::Allocator;
 use std::convert::AsStr;
 use std::io::{ErrorKind, Read, Write};
@@ -111,7 +111,7 @@ fn run_command<R: Threads + Wait, A: Allocator + Copy + Send + Sync, I: Read + D
         Command::Core { first } => run_core(alloc, first, &mut lines, &mut output),
         Command::Seats { threads } => {
             let gate = MeetingGate::new(GATE_TURNS);
-            run_seats(rt, alloc, threads, &gate, &mut output)
+            run_seats(rt, alloc, threads, WORKER_STACK, &gate, &mut output)
         }
     };
     output.flush().map_err(|_error| Fault::WriteFailed)?;

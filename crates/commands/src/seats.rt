@@ -12,10 +12,13 @@ use std::io::Write;
 use std::num::NonZeroU64;
 use std::sync::Wait;
 use std::thread;
-use std::thread::Threads;
+use std::thread::{Builder, Threads};
 
 /// How many numbers the table holds. Each worker inserts one more.
 const WORDS: usize = 1024;
+
+/// The bytes of the stack of each of the program's workers.
+pub const WORKER_STACK: usize = 1 << 20;
 
 /// What one worker was told, or all of them together.
 #[derive(Clone, Copy, Drop, Debug, PartialEq, Eq)]
@@ -51,16 +54,20 @@ impl Tally {
 
 /// Runs so many workers at once on one table under this gate, and prints how many answers were `Placed` in all, and how many
 /// `Full`. Where the gate told a worker no, nothing is printed.
+///
+/// Each worker's thread has a stack of `stack` bytes. Where a thread can't be started, as with a stack that is too large, no
+/// more are, the gate is given up, and the run ends by `NoThread` with nothing printed.
 pub fn run_seats<R: Threads + Wait, A: Allocator + Copy + Send + Sync, G: Gate + Sync, O: Write>(
     rt: &R,
     alloc: A,
     threads: usize,
+    stack: usize,
     gate: &G,
     output: &mut O,
 ) -> Result<(), Fault>
     ensures fault { IfErr result IsThreadFault }
 {
-    let tally = run_workers(rt, alloc, threads, gate)?;
+    let tally = run_workers(rt, alloc, threads, stack, gate)?;
     if tally.is_stuck {
         return Err(Fault::GateStuck);
     }
@@ -73,12 +80,13 @@ fn run_workers<R: Threads + Wait, A: Allocator + Copy + Send + Sync, G: Gate + S
     rt: &R,
     alloc: A,
     threads: usize,
+    stack: usize,
     gate: &G,
 ) -> Result<Tally, Fault>
     ensures fault { IfErr result IsStartFault }
 {
     let (table, seat) = NumberTable::new(alloc, WORDS).map_err(|_refused| Fault::NoMemory)?;
-    start_workers(rt, alloc, threads, gate, &table, seat)
+    start_workers(rt, alloc, threads, stack, gate, &table, seat)
 }
 
 /// Runs each worker in a thread of its own, and adds up what they were told once all have ended.
@@ -86,6 +94,7 @@ fn start_workers<R: Threads + Wait, A: Allocator + Copy + Send + Sync, G: Gate +
     rt: &R,
     alloc: A,
     threads: usize,
+    stack: usize,
     gate: &G,
     table: &NumberTable<A>,
     seat: Seat,
@@ -107,7 +116,8 @@ fn start_workers<R: Threads + Wait, A: Allocator + Copy + Send + Sync, G: Gate +
                     unreachable!()
                 };
                 last = rest;
-                let started = scope.spawn(
+                let started = Builder::new().stack_size(stack).spawn_scoped(
+                    scope,
                     move || -> Tally
                         requires { IsSeatOf table.now own }
                     { work(gate, worker, table, own).1 },

@@ -4,7 +4,7 @@ ghost use Rattle.seated.specs.Tables.{IsSeatOf};
 
 use commands::faults::Fault;
 use commands::gate::{GATE_TURNS, Gate, MeetingGate};
-use commands::seats::{run_seats, work};
+use commands::seats::{WORKER_STACK, run_seats, work};
 use refusing::{Refusing, Rule};
 use seated::{NumberTable, Seat};
 use std::alloc::{AllocError, Allocator, Global};
@@ -34,7 +34,7 @@ fn assert_filled<R: Threads + Wait + AllocGlobal + Abort>(
 ) -> Result<(), Fail> {
     let mut output = Vec::with_capacity(rt.alloc(), 32)?;
     let gate = MeetingGate::new(GATE_TURNS);
-    let ended = run_seats(rt, rt.alloc(), threads, &gate, &mut output);
+    let ended = run_seats(rt, rt.alloc(), threads, WORKER_STACK, &gate, &mut output);
     assert_eq!(rt; ended, Ok(()));
     let printed = format!(in rt.alloc(); "placed 1024\nfull {threads}\n")?;
     assert_eq!(rt; output.as_slice(), printed.as_str().as_bytes());
@@ -56,7 +56,8 @@ fn assert_ends<R: Threads + Wait + AllocGlobal + Abort, A: Allocator + Copy + Se
     wanted: Result<(), Fault>,
 ) {
     let mut output = Vec::new(rt.alloc());
-    let ended = run_seats(rt, alloc, 2, &ClosedFrom(inserts), &mut output);
+    let closed = ClosedFrom(inserts);
+    let ended = run_seats(rt, alloc, 2, WORKER_STACK, &closed, &mut output);
     assert_eq!(rt; ended, wanted);
     assert_eq!(rt; output.is_empty(), wanted.is_err());
 }
@@ -83,7 +84,8 @@ fn output_may_be_refused(rt: HostRuntime) {
     for room in [0, 11, 12] {
         let mut bytes = [0u8; 16];
         let open = ClosedFrom(usize::MAX);
-        let ended = run_seats(&rt, rt.alloc(), 2, &open, &mut &mut bytes[..room]);
+        let mut part = &mut bytes[..room];
+        let ended = run_seats(&rt, rt.alloc(), 2, WORKER_STACK, &open, &mut part);
         assert_eq!(rt; ended, Err(Fault::WriteFailed), "at {room}");
     }
 }
@@ -151,6 +153,20 @@ fn one_thread_asks_a_gate(rt: HostRuntime) {
     for (worker, call, passes) in AFTER_AN_ANSWER {
         assert_passes(&rt, &gate, worker, call, passes);
     }
+}
+
+/// More bytes than a process can have.
+const NO_STACK: usize = 1 << 60;
+
+#[test]
+fn a_thread_that_cannot_be_started_ends_the_run(rt: HostRuntime) {
+    // So many looks would take years.
+    let gate = MeetingGate::new(u64::MAX);
+    let mut output = Vec::new(rt.alloc());
+    let ended = run_seats(&rt, rt.alloc(), 2, NO_STACK, &gate, &mut output);
+    assert_eq!(rt; ended, Err(Fault::NoThread));
+    assert!(rt; output.is_empty());
+    assert_passes(&rt, &gate, 0, 0, false);
 }
 
 #[test]
