@@ -71,3 +71,35 @@ fn each_request_is_refused_in_turn(rt: HostRuntime) {
     assert_eq!(rt; third, REQUESTS_OF_THIRD);
     assert!(rt; 20 < requests && requests < 50);
 }
+
+/// Interns all texts while every request after so many is refused. Says whether all were interned; then no call on known texts
+/// makes a request.
+fn is_known_with(rt: &impl Abort, alloc: Global, granted: u64) -> bool {
+    let heap = Refusing::new(alloc, Rule::new(0, usize::MAX, granted, u64::MAX));
+    let mut interner = Interner::new(&heap);
+    for text in TEXTS {
+        if intern(rt, &mut interner, text) == 0 {
+            return false;
+        }
+    }
+    let left = heap.refusals_left();
+    for (place, text) in TEXTS.iter().enumerate() {
+        assert_eq!(rt; intern(rt, &mut interner, text), place as u32 + 1);
+    }
+    assert_knows(rt, &interner, TEXTS.len() as u32);
+    assert_knows(rt, &Interner::new(&heap), 0);
+    assert_eq!(rt; heap.refusals_left(), left);
+    true
+}
+
+#[test]
+fn known_texts_need_no_memory(rt: HostRuntime) {
+    let mut is_known = false;
+    for granted in 0..ENOUGH {
+        is_known = is_known_with(&rt, rt.alloc(), granted);
+        if is_known {
+            break;
+        }
+    }
+    assert!(rt; is_known);
+}
