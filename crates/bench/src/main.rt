@@ -12,10 +12,10 @@
 #![tactic(auto)]
 
 use measures::held::{check_held, measure_held};
-use measures::interner::{check_interner, measure_interner};
 use measures::report::{Report, refuse_words};
 use measures::schedules::{check_schedules, measure_schedules};
 use measures::seats::{check_seats, measure_seats};
+use measures::texts::{check_interner, measure_interner};
 use std::convert::AsStr;
 use std::{env, io};
 

@@ -2,8 +2,8 @@
 #![tactic(auto)]
 
 pub mod held;
-pub mod interner;
 mod numbers;
 pub mod report;
 pub mod schedules;
 pub mod seats;
+pub mod texts;
