@@ -67,10 +67,6 @@ module _ {T : Type 0} where
   pub own_none-replicate : (n : ℕ) → AllOwnNone {T = T} (replicate n vacant)
   own_none-replicate n = All-replicate OwnsNone n vacant tt
 
-  -- where a bucket is set to a name, still none owns one
-  pub own_none_set : (ps : List (Content T)) (i : ℕ) (e : Entry T) → AllOwnNone ps → AllOwnNone (slice_set ps i (named e))
-  own_none_set ps i e none = All-set OwnsNone ps i (named e) tt none
-
 module _ {A T : Type 0} where
   -- a bucket that names another's entry shows it
   pub naming_shows : (from : A) (home : ℕ) (p : Content T) (b : BucketView A T) → Some b ≡ option_map (bucket from home) (naming p) → (e : Entry T) × (b.content ≡ named e) × (shown p ≡ Some e)

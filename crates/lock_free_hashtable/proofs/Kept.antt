@@ -19,7 +19,7 @@ use Rattle.cell.specs.declared.bucket.Entry.{Entry}
 use Rattle.generations.proofs.Entries.{values-set, values-replicate, no_values}
 use Rattle.generations.proofs.Contents.{own_none-replicate, shown_at, shown-replicate}
 use Rattle.lock_free_hashtable.proofs.Rows.{rows_set, rows_more, row_kept, owned_more, owned_none, owns_none}
-use Rattle.lock_free_hashtable.proofs.Sizes.{total_set, sized_of, none_of, sized_set, sized_more, sized_first, some_capacity, small_capacity, few_growths, few_buckets}
+use Rattle.lock_free_hashtable.proofs.Sizes.{total_set, sized_of, none_of, sized_set, sized_more, sized_first, some_capacity, small_capacity, few_buckets}
 
 module _ {T : Type 0} (first : ℕ) (gs : List (List (Content T))) (cur : List (Content T)) (size : ℕ) (kept : IsKept first gs cur size) where
   pub doubled : IsDoubled first (length cur)
@@ -53,9 +53,6 @@ module _ {T : Type 0} (first : ℕ) (gs : List (List (Content T))) (cur : List (
         let least = kept.first_is.1 in
         let fits = first_fits in
         omega arith
-
-    pub generations_few : length cur < 2 ^ 64 → length gs < 60
-    generations_few small = few_growths first (length gs) (length cur) _ _ kept.first_is sizes small
 
   abbrev owned_before : List (Entry T)
   owned_before = flat_map values (map (λ ps. map owned ps) gs)

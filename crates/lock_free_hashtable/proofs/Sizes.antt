@@ -30,12 +30,6 @@ small_power k small = elim (cases_lt k 64) [
 ]
 
 module _ (first grown c total n : ℕ) (is : IsFirstCapacity first) (sized : IsSized first grown c total n) where
-  first_power : 4 ≤ is.0.0
-  first_power = elim (cases_lt is.0.0 4) [
-    | inl lt ↦ absurd (let h : 2 ^ is.0.0 ≤ 2 ^ 3 = pow_mono (let le : is.0.0 ≤ 3 = omega arith in le) in let e = is.0.1 in let some = is.1 in omega arith)
-    | inr ge ↦ ge
-  ]
-
   -- the capacity is a power of two
   pub capacity_power : c ≡ 2 ^ (is.0.0 + grown)
   capacity_power = sized.doubled ∙ (rw (is.0.1) (sym (pow-add 2 is.0.0 grown)))
@@ -43,13 +37,7 @@ module _ (first grown c total n : ℕ) (is : IsFirstCapacity first) (sized : IsS
   pub some_capacity : first ≤ c
   some_capacity = rw sized.doubled (le-mul_of_pos_right first (pow_pos grown))
 
-  -- a capacity that fits a word of 64 bits is at most 2^63, and came by fewer than 60 growths
-  pub few_growths : c < 2 ^ 64 → grown < 60
-  few_growths small =
-      let all : is.0.0 + grown < 64 = small_power (is.0.0 + grown) (rw capacity_power at small) in
-      let some : 4 ≤ is.0.0 = first_power in
-      omega arith
-
+  -- a capacity that fits a word of 64 bits is at most 2^63
   pub small_capacity : c < 2 ^ 64 → c ≤ 2 ^ 63
   small_capacity small =
       let all : is.0.0 + grown < 64 = small_power (is.0.0 + grown) (rw capacity_power at small) in

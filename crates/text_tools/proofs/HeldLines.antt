@@ -1,5 +1,5 @@
 -- What the table's clauses say of the lines that it holds.
-use Rattle.std.proofs.Common.{◌≡◌, ℕ, zero, suc, ◌++◌, Bool, true, false, List, [], ◌∷◌, Option, Some, None, Result, Ok, map, arith, refl, sym, ◌∙◌, ap}
+use Rattle.std.proofs.Common.{◌≡◌, ℕ, zero, suc, ◌++◌, Bool, true, false, List, [], ◌∷◌, Option, Some, None, Ok, map, arith, refl, sym, ◌∙◌, ap}
 use Rattle.std.specs.Prelude.{Contains, ◌↔◌, IsTrue, is_some}
 use Rattle.std.specs.Str.{bytes_eq}
 use Rattle.std.proofs.lemmas.Bool.{false≢true}
@@ -7,7 +7,7 @@ use Rattle.std.proofs.lemmas.List.{length-map, map_push}
 use Rattle.std.proofs.lemmas.Slice.Eq.{bytes_eq-Decides}
 use Rattle.std.proofs.Math.ListN.{get_or-map}
 use Rattle.lock_free_hashtable.specs.Table.{HeldTable, Place, entries, entry_at}
-use Rattle.lock_free_hashtable.specs.Held.{ShowsAt, IsLawfulInsert, PlacesAsList, InsertReplies, InsertAnswers, equal, LooksUpAsList, LookupReplies, IsLawfulLookup}
+use Rattle.lock_free_hashtable.specs.Held.{ShowsAt, IsLawfulInsert, PlacesAsList, InsertReplies, equal, LooksUpAsList, LookupReplies, IsLawfulLookup}
 use Rattle.terms.specs.ListObject.{ListReply, Placed, Found, Insert, Lookup, Answers}
 use Rattle.text_tools.specs.Hashes.{line_hash, same_by_bytes, hash_by_bytes}
 use Rattle.std.specs.Io.KnownBytes.{Appends}
@@ -124,16 +124,6 @@ module _ {T V : Type 0} (target : T → V) (bytes : V → List ℕ) where
   keeps eq rehash old new hash value x p back lawful eq_is rehash_is hash_is value_is as_list lines (M, stands, is) =
       let told = as_list (lawful_insert eq rehash old hash value x lawful eq_is rehash_is hash_is value_is) M stands in
       (told.1, told.4, rw value_is at (kept M told.1 value told.0 lines is new p back told.2 told.3))
-
-  -- an insert leaves a lawful table
-  pub stays_lawful : (eq : V → V → Bool → Type 0) (rehash : V → ℕ → Type 0) (old new : HeldTable T) (hash : ℕ) (value : T) (x : List ℕ) (r : Result (Place × Option T) T) → IsLineTable target bytes old
-      → ((a b : V) (answer : Bool) → eq a b answer → answer ≡ same_by_bytes bytes a b)
-      → ((a : V) (h : ℕ) → rehash a h → h ≡ hash_by_bytes bytes a)
-      → hash ≡ line_hash x → bytes_of value ≡ x
-      → InsertAnswers target (same_by_bytes bytes) (hash_by_bytes bytes) eq rehash (IsLineTable target bytes old) (entries old) hash value r (IsLineTable target bytes new)
-      → IsLineTable target bytes new
-  stays_lawful eq rehash old new hash value x r lawful eq_is rehash_is hash_is value_is answers =
-      (answers (lawful_insert eq rehash old hash value x lawful eq_is rehash_is hash_is value_is)).0
 
   -- a known line changes nothing
   pub sees_known : (t : HeldTable T) (x : List ℕ) → ((lines : List (List ℕ)) → HoldsLines target bytes t lines → Contains lines x) → SeesLine target bytes t x true t

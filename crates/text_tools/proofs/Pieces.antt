@@ -110,11 +110,6 @@ start_lines None b kept = tt
 start_lines (Some text) None kept = absurd kept
 start_lines (Some text) (Some rest) kept = ap lines_of (sym kept)
 
-pub start_words : (a b : Option (List ℕ)) → Keeps a b → HasReadWords a b []
-start_words None b kept = tt
-start_words (Some text) None kept = absurd kept
-start_words (Some text) (Some rest) kept = ap words_of (sym kept)
-
 -- all is read
 pub all_lines : (a b c : Option (List ℕ)) (line : List ℕ) (lines : List (List ℕ)) → HasReadLines a b lines → ReadsLine b c line false → IfSome a (λ text. lines_of text ≡ lines)
 all_lines None b c line lines has reads = tt
@@ -209,6 +204,3 @@ not_ended a b bytes n x taken dropped n_is some at x_is =
 -- one word more of a line
 pub one_word_more : (line rest behind word : List ℕ) (words : List (List ℕ)) → words_of line ≡ words ++ words_of rest → words_of rest ≡ word ∷ words_of behind → words_of line ≡ (words ++ word ∷ []) ++ words_of behind
 one_word_more line rest behind word words has cut = has ∙ ap (λ ws. words ++ ws) cut ∙ sym (append_assoc words (word ∷ []) (words_of behind))
-
-pub no_word_more : (line rest : List ℕ) (words : List (List ℕ)) → words_of line ≡ words ++ words_of rest → words_of rest ≡ [] → words ≡ words_of line
-no_word_more line rest words has none = sym (has ∙ ap (λ ws. words ++ ws) none ∙ append-nil words)

@@ -1,8 +1,8 @@
 -- What was written on success, as what was told.
-use Rattle.std.proofs.Common.{Result, Ok, Err, ◌≡◌, ◌+◌, ◌-◌, ◌<◌, ◌++◌, ℕ, List, [], ◌∷◌, Option, Some, None, length, get_or, drop, refl, sym, ap, ◌∙◌, arith, append_assoc, append-nil}
+use Rattle.std.proofs.Common.{Result, Ok, Err, ◌≡◌, ◌+◌, ◌-◌, ◌<◌, ◌++◌, ℕ, List, [], ◌∷◌, Option, Some, None, length, get_or, drop, refl, sym, ap, ◌∙◌, arith, append_assoc}
 use Rattle.std.specs.Prelude.{OnOk, OnErr, IfSome, slice_get}
 use Rattle.std.specs.Io.KnownBytes.{Appends, Keeps}
-use Rattle.std.proofs.lemmas.List.{drop_more, drop_all, get_or_read}
+use Rattle.std.proofs.lemmas.List.{drop_more, get_or_read}
 use Rattle.std.proofs.lemmas.Option.{get_or_from_slice_get}
 use Rattle.text_tools.specs.Counts.{word_line, word_lines}
 
@@ -40,12 +40,6 @@ one_line_written words counts n written all below same is =
     let at_words : drop n words ≡ get_or words n [] ∷ drop (n + 1) words = drop_more words n [] below in
     let at_counts : drop n counts ≡ get_or counts n 0 ∷ drop (n + 1) counts = drop_more counts n 0 (omega arith) in
     append_assoc written _ _ ∙ (rw (at_words, at_counts) at is)
-
-pub all_written : (words : List (List ℕ)) (counts : List ℕ) (n : ℕ) (written all : List ℕ) → length words ≡ n
-    → written ++ word_lines (n + 1) (drop n words) (drop n counts) ≡ all → written ≡ all
-all_written words counts n written all end is =
-    let none : drop n words ≡ [] = drop_all n words (omega arith) in
-    sym (append-nil written) ∙ (rw none at is)
 
 pub same_bytes : (a b : Option (List ℕ)) (xs ys : List ℕ) → xs ≡ ys → Appends a b xs → Appends a b ys
 same_bytes a b xs ys same grown = rw (← same) grown
