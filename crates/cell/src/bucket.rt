@@ -58,8 +58,8 @@ pub enum Missed<'a, T> {
 /// A bucket that is dropped frees no block: `take` ends it.
 #[derive(Drop)]
 pub struct Bucket<T: Drop, A: Allocator + Copy> {
-    mark: Mark,
-    word: Word<Entry<T>, A>,
+    pub(crate) mark: Mark,
+    pub(crate) word: Word<Entry<T>, A>,
 }
 
 const _: () = prove!(size_of::<Home>() == 0);
@@ -80,6 +80,23 @@ impl<T: Drop, A: Allocator + Copy> Model for Bucket<T, A> {
     ghost invariant = { λ b. IsMarked b.mark b.word };
 }
 
+/// A bucket looked at through `&`: its mark and its word, whatever lies around them.
+#[derive(Drop)]
+pub struct BucketRef<'a, T: Drop, A: Allocator + Copy> {
+    pub(crate) mark: Mark,
+    pub(crate) word: &'a Word<Entry<T>, A>,
+}
+
+impl<'a, T: Drop, A: Allocator + Copy> Model for BucketRef<'a, T, A> {
+    ghost use Rattle.cell.specs.Contents.{BucketView, bucket_of, IsMarked};
+
+    ghost Value = { BucketView A T };
+
+    ghost view = { λ b. bucket_of b.mark b.word.now };
+
+    ghost invariant = { λ b. IsMarked b.mark b.word.now };
+}
+
 impl<T: Drop, A: Allocator + Copy> Bucket<T, A> {
     /// A vacant bucket. It takes no memory.
     pub fn new(alloc: &A, home: &Home) -> Self
@@ -91,57 +108,13 @@ impl<T: Drop, A: Allocator + Copy> Bucket<T, A> {
         }
     }
 
-    /// The eight bits of the entry that the bucket holds alone. Nothing is followed.
-    pub fn mark(&self) -> Mark
-        ensures { Reads self.now.content result }
+    /// The bucket, to be looked at.
+    pub fn as_ref(&self) -> BucketRef<'_, T, A>
+        ensures { result ≡ self.now }
     {
-        self.mark
-    }
-
-    /// A bucket that names the entry of this one. Nothing is followed.
-    pub fn naming(&self, alloc: A) -> Option<Self>
-        requires { self.now.from ≡ alloc }
-        ensures { result ≡ option_map (bucket alloc self.now.home) (naming self.now.content) }
-    {
-        let mark = match self.mark {
-            Mark::Vacant => return None,
-            Mark::Own(bits) => Mark::Named(bits),
-            Mark::Named(bits) => Mark::Named(bits),
-        };
-        Some(Bucket {
-            mark,
-            word: Word::of_name(self.word.name(), &alloc),
-        })
-    }
-
-    /// The entry of a bucket that is set alone. Its mark isn't read.
-    pub fn entry<'a>(&'a self, home: &'a Home) -> &'a Entry<T>
-        requires home { self.now.home ≡ home.now.id }
-        requires set { IsSome (shown self.now.content) }
-        ensures { shown self.now.content ≡ Some result.now }
-    {
-        self.word.name().get(home)
-    }
-
-    /// The entry that the bucket holds alone.
-    pub fn get_alone<'a>(&'a self, home: &'a Home) -> Option<&'a Entry<T>>
-        requires { self.now.home ≡ home.now.id }
-        ensures { option_copied result ≡ shown self.now.content }
-    {
-        match self.mark {
-            Mark::Vacant => None,
-            _ => Some(self.word.name().get(home)),
-        }
-    }
-
-    /// The entry that the bucket holds, or was set to through `&`.
-    pub fn get<'a>(&'a self, home: &'a Home) -> Option<&'a Entry<T>>
-        requires { self.now.home ≡ home.now.id }
-        ensures { IfSome (shown self.now.content) (λ e. option_copied result ≡ Some e) }
-    {
-        match self.mark {
-            Mark::Vacant => Some(self.word.name_if_set()?.get(home)),
-            _ => Some(self.word.name().get(home)),
+        BucketRef {
+            mark: self.mark,
+            word: &self.word,
         }
     }
 
@@ -206,10 +179,66 @@ impl<T: Drop, A: Allocator + Copy> Bucket<T, A> {
     }
 }
 
-impl<T: Drop, A: Low + Copy> Bucket<T, A> {
+impl<'a, T: Drop, A: Allocator + Copy> BucketRef<'a, T, A> {
+    /// The eight bits of the entry that the bucket holds alone. Nothing is followed.
+    pub fn mark(&self) -> Mark
+        ensures { Reads self.now.content result }
+    {
+        self.mark
+    }
+
+    /// A bucket that names the entry of this one. Nothing is followed.
+    pub fn naming(&self, alloc: A) -> Option<Bucket<T, A>>
+        requires { self.now.from ≡ alloc }
+        ensures { result ≡ option_map (bucket alloc self.now.home) (naming self.now.content) }
+    {
+        let mark = match self.mark {
+            Mark::Vacant => return None,
+            Mark::Own(bits) => Mark::Named(bits),
+            Mark::Named(bits) => Mark::Named(bits),
+        };
+        Some(Bucket {
+            mark,
+            word: Word::of_name(self.word.name(), &alloc),
+        })
+    }
+
+    /// The entry of a bucket that is set alone. Its mark isn't read.
+    pub fn entry(&self, home: &'a Home) -> &'a Entry<T>
+        requires home { self.now.home ≡ home.now.id }
+        requires set { IsSome (shown self.now.content) }
+        ensures { shown self.now.content ≡ Some result.now }
+    {
+        self.word.name().get(home)
+    }
+
+    /// The entry that the bucket holds alone.
+    pub fn get_alone(&self, home: &'a Home) -> Option<&'a Entry<T>>
+        requires { self.now.home ≡ home.now.id }
+        ensures { option_copied result ≡ shown self.now.content }
+    {
+        match self.mark {
+            Mark::Vacant => None,
+            _ => Some(self.word.name().get(home)),
+        }
+    }
+
+    /// The entry that the bucket holds, or was set to through `&`.
+    pub fn get(&self, home: &'a Home) -> Option<&'a Entry<T>>
+        requires { self.now.home ≡ home.now.id }
+        ensures { IfSome (shown self.now.content) (λ e. option_copied result ≡ Some e) }
+    {
+        match self.mark {
+            Mark::Vacant => Some(self.word.name_if_set()?.get(home)),
+            _ => Some(self.word.name().get(home)),
+        }
+    }
+}
+
+impl<'a, T: Drop, A: Low + Copy> BucketRef<'a, T, A> {
     /// Sets a vacant bucket by one exchange. The block is asked for before the bucket is looked at.
-    pub fn place<'a>(
-        &'a self,
+    pub fn place(
+        &self,
         home: &'a Home,
         alloc: A,
         value: T,

@@ -6,11 +6,13 @@ mod home;
 mod loose_block;
 mod low;
 mod name;
+mod row;
 mod word;
 
-pub use bucket::{Bucket, Entry, Mark, Missed, Refusal};
+pub use bucket::{Bucket, BucketRef, Entry, Mark, Missed, Refusal};
 pub use home::{Closed, Home, Homed};
 pub use loose_block::LooseBlock;
 pub use low::Low;
 pub use name::Name;
+pub use row::{Buckets, Row};
 pub use word::Word;

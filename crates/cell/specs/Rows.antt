@@ -1,0 +1,57 @@
+-- Buckets in a row: their marks apart from their words.
+use Rattle.std.specs.Prelude.{◌≡◌, ℕ, ⊤, List, [], ◌∷◌, Option, Some, None, All, slice_index_or}
+use Rattle.cell.specs.Words.{WordView}
+use Rattle.cell.specs.Contents.{BucketView, Content, vacant, IsMarked, content_of, bucket}
+use Rattle.cell.specs.declared.bucket.Entry.{Entry}
+use Rattle.cell.specs.declared.bucket.Mark.{Mark}
+
+-- buckets of one allocator and one home
+pub record RowView (A T : Type 0) : Type 0 where
+  pub from : A
+  pub home : ℕ
+  pub contents : List (Content T)
+
+module _ {T : Type 0} where
+  -- what bucket i holds; past the end nothing is held
+  abbrev pub content_at : List (Content T) → ℕ → Content T
+  content_at ps i = slice_index_or ps i vacant
+
+module _ {A T : Type 0} where
+  -- what the marks beside the known values of the words say
+  abbrev pub contents_of : List Mark → List (WordView A (Entry T)) → List (Content T)
+  contents_of [] ws = []
+  contents_of (m ∷ ms) [] = []
+  contents_of (m ∷ ms) (w ∷ ws) = content_of m w.value ∷ contents_of ms ws
+
+  -- there are as many marks as words, and each mark agrees with its word
+  abbrev pub AreMarked : List Mark → List (WordView A (Entry T)) → Type 0
+  AreMarked [] [] = ⊤
+  AreMarked [] (w ∷ ws) = ⊥
+  AreMarked (m ∷ ms) [] = ⊥
+  AreMarked (m ∷ ms) (w ∷ ws) = IsMarked m w × AreMarked ms ws
+
+  -- a word is of this home and this allocator
+  abbrev pub WordLies : ℕ → A → WordView A (Entry T) → Type 0
+  WordLies home from w = (w.home ≡ home) × (w.from ≡ from)
+
+  abbrev pub row : A → ℕ → List (Content T) → RowView A T
+  row from home ps = record { from = from; home = home; contents = ps }
+
+  abbrev pub row_of : A → ℕ → List Mark → List (WordView A (Entry T)) → RowView A T
+  row_of from home ms ws = row from home (contents_of ms ws)
+
+  -- each mark agrees with its word, and each word is of this home and this allocator
+  pub record IsRow (from : A) (home : ℕ) (ms : List Mark) (ws : List (WordView A (Entry T))) : Type 0 where
+    pub marked : AreMarked ms ws
+    pub lies : All (WordLies home from) ws
+
+  -- two rows of one home and one allocator
+  abbrev pub AreOfOneRow : RowView A T → RowView A T → Type 0
+  AreOfOneRow a b = (a.home ≡ b.home) × (a.from ≡ b.from)
+
+  -- the first bucket of a row is taken off it, if there is one
+  abbrev pub TakesFirst : RowView A T → Option (BucketView A T) → RowView A T → Type 0
+  TakesFirst old None new = (old.contents ≡ []) × (new ≡ old)
+  TakesFirst old (Some b) new =
+      (old.contents ≡ b.content ∷ new.contents)
+      × (b ≡ bucket old.from old.home b.content) × AreOfOneRow new old
