@@ -1,14 +1,14 @@
 -- The buckets of a generation: which are set, and what they show.
-use Rattle.std.proofs.Common.{◌≡◌, ℕ, zero, suc, ◌+◌, ◌<◌, ◌≤◌, inl, inr, List, [], ◌∷◌, ◌++◌, Option, Some, None, length, refl, sym, ap, ◌∙◌, arith, replicate}
-use Rattle.std.specs.Prelude.{option_map, slice_index_or, slice_set}
+use Rattle.std.proofs.Common.{◌≡◌, ℕ, zero, suc, ◌+◌, ◌^◌, ◌<◌, ◌≤◌, inl, inr, List, [], ◌∷◌, ◌++◌, Option, Some, None, length, refl, sym, ap, ◌∙◌, arith, replicate}
+use Rattle.std.specs.Prelude.{option_map, slice_set}
 use Rattle.std.specs.Int.{IsPowerOfTwo}
 use Rattle.std.proofs.Math.ListN.{get_or-map}
-use Rattle.std.proofs.lemmas.List.{length-append, length-map, length-replicate, length-set, map-set, set-get_or}
-use Rattle.std.proofs.lemmas.List.Elements.{All-set, All-replicate}
+use Rattle.std.proofs.lemmas.List.{length-append, length-map, length-replicate, length-set, map-set}
+use Rattle.std.proofs.lemmas.List.Elements.{All-replicate}
 use Rattle.std.proofs.lemmas.List.Sorted.{length_permutation}
-use Rattle.cell.specs.Contents.{BucketView, Lies, bucket, naming}
+use Rattle.cell.specs.Contents.{BucketView, bucket, naming}
 use Rattle.cell.specs.declared.bucket.Entry.{Entry}
-use Rattle.generations.specs.Generations.{IsGeneration, IsName, OwnsNone, AllOwnNone, contents_of}
+use Rattle.generations.specs.Generations.{IsGeneration, IsName, OwnsNone, AllOwnNone}
 use Rattle.generations.specs.Buckets.{Content, vacant, own, named, values, value_at, content_at, owned, owned_values, shown, shown_all, shown_entries}
 use Rattle.generations.proofs.Entries.{no_values, values-set, values-replicate}
 
@@ -45,7 +45,7 @@ module _ {T : Type 0} where
   name_shows (named x) n = (x, refl, refl)
 
   -- no more buckets show an entry than there are
-  few_shown : (ps : List (Content T)) → length (shown_entries ps) ≤ length ps
+  pub few_shown : (ps : List (Content T)) → length (shown_entries ps) ≤ length ps
   few_shown ps = let few = length-values (shown_all ps) in let long = length-shown_all ps in omega arith
 
   -- an empty bucket that is set shows one entry more
@@ -74,51 +74,33 @@ module _ {A T : Type 0} where
   naming_shows from home (own x) b is = (x, (let same : b ≡ bucket from home (named x) = cc in ap (λ b. b.content) same), refl)
   naming_shows from home (named x) b is = (x, (let same : b ≡ bucket from home (named x) = cc in ap (λ b. b.content) same), refl)
 
-  -- where a bucket is set, its generation holds what the bucket holds
-  pub contents_set : (bs : List (BucketView A T)) (i : ℕ) (b : BucketView A T) → contents_of (slice_set bs i b) ≡ slice_set (contents_of bs) i b.content
-  contents_set bs i b = map-set (λ b. b.content) bs i b
-
-  -- no more of a generation's buckets show an entry than it has
-  pub few_set : (bs : List (BucketView A T)) → length (shown_entries (contents_of bs)) ≤ length bs
-  few_set bs = let few = few_shown (contents_of bs) in let long = length-map bs (λ b. b.content) in omega arith
-
-  -- empty buckets hold nothing
-  pub contents-replicate : (n : ℕ) (b : BucketView A T) → contents_of (replicate n b) ≡ replicate n b.content
-  contents-replicate zero b = refl
-  contents-replicate (suc n) b = ap (λ ps. b.content ∷ ps) (contents-replicate n b)
-
+module _ {T : Type 0} where
   -- empty buckets, a power of two of them, are a generation
-  pub generation-replicate : (from : A) (home n : ℕ) → IsPowerOfTwo n → IsGeneration from home (replicate n (bucket {A = A} {T = T} from home vacant)) 0
-  generation-replicate from home n two = record {
-    powered = inr (rw (length-replicate n (bucket {A = A} {T = T} from home vacant)) two);
-    counted = rw (contents-replicate n (bucket from home vacant), shown-replicate {T = T} n, values-replicate {X = Entry T} n) refl;
-    lies = All-replicate (Lies home from) n (bucket from home vacant) (refl, refl);
+  pub generation-replicate : (n : ℕ) → n < 2 ^ 64 → IsPowerOfTwo n → IsGeneration {T = T} (replicate n vacant) 0
+  generation-replicate n fits two = record {
+    powered = inr (rw length-replicate two);
+    fits = rw length-replicate fits;
+    counted = rw (shown-replicate {T = T} n, values-replicate {X = Entry T} n) refl;
   }
 
   -- with an empty bucket set, a generation is one of a size greater by one
-  pub generation_set : (from : A) (home : ℕ) (bs : List (BucketView A T)) (size i : ℕ) (b : BucketView A T) (e : Entry T) → IsGeneration from home bs size → i < length bs
-      → value_at (shown_all (contents_of bs)) i ≡ None → shown b.content ≡ Some e → Lies home from b → IsGeneration from home (slice_set bs i b) (size + 1)
-  generation_set from home bs size i b e g lt empty shows lies =
-      let within : i < length (contents_of bs) = rw length-map lt in
+  pub generation_set : (ps : List (Content T)) (size i : ℕ) (p : Content T) (e : Entry T) → IsGeneration ps size → i < length ps
+      → value_at (shown_all ps) i ≡ None → shown p ≡ Some e → IsGeneration (slice_set ps i p) (size + 1)
+  generation_set ps size i p e g lt empty shows =
       record {
         powered = elim g.powered [
-          | inl none ↦ absurd (let n : length bs ≡ 0 = ap length none in omega arith)
+          | inl none ↦ absurd (let n : length ps ≡ 0 = ap length none in omega arith)
           | inr two ↦ inr (rw length-set two)
         ];
-        counted = (let more = shown_more (contents_of bs) i b.content e within empty shows in let was = g.counted in rw contents_set (omega arith));
-        lies = All-set (Lies home from) bs i b lies g.lies;
+        fits = rw length-set g.fits;
+        counted = (let more = shown_more ps i p e lt empty shows in let was = g.counted in omega arith);
       }
 
   -- a generation with an empty bucket has a size below its capacity
-  pub generation_room : (from : A) (home : ℕ) (bs : List (BucketView A T)) (size i : ℕ) (e : Entry T) → IsGeneration from home bs size → i < length bs → value_at (shown_all (contents_of bs)) i ≡ None → size < length bs
-  generation_room from home bs size i e g lt empty =
-      let within : i < length (contents_of bs) = rw length-map lt in
-      let more = shown_more (contents_of bs) i (named e) e within empty refl in
-      let few = few_shown (slice_set (contents_of bs) i (named e)) in
-      let long : length (slice_set (contents_of bs) i (named e)) ≡ length bs = length-set (contents_of bs) i _ ∙ length-map bs (λ b. b.content) in
+  pub generation_room : (ps : List (Content T)) (size i : ℕ) (e : Entry T) → IsGeneration ps size → i < length ps → value_at (shown_all ps) i ≡ None → size < length ps
+  generation_room ps size i e g lt empty =
+      let more = shown_more ps i (named e) e lt empty refl in
+      let few = few_shown (slice_set ps i (named e)) in
+      let long : length (slice_set ps i (named e)) ≡ length ps = length-set ps i _ in
       let was = g.counted in
       omega arith
-
--- what was read, written back, changes nothing
-pub set_back : {X : Type 0} (xs : List X) (i : ℕ) (x : X) → x ≡ slice_index_or xs i x → slice_set xs i x ≡ xs
-set_back xs i x e = ap (slice_set xs i) e ∙ set-get_or xs i x

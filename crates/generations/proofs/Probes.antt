@@ -1,35 +1,15 @@
 -- A probe's steps.
-use Rattle.std.proofs.Common.{◌≡◌, ℕ, ◌+◌, ◌<◌, Bool, true, List, Option, slice_index_or, refl, sym, ap, ◌∙◌, arith, inl, inr, below_more, length}
-use Rattle.std.proofs.lemmas.List.{get_or-map, length-map}
-use Rattle.std.specs.Prelude.{All, None}
-use Rattle.std.proofs.lemmas.List.Elements.{All-get_or}
+use Rattle.std.proofs.Common.{◌≡◌, ℕ, ◌+◌, ◌<◌, Bool, true, List, Option, refl, sym, ◌∙◌, arith, inl, inr, below_more, length}
+use Rattle.std.specs.Prelude.{None}
 use Rattle.terms.specs.Hashes.{bits_of}
 use Rattle.terms.specs.Probes.{bucket_at}
-use Rattle.cell.specs.Contents.{BucketView, Lies}
 use Rattle.cell.specs.declared.bucket.Entry.{Entry}
-use Rattle.generations.specs.Buckets.{vacant, values, value_at, content_at, shown, shown_all}
-use Rattle.generations.specs.Generations.{contents_of}
+use Rattle.generations.specs.Buckets.{Content, vacant, values, value_at, content_at, shown_all}
 use Rattle.generations.specs.Probe.{IsAcceptedBy, IsPassedBy, IsPassed, IsVacant, ProbeGives}
 use Rattle.generations.specs.declared.fixed.ProbeEnd.{ProbeEnd}
 use Rattle.generations.specs.declared.fixed.ProbeEnd.TheVariants.{Accepted, Vacant, Full}
 use Rattle.generations.proofs.Contents.{length-shown_all, shown_at, shows_none}
 use Rattle.generations.proofs.Counts.{full_values}
-
-module _ {A T : Type 0} (bs : List (BucketView A T)) where
-  -- the bucket that was read holds what its generation holds at that index
-  pub content_read : (i : ℕ) (b : BucketView A T) → i < length bs → b ≡ slice_index_or bs i b → content_at (contents_of bs) i ≡ b.content
-  content_read i b lt e = get_or-map (λ b. b.content) bs i b vacant lt ∙ ap (λ b. b.content) (sym e)
-
-  pub shown_read : (i : ℕ) (b : BucketView A T) → i < length bs → b ≡ slice_index_or bs i b → value_at (shown_all (contents_of bs)) i ≡ shown b.content
-  shown_read i b lt e = shown_at (contents_of bs) i ∙ ap shown (content_read i b lt e)
-
-  -- as many buckets are shown as there are
-  pub length-shown : length (shown_all (contents_of bs)) ≡ length bs
-  length-shown = length-shown_all (contents_of bs) ∙ length-map bs (λ b. b.content)
-
-  -- a bucket that was read is of the generation's home
-  pub lies_read : (home : ℕ) (from : A) (i : ℕ) (b : BucketView A T) → i < length bs → b ≡ slice_index_or bs i b → All (Lies home from) bs → Lies home from b
-  lies_read home from i b lt e all = rw e (All-get_or (Lies home from) bs i b lt all)
 
 module _ {T U : Type 0} (target : T → U) (answers : U → Bool → Type 0) (ps : List (Option (Entry T))) (hash : ℕ) where
   -- a bucket whose entry was not accepted is passed
@@ -66,12 +46,12 @@ module _ {T U : Type 0} (target : T → U) (answers : U → Bool → Type 0) (ha
   ends_vacant ps Full none room s = absurd (let full = full_values target answers ps hash s in omega arith)
 
   -- the empty bucket where a probe of a generation ended
-  pub vacant_below : {A : Type 0} (bs : List (BucketView A T)) (i : ℕ) → IsVacant target answers (shown_all (contents_of bs)) hash i → i < length bs
-  vacant_below bs i v =
-      let long = length-shown bs in
+  pub vacant_below : (ps : List (Content T)) (i : ℕ) → IsVacant target answers (shown_all ps) hash i → i < length ps
+  vacant_below ps i v =
+      let long = length-shown_all ps in
       let within = v.within in
       rw (← long, v.is) (omega arith)
 
--- a bucket that was read where a probe ended at an empty one is empty
-pub vacant_read : {A T : Type 0} (bs : List (BucketView A T)) (i : ℕ) (b : BucketView A T) → i < length bs → b ≡ slice_index_or bs i b → value_at (shown_all (contents_of bs)) i ≡ None → b.content ≡ vacant
-vacant_read bs i b lt e empty = shows_none b.content (sym (shown_read bs i b lt e) ∙ empty)
+-- the bucket where a probe ended at an empty one is vacant
+pub vacant_held : {T : Type 0} (ps : List (Content T)) (i : ℕ) → value_at (shown_all ps) i ≡ None → content_at ps i ≡ vacant
+vacant_held ps i empty = shows_none (content_at ps i) (sym (shown_at ps i) ∙ empty)

@@ -1,6 +1,7 @@
 -- What the buckets of a generation hold, and which entry each of them shows.
 use Rattle.std.specs.Prelude.{ℕ, List, [], ◌∷◌, Option, Some, None, map, slice_index_or}
 pub use Rattle.cell.specs.Contents.{Content, vacant, own, named, shown, owned}
+pub use Rattle.cell.specs.Rows.{content_at}
 use Rattle.cell.specs.declared.bucket.Entry.{Entry}
 
 module _ {X : Type 0} where
@@ -22,10 +23,6 @@ module _ {T : Type 0} where
   -- the values that buckets own, in their order
   abbrev pub owned_values : List (Content T) → List T
   owned_values ps = values_of (values (map owned ps))
-
-  -- bucket i of a generation; past its capacity nothing is held
-  abbrev pub content_at : List (Content T) → ℕ → Content T
-  content_at ps i = slice_index_or ps i vacant
 
   -- what each bucket shows: its own entry, or the one that it names
   abbrev pub shown_all : List (Content T) → List (Option (Entry T))

@@ -1,7 +1,7 @@
 -- A generation as the layer above sees it.
-use Rattle.std.specs.Prelude.{◌≡◌, ◌⊎◌, ℕ, ◌+◌, ⊤, List, [], Option, Some, None, Result, Ok, Err, All, length, map, replicate}
+use Rattle.std.specs.Prelude.{◌≡◌, ◌⊎◌, ℕ, ◌+◌, ◌^◌, ◌<◌, ⊤, List, [], Option, Some, None, Result, Ok, Err, All, length, replicate}
 use Rattle.std.specs.Int.{IsPowerOfTwo}
-use Rattle.cell.specs.Contents.{BucketView, Lies}
+use Rattle.cell.specs.Rows.{RowView}
 use Rattle.generations.specs.Buckets.{Content, vacant, own, named, shown_entries, owned_values}
 use Rattle.generations.specs.declared.fixed.Refusal.{Refusal}
 
@@ -18,34 +18,29 @@ pub record OwnValuesView (T : Type 0) : Type 0 where
   pub values : List T
 
 module _ {A T : Type 0} where
-  -- what the buckets hold
-  abbrev pub contents_of : List (BucketView A T) → List (Content T)
-  contents_of bs = map (λ b. b.content) bs
-
-  abbrev pub generation_of : A → ℕ → List (BucketView A T) → ℕ → GenerationView A T
-  generation_of from home bs size =
-      record { from = from; home = home; contents = contents_of bs; size = size }
+  abbrev pub generation_of : RowView A T → ℕ → GenerationView A T
+  generation_of row size =
+      record { from = row.from; home = row.home; contents = row.contents; size = size }
 
   -- n empty buckets
   abbrev pub blank : A → ℕ → ℕ → GenerationView A T
   blank from home n =
       record { from = from; home = home; contents = replicate n vacant; size = 0 }
 
-  -- there is no bucket, or a power of two; the size counts those that are set; and each is of this
-  -- home and this allocator
-  pub record IsGeneration (from : A) (home : ℕ) (bs : List (BucketView A T)) (size : ℕ) : Type 0 where
-    pub powered : (bs ≡ []) ⊎ IsPowerOfTwo (length bs)
-    pub counted : size ≡ length (shown_entries (contents_of bs))
-    pub lies : All (Lies home from) bs
-
   -- two generations of one home and one allocator
   abbrev pub AreOfOneHome : GenerationView A T → GenerationView A T → Type 0
   AreOfOneHome a b = (a.home ≡ b.home) × (a.from ≡ b.from)
 
-  abbrev pub own_values_of : ℕ → List (BucketView A T) → OwnValuesView T
-  own_values_of home bs = record { home = home; values = owned_values (contents_of bs) }
+  abbrev pub own_values_of : RowView A T → OwnValuesView T
+  own_values_of row = record { home = row.home; values = owned_values row.contents }
 
 module _ {T : Type 0} where
+  -- there is no bucket, or a power of two, and fewer than 2^64; and the size counts those that are set
+  pub record IsGeneration (ps : List (Content T)) (size : ℕ) : Type 0 where
+    pub powered : (ps ≡ []) ⊎ IsPowerOfTwo (length ps)
+    pub fits : length ps < 2 ^ 64
+    pub counted : size ≡ length (shown_entries ps)
+
   -- the bucket names an entry
   abbrev pub IsName : Content T → Type 0
   IsName vacant = ⊥

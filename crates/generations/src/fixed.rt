@@ -11,7 +11,7 @@ ghost use Rattle.generations.specs.Generations.{CountsInsert, AreOfOneHome, IsNa
 pub mod owning;
 
 use crate::atomic_value::AtomicValue;
-use cell::{Bucket, Entry, Home, Mark, Refusal as BucketRefusal, Word};
+use cell::{Bucket, BucketRef, Entry, Home, Mark, Refusal as BucketRefusal, Row};
 use std::alloc::{AllocError, Allocator};
 use std::marker::Model;
 use terms::probe::{bits_of_hash, first_bucket, next_bucket};
@@ -44,10 +44,7 @@ pub enum Refusal<T> {
 /// A generation: as many buckets as its capacity, a power of two, or none; all of one home and one allocator.
 #[derive(Drop)]
 pub struct Generation<T: AtomicValue, A: Allocator + Copy> {
-    alloc: A,
-    /// Never set: it says of which home the buckets are.
-    mark: Word<Entry<T>, A>,
-    buckets: Vec<Bucket<T, A>, A>,
+    row: Row<T, A>,
     size: usize,
 }
 
@@ -56,9 +53,9 @@ impl<T: AtomicValue, A: Allocator + Copy> Model for Generation<T, A> {
 
     ghost Value = { GenerationView A T };
 
-    ghost view = { λ g. generation_of g.alloc g.mark.home g.buckets.items g.size };
+    ghost view = { λ g. generation_of g.row g.size };
 
-    ghost invariant = { λ g. IsGeneration g.alloc g.mark.home g.buckets.items g.size };
+    ghost invariant = { λ g. IsGeneration g.row.contents g.size };
 }
 
 /// What the test says of an entry.
@@ -79,7 +76,7 @@ fn compare_entry<'a, T: AtomicValue, F: Fn(&T::Target) -> bool>(
 /// What a probe for these bits learns of a bucket. An entry with other bits is not asked about, and its block not read.
 fn compare_bucket<'a, T: AtomicValue, A: Allocator + Copy, F: Fn(&T::Target) -> bool>(
     home: &'a Home,
-    bucket: &'a Bucket<T, A>,
+    bucket: &BucketRef<'a, T, A>,
     sought: u8,
     test: &F,
 ) -> Comparison<'a, T>
@@ -89,8 +86,9 @@ fn compare_bucket<'a, T: AtomicValue, A: Allocator + Copy, F: Fn(&T::Target) -> 
 {
     match bucket.mark() {
         Mark::Vacant => Comparison::Vacant,
-        Mark::Own(bits) if bits == sought => compare_entry(bucket.entry(home), test),
-        Mark::Named(bits) if bits == sought => compare_entry(bucket.entry(home), test),
+        Mark::Own(bits) | Mark::Named(bits) if bits == sought => {
+            compare_entry(bucket.entry(home), test)
+        }
         _ => Comparison::Different,
     }
 }
@@ -103,27 +101,18 @@ impl<T: AtomicValue, A: Allocator + Copy> Generation<T, A> {
         ensures { result ≡ blank alloc home.now.id 0 }
     {
         Generation {
-            alloc,
-            mark: Word::new(&alloc, home),
-            buckets: Vec::new(alloc),
+            row: Row::new(alloc, home),
             size: 0,
         }
     }
 
-    /// Empty buckets.
+    /// Empty buckets. It asks for memory twice: for their marks, and for their words.
     pub fn with_capacity(alloc: A, home: &Home, capacity: usize) -> Result<Self, AllocError>
         requires { IsPowerOfTwo capacity }
         ensures { IfOk result (λ g. g ≡ blank alloc home.now.id capacity) }
     {
-        let mut buckets = Vec::with_capacity(alloc, capacity)?;
-        for _made in 0..capacity {
-            buckets.push_reserved(Bucket::new(&alloc, home));
-        }
-        let mark = Word::new(&alloc, home);
         Ok(Generation {
-            alloc,
-            mark,
-            buckets,
+            row: Row::vacant(alloc, home, capacity)?,
             size: 0,
         })
     }
@@ -132,7 +121,7 @@ impl<T: AtomicValue, A: Allocator + Copy> Generation<T, A> {
     pub fn capacity(&self) -> usize
         ensures { result ≡ length self.now.contents }
     {
-        self.buckets.len()
+        self.row.len()
     }
 
     /// The number of set buckets.
@@ -147,7 +136,7 @@ impl<T: AtomicValue, A: Allocator + Copy> Generation<T, A> {
     pub fn wants_growth(&self) -> bool
         ensures { IsTrue result ↔ (length self.now.contents ≤ 2 * self.now.size) }
     {
-        self.buckets.len() - self.size <= self.size
+        self.row.len() - self.size <= self.size
     }
 
     /// The entry that the bucket at this index shows: its own, or the one that it names.
@@ -156,7 +145,7 @@ impl<T: AtomicValue, A: Allocator + Copy> Generation<T, A> {
         requires within { index < length self.now.contents }
         ensures { option_copied result ≡ shown (content_at self.now.contents index) }
     {
-        self.buckets[index].get_alone(home)
+        self.row.at(index).get_alone(home)
     }
 
     /// A bucket that names the entry that the bucket at this index shows. No block is read.
@@ -164,7 +153,7 @@ impl<T: AtomicValue, A: Allocator + Copy> Generation<T, A> {
         requires { index < length self.now.contents }
         ensures { result ≡ option_map (bucket self.now.from self.now.home) (naming (content_at self.now.contents index)) }
     {
-        self.buckets[index].naming(self.alloc)
+        self.row.at(index).naming(self.row.alloc())
     }
 
     /// Empty buckets of the same home and the same allocator.
@@ -173,7 +162,7 @@ impl<T: AtomicValue, A: Allocator + Copy> Generation<T, A> {
         requires power { IsPowerOfTwo capacity }
         ensures { IfOk result (λ g. g ≡ blank self.now.from self.now.home capacity) }
     {
-        Generation::with_capacity(self.alloc, home, capacity)
+        Generation::with_capacity(self.row.alloc(), home, capacity)
     }
 
     /// Looks at the buckets from the hash's first one on, and stops at an empty one or at an accepted entry.
@@ -189,10 +178,10 @@ impl<T: AtomicValue, A: Allocator + Copy> Generation<T, A> {
         ensures { ProbeGives T.target (FnReturnsAt F.Fn test.now) (shown_all self.now.contents) hash result }
     {
         let sought = bits_of_hash(hash);
-        let capacity = self.buckets.len();
+        let capacity = self.row.len();
         let mut index = first_bucket(hash, capacity);
         for _seen in 0..capacity {
-            match compare_bucket(home, &self.buckets[index], sought, test) {
+            match compare_bucket(home, &self.row.at(index), sought, test) {
                 Comparison::Vacant => return ProbeEnd::Vacant(index),
                 Comparison::Accepted(entry) => return ProbeEnd::Accepted(index, entry),
                 Comparison::Different => (),
@@ -238,9 +227,7 @@ impl<T: AtomicValue, A: Allocator + Copy> Generation<T, A> {
             ProbeEnd::Accepted(index, _) => Ok((index, Some(value))),
             ProbeEnd::Full => Err(Refusal::Full(value)),
             ProbeEnd::Vacant(index) => {
-                let alloc = self.alloc;
-                let bits = bits_of_hash(hash);
-                match self.buckets[index].place_alone(home, alloc, value, bits) {
+                match self.row.place_alone(home, index, value, bits_of_hash(hash)) {
                     Ok(()) => {
                         self.size += 1;
                         Ok((index, None))
@@ -265,7 +252,7 @@ impl<T: AtomicValue, A: Allocator + Copy> Generation<T, A> {
     {
         match self.probe(home, hash, &|_target: &T::Target| false) {
             ProbeEnd::Vacant(index) => {
-                self.buckets[index] = name;
+                self.row.put(index, name);
                 self.size += 1;
             }
             _ => unreachable!(),

@@ -5,31 +5,23 @@ ghost use Rattle.generations.specs.Buckets.{owned_values};
 
 use crate::atomic_value::AtomicValue;
 use crate::fixed::Generation;
-use cell::{Bucket, Closed, Entry, Word};
+use cell::{Buckets, Closed};
 use std::alloc::Allocator;
 use std::marker::Model;
-use std::vec;
 
 /// The values that the buckets of a generation own, in the order of the buckets, seen as the list of those that are left.
 /// `drop_rest` drops them; who lets it go with values left leaves their blocks unfreed.
 #[derive(Drop)]
 pub struct OwnValues<T: AtomicValue, A: Allocator + Copy> {
-    alloc: A,
-    mark: Word<Entry<T>, A>,
-    buckets: vec::IntoIter<Bucket<T, A>, A>,
+    buckets: Buckets<T, A>,
 }
 
 impl<T: AtomicValue, A: Allocator + Copy> Model for OwnValues<T, A> {
-    ghost use Rattle.std.specs.Prelude.{All};
-    ghost use Rattle.std.specs.Vec.Iter.{into_iter_items};
-    ghost use Rattle.cell.specs.Contents.{Lies};
     ghost use Rattle.generations.specs.Generations.{OwnValuesView, own_values_of};
 
     ghost Value = { OwnValuesView T };
 
-    ghost view = { λ it. own_values_of it.mark.home (into_iter_items it.buckets) };
-
-    ghost invariant = { λ it. All (Lies it.mark.home it.alloc) (into_iter_items it.buckets) };
+    ghost view = { λ it. own_values_of it.buckets };
 }
 
 impl<T: AtomicValue, A: Allocator + Copy> OwnValues<T, A> {
@@ -39,8 +31,9 @@ impl<T: AtomicValue, A: Allocator + Copy> OwnValues<T, A> {
         ensures home { self.new.home ≡ self.old.home }
         ensures first { YieldsFirst (λ rest. rest) self.old.values result self.new.values }
     {
-        while let Some(bucket) = self.buckets.next() {
-            if let Some(value) = bucket.take_alone(closed, self.alloc) {
+        let alloc = self.buckets.alloc();
+        while let Some(bucket) = self.buckets.next_bucket() {
+            if let Some(value) = bucket.take_alone(closed, alloc) {
                 return Some(value);
             }
         }
@@ -64,16 +57,8 @@ impl<T: AtomicValue, A: Allocator + Copy> Generation<T, A> {
         ensures home { result.home ≡ self.home }
         ensures values { result.values ≡ owned_values self.contents }
     {
-        let Generation {
-            alloc,
-            mark,
-            buckets,
-            size: _,
-        } = self;
         OwnValues {
-            alloc,
-            mark,
-            buckets: buckets.into_iter(),
+            buckets: self.row.into_buckets(),
         }
     }
 }

@@ -1,29 +1,26 @@
-use Rattle.std.proofs.Common.{◌≡◌, ◌∙◌, sym, length, arith}
+use Rattle.std.proofs.Common.{◌≡◌, ◌∙◌, sym, ap, length, arith}
 use Rattle.terms.specs.Probes.{bucket_at}
-use Rattle.generations.proofs.Probes.{lies_read, shown_read, passed_more, length-shown}
+use Rattle.generations.specs.Buckets.{shown}
+use Rattle.generations.proofs.Contents.{length-shown_all, shown_at}
+use Rattle.generations.proofs.Probes.{passed_more}
 use Rattle.generations.proofs.fixed.Generation.probe.Goals as goal
 
 pub loop-seen-init : goal.loop-seen-init
 loop-seen-init g c =
-    let long : c.len-capacity.result ≡ length c.self.inside.buckets.items = omega arith in
-    let all = long ∙ sym (length-shown c.self.inside.buckets.items) in
+    let long : c.len-capacity.result ≡ length c.self.inside.row.contents = omega arith in
+    let all = long ∙ sym (length-shown_all c.self.inside.row.contents) in
     record {
       below = omega arith;
       at = rw all at c.first_bucket-index.ensures.first;
       passed = record { refused = λ k h. absurd (omega arith) };
     }
 
-pub compare_bucket-requires-clause-home : goal.compare_bucket-requires-clause-home
-compare_bucket-requires-clause-home g c =
-    let lies = lies_read c.self.inside.buckets.items _ _ c.loop-seen.index c.index.result.now c.loop-seen.invariant.below c.index.ensures c.self.invariant.lies in
-    lies.0 ∙ (rw (← c.self.view_is) at c.requires.home)
-
 pub returns-in-Vacant : goal.returns-in-Vacant
 returns-in-Vacant g c =
-    let shows = shown_read c.self.inside.buckets.items c.loop-seen.index c.index.result.now c.loop-seen.invariant.below c.index.ensures in
+    let shows = shown_at c.self.inside.row.contents c.loop-seen.index ∙ ap (λ b. shown b.content) (sym c.at.ensures) in
     rw (← c.self.view_is) (record {
       steps = c.loop-seen._seen;
-      within = rw length-shown (omega arith);
+      within = rw length-shown_all (omega arith);
       is = c.loop-seen.invariant.at;
       passed = c.loop-seen.invariant.passed;
       vacant = shows ∙ c.in-Vacant.ensures;
@@ -31,11 +28,11 @@ returns-in-Vacant g c =
 
 pub returns-in-Accepted : goal.returns-in-Accepted
 returns-in-Accepted g c =
-    let shows = shown_read c.self.inside.buckets.items c.loop-seen.index c.index.result.now c.loop-seen.invariant.below c.index.ensures in
+    let shows = shown_at c.self.inside.row.contents c.loop-seen.index ∙ ap (λ b. shown b.content) (sym c.at.ensures) in
     rw (← c.self.view_is) (
       record {
         steps = c.loop-seen._seen;
-        within = rw length-shown (omega arith);
+        within = rw length-shown_all (omega arith);
         is = c.loop-seen.invariant.at;
         passed = c.loop-seen.invariant.passed;
         accepted = rw (shows, ← c.bits_of_hash-sought.ensures) c.in-Accepted.ensures.0;
@@ -45,9 +42,9 @@ returns-in-Accepted g c =
 
 pub loop-seen-preserved : goal.loop-seen-preserved
 loop-seen-preserved g c =
-    let shows = shown_read c.self.inside.buckets.items c.loop-seen.index c.index.result.now c.loop-seen.invariant.below c.index.ensures in
-    let long : c.len-capacity.result ≡ length c.self.inside.buckets.items = omega arith in
-    let all = long ∙ sym (length-shown c.self.inside.buckets.items) in
+    let shows = shown_at c.self.inside.row.contents c.loop-seen.index ∙ ap (λ b. shown b.content) (sym c.at.ensures) in
+    let long : c.len-capacity.result ≡ length c.self.inside.row.contents = omega arith in
+    let all = long ∙ sym (length-shown_all c.self.inside.row.contents) in
     let here : c.loop-seen.index ≡ bucket_at c.len-capacity.result c.args.hash c.loop-seen._seen = rw all c.loop-seen.invariant.at in
     record {
       below = omega arith;
@@ -57,5 +54,5 @@ loop-seen-preserved g c =
 
 pub returns : goal.returns
 returns g c =
-    let all : c.loop-seen._seen ≡ length c.self.inside.buckets.items = omega arith in
-    rw (← c.self.view_is, length-shown, ← all) c.loop-seen.invariant.passed
+    let all : c.loop-seen._seen ≡ length c.self.inside.row.contents = omega arith in
+    rw (← c.self.view_is, length-shown_all, ← all) c.loop-seen.invariant.passed

@@ -2,7 +2,6 @@ use Rattle.std.proofs.Common.{◌≡◌, ◌<◌, length}
 use Rattle.std.specs.Fn.{FnReturnsAt}
 use Rattle.terms.specs.Probes.{bucket_at}
 use Rattle.generations.specs.Buckets.{shown_all}
-use Rattle.generations.specs.Generations.{contents_of}
 use Rattle.generations.specs.Probe.{IsPassed}
 use Rattle.generations.proofs.fixed.Generation.probe.Given as goal
 
@@ -13,7 +12,7 @@ pub record IsUnderWay (A B C : Type 0) : Type 0 where
 
 abbrev pub invariant-loop-seen : goal.invariant-loop-seen
 invariant-loop-seen g l =
-    let shown = shown_all (contents_of l.self-inside.buckets.items) in
-    IsUnderWay (l.index < length l.self-inside.buckets.items)
+    let shown = shown_all (l.self-inside.row.contents) in
+    IsUnderWay (l.index < length l.self-inside.row.contents)
     (l.index ≡ bucket_at (length shown) l.hash l._seen)
     (IsPassed g.T.AtomicValue.target (FnReturnsAt g.F.Fn l.test) shown l.hash l._seen)
