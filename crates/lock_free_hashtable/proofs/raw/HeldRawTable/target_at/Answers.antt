@@ -27,3 +27,6 @@ returns g c =
     (rw (c.generation.ensures, c.as_slice.ensures.value) at c.generation_at-generation.ensures.row) in
     let shows = rw (c.index.ensures, there.1) at c.entry_shown.ensures in
     shows_target _ (marked_at c.args.self.now c.args.place) c.in-Some.entry.now _ (sym shows ∙ ap option_copied c.in-Some.is) c.deref.ensures
+
+pub entry_shown-requires-clause-home : goal.entry_shown-requires-clause-home
+entry_shown-requires-clause-home g c = c.generation_at-generation.ensures.home c.self.inside.home.id (rw c.as_slice.ensures.value c.self.invariant.1)
