@@ -106,7 +106,13 @@ impl<T: Drop, A: Allocator + Copy> Row<T, A> {
 
     /// Sets the bucket at this index to the value, in a block of its own. The block is asked for before the bucket is looked
     /// at. See `Bucket::place_alone`.
-    pub fn place_alone(&mut self, home: &Home, index: usize, value: T, bits: u8) -> Result<(), Refusal<T>>
+    pub fn place_alone(
+        &mut self,
+        home: &Home,
+        index: usize,
+        value: T,
+        bits: u8,
+    ) -> Result<(), Refusal<T>>
         requires home { self.old.home ≡ home.now.id }
         requires within { index < length self.old.contents }
         ensures vacant { OnOk result (content_at self.old.contents index ≡ vacant) }

@@ -31,11 +31,11 @@ enum Seen {
 fn look_at(home: &Home, bucket: &Bucket<u64, Global>) -> Seen
     requires { bucket.now.home ≡ home.now.id }
 {
-    let value = match bucket.get_alone(home) {
+    let value = match bucket.as_ref().get_alone(home) {
         Some(entry) => entry.value,
         None => 0,
     };
-    match bucket.mark() {
+    match bucket.as_ref().mark() {
         Mark::Vacant => Seen::Vacant,
         Mark::Own(bits) => Seen::Own(bits, value),
         Mark::Named(bits) => Seen::Named(bits, value),
@@ -51,7 +51,7 @@ fn life(alloc: Global) -> ([Seen; 3], [Option<u64>; 2]) {
     let _placed = first.place_alone(&home, alloc, 5, 200).is_ok();
     let _taken = first.place_alone(&home, alloc, 6, 100).is_ok();
     let after = look_at(&home, &first);
-    let second = match first.naming(alloc) {
+    let second = match first.as_ref().naming(alloc) {
         Some(named) => named,
         None => Bucket::new(&alloc, &home),
     };
@@ -81,9 +81,9 @@ fn named_and_given_up(alloc: Global, value: Counting) -> Option<Counting> {
     let home = Home::new();
     let mut bucket = Bucket::new(&alloc, &home);
     let _placed = bucket.place_alone(&home, alloc, value, 1).is_ok();
-    let first = bucket.naming(alloc);
+    let first = bucket.as_ref().naming(alloc);
     let second = match &first {
-        Some(named) => named.naming(alloc),
+        Some(named) => named.as_ref().naming(alloc),
         None => None,
     };
     drop(first);

@@ -49,7 +49,7 @@ fn alone<A: Allocator + Copy>(alloc: A) -> ([Fared; 3], Option<u64>) {
 fn place<A: Low + Copy>(home: &Home, bucket: &Bucket<u64, A>, alloc: A, value: u64) -> Fared
     requires { Lies home.now.id alloc bucket.now }
 {
-    match bucket.place(home, alloc, value, 9) {
+    match bucket.as_ref().place(home, alloc, value, 9) {
         Ok(_) => Fared::Placed,
         Err(Missed::Taken(back, _)) => Fared::Taken(back),
         Err(Missed::NoMemory(back)) => Fared::NoMemory(back),

@@ -54,6 +54,7 @@ impl One {
     fn place(&self, number: u64, drops: Arc<AtomicU64>) -> Fared {
         match self
             .bucket
+            .as_ref()
             .place(&self.home, self.alloc, Counting { number, drops }, 3)
         {
             Ok(entry) => Fared::Placed(entry.value.number),
@@ -63,7 +64,7 @@ impl One {
     }
 
     fn number(&self) -> Option<u64> {
-        Some(self.bucket.get(&self.home)?.value.number)
+        Some(self.bucket.as_ref().get(&self.home)?.value.number)
     }
 
     fn end(self) -> Option<Counting> {

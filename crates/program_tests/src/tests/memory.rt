@@ -70,8 +70,8 @@ fn refuse_each<R: Threads + Wait + AllocGlobal + Abort>(rt: &R, first: &str) -> 
         let refused = refuse_one(rt, first, input.as_bytes(), granted)?;
         refusals = refusals.saturating_add(refused);
     }
-    // Each of the 17 for its pair and for its block, and the first for its generation.
-    assert_eq!(rt; refusals, 35, "{first}");
+    // Each of the 17 for its pair and for its block, and the first for its generation's marks and words.
+    assert_eq!(rt; refusals, 36, "{first}");
     Ok(())
 }
 
@@ -81,8 +81,8 @@ fn each_request_is_refused_in_turn(rt: HostRuntime) -> Result<(), Fail> {
     refuse_each(&rt, "32")
 }
 
-/// Requests of so many bytes or more are for generations.
-const GENERATION: usize = 256;
+/// Requests of so many bytes or more are for generations: the words of the first take as many.
+const GENERATION: usize = 128;
 
 /// Asserts what `calls` prints on memory under a rule.
 fn assert_refusing<R: Threads + Wait + AllocGlobal + Abort>(
@@ -135,7 +135,7 @@ fn one_growth_is_refused(rt: HostRuntime) -> Result<(), Fail> {
 fn the_first_block_is_refused(rt: HostRuntime) -> Result<(), Fail> {
     // A pair takes 16 bytes; its block takes more, since the allocator's handle lies in it.
     let input = "i 0 1\nn\nc\nb\ni 0 1\n";
-    let rule = Rule::new(17, GENERATION - 1, 0, 1);
+    let rule = Rule::new(17, 31, 0, 1);
     assert_refusing(&rt, rule, input, "refused\n0\n16\n16\nplaced\n")?;
 
     // The pair itself.

@@ -6,19 +6,22 @@ use std::alloc::{AllocError, Allocator, Global};
 use std::process::Abort;
 use std::test::Fail;
 
-/// Entries of a table, and the blocks that it holds at least: one for each entry, and one for each generation.
-const TABLES: [(u64, u64); 6] = [(0, 0), (1, 2), (7, 8), (8, 10), (20, 23), (40, 44)];
+/// Entries of a table, and the blocks that it holds at least: one for each entry, and two for each
+/// generation.
+const TABLES: [(u64, u64); 6] = [(0, 0), (1, 3), (7, 9), (8, 12), (20, 26), (40, 48)];
 
 /// Entries of a table, and how many of them are taken out of it before the rest is dropped.
 const TAKEN: [(u64, u64); 6] = [(0, 0), (5, 0), (5, 2), (20, 10), (20, 19), (20, 20)];
 
 /// The one request that is refused: the sizes of those that are counted, and how many of them pass before. The block of
 /// an entry takes fewer than 32 bytes, and all else more.
-const REFUSED: [(usize, usize, u64); 7] = [
+const REFUSED: [(usize, usize, u64); 9] = [
     (32, usize::MAX, 0),
     (32, usize::MAX, 1),
     (32, usize::MAX, 2),
     (32, usize::MAX, 3),
+    (32, usize::MAX, 4),
+    (32, usize::MAX, 5),
     (0, 31, 0),
     (0, 31, 7),
     (0, 31, 19),
@@ -123,15 +126,15 @@ fn a_request_refused(rt: HostRuntime) -> Result<(), Fail> {
     Ok(())
 }
 
-/// A first generation without an entry: its row was granted, and the block of its entry refused.
+/// A first generation without an entry: its marks and its words were granted, and the block of its entry refused.
 #[test]
 fn a_generation_without_entries(rt: HostRuntime) -> Result<(), Fail> {
     let heap = Refusing::new(rt.alloc(), Rule::new(0, 31, 0, 1));
     let mut table: Pairs<&Refusing<Global>> = HeldRawTable::new(&heap);
     insert(&mut table, rt.alloc(), (1, 1))?;
     assert_eq!(rt; (table.len_alone(), table.capacity_alone()), (0, 16));
-    assert_eq!(rt; (heap.granted(), heap.given_back()), (1, 0));
+    assert_eq!(rt; (heap.granted(), heap.given_back()), (2, 0));
     drop(table);
-    assert_eq!(rt; (heap.granted(), heap.given_back()), (1, 1));
+    assert_eq!(rt; (heap.granted(), heap.given_back()), (2, 2));
     Ok(())
 }

@@ -10,7 +10,8 @@ use std::test::Fail;
 /// A block of an entry takes fewer bytes, and all else that a table asks for more.
 const BLOCK: usize = 32;
 
-/// A rule over what growth asks for.
+/// A rule over what growth asks for: twice for a generation, for its marks and for its words, and before that for room to
+/// keep the one before.
 fn growth(passing: u64, refused: u64) -> Rule {
     Rule::new(BLOCK, usize::MAX, passing, refused)
 }
@@ -54,7 +55,7 @@ fn no_first_generation(rt: HostRuntime) -> Result<(), Fail> {
 /// Growth is wanted by the eighth to the sixteenth insert, the seventeenth and a found value, once each.
 #[test]
 fn no_second_generation(rt: HostRuntime) -> Result<(), Fail> {
-    let heap = Refusing::new(rt.alloc(), growth(1, 11));
+    let heap = Refusing::new(rt.alloc(), growth(2, 11));
     let mut table: Pairs<&Refusing<Global>> = HeldRawTable::new(&heap);
     assert_placed_within(&rt, &mut table, rt.alloc(), 0..16, 16)?;
     assert_refused(&rt, &mut table, rt.alloc(), 16)?;
@@ -72,7 +73,7 @@ fn no_second_generation(rt: HostRuntime) -> Result<(), Fail> {
 /// Growth is wanted by the sixteenth to the thirty-second insert and by the next, once each.
 #[test]
 fn no_third_generation(rt: HostRuntime) -> Result<(), Fail> {
-    let heap = Refusing::new(rt.alloc(), growth(3, 18));
+    let heap = Refusing::new(rt.alloc(), growth(5, 18));
     let mut table: Pairs<&Refusing<Global>> = HeldRawTable::new(&heap);
     assert_placed_within(&rt, &mut table, rt.alloc(), 0..7, 16)?;
     assert_placed_within(&rt, &mut table, rt.alloc(), 7..32, 32)?;
@@ -86,7 +87,7 @@ fn no_third_generation(rt: HostRuntime) -> Result<(), Fail> {
 
 #[test]
 fn growth_comes_after_the_next_value(rt: HostRuntime) -> Result<(), Fail> {
-    let heap = Refusing::new(rt.alloc(), growth(1, 1));
+    let heap = Refusing::new(rt.alloc(), growth(2, 1));
     let mut table: Pairs<&Refusing<Global>> = HeldRawTable::new(&heap);
     assert_placed_within(&rt, &mut table, rt.alloc(), 0..8, 16)?;
     assert_placed_within(&rt, &mut table, rt.alloc(), 8..15, 32)?;
@@ -95,7 +96,7 @@ fn growth_comes_after_the_next_value(rt: HostRuntime) -> Result<(), Fail> {
 
 #[test]
 fn growth_comes_after_a_found_value(rt: HostRuntime) -> Result<(), Fail> {
-    let heap = Refusing::new(rt.alloc(), growth(1, 1));
+    let heap = Refusing::new(rt.alloc(), growth(2, 1));
     let mut table: Pairs<&Refusing<Global>> = HeldRawTable::new(&heap);
     assert_placed_within(&rt, &mut table, rt.alloc(), 0..8, 16)?;
     assert_found(&rt, &mut table, rt.alloc(), 3)?;
@@ -106,7 +107,7 @@ fn growth_comes_after_a_found_value(rt: HostRuntime) -> Result<(), Fail> {
 /// Growth would be granted at the refused block, and is not asked for: it comes after the next value.
 #[test]
 fn no_block(rt: HostRuntime) -> Result<(), Fail> {
-    let below = Refusing::new(rt.alloc(), growth(1, 1));
+    let below = Refusing::new(rt.alloc(), growth(2, 1));
     let heap = Refusing::new(&below, blocks(8, 1));
     let mut table: Pairs<&Refusing<&Refusing<Global>>> = HeldRawTable::new(&heap);
     assert_placed_within(&rt, &mut table, rt.alloc(), 0..8, 16)?;

@@ -15,7 +15,8 @@ invariant_of-self-2 g c =
 
 pub returns : goal.returns
 returns g c =
-    let lies = All-head (WordLies c.self.inside.origin.home c.self.inside.alloc) _ _ (rw c.in_ok-word.ensures.items at c.self.invariant.lies) in
-    (rw (← c.self.view_is, c.in_ok-mark.ensures.items, c.in_ok-word.ensures.items) refl,
-    rw (← c.self.view_is) (bucket_is c.in_ok-mark.mark c.in_ok-word.word _ c.self.inside.origin.home c.self.inside.alloc lies refl),
-    (ap (λ r. r.home) c.self.view_is, ap (λ r. r.from) c.self.view_is))
+    let lies = All-head (WordLies c.self.inside.origin.home c.self.inside.alloc) _ _ (rw c.in_ok-word.ensures.items at c.self.invariant.lies) in (
+      rw (← c.self.view_is, c.in_ok-mark.ensures.items, c.in_ok-word.ensures.items) refl,
+      rw (← c.self.view_is) (bucket_is c.in_ok-mark.mark c.in_ok-word.word _ c.self.inside.origin.home c.self.inside.alloc lies refl),
+      (ap (λ r. r.home) c.self.view_is, ap (λ r. r.from) c.self.view_is),
+    )

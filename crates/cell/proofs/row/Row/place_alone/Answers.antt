@@ -30,7 +30,7 @@ pub returns-clause-placed : goal.returns-clause-placed
 returns-clause-placed g c =
     let is : content_of (Own c.args.bits) c.own.result.value ≡ own c.of.result.value = ap (λ w. content_of (Own c.args.bits) w.value) c.own.ensures in
     rw (← c.self.view_is) (content_set c.self.inside.marks.items c.self.inside.words.items c.args.index (Own c.args.bits) c.own.result c.self.invariant.marked
-        ∙ rw (is, c.of.ensures.0, c.in-Ok.ensures.ok) refl)
+    ∙ rw (is, c.of.ensures.0, c.in-Ok.ensures.ok) refl)
 
 pub returns-then-not-matches-clause-refused : goal.returns-then-not-matches-clause-refused
 returns-then-not-matches-clause-refused g c =
@@ -38,9 +38,13 @@ returns-then-not-matches-clause-refused g c =
     let set : c.index.result.now ≢ Vacant = elim c.match-matches.branch [
       | in-Vacant w ↦ absurd (let no : true ≡ false = sym w.matches-is ∙ c.if-not-matches.true in cc)
       | in_default w ↦ w.in_default.not-Vacant
-    ] in
-    (refl, (ap (λ e. e.value) (c.into_inner.ensures ∙ c.in-Ok.ensures.ok),
-    rw (← c.self.view_is) (set_shows c.self.inside.marks.items c.self.inside.words.items c.args.index c.index.result.now c.self.invariant.marked below c.index.ensures set)))
+    ] in (
+      refl,
+      (
+        ap (λ e. e.value) (c.into_inner.ensures ∙ c.in-Ok.ensures.ok),
+        rw (← c.self.view_is) (set_shows c.self.inside.marks.items c.self.inside.words.items c.args.index c.index.result.now c.self.invariant.marked below c.index.ensures set),
+      ),
+    )
 
 pub returns-clause-vacant : goal.returns-clause-vacant
 returns-clause-vacant g c =
