@@ -6,6 +6,7 @@ mod home;
 mod loose_block;
 mod low;
 mod name;
+mod note;
 mod word;
 
 pub use bucket::{Bucket, Entry, Mark, Missed, Refusal};
@@ -13,4 +14,5 @@ pub use home::{Closed, Home, Homed};
 pub use loose_block::LooseBlock;
 pub use low::Low;
 pub use name::Name;
+pub use note::Note;
 pub use word::Word;
