@@ -1,9 +1,9 @@
 -- The buckets of a generation: which are set, and what they show.
 use Rattle.std.proofs.Common.{◌≡◌, ℕ, zero, suc, ◌+◌, ◌<◌, ◌≤◌, inl, inr, List, [], ◌∷◌, ◌++◌, Option, Some, None, length, refl, sym, ap, ◌∙◌, arith, replicate}
-use Rattle.std.specs.Prelude.{option_map, slice_index_or, slice_set}
+use Rattle.std.specs.Prelude.{All, option_map, slice_index_or, slice_set}
 use Rattle.std.specs.Int.{IsPowerOfTwo}
 use Rattle.std.proofs.Math.ListN.{get_or-map}
-use Rattle.std.proofs.lemmas.List.{length-append, length-map, length-replicate, length-set, map-set, set-get_or}
+use Rattle.std.proofs.lemmas.List.{length-append, length-map, length-replicate, length-set, map-append, map-set, replicate_more, set-get_or}
 use Rattle.std.proofs.lemmas.List.Elements.{All-set, All-replicate}
 use Rattle.std.proofs.lemmas.List.Sorted.{length_permutation}
 use Rattle.cell.specs.Contents.{BucketView, Lies, bucket, naming}
@@ -82,18 +82,19 @@ module _ {A T : Type 0} where
   pub few_set : (bs : List (BucketView A T)) → length (shown_entries (contents_of bs)) ≤ length bs
   few_set bs = let few = few_shown (contents_of bs) in let long = length-map bs (λ b. b.content) in omega arith
 
-  -- empty buckets hold nothing
-  pub contents-replicate : (n : ℕ) (b : BucketView A T) → contents_of (replicate n b) ≡ replicate n b.content
-  contents-replicate zero b = refl
-  contents-replicate (suc n) b = ap (λ ps. b.content ∷ ps) (contents-replicate n b)
+  -- a bucket pushed adds what it holds
+  pub contents_pushed : (n : ℕ) (bs : List (BucketView A T)) (b : BucketView A T) → contents_of bs ≡ replicate n vacant → b.content ≡ vacant → contents_of (bs ++ b ∷ []) ≡ replicate (n + 1) vacant
+  contents_pushed n bs b are empty = map-append (λ (c : BucketView A T). c.content) bs (b ∷ []) ∙ rw (are, empty) (replicate_more n vacant)
 
   -- empty buckets, a power of two of them, are a generation
-  pub generation-replicate : (from : A) (home n : ℕ) → IsPowerOfTwo n → IsGeneration from home (replicate n (bucket {A = A} {T = T} from home vacant)) 0
-  generation-replicate from home n two = record {
-    powered = inr (rw (length-replicate n (bucket {A = A} {T = T} from home vacant)) two);
-    counted = rw (contents-replicate n (bucket from home vacant), shown-replicate {T = T} n, values-replicate {X = Entry T} n) refl;
-    lies = All-replicate (Lies home from) n (bucket from home vacant) (refl, refl);
-  }
+  pub generation_blank : (from : A) (home n : ℕ) (bs : List (BucketView A T)) → IsPowerOfTwo n → contents_of bs ≡ replicate n vacant → All (Lies home from) bs → IsGeneration from home bs 0
+  generation_blank from home n bs two are lies =
+      let long : length bs ≡ n = sym (length-map bs (λ b. b.content)) ∙ ap length are ∙ length-replicate n vacant in
+      record {
+        powered = inr (rw long two);
+        counted = rw (are, shown-replicate {T = T} n, values-replicate {X = Entry T} n) refl;
+        lies = lies;
+      }
 
   -- with an empty bucket set, a generation is one of a size greater by one
   pub generation_set : (from : A) (home : ℕ) (bs : List (BucketView A T)) (size i : ℕ) (b : BucketView A T) (e : Entry T) → IsGeneration from home bs size → i < length bs
