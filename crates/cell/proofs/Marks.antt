@@ -1,6 +1,7 @@
 -- The mark beside a word agrees with it.
 use Rattle.std.proofs.Common.{◌≡◌, ℕ, Option, Some, true, false, refl, ap, subst}
-use Rattle.cell.specs.Words.{WordView, word_view, Agrees}
+use Rattle.cell.specs.Notes.{Agrees}
+use Rattle.cell.specs.Words.{WordView, word_view}
 use Rattle.cell.specs.Contents.{IsMarked, Reads, content_of}
 use Rattle.cell.specs.declared.bucket.Entry.{Entry}
 use Rattle.cell.specs.declared.bucket.Mark.{Mark}

@@ -1,10 +1,11 @@
 -- Marks beside words, bucket by bucket.
 use Rattle.std.proofs.Common.{◌≡◌, ◌≢◌, ℕ, zero, suc, Some, sym, ◌<◌, List, [], ◌∷◌, length, refl, ap, ◌∙◌, arith, replicate, slice_index_or}
-use Rattle.std.specs.Prelude.{All, slice_set}
+use Rattle.std.specs.Prelude.{All, map, slice_set}
+use Rattle.std.proofs.lemmas.List.{get_or-map}
 use Rattle.std.proofs.lemmas.List.Elements.{All-head, All-tail, All-get_or}
 use Rattle.cell.specs.Words.{WordView}
-use Rattle.cell.specs.Contents.{Content, vacant, IsMarked, content_of, bucket, bucket_of}
-use Rattle.cell.specs.Rows.{content_at, contents_of, AreMarked, WordLies}
+use Rattle.cell.specs.Contents.{Content, vacant, IsMarked, content_of, bucket_of}
+use Rattle.cell.specs.Rows.{content_at, contents_of, AreMarked, WordLies, bucket_at, row_of}
 use Rattle.cell.specs.declared.bucket.Entry.{Entry}
 use Rattle.cell.specs.declared.bucket.Mark.{Mark}
 use Rattle.cell.specs.declared.bucket.Mark.TheVariants.{Vacant, Own, Named}
@@ -33,7 +34,7 @@ module _ {A T : Type 0} where
   marked_at (n ∷ ms) (v ∷ ws) (suc i) m w are lt is at = marked_at ms ws i m w are.1 (omega arith) is at
 
   -- and they say what the bucket there holds
-  pub content_read : (ms : List Mark) (ws : List (WordView A (Entry T))) (i : ℕ) (m : Mark) (w : WordView A (Entry T)) → AreMarked ms ws → i < length ms
+  content_read : (ms : List Mark) (ws : List (WordView A (Entry T))) (i : ℕ) (m : Mark) (w : WordView A (Entry T)) → AreMarked ms ws → i < length ms
       → m ≡ slice_index_or ms i m → w ≡ slice_index_or ws i w → content_of m w.value ≡ content_at (contents_of ms ws) i
   content_read [] ws i m w are lt is at = absurd (omega arith)
   content_read (n ∷ ms) [] i m w are lt is at = absurd are
@@ -72,13 +73,17 @@ module _ {A T : Type 0} where
   contents-vacant (suc n) (w ∷ ws) long = ap (λ ps. vacant ∷ ps) (contents-vacant n ws (omega arith))
 
   -- a word of a row is of the row's home and allocator
-  pub lies_read : (ws : List (WordView A (Entry T))) (i : ℕ) (w : WordView A (Entry T)) (home : ℕ) (from : A) → i < length ws → w ≡ slice_index_or ws i w
+  lies_read : (ws : List (WordView A (Entry T))) (i : ℕ) (w : WordView A (Entry T)) (home : ℕ) (from : A) → i < length ws → w ≡ slice_index_or ws i w
       → All (WordLies home from) ws → WordLies home from w
   lies_read ws i w home from lt e all = rw e (All-get_or (WordLies home from) ws i w lt all)
 
-  -- a mark and a word of a row are a bucket of its home and allocator
-  pub bucket_is : (m : Mark) (w : WordView A (Entry T)) (p : Content T) (home : ℕ) (from : A) → WordLies home from w → content_of m w.value ≡ p → bucket_of m w ≡ bucket from home p
-  bucket_is m w p home from lies is = rw (lies.0, lies.1, is) refl
+  -- the mark and the word at an index of a row are its bucket there
+  pub bucket_is : (ms : List Mark) (ws : List (WordView A (Entry T))) (i : ℕ) (m : Mark) (w : WordView A (Entry T)) (home : ℕ) (from : A) → AreMarked ms ws → i < length ms → i < length ws
+      → m ≡ slice_index_or ms i m → w ≡ slice_index_or ws i w → All (WordLies home from) ws → bucket_of m w ≡ bucket_at (row_of from home ms ws) i
+  bucket_is ms ws i m w home from are low lt is at all =
+      let lies = lies_read ws i w home from lt at all in
+      let named : slice_index_or (map (λ (v : WordView A (Entry T)). v.id) ws) i 0 ≡ w.id = get_or-map (λ (v : WordView A (Entry T)). v.id) ws i w 0 lt ∙ ap (λ v. v.id) (sym at) in
+      rw (lies.0, lies.1, named, ← content_read ms ws i m w are low is at) refl
 
   -- where the mark says so, the bucket is vacant
   pub vacant_shows : (ms : List Mark) (ws : List (WordView A (Entry T))) (i : ℕ) (m : Mark) → AreMarked ms ws → i < length ms → m ≡ slice_index_or ms i m → m ≡ Vacant

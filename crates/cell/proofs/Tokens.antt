@@ -26,7 +26,7 @@ use Rattle.cell.specs.contracts.home.Closed as closed
 abbrev pub token : Val
 token = vstruct (vcons (vstruct vnil) vnil)
 
-abbrev Mark : RattleType
+abbrev pub Mark : RattleType
 Mark = (marker.the_field RawPtr).row
 
 abbrev pub HomeData : Fml

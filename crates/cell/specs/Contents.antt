@@ -15,14 +15,16 @@ pub data Content (T : Type 0) : Type 0 where
   own : (entry : Entry T) → Content T
   named : (entry : Entry T) → Content T
 
--- a bucket with the allocator and the home of its block
+-- a bucket with the allocator and the home of its block, and the name by which notes speak of what it is set to through `&`
 pub record BucketView (A T : Type 0) : Type 0 where
   pub from : A
   pub home : ℕ
+  pub id : ℕ
   pub content : Content T
 
+-- a bucket that is set alone: no note speaks of it
 abbrev pub bucket : {A T : Type 0} → A → ℕ → Content T → BucketView A T
-bucket a h c = record { from = a; home = h; content = c }
+bucket a h c = record { from = a; home = h; id = 0; content = c }
 
 module _ {T : Type 0} where
   -- the entry that a bucket shows
@@ -57,10 +59,17 @@ module _ {T : Type 0} where
   HandsBack c value (refusal.Taken back) = (back ≡ value) × (c ≢ vacant)
   HandsBack c value (refusal.NoMemory back) = back ≡ value
 
-  -- the value comes back, as taken beside the entry that the bucket shows
-  abbrev pub Misses : Content T → T → Missed T → Type 0
-  Misses c value (missed.Taken back first) = (back ≡ value) × IfSome (shown c) (λ e. first.now ≡ e)
-  Misses c value (missed.NoMemory back) = back ≡ value
+  -- a note that knew an entry knows it still
+  abbrev pub Keeps : Option (Entry T) → Option (Entry T) → Type 0
+  Keeps old new = IfSome old (λ e. new ≡ Some e)
+
+  -- the value comes back, as taken beside an entry: the one that the bucket was set to alone, or else the one that the
+  -- note then knows
+  abbrev pub Misses : Content T → T → Option (Entry T) → Option (Entry T) → Missed T → Type 0
+  Misses vacant value old new (missed.Taken back first) = (back ≡ value) × (new ≡ Some first.now) × Keeps old new
+  Misses (own e) value old new (missed.Taken back first) = (back ≡ value) × (first.now ≡ e) × (new ≡ old)
+  Misses (named e) value old new (missed.Taken back first) = (back ≡ value) × (first.now ≡ e) × (new ≡ old)
+  Misses c value old new (missed.NoMemory back) = (back ≡ value) × (new ≡ old)
 
   -- what a mark beside the known value of a word says
   abbrev pub content_of : Mark → Option (Entry T) → Content T
@@ -76,7 +85,7 @@ module _ {A T : Type 0} where
   Lies h a b = (b.home ≡ h) × (b.from ≡ a)
 
   abbrev pub bucket_of : Mark → WordView A (Entry T) → BucketView A T
-  bucket_of m w = bucket w.from w.home (content_of m w.value)
+  bucket_of m w = record { from = w.from; home = w.home; id = w.id; content = content_of m w.value }
 
   -- the mark beside a word agrees with it: a vacant word owns what it will be set to
   abbrev pub IsMarked : Mark → WordView A (Entry T) → Type 0

@@ -1,3 +1,4 @@
 pub mod Contents
+pub mod Notes
 pub mod Rows
 pub mod Words

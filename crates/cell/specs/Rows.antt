@@ -1,14 +1,15 @@
 -- Buckets in a row: their marks apart from their words.
-use Rattle.std.specs.Prelude.{◌≡◌, ℕ, ⊤, List, [], ◌∷◌, Option, Some, None, All, slice_index_or}
+use Rattle.std.specs.Prelude.{◌≡◌, ℕ, ⊤, List, [], ◌∷◌, Option, Some, None, All, map, slice_index_or}
 use Rattle.cell.specs.Words.{WordView}
-use Rattle.cell.specs.Contents.{BucketView, Content, vacant, IsMarked, content_of, bucket}
+use Rattle.cell.specs.Contents.{BucketView, Content, vacant, IsMarked, content_of}
 use Rattle.cell.specs.declared.bucket.Entry.{Entry}
 use Rattle.cell.specs.declared.bucket.Mark.{Mark}
 
--- buckets of one allocator and one home
+-- buckets of one allocator and one home, and the names by which notes speak of what they are set to through `&`
 pub record RowView (A T : Type 0) : Type 0 where
   pub from : A
   pub home : ℕ
+  pub ids : List ℕ
   pub contents : List (Content T)
 
 module _ {T : Type 0} where
@@ -34,11 +35,14 @@ module _ {A T : Type 0} where
   abbrev pub WordLies : ℕ → A → WordView A (Entry T) → Type 0
   WordLies home from w = (w.home ≡ home) × (w.from ≡ from)
 
-  abbrev pub row : A → ℕ → List (Content T) → RowView A T
-  row from home ps = record { from = from; home = home; contents = ps }
-
   abbrev pub row_of : A → ℕ → List Mark → List (WordView A (Entry T)) → RowView A T
-  row_of from home ms ws = row from home (contents_of ms ws)
+  row_of from home ms ws =
+      record { from = from; home = home; ids = map (λ w. w.id) ws; contents = contents_of ms ws }
+
+  -- the bucket at this index
+  abbrev pub bucket_at : RowView A T → ℕ → BucketView A T
+  bucket_at r i =
+      record { from = r.from; home = r.home; id = slice_index_or r.ids i 0; content = content_at r.contents i }
 
   -- each mark agrees with its word, and each word is of this home and this allocator
   pub record IsRow (from : A) (home : ℕ) (ms : List Mark) (ws : List (WordView A (Entry T))) : Type 0 where
@@ -54,4 +58,5 @@ module _ {A T : Type 0} where
   TakesFirst old None new = (old.contents ≡ []) × (new ≡ old)
   TakesFirst old (Some b) new =
       (old.contents ≡ b.content ∷ new.contents)
-      × (b ≡ bucket old.from old.home b.content) × AreOfOneRow new old
+      × (old.ids ≡ b.id ∷ new.ids) × (b.home ≡ old.home) × (b.from ≡ old.from)
+      × AreOfOneRow new old

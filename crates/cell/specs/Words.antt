@@ -14,32 +14,32 @@ use Rattle.core.specs.Sync.Atomic.Pointer.{atomic_ptr_holding}
 use Rattle.core.specs.Sync.RawAtomic.Pointer.{cell}
 use Rattle.core.specs.contracts.atomic.ptr.AtomicPtr.{the_row}
 use Rattle.std_alloc.specs.Box.Ownership.{box_owns}
+use Rattle.cell.specs.Notes.{Agrees, free, fixed}
 
--- a word: the allocator and the home of its block, whether it owns the block, and the value in the block if it is known
+-- a word: the allocator and the home of its block, the name by which notes speak of it, whether it owns the block, and
+-- the value in the block if it is known
 pub record WordView (A X : Type 0) : Type 0 where
   pub from : A
   pub home : ℕ
+  pub id : ℕ
   pub owning : Bool
   pub value : Option X
 
+-- a word of a known value: no note speaks of it
 abbrev pub word_view : {A X : Type 0} → A → ℕ → Bool → Option X → WordView A X
-word_view a h y v = record { from = a; home = h; owning = y; value = v }
+word_view a h y v = record { from = a; home = h; id = 0; owning = y; value = v }
 
 abbrev pub view_coded : {A X : Type 0} → Coded A → Coded (Option X) → Coded (WordView A X)
 view_coded c d =
-    coded_via (coded× c (coded× coded_ℕ (coded× coded_bool d)))
-    (λ (w : WordView _ _). (w.from, (w.home, (w.owning, w.value))))
+    coded_via (coded× c (coded× coded_ℕ (coded× coded_ℕ (coded× coded_bool d))))
+    (λ (w : WordView _ _). (w.from, (w.home, (w.id, (w.owning, w.value)))))
     (λ x y e i. record {
       from = (e i).0;
       home = (e i).1.0;
-      owning = (e i).1.1.0;
-      value = (e i).1.1.1;
+      id = (e i).1.1.0;
+      owning = (e i).1.1.1.0;
+      value = (e i).1.1.1.1;
     })
-
--- x is the known value, if one is known
-abbrev pub Agrees : {X : Type 0} → Option X → X → Type 0
-Agrees None x = Unit {0}
-Agrees (Some y) x = y ≡ x
 
 -- what a word may show: its known value, if one is known, and always a value that fits its home
 abbrev pub Shows : {A X : Type 0} → (X → ℕ → Type 0) → WordView A X → X → Type 0
@@ -64,6 +64,16 @@ module _ (R : RattleType) (h : ℕ) where
   abbrev pub named : Ptr → R.Denot → Fml
   named p x = lent_at R p x (h ∷ [])
 
+-- beside a word whose value isn't known: no value yet, or x for good
+module _ (R : RattleType) (i : ℕ) where
+  abbrev pub blank : Option R.Denot → Fml
+  blank None = free R i
+  blank (Some y) = ftrue
+
+  abbrev pub fixes : Option R.Denot → R.Denot → Fml
+  fixes None x = fixed R i x
+  fixes (Some y) x = ftrue
+
 module _ (R : RattleType) (k : Ty → Ptr → Fml) where
   -- a block with the right to free it
   abbrev pub boxed : Ptr → R.Denot → Fml
@@ -75,14 +85,14 @@ module _ (R : RattleType) (k : Ty → Ptr → Fml) where
     right true p x ν = flent (ν ∷ h ∷ []) (boxed p x)
     right false p x ν = ftrue
 
-    module _ (y : Bool) (v : Option R.Denot) (Q : R.Denot → Type 0) where
+    module _ (i : ℕ) (y : Bool) (v : Option R.Denot) (Q : R.Denot → Type 0) where
       -- a set word: the value may be read, an owning word has the right to the block, and the value is one it may show
       abbrev pub held : Ptr → R.Denot × ℕ × Share → Fml
-      held p s = fsep (view R h p s) (fsep (right y p s.0 s.1) (fex (Q s.0) (λ _. ftrue)))
+      held p s = fsep (view R h p s) (fsep (right y p s.0 s.1) (fex (Q s.0) (λ _. fixes R i v s.0)))
 
       -- beside its address: a word that is null has no known value
       abbrev pub kept : Ptr → Fml
-      kept null_ptr = fex (v ≡ None) (λ _. ftrue)
+      kept null_ptr = fex (v ≡ None) (λ _. blank R i v)
       kept (block_ptr b o) =
           fsep (tested v (block_ptr b o)) (fex (R.Denot × ℕ × Share) (held (block_ptr b o)))
 

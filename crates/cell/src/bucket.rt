@@ -1,11 +1,12 @@
 //! A bucket that is set at most once.
-ghost use Rattle.std.specs.Prelude.{◌≡◌, IfOk, IfErr, IfSome, IsSome, Some, OnOk, option_copied, option_map};
-ghost use Rattle.cell.specs.Contents.{vacant, own, named, bucket, shown, owned, entry_from, naming, Lies, Reads, HandsBack, Misses};
+ghost use Rattle.std.specs.Prelude.{◌≡◌, IfOk, IfErr, IfSome, IfNone, IsSome, None, Some, OnOk, option_copied, option_map};
+ghost use Rattle.cell.specs.Contents.{vacant, own, named, bucket, shown, owned, entry_from, naming, Lies, Reads, HandsBack, Keeps, Misses};
 
 use crate::home::{Closed, Home, Homed};
 use crate::loose_block::LooseBlock;
 use crate::low::Low;
 use crate::name::Name;
+use crate::note::Note;
 use crate::word::Word;
 use std::alloc::{Allocator, Global};
 use std::marker::Model;
@@ -66,6 +67,8 @@ const _: () = prove!(size_of::<Home>() == 0);
 
 const _: () = prove!(size_of::<Word<Entry<u64>, Global>>() == 8);
 
+const _: () = prove!(size_of::<Note<u64>>() == 0);
+
 const _: () = prove!(size_of::<Mark>() == 2);
 
 const _: () = prove!(size_of::<Bucket<u64, Global>>() == 16);
@@ -100,7 +103,8 @@ impl<'a, T: Drop, A: Allocator + Copy> Model for BucketRef<'a, T, A> {
 impl<T: Drop, A: Allocator + Copy> Bucket<T, A> {
     /// A vacant bucket. It takes no memory.
     pub fn new(alloc: &A, home: &Home) -> Self
-        ensures { result ≡ bucket alloc.now home.now.id vacant }
+        ensures lies { Lies home.now.id alloc.now result }
+        ensures vacant { result.content ≡ vacant }
     {
         Bucket {
             mark: Mark::Vacant,
@@ -162,10 +166,13 @@ impl<T: Drop, A: Allocator + Copy> Bucket<T, A> {
         }
     }
 
-    /// Ends the bucket, and hands out the value that it owns, alone or since it was set through `&`.
-    pub fn take(self, closed: &Closed, alloc: A) -> Option<T>
-        requires { Lies closed.now.id alloc self }
-        ensures { IfSome (shown self.content) (λ _. result ≡ option_map (λ e. e.value) (owned self.content)) }
+    /// Ends the bucket, and hands out the value that it owns, alone or since it was set through `&`: then the one that the
+    /// note knows, if it knows one.
+    pub fn take(self, closed: &Closed, alloc: A, note: Note<Entry<T>>) -> Option<T>
+        requires lies { Lies closed.now.id alloc self }
+        requires of { note.of ≡ self.id }
+        ensures alone { IfSome (shown self.content) (λ _. result ≡ option_map (λ e. e.value) (owned self.content)) }
+        ensures shared { IfNone (shown self.content) (IfSome note.known (λ e. result ≡ Some e.value)) }
     {
         match self.mark {
             Mark::Own(_) => Some(
@@ -173,7 +180,7 @@ impl<T: Drop, A: Allocator + Copy> Bucket<T, A> {
             ),
             Mark::Named(_) => None,
             Mark::Vacant => Some(
-                Box::into_inner(self.word.into_block_if_set(closed)?.into_box(alloc)).value,
+                Box::into_inner(self.word.into_block_if_set(closed, note)?.into_box(alloc)).value,
             ),
         }
     }
@@ -223,30 +230,45 @@ impl<'a, T: Drop, A: Allocator + Copy> BucketRef<'a, T, A> {
         }
     }
 
-    /// The entry that the bucket holds, or was set to through `&`.
-    pub fn get(&self, home: &'a Home) -> Option<&'a Entry<T>>
-        requires { self.now.home ≡ home.now.id }
-        ensures { IfSome (shown self.now.content) (λ e. option_copied result ≡ Some e) }
+    /// A note of what the bucket is set to through `&`, which knows nothing yet.
+    pub fn note(&self) -> Note<Entry<T>>
+        ensures { (result.of ≡ self.now.id) × (result.known ≡ None) }
+    {
+        self.word.note()
+    }
+
+    /// The entry that the bucket holds, or was set to through `&`: then the note knows it. What a note knows is shown again.
+    pub fn get(&self, home: &'a Home, note: &mut Note<Entry<T>>) -> Option<&'a Entry<T>>
+        requires home { self.now.home ≡ home.now.id }
+        requires of { note.old.of ≡ self.now.id }
+        ensures of { note.new.of ≡ note.old.of }
+        ensures alone { IfSome (shown self.now.content) (λ e. (option_copied result ≡ Some e) × (note.new.known ≡ note.old.known)) }
+        ensures shared { IfNone (shown self.now.content) ((option_copied result ≡ note.new.known) × Keeps note.old.known note.new.known) }
     {
         match self.mark {
-            Mark::Vacant => Some(self.word.name_if_set()?.get(home)),
+            Mark::Vacant => Some(self.word.name_if_set(note)?.get(home)),
             _ => Some(self.word.name().get(home)),
         }
     }
 }
 
 impl<'a, T: Drop, A: Low + Copy> BucketRef<'a, T, A> {
-    /// Sets a vacant bucket by one exchange. The block is asked for before the bucket is looked at.
+    /// Sets a vacant bucket by one exchange. The block is asked for before the bucket is looked at. The note then knows the
+    /// entry that was placed here, or the one that came first.
     pub fn place(
         &self,
         home: &'a Home,
         alloc: A,
         value: T,
         bits: u8,
+        note: &mut Note<Entry<T>>,
     ) -> Result<&'a Entry<T>, Missed<'a, T>>
         requires lies { Lies home.now.id alloc self.now }
+        requires of { note.old.of ≡ self.now.id }
+        ensures of { note.new.of ≡ note.old.of }
         ensures ok { IfOk result (λ e. (self.now.content ≡ vacant) × (e.now ≡ entry_from value bits)) }
-        ensures missed { IfErr result (λ m. Misses self.now.content value m) }
+        ensures first { IfOk result (λ e. (note.old.known ≡ None) × (note.new.known ≡ Some e.now)) }
+        ensures missed { IfErr result (λ m. Misses self.now.content value note.old.known note.new.known m) }
     {
         let block = match Box::new(alloc, Entry { value, bits }) {
             Ok(block) => block,
@@ -255,7 +277,7 @@ impl<'a, T: Drop, A: Low + Copy> BucketRef<'a, T, A> {
         if !matches!(self.mark, Mark::Vacant) {
             return Err(Missed::Taken(Box::into_inner(block).value, self.word.name().get(home)));
         }
-        match self.word.offer(home, LooseBlock::of(block)) {
+        match self.word.offer(home, LooseBlock::of(block), note) {
             (entry, None) => Ok(entry),
             (first, Some(back)) => {
                 let value = Box::into_inner(back.into_box(alloc)).value;

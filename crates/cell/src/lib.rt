@@ -6,6 +6,7 @@ mod home;
 mod loose_block;
 mod low;
 mod name;
+mod note;
 mod row;
 mod word;
 
@@ -14,5 +15,6 @@ pub use home::{Closed, Home, Homed};
 pub use loose_block::LooseBlock;
 pub use low::Low;
 pub use name::Name;
+pub use note::Note;
 pub use row::{Buckets, Row};
 pub use word::Word;

@@ -1,7 +1,7 @@
 //! Buckets in a row: their marks apart from their words, 10 bytes a bucket.
 ghost use Rattle.std.specs.Prelude.{◌≡◌, ◌<◌, length, replicate, [], slice_set, IfOk, IfErr, OnOk};
-ghost use Rattle.cell.specs.Contents.{vacant, own, bucket, entry_from, Lies, HandsBack};
-ghost use Rattle.cell.specs.Rows.{content_at, AreOfOneRow, TakesFirst};
+ghost use Rattle.cell.specs.Contents.{vacant, own, entry_from, Lies, HandsBack};
+ghost use Rattle.cell.specs.Rows.{content_at, bucket_at, AreOfOneRow, TakesFirst};
 
 use crate::bucket::{Bucket, BucketRef, Entry, Mark, Refusal};
 use crate::home::Home;
@@ -34,11 +34,10 @@ impl<T: Drop, A: Allocator + Copy> Model for Row<T, A> {
 }
 
 impl<T: Drop, A: Allocator + Copy> Row<T, A> {
-    ghost use Rattle.cell.specs.Rows.{row};
-
     /// No bucket at all. It takes no memory.
     pub fn new(alloc: A, home: &Home) -> Self
-        ensures { result ≡ row alloc home.now.id [] }
+        ensures of { (result.from ≡ alloc) × (result.home ≡ home.now.id) }
+        ensures none { result.contents ≡ [] }
     {
         Row {
             alloc,
@@ -50,7 +49,8 @@ impl<T: Drop, A: Allocator + Copy> Row<T, A> {
 
     /// So many vacant buckets. It asks for memory twice, once for the marks and once for the words; no bucket, no memory.
     pub fn vacant(alloc: A, home: &Home, capacity: usize) -> Result<Self, AllocError>
-        ensures { IfOk result (λ r. r ≡ row alloc home.now.id (replicate capacity vacant)) }
+        ensures of { IfOk result (λ r. (r.from ≡ alloc) × (r.home ≡ home.now.id)) }
+        ensures vacant { IfOk result (λ r. r.contents ≡ replicate capacity vacant) }
     {
         let mut marks = Vec::with_capacity(alloc, capacity)?;
         let mut words = Vec::with_capacity(alloc, capacity)?;
@@ -83,7 +83,7 @@ impl<T: Drop, A: Allocator + Copy> Row<T, A> {
     /// The bucket at this index, to be looked at.
     pub fn at(&self, index: usize) -> BucketRef<'_, T, A>
         requires { index < length self.now.contents }
-        ensures { result ≡ bucket self.now.from self.now.home (content_at self.now.contents index) }
+        ensures { result ≡ bucket_at self.now index }
     {
         BucketRef {
             mark: self.marks[index],

@@ -1,13 +1,15 @@
 //! A word that is set at most once.
-ghost use Rattle.std.specs.Prelude.{◌≡◌, true, false, Some, None, IsSome, MatchOption};
+ghost use Rattle.std.specs.Prelude.{◌≡◌, true, false, Some, None, IsSome, IfSome, IfNone, MatchOption};
 ghost use Rattle.std.specs.Coded.{coded_option};
 ghost use Rattle.std.specs.Sync.Atomic.Pointer.{atomic_ptr_holding};
+ghost use Rattle.cell.specs.Notes.{Agrees};
 ghost use Rattle.cell.specs.Words.{WordView, word_view, view_coded, Shows, owned, shared};
 
 use crate::home::{Closed, Home, Homed};
 use crate::loose_block::LooseBlock;
 use crate::low::Low;
 use crate::name::Name;
+use crate::note::Note;
 use std::alloc::Allocator;
 use std::marker::{Brand, Move, Owns, PhantomData, Send, Sync};
 use std::ptr::null_mut;
@@ -27,17 +29,17 @@ impl<T: Homed, A: Allocator> Owns for Word<T, A> {
 
     ghost coded = { view_coded A.code (coded_option T.code) };
 
-    ghost shr_at = { λ w p κ. shared T.row (A.dealloc_token w.from) w.home w.owning w.value (Shows T.fits w) p κ };
+    ghost shr_at = { λ w p κ. shared T.row (A.dealloc_token w.from) w.home w.id w.owning w.value (Shows T.fits w) p κ };
 }
 
 impl<T: Homed, A: Allocator> Move for Word<T, A> {
-    ghost own_val = { λ w vs. owned T.row (A.dealloc_token w.from) w.home w.owning w.value (Shows T.fits w) (λ p. Fields.own_val (record { inner = atomic_ptr_holding p; marker = record {} }) vs) };
+    ghost own_val = { λ w vs. owned T.row (A.dealloc_token w.from) w.home w.id w.owning w.value (Shows T.fits w) (λ p. Fields.own_val (record { inner = atomic_ptr_holding p; marker = record {} }) vs) };
 }
 
 impl<T: Homed, A: Allocator> Word<T, A> {
     /// Null. It takes no memory.
     pub fn new(_alloc: &A, _home: &Home) -> Word<T, A>
-        ensures { result ≡ word_view _alloc.now _home.now.id true None }
+        ensures { (result.from ≡ _alloc.now) × (result.home ≡ _home.now.id) × (result.owning ≡ true) × (result.value ≡ None) }
     {
         Word {
             inner: AtomicPtr::new(null_mut()),
@@ -78,16 +80,51 @@ impl<T: Homed, A: Allocator> Word<T, A> {
         Name { at }
     }
 
-    /// The name of the block, if the word was set by now.
-    pub fn name_if_set(&self) -> Option<Name<T>>
-        requires { self.now.value ≡ None }
-        ensures { MatchOption result (Unit {0}) (λ n. (n.home ≡ self.now.home) × Shows T.fits self.now n.value) }
+    /// A note of what the word is set to, which knows nothing yet.
+    pub fn note(&self) -> Note<T>
+        ensures { (result.of ≡ self.now.id) × (result.known ≡ None) }
+    {
+        Note { mark: PhantomData }
+    }
+
+    /// The name of the block, if the word was set by now. The note then knows its value. What a note knows is shown again.
+    pub fn name_if_set(&self, note: &mut Note<T>) -> Option<Name<T>>
+        requires unset { self.now.value ≡ None }
+        requires of { note.old.of ≡ self.now.id }
+        ensures of { note.new.of ≡ note.old.of }
+        ensures shows { MatchOption result (Unit {0}) (λ n. (n.home ≡ self.now.home) × Shows T.fits self.now n.value) }
+        ensures known { MatchOption result ((note.old.known ≡ None) × (note.new.known ≡ None)) (λ n. (note.new.known ≡ Some n.value) × Agrees note.old.known n.value) }
     {
         let at = unsafe { self.inner.load::<Brand>(SeqCst) };
         if at.is_null() {
             None
         } else {
             Some(Name { at })
+        }
+    }
+
+    /// The word as one that is set to the value that the note knows. Nothing is read.
+    fn known_by(self, note: Note<T>) -> Word<T, A>
+        requires { (note.of ≡ self.id) × (self.value ≡ None) × IsSome note.known }
+        ensures same { (result.from ≡ self.from) × (result.home ≡ self.home) × (result.owning ≡ self.owning) }
+        ensures value { (result.value ≡ note.known) × IfSome note.known (λ x. T.fits x self.home) }
+    {
+        let Note { mark: _ } = note;
+        self
+    }
+
+    /// The word as one whose value is known, with its name, if it was set through `&`. One that wasn't is as it was.
+    pub fn settled(self, note: Note<T>) -> (Word<T, A>, Option<Name<T>>)
+        requires unset { self.value ≡ None }
+        requires of { note.of ≡ self.id }
+        ensures same { (result.0.from ≡ self.from) × (result.0.home ≡ self.home) × (result.0.owning ≡ self.owning) }
+        ensures null { IfNone result.1 ((result.0 ≡ self) × (note.known ≡ None)) }
+        ensures set { IfSome result.1 (λ n. (result.0.value ≡ Some n.value) × (n.home ≡ self.home) × T.fits n.value self.home × Agrees note.known n.value) }
+    {
+        let mut note = note;
+        match self.name_if_set(&mut note) {
+            None => (self, None),
+            Some(name) => (self.known_by(note), Some(name)),
         }
     }
 
@@ -104,34 +141,38 @@ impl<T: Homed, A: Allocator> Word<T, A> {
         }
     }
 
-    /// The block, if the word was set through `&`, once its home has ended.
-    pub fn into_block_if_set(self, closed: &Closed) -> Option<LooseBlock<T, A>>
-        requires { (closed.now.id ≡ self.home) × (self.owning ≡ true) × (self.value ≡ None) }
-        ensures { MatchOption result (Unit {0}) (λ l. (l.from ≡ self.from) × Shows T.fits self l.value) }
+    /// The block, if the word was set through `&`, once its home has ended: of the value that the note knows, if it knows
+    /// one.
+    pub fn into_block_if_set(self, closed: &Closed, note: Note<T>) -> Option<LooseBlock<T, A>>
+        requires owns { (closed.now.id ≡ self.home) × (self.owning ≡ true) }
+        requires unset { self.value ≡ None }
+        requires of { note.of ≡ self.id }
+        ensures block { IfSome result (λ l. (l.from ≡ self.from) × Shows T.fits self l.value) }
+        ensures known { MatchOption result (note.known ≡ None) (λ l. Agrees note.known l.value) }
     {
-        let Word { inner, marker: _ } = self;
-        let at = inner.into_inner();
-        if at.is_null() {
-            None
-        } else {
-            Some(LooseBlock {
-                at,
-                marker: PhantomData,
-            })
+        let (word, name) = self.settled(note);
+        match name {
+            None => None,
+            Some(_) => Some(word.into_block(closed)),
         }
     }
 }
 
 impl<T: Homed, A: Low> Word<T, A> {
-    /// Sets the word by one exchange, unless it was set before. Shows what the word then names. A block that came second
-    /// comes back.
+    /// Sets the word by one exchange, unless it was set before. Shows what the word then names, which the note then knows.
+    /// A block that came second comes back.
     pub fn offer<'a>(
         &'a self,
         home: &'a Home,
         block: LooseBlock<T, A>,
+        note: &mut Note<T>,
     ) -> (&'a T, Option<LooseBlock<T, A>>)
-        requires { (home.now.id ≡ self.now.home) × (block.from ≡ self.now.from) × (self.now.owning ≡ true) × (self.now.value ≡ None) × T.fits block.value self.now.home }
-        ensures { MatchOption result.1 (result.0.now ≡ block.value) (λ l. (l.value ≡ block.value) × (l.from ≡ block.from)) }
+        requires fits { (home.now.id ≡ self.now.home) × (block.from ≡ self.now.from) × T.fits block.value self.now.home }
+        requires unset { (self.now.owning ≡ true) × (self.now.value ≡ None) }
+        requires of { note.old.of ≡ self.now.id }
+        ensures of { note.new.of ≡ note.old.of }
+        ensures known { (note.new.known ≡ Some result.0.now) × Agrees note.old.known result.0.now }
+        ensures back { MatchOption result.1 ((result.0.now ≡ block.value) × (note.old.known ≡ None)) (λ l. (l.value ≡ block.value) × (l.from ≡ block.from)) }
     {
         let at = block.at;
         unsafe { A::show_low(at as *const u8) };

@@ -88,8 +88,9 @@ fn named_and_given_up(alloc: Global, value: Counting) -> Option<Counting> {
     };
     drop(first);
     drop(second);
+    let note = bucket.as_ref().note();
     let closed = home.close();
-    bucket.take(&closed, alloc)
+    bucket.take(&closed, alloc, note)
 }
 
 #[test]

@@ -4,6 +4,10 @@
 #[cfg(test)]
 mod held;
 #[cfg(test)]
+mod noted;
+#[cfg(test)]
 mod refused;
+#[cfg(test)]
+mod settled;
 #[cfg(test)]
 mod shared;

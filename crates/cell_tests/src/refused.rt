@@ -49,7 +49,7 @@ fn alone<A: Allocator + Copy>(alloc: A) -> ([Fared; 3], Option<u64>) {
 fn place<A: Low + Copy>(home: &Home, bucket: &Bucket<u64, A>, alloc: A, value: u64) -> Fared
     requires { Lies home.now.id alloc bucket.now }
 {
-    match bucket.as_ref().place(home, alloc, value, 9) {
+    match bucket.as_ref().place(home, alloc, value, 9, &mut bucket.as_ref().note()) {
         Ok(_) => Fared::Placed,
         Err(Missed::Taken(back, _)) => Fared::Taken(back),
         Err(Missed::NoMemory(back)) => Fared::NoMemory(back),
@@ -63,8 +63,12 @@ fn shared<A: Low + Copy>(alloc: A) -> ([Fared; 3], Option<u64>) {
     let first = place(&home, &bucket, alloc, 5);
     let second = place(&home, &bucket, alloc, 6);
     let third = place(&home, &bucket, alloc, 7);
+    let note = bucket.as_ref().note();
     let closed = home.close();
-    ([first, second, third], bucket.take(&closed, alloc))
+    (
+        [first, second, third],
+        bucket.take(&closed, alloc, note),
+    )
 }
 
 /// A value for a bucket held alone, and then two that are offered to it through `&`.
@@ -74,8 +78,12 @@ fn shared_after_alone<A: Low + Copy>(alloc: A) -> ([Fared; 3], Option<u64>) {
     let first = fared_alone(bucket.place_alone(&home, alloc, 5, 1));
     let second = place(&home, &bucket, alloc, 6);
     let third = place(&home, &bucket, alloc, 7);
+    let note = bucket.as_ref().note();
     let closed = home.close();
-    ([first, second, third], bucket.take(&closed, alloc))
+    (
+        [first, second, third],
+        bucket.take(&closed, alloc, note),
+    )
 }
 
 /// An allocator that grants the first requests for the block of an entry of a number, and refuses the next one.

@@ -52,11 +52,14 @@ impl One {
     }
 
     fn place(&self, number: u64, drops: Arc<AtomicU64>) -> Fared {
-        match self
-            .bucket
-            .as_ref()
-            .place(&self.home, self.alloc, Counting { number, drops }, 3)
-        {
+        let mut note = self.bucket.as_ref().note();
+        match self.bucket.as_ref().place(
+            &self.home,
+            self.alloc,
+            Counting { number, drops },
+            3,
+            &mut note,
+        ) {
             Ok(entry) => Fared::Placed(entry.value.number),
             Err(Missed::Taken(_back, entry)) => Fared::Taken(entry.value.number),
             Err(Missed::NoMemory(_back)) => Fared::Refused,
@@ -64,7 +67,8 @@ impl One {
     }
 
     fn number(&self) -> Option<u64> {
-        Some(self.bucket.as_ref().get(&self.home)?.value.number)
+        let mut note = self.bucket.as_ref().note();
+        Some(self.bucket.as_ref().get(&self.home, &mut note)?.value.number)
     }
 
     fn end(self) -> Option<Counting> {
@@ -73,8 +77,9 @@ impl One {
             bucket,
             alloc,
         } = self;
+        let note = bucket.as_ref().note();
         let closed = home.close();
-        bucket.take(&closed, alloc)
+        bucket.take(&closed, alloc, note)
     }
 }
 

@@ -5,10 +5,12 @@ use Rattle.cell.specs.Rows.{RowView}
 use Rattle.generations.specs.Buckets.{Content, vacant, own, named, shown_entries, owned_values}
 use Rattle.generations.specs.declared.fixed.Refusal.{Refusal}
 
--- a generation: the allocator and the home of its blocks, its buckets, and how many of them are set
+-- a generation: the allocator and the home of its blocks, its buckets with the names by which notes
+-- speak of what they are set to through `&`, and how many of them are set alone
 pub record GenerationView (A T : Type 0) : Type 0 where
   pub from : A
   pub home : ℕ
+  pub ids : List ℕ
   pub contents : List (Content T)
   pub size : ℕ
 
@@ -20,12 +22,20 @@ pub record OwnValuesView (T : Type 0) : Type 0 where
 module _ {A T : Type 0} where
   abbrev pub generation_of : RowView A T → ℕ → GenerationView A T
   generation_of row size =
-      record { from = row.from; home = row.home; contents = row.contents; size = size }
+      record {
+        from = row.from;
+        home = row.home;
+        ids = row.ids;
+        contents = row.contents;
+        size = size;
+      }
 
-  -- n empty buckets
-  abbrev pub blank : A → ℕ → ℕ → GenerationView A T
-  blank from home n =
-      record { from = from; home = home; contents = replicate n vacant; size = 0 }
+  -- a generation of n empty buckets
+  pub record IsBlank (from : A) (home n : ℕ) (g : GenerationView A T) : Type 0 where
+    pub allocator : g.from ≡ from
+    pub of : g.home ≡ home
+    pub vacant : g.contents ≡ replicate n vacant
+    pub none : g.size ≡ 0
 
   -- two generations of one home and one allocator
   abbrev pub AreOfOneHome : GenerationView A T → GenerationView A T → Type 0

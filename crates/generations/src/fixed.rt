@@ -94,11 +94,11 @@ fn compare_bucket<'a, T: AtomicValue, A: Allocator + Copy, F: Fn(&T::Target) -> 
 }
 
 impl<T: AtomicValue, A: Allocator + Copy> Generation<T, A> {
-    ghost use Rattle.generations.specs.Generations.{blank};
+    ghost use Rattle.generations.specs.Generations.{IsBlank};
 
     /// No bucket at all. It takes no memory.
     pub fn none(alloc: A, home: &Home) -> Self
-        ensures { result ≡ blank alloc home.now.id 0 }
+        ensures { IsBlank alloc home.now.id 0 result }
     {
         Generation {
             row: Row::new(alloc, home),
@@ -109,7 +109,7 @@ impl<T: AtomicValue, A: Allocator + Copy> Generation<T, A> {
     /// Empty buckets. It asks for memory twice: for their marks, and for their words.
     pub fn with_capacity(alloc: A, home: &Home, capacity: usize) -> Result<Self, AllocError>
         requires { IsPowerOfTwo capacity }
-        ensures { IfOk result (λ g. g ≡ blank alloc home.now.id capacity) }
+        ensures { IfOk result (IsBlank alloc home.now.id capacity) }
     {
         Ok(Generation {
             row: Row::vacant(alloc, home, capacity)?,
@@ -160,7 +160,7 @@ impl<T: AtomicValue, A: Allocator + Copy> Generation<T, A> {
     pub fn sibling(&self, home: &Home, capacity: usize) -> Result<Self, AllocError>
         requires home { self.now.home ≡ home.now.id }
         requires power { IsPowerOfTwo capacity }
-        ensures { IfOk result (λ g. g ≡ blank self.now.from self.now.home capacity) }
+        ensures { IfOk result (IsBlank self.now.from self.now.home capacity) }
     {
         Generation::with_capacity(self.row.alloc(), home, capacity)
     }

@@ -12,8 +12,9 @@ use Rattle.generations.proofs.growth.rehashed.Goals as goal
 
 pub loop-index-init : goal.loop-index-init
 loop-index-init g c =
-    rw c.in_ok-built.ensures (record {
-      home = (refl, refl);
+    let blank = c.in_ok-built.ensures in
+    rw (blank.vacant, blank.none) (record {
+      home = (blank.of, blank.allocator);
       long = length-replicate c.args.capacity _;
       grown = omega arith;
       counted = rw (shown-replicate, values-replicate) refl;

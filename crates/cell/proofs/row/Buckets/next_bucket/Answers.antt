@@ -1,8 +1,7 @@
-use Rattle.std.proofs.Common.{◌∷◌, refl, ap}
+use Rattle.std.proofs.Common.{◌∷◌, refl}
 use Rattle.std.specs.Vec.Iter.{into_iter_items}
 use Rattle.std.proofs.lemmas.List.Elements.{All-head, All-tail}
-use Rattle.cell.specs.Rows.{AreMarked, WordLies, contents_of}
-use Rattle.cell.proofs.Rows.{bucket_is}
+use Rattle.cell.specs.Rows.{AreMarked, WordLies}
 use Rattle.cell.proofs.row.Buckets.next_bucket.Goals as goal
 
 pub invariant_of-self-2 : goal.invariant_of-self-2
@@ -15,8 +14,5 @@ invariant_of-self-2 g c =
 
 pub returns : goal.returns
 returns g c =
-    let lies = All-head (WordLies c.self.inside.origin.home c.self.inside.alloc) _ _ (rw c.in_ok-word.ensures.items at c.self.invariant.lies) in (
-      rw (← c.self.view_is, c.in_ok-mark.ensures.items, c.in_ok-word.ensures.items) refl,
-      rw (← c.self.view_is) (bucket_is c.in_ok-mark.mark c.in_ok-word.word _ c.self.inside.origin.home c.self.inside.alloc lies refl),
-      (ap (λ r. r.home) c.self.view_is, ap (λ r. r.from) c.self.view_is),
-    )
+    let lies = All-head (WordLies c.self.inside.origin.home c.self.inside.alloc) _ _ (rw c.in_ok-word.ensures.items at c.self.invariant.lies) in
+    rw (← c.self.view_is, c.in_ok-mark.ensures.items, c.in_ok-word.ensures.items) (refl, refl, lies.0, lies.1, (refl, refl))

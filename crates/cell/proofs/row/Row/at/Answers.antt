@@ -1,5 +1,5 @@
 use Rattle.std.proofs.Common.{arith, ◌<◌, length}
-use Rattle.cell.proofs.Rows.{length-marks, length-words, marked_at, content_read, lies_read, bucket_is}
+use Rattle.cell.proofs.Rows.{length-marks, length-words, marked_at, bucket_is}
 use Rattle.cell.proofs.row.Row.at.Goals as goal
 
 pub index-requires : goal.index-requires
@@ -17,5 +17,5 @@ pub returns : goal.returns
 returns g c =
     let below : c.args.index < length c.self.inside.marks.items = rw (length-marks c.self.inside.marks.items c.self.inside.words.items c.self.invariant.marked) at (rw (← c.self.view_is) at c.requires) in
     let words : c.args.index < length c.self.inside.words.items = rw (length-words c.self.inside.marks.items c.self.inside.words.items c.self.invariant.marked) at (rw (← c.self.view_is) at c.requires) in
-    let lies = lies_read c.self.inside.words.items c.args.index c.index-2.result.now c.self.inside.origin.home c.self.inside.alloc words c.index-2.ensures c.self.invariant.lies in
-    rw (← c.self.view_is) (bucket_is c.index.result.now c.index-2.result.now _ c.self.inside.origin.home c.self.inside.alloc lies (content_read c.self.inside.marks.items c.self.inside.words.items c.args.index c.index.result.now c.index-2.result.now c.self.invariant.marked below c.index.ensures c.index-2.ensures))
+    rw (← c.self.view_is) (bucket_is c.self.inside.marks.items c.self.inside.words.items c.args.index c.index.result.now c.index-2.result.now c.self.inside.origin.home c.self.inside.alloc
+    c.self.invariant.marked below words c.index.ensures c.index-2.ensures c.self.invariant.lies)

@@ -61,10 +61,10 @@ module _ (R Y : RattleType) (f : HomedGhosts R.Denot) (g : Ghosts Y.Denot) (L : 
   Marked = fsep (part_at Mk full_share (record {}) b (o + 8)) ftrue
 
   abbrev Beside : Ptr → Fml
-  Beside = kept R (g.dealloc_token w.from) w.home w.owning w.value (Shows f.fits w)
+  Beside = kept R (g.dealloc_token w.from) w.home w.id w.owning w.value (Shows f.fits w)
 
   abbrev J : Fml
-  J = Held R (g.dealloc_token w.from) w.home w.owning w.value (Shows f.fits w) b (o + 0)
+  J = Held R (g.dealloc_token w.from) w.home w.id w.owning w.value (Shows f.fits w) b (o + 0)
 
   abbrev Parts : List Fml
   Parts = J ∷ rest b (o + 0) ∷ []
@@ -91,7 +91,7 @@ module _ (R Y : RattleType) (f : HomedGhosts R.Denot) (g : Ghosts Y.Denot) (L : 
       use1 𝓛 (raw (wand 𝓤 ⟦ parts_at full_share fields 0 x b o ⟧ ⟦ Fields p ⟧)) (all_e 𝓤 (λ (y : Denots (rows_of fields)). wand 𝓤 ⟦ parts_at full_share fields 0 y b o ⟧ ⟦ part_at Data full_share y b o ⟧) x) $ move ! (1 ∷ 0 ∷ []) $
       use2 𝓛 (‵ (Fields p)) (apply∗ 𝓤 ⟦ parts_at full_share fields 0 x b o ⟧ ⟦ Fields p ⟧) $ keep ! (0 ∷ 1 ∷ []) $ by ! (given_back p))
 
-  lends : (q : Share) → ent 𝓤 (sep 𝓤 (A.bor κ Whole) (A.lft κ q)) (H.⇛ (sep 𝓤 ⟦ shared R (g.dealloc_token w.from) w.home w.owning w.value (Shows f.fits w) (block_ptr b o) κ ⟧ (A.lft κ q)))
+  lends : (q : Share) → ent 𝓤 (sep 𝓤 (A.bor κ Whole) (A.lft κ q)) (H.⇛ (sep 𝓤 ⟦ shared R (g.dealloc_token w.from) w.home w.id w.owning w.value (Shows f.fits w) (block_ptr b o) κ ⟧ (A.lft κ q)))
   unfolding fseps
   lends q = qed 𝓛 (‵ (fbor κ Whole) ∷ ‵ (flft κ q) ∷ []) ∵ updating ! $ bor_open ! tt $ move ! (1 ∷ []) $ use1 𝓛 (some (λ (p : Ptr). ‵ (Fields p) ⊛ ‵ (Beside p))) taken $ pick ! (λ p. split ! $
       use1 𝓛 ((‵ (part_at (atomic.the_row R) full_share (atomic_ptr_holding p) b (o + 0)) ⊛ ‵ Marked) ⊛ raw (PartsBack 𝓛 full_share [] fields b o))
@@ -107,9 +107,9 @@ module _ (R Y : RattleType) (f : HomedGhosts R.Denot) (g : Ghosts Y.Denot) (L : 
 
 pub shares : (T Y : RattleType) (f : HomedGhosts T.Denot) (g : Ghosts Y.Denot) (L : Laws T) (LY : Laws Y) → statement T Y f g L LY
 shares T Y f g L LY = record {
-  shr_laws = λ w b o. let I : Lft → Lft → Fml = λ α. lent.beside (lent.ends α) (lent.always (fbor α (Held T (g.dealloc_token w.from) w.home w.owning w.value (Shows f.fits w) b (o + 0)))) in
-      beside_shr_laws (lent.some Lft I) _ (some_shr_laws Lft I (λ α. beside_shr_laws _ _ (ends_shr_laws α) (always_shr_laws (fbor α (Held T (g.dealloc_token w.from) w.home w.owning w.value (Shows f.fits w) b (o + 0))))))
+  shr_laws = λ w b o. let I : Lft → Lft → Fml = λ α. lent.beside (lent.ends α) (lent.always (fbor α (Held T (g.dealloc_token w.from) w.home w.id w.owning w.value (Shows f.fits w) b (o + 0)))) in
+      beside_shr_laws (lent.some Lft I) _ (some_shr_laws Lft I (λ α. beside_shr_laws _ _ (ends_shr_laws α) (always_shr_laws (fbor α (Held T (g.dealloc_token w.from) w.home w.id w.owning w.value (Shows f.fits w) b (o + 0))))))
       ((atomic_laws.the_row_laws T L).shr_laws (atomic_ptr_holding null_ptr) b (o + 0));
   shares = λ M 𝓤 𝓛 w κ ts b o inc sp. by_one 𝓛 κ ts sp (𝓛.A.bor κ (part_at (C.the_written T Y f g) full_share w b o))
-      (sem 𝓛 (shared T (g.dealloc_token w.from) w.home w.owning w.value (Shows f.fits w) (block_ptr b o) κ)) (lends T Y f g L LY 𝓛 w b o κ);
+      (sem 𝓛 (shared T (g.dealloc_token w.from) w.home w.id w.owning w.value (Shows f.fits w) (block_ptr b o) κ)) (lends T Y f g L LY 𝓛 w b o κ);
 }

@@ -19,7 +19,7 @@ send T Y f g s sy y frees = record {
     (λ _. tt),
     λ p. (
       (fields_send T Y f g).owned (record { inner = atomic_ptr_holding p; marker = record {} }) vs,
-      kept_keyless T s y (g.dealloc_token w.from) (frees.frees w.from) w.home w.owning w.value (Shows f.fits w) p,
+      kept_keyless T s y (g.dealloc_token w.from) (frees.frees w.from) w.home w.id w.owning w.value (Shows f.fits w) p,
     ),
   );
   leaving = λ k d w. tt;

@@ -69,8 +69,8 @@ into_block_spec 𝓤 𝓛 𝓜 𝓡 wired T A L LA f fd g d dd homed alloc glued
     use1 𝓛 (later (some (λ (r : Ptr). (tok ⊛ ‵ (RawPtr.own_val r (u ∷ []))) ⊛ some (λ (ls : Lasts (callee.ended T) (κT, tt) y.0.3). ‵ (lasts (callee.ended T) (κT, tt) y.0.3 ls) ⊛ raw (fact 𝓤 (r ≡ p)))))) (id⊢ 𝓤 (k.post y u)) $
     await ! tt $ pick ! (λ r. split ! $ move ! (1 ∷ []) $ pick ! (λ _. split ! $ drop ! $ heard ! (r ≡ p) (λ same. split ! $ move ! (1 ∷ []) $ feq_l ! (λ e.
     -- [T's token; beside it; the home's end; κ's token; the other tokens]
-    move ! (1 ∷ []) $ moves.where_set R (g.dealloc_token a) h wd.owning wd.value (Shows f.fits wd) ! p asked.2 (λ b o is. move ! (2 ∷ 0 ∷ []) $
-    use2 𝓛 (later (moves.Block 𝓛 R LR (g.dealloc_token a) h wd.owning wd.value (Shows f.fits wd) (block_ptr b o))) (moves.held_block 𝓛 R LR (g.dealloc_token a) h wd.owning wd.value (Shows f.fits wd) (block_ptr b o) asked.1) $ await ! tt $
+    move ! (1 ∷ []) $ moves.where_set R (g.dealloc_token a) h wd.id wd.owning wd.value (Shows f.fits wd) ! p asked.2 (λ b o is. move ! (2 ∷ 0 ∷ []) $
+    use2 𝓛 (later (moves.Block 𝓛 R LR (g.dealloc_token a) h wd.id wd.owning wd.value (Shows f.fits wd) (block_ptr b o))) (moves.held_block 𝓛 R LR (g.dealloc_token a) h wd.id wd.owning wd.value (Shows f.fits wd) (block_ptr b o) asked.1) $ await ! tt $
     pick ! (λ x. learn ! (λ so. let d : (Loose R Y g).Denot = record { at = block_ptr b o; marker = record {}; value = x; from = a } in
     lands_as ! (ap only e ∙ ap ptr_val same ∙ ap ptr_val is) refl (tt, tt) $ sets ! (agg ! (no_more !)) refl (tt, tt) $ sets ! (agg ! (and_then ! (get ! refl) (and_then ! (get ! refl) (no_more !)))) refl (loose_good R Y g b o) $
     loose_in R Y g ! b o a x $

@@ -1,5 +1,5 @@
 -- `name` loads the pointer, and keeps a part of what its block is lent by.
-use Rattle.std.proofs.Common.{◌≡◌, ℕ, ◌+◌, List, [], ◌∷◌, ◌++◌, refl, sym, subst}
+use Rattle.std.proofs.Common.{◌≡◌, ℕ, ◌+◌, None, List, [], ◌∷◌, ◌++◌, refl, sym, subst}
 use mir.Syntax.{a_type, dcons, dnil}
 use mir.Val.{Val, vptr}
 use mir.MapTy.{inst_fn}
@@ -53,7 +53,7 @@ name_spec 𝓤 𝓛 𝓜 𝓡 wired T A L LA f fd g d dd homed alloc glued =
     let κs = z.0.0 in let qs = z.0.1 in let Post : Val → SProp 𝓤 = (walk_of 𝓛 En hs c).post z in let Run : List Val → SProp 𝓤 = λ ws. WpFn 𝓤 H 𝓣.C 𝓣.Λ fn ws Post in let Out : RattleType = type_at En.signature.result κs in
     let wd = z.0.3.0.now in let h = wd.home in let a = wd.from in let b : ℕ = z.0.3.0.ref_ptr.0 in let o : ℕ = z.0.3.0.ref_ptr.1 in let κ : Lft = κs.0 in let q : Share = qs.0 in
     let κT = κs.1.0 in let rest = ‵ (flft κs.1.1.0 qs.1.1.0) ⊛ ‵ ftrue in let Asked : Type 0 = IsSome wd.value in let Told : R.Denot → Type 0 = λ x. (h ≡ h) × Shows f.fits wd x in
-    let Again : SProp 𝓤 = H.⇛ (𝓛.A.lft κ (right q)) in let k = g.dealloc_token a in let Q : R.Denot → Type 0 = Shows f.fits wd in let none = moves.unknown 𝓛 R LR k h wd.owning wd.value Q in
+    let Again : SProp 𝓤 = H.⇛ (𝓛.A.lft κ (right q)) in let k = g.dealloc_token a in let Q : R.Denot → Type 0 = Shows f.fits wd in let none = moves.unknown 𝓛 R LR k h wd.id wd.owning wd.value Q None in
     qed 𝓛 (((‵ (flft κ q) ⊛ ‵ (flft κT qs.1.0) ⊛ rest) ⊛ ‵ (owns (types_at En.signature.params κs) z.0.3 z.0.4)) ∷ raw (fact 𝓤 (κT ⊑ T.lives)) ∷ raw (fact 𝓤 (κs.1.1.0 ⊑ A.lives)) ∷ raw (fact 𝓤 Asked) ∷ []) ∵
     move ! (3 ∷ []) $ heard ! Asked (λ asked. keep ! (0 ∷ []) $ split ! $ move ! (1 ∷ []) $ fsplit ! $ fsplit ! $ drop ! $ unhide ! $ fsplit ! $ fpick ! (λ α. fsplit ! $
     let args : List Val = vptr b o ∷ [] in suffices ! (Run args) (subst (λ (us : List Val). ent 𝓤 (Run args) (Run us)) (sym (λ i. are.0.0 i ++ [])) (id⊢ 𝓤 (Run args))) $
@@ -62,18 +62,18 @@ name_spec 𝓤 𝓛 𝓜 𝓡 wired T A L LA f fd g d dd homed alloc glued =
     move ! (4 ∷ []) $ split3 ! $ use1 𝓛 (‵ (flft κ (left q)) ⊛ ‵ (flft κ (right q))) (𝓛.lfts.lft_split κ q) $ split ! $ move ! (4 ∷ 1 ∷ []) $
     use2 𝓛 (later (some (λ (s : Share). ‵ (flft α s) ⊛ raw (wand 𝓤 (𝓛.A.lft α s) Again)))) (Lends-one 𝓛 𝓜 𝓡 κ α (right q)) $ await ! tt $ pick ! (λ s. split ! $
     -- [α's token; the way back; half of κ's token; T's token; the other tokens; the word; its fields; nothing]
-    let out₀ : Ptr → Fml = λ p. fsep (flft α s) (moves.glimpse 𝓛 R LR k h wd.owning wd.value Q none p) in let out : Ptr → Fml = λ p. fsep (flft κ (left q)) (out₀ p) in
-    first ! $ blocks ! $ sets ! (addr ! (through ! refl (fld ! refl (stop !)))) refl (tt, tt) $ sets ! (agg ! (and_then ! (lit ! tt) (no_more !))) refl seq_cst_good $ move ! (5 ∷ 0 ∷ []) $
-    use2 𝓛 (raw (asks_ptr 𝓛 (block_ptr b (o + 0)) (λ p. p) out₀)) (moves.reads 𝓛 R LR k h wd.owning wd.value Q α b (o + 0) s) $ move ! (2 ∷ 5 ∷ 0 ∷ []) $
+    let out₀ : Ptr → Fml = λ p. fsep (flft α s) (moves.glimpse 𝓛 R LR k h wd.id wd.owning wd.value Q None none p) in let out : Ptr → Fml = λ p. fsep (flft κ (left q)) (out₀ p) in
+    first ! $ blocks ! $ sets ! (addr ! (through ! refl (fld ! refl (stop !)))) refl (tt, tt) $ sets ! (agg ! (and_then ! (lit ! tt) (no_more !))) refl seq_cst_good $ move ! (5 ∷ 0 ∷ 7 ∷ []) $
+    use3 𝓛 (raw (asks_ptr 𝓛 (block_ptr b (o + 0)) (λ p. p) out₀)) (moves.reads 𝓛 R LR k h wd.id wd.owning wd.value Q None α b (o + 0) s) $ move ! (2 ∷ 5 ∷ 0 ∷ []) $
     use3 𝓛 (raw (𝓣.C _ (vptr b (o + 0) ∷ seq_cst ∷ []) (λ u. mean 𝓛 (calls.found 𝓛 out u)))) (methods.loads 𝓛 𝓜 𝓡 T L κ (left q) b (o + 0) (code.calls-core::atomic::ptr::AtomicPtr::load 𝓡.env wired) out₀) $
     Calls-last ! (fm 𝓛 𝓜 𝓡) (calls.found 𝓛 out) (and_then ! (get ! refl) (and_then ! (get ! refl) (no_more !))) (λ u. calls.finds_either ! out
     (fsplit3 ! $ move ! (2 ∷ []) $ fpick ! (λ e. absurd (moves.not_none asked e)))
     (λ pb po. lands_last ! refl (tt, tt) $ exec ! 𝓣.C 𝓣.Λ Ev (after 1 fn.body) (at_ret Ev Post) $ fsplit3 ! $ move ! (1 ∷ 3 ∷ []) $ use2 𝓛 (later (‵ (flft κ (right q)))) (apply∗ 𝓤 (𝓛.A.lft α s) Again) $ await ! tt $ move ! (1 ∷ 0 ∷ []) $ use2 𝓛 (‵ (flft κ q)) (𝓛.lfts.lft_join κ q) $
-    -- [κ's token; the view; T's token; the other tokens; nothing]
+    -- [κ's token; the view; T's token; the other tokens]
     move ! (1 ∷ []) $ fsplit ! $ drop ! $ fpick ! (λ t. fsplit ! $ move ! (1 ∷ []) $ fpick ! (λ so. drop ! $
     use1 𝓛 (later (‵ (lent_at R (block_ptr pb po) t.0 (h ∷ [])))) (moves.settles 𝓛 R LR k h (block_ptr pb po) t) $ await ! tt $
     let n : (Name R).Denot = record { at = block_ptr pb po; home = h; value = t.0 } in
     sets ! (of_opd ! (get ! refl)) refl (tt, tt) $ sets ! (agg ! (and_then ! (get ! refl) (no_more !))) refl (tt, (tt, tt)) $ name_in R ! pb po h t.0 $
-    -- [the name; κ's token; T's token; the other tokens; nothing]
+    -- [the name; κ's token; T's token; the other tokens]
     move ! (2 ∷ 3 ∷ []) $ join ! $ move ! (2 ∷ 0 ∷ []) $ join ! $ use0 𝓛 (raw (fact 𝓤 (Told t.0))) (fact_i 𝓤 (Told t.0) (emp 𝓤) (refl, so)) $ nothing ! $ nothing ! $ fjoin ! $
     returns ! (look_at ! 0 refl) $ free_all ! refl $ keep ! (2 ∷ 0 ∷ 3 ∷ 1 ∷ []) $ by ! (leaves 𝓛 En hs c z (alone (vptr pb po)) n (tt, tt) (tt, tt)))))))))))

@@ -32,7 +32,9 @@ use Rattle.core.proofs.atomic.ptr.AtomicPtr.TheLaws as atomic_laws
 use Rattle.core.proofs.atomic.Steps.{fm}
 use Rattle.core.proofs.cell.Inside.{Good, one}
 use Rattle.std.proofs.raw_atomic.Walks.{proved_at, leaves}
-use Rattle.cell.specs.Words.{WordView, word_view, Shows, kept}
+use types.Tokens.{name_new}
+use Rattle.cell.specs.Notes.{code as coded}
+use Rattle.cell.specs.Words.{WordView, Shows, blank, kept}
 use Rattle.cell.specs.contracts.home.Home as home
 use Rattle.cell.specs.contracts.word.Word.TheInside as inside
 use Rattle.cell.proofs.Values.{marked, marked_typed, word_in}
@@ -52,7 +54,7 @@ new_spec 𝓤 𝓛 𝓜 𝓡 wired T A L LA f fd g d dd homed alloc glued =
     let κs = z.0.0 in let qs = z.0.1 in let Post : Val → SProp 𝓤 = (walk_of 𝓛 En hs c).post z in let Run : List Val → SProp 𝓤 = λ ws. WpFn 𝓤 H 𝓣.C 𝓣.Λ fn ws Post in let Out : RattleType = type_at En.signature.result κs in
     let a = z.0.3.0.now in let h = z.0.3.1.0.now.id in let args : List Val = vptr z.0.3.0.ref_ptr.0 z.0.3.0.ref_ptr.1 ∷ vptr z.0.3.1.0.ref_ptr.0 z.0.3.1.0.ref_ptr.1 ∷ [] in
     let κT = κs.1.1.0 in let qT = qs.1.1.0 in let tok = ‵ (flft κT qT) ⊛ ‵ ftrue in let rest = ‵ (flft κs.1.1.1.0 qs.1.1.1.0) ⊛ ‵ ftrue in
-    let unknown : Option R.Denot = None in let r : WordView Y.Denot R.Denot = word_view a h true unknown in
+    let unknown : Option R.Denot = None in
     let m = triple_of 𝓛 (callee.signature T) (callee.spec T 𝓛 𝓜.mem 𝓡.returns) in let y : m.Ghost = (((κT, tt), (qT, tt), tt, (null_ptr, tt), (vnull ∷ [], tt)), tt) in
     qed 𝓛 (((‵ (flft κs.0 qs.0) ⊛ ‵ (flft κs.1.0 qs.1.0) ⊛ ‵ (flft κT qT) ⊛ rest) ⊛ ‵ (owns (types_at En.signature.params κs) z.0.3 z.0.4)) ∷ raw (fact 𝓤 (κT ⊑ T.lives)) ∷ raw (fact 𝓤 (κs.1.1.1.0 ⊑ A.lives)) ∷ ‵ ftrue ∷ []) ∵
     move ! (1 ∷ []) $ heard ! (κT ⊑ T.lives) (λ within. keep ! (0 ∷ []) $ split ! $ split3 ! $ move ! (2 ∷ []) $ split ! $ keep ! (0 ∷ 1 ∷ 2 ∷ 3 ∷ []) $
@@ -69,9 +71,10 @@ new_spec 𝓤 𝓛 𝓜 𝓡 wired T A L LA f fd g d dd homed alloc glued =
     rewrite ! 0 (λ (us : List Val). ‵ (P.own_val r' us)) v.1 refl $ rewrite ! 0 (λ (p : Ptr). ‵ (P.own_val (atomic_ptr_holding p) (v.0 ∷ []))) empty refl $ lands_as ! (ap only v.1) refl v.2 $
     word_in P Y (atomic_ptr_holding null_ptr) ! v.0 $
     -- [the fields; T's tokens; the other tokens; two tokens]
-    nothing ! $ fpack ! (unknown ≡ None) (λ _. ftrue) refl $ move ! (1 ∷ 0 ∷ []) $ fjoin ! $
-    fpack ! Ptr (λ p. fsep ((inside.the_row R Y f g).own_val (record { inner = atomic_ptr_holding p; marker = record {} }) (w ∷ [])) (kept R (g.dealloc_token a) h true unknown (Shows f.fits r) p)) null_ptr $
+    name_new ! tt (coded R unknown) (λ i. let r : WordView Y.Denot R.Denot = record { from = a; home = h; id = i; owning = true; value = unknown } in let Told : Type 0 = (a ≡ a) × (h ≡ h) × (r.owning ≡ true) × (unknown ≡ unknown) in
+    fjoin ! $ fpack ! (unknown ≡ None) (λ _. blank R i unknown) refl $ move ! (1 ∷ 0 ∷ []) $ fjoin ! $
+    fpack ! Ptr (λ p. fsep ((inside.the_row R Y f g).own_val (record { inner = atomic_ptr_holding p; marker = record {} }) (w ∷ [])) (kept R (g.dealloc_token a) h i true unknown (Shows f.fits r) p)) null_ptr $
     nothing ! $ fpack ! (Typed Out.mir (w ∷ [])) (λ _. ftrue) (good, tt) $ fjoin ! $
     sets ! (agg ! (no_more !)) refl (tt, tt) $ sets ! (agg ! (and_then ! (get ! refl) (and_then ! (get ! refl) (no_more !)))) refl good $
-    move ! (1 ∷ []) $ split ! $ move ! (0 ∷ 3 ∷ []) $ join ! $ move ! (4 ∷ 0 ∷ []) $ join ! $ move ! (3 ∷ 0 ∷ []) $ join ! $ use0 𝓛 (raw (fact 𝓤 (r ≡ r))) (fact_i 𝓤 (r ≡ r) (emp 𝓤) refl) $ nothing ! $ nothing ! $ fjoin ! $ nothing ! $ fjoin ! $
-    returns ! (look_at ! 0 refl) $ free_all ! refl $ keep ! (2 ∷ 0 ∷ 4 ∷ 1 ∷ []) $ by ! (leaves 𝓛 En hs c z w r (tt, (tt, tt)) (tt, (tt, tt)))))))))))
+    move ! (1 ∷ []) $ split ! $ move ! (0 ∷ 3 ∷ []) $ join ! $ move ! (4 ∷ 0 ∷ []) $ join ! $ move ! (3 ∷ 0 ∷ []) $ join ! $ use0 𝓛 (raw (fact 𝓤 Told)) (fact_i 𝓤 Told (emp 𝓤) (refl, refl, refl, refl)) $ nothing ! $ nothing ! $ fjoin ! $ nothing ! $ fjoin ! $
+    returns ! (look_at ! 0 refl) $ free_all ! refl $ keep ! (2 ∷ 0 ∷ 4 ∷ 1 ∷ []) $ by ! (leaves 𝓛 En hs c z w r (tt, (tt, tt)) (tt, (tt, tt))))))))))))

@@ -81,8 +81,8 @@ own_spec 𝓤 𝓛 𝓜 𝓡 wired T A L LA f fd g d dd homed alloc glued =
     word_in P Y (atomic_ptr_holding p) ! v.0 $
     -- [the fields; T's tokens; κ's token; the other tokens; the lent block; nothing]
     move ! (4 ∷ []) $ fsplit ! $ nothing ! $ fpack ! (Q x) (λ _. ftrue) (refl, asked) $ move ! (1 ∷ 2 ∷ 0 ∷ []) $ fjoin3 ! $
-    fpack ! (R.Denot × ℕ × Share) (held R (g.dealloc_token a) h true known Q p) (x, ν, full_share) $ nothing ! $ fjoin ! $ move ! (1 ∷ 0 ∷ []) $ fjoin ! $
-    fpack ! Ptr (λ p. fsep ((inside.the_row R Y f g).own_val (record { inner = atomic_ptr_holding p; marker = record {} }) (w ∷ [])) (kept R (g.dealloc_token a) h true known Q p)) p $ nothing ! $ fpack ! (Typed Out.mir (w ∷ [])) (λ _. ftrue) (good, tt) $ fjoin ! $
+    fpack ! (R.Denot × ℕ × Share) (held R (g.dealloc_token a) h 0 true known Q p) (x, ν, full_share) $ nothing ! $ fjoin ! $ move ! (1 ∷ 0 ∷ []) $ fjoin ! $
+    fpack ! Ptr (λ p. fsep ((inside.the_row R Y f g).own_val (record { inner = atomic_ptr_holding p; marker = record {} }) (w ∷ [])) (kept R (g.dealloc_token a) h 0 true known Q p)) p $ nothing ! $ fpack ! (Typed Out.mir (w ∷ [])) (λ _. ftrue) (good, tt) $ fjoin ! $
     sets ! (agg ! (no_more !)) refl (tt, tt) $ sets ! (agg ! (and_then ! (get ! refl) (and_then ! (get ! refl) (no_more !)))) refl good $
     -- [the word; T's tokens; κ's token; the other tokens; the `&`]
     move ! (1 ∷ []) $ split ! $ move ! (0 ∷ 4 ∷ []) $ join ! $ move ! (3 ∷ 0 ∷ []) $ join ! $ use0 𝓛 (raw (fact 𝓤 (r ≡ r))) (fact_i 𝓤 (r ≡ r) (emp 𝓤) refl) $ nothing ! $ nothing ! $ fjoin ! $ nothing ! $ fjoin ! $

@@ -3,4 +3,4 @@ use Rattle.generations.proofs.Contents.{generation-replicate}
 use Rattle.generations.proofs.fixed.Generation.with_capacity.Goals as goal
 
 pub invariant_of-result : goal.invariant_of-result
-invariant_of-result g c = rw c.in_ok-vacant.ensures (generation-replicate c.args.capacity (omega arith) c.requires)
+invariant_of-result g c = rw c.in_ok-vacant.ensures.vacant (generation-replicate c.args.capacity (omega arith) c.requires)
