@@ -1,0 +1,4 @@
+pub mod Lineages
+pub mod Tables
+pub mod Growths
+pub mod Walks
