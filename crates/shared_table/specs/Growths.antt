@@ -1,11 +1,9 @@
 -- The next generation of a shared table while it is made.
-use Rattle.std.specs.Prelude.{◌≡◌, ◌⊎◌, ℕ, ◌<◌, ◌≤◌, Option, Some, None, IfSome, MatchOption, length}
+use Rattle.std.specs.Prelude.{◌≡◌, ℕ, ◌<◌, ◌≤◌, Option, Some, None, length}
 use Rattle.std.specs.Borrow.{Bor}
 use Rattle.cell.specs.Words.{WordView}
 use Rattle.generations.specs.Generations.{GenerationView, AreOfOneHome}
 use Rattle.shared_table.specs.Lineages.{IsOpen}
-use Rattle.shared_table.specs.declared.growth.Wanted.{Wanted}
-use Rattle.shared_table.specs.declared.growth.Wanted.TheVariants as wanted
 
 module _ {A T : Type 0} where
   -- after so many buckets of the generation before, no more entries are copied; it is of the same
@@ -28,11 +26,5 @@ module _ {A T : Type 0} where
     pub home_is : built.home ≡ home
     pub behind : IsBehind from copied built
     pub few : built.size ≤ copied
-    pub open : IsOpen home alloc word
+    pub is_open : IsOpen home alloc word
     pub block_is : block ≡ alloc
-
--- what was begun is of this home
-abbrev pub Begins : {A T : Type 0} → ℕ → Wanted A T → Type 0
-Begins home wanted.Unwanted = Unit {0}
-Begins home wanted.Failed = Unit {0}
-Begins home (wanted.Begun growth) = growth ≡ home

@@ -2,3 +2,4 @@ pub mod Lineages
 pub mod Tables
 pub mod Growths
 pub mod Walks
+pub mod Begun

@@ -16,7 +16,7 @@ module _ {A X : Type 0} where
   -- each word is open, and there is room for as many things as there are words
   pub record AreRoomy {Y : Type 0} (home : ℕ) (from : A) (words : List (WordView A X)) (taken : List Y)
       (room : ℕ) : Type 0 where
-    pub open : All (IsOpen home from) words
+    pub all_open : All (IsOpen home from) words
     pub none_taken : taken ≡ []
     pub roomy : length words ≤ room
 
@@ -44,4 +44,4 @@ module _ {A T : Type 0} where
   pub record IsLineage {X : Type 0} (from : A) (earlier : List (GenerationView A T))
       (base : GenerationView A T) (later : WordView A X) : Type 0 where
     pub of_home : All (λ g. g.home ≡ base.home) earlier
-    pub open : IsOpen base.home from later
+    pub is_open : IsOpen base.home from later

@@ -17,8 +17,6 @@ use std::marker::Model;
 pub struct Iter<'a, T: AtomicValue, A: Allocator + Copy = Global> {
     home: &'a Home,
     generation: Option<&'a Generation<T, A>>,
-    /// The bucket that is looked at next.
-    index: usize,
     left: usize,
 }
 
@@ -30,7 +28,7 @@ impl<'a, T: AtomicValue, A: Allocator + Copy> Model for Iter<'a, T, A> {
 
     ghost view = { λ it. it.left };
 
-    ghost invariant = { λ it. IsWithin it.home.now.id it.generation it.index it.left };
+    ghost invariant = { λ it. IsWithin it.home.now.id it.generation it.left };
 }
 
 impl<'a, V: 'a, T: AtomicValue<Target = V>, A: Allocator + Copy> Iterator for Iter<'a, T, A> {
@@ -43,8 +41,7 @@ impl<'a, V: 'a, T: AtomicValue<Target = V>, A: Allocator + Copy> Iterator for It
     fn next(&mut self) -> Option<&'a V> {
         let generation = self.generation?;
         while self.left > 0 {
-            let index = self.index;
-            self.index += 1;
+            let index = generation.capacity() - self.left;
             self.left -= 1;
             if let Some(entry) = generation.entry_at(self.home, index) {
                 return Some(entry.value.deref());
@@ -66,7 +63,6 @@ impl<T: AtomicValue, A: Allocator + Copy> LockFreeRawTable<T, A> {
         Iter {
             home: &self.home,
             generation,
-            index: 0,
             left,
         }
     }

@@ -50,7 +50,7 @@ pub(crate) fn show_block<X: Homed + Drop, A: Low + Copy>(
 impl<T: AtomicValue, A: Allocator + Copy> Later<T, A> {
     /// Words of which none is set. It asks for memory twice.
     pub(crate) fn new(alloc: A, home: &Home) -> Result<Self, AllocError>
-        ensures { IfOk result (λ l. AreRoomy home.now.id alloc l.words.items l.room.items (vec_capacity l.room)) }
+        ensures roomy { IfOk result (λ l. AreRoomy home.now.id alloc l.words.items l.room.items (vec_capacity l.room)) }
         ensures from { IfOk result (λ l. l.alloc ≡ alloc) }
     {
         let mut words = Vec::with_capacity(alloc, LATER)?;

@@ -4,12 +4,14 @@
 //! named by a word that is set once. Who looks up or inserts takes the current one by [`LockFreeRawTable::current`].
 #![tactic(auto)]
 
+mod growing;
 mod growth;
 mod iter;
 mod later;
 mod lineage;
 mod table;
 
-pub use growth::{Growth, Wanted};
+pub use growing::Wanted;
+pub use growth::Growth;
 pub use iter::Iter;
 pub use table::{Current, FIRST_CAPACITY, LockFreeRawTable};
