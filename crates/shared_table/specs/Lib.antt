@@ -3,3 +3,4 @@ pub mod Tables
 pub mod Growths
 pub mod Walks
 pub mod Begun
+pub mod Handed

@@ -6,12 +6,15 @@
 
 mod growing;
 mod growth;
+mod into_iter;
 mod iter;
 mod later;
 mod lineage;
+mod rest;
 mod table;
 
 pub use growing::Wanted;
 pub use growth::Growth;
+pub use into_iter::IntoIter;
 pub use iter::Iter;
 pub use table::{Current, FIRST_CAPACITY, LockFreeRawTable};
