@@ -4,3 +4,4 @@ pub mod Growths
 pub mod Walks
 pub mod Begun
 pub mod Handed
+pub mod Settled
