@@ -1,7 +1,7 @@
 -- Buckets in a row: their marks apart from their words.
 use Rattle.std.specs.Prelude.{◌≡◌, ℕ, ⊤, List, [], ◌∷◌, Option, Some, None, All, map, slice_index_or}
 use Rattle.cell.specs.Words.{WordView}
-use Rattle.cell.specs.Contents.{BucketView, Content, vacant, IsMarked, content_of}
+use Rattle.cell.specs.Contents.{BucketView, Content, vacant, IsMarked, content_of, bucket_of}
 use Rattle.cell.specs.declared.bucket.Entry.{Entry}
 use Rattle.cell.specs.declared.bucket.Mark.{Mark}
 
@@ -23,6 +23,12 @@ module _ {A T : Type 0} where
   contents_of [] ws = []
   contents_of (m ∷ ms) [] = []
   contents_of (m ∷ ms) (w ∷ ws) = content_of m w.value ∷ contents_of ms ws
+
+  -- the buckets that marks and words are
+  abbrev pub buckets_of : List Mark → List (WordView A (Entry T)) → List (BucketView A T)
+  buckets_of [] ws = []
+  buckets_of (m ∷ ms) [] = []
+  buckets_of (m ∷ ms) (w ∷ ws) = bucket_of m w ∷ buckets_of ms ws
 
   -- there are as many marks as words, and each mark agrees with its word
   abbrev pub AreMarked : List Mark → List (WordView A (Entry T)) → Type 0

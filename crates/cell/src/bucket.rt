@@ -1,6 +1,6 @@
 //! A bucket that is set at most once.
 ghost use Rattle.std.specs.Prelude.{◌≡◌, IfOk, IfErr, IfSome, IfNone, IsSome, None, Some, OnOk, option_copied, option_map};
-ghost use Rattle.cell.specs.Contents.{vacant, own, named, bucket, shown, owned, entry_from, naming, Lies, Reads, HandsBack, Keeps, Misses};
+ghost use Rattle.cell.specs.Contents.{vacant, own, named, bucket, shown, owned, entry_from, naming, Lies, Names, NamesNone, KeepsOwn, Reads, HandsBack, Keeps, Misses};
 
 use crate::home::{Closed, Home, Homed};
 use crate::loose_block::LooseBlock;
@@ -186,6 +186,44 @@ impl<T: Drop, A: Allocator + Copy> Bucket<T, A> {
     }
 }
 
+impl<T: Drop, A: Allocator + Copy> Bucket<T, A> {
+    /// A bucket that owns the entry in this block.
+    fn owning(home: &Home, block: LooseBlock<Entry<T>, A>) -> Self
+        ensures { result ≡ bucket block.from home.now.id (own block.value) }
+    {
+        let word = Word::own(home, block);
+        let bits = word.name().get(home).bits;
+        Bucket {
+            mark: Mark::Own(bits),
+            word,
+        }
+    }
+
+    /// Ends the bucket, and hands out the entry that it owns, alone or since it was set through `&`, in a bucket of another
+    /// home. That one is vacant where this one owned nothing.
+    pub fn rehomed(self, closed: &Closed, home: &Home, alloc: A) -> Self
+        requires { Lies closed.now.id alloc self }
+        ensures lies { Lies home.now.id alloc result }
+        ensures own { KeepsOwn self.content result.content }
+        ensures unnamed { NamesNone result.content }
+    {
+        match self.mark {
+            Mark::Own(bits) => Bucket {
+                mark: Mark::Own(bits),
+                word: Word::own(home, self.word.into_block(closed)),
+            },
+            Mark::Named(_) => Bucket::new(&alloc, home),
+            Mark::Vacant => {
+                let note = self.word.note();
+                match self.word.into_block_if_set(closed, note) {
+                    Some(block) => Bucket::owning(home, block),
+                    None => Bucket::new(&alloc, home),
+                }
+            }
+        }
+    }
+}
+
 impl<'a, T: Drop, A: Allocator + Copy> BucketRef<'a, T, A> {
     /// The eight bits of the entry that the bucket holds alone. Nothing is followed.
     pub fn mark(&self) -> Mark
@@ -207,6 +245,26 @@ impl<'a, T: Drop, A: Allocator + Copy> BucketRef<'a, T, A> {
         Some(Bucket {
             mark,
             word: Word::of_name(self.word.name(), &alloc),
+        })
+    }
+
+    /// A bucket that names the entry of this one, also where that was set through `&`: then its block is read for its bits.
+    pub fn naming_set(&self, home: &Home, alloc: A, note: &mut Note<Entry<T>>) -> Option<Bucket<T, A>>
+        requires home { self.now.home ≡ home.now.id }
+        requires from { self.now.from ≡ alloc }
+        requires of { note.old.of ≡ self.now.id }
+        ensures of { note.new.of ≡ note.old.of }
+        ensures alone { IfSome (shown self.now.content) (λ e. (result ≡ Some (bucket alloc home.now.id (named e))) × (note.new.known ≡ note.old.known)) }
+        ensures shared { IfNone (shown self.now.content) ((result ≡ option_map (λ e. bucket alloc home.now.id (named e)) note.new.known) × Keeps note.old.known note.new.known) }
+    {
+        let Mark::Vacant = self.mark else {
+            return self.naming(alloc);
+        };
+        let word = Word::of_name(self.word.name_if_set(note)?, &alloc);
+        let bits = word.name().get(home).bits;
+        Some(Bucket {
+            mark: Mark::Named(bits),
+            word,
         })
     }
 

@@ -1,0 +1,7 @@
+pub mod Lineages
+pub mod Tables
+pub mod Growths
+pub mod Walks
+pub mod Begun
+pub mod Handed
+pub mod Settled

@@ -1,0 +1,6 @@
+//! Tests of the table that threads share.
+#![tactic(auto)]
+
+pub mod counting;
+#[cfg(test)]
+mod tests;

@@ -1,0 +1,2 @@
+//! The table that threads share, run.
+mod share;
