@@ -12,6 +12,7 @@ use crate::name::Name;
 use crate::note::Note;
 use std::alloc::Allocator;
 use std::marker::{Brand, Move, Owns, PhantomData, Send, Sync};
+use std::mem::replace;
 use std::ptr::null_mut;
 use std::sync::atomic::AtomicPtr;
 use std::sync::atomic::Ordering::SeqCst;
@@ -126,6 +127,19 @@ impl<T: Homed, A: Allocator> Word<T, A> {
             None => (self, None),
             Some(name) => (self.known_by(note), Some(name)),
         }
+    }
+
+    /// As `settled`, where the word lies. The allocator and the home are those of any other word.
+    pub fn settle(&mut self, alloc: &A, home: &Home, note: Note<T>) -> Option<Name<T>>
+        requires unset { self.old.value ≡ None }
+        requires of { note.of ≡ self.old.id }
+        ensures same { (self.new.from ≡ self.old.from) × (self.new.home ≡ self.old.home) × (self.new.owning ≡ self.old.owning) }
+        ensures null { IfNone result ((self.new ≡ self.old) × (note.known ≡ None)) }
+        ensures set { IfSome result (λ n. (self.new.value ≡ Some n.value) × (n.home ≡ self.old.home) × T.fits n.value self.old.home × Agrees note.known n.value) }
+    {
+        let (word, name) = replace(self, Word::new(alloc, home)).settled(note);
+        *self = word;
+        name
     }
 
     /// The block of a set word, once its home has ended.
