@@ -1,4 +1,4 @@
-use Rattle.std.proofs.Common.{◌≡◌, arith, ap}
+use Rattle.std.proofs.Common.{◌≡◌, arith}
 use Rattle.generations.proofs.Contents.{generation_blank}
 use Rattle.generations.proofs.fixed.Generation.with_capacity.Goals as goal
 
