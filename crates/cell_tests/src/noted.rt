@@ -73,6 +73,14 @@ fn life(alloc: Global) -> ([[Option<u64>; 2]; 4], Option<u64>) {
 #[test]
 fn what_a_note_knows_is_shown_again_and_handed_out(rt: HostRuntime) {
     let (seen, taken) = life(rt.alloc());
-    assert_eq!(rt; seen, [[None, None], [Some(5), Some(5)], [Some(5), Some(5)], [Some(5), Some(5)]]);
+    assert_eq!(rt;
+        seen,
+        [
+            [None, None],
+            [Some(5), Some(5)],
+            [Some(5), Some(5)],
+            [Some(5), Some(5)]
+        ]
+    );
     assert_eq!(rt; taken, Some(5));
 }

@@ -65,10 +65,7 @@ fn shared<A: Low + Copy>(alloc: A) -> ([Fared; 3], Option<u64>) {
     let third = place(&home, &bucket, alloc, 7);
     let note = bucket.as_ref().note();
     let closed = home.close();
-    (
-        [first, second, third],
-        bucket.take(&closed, alloc, note),
-    )
+    ([first, second, third], bucket.take(&closed, alloc, note))
 }
 
 /// A value for a bucket held alone, and then two that are offered to it through `&`.
@@ -80,10 +77,7 @@ fn shared_after_alone<A: Low + Copy>(alloc: A) -> ([Fared; 3], Option<u64>) {
     let third = place(&home, &bucket, alloc, 7);
     let note = bucket.as_ref().note();
     let closed = home.close();
-    (
-        [first, second, third],
-        bucket.take(&closed, alloc, note),
-    )
+    ([first, second, third], bucket.take(&closed, alloc, note))
 }
 
 /// An allocator that grants the first requests for the block of an entry of a number, and refuses the next one.

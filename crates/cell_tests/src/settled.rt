@@ -7,7 +7,7 @@ use std::alloc::Global;
 /// The number that a settled word shows, and the one that it then hands out. It was set to the number given, if one is.
 fn settle(alloc: Global, number: Option<u64>) -> [Option<u64>; 2] {
     let home = Home::new();
-    let word = Word::new(&alloc, &home);
+    let mut word = Word::new(&alloc, &home);
     let mut note = word.note();
     if let Some(value) = number
         && let Ok(block) = Box::new(alloc, Entry { value, bits: 1 })
@@ -15,12 +15,12 @@ fn settle(alloc: Global, number: Option<u64>) -> [Option<u64>; 2] {
     {
         drop(back.into_box(alloc));
     }
-    match word.settled(note) {
-        (_, None) => {
+    match word.settle(&alloc, &home, note) {
+        None => {
             let _closed = home.close();
             [None, None]
         }
-        (word, Some(name)) => {
+        Some(name) => {
             let shown = name.get(&home).value;
             let closed = home.close();
             let block = word.into_block(&closed).into_box(alloc);

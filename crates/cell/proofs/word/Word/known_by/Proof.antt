@@ -28,7 +28,7 @@ use Rattle.core.proofs.alloc.Calls.{Goes-blank}
 use Rattle.core.proofs.atomic.ptr.AtomicPtr.TheLaws as atomic_laws
 use Rattle.std.proofs.raw_atomic.Walks.{proved_at, leaves}
 use Rattle.cell.specs.Notes.{noted}
-use Rattle.cell.specs.Words.{WordView, Shows, kept}
+use Rattle.cell.specs.Words.{Shows, kept}
 use Rattle.cell.specs.contracts.word.Word as word
 use Rattle.cell.specs.contracts.word.Word.TheInside as inside
 use Rattle.cell.proofs.Moves as moves

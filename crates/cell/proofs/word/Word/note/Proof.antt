@@ -17,7 +17,6 @@ use denote.Signature.{types_at, type_at, plain}
 use denote.Builtin.{RefOf}
 use denote.Steps.{nothing}
 use denote.Param.{param, bounded}
-use denote.Param.Laws.{param_laws}
 use denote.Triple.Entry.{alive}
 use denote.Triple.Walked.{Stays, stay_dropped, walk_of, Goes-dropped}
 use Rattle.std.proofs.raw_atomic.Walks.{proved_at, leaves}
