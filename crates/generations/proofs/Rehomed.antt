@@ -1,13 +1,13 @@
 -- Buckets that are moved to another home, one after the other.
-use Rattle.std.proofs.Common.{◌≡◌, ℕ, suc, ◌+◌, ◌<◌, ◌≤◌, ◌++◌, List, [], ◌∷◌, length, take, inl, inr, refl, sym, ap, subst, ◌∙◌, arith, get_or-set_other, get_or-set_same}
-use Rattle.std.specs.Prelude.{All, slice_index_or, slice_set, map}
+use Rattle.std.proofs.Common.{◌≡◌, ℕ, suc, ◌+◌, ◌<◌, ◌++◌, List, [], ◌∷◌, length, take, inl, inr, refl, sym, ap, subst, ◌∙◌, arith, get_or-set_other, get_or-set_same}
+use Rattle.std.specs.Prelude.{All, slice_index_or, slice_set}
 use Rattle.std.proofs.lemmas.Bool.{cases_eq}
 use Rattle.std.proofs.lemmas.List.{length-append, length-map, length-set, map-append, get_or-map, get_or_default, take_more}
 use Rattle.std.proofs.lemmas.List.Elements.{All-head, All-tail}
 use Rattle.cell.specs.Contents.{BucketView, bucket, Lies, KeepsOwn, NamesNone}
-use Rattle.generations.specs.Buckets.{Content, vacant, own, named, shown_entries, owned_values, content_at}
+use Rattle.generations.specs.Buckets.{Content, vacant, own, named, shown_entries, owned_values}
 use Rattle.generations.specs.Generations.{contents_of}
-use Rattle.generations.specs.Rehomed.{AreRehomed, IsRehomed, RehomesAt, AreMovedBelow}
+use Rattle.generations.specs.Rehomed.{AreRehomed, RehomesAt, AreMovedBelow}
 use Rattle.generations.proofs.Entries.{values-append}
 
 module _ {A T : Type 0} (home : ℕ) (from : A) where
@@ -48,10 +48,10 @@ module _ {A T : Type 0} (home : ℕ) (from : A) where
   all_keep was new below = record {
     long = rw (length-map, length-map) below.long;
     each = λ k lt. (
-      let within : k < length was = rw (← length-map was (λ b. b.content)) lt in
-      let d : BucketView A T = bucket from home vacant in
-      let inside : k < length new = omega (arith, below.long, within) in
-      rw (get_or-map (λ b. b.content) was k d vacant within, get_or-map (λ b. b.content) new k d vacant inside) (below.moved k d within within).own);
+        let within : k < length was = rw (← length-map was (λ b. b.content)) lt in
+        let d : BucketView A T = bucket from home vacant in
+        let inside : k < length new = omega (arith, below.long, within) in
+        rw (get_or-map (λ b. b.content) was k d vacant within, get_or-map (λ b. b.content) new k d vacant inside) (below.moved k d within within).own);
   }
 
 module _ {T : Type 0} where
