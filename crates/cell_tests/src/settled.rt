@@ -7,7 +7,7 @@ use std::alloc::Global;
 /// The number that a settled word shows, and the one that it then hands out. It was set to the number given, if one is.
 fn settle(alloc: Global, number: Option<u64>) -> [Option<u64>; 2] {
     let home = Home::new();
-    let mut word = Word::new(&alloc, &home);
+    let word = Word::new(&alloc, &home);
     let mut note = word.note();
     if let Some(value) = number
         && let Ok(block) = Box::new(alloc, Entry { value, bits: 1 })
@@ -15,7 +15,8 @@ fn settle(alloc: Global, number: Option<u64>) -> [Option<u64>; 2] {
     {
         drop(back.into_box(alloc));
     }
-    match word.settle(&alloc, &home, note) {
+    let (word, shown) = word.settled(note);
+    match shown {
         None => {
             let _closed = home.close();
             [None, None]

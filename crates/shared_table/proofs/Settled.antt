@@ -1,8 +1,7 @@
 -- Generations that are settled, one after the other, and counted.
 use Rattle.std.proofs.Common.{◌≡◌, ℕ, ◌+◌, ◌<◌, ◌≤◌, ◌++◌, List, [], ◌∷◌, length, take, inl, inr, refl, sym, ap, ◌∙◌, arith, get_or-set_other, get_or-set_same, append-nil}
-use Rattle.std.specs.Prelude.{All, map, slice_index_or, slice_set}
+use Rattle.std.specs.Prelude.{All, map, slice_index_or}
 use Rattle.std.specs.declared.boxed.Box.{Box}
-use Rattle.std.specs.List.{flat_map}
 use Rattle.std.proofs.lemmas.Bool.{cases_eq}
 use Rattle.std.proofs.lemmas.List.{length-append, length-set, take_more}
 use Rattle.std.proofs.lemmas.List.Elements.{All-nil, All-cons, All-head, All-tail, All-append}

@@ -8,4 +8,4 @@ invariant_of-result g c =
     let old = c.self.inside.word in
     let block = c.into_block.result in
     is_own c.in-Own.bits block.from c.args.home.now.id block.value c.own.result c.own.ensures
-        (own_bits c.in-Own.bits old block.value (subst (λ m. IsMarked m old) c.in-Own.is c.self.invariant) c.into_block.ensures.1.0)
+    (own_bits c.in-Own.bits old block.value (subst (λ m. IsMarked m old) c.in-Own.is c.self.invariant) c.into_block.ensures.1.0)

@@ -1,4 +1,4 @@
-use Rattle.std.proofs.Common.{◌≡◌, ◌∙◌, ◌+◌, ◌*◌, length, inl, inr, ap, sym, arith, refl, add-one}
+use Rattle.std.proofs.Common.{◌≡◌, ◌∙◌, ◌+◌, ◌*◌, length, inl, inr, ap, arith, refl, add-one}
 use Rattle.std.proofs.Math.Nat.{pow-suc}
 use Rattle.generations.proofs.fixed.Generation.doubled.Goals as goal
 
