@@ -1,0 +1,6 @@
+//! The steps of a call on a running table: each is the core's `decide`, and says what its caller needs of it.
+#![tactic(auto)]
+
+pub mod steps;
+
+pub use steps::{step, step_loaded, step_looked_past, step_passed, step_released};
