@@ -8,9 +8,9 @@ use Rattle.table_core.specs.declared.call.Phase.{Phase}
 use Rattle.table_core.specs.declared.call.Phase.TheVariants.{WantShared, Shared, Probe, AtEmpty, LeaveOk, LeaveGrow, LeaveRefused, LeaveOwned, LeaveFailed, LookLoad, LookProbe, Done}
 use Rattle.table_core.specs.declared.call.Outcome.{Outcome}
 use Rattle.table_core.specs.declared.call.Outcome.TheVariants.{Pending, New, Existing}
-use Rattle.table_core.specs.declared.call.Answer.TheVariants.{Loaded}
+use Rattle.table_core.specs.declared.call.Answer.TheVariants.{Loaded, Holds}
 use Rattle.table_core.specs.declared.call.CallState.{CallState}
-use Rattle.table_core.specs.Calls.{decided, fits, to, passes, probes, stands_at_bucket, is_pending}
+use Rattle.table_core.specs.Calls.{decided, fits, to, passes, probes, stands_at_bucket, is_pending, finds_entry}
 use Rattle.turns.specs.Phases.{Meets, Leaves, left, left_in, reached, reached_by}
 use Rattle.turns.specs.Steps.{LeavesWith, Leaving, Passing, Starting, LookingPast, passed, released}
 
@@ -163,6 +163,26 @@ passed_fits_in _ s asked (inr e) h = absurd (cc)
 -- what a call found that passes an entry fits where it stands at a bucket
 pub passed_fits : (s : CallState) → (asked : Bool) → Meets s.phase ⊎ (s.phase ≡ LookProbe) → stands_at_bucket s ≡ true → fits s.phase s (passed asked) ≡ true
 passed_fits s asked m h = passed_fits_in s.phase s asked m h
+
+-- Accepting an entry
+
+accepted_in : (p : Phase) → (s : CallState) → Meets p → decided p s (Holds true) ≡ finds_entry LeaveOk s
+accepted_in Probe s m = refl
+accepted_in AtEmpty s m = refl
+accepted_in _ s m = absurd m
+
+-- an insert that accepts an entry
+pub accepted_by : (s : CallState) → Meets s.phase → decided s.phase s (Holds true) ≡ finds_entry LeaveOk s
+accepted_by s m = accepted_in s.phase s m
+
+accepted_fits_in : (p : Phase) → (s : CallState) → Meets p → stands_at_bucket s ≡ true → fits p s (Holds true) ≡ true
+accepted_fits_in Probe s m h = h
+accepted_fits_in AtEmpty s m h = h
+accepted_fits_in _ s m h = absurd m
+
+-- an accepted entry fits where the call stands at a bucket
+pub accepted_fits : (s : CallState) → Meets s.phase → stands_at_bucket s ≡ true → fits s.phase s (Holds true) ≡ true
+accepted_fits s m h = accepted_fits_in s.phase s m h
 
 -- The first bucket
 

@@ -3,4 +3,4 @@
 
 pub mod steps;
 
-pub use steps::{step, step_loaded, step_looked_past, step_passed, step_released};
+pub use steps::{step, step_accepted, step_loaded, step_looked_past, step_passed, step_released};

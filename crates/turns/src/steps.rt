@@ -4,9 +4,9 @@
 //! phase says and hands the answer to one of these functions. `step` is enough where phase and answer are known; the others say
 //! what holds afterwards where the next phase hangs on numbers.
 ghost use Rattle.std.specs.Prelude.{◌≡◌, ◌<◌, ◌⊎◌, true};
-ghost use Rattle.table_core.specs.Calls.{decided, fits, stands_at_bucket};
-ghost use Rattle.table_core.specs.declared.call.Phase.TheVariants.{Probe, Shared, LookLoad, LookProbe};
-ghost use Rattle.table_core.specs.declared.call.Answer.TheVariants.{Loaded};
+ghost use Rattle.table_core.specs.Calls.{decided, fits, stands_at_bucket, finds_entry};
+ghost use Rattle.table_core.specs.declared.call.Phase.TheVariants.{Probe, Shared, LeaveOk, LookLoad, LookProbe};
+ghost use Rattle.table_core.specs.declared.call.Answer.TheVariants.{Loaded, Holds};
 ghost use Rattle.table_core.specs.declared.call.Outcome.TheVariants.{Pending};
 ghost use Rattle.turns.specs.Phases.{Leaves, Meets};
 ghost use Rattle.turns.specs.Steps.{Went, LeavesWith, Leaving, Passing, Starting, LookingPast};
@@ -59,6 +59,17 @@ pub fn step_passed(state: CallState, asked: bool) -> CallState
     ensures passing { Passing state result }
 {
     step(state, passed(asked))
+}
+
+/// An insert accepts the entry in its bucket.
+#[inline(always)]
+pub fn step_accepted(state: CallState) -> CallState
+    requires meets { Meets state.phase }
+    requires stands { stands_at_bucket state ≡ true }
+    ensures went { Went state result (Holds true) }
+    ensures found { result ≡ finds_entry LeaveOk state }
+{
+    step(state, Answer::Holds { accepted: true })
 }
 
 /// What a call found that releases its lock in this phase: `still_current` counts after a failed growth alone.
