@@ -1,5 +1,5 @@
 -- What a bucket holds, and what its calls answer.
-use Rattle.std.specs.Prelude.{◌≡◌, ◌≢◌, ℕ, true, false, Option, Some, None, IfSome}
+use Rattle.std.specs.Prelude.{◌≡◌, ◌≢◌, ℕ, ⊤, true, false, Option, Some, None, IfSome}
 use Rattle.cell.specs.Words.{WordView}
 use Rattle.cell.specs.declared.bucket.Entry.{Entry}
 use Rattle.cell.specs.declared.bucket.Mark.{Mark}
@@ -42,6 +42,12 @@ module _ {T : Type 0} where
   naming vacant = None
   naming (own e) = Some (named e)
   naming (named e) = Some (named e)
+
+  -- the bucket names an entry
+  abbrev pub Names : Content T → Type 0
+  Names vacant = ⊥
+  Names (own e) = ⊥
+  Names (named e) = ⊤
 
   abbrev pub entry_from : T → ℕ → Entry T
   entry_from value bits = record { value = value; bits = bits }

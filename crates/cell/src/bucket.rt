@@ -1,6 +1,6 @@
 //! A bucket that is set at most once.
 ghost use Rattle.std.specs.Prelude.{◌≡◌, IfOk, IfErr, IfSome, IsSome, Some, OnOk, option_copied, option_map};
-ghost use Rattle.cell.specs.Contents.{vacant, own, named, bucket, shown, owned, entry_from, naming, Lies, Reads, HandsBack, Misses};
+ghost use Rattle.cell.specs.Contents.{vacant, own, named, bucket, shown, owned, entry_from, naming, Lies, Names, Reads, HandsBack, Misses};
 
 use crate::home::{Closed, Home, Homed};
 use crate::loose_block::LooseBlock;
@@ -111,6 +111,24 @@ impl<T: Drop, A: Allocator + Copy> Bucket<T, A> {
         Some(Bucket {
             mark,
             word: Word::of_name(self.word.name(), &alloc),
+        })
+    }
+
+    /// A bucket that names the entry of this one, also where that was set through `&`: then its block is read for its bits.
+    pub fn naming_set(&self, home: &Home, alloc: A) -> Option<Self>
+        requires home { self.now.home ≡ home.now.id }
+        requires from { self.now.from ≡ alloc }
+        ensures names { IfSome result (λ b. Lies home.now.id alloc b × Names b.content) }
+        ensures known { IfSome (shown self.now.content) (λ e. result ≡ Some (bucket alloc home.now.id (named e))) }
+    {
+        let Mark::Vacant = self.mark else {
+            return self.naming(alloc);
+        };
+        let word = Word::of_name(self.word.name_if_set()?, &alloc);
+        let bits = word.name().get(home).bits;
+        Some(Bucket {
+            mark: Mark::Named(bits),
+            word,
         })
     }
 

@@ -3,3 +3,4 @@ pub mod Ways
 pub mod Probe
 pub mod Generations
 pub mod Growth
+pub mod Looks

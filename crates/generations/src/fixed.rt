@@ -9,6 +9,7 @@ ghost use Rattle.generations.specs.Growth.{Inserts, PutsName};
 ghost use Rattle.generations.specs.Generations.{CountsInsert, AreOfOneHome, IsName};
 
 pub mod owning;
+pub mod shared;
 
 use crate::atomic_value::AtomicValue;
 use cell::{Bucket, Entry, Home, Mark, Refusal as BucketRefusal, Word};

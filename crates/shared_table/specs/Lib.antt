@@ -1,0 +1,5 @@
+pub mod Lineages
+pub mod Tables
+pub mod Growths
+pub mod Walks
+pub mod Begun

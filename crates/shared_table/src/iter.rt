@@ -1,0 +1,80 @@
+//! A walk over a table that threads share.
+ghost use Rattle.std.specs.Prelude.{◌≡◌};
+ghost use Rattle.std.specs.Iterator.{at_most};
+ghost use Rattle.shared_table.specs.Walks.{WalksOn};
+
+use crate::table::LockFreeRawTable;
+use cell::Home;
+use generations::atomic_value::AtomicValue;
+use generations::fixed::Generation;
+use std::alloc::{Allocator, Global};
+use std::iter::FusedIterator;
+use std::marker::Model;
+
+/// The targets of a table's entries. It stays with the generation that was current when it was made, and looks at each
+/// bucket when it comes to it. It is seen as the number of the buckets that are left.
+#[derive(Drop)]
+pub struct Iter<'a, T: AtomicValue, A: Allocator + Copy = Global> {
+    home: &'a Home,
+    generation: Option<&'a Generation<T, A>>,
+    left: usize,
+}
+
+impl<'a, T: AtomicValue, A: Allocator + Copy> Model for Iter<'a, T, A> {
+    ghost use Rattle.std.specs.Prelude.{ℕ};
+    ghost use Rattle.shared_table.specs.Walks.{IsWithin};
+
+    ghost Value = { ℕ };
+
+    ghost view = { λ it. it.left };
+
+    ghost invariant = { λ it. IsWithin it.home.now.id it.generation it.left };
+}
+
+impl<'a, V: 'a, T: AtomicValue<Target = V>, A: Allocator + Copy> Iterator for Iter<'a, T, A> {
+    type Item = &'a V;
+
+    ghost next_gives = { WalksOn };
+
+    ghost remaining = { λ it. at_most it };
+
+    fn next(&mut self) -> Option<&'a V> {
+        let generation = self.generation?;
+        while self.left > 0 {
+            let index = generation.capacity() - self.left;
+            self.left -= 1;
+            if let Some(entry) = generation.entry_at(self.home, index) {
+                return Some(entry.value.deref());
+            }
+        }
+        None
+    }
+}
+
+impl<'a, V: 'a, T: AtomicValue<Target = V>, A: Allocator + Copy> FusedIterator for Iter<'a, T, A> {}
+
+impl<T: AtomicValue, A: Allocator + Copy> LockFreeRawTable<T, A> {
+    /// A walk over the targets of the entries. It takes no lock and no memory.
+    pub fn iter(&self) -> Iter<'_, T, A> {
+        let (generation, left) = match self.current() {
+            Some(current) => (Some(current.generation), current.generation.capacity()),
+            None => (None, 0),
+        };
+        Iter {
+            home: &self.home,
+            generation,
+            left,
+        }
+    }
+}
+
+impl<'a, V: 'a, T: AtomicValue<Target = V>, A: Allocator + Copy> IntoIterator
+    for &'a LockFreeRawTable<T, A> {
+    type Item = &'a V;
+
+    type IntoIter = Iter<'a, T, A>;
+
+    fn into_iter(self) -> Iter<'a, T, A> {
+        self.iter()
+    }
+}

@@ -1,0 +1,17 @@
+//! The table that threads share: its generations, growth step by step, and walks.
+//!
+//! The generations that a table had when it was shared lie in it as they were; each later one lies in a block of its own,
+//! named by a word that is set once. Who looks up or inserts takes the current one by [`LockFreeRawTable::current`].
+#![tactic(auto)]
+
+mod growing;
+mod growth;
+mod iter;
+mod later;
+mod lineage;
+mod table;
+
+pub use growing::Wanted;
+pub use growth::Growth;
+pub use iter::Iter;
+pub use table::{Current, FIRST_CAPACITY, LockFreeRawTable};
