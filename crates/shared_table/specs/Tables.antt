@@ -1,5 +1,5 @@
 -- A table that threads share, as its callers see it.
-use Rattle.std.specs.Prelude.{◌≡◌, ℕ, List, Option}
+use Rattle.std.specs.Prelude.{ℕ, List, Option}
 use Rattle.cell.specs.declared.bucket.Entry.{Entry}
 use Rattle.shared_table.specs.Lineages.{LineageView}
 

@@ -4,11 +4,17 @@
 //! named by a word that is set once. Who looks up or inserts takes the current one by [`LockFreeRawTable::current`].
 #![tactic(auto)]
 
+mod carried;
+mod counting;
 mod growing;
 mod growth;
+mod insert;
+mod inserting;
 mod iter;
 mod later;
 mod lineage;
+mod lookup;
+mod reading;
 mod table;
 
 pub use growing::Wanted;

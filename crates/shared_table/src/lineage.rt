@@ -68,11 +68,7 @@ impl<T: AtomicValue, A: Allocator + Copy> Lineage<T, A> {
     }
 
     /// The later generation of this index, if it is shown by now.
-    fn later_generation<'a>(
-        &'a self,
-        home: &'a Home,
-        index: usize,
-    ) -> Option<&'a Generation<T, A>>
+    fn later_generation<'a>(&'a self, home: &'a Home, index: usize) -> Option<&'a Generation<T, A>>
         requires { self.now.home ≡ home.now.id }
         ensures { IfSome result (λ g. g.now.home ≡ home.now.id) }
     {

@@ -9,6 +9,7 @@ use Rattle.table_core.specs.declared.call.Phase.TheVariants.{LeaveOwned}
 use Rattle.table_core.specs.declared.call.Phase.TheVariants.{LeaveFailed, LookLoad, LookProbe}
 use Rattle.table_core.specs.declared.call.Phase.TheVariants.{LenLoad, LenSize, WalkLoad, WalkAt}
 use Rattle.table_core.specs.declared.call.Phase.TheVariants.{Done}
+use Rattle.table_core.specs.declared.call.Phase.TheVariants.{WantOwned}
 use Rattle.table_core.specs.declared.call.Outcome.{Outcome}
 use Rattle.table_core.specs.declared.call.Outcome.TheVariants.{Pending, New, Existing}
 use Rattle.table_core.specs.declared.call.CallState.{CallState}
@@ -82,6 +83,13 @@ Leaves LeaveRefused = Unit {0}
 Leaves LeaveOwned = Unit {0}
 Leaves LeaveFailed = Unit {0}
 Leaves _ = ⊥
+
+-- an insert in this phase goes on without waiting for a lock
+abbrev pub Turns : Phase → Type 0
+Turns WantShared = ⊥
+Turns WantOwned = ⊥
+Turns Done = ⊥
+Turns _ = Unit {0}
 
 -- Outcomes
 

@@ -3,4 +3,7 @@
 
 pub mod steps;
 
-pub use steps::{step, step_accepted, step_loaded, step_looked_past, step_passed, step_released};
+pub use steps::{
+    passed, released, step, step_accepted, step_loaded, step_looked_past, step_passed,
+    step_released,
+};
