@@ -49,6 +49,19 @@ module _ {T : Type 0} where
   Names (own e) = ⊥
   Names (named e) = ⊤
 
+  -- the bucket names no entry that another one owns
+  abbrev pub NamesNone : Content T → Type 0
+  NamesNone vacant = ⊤
+  NamesNone (own e) = ⊤
+  NamesNone (named e) = ⊥
+
+  -- what is kept of a bucket that is moved to another home: the entry that it owned alone, and none
+  -- that it named
+  abbrev pub KeepsOwn : Content T → Content T → Type 0
+  KeepsOwn vacant new = ⊤
+  KeepsOwn (own e) new = new ≡ own e
+  KeepsOwn (named e) new = new ≡ vacant
+
   abbrev pub entry_from : T → ℕ → Entry T
   entry_from value bits = record { value = value; bits = bits }
 

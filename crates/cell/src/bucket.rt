@@ -1,6 +1,6 @@
 //! A bucket that is set at most once.
 ghost use Rattle.std.specs.Prelude.{◌≡◌, IfOk, IfErr, IfSome, IsSome, Some, OnOk, option_copied, option_map};
-ghost use Rattle.cell.specs.Contents.{vacant, own, named, bucket, shown, owned, entry_from, naming, Lies, Names, Reads, HandsBack, Misses};
+ghost use Rattle.cell.specs.Contents.{vacant, own, named, bucket, shown, owned, entry_from, naming, Lies, Names, NamesNone, KeepsOwn, Reads, HandsBack, Misses};
 
 use crate::home::{Closed, Home, Homed};
 use crate::loose_block::LooseBlock;
@@ -220,6 +220,41 @@ impl<T: Drop, A: Allocator + Copy> Bucket<T, A> {
             Mark::Vacant => Some(
                 Box::into_inner(self.word.into_block_if_set(closed)?.into_box(alloc)).value,
             ),
+        }
+    }
+}
+
+impl<T: Drop, A: Allocator + Copy> Bucket<T, A> {
+    /// A bucket that owns the entry in this block.
+    fn owning(home: &Home, block: LooseBlock<Entry<T>, A>) -> Self
+        ensures { result ≡ bucket block.from home.now.id (own block.value) }
+    {
+        let word = Word::own(home, block);
+        let bits = word.name().get(home).bits;
+        Bucket {
+            mark: Mark::Own(bits),
+            word,
+        }
+    }
+
+    /// Ends the bucket, and hands out the entry that it owns, alone or since it was set through `&`, in a bucket of another
+    /// home. That one is vacant where this one owned nothing.
+    pub fn rehomed(self, closed: &Closed, home: &Home, alloc: A) -> Self
+        requires { Lies closed.now.id alloc self }
+        ensures lies { Lies home.now.id alloc result }
+        ensures own { KeepsOwn self.content result.content }
+        ensures unnamed { NamesNone result.content }
+    {
+        match self.mark {
+            Mark::Own(bits) => Bucket {
+                mark: Mark::Own(bits),
+                word: Word::own(home, self.word.into_block(closed)),
+            },
+            Mark::Named(_) => Bucket::new(&alloc, home),
+            Mark::Vacant => match self.word.into_block_if_set(closed) {
+                Some(block) => Bucket::owning(home, block),
+                None => Bucket::new(&alloc, home),
+            },
         }
     }
 }

@@ -44,7 +44,7 @@ module _ {X : Type 0} where
   place_of (Some w ∷ ps) v (zero, lt, e) = (0, ap Some e)
   place_of (Some w ∷ ps) v (suc k, lt, e) = let r = place_of ps v (k, omega arith, e) in (suc r.0, r.1)
 
-  values-append : (ps qs : List (Option X)) → values (ps ++ qs) ≡ values ps ++ values qs
+  pub values-append : (ps qs : List (Option X)) → values (ps ++ qs) ≡ values ps ++ values qs
   values-append [] qs = refl
   values-append (None ∷ ps) qs = values-append ps qs
   values-append (Some v ∷ ps) qs = ap (λ vs. v ∷ vs) (values-append ps qs)

@@ -5,3 +5,4 @@ pub mod Counts
 pub mod Probes
 pub mod Rehashes
 pub mod Windows
+pub mod Rehomed

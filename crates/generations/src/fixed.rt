@@ -9,6 +9,7 @@ ghost use Rattle.generations.specs.Growth.{Inserts, PutsName};
 ghost use Rattle.generations.specs.Generations.{CountsInsert, AreOfOneHome, IsName};
 
 pub mod owning;
+mod rehomed;
 pub mod shared;
 
 use crate::atomic_value::AtomicValue;

@@ -1,13 +1,16 @@
 -- Steps of a walk over the buckets of a table, and the values that its generations own together.
-use Rattle.std.proofs.Common.{◌≡◌, ℕ, ◌<◌, ◌++◌, List, [], ◌∷◌, length, map, refl, append_assoc, append-nil, ◌^◌, arith}
+use Rattle.std.proofs.Common.{◌≡◌, ℕ, ◌<◌, ◌++◌, List, [], ◌∷◌, length, map, refl, ap, append_assoc, append-nil, ◌^◌, arith}
 use Rattle.std.specs.List.{flat_map}
 use Rattle.std.specs.List.Sorted.{IsPermutation}
+use Rattle.std.specs.declared.boxed.Box.{Box}
 use Rattle.std.proofs.lemmas.List.{map-append, length-map}
 use Rattle.std.proofs.lemmas.List.Sorted.{IsPermutation-refl, IsPermutation-sym, IsPermutation-trans, IsPermutation-map, IsPermutation-append_comm, length_permutation}
-use Rattle.generations.specs.Buckets.{Content, values, owned, owned_values, shown_entries, values_of}
-use Rattle.generations.specs.Generations.{GenerationView, OwnValuesView}
-use Rattle.lock_free_hashtable.specs.Table.{HeldTable, IsKept, table_of, contents_in, owned_rows, entries}
-use Rattle.lock_free_hashtable.specs.Walks.{all_left, all_owned, WalksAsList, GivesEntries}
+use Rattle.generations.specs.Buckets.{Content, values, owned, owned_values, shown_entries, shown_all, values_of}
+use Rattle.generations.specs.Generations.{GenerationView}
+use Rattle.lock_free_hashtable.specs.Table.{HeldTable, IsKept, table_of, contents_in, owned_rows, shown_rows, entries}
+use Rattle.lock_free_hashtable.specs.Walks.{WalksAsList, GivesEntries}
+use Rattle.shared_table.specs.Handed.{all_owned, with_later}
+use Rattle.shared_table.specs.Lineages.{shown_in}
 
 module _ {T : Type 0} where
   -- entries in some order answer a walk as each list that the table stands for does
@@ -48,6 +51,11 @@ module _ {A T : Type 0} where
         fits = omega (arith, length-owned first gs current size kept);
       }
 
-  -- where the values of one generation are out, those of the next one are taken
-  pub next_left : (first next : OwnValuesView T) (x : GenerationView A T) (gs rest : List (GenerationView A T)) → first.values ≡ [] → next.values ≡ owned_values x.contents → gs ≡ x ∷ rest → all_left next rest ≡ all_left first gs
-  next_left first next x gs rest out is split = rw (out, is, split) refl
+  -- no generation lies in a block
+  pub none_later : (gs : List (GenerationView A T)) (blocks : List (Box (GenerationView A T) A)) → blocks ≡ [] → with_later gs blocks ≡ gs
+  none_later gs blocks none = rw none (append-nil gs)
+
+  -- what the generations of a table show it shows once it is shared
+  pub shown_as_shared : (gs : List (GenerationView A T)) (current : GenerationView A T) → shown_in gs current ≡ shown_rows (contents_in gs) current.contents
+  shown_as_shared [] current = refl
+  shown_as_shared (g ∷ gs) current = ap (λ rows. shown_all g.contents ∷ rows) (shown_as_shared gs current)

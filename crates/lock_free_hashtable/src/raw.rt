@@ -10,21 +10,19 @@ ghost use Rattle.lock_free_hashtable.specs.Table.{contents_in, shown_rows, AreOf
 mod into_iter;
 mod iter;
 pub mod laws;
+mod share;
 
 use crate::place::Place;
 use cell::Home;
 use generations::atomic_value::{AtomicValue, Law};
 use generations::fixed::{Generation, ProbeEnd, Refusal};
 use generations::growth::rehashed;
-pub use into_iter::IntoIter;
 pub use iter::HeldIter;
+pub use shared_table::{Current, FIRST_CAPACITY, IntoIter, Iter, LockFreeRawTable};
 use std::alloc::{AllocError, Allocator, Global};
 use std::marker::Model;
 use std::mem;
 use terms::capacity;
-
-/// The capacity of the first generation of a table made by `new`.
-pub const FIRST_CAPACITY: usize = 16;
 
 /// Whether a table's first generation may have `first` buckets: a power of two from 16 to 2^30.
 pub fn is_first_capacity(first: usize) -> bool

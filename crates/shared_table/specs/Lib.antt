@@ -6,3 +6,5 @@ pub mod Begun
 pub mod Carried
 pub mod Inserts
 pub mod Reads
+pub mod Handed
+pub mod Settled

@@ -6,18 +6,22 @@
 
 mod carried;
 mod counting;
+mod ending;
 mod growing;
 mod growth;
 mod insert;
 mod inserting;
+mod into_iter;
 mod iter;
 mod later;
 mod lineage;
 mod lookup;
 mod reading;
+mod rest;
 mod table;
 
 pub use growing::Wanted;
 pub use growth::Growth;
+pub use into_iter::IntoIter;
 pub use iter::Iter;
 pub use table::{Current, FIRST_CAPACITY, LockFreeRawTable};

@@ -4,8 +4,10 @@ ghost use Rattle.cell.specs.Contents.{vacant};
 ghost use Rattle.generations.specs.Generations.{GenerationView};
 ghost use Rattle.shared_table.specs.Lineages.{AreOfHome, AreRoomy, IsOpen, lineage_of};
 
+use crate::ending::{hand_out, rehome_all, rehome_shown};
+use crate::into_iter::IntoIter;
 use crate::later::{Later, Slot, show_block};
-use cell::{Home, Low, Word};
+use cell::{Closed, Home, Low, Word};
 use generations::atomic_value::AtomicValue;
 use generations::fixed::Generation;
 use std::alloc::{AllocError, Allocator};
@@ -103,6 +105,26 @@ impl<T: AtomicValue, A: Allocator + Copy> Lineage<T, A> {
             return None;
         }
         Some(found)
+    }
+}
+
+impl<T: AtomicValue, A: Allocator + Copy> Lineage<T, A> {
+    /// Takes the generations apart, once their home has ended, and hands out each value that a bucket owns. It takes no
+    /// memory.
+    pub(crate) fn into_values(self, closed: &Closed) -> IntoIter<T, A>
+        requires { self.home ≡ closed.now.id }
+    {
+        let Lineage {
+            mut earlier,
+            base,
+            later,
+            alloc,
+        } = self;
+        let home = Home::new();
+        let base = base.rehomed(closed, &home);
+        rehome_all(&mut earlier, closed, &home, alloc);
+        let later = rehome_shown(later, closed, &home, alloc);
+        hand_out(home.close(), base, earlier, later, alloc)
     }
 }
 

@@ -3,6 +3,7 @@ ghost use Rattle.std.specs.Prelude.{◌≡◌, ◌<◌, ◌↔◌, IfSome, IsTru
 ghost use Rattle.terms.specs.Capacities.{IsFirstCapacity};
 ghost use Rattle.shared_table.specs.Lineages.{AreOfHome, shown_in};
 
+use crate::into_iter::IntoIter;
 use crate::lineage::Lineage;
 use cell::Home;
 use generations::atomic_value::AtomicValue;
@@ -133,5 +134,33 @@ impl<T: AtomicValue, A: Allocator + Copy> LockFreeRawTable<T, A> {
     /// Whether at least half of the buckets of this generation are counted as set.
     pub(crate) fn wants_growth(&self, current: &Generation<T, A>) -> bool {
         current.capacity() / 2 <= self.size.load(SeqCst)
+    }
+}
+
+impl<T: AtomicValue, A: Allocator + Copy> IntoIterator for LockFreeRawTable<T, A> {
+    type Item = T;
+
+    type IntoIter = IntoIter<T, A>;
+
+    /// Takes the table apart, and hands out each value that it holds. It takes no memory.
+    fn into_iter(self) -> IntoIter<T, A> {
+        let LockFreeRawTable {
+            first_capacity: _,
+            home,
+            lineage,
+            shown: _,
+            size: _,
+            lock: _,
+            alloc: _,
+        } = self;
+        let closed = home.close();
+        lineage.into_values(&closed)
+    }
+}
+
+impl<T: AtomicValue, A: Allocator + Copy> Drop for LockFreeRawTable<T, A> {
+    /// Drops each entry once, and frees its block.
+    fn drop(self) {
+        drop(self.into_iter());
     }
 }

@@ -1,4 +1,4 @@
-use Rattle.std.proofs.Common.{◌≡◌, ◌∙◌, Option, Some, ap, sym, subst}
+use Rattle.std.proofs.Common.{◌≡◌, ◌∙◌, Option, ap, sym, subst}
 use Rattle.cell.specs.Words.{Agrees}
 use Rattle.cell.proofs.Marks.{is_named}
 use Rattle.cell.proofs.bucket.Bucket.naming_set.Goals as goal

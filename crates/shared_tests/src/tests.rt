@@ -1,0 +1,5 @@
+//! The table that threads share, run.
+mod alone;
+mod numbers;
+mod racing;
+mod refusals;
