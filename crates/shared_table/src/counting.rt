@@ -1,5 +1,5 @@
 //! The steps at the size of a table, and whether a generation is still the current one.
-ghost use Rattle.std.specs.Prelude.{◌≡◌, ◌⊎◌, true, nat_lt, ℕ};
+ghost use Rattle.std.specs.Prelude.{◌≡◌, ◌⊎◌, true, nat_lt};
 ghost use Rattle.table_core.specs.Calls.{stands_at_bucket, to};
 ghost use Rattle.table_core.specs.declared.call.Outcome.TheVariants.{New};
 ghost use Rattle.table_core.specs.declared.call.Phase.TheVariants.{Placed, LeaveOk, AskSize, WantOwned, Done};

@@ -1,5 +1,5 @@
 //! Look-ups: one probe of the current generation, step by step by the core.
-ghost use Rattle.std.specs.Prelude.{◌≡◌, IfSome, true};
+ghost use Rattle.std.specs.Prelude.{IfSome, true};
 ghost use Rattle.std.specs.Fn.{FnReturnsAt};
 
 use crate::reading::Read;

@@ -2,10 +2,11 @@
 //!
 //! A call stands at the bucket of its state's index in the generation that it walks. Each function here does at that very
 //! bucket what the phase says, and gives the state after the step.
-ghost use Rattle.std.specs.Prelude.{◌≡◌, ◌<◌, length, true, IfSome, option_map};
+ghost use Rattle.std.specs.Prelude.{◌≡◌, ◌≢◌, MatchOption, ◌<◌, length, true};
 ghost use Rattle.std.specs.Fn.{FnReturnsAt, FnReturnsAtPair};
-ghost use Rattle.cell.specs.Contents.{vacant, named};
 ghost use Rattle.generations.specs.Buckets.{content_at};
+ghost use Rattle.generations.specs.Looks.{LooksAt};
+ghost use Rattle.terms.specs.Hashes.{bits_of};
 ghost use Rattle.table_core.specs.Calls.{stands_at_bucket};
 ghost use Rattle.table_core.specs.declared.call.Outcome.TheVariants.{Pending};
 ghost use Rattle.table_core.specs.declared.call.Phase.TheVariants.{Probe, AtEmpty, LookProbe};
@@ -56,7 +57,9 @@ fn alike<T: AtomicValue>(look: Look<'_, T>) -> Option<&T::Target>
 }
 
 /// The target of an entry, if it has the bits of this hash.
-pub(crate) fn alike_entry<T: AtomicValue>(entry: &Entry<T>, hash: u64) -> Option<&T::Target> {
+pub(crate) fn alike_entry<T: AtomicValue>(entry: &Entry<T>, hash: u64) -> Option<&T::Target>
+    ensures { MatchOption result (entry.now.bits ≢ bits_of hash) (λ r. r.now ≡ T.target entry.now.value) }
+{
     if entry.bits == bits_of_hash(hash) {
         Some(entry.value.deref())
     } else {
@@ -109,6 +112,18 @@ fn look_on<'a, T: AtomicValue, F: Fn(&T::Target) -> bool>(
 }
 
 impl<T: AtomicValue, A: Allocator + Copy> LockFreeRawTable<T, A> {
+    /// What a probe for the call's hash meets at the bucket where the call stands.
+    #[inline(always)]
+    fn look<'a>(&'a self, generation: &'a Generation<T, A>, state: CallState) -> Look<'a, T>
+        requires stands { stands_at_bucket state ≡ true }
+        requires home { generation.now.home ≡ self.now.home }
+        requires walked { length generation.now.contents ≡ state.capacity }
+        ensures { LooksAt (content_at generation.now.contents state.index) (bits_of state.hash) result }
+    {
+        let sought = bits_of_hash(state.hash);
+        generation.look_at(self.home(), state.index as usize, sought)
+    }
+
     /// An insert reads its bucket.
     #[inline(always)]
     pub(crate) fn read_bucket<'a, E: Fn(&T::Target, &T::Target) -> bool>(
@@ -126,8 +141,7 @@ impl<T: AtomicValue, A: Allocator + Copy> LockFreeRawTable<T, A> {
         requires callable { E.IsAlwaysCallable eq.now }
         ensures { InsertReads T.target (FnReturnsAtPair E.Fn eq.now (T.target value.now)) (content_at generation.now.contents state.index) state result }
     {
-        let sought = bits_of_hash(state.hash);
-        let look = generation.look_at(self.home(), state.index as usize, sought);
+        let look = self.look(generation, state);
         if matches!(look, Look::Vacant) {
             return Read::Empty(step(state, Answer::Empty));
         }
@@ -149,8 +163,7 @@ impl<T: AtomicValue, A: Allocator + Copy> LockFreeRawTable<T, A> {
         requires callable { F.IsAlwaysCallable test.now }
         ensures { LookupReads T.target (FnReturnsAt F.Fn test.now) (content_at generation.now.contents state.index) state result }
     {
-        let sought = bits_of_hash(state.hash);
-        let look = generation.look_at(self.home(), state.index as usize, sought);
+        let look = self.look(generation, state);
         if matches!(look, Look::Vacant) {
             return Read::Empty(step(state, Answer::Empty));
         }
