@@ -1,5 +1,5 @@
 //! An insert that goes one step at a time. It holds its lock between two steps.
-ghost use Rattle.std.specs.Prelude.{◌≡◌, ◌≢◌, ◌<◌, length, Some, None, true, nat_lt};
+ghost use Rattle.std.specs.Prelude.{◌≡◌, ◌≢◌, length, Some, None, true, nat_lt};
 ghost use Rattle.std.specs.Option.{ForSome};
 ghost use Rattle.std.specs.Fn.{FnReturnsAtPair};
 ghost use Rattle.table_core.specs.Calls.{stands_at_bucket, finds_entry};

@@ -2,7 +2,7 @@
 //!
 //! A call stands at the bucket of its state's index in the generation that it walks. Each function here does at that very
 //! bucket what the phase says, and gives the state after the step.
-ghost use Rattle.std.specs.Prelude.{◌≡◌, ◌≢◌, MatchOption, ◌<◌, length, true};
+ghost use Rattle.std.specs.Prelude.{◌≡◌, ◌≢◌, MatchOption, length, true};
 ghost use Rattle.std.specs.Fn.{FnReturnsAt, FnReturnsAtPair};
 ghost use Rattle.generations.specs.Buckets.{content_at};
 ghost use Rattle.generations.specs.Looks.{LooksAt};
