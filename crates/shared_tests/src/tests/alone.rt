@@ -20,10 +20,16 @@ fn numbers_over_growth(rt: HostRuntime) -> Result<(), Fail> {
     let table: Numbers<Global> = LockFreeRawTable::new(rt.alloc());
     for number in 0..NUMBERS {
         assert!(rt; !contains(&table, number));
-        assert_eq!(rt; insert(&rt, &table, Box::new(rt.alloc(), number)?), Told::Placed);
+        assert_eq!(rt;
+            insert(&rt, &table, Box::new(rt.alloc(), number)?),
+            Told::Placed
+        );
     }
     for number in 0..NUMBERS {
-        assert_eq!(rt; insert(&rt, &table, Box::new(rt.alloc(), number)?), Told::Found);
+        assert_eq!(rt;
+            insert(&rt, &table, Box::new(rt.alloc(), number)?),
+            Told::Found
+        );
     }
     assert_entries(&rt, &table, NUMBERS);
     Ok(())
@@ -38,7 +44,10 @@ fn different_values_of_one_hash(rt: HostRuntime) -> Result<(), Fail> {
         assert!(rt; matches!(told, Ok((_, None))));
     }
     for number in 0..50u64 {
-        assert_eq!(rt; table.lookup(7, |a: &u64| *a == number).copied(), Some(number));
+        assert_eq!(rt;
+            table.lookup(7, |a: &u64| *a == number).copied(),
+            Some(number)
+        );
     }
     assert!(rt; table.lookup(7, |a: &u64| *a == 50).is_none());
     assert_eq!(rt; table.len(), 50);

@@ -24,11 +24,7 @@ pub(crate) enum Told {
 }
 
 /// What an insert of the value is told.
-pub(crate) fn insert<R: Wait, A: Low + Copy>(
-    rt: &R,
-    table: &Numbers<A>,
-    value: Box<u64>,
-) -> Told {
+pub(crate) fn insert<R: Wait, A: Low + Copy>(rt: &R, table: &Numbers<A>, value: Box<u64>) -> Told {
     let number = *value;
     match table.insert(
         rt,
@@ -53,7 +49,11 @@ pub(crate) fn contains<A: Allocator + Copy>(table: &Numbers<A>, number: u64) -> 
 }
 
 /// Asserts that the entries are the numbers below `count`, each once.
-pub(crate) fn assert_entries<R: Abort, A: Allocator + Copy>(rt: &R, table: &Numbers<A>, count: u64) {
+pub(crate) fn assert_entries<R: Abort, A: Allocator + Copy>(
+    rt: &R,
+    table: &Numbers<A>,
+    count: u64,
+) {
     for number in 0..count {
         assert!(rt; contains(table, number), "{number}");
     }

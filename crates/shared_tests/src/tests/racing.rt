@@ -34,7 +34,10 @@ fn equal_values_at_once(rt: HostRuntime) -> Result<(), Fail> {
             || insert(&rt, &table, first),
             || insert(&rt, &table, second),
         );
-        let expected = matches!(told, (Told::Placed, Told::Found) | (Told::Found, Told::Placed));
+        let expected = matches!(
+            told,
+            (Told::Placed, Told::Found) | (Told::Found, Told::Placed)
+        );
         assert!(rt; expected, "{number}");
     }
     assert_entries(&rt, &table, 300);
@@ -50,7 +53,10 @@ fn two_threads_through_growth(rt: HostRuntime) {
         || fill(&rt, &table, rt.alloc(), 1000),
     );
     assert!(rt; first.is_some() && second.is_some());
-    assert_eq!(rt; first.unwrap_or(0).wrapping_add(second.unwrap_or(0)), NUMBERS);
+    assert_eq!(rt;
+        first.unwrap_or(0).wrapping_add(second.unwrap_or(0)),
+        NUMBERS
+    );
     assert_entries(&rt, &table, NUMBERS);
 }
 
