@@ -1,3 +1,4 @@
 pub mod Starts
+mod Looked
 pub mod Handed
 pub mod Settled

@@ -3,5 +3,8 @@ pub mod Tables
 pub mod Growths
 pub mod Walks
 pub mod Begun
+pub mod Carried
+pub mod Inserts
+pub mod Reads
 pub mod Handed
 pub mod Settled

@@ -72,7 +72,8 @@ fn take_later<T: AtomicValue, A: Allocator + Copy>(
     requires { IsOpen closed.now.id alloc word }
     ensures { IfSome result (λ b. IsSettled home.now.id b.value) }
 {
-    let block = word.into_block_if_set(closed)?.into_box(alloc);
+    let note = word.note();
+    let block = word.into_block_if_set(closed, note)?.into_box(alloc);
     Some(rehome_block(block, closed, home, alloc))
 }
 
@@ -108,7 +109,8 @@ pub(crate) fn rehome_shown<T: AtomicValue, A: Allocator + Copy>(
     requires { IsOpen closed.now.id alloc later }
     ensures { All (λ b. IsSettled home.now.id b.value) result.items }
 {
-    match later.into_block_if_set(closed) {
+    let note = later.note();
+    match later.into_block_if_set(closed, note) {
         Some(block) => rehome_later(Box::into_inner(block.into_box(alloc)), closed, home),
         None => Vec::new(alloc),
     }

@@ -75,8 +75,9 @@ impl<'a, T: AtomicValue, A: Allocator + Copy> Growth<'a, T, A> {
         while self.copied < from.capacity() {
             let index = self.copied;
             self.copied += 1;
-            if let Some(name) = from.name_at(self.home, index) {
-                let hash = hash_fn(name.entry(self.home).value.deref());
+            let mut note = from.note_at(index);
+            if let Some(name) = from.name_at(self.home, index, &mut note) {
+                let hash = hash_fn(name.as_ref().entry(self.home).value.deref());
                 self.built.insert_unique(self.home, hash, name);
                 return true;
             }

@@ -43,7 +43,8 @@ impl<'a, V: 'a, T: AtomicValue<Target = V>, A: Allocator + Copy> Iterator for It
         while self.left > 0 {
             let index = generation.capacity() - self.left;
             self.left -= 1;
-            if let Some(entry) = generation.entry_at(self.home, index) {
+            let mut note = generation.note_at(index);
+            if let Some(entry) = generation.entry_at(self.home, index, &mut note) {
                 return Some(entry.value.deref());
             }
         }

@@ -42,7 +42,8 @@ pub(crate) fn show_block<X: Homed + Drop, A: Low + Copy>(
     requires from { box_allocator block ≡ alloc }
     requires fits { X.fits block.value home.now.id }
 {
-    if let (_, Some(back)) = word.offer(home, LooseBlock::of(block)) {
+    let mut note = word.note();
+    if let (_, Some(back)) = word.offer(home, LooseBlock::of(block), &mut note) {
         drop(back.into_box(alloc));
     }
 }
@@ -81,6 +82,7 @@ impl<'a, T: AtomicValue, A: Allocator + Copy> Slot<'a, T, A> {
         requires { IsOpen home.now.id self.alloc self.word.now }
         ensures { IfSome result (λ g. g.now.home ≡ home.now.id) }
     {
-        Some(self.word.name_if_set()?.get(home))
+        let mut note = self.word.note();
+        Some(self.word.name_if_set(&mut note)?.get(home))
     }
 }

@@ -4,13 +4,19 @@
 //! named by a word that is set once. Who looks up or inserts takes the current one by [`LockFreeRawTable::current`].
 #![tactic(auto)]
 
+mod carried;
+mod counting;
 mod ending;
 mod growing;
 mod growth;
+mod insert;
+mod inserting;
 mod into_iter;
 mod iter;
 mod later;
 mod lineage;
+mod lookup;
+mod reading;
 mod rest;
 mod table;
 

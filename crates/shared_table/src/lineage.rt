@@ -66,7 +66,8 @@ impl<T: AtomicValue, A: Allocator + Copy> Lineage<T, A> {
         requires { self.now.home ≡ home.now.id }
         ensures { IfSome result (λ l. AreRoomy home.now.id l.now.alloc l.now.words.items l.now.room.items (vec_capacity l.now.room)) }
     {
-        Some(self.later.name_if_set()?.get(home))
+        let mut note = self.later.note();
+        Some(self.later.name_if_set(&mut note)?.get(home))
     }
 
     /// The later generation of this index, if it is shown by now.

@@ -81,6 +81,7 @@ pub struct CallState {
 
 impl CallState {
     /// Where an insert of a value with this hash starts.
+    #[inline(always)]
     pub fn insert(hash: u64) -> CallState
         ensures { result ≡ insert_start hash }
     {
@@ -88,6 +89,7 @@ impl CallState {
     }
 
     /// Where a look-up of this hash starts.
+    #[inline(always)]
     pub fn lookup(hash: u64) -> CallState
         ensures { result ≡ lookup_start hash }
     {
@@ -108,6 +110,7 @@ impl CallState {
         CallState::in_first_phase(Phase::WalkLoad, 0)
     }
 
+    #[inline(always)]
     fn in_first_phase(phase: Phase, hash: u64) -> CallState
         ensures { result ≡ starting phase hash }
     {

@@ -1,0 +1,224 @@
+//! Inserts: the steps of an insert in a row, with its parts in locals as long as nothing is rare.
+ghost use Rattle.std.specs.Prelude.{◌≡◌, ◌≢◌, length, Some, None, true, nat_lt};
+ghost use Rattle.std.specs.Option.{ForSome};
+ghost use Rattle.std.specs.Fn.{FnReturnsAtPair};
+ghost use Rattle.table_core.specs.Calls.{stands_at_bucket};
+ghost use Rattle.table_core.specs.declared.call.Outcome.TheVariants.{Pending};
+ghost use Rattle.table_core.specs.declared.call.Phase.TheVariants.{AtEmpty, LeaveOk, Building, Done};
+ghost use Rattle.turns.specs.Phases.{Inserts, AtBucket, Hopes, Walks, lock_in, reached, reached_by};
+ghost use Rattle.shared_table.specs.declared.carried.Carried.TheVariants.{Gone};
+ghost use Rattle.shared_table.specs.Carried.{told, kept, placed, Asks, lock_of};
+ghost use Rattle.shared_table.specs.Inserts.{Answers, Places, Finds, GivesBack, Settles, told_with};
+
+use crate::carried::{Asking, Carried, Held};
+use crate::inserting::Inserting;
+use crate::reading::{Put, Read, alike_entry, meet};
+use crate::table::LockFreeRawTable;
+use cell::{Entry, Low};
+use generations::atomic_value::AtomicValue;
+use generations::fixed::Generation;
+use std::snapshot::Snapshot;
+use std::sync::{RwLockReadGuard, Wait};
+use table_core::{Answer, CallState, Phase};
+use turns::{step, step_loaded};
+
+impl<T: AtomicValue, A: Low + Copy> LockFreeRawTable<T, A> {
+    /// Inserts the value, unless an entry is accepted as equal, and shows the target of the entry: its own, or the accepted
+    /// one beside the value, which comes back. The value comes back alone where memory was refused, or where the table can't
+    /// grow, and isn't in the table then; a growth that is refused after the value was placed or found changes no answer.
+    ///
+    /// Anyone may call it at any time; it may wait for the lock of the table, so no closure may insert into the same table.
+    pub fn insert<R: Wait, E: Fn(&T::Target, &T::Target) -> bool, H: Fn(&T::Target) -> u64>(
+        &self,
+        rt: &R,
+        hash: u64,
+        value: T,
+        eq: E,
+        hash_fn: H,
+    ) -> Result<(&T::Target, Option<T>), T>
+        requires eq_callable { E.IsAlwaysCallable eq }
+        requires hash_callable { H.IsAlwaysCallable hash_fn }
+        ensures placed { Places T.target value result }
+        ensures found { Finds (FnReturnsAtPair E.Fn eq (T.target value)) result }
+        ensures back { GivesBack value result }
+    {
+        let given = Snapshot::of(&value);
+        let asking = Asking { given, eq, hash_fn };
+        let guard = self.lock.read(rt);
+        let state = step(CallState::insert(hash), Answer::Taken);
+        let Some(current) = self.current() else {
+            let state = step(state, Answer::NoGeneration);
+            let (carried, held) = (Carried::Value(value), Held::Shared(guard));
+            return self.go_on_from(rt, state, None, carried, held, asking);
+        };
+        let generation = current.generation;
+        let capacity = generation.capacity() as u64;
+        let mut state = step_loaded(state, current.number, capacity);
+        for _ in rt.forever() {
+            let mut note = generation.note_at(state.index as usize);
+            match self.read_bucket(generation, state, &value, &asking.eq, &mut note) {
+                Read::Empty(next) => return self.place(rt, next, generation, value, guard, asking),
+                Read::Met(next, target) => {
+                    return self.settle(rt, next, generation, target, Some(value), guard, asking);
+                }
+                Read::Passed(next, _) => {
+                    if next.phase != Phase::Probe {
+                        let (carried, held) = (Carried::Value(value), Held::Shared(guard));
+                        return self.go_on_from(rt, next, Some(generation), carried, held, asking);
+                    }
+                    state = next;
+                }
+            }
+        }
+        unreachable!()
+    }
+
+    /// An insert at an empty bucket: its value is offered, counted once if it was taken, and the lock released.
+    #[inline(always)]
+    fn place<'a, R: Wait, E: Fn(&T::Target, &T::Target) -> bool, H: Fn(&T::Target) -> u64>(
+        &'a self,
+        rt: &R,
+        state: CallState,
+        generation: &'a Generation<T, A>,
+        value: T,
+        guard: RwLockReadGuard<'a, ()>,
+        asking: Asking<T, E, H>,
+    ) -> Result<(&'a T::Target, Option<T>), T>
+        requires phase { state.phase ≡ AtEmpty }
+        requires stands { stands_at_bucket state ≡ true }
+        requires pending { state.outcome ≡ Pending }
+        requires long { length generation.now.contents ≡ state.capacity }
+        requires home { generation.now.home ≡ self.now.home }
+        requires given { value ≡ asking.given.value }
+        requires callable { E.IsAlwaysCallable asking.eq × H.IsAlwaysCallable asking.hash_fn }
+        ensures { Answers T.target (FnReturnsAtPair E.Fn asking.eq (T.target asking.given.value)) asking.given.value result }
+    {
+        let mut note = generation.note_at(state.index as usize);
+        match self.put_value(generation, state, value, &mut note) {
+            Put::Won(next, target) => {
+                let next = self.count(next);
+                self.settle(rt, next, generation, target, None, guard, asking)
+            }
+            Put::Lost(first, value) => self.go_on_beside(
+                rt, state, generation, first, value, guard, asking,
+            ),
+            Put::Refused(next, value) => {
+                let (carried, held) = (Carried::Value(value), Held::Shared(guard));
+                self.go_on_from(rt, next, Some(generation), carried, held, asking)
+            }
+        }
+    }
+
+    /// An insert that has an outcome releases the lock, and grows the table if half of its generation is set. `back` is the
+    /// value where the target is one that was accepted.
+    #[inline(always)]
+    fn settle<'a, R: Wait, E: Fn(&T::Target, &T::Target) -> bool, H: Fn(&T::Target) -> u64>(
+        &'a self,
+        rt: &R,
+        state: CallState,
+        generation: &'a Generation<T, A>,
+        target: &'a T::Target,
+        back: Option<T>,
+        guard: RwLockReadGuard<'a, ()>,
+        asking: Asking<T, E, H>,
+    ) -> Result<(&'a T::Target, Option<T>), T>
+        requires phase { state.phase ≡ LeaveOk }
+        requires wide { nat_lt 0 state.capacity ≡ true }
+        requires outcome { reached_by state.outcome ≡ told_with back }
+        requires long { length generation.now.contents ≡ state.capacity }
+        requires home { generation.now.home ≡ self.now.home }
+        requires answers { Settles T.target (FnReturnsAtPair E.Fn asking.eq (T.target asking.given.value)) asking.given.value target back }
+        requires callable { E.IsAlwaysCallable asking.eq × H.IsAlwaysCallable asking.hash_fn }
+        ensures { Answers T.target (FnReturnsAtPair E.Fn asking.eq (T.target asking.given.value)) asking.given.value result }
+    {
+        let state = step(state, Answer::Released);
+        drop(guard);
+        let state = self.ask_size(state);
+        if state.phase == Phase::Done {
+            return Ok((target, back));
+        }
+        let carried = match back {
+            None => Carried::Own(target),
+            Some(value) => Carried::Met(target, value),
+        };
+        self.go_on_from(rt, state, Some(generation), carried, Held::Nothing, asking)
+    }
+
+    /// The rest of an insert that lost its exchange to an entry: it meets that entry at the same bucket.
+    #[inline(never)]
+    fn go_on_beside<'a, R: Wait, E: Fn(&T::Target, &T::Target) -> bool, H: Fn(&T::Target) -> u64>(
+        &'a self,
+        rt: &R,
+        state: CallState,
+        generation: &'a Generation<T, A>,
+        first: &'a Entry<T>,
+        value: T,
+        guard: RwLockReadGuard<'a, ()>,
+        asking: Asking<T, E, H>,
+    ) -> Result<(&'a T::Target, Option<T>), T>
+        requires phase { state.phase ≡ AtEmpty }
+        requires stands { stands_at_bucket state ≡ true }
+        requires pending { state.outcome ≡ Pending }
+        requires long { length generation.now.contents ≡ state.capacity }
+        requires home { generation.now.home ≡ self.now.home }
+        requires given { value ≡ asking.given.value }
+        requires callable { E.IsAlwaysCallable asking.eq × H.IsAlwaysCallable asking.hash_fn }
+        ensures { Answers T.target (FnReturnsAtPair E.Fn asking.eq (T.target asking.given.value)) asking.given.value result }
+    {
+        let target = alike_entry(first, state.hash);
+        let (next, carried) = match meet::<T, E>(state, target, &value, &asking.eq) {
+            Read::Met(next, target) => (next, Carried::Met(target, value)),
+            Read::Passed(next, _) => (next, Carried::Value(value)),
+            Read::Empty(_) => unreachable!(),
+        };
+        self.go_on_from(
+            rt,
+            next,
+            Some(generation),
+            carried,
+            Held::Shared(guard),
+            asking,
+        )
+    }
+
+    /// The rest of an insert, from any step but the last. What is rare is kept out of `insert`, which pays at its entry for
+    /// the size of its locals.
+    #[inline(never)]
+    fn go_on_from<'a, R: Wait, E: Fn(&T::Target, &T::Target) -> bool, H: Fn(&T::Target) -> u64>(
+        &'a self,
+        rt: &R,
+        state: CallState,
+        walked: Option<&'a Generation<T, A>>,
+        carried: Carried<T, &'a T::Target>,
+        held: Held<'a>,
+        asking: Asking<T, E, H>,
+    ) -> Result<(&'a T::Target, Option<T>), T>
+        requires inserts { Inserts state.phase }
+        requires unfinished { state.phase ≢ Done }
+        requires hopes { Hopes state.phase → state.outcome ≡ Pending }
+        requires stands { AtBucket state.phase → stands_at_bucket state ≡ true }
+        requires wide { Walks state.phase → nat_lt 0 state.capacity ≡ true }
+        requires walks { Walks state.phase → walked ≢ None }
+        requires counts { ForSome walked (λ g. length g.now.contents ≡ state.capacity) }
+        requires homes { ForSome walked (λ g. g.now.home ≡ self.now.home) }
+        requires locks { lock_of held ≡ lock_in state.phase }
+        requires builds { state.phase ≢ Building }
+        requires there { carried ≢ Gone }
+        requires tells { told carried ≡ Some (reached state.phase state.outcome) }
+        requires stems { ForSome (kept carried) (λ v. v ≡ asking.given.value) }
+        requires owns { ForSome (placed carried) (λ r. r.now ≡ T.target asking.given.value) }
+        requires asks { Asks E.IsAlwaysCallable H.IsAlwaysCallable T.target E.Fn asking carried }
+        ensures { Answers T.target (FnReturnsAtPair E.Fn asking.eq (T.target asking.given.value)) asking.given.value result }
+    {
+        let call = Inserting {
+            table: self,
+            state,
+            walked,
+            growth: None,
+            carried,
+            held,
+            asking,
+        };
+        call.go_on(rt)
+    }
+}

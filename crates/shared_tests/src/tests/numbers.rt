@@ -1,0 +1,79 @@
+//! Numbers in a shared table, each equal to itself alone.
+use cell::Low;
+use generations::atomic_value::AtomicValue;
+use shared_table::LockFreeRawTable;
+use std::alloc::{Allocator, Global};
+use std::process::Abort;
+use std::sync::Wait;
+use terms::law::hash_number;
+
+/// A shared table of boxed numbers.
+pub(crate) type Numbers<A> = LockFreeRawTable<Box<u64>, A>;
+
+/// What an insert of a number is told.
+#[derive(Clone, Copy, Debug, PartialEq, Eq)]
+pub(crate) enum Told {
+    /// It is an entry now.
+    Placed,
+    /// It was one before, and its value came back.
+    Found,
+    /// It came back, and isn't an entry.
+    Refused,
+    /// Another number was shown, or came back.
+    Wrong,
+}
+
+/// What an insert of the value is told.
+pub(crate) fn insert<R: Wait, A: Low + Copy>(rt: &R, table: &Numbers<A>, value: Box<u64>) -> Told {
+    let number = *value;
+    match table.insert(
+        rt,
+        hash_number(number),
+        value,
+        |a: &u64, b: &u64| *a == *b,
+        |a: &u64| hash_number(*a),
+    ) {
+        Ok((shown, None)) if *shown == number => Told::Placed,
+        Ok((shown, Some(back))) if *shown == number && *back == number => Told::Found,
+        Err(back) if *back == number => Told::Refused,
+        _ => Told::Wrong,
+    }
+}
+
+/// Whether a look-up finds the number.
+pub(crate) fn contains<A: Allocator + Copy>(table: &Numbers<A>, number: u64) -> bool {
+    match table.lookup(hash_number(number), |a: &u64| *a == number) {
+        Some(found) => *found == number,
+        None => false,
+    }
+}
+
+/// Asserts that the entries are the numbers below `count`, each once.
+pub(crate) fn assert_entries<R: Abort, A: Allocator + Copy>(
+    rt: &R,
+    table: &Numbers<A>,
+    count: u64,
+) {
+    for number in 0..count {
+        assert!(rt; contains(table, number), "{number}");
+    }
+    assert!(rt; !contains(table, count));
+    assert_eq!(rt; table.len() as u64, count);
+    let (mut walked, mut sum) = (0u64, 0u64);
+    for number in table.iter() {
+        assert!(rt; *number < count);
+        walked = walked.wrapping_add(1);
+        sum = sum.wrapping_add(*number);
+    }
+    assert_eq!(rt; walked, count);
+    assert_eq!(rt; sum, sum_below(count));
+}
+
+/// The sum of the numbers below `count`.
+fn sum_below(count: u64) -> u64 {
+    let mut sum = 0u64;
+    for number in 0..count {
+        sum = sum.wrapping_add(number);
+    }
+    sum
+}

@@ -1,0 +1,3 @@
+pub mod Phases
+pub mod Steps
+pub use Rattle.table_core.specs.Calls
