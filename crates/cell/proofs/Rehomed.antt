@@ -101,8 +101,8 @@ module _ {A T : Type 0} (home : ℕ) (from : A) where
   all_keep was new below = record {
     long = rw (length-map, length-map) below.long;
     each = λ k lt. (
-      let within : k < length was = rw (← length-map was content) lt in
-      let d : BucketView A T = bucket from home vacant in
-      let inside : k < length new = omega (arith, below.long, within) in
-      rw (get_or-map content was k d vacant within, get_or-map content new k d vacant inside) (below.moved k d within within).own);
+        let within : k < length was = rw (← length-map was content) lt in
+        let d : BucketView A T = bucket from home vacant in
+        let inside : k < length new = omega (arith, below.long, within) in
+        rw (get_or-map content was k d vacant within, get_or-map content new k d vacant inside) (below.moved k d within within).own);
   }

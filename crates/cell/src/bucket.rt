@@ -207,19 +207,17 @@ impl<T: Drop, A: Allocator + Copy> Bucket<T, A> {
         ensures own { KeepsOwn self.content result.content }
         ensures unnamed { NamesNone result.content }
     {
+        let note = self.word.note();
         match self.mark {
             Mark::Own(bits) => Bucket {
                 mark: Mark::Own(bits),
                 word: Word::own(home, self.word.into_block(closed)),
             },
             Mark::Named(_) => Bucket::new(&alloc, home),
-            Mark::Vacant => {
-                let note = self.word.note();
-                match self.word.into_block_if_set(closed, note) {
-                    Some(block) => Bucket::owning(home, block),
-                    None => Bucket::new(&alloc, home),
-                }
-            }
+            Mark::Vacant => match self.word.into_block_if_set(closed, note) {
+                Some(block) => Bucket::owning(home, block),
+                None => Bucket::new(&alloc, home),
+            },
         }
     }
 }
@@ -249,7 +247,12 @@ impl<'a, T: Drop, A: Allocator + Copy> BucketRef<'a, T, A> {
     }
 
     /// A bucket that names the entry of this one, also where that was set through `&`: then its block is read for its bits.
-    pub fn naming_set(&self, home: &Home, alloc: A, note: &mut Note<Entry<T>>) -> Option<Bucket<T, A>>
+    pub fn naming_set(
+        &self,
+        home: &Home,
+        alloc: A,
+        note: &mut Note<Entry<T>>,
+    ) -> Option<Bucket<T, A>>
         requires home { self.now.home ≡ home.now.id }
         requires from { self.now.from ≡ alloc }
         requires of { note.old.of ≡ self.now.id }

@@ -49,7 +49,10 @@ fn alone<A: Allocator + Copy>(alloc: A) -> ([Fared; 3], Option<u64>) {
 fn place<A: Low + Copy>(home: &Home, bucket: &Bucket<u64, A>, alloc: A, value: u64) -> Fared
     requires { Lies home.now.id alloc bucket.now }
 {
-    match bucket.as_ref().place(home, alloc, value, 9, &mut bucket.as_ref().note()) {
+    match bucket
+        .as_ref()
+        .place(home, alloc, value, 9, &mut bucket.as_ref().note())
+    {
         Ok(_) => Fared::Placed,
         Err(Missed::Taken(back, _)) => Fared::Taken(back),
         Err(Missed::NoMemory(back)) => Fared::NoMemory(back),

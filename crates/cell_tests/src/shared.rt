@@ -68,7 +68,13 @@ impl One {
 
     fn number(&self) -> Option<u64> {
         let mut note = self.bucket.as_ref().note();
-        Some(self.bucket.as_ref().get(&self.home, &mut note)?.value.number)
+        Some(
+            self.bucket
+                .as_ref()
+                .get(&self.home, &mut note)?
+                .value
+                .number,
+        )
     }
 
     fn end(self) -> Option<Counting> {

@@ -11,4 +11,6 @@ pub mod raw;
 pub use generations::atomic_value;
 pub use generations::atomic_value::{AtomicValue, Law};
 pub use place::Place;
-pub use raw::{FIRST_CAPACITY, HeldIter, HeldRawTable, IntoIter, Iter, LockFreeRawTable, is_first_capacity};
+pub use raw::{
+    FIRST_CAPACITY, HeldIter, HeldRawTable, IntoIter, Iter, LockFreeRawTable, is_first_capacity,
+};

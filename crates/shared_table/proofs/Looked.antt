@@ -2,8 +2,6 @@
 use Rattle.std.proofs.Common.{◌≡◌, ◌≢◌, ◌∙◌, ℕ, ap, refl, sym, Bool, Bor}
 use Rattle.std.specs.Prelude.{Option, Some, None}
 use Rattle.cell.specs.declared.bucket.Entry.{Entry}
-use Rattle.cell.specs.Contents.{Misses}
-use Rattle.cell.specs.declared.bucket.Missed.TheVariants as missed
 use Rattle.generations.specs.Buckets.{Content, vacant, own, named}
 use Rattle.generations.specs.Looks.{Tells, IsSeen}
 use Rattle.generations.specs.declared.fixed.shared.Look.{Look}
@@ -24,13 +22,17 @@ module _ {T : Type 0} where
   seen_so (own e) old new P Q so saw = record { alone = (so (Some e) saw.alone.0, saw.alone.1); shared = tt }
   seen_so (named e) old new P Q so saw = record { alone = (so (Some e) saw.alone.0, saw.alone.1); shared = tt }
 
-  -- who lost an exchange was shown what the bucket holds
-  pub missed_so : (c : Content T) → (value back : T) → (old new : Option (Entry T)) → (first : Bor (Entry T)) → Misses c value old new (missed.Taken back first) → (back ≡ value) × IsSeen c old new (λ o. o ≡ Some first.now)
-  missed_so vacant value back old new first m = (m.0, record { alone = tt; shared = (m.1, m.2) })
-  missed_so (own e) value back old new first m = (m.0, record { alone = (ap Some (sym m.1), m.2); shared = tt })
-  missed_so (named e) value back old new first m = (m.0, record { alone = (ap Some (sym m.1), m.2); shared = tt })
-
 module _ {T X : Type 0} where
+  -- the target that was met is that of the entry that the look showed
+  met_tells : (target : T → X) → (bits : ℕ) → (l : Look T) → (a : Option (Bor X)) → (r : Bor X) → ShowsAlike target l a → a ≡ Some r → (o : Option (Entry T)) → Tells bits o l
+      → (e : Entry T) × (o ≡ Some e) × (r.now ≡ target e.value)
+  met_tells target bits (look.Alike entry) (Some q) r k e o tells = (entry.now, tells.0, ap (λ (x : Option (Bor X)). (pick r x).now) (sym e) ∙ k)
+  met_tells target bits (look.Alike entry) None r k e o tells = absurd k
+  met_tells target bits look.Vacant (Some q) r k e o tells = absurd k
+  met_tells target bits look.Vacant None r k e o tells = absurd (cc)
+  met_tells target bits look.Other (Some q) r k e o tells = absurd k
+  met_tells target bits look.Other None r k e o tells = absurd (cc)
+
   -- an insert that has met what a look showed tells of the bucket what the look does
   pub insert_tells : (target : T → X) → (says : X → Bool → Type 0) → (bits : ℕ) → (l : Look T) → (a : Option (Bor X)) → (s : CallState) → (m : Read (Bor X)) → l ≢ look.Vacant → ShowsAlike target l a → InsertMeets says a s m
       → (o : Option (Entry T)) → Tells bits o l → ReadTells target o m
@@ -49,16 +51,7 @@ module _ {T X : Type 0} where
   lookup_tells target says bits (look.Alike entry) a s (read.Passed t asked) set k m o tells = (entry.now, tells.0)
   lookup_tells target says bits l a s (read.Met t r) set k m o tells = met_tells target bits l a r k m.3 o tells
 
-  -- the target that was met is that of the entry that the look showed
-  met_tells : (target : T → X) → (bits : ℕ) → (l : Look T) → (a : Option (Bor X)) → (r : Bor X) → ShowsAlike target l a → a ≡ Some r → (o : Option (Entry T)) → Tells bits o l
-      → (e : Entry T) × (o ≡ Some e) × (r.now ≡ target e.value)
-  met_tells target bits (look.Alike entry) (Some q) r k e o tells = (entry.now, tells.0, ap (λ (x : Option (Bor X)). (pick r x).now) (sym e) ∙ k)
-  met_tells target bits (look.Alike entry) None r k e o tells = absurd k
-  met_tells target bits look.Vacant (Some q) r k e o tells = absurd k
-  met_tells target bits look.Vacant None r k e o tells = absurd (cc)
-  met_tells target bits look.Other (Some q) r k e o tells = absurd k
-  met_tells target bits look.Other None r k e o tells = absurd (cc)
-
+module _ {X : Type 0} where
   -- an insert that has met an entry has read its bucket
   pub insert_read : (says : X → Bool → Type 0) → (a : Option (Bor X)) → (s : CallState) → (m : Read (Bor X)) → InsertMeets says a s m → InsertReads says s m
   insert_read says a s (read.Empty t) m = absurd m

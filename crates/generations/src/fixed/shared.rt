@@ -128,9 +128,7 @@ impl<T: AtomicValue, A: Allocator + Copy> Generation<T, A> {
         ensures seen { IsSeen (content_at self.now.contents index) note.old.known note.new.known
             (λ o. result ≡ option_map (λ e. bucket self.now.from self.now.home (named e)) o) }
     {
-        self.row
-            .at(index)
-            .naming_set(home, self.row.alloc(), note)
+        self.row.at(index).naming_set(home, self.row.alloc(), note)
     }
 }
 

@@ -22,6 +22,7 @@ pub loop-index-preserved : goal.loop-index-preserved
 loop-index-preserved g c =
     let (marked, below) = c.loop-index.invariant in
     let was = length-buckets c.args.marks.now.items c.args.words.now.items c.requires.marked in
-    let within : c.loop-index.index < length (buckets_of c.args.marks.now.items c.args.words.now.items) = omega (arith, was) in
-    (c.rehome_bucket.ensures.marked,
-    one_moved c.args.home.now.id c.args.alloc c.loop-index.index (buckets_of c.args.marks.now.items c.args.words.now.items) _ _ within below c.rehome_bucket.ensures.moved)
+    let within : c.loop-index.index < length (buckets_of c.args.marks.now.items c.args.words.now.items) = omega (arith, was) in (
+      c.rehome_bucket.ensures.marked,
+      one_moved c.args.home.now.id c.args.alloc c.loop-index.index (buckets_of c.args.marks.now.items c.args.words.now.items) _ _ within below c.rehome_bucket.ensures.moved,
+    )
