@@ -52,8 +52,9 @@ fn sets(table: &Shared<'_>, value: Box<Counting>) -> bool {
     let hash = hash_number(value.number);
     let bits = bits_of_hash(hash);
     for index in 0..generation.capacity() {
-        if let Look::Vacant = generation.look_at(table.home(), index, bits) {
-            return match generation.place_at(table.home(), index, value, bits) {
+        let mut note = generation.note_at(index);
+        if let Look::Vacant = generation.look_at(table.home(), index, bits, &mut note) {
+            return match generation.place_at(table.home(), index, value, bits, &mut note) {
                 Ok(entry) => entry.bits == bits,
                 Err(Missed::Taken(_, _)) => false,
                 Err(Missed::NoMemory(_)) => false,
