@@ -45,12 +45,6 @@ module _ {T : Type 0} where
   naming (own e) = Some (named e)
   naming (named e) = Some (named e)
 
-  -- the bucket names an entry
-  abbrev pub Names : Content T → Type 0
-  Names vacant = ⊥
-  Names (own e) = ⊥
-  Names (named e) = ⊤
-
   -- the bucket names no entry that another one owns
   abbrev pub NamesNone : Content T → Type 0
   NamesNone vacant = ⊤

@@ -1,6 +1,6 @@
 //! A bucket that is set at most once.
 ghost use Rattle.std.specs.Prelude.{◌≡◌, IfOk, IfErr, IfSome, IfNone, IsSome, None, Some, OnOk, option_copied, option_map};
-ghost use Rattle.cell.specs.Contents.{vacant, own, named, bucket, shown, owned, entry_from, naming, Lies, Names, NamesNone, KeepsOwn, Reads, HandsBack, Keeps, Misses};
+ghost use Rattle.cell.specs.Contents.{vacant, own, named, bucket, shown, owned, entry_from, naming, Lies, NamesNone, KeepsOwn, Reads, HandsBack, Keeps, Misses};
 
 use crate::home::{Closed, Home, Homed};
 use crate::loose_block::LooseBlock;
@@ -200,14 +200,15 @@ impl<T: Drop, A: Allocator + Copy> Bucket<T, A> {
     }
 
     /// Ends the bucket, and hands out the entry that it owns, alone or since it was set through `&`, in a bucket of another
-    /// home. That one is vacant where this one owned nothing.
-    pub fn rehomed(self, closed: &Closed, home: &Home, alloc: A) -> Self
-        requires { Lies closed.now.id alloc self }
+    /// home: then the one that the note knows, if it knows one. That bucket is vacant where this one owned nothing.
+    pub fn rehomed(self, closed: &Closed, home: &Home, alloc: A, note: Note<Entry<T>>) -> Self
+        requires lies { Lies closed.now.id alloc self }
+        requires of { note.of ≡ self.id }
         ensures lies { Lies home.now.id alloc result }
         ensures own { KeepsOwn self.content result.content }
+        ensures shared { IfNone (shown self.content) (IfSome note.known (λ e. result.content ≡ own e)) }
         ensures unnamed { NamesNone result.content }
     {
-        let note = self.word.note();
         match self.mark {
             Mark::Own(bits) => Bucket {
                 mark: Mark::Own(bits),

@@ -99,6 +99,7 @@ impl<T: Drop, A: Allocator + Copy> Row<T, A> {
         requires vacant { content_at self.old.contents index ≡ vacant }
         requires lies { Lies self.old.home self.old.from new }
         ensures put { self.new.contents ≡ slice_set self.old.contents index new.content }
+        ensures ids { self.new.ids ≡ slice_set self.old.ids index new.id }
         ensures home { AreOfOneRow self.new self.old }
     {
         let Bucket { mark, word } = new;
@@ -119,6 +120,7 @@ impl<T: Drop, A: Allocator + Copy> Row<T, A> {
         requires within { index < length self.old.contents }
         ensures vacant { OnOk result (content_at self.old.contents index ≡ vacant) }
         ensures placed { OnOk result (self.new.contents ≡ slice_set self.old.contents index (own (entry_from value bits))) }
+        ensures ids { OnOk result (self.new.ids ≡ slice_set self.old.ids index 0) }
         ensures refused { IfErr result (λ r. (self.new ≡ self.old) × HandsBack (content_at self.old.contents index) value r) }
         ensures home { AreOfOneRow self.new self.old }
     {

@@ -126,7 +126,7 @@ impl<T: AtomicValue, A: Allocator + Copy> Generation<T, A> {
         self.row.len()
     }
 
-    /// The number of set buckets.
+    /// The number of buckets that are set alone.
     pub fn size(&self) -> usize
         ensures size { result ≡ self.now.size }
         ensures counted { result ≡ length (shown_entries self.now.contents) }
@@ -134,7 +134,7 @@ impl<T: AtomicValue, A: Allocator + Copy> Generation<T, A> {
         self.size
     }
 
-    /// Whether at least half of the buckets are set.
+    /// Whether at least half of the buckets are set alone.
     pub fn wants_growth(&self) -> bool
         ensures { IsTrue result ↔ (length self.now.contents ≤ 2 * self.now.size) }
     {

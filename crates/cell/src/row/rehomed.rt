@@ -31,7 +31,8 @@ fn rehome_bucket<T: Drop, A: Allocator + Copy>(
         mark: marks[index],
         word: mem::replace(place, Word::new(&alloc, home)),
     };
-    let Bucket { mark, word } = old.rehomed(closed, home, alloc);
+    let note = old.as_ref().note();
+    let Bucket { mark, word } = old.rehomed(closed, home, alloc, note);
     *place = word;
     marks[index] = mark;
 }

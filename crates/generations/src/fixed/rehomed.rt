@@ -36,6 +36,7 @@ impl<T: AtomicValue, A: Allocator + Copy> Generation<T, A> {
     pub fn rehomed(self, closed: &Closed, home: &Home) -> Self
         requires { self.home ≡ closed.now.id }
         ensures home { result.home ≡ home.now.id }
+        ensures from { result.from ≡ self.from }
         ensures own { AreRehomed self.contents result.contents }
         ensures counted { result.size ≡ length (owned_values result.contents) }
     {

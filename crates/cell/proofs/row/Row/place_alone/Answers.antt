@@ -1,4 +1,5 @@
 use Rattle.std.proofs.Common.{arith, ◌≢◌, true, false, ◌≡◌, ◌<◌, Some, length, refl, sym, ap, ◌∙◌}
+use Rattle.std.proofs.lemmas.List.{map-set}
 use Rattle.std.proofs.lemmas.List.Elements.{All-set}
 use Rattle.cell.specs.Contents.{content_of, own}
 use Rattle.cell.specs.Rows.{WordLies}
@@ -54,3 +55,6 @@ returns-clause-vacant g c =
       | in_default w ↦ absurd (let no : false ≡ true = sym w.matches-is ∙ c.if-not-matches.false in cc)
     ] in
     rw (← c.self.view_is) (vacant_shows c.self.inside.marks.items c.self.inside.words.items c.args.index c.index.result.now c.self.invariant.marked below c.index.ensures null)
+
+pub returns-clause-ids : goal.returns-clause-ids
+returns-clause-ids g c = rw (← c.self.view_is) (map-set (λ w. w.id) c.self.inside.words.items c.args.index c.own.result ∙ rw c.own.ensures refl)

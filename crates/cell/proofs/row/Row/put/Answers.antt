@@ -1,4 +1,5 @@
 use Rattle.std.proofs.Common.{arith, sym, ap, ◌∙◌}
+use Rattle.std.proofs.lemmas.List.{map-set}
 use Rattle.std.proofs.lemmas.List.Elements.{All-set}
 use Rattle.cell.specs.Rows.{WordLies}
 use Rattle.cell.proofs.Rows.{length-marks, length-words, marked_set, content_set}
@@ -20,3 +21,6 @@ invariant_of-self g c = record {
 
 pub returns-clause-put : goal.returns-clause-put
 returns-clause-put g c = rw (← c.self.view_is, ← c.new.view_is) (content_set c.self.inside.marks.items c.self.inside.words.items c.args.index c.new.inside.mark c.new.inside.word c.self.invariant.marked)
+
+pub returns-clause-ids : goal.returns-clause-ids
+returns-clause-ids g c = rw (← c.self.view_is, ← c.new.view_is) (map-set (λ w. w.id) c.self.inside.words.items c.args.index c.new.inside.word)

@@ -19,7 +19,7 @@ pub rehomed-requires : goal.rehomed-requires
 rehomed-requires g c =
     let read = bucket_read c.args.marks.now.items c.args.words.now.items c.args.index c.index.result.now c.replace.result c.requires.marked c.requires.within c.index.ensures (rw c.replace.ensures.value c.index_mut-place.ensures.value) in
     let lies = c.requires.lies (bucket_of c.index.result.now c.replace.result) in
-    (ap (λ b. b.home) read ∙ lies.0, ap (λ b. b.from) read ∙ lies.1)
+    record { lies = (ap (λ b. b.home) read ∙ lies.0, ap (λ b. b.from) read ∙ lies.1); of = c.note-note.ensures.0 ∙ ap (λ b. b.id) c.as_ref.ensures }
 
 pub returns-clause-marked : goal.returns-clause-marked
 returns-clause-marked g c = marked_set c.args.marks.now.items c.args.words.now.items c.args.index c.mark.inside.mark c.mark.inside.word c.requires.marked c.mark.invariant
