@@ -6,6 +6,7 @@ ghost use Rattle.table_core.specs.Calls.{insert_meets, lookup_meets, walk_passes
 use crate::call::Answer::*;
 use crate::call::Phase::*;
 use crate::call::{Answer, CallState, Outcome, Phase};
+use terms::probe::remainder;
 
 /// The state of a call after what its event found.
 ///
@@ -110,7 +111,7 @@ fn probe(state: CallState, phase: Phase, number: u64, capacity: u64) -> CallStat
         phase,
         walked: Some(number),
         capacity,
-        index: state.hash % capacity,
+        index: remainder(state.hash, capacity),
         seen: 0,
         ..state
     }
