@@ -6,12 +6,12 @@ ghost use Rattle.table_core.specs.Calls.{stands_at_bucket, finds_entry, insert_s
 ghost use Rattle.table_core.specs.declared.call.Outcome.TheVariants.{Pending};
 ghost use Rattle.table_core.specs.declared.call.Phase.TheVariants.{WantShared, Shared, Probe, AtEmpty, Placed, LeaveOk, AskSize, WantOwned, Owned, Building, Done};
 ghost use Rattle.table_core.specs.declared.call.Answer.TheVariants.{Taken, Holds};
-ghost use Rattle.turns.specs.Phases.{Inserts, Meets, AtBucket, Hopes, Walks, Turns, Leaves, lock_in, reached, reached_by};
+ghost use Rattle.turns.specs.Phases.{Inserts, Meets, AtBucket, Hopes, Walks, Turns, Leaves, lock_in, reached, reached_by, Other};
 ghost use Rattle.turns.specs.Steps.{Went, Passing, passed as passed_answer};
 ghost use Rattle.shared_table.specs.declared.carried.Carried.TheVariants.{Gone};
 ghost use Rattle.shared_table.specs.Carried.{told, kept, placed, accepted, Asks, lock_of};
 ghost use Rattle.shared_table.specs.Inserts.{Answers, told_by};
-ghost use Rattle.shared_table.specs.Stepped.{Advances, MayBlock, IfMoved, IfBlocked, IfEnded};
+ghost use Rattle.shared_table.specs.Stepped.{Advances, MayBlock, IfMoved, IfBlocked, IfEnded, accepted_in};
 
 use crate::carried::{Asking, Carried, Held};
 use crate::growing::Wanted;
@@ -99,6 +99,7 @@ impl<
         ensures there { self.new.carried ≢ Gone }
         ensures same { self.new.asking ≡ self.old.asking }
         ensures asks { Asks E.IsAlwaysCallable H.IsAlwaysCallable T.target E.Fn self.new.asking self.new.carried }
+        ensures met { accepted self.old.carried ≢ None → accepted self.new.carried ≡ accepted self.old.carried }
     {
         self.held = Held::Shared(guard);
         self.state = step(self.state, Answer::Taken);
@@ -112,6 +113,7 @@ impl<
         ensures there { self.new.carried ≢ Gone }
         ensures same { self.new.asking ≡ self.old.asking }
         ensures asks { Asks E.IsAlwaysCallable H.IsAlwaysCallable T.target E.Fn self.new.asking self.new.carried }
+        ensures met { accepted self.old.carried ≢ None → accepted self.new.carried ≡ accepted self.old.carried }
     {
         let table: &'a LockFreeRawTable<T, A> = self.table;
         match table.current() {
@@ -140,6 +142,7 @@ impl<
         ensures there { self.new.carried ≢ Gone }
         ensures same { self.new.asking ≡ self.old.asking }
         ensures asks { Asks E.IsAlwaysCallable H.IsAlwaysCallable T.target E.Fn self.new.asking self.new.carried }
+        ensures met { accepted self.old.carried ≢ None → accepted self.new.carried ≡ accepted self.old.carried }
     {
         self.state = next;
         passed(asked)
@@ -156,6 +159,7 @@ impl<
         ensures there { self.new.carried ≢ Gone }
         ensures same { self.new.asking ≡ self.old.asking }
         ensures asks { Asks E.IsAlwaysCallable H.IsAlwaysCallable T.target E.Fn self.new.asking self.new.carried }
+        ensures met { accepted self.old.carried ≢ None → accepted self.new.carried ≡ accepted self.old.carried }
     {
         let Carried::Value(value) = mem::replace(&mut self.carried, Carried::Gone) else {
             unreachable!()
@@ -173,6 +177,7 @@ impl<
         ensures there { self.new.carried ≢ Gone }
         ensures same { self.new.asking ≡ self.old.asking }
         ensures asks { Asks E.IsAlwaysCallable H.IsAlwaysCallable T.target E.Fn self.new.asking self.new.carried }
+        ensures met { accepted self.old.carried ≢ None → accepted self.new.carried ≡ accepted self.old.carried }
     {
         let table: &'a LockFreeRawTable<T, A> = self.table;
         let Some(generation) = self.walked else {
@@ -200,6 +205,7 @@ impl<
         ensures there { self.new.carried ≢ Gone }
         ensures same { self.new.asking ≡ self.old.asking }
         ensures asks { Asks E.IsAlwaysCallable H.IsAlwaysCallable T.target E.Fn self.new.asking self.new.carried }
+        ensures met { accepted self.old.carried ≢ None → accepted self.new.carried ≡ accepted self.old.carried }
     {
         let target = alike_entry(first, self.state.hash);
         let Carried::Value(value) = &self.carried else {
@@ -220,6 +226,7 @@ impl<
         ensures there { self.new.carried ≢ Gone }
         ensures same { self.new.asking ≡ self.old.asking }
         ensures asks { Asks E.IsAlwaysCallable H.IsAlwaysCallable T.target E.Fn self.new.asking self.new.carried }
+        ensures met { accepted self.old.carried ≢ None → accepted self.new.carried ≡ accepted self.old.carried }
     {
         let table: &'a LockFreeRawTable<T, A> = self.table;
         let Some(generation) = self.walked else {
@@ -255,6 +262,7 @@ impl<
         ensures there { self.new.carried ≢ Gone }
         ensures same { self.new.asking ≡ self.old.asking }
         ensures asks { Asks E.IsAlwaysCallable H.IsAlwaysCallable T.target E.Fn self.new.asking self.new.carried }
+        ensures met { accepted self.old.carried ≢ None → accepted self.new.carried ≡ accepted self.old.carried }
     {
         self.state = self.table.count(self.state);
         Answer::Counted
@@ -268,6 +276,7 @@ impl<
         ensures there { self.new.carried ≢ Gone }
         ensures same { self.new.asking ≡ self.old.asking }
         ensures asks { Asks E.IsAlwaysCallable H.IsAlwaysCallable T.target E.Fn self.new.asking self.new.carried }
+        ensures met { accepted self.old.carried ≢ None → accepted self.new.carried ≡ accepted self.old.carried }
     {
         let size = self.table.len() as u64;
         self.state = step(self.state, Answer::Sized { size });
@@ -282,6 +291,7 @@ impl<
         ensures there { self.new.carried ≢ Gone }
         ensures same { self.new.asking ≡ self.old.asking }
         ensures asks { Asks E.IsAlwaysCallable H.IsAlwaysCallable T.target E.Fn self.new.asking self.new.carried }
+        ensures met { accepted self.old.carried ≢ None → accepted self.new.carried ≡ accepted self.old.carried }
     {
         self.held = Held::Alone(guard);
         self.state = step(self.state, Answer::Taken);
@@ -295,6 +305,7 @@ impl<
         ensures there { self.new.carried ≢ Gone }
         ensures same { self.new.asking ≡ self.old.asking }
         ensures asks { Asks E.IsAlwaysCallable H.IsAlwaysCallable T.target E.Fn self.new.asking self.new.carried }
+        ensures met { accepted self.old.carried ≢ None → accepted self.new.carried ≡ accepted self.old.carried }
     {
         let table: &'a LockFreeRawTable<T, A> = self.table;
         match table.begin() {
@@ -322,6 +333,7 @@ impl<
         ensures there { self.new.carried ≢ Gone }
         ensures same { self.new.asking ≡ self.old.asking }
         ensures asks { Asks E.IsAlwaysCallable H.IsAlwaysCallable T.target E.Fn self.new.asking self.new.carried }
+        ensures met { accepted self.old.carried ≢ None → accepted self.new.carried ≡ accepted self.old.carried }
     {
         let Some(mut growth) = self.growth.take() else {
             unreachable!()
@@ -344,6 +356,7 @@ impl<
         ensures there { self.new.carried ≢ Gone }
         ensures same { self.new.asking ≡ self.old.asking }
         ensures asks { Asks E.IsAlwaysCallable H.IsAlwaysCallable T.target E.Fn self.new.asking self.new.carried }
+        ensures met { accepted self.old.carried ≢ None → accepted self.new.carried ≡ accepted self.old.carried }
     {
         let still_current = match self.state.phase {
             Phase::LeaveFailed => self.table.is_current(self.state.walked),
@@ -363,6 +376,7 @@ impl<
         ensures there { self.new.carried ≢ Gone }
         ensures same { self.new.asking ≡ self.old.asking }
         ensures asks { Asks E.IsAlwaysCallable H.IsAlwaysCallable T.target E.Fn self.new.asking self.new.carried }
+        ensures met { accepted self.old.carried ≢ None → accepted self.new.carried ≡ accepted self.old.carried }
     {
         match self.state.phase {
             Phase::Shared => self.load(),
@@ -388,6 +402,7 @@ impl<
         requires asks { Asks E.IsAlwaysCallable H.IsAlwaysCallable T.target E.Fn self.old.asking self.old.carried }
         ensures answer { Answers T.target (FnReturnsAtPair E.Fn self.old.asking.eq (T.target self.old.asking.given.value)) self.old.asking.given.value result }
         ensures tells { told_by result ≡ reached_by self.old.state.outcome }
+        ensures names { accepted_in result ≡ accepted self.old.carried }
         ensures state { self.new.state ≡ self.old.state }
         ensures same { self.new.asking ≡ self.old.asking }
         ensures asks { Asks E.IsAlwaysCallable H.IsAlwaysCallable T.target E.Fn self.new.asking self.new.carried }
@@ -409,6 +424,9 @@ impl<
         ensures ended { IfEnded result (λ reply. Advances self.old.state self.new.state × (self.new.state.phase ≡ Done)) }
         ensures tells { IfEnded result (λ reply. told_by reply ≡ reached_by self.new.state.outcome) }
         ensures answers { IfEnded result (λ reply. Answers T.target (FnReturnsAtPair E.Fn self.old.asking.eq (T.target self.old.asking.given.value)) self.old.asking.given.value reply) }
+        ensures names { IfEnded result (λ reply. accepted self.old.carried ≢ None → accepted_in reply ≡ accepted self.old.carried) }
+        ensures met { IfMoved result (accepted self.old.carried ≢ None → accepted self.new.carried ≡ accepted self.old.carried) }
+        ensures existing { IfMoved result (reached_by self.new.state.outcome ≡ Other → accepted self.new.carried ≢ None) }
         ensures same { self.new.asking ≡ self.old.asking }
         ensures asks { Asks E.IsAlwaysCallable H.IsAlwaysCallable T.target E.Fn self.new.asking self.new.carried }
     {

@@ -103,6 +103,9 @@ impl<
         ensures ended { IfEnded result (λ reply. Advances self.old.state self.new.state × (self.new.state.phase ≡ Done)) }
         ensures tells { IfEnded result (λ reply. told_by reply ≡ reached_by self.new.state.outcome) }
         ensures answers { IfEnded result (λ reply. Answers T.target (FnReturnsAtPair E.Fn self.old.eq (T.target self.old.given)) self.old.given reply) }
+        ensures names { IfEnded result (λ reply. self.old.met ≢ None → accepted_in reply ≡ self.old.met) }
+        ensures met { IfMoved result (self.old.met ≢ None → self.new.met ≡ self.old.met) }
+        ensures existing { IfMoved result (reached_by self.new.state.outcome ≡ Other → self.new.met ≢ None) }
         ensures same { (self.new.given ≡ self.old.given) × (self.new.eq ≡ self.old.eq) × (self.new.hash_fn ≡ self.old.hash_fn) }
         ensures may_step { MayStep E.IsAlwaysCallable H.IsAlwaysCallable T.target E.Fn self.new }
     {
