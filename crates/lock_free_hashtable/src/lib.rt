@@ -12,5 +12,6 @@ pub use generations::atomic_value;
 pub use generations::atomic_value::{AtomicValue, Law};
 pub use place::Place;
 pub use raw::{
-    FIRST_CAPACITY, HeldIter, HeldRawTable, IntoIter, Iter, LockFreeRawTable, is_first_capacity,
+    FIRST_CAPACITY, HeldIter, HeldRawTable, InsertCall, IntoIter, Iter, LockFreeRawTable,
+    LookupCall, Progress, is_first_capacity,
 };

@@ -18,7 +18,9 @@ use generations::atomic_value::{AtomicValue, Law};
 use generations::fixed::{Generation, ProbeEnd, Refusal};
 use generations::growth::rehashed;
 pub use iter::HeldIter;
-pub use shared_table::{Current, FIRST_CAPACITY, IntoIter, Iter, LockFreeRawTable};
+pub use shared_table::{
+    Current, FIRST_CAPACITY, InsertCall, IntoIter, Iter, LockFreeRawTable, LookupCall, Progress,
+};
 use std::alloc::{AllocError, Allocator, Global};
 use std::marker::Model;
 use std::mem;

@@ -5,7 +5,6 @@ mod memory;
 mod refusals;
 mod rows;
 mod schedules;
-mod script;
 mod seats;
 mod streams;
 mod words;

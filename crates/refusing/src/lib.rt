@@ -86,6 +86,13 @@ impl<B: Allocator> Refusing<B> {
         Refusing { inner, rule }
     }
 
+    /// From now on, of the requests that are counted, the first `passing` are granted, the next `refused` are refused, and
+    /// all later ones are granted.
+    pub fn refuse(&self, passing: u64, refused: u64) {
+        self.rule.passing.store(passing, Ordering::SeqCst);
+        self.rule.refused.store(refused, Ordering::SeqCst);
+    }
+
     /// How many requests the rule is still going to refuse.
     pub fn refusals_left(&self) -> u64 {
         self.rule.refused.load(Ordering::SeqCst)

@@ -8,3 +8,4 @@ pub mod Inserts
 pub mod Reads
 pub mod Handed
 pub mod Settled
+pub mod Stepped

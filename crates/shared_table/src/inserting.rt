@@ -2,25 +2,28 @@
 ghost use Rattle.std.specs.Prelude.{◌≡◌, ◌≢◌, length, Some, None, true, nat_lt};
 ghost use Rattle.std.specs.Option.{ForSome};
 ghost use Rattle.std.specs.Fn.{FnReturnsAtPair};
-ghost use Rattle.table_core.specs.Calls.{stands_at_bucket, finds_entry};
+ghost use Rattle.table_core.specs.Calls.{stands_at_bucket, finds_entry, insert_start};
 ghost use Rattle.table_core.specs.declared.call.Outcome.TheVariants.{Pending};
 ghost use Rattle.table_core.specs.declared.call.Phase.TheVariants.{WantShared, Shared, Probe, AtEmpty, Placed, LeaveOk, AskSize, WantOwned, Owned, Building, Done};
 ghost use Rattle.table_core.specs.declared.call.Answer.TheVariants.{Taken, Holds};
-ghost use Rattle.turns.specs.Phases.{Inserts, Meets, AtBucket, Hopes, Walks, Turns, Leaves, lock_in, reached, reached_by};
+ghost use Rattle.turns.specs.Phases.{Inserts, Meets, AtBucket, Hopes, Walks, Turns, Leaves, lock_in, reached, reached_by, Other};
 ghost use Rattle.turns.specs.Steps.{Went, Passing, passed as passed_answer};
 ghost use Rattle.shared_table.specs.declared.carried.Carried.TheVariants.{Gone};
-ghost use Rattle.shared_table.specs.Carried.{told, kept, placed, Asks, lock_of};
+ghost use Rattle.shared_table.specs.Carried.{told, kept, placed, accepted, Asks, lock_of};
 ghost use Rattle.shared_table.specs.Inserts.{Answers, told_by};
+ghost use Rattle.shared_table.specs.Stepped.{Advances, MayBlock, IfMoved, IfBlocked, IfEnded, accepted_in};
 
 use crate::carried::{Asking, Carried, Held};
 use crate::growing::Wanted;
 use crate::growth::Growth;
 use crate::reading::{Put, Read, alike_entry, meet};
+use crate::stepped::Progress;
 use crate::table::LockFreeRawTable;
 use cell::{Entry, Low};
 use generations::atomic_value::AtomicValue;
 use generations::fixed::Generation;
 use std::mem;
+use std::snapshot::Snapshot;
 use std::sync::{RwLockReadGuard, RwLockWriteGuard, Wait};
 use table_core::{Answer, CallState, Phase};
 use turns::{passed, released, step, step_loaded, step_released};
@@ -64,6 +67,30 @@ impl<
     E: Fn(&T::Target, &T::Target) -> bool,
     H: Fn(&T::Target) -> u64,
 > Inserting<'a, T, A, E, H> {
+    /// An insert that has taken no step.
+    pub(crate) fn new(
+        table: &'a LockFreeRawTable<T, A>,
+        hash: u64,
+        value: T,
+        eq: E,
+        hash_fn: H,
+    ) -> Inserting<'a, T, A, E, H>
+        ensures starts { result.state ≡ insert_start hash }
+        ensures given { (result.asking.given.value ≡ value) × (result.asking.eq ≡ eq) × (result.asking.hash_fn ≡ hash_fn) }
+        ensures unmet { accepted result.carried ≡ None }
+    {
+        let given = Snapshot::of(&value);
+        Inserting {
+            table,
+            state: CallState::insert(hash),
+            walked: None,
+            growth: None,
+            carried: Carried::Value(value),
+            held: Held::Nothing,
+            asking: Asking { given, eq, hash_fn },
+        }
+    }
+
     /// The shared lock is taken.
     fn share(&mut self, guard: RwLockReadGuard<'a, ()>)
         requires phase { self.old.state.phase ≡ WantShared }
@@ -72,6 +99,7 @@ impl<
         ensures there { self.new.carried ≢ Gone }
         ensures same { self.new.asking ≡ self.old.asking }
         ensures asks { Asks E.IsAlwaysCallable H.IsAlwaysCallable T.target E.Fn self.new.asking self.new.carried }
+        ensures met { accepted self.old.carried ≢ None → accepted self.new.carried ≡ accepted self.old.carried }
     {
         self.held = Held::Shared(guard);
         self.state = step(self.state, Answer::Taken);
@@ -85,6 +113,7 @@ impl<
         ensures there { self.new.carried ≢ Gone }
         ensures same { self.new.asking ≡ self.old.asking }
         ensures asks { Asks E.IsAlwaysCallable H.IsAlwaysCallable T.target E.Fn self.new.asking self.new.carried }
+        ensures met { accepted self.old.carried ≢ None → accepted self.new.carried ≡ accepted self.old.carried }
     {
         let table: &'a LockFreeRawTable<T, A> = self.table;
         match table.current() {
@@ -113,6 +142,7 @@ impl<
         ensures there { self.new.carried ≢ Gone }
         ensures same { self.new.asking ≡ self.old.asking }
         ensures asks { Asks E.IsAlwaysCallable H.IsAlwaysCallable T.target E.Fn self.new.asking self.new.carried }
+        ensures met { accepted self.old.carried ≢ None → accepted self.new.carried ≡ accepted self.old.carried }
     {
         self.state = next;
         passed(asked)
@@ -129,6 +159,7 @@ impl<
         ensures there { self.new.carried ≢ Gone }
         ensures same { self.new.asking ≡ self.old.asking }
         ensures asks { Asks E.IsAlwaysCallable H.IsAlwaysCallable T.target E.Fn self.new.asking self.new.carried }
+        ensures met { accepted self.old.carried ≢ None → accepted self.new.carried ≡ accepted self.old.carried }
     {
         let Carried::Value(value) = mem::replace(&mut self.carried, Carried::Gone) else {
             unreachable!()
@@ -146,6 +177,7 @@ impl<
         ensures there { self.new.carried ≢ Gone }
         ensures same { self.new.asking ≡ self.old.asking }
         ensures asks { Asks E.IsAlwaysCallable H.IsAlwaysCallable T.target E.Fn self.new.asking self.new.carried }
+        ensures met { accepted self.old.carried ≢ None → accepted self.new.carried ≡ accepted self.old.carried }
     {
         let table: &'a LockFreeRawTable<T, A> = self.table;
         let Some(generation) = self.walked else {
@@ -173,6 +205,7 @@ impl<
         ensures there { self.new.carried ≢ Gone }
         ensures same { self.new.asking ≡ self.old.asking }
         ensures asks { Asks E.IsAlwaysCallable H.IsAlwaysCallable T.target E.Fn self.new.asking self.new.carried }
+        ensures met { accepted self.old.carried ≢ None → accepted self.new.carried ≡ accepted self.old.carried }
     {
         let target = alike_entry(first, self.state.hash);
         let Carried::Value(value) = &self.carried else {
@@ -193,6 +226,7 @@ impl<
         ensures there { self.new.carried ≢ Gone }
         ensures same { self.new.asking ≡ self.old.asking }
         ensures asks { Asks E.IsAlwaysCallable H.IsAlwaysCallable T.target E.Fn self.new.asking self.new.carried }
+        ensures met { accepted self.old.carried ≢ None → accepted self.new.carried ≡ accepted self.old.carried }
     {
         let table: &'a LockFreeRawTable<T, A> = self.table;
         let Some(generation) = self.walked else {
@@ -228,6 +262,7 @@ impl<
         ensures there { self.new.carried ≢ Gone }
         ensures same { self.new.asking ≡ self.old.asking }
         ensures asks { Asks E.IsAlwaysCallable H.IsAlwaysCallable T.target E.Fn self.new.asking self.new.carried }
+        ensures met { accepted self.old.carried ≢ None → accepted self.new.carried ≡ accepted self.old.carried }
     {
         self.state = self.table.count(self.state);
         Answer::Counted
@@ -241,6 +276,7 @@ impl<
         ensures there { self.new.carried ≢ Gone }
         ensures same { self.new.asking ≡ self.old.asking }
         ensures asks { Asks E.IsAlwaysCallable H.IsAlwaysCallable T.target E.Fn self.new.asking self.new.carried }
+        ensures met { accepted self.old.carried ≢ None → accepted self.new.carried ≡ accepted self.old.carried }
     {
         let size = self.table.len() as u64;
         self.state = step(self.state, Answer::Sized { size });
@@ -255,6 +291,7 @@ impl<
         ensures there { self.new.carried ≢ Gone }
         ensures same { self.new.asking ≡ self.old.asking }
         ensures asks { Asks E.IsAlwaysCallable H.IsAlwaysCallable T.target E.Fn self.new.asking self.new.carried }
+        ensures met { accepted self.old.carried ≢ None → accepted self.new.carried ≡ accepted self.old.carried }
     {
         self.held = Held::Alone(guard);
         self.state = step(self.state, Answer::Taken);
@@ -268,6 +305,7 @@ impl<
         ensures there { self.new.carried ≢ Gone }
         ensures same { self.new.asking ≡ self.old.asking }
         ensures asks { Asks E.IsAlwaysCallable H.IsAlwaysCallable T.target E.Fn self.new.asking self.new.carried }
+        ensures met { accepted self.old.carried ≢ None → accepted self.new.carried ≡ accepted self.old.carried }
     {
         let table: &'a LockFreeRawTable<T, A> = self.table;
         match table.begin() {
@@ -295,6 +333,7 @@ impl<
         ensures there { self.new.carried ≢ Gone }
         ensures same { self.new.asking ≡ self.old.asking }
         ensures asks { Asks E.IsAlwaysCallable H.IsAlwaysCallable T.target E.Fn self.new.asking self.new.carried }
+        ensures met { accepted self.old.carried ≢ None → accepted self.new.carried ≡ accepted self.old.carried }
     {
         let Some(mut growth) = self.growth.take() else {
             unreachable!()
@@ -317,6 +356,7 @@ impl<
         ensures there { self.new.carried ≢ Gone }
         ensures same { self.new.asking ≡ self.old.asking }
         ensures asks { Asks E.IsAlwaysCallable H.IsAlwaysCallable T.target E.Fn self.new.asking self.new.carried }
+        ensures met { accepted self.old.carried ≢ None → accepted self.new.carried ≡ accepted self.old.carried }
     {
         let still_current = match self.state.phase {
             Phase::LeaveFailed => self.table.is_current(self.state.walked),
@@ -336,6 +376,7 @@ impl<
         ensures there { self.new.carried ≢ Gone }
         ensures same { self.new.asking ≡ self.old.asking }
         ensures asks { Asks E.IsAlwaysCallable H.IsAlwaysCallable T.target E.Fn self.new.asking self.new.carried }
+        ensures met { accepted self.old.carried ≢ None → accepted self.new.carried ≡ accepted self.old.carried }
     {
         match self.state.phase {
             Phase::Shared => self.load(),
@@ -361,14 +402,59 @@ impl<
         requires asks { Asks E.IsAlwaysCallable H.IsAlwaysCallable T.target E.Fn self.old.asking self.old.carried }
         ensures answer { Answers T.target (FnReturnsAtPair E.Fn self.old.asking.eq (T.target self.old.asking.given.value)) self.old.asking.given.value result }
         ensures tells { told_by result ≡ reached_by self.old.state.outcome }
+        ensures names { accepted_in result ≡ accepted self.old.carried }
         ensures state { self.new.state ≡ self.old.state }
         ensures same { self.new.asking ≡ self.old.asking }
+        ensures asks { Asks E.IsAlwaysCallable H.IsAlwaysCallable T.target E.Fn self.new.asking self.new.carried }
     {
         match mem::replace(&mut self.carried, Carried::Gone) {
             Carried::Value(value) => Err(value),
             Carried::Own(target) => Ok((target, None)),
             Carried::Met(target, value) => Ok((target, Some(value))),
             Carried::Gone => unreachable!(),
+        }
+    }
+
+    /// One step, for which a lock that is wanted is tried once. Nothing changes where others hold it, or after the end.
+    pub(crate) fn advance(&mut self) -> Progress<Result<(&'a T::Target, Option<T>), T>>
+        requires asks { Asks E.IsAlwaysCallable H.IsAlwaysCallable T.target E.Fn self.old.asking self.old.carried }
+        ensures moved { IfMoved result (Advances self.old.state self.new.state × (self.new.state.phase ≢ Done)) }
+        ensures blocked { IfBlocked result (MayBlock self.old.state.phase) }
+        ensures unchanged { IfBlocked result ((self.new.state ≡ self.old.state) × (self.new.carried ≡ self.old.carried)) }
+        ensures ended { IfEnded result (λ reply. Advances self.old.state self.new.state × (self.new.state.phase ≡ Done)) }
+        ensures tells { IfEnded result (λ reply. told_by reply ≡ reached_by self.new.state.outcome) }
+        ensures answers { IfEnded result (λ reply. Answers T.target (FnReturnsAtPair E.Fn self.old.asking.eq (T.target self.old.asking.given.value)) self.old.asking.given.value reply) }
+        ensures names { IfEnded result (λ reply. accepted self.old.carried ≢ None → accepted_in reply ≡ accepted self.old.carried) }
+        ensures met { IfMoved result (accepted self.old.carried ≢ None → accepted self.new.carried ≡ accepted self.old.carried) }
+        ensures existing { IfMoved result (reached_by self.new.state.outcome ≡ Other → accepted self.new.carried ≢ None) }
+        ensures same { self.new.asking ≡ self.old.asking }
+        ensures asks { Asks E.IsAlwaysCallable H.IsAlwaysCallable T.target E.Fn self.new.asking self.new.carried }
+    {
+        let table: &'a LockFreeRawTable<T, A> = self.table;
+        match self.state.phase {
+            Phase::Done => Progress::Blocked,
+            Phase::WantShared => match table.lock.try_read() {
+                None => Progress::Blocked,
+                Some(guard) => {
+                    self.share(guard);
+                    Progress::Moved
+                }
+            },
+            Phase::WantOwned => match table.lock.try_write() {
+                None => Progress::Blocked,
+                Some(guard) => {
+                    self.own(guard);
+                    Progress::Moved
+                }
+            },
+            _ => {
+                let _ = self.turn();
+                if self.state.phase == Phase::Done {
+                    Progress::Done(self.finish())
+                } else {
+                    Progress::Moved
+                }
+            }
         }
     }
 

@@ -1,4 +1,4 @@
-//! The table that threads share: its generations, growth step by step, and walks.
+//! The table that threads share: its generations, growth step by step, walks, and calls that go step by step.
 //!
 //! The generations that a table had when it was shared lie in it as they were; each later one lies in a block of its own,
 //! named by a word that is set once. Who looks up or inserts takes the current one by [`LockFreeRawTable::current`].
@@ -15,13 +15,16 @@ mod into_iter;
 mod iter;
 mod later;
 mod lineage;
+mod looking;
 mod lookup;
 mod reading;
 mod rest;
+pub mod stepped;
 mod table;
 
 pub use growing::Wanted;
 pub use growth::Growth;
 pub use into_iter::IntoIter;
 pub use iter::Iter;
+pub use stepped::{InsertCall, LookupCall, Progress};
 pub use table::{Current, FIRST_CAPACITY, LockFreeRawTable};

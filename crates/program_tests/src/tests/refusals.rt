@@ -3,10 +3,10 @@ ghost use Rattle.std.specs.Prelude.{◌<◌};
 ghost use Rattle.terms.specs.Capacities.{IsFirstCapacity};
 
 use super::machine::{events_of, lines_of_replies, push_line, replies};
-use super::schedules::LOST_TO_AN_EQUAL;
-use super::script::push_events;
 use super::{Ended, run_refusing};
 use commands::program::run_words;
+use core_tests::script::push_events;
+use core_tests::worked::LOST_TO_AN_EQUAL;
 use refusing::{Refusing, Rule};
 use std::alloc::{Allocator, Global};
 use std::cell::Cell;
@@ -119,7 +119,8 @@ fn push_answers(input: &mut String, alloc: Global, first: u64) -> Result<(), Fai
         first + 2
     )?;
     push_events(input, refused.as_str())?;
-    push_events(input, "len 104; load 104; size 104")
+    push_events(input, "len 104; load 104; size 104")?;
+    Ok(())
 }
 
 /// The lines of its finished calls.

@@ -3,11 +3,31 @@
 //! Events have `; ` between them. `first C V H` stands for a call that finds no generation, makes the first one and loads
 //! it, `go C V H` for one that places its value in an empty bucket, `copies C N` for N entries copied with the hashes from
 //! 0 on, and `N times EVENT` for one event again and again.
-use std::alloc::Global;
-use std::test::Fail;
+use std::alloc::{AllocError, Global};
+use std::num::ParseIntError;
+
+/// Why a schedule has no lines.
+#[derive(Clone, Copy, Debug, PartialEq, Eq)]
+pub enum NoLines {
+    NoMemory,
+    /// A number is missing.
+    NoNumber,
+}
+
+impl From<AllocError> for NoLines {
+    fn from(_refused: AllocError) -> NoLines {
+        NoLines::NoMemory
+    }
+}
+
+impl From<ParseIntError> for NoLines {
+    fn from(_bad: ParseIntError) -> NoLines {
+        NoLines::NoNumber
+    }
+}
 
 /// The lines of the parts of a schedule.
-pub(super) fn lines_of(alloc: Global, parts: &[&str]) -> Result<String, Fail> {
+pub fn lines_of(alloc: Global, parts: &[&str]) -> Result<String, NoLines> {
     let mut input = String::new(alloc);
     for part in parts {
         push_events(&mut input, part)?;
@@ -16,7 +36,7 @@ pub(super) fn lines_of(alloc: Global, parts: &[&str]) -> Result<String, Fail> {
 }
 
 /// The lines of a part of a schedule.
-pub(super) fn push_events(input: &mut String, part: &str) -> Result<(), Fail> {
+pub fn push_events(input: &mut String, part: &str) -> Result<(), NoLines> {
     for event in part.split("; ") {
         match event.split_once(' ') {
             Some(("first", numbers)) => push_first(input, numbers)?,
@@ -29,8 +49,8 @@ pub(super) fn push_events(input: &mut String, part: &str) -> Result<(), Fail> {
 }
 
 /// The lines of a call that finds no generation, makes the first one and loads it.
-fn push_first(input: &mut String, numbers: &str) -> Result<(), Fail> {
-    let (call, _) = numbers.split_once(' ').ok_or("a number is missing")?;
+fn push_first(input: &mut String, numbers: &str) -> Result<(), NoLines> {
+    let (call, _) = numbers.split_once(' ').ok_or(NoLines::NoNumber)?;
     writeln!(
         input,
         "insert {numbers}\nshare {call}\nload {call}\nfree {call}"
@@ -44,8 +64,8 @@ fn push_first(input: &mut String, numbers: &str) -> Result<(), Fail> {
 }
 
 /// The lines of a call that places its value in an empty bucket.
-fn push_go(input: &mut String, numbers: &str) -> Result<(), Fail> {
-    let (call, _) = numbers.split_once(' ').ok_or("a number is missing")?;
+fn push_go(input: &mut String, numbers: &str) -> Result<(), NoLines> {
+    let (call, _) = numbers.split_once(' ').ok_or(NoLines::NoNumber)?;
     writeln!(
         input,
         "insert {numbers}\nshare {call}\nload {call}\nread {call} n"
@@ -58,8 +78,8 @@ fn push_go(input: &mut String, numbers: &str) -> Result<(), Fail> {
 }
 
 /// The lines of so many copies, with the hashes from 0 on.
-fn push_copies(input: &mut String, numbers: &str) -> Result<(), Fail> {
-    let (call, count) = numbers.split_once(' ').ok_or("a number is missing")?;
+fn push_copies(input: &mut String, numbers: &str) -> Result<(), NoLines> {
+    let (call, count) = numbers.split_once(' ').ok_or(NoLines::NoNumber)?;
     for hash in 0..count.parse::<u64>()? {
         writeln!(input, "copy {call} {hash}")?;
     }
@@ -67,7 +87,7 @@ fn push_copies(input: &mut String, numbers: &str) -> Result<(), Fail> {
 }
 
 /// The line of an event, once or as often as it says.
-fn push_times(input: &mut String, event: &str) -> Result<(), Fail> {
+fn push_times(input: &mut String, event: &str) -> Result<(), NoLines> {
     let (count, event) = event.split_once(" times ").unwrap_or(("1", event));
     for _time in 0..count.parse::<u64>()? {
         writeln!(input, "{event}")?;

@@ -1,0 +1,44 @@
+//! Why a replay ends early.
+use crate::item::Said;
+use std::alloc::{AllocError, AllocFailed};
+use table_core::state::NoMemory;
+
+/// What a replay met that it doesn't go on from.
+#[derive(Clone, Copy, Debug, PartialEq, Eq)]
+pub enum Fault {
+    /// Memory was refused to the replay itself.
+    NoMemory,
+    /// The table told this call something else than the machine told it.
+    Told {
+        call: u64,
+        table: Option<Said>,
+        machine: Option<Said>,
+    },
+    /// The lengths, the walks or the numbers of buckets aren't the same.
+    Length,
+    Walk,
+    Buckets,
+    /// A call took a step that its event doesn't name, or not all calls ended.
+    Step {
+        call: u64,
+    },
+    Unfinished,
+}
+
+impl From<AllocError> for Fault {
+    fn from(_refused: AllocError) -> Fault {
+        Fault::NoMemory
+    }
+}
+
+impl<T: Drop> From<AllocFailed<T>> for Fault {
+    fn from(_refused: AllocFailed<T>) -> Fault {
+        Fault::NoMemory
+    }
+}
+
+impl From<NoMemory> for Fault {
+    fn from(_refused: NoMemory) -> Fault {
+        Fault::NoMemory
+    }
+}

@@ -1,0 +1,5 @@
+//! Calls that go step by step, run.
+mod cuts;
+mod drawn;
+mod drops;
+mod worked;

@@ -1,0 +1,11 @@
+//! Schedules that are drawn. The program `replays` runs more of them.
+use crate::drawn::first_fault;
+
+/// How many schedules are drawn.
+const SCHEDULES: u64 = 100;
+
+#[test]
+fn schedules_that_are_drawn(rt: HostRuntime) {
+    let fault = first_fault(rt.alloc(), SCHEDULES);
+    assert!(rt; fault.is_none(), "{fault:?}");
+}
