@@ -1,4 +1,5 @@
 pub mod Starts
+mod Between
 mod Looked
 pub mod Handed
 pub mod Settled
