@@ -1,11 +1,11 @@
 -- What holds of an insert between two steps, after each kind of step.
-use Rattle.std.proofs.Common.{◌≡◌, ◌≢◌, ◌∙◌, ℕ, Bool, length, true, false, nat_lt, refl, sym, subst, ap, Bor}
+use Rattle.std.proofs.Common.{◌≡◌, ◌≢◌, ◌∙◌, ℕ, Bool, length, true, false, nat_lt, refl, sym, subst, ap, Bor, arith}
 use Rattle.std.specs.Prelude.{Option, Some, None}
 use Rattle.std.specs.Option.{ForSome}
 use Rattle.generations.specs.Generations.{GenerationView}
 use Rattle.generations.specs.declared.atomic_value.AtomicValue.{Ghosts}
 use Rattle.std.specs.Prelude.{if◌then◌else◌, ◌&&◌, ◌<◌}
-use Rattle.std.proofs.lemmas.Bool.{ltb-true}
+use Rattle.std.proofs.lemmas.Bool.{ltb-true, lt-ltb}
 use Rattle.table_core.specs.Calls.{decided, stands_at_bucket, to, is_done, finds_entry}
 use Rattle.table_core.specs.declared.call.Answer.{Answer}
 use Rattle.table_core.specs.declared.call.CallState.{CallState}
@@ -76,6 +76,10 @@ leaves_begun _ m = absurd m
 -- a call that stands at a bucket has an index below the capacity
 pub index_within : (s : CallState) → stands_at_bucket s ≡ true → s.index < s.capacity
 index_within s stands = ltb-true s.index s.capacity (and_left (nat_lt s.index s.capacity) (nat_lt s.seen s.capacity) stands)
+
+-- and its generation has room
+pub has_room : (s : CallState) → stands_at_bucket s ≡ true → nat_lt 0 s.capacity ≡ true
+has_room s stands = let below = index_within s stands in lt-ltb 0 s.capacity (omega (arith, below))
 
 -- who has reached nothing carries the value
 value_told : {V R : Type 0} (c : Carried V R) → told c ≡ Some Nothing → (v : V) × (c ≡ Value v)

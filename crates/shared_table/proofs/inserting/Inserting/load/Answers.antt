@@ -1,4 +1,4 @@
-use Rattle.std.proofs.Common.{◌≡◌, inl, refl, arith}
+use Rattle.std.proofs.Common.{inl, refl}
 use Rattle.table_core.specs.declared.call.Answer.TheVariants.{NoGeneration}
 use Rattle.table_core.specs.declared.call.Phase.TheVariants.{Shared}
 use Rattle.shared_table.proofs.Between.{carries, finds_none, starts, stepped}

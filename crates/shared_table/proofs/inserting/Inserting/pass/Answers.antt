@@ -1,4 +1,4 @@
-use Rattle.std.proofs.Common.{◌≡◌, ◌∙◌, refl, subst, sym}
+use Rattle.std.proofs.Common.{refl, subst, sym}
 use Rattle.table_core.specs.declared.call.Answer.{Answer}
 use Rattle.turns.specs.Steps.{Went}
 use Rattle.shared_table.proofs.Between.{meets_carries, passes}

@@ -1,4 +1,4 @@
-use Rattle.std.proofs.Common.{◌≡◌, ◌≢◌, ◌∙◌, ap, refl, sym}
+use Rattle.std.proofs.Common.{◌≡◌, ◌∙◌, ap, refl, sym}
 use Rattle.shared_table.specs.Carried.{kept}
 use Rattle.shared_table.proofs.Between.{has_back, holds_value, loses, wins, within}
 use Rattle.shared_table.proofs.inserting.Inserting.put.Goals as goal
