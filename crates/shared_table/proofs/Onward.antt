@@ -10,7 +10,7 @@ use Rattle.table_core.specs.declared.call.Answer.{Answer}
 use Rattle.table_core.specs.declared.call.CallState.{CallState}
 use Rattle.table_core.specs.declared.call.Outcome.TheVariants.{Pending}
 use Rattle.table_core.specs.declared.call.Phase.{Phase}
-use Rattle.table_core.specs.declared.call.Phase.TheVariants.{LeaveOk, LeaveRefused, WantOwned, Building, Done}
+use Rattle.table_core.specs.declared.call.Phase.TheVariants.{Building, Done, LeaveGrow, LeaveOk, LeaveRefused, WantOwned}
 use Rattle.turns.specs.Phases.{Shares, Free, Inserts, AtBucket, Hopes, Walks, lock_in, reached, reached_by}
 use Rattle.turns.specs.Steps.{Passing}
 use Rattle.shared_table.specs.declared.carried.Asking.{Asking}
@@ -50,6 +50,27 @@ module _ {A V X E H : Type 0} (target : V → X) (CallE : E → Type 0) (CallH :
     owns : ForSome (placed carried) (λ r. r.now ≡ target asking.given.value);
     asks : Asks CallE CallH target says asking carried;
   }
+
+  -- it found no generation
+  pub after_nothing : (s t : CallState) (v : V) (held : Held) → CallE asking.eq → CallH asking.hash_fn → s.outcome ≡ Pending → t ≡ record s { phase = LeaveGrow; walked = None } → v ≡ asking.given.value → lock_of held ≡ Shares → GoesOn t None (Value v) held
+  after_nothing s t v held calls_eq calls_hash pending is given shares =
+      subst (λ (u : CallState). GoesOn u None (Value v) held) (sym is) (record {
+        inserts = refl;
+        unfinished = λ e. absurd (cc);
+        hopes = λ _. pending;
+        stands = λ x. absurd x;
+        wide = λ x. absurd x;
+        walks = λ x. absurd x;
+        counts = λ x e. absurd (cc);
+        homes = λ x e. absurd (cc);
+        locks = shares;
+        builds = λ e. absurd (cc);
+        there = λ e. absurd (cc);
+        tells = sym (ap Some (ap reached_by pending));
+        stems = λ u e. sym (some_same v u e) ∙ given;
+        owns = λ r e. absurd (cc);
+        asks = (calls_eq, calls_hash, tt);
+      })
 
   module _ (s : CallState) (b : Bor (GenerationView A V)) (long : length b.now.contents ≡ s.capacity) (of : b.now.home ≡ home) (calls_eq : CallE asking.eq) (calls_hash : CallH asking.hash_fn) where
     counts : ForSome (Some b) (λ g. length g.now.contents ≡ s.capacity)

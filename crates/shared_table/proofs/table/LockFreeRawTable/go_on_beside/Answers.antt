@@ -1,4 +1,4 @@
-use Rattle.std.proofs.Common.{◌≡◌, ap, subst, sym, true, Bor, refl}
+use Rattle.std.proofs.Common.{subst, sym, true, Bor, refl}
 use Rattle.std.specs.Prelude.{Some}
 use Rattle.std.specs.Fn.{FnReturnsAtPair}
 use Rattle.table_core.specs.declared.call.CallState.{CallState}
