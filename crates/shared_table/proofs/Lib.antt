@@ -1,4 +1,7 @@
 pub mod Starts
+mod Between
 mod Looked
+mod Missed
+mod Onward
 pub mod Handed
 pub mod Settled
