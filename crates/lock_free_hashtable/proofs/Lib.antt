@@ -7,7 +7,12 @@ pub mod Lookups
 pub mod Inserts
 pub mod Placed
 pub mod Placing
+pub mod Answered
 pub mod Lists
 pub mod Found
 pub mod Walks
 pub mod Again
+pub mod Apart
+pub mod Settled
+pub mod Runs
+pub mod Replies

@@ -5,6 +5,7 @@
 //! names a bucket that shows an entry, and stays good over growth.
 #![tactic(auto)]
 
+pub mod alone;
 pub mod place;
 pub mod raw;
 
