@@ -4,6 +4,7 @@ pub mod Kept
 pub mod Tries
 pub mod Grown
 pub mod Lookups
+pub mod Apart
 pub mod Inserts
 pub mod Placed
 pub mod Placing
@@ -12,7 +13,7 @@ pub mod Lists
 pub mod Found
 pub mod Walks
 pub mod Again
-pub mod Apart
 pub mod Settled
 pub mod Runs
 pub mod Replies
+pub mod Shards

@@ -9,3 +9,4 @@ pub mod Again
 pub mod Calls
 pub mod Runs
 pub mod Settled
+pub mod Shards

@@ -8,6 +8,7 @@
 pub mod alone;
 pub mod place;
 pub mod raw;
+pub mod sharded;
 
 pub use generations::atomic_value;
 pub use generations::atomic_value::{AtomicValue, Law};

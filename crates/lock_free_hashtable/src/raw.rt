@@ -108,6 +108,13 @@ impl<T: AtomicValue, A: Allocator + Copy> HeldRawTable<T, A> {
         }
     }
 
+    /// The empty table with this one's allocator and first capacity. It takes no memory.
+    pub(crate) fn new_like(&self) -> Self
+        ensures { result ≡ empty_table self.now.first_capacity }
+    {
+        HeldRawTable::with_first_capacity(self.alloc, self.first_capacity)
+    }
+
     /// The number of entries.
     pub fn len_alone(&self) -> usize
         ensures size { result ≡ self.now.size }
