@@ -1,12 +1,9 @@
 -- A lawful insert keeps the generation lawful, and places or refuses a value only where no entry is the same.
-use Rattle.std.proofs.Common.{◌≡◌, cond, ℕ, ◌<◌, ◌≤◌, Bool, true, false, List, [], ◌∷◌, ◌++◌, Some, length, refl, sym, ap, ◌∙◌, subst, arith, inl, inr}
+use Rattle.std.proofs.Common.{◌≡◌, cond, ℕ, ◌<◌, Bool, false, Some, length, sym, ap, ◌∙◌, subst, inl, inr}
 use Rattle.std.specs.Prelude.{slice_set, Contains}
-use Rattle.std.specs.List.{sum_by}
-use Rattle.std.proofs.lemmas.Bool.{cases_Bool, false≢true}
+use Rattle.std.proofs.lemmas.Bool.{cases_Bool}
 use Rattle.std.proofs.lemmas.List.Sorted.{sum_by-IsPermutation}
-use Rattle.std.proofs.lemmas.List.Sums.{sum_by-append}
-use Rattle.std.proofs.lemmas.List.Elements.{Contains-append_right}
-use Rattle.terms.specs.Laws.{IsLaw, AllApart}
+use Rattle.terms.specs.Laws.{IsLaw}
 use Rattle.terms.specs.Hashes.{bits_of}
 use Rattle.generations.specs.Buckets.{value_at}
 use Rattle.generations.specs.Ways.{IsReached, IsLawfulFor}

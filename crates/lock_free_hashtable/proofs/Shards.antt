@@ -1,5 +1,5 @@
 -- Where one shard takes a value or gives an answer, so does the table over all shards.
-use Rattle.std.proofs.Common.{◌≡◌, ℕ, zero, suc, ◌+◌, ◌<◌, ◌⊎◌, Bool, true, false, List, [], ◌∷◌, ◌++◌, Option, Some, None, Result, Ok, Err, length, refl, sym, ap, subst, ◌∙◌, append_assoc, append-nil, arith, inl, inr, set, get_or, ltb, replicate, take, ◌≤◌}
+use Rattle.std.proofs.Common.{◌≡◌, ℕ, zero, suc, ◌+◌, ◌<◌, ◌⊎◌, Bool, false, List, [], ◌∷◌, ◌++◌, Option, Some, None, Result, Ok, Err, length, refl, sym, ap, subst, ◌∙◌, append_assoc, append-nil, arith, inl, inr, set, get_or, ltb, replicate, take, ◌≤◌}
 use Rattle.std.specs.Prelude.{Contains, IsSome, IfNone, min, option_map}
 use Rattle.std.specs.Array.{IsFromFnResultFrom}
 use Rattle.std.specs.Fn.{Called}
@@ -14,7 +14,7 @@ use Rattle.std.proofs.lemmas.List.Elements.{Contains-append_left, Contains-appen
 use Rattle.std.proofs.lemmas.List.Sums.{sum_by-cons}
 use Rattle.std.proofs.lemmas.List.Sorted.{length_permutation, IsPermutation-refl, IsPermutation-sym, IsPermutation-trans, IsPermutation-append_left, IsPermutation-append_right, Contains-permutation}
 use Rattle.cell.specs.declared.bucket.Entry.{Entry}
-use Rattle.generations.specs.Buckets.{values_of, value_at}
+use Rattle.generations.specs.Buckets.{value_at}
 use Rattle.generations.specs.Growth.{entry_of}
 use Rattle.terms.specs.Laws.{IsLaw}
 use Rattle.lock_free_hashtable.specs.Growth.{KeepsPlaces}

@@ -1,5 +1,5 @@
 use Rattle.std.proofs.Common.{◌≡◌, ℕ, ◌<◌, take}
-use Rattle.lock_free_hashtable.specs.Table.{all_buckets, empty_table}
+use Rattle.lock_free_hashtable.specs.Table.{all_buckets}
 use Rattle.lock_free_hashtable.specs.Shards.{capped_sum, HasFewBuckets, shard_at}
 use Rattle.lock_free_hashtable.proofs.sharded.HeldShardedTable.buckets_alone.Given as goal
 

@@ -1,4 +1,4 @@
-use Rattle.std.proofs.Common.{◌≡◌, ◌∙◌, ap, arith}
+use Rattle.std.proofs.Common.{◌∙◌, ap, arith}
 use Rattle.std.proofs.lemmas.List.{take_all}
 use Rattle.lock_free_hashtable.specs.Table.{capacity}
 use Rattle.lock_free_hashtable.specs.Shards.{capped_sum}

@@ -1,6 +1,6 @@
-use Rattle.std.proofs.Common.{◌≡◌, ℕ, ◌<◌, take}
-use Rattle.lock_free_hashtable.specs.Table.{capacity, empty_table}
-use Rattle.lock_free_hashtable.specs.Shards.{capped_sum, HasFewBuckets, shard_at}
+use Rattle.std.proofs.Common.{◌≡◌, take}
+use Rattle.lock_free_hashtable.specs.Table.{capacity}
+use Rattle.lock_free_hashtable.specs.Shards.{capped_sum}
 use Rattle.lock_free_hashtable.proofs.sharded.HeldShardedTable.capacity_alone.Given as goal
 
 -- the buckets of the shards so far

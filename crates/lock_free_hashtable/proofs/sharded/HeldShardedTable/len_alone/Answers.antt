@@ -1,4 +1,4 @@
-use Rattle.std.proofs.Common.{◌≡◌, arith}
+use Rattle.std.proofs.Common.{arith}
 use Rattle.lock_free_hashtable.proofs.Shards.{counts_all, counts_as_list}
 use Rattle.lock_free_hashtable.proofs.sharded.HeldShardedTable.len_alone.Goals as goal
 

@@ -1,7 +1,7 @@
-use Rattle.std.proofs.Common.{◌≡◌, ◌<◌, length, sym, ◌∙◌}
+use Rattle.std.proofs.Common.{◌≡◌, ◌<◌, length, sym}
 use Rattle.std.specs.Fn.{FnReturnsAt}
 use Rattle.std.proofs.lemmas.Option.{IfSome_then}
-use Rattle.lock_free_hashtable.specs.Shards.{sharded, shard_at, shard_of}
+use Rattle.lock_free_hashtable.specs.Shards.{sharded, shard_at}
 use Rattle.lock_free_hashtable.proofs.Answered.{looks_up_as_list}
 use Rattle.lock_free_hashtable.proofs.Shards.{shard_within, read_shard, found_in_all, none_in_all, if_none}
 use Rattle.lock_free_hashtable.proofs.sharded.HeldShardedTable.lookup_alone.Goals as goal

@@ -1,5 +1,4 @@
-use Rattle.std.proofs.Common.{◌≡◌, ◌<◌, ◌≤◌, length, ap, sym, ◌∙◌, arith}
-use Rattle.lock_free_hashtable.specs.Shards.{shard_at}
+use Rattle.std.proofs.Common.{◌<◌, length, arith}
 use Rattle.lock_free_hashtable.proofs.Shards.{place_within, read_shard, some_in_shard, shows_in_shard}
 use Rattle.lock_free_hashtable.proofs.sharded.HeldShardedTable.target_at.Goals as goal
 
