@@ -20,9 +20,9 @@ use std::marker::Model;
 ///
 /// `SHARDS` is a power of two, 1 included. Each call is that of the raw table, on the shard of the hash or on all shards,
 /// and promises the same.
+#[derive(Drop)]
 pub struct HeldShardedTable<T: AtomicValue, const SHARDS: usize, A: Allocator + Copy = Global> {
     shards: [HeldRawTable<T, A>; SHARDS],
-    alloc: A,
 }
 
 impl<T: AtomicValue, const SHARDS: usize, A: Allocator + Copy> Model
@@ -57,7 +57,7 @@ impl<T: AtomicValue, const SHARDS: usize, A: Allocator + Copy> HeldShardedTable<
         // Not by `with_first_capacity`: no proof shows its caller that so many shards fit in memory.
         let like: HeldRawTable<T, A> = HeldRawTable::new(alloc);
         let shards = array::from_fn(|_| like.new_like());
-        HeldShardedTable { shards, alloc }
+        HeldShardedTable { shards }
     }
 
     /// The empty table; the first generation of each shard will have `first_capacity` buckets: see `is_first_capacity`.
@@ -71,7 +71,7 @@ impl<T: AtomicValue, const SHARDS: usize, A: Allocator + Copy> HeldShardedTable<
     {
         let like: HeldRawTable<T, A> = HeldRawTable::with_first_capacity(alloc, first_capacity);
         let shards = array::from_fn(|_| like.new_like());
-        HeldShardedTable { shards, alloc }
+        HeldShardedTable { shards }
     }
 
     /// The number of the shard of a hash: its top bits, exactly `hash * SHARDS / 2^64`.
