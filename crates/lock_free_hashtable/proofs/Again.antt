@@ -1,5 +1,5 @@
 -- Why places stay good, and why a value that was inserted is found again.
-use Rattle.std.proofs.Common.{◌≡◌, cond, ℕ, zero, suc, ◌+◌, ◌≤◌, ◌⊎◌, Bool, true, List, [], ◌∷◌, refl, sym, ◌∙◌, arith, inl, inr}
+use Rattle.std.proofs.Common.{◌≡◌, cond, ℕ, ◌+◌, ◌≤◌, Bool, true, List, [], ◌∷◌, refl, sym, ◌∙◌, arith, inl, inr}
 use Rattle.std.specs.Prelude.{Option, Some, None, Ok, Contains}
 use Rattle.std.specs.List.{sum_by}
 use Rattle.std.proofs.lemmas.Bool.{false≢true}
@@ -11,13 +11,8 @@ use Rattle.terms.specs.Laws.{IsLaw, AllApart}
 use Rattle.generations.specs.Buckets.{values_of}
 use Rattle.cell.specs.declared.bucket.Entry.{Entry}
 use Rattle.lock_free_hashtable.specs.Shown.{Shows, IsEntryAt, IsLawfulInsert, IsLawfulLookup, InsertKeeps, LookupReplies, entries_of, value_of, equal}
+use Rattle.lock_free_hashtable.proofs.Apart.{first_or_other}
 use Rattle.lock_free_hashtable.specs.Again.{LaterIsReflexive, LaterIsTransitive, AnswersLive, FindsAgain}
-
-module _ {X : Type 0} where
-  -- an element of a list is its first or one of the others
-  first_or_other : (x : X) (xs : List X) (v : X) → Contains (x ∷ xs) v → (x ≡ v) ⊎ Contains xs v
-  first_or_other x xs v (zero, within, is) = inl is
-  first_or_other x xs v (suc k, within, is) = inr (k, omega arith, is)
 
 module _ {T : Type 0} (passes : T → Bool) where
   -- how many entries pass

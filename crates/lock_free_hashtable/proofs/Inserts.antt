@@ -1,12 +1,9 @@
 -- A lawful insert keeps the generation lawful, and places or refuses a value only where no entry is the same.
-use Rattle.std.proofs.Common.{◌≡◌, cond, ℕ, ◌<◌, ◌≤◌, Bool, true, false, List, [], ◌∷◌, ◌++◌, Some, length, refl, sym, ap, ◌∙◌, subst, arith, inl, inr}
+use Rattle.std.proofs.Common.{◌≡◌, cond, ℕ, ◌<◌, Bool, false, Some, length, sym, ap, ◌∙◌, subst, inl, inr}
 use Rattle.std.specs.Prelude.{slice_set, Contains}
-use Rattle.std.specs.List.{sum_by}
-use Rattle.std.proofs.lemmas.Bool.{cases_Bool, false≢true}
+use Rattle.std.proofs.lemmas.Bool.{cases_Bool}
 use Rattle.std.proofs.lemmas.List.Sorted.{sum_by-IsPermutation}
-use Rattle.std.proofs.lemmas.List.Sums.{sum_by-append}
-use Rattle.std.proofs.lemmas.List.Elements.{Contains-append_right}
-use Rattle.terms.specs.Laws.{IsLaw, AllApart}
+use Rattle.terms.specs.Laws.{IsLaw}
 use Rattle.terms.specs.Hashes.{bits_of}
 use Rattle.generations.specs.Buckets.{value_at}
 use Rattle.generations.specs.Ways.{IsReached, IsLawfulFor}
@@ -16,27 +13,10 @@ use Rattle.lock_free_hashtable.specs.Held.{IsLawfulInsert, IsNew}
 use Rattle.lock_free_hashtable.specs.Table.{HeldTable, IsLawful, entries, marked}
 use Rattle.cell.specs.declared.bucket.Entry.{Entry}
 use Rattle.generations.proofs.Entries.{values-set, place_of, contains_value, entry_with}
+use Rattle.lock_free_hashtable.proofs.Apart.{apart_more}
 use Rattle.generations.proofs.Laws.{before_vacant, passed_refuses, reached_after, marked_after}
 
 module _ {T U : Type 0} (target : T → U) (same : U → U → Bool) (hash_of : U → ℕ) (law : IsLaw same hash_of) where
-  -- no entry of the list is the same as x
-  unlike_all : (es : List (Entry T)) (x : U) → ((e : Entry T) → Contains es e → same x (target e.value) ≡ false) → sum_by (λ e. cond (same x (target e.value)) 1 0) es ≡ 0
-  unlike_all [] x h = refl
-  unlike_all (e ∷ es) x h = rw (h e (0, omega arith, refl)) (unlike_all es x (λ y k. h y (Contains-append_right (e ∷ []) es y k)))
-
-  not_true : (x y z : U) → same x z ≡ true → same z y ≡ false → same x y ≡ false
-  not_true x y z h k = elim (cases_Bool (same x y)) [
-    | inl t ↦ absurd (false≢true (sym k ∙ law.transitive z x y (law.symmetric x z h) t))
-    | inr f ↦ f
-  ]
-
-  -- one more entry, which is the same as none
-  one_more : (es : List (Entry T)) → AllApart (λ y (e : Entry T). same y (target e.value)) es → (x : U) (w : Entry T) → ((e : Entry T) → Contains es e → same (target w.value) (target e.value) ≡ false) → sum_by (λ e. cond (same x (target e.value)) 1 0) (es ++ w ∷ []) ≤ 1
-  one_more es apart x w h = elim (cases_Bool (same x (target w.value))) [
-    | inl t ↦ rw sum_by-append (rw (unlike_all es x (λ e k. not_true x (target e.value) (target w.value) t (h e k)), t) (omega arith))
-    | inr f ↦ rw sum_by-append (rw f (let a = apart x in omega arith))
-  ]
-
   -- a lawful insert into the table t
   module _ (eq : U → U → Bool → Type 0) (rehash : U → ℕ → Type 0) (t : HeldTable T) (hash : ℕ) (value : T)
       (l : IsLawfulInsert target same hash_of eq rehash (IsLawful target same hash_of t) (entries t) hash value) where
@@ -73,5 +53,5 @@ module _ {T U : Type 0} (target : T → U) (same : U → U → Bool) (hash_of : 
       reached = reached_after target (eq (target value)) t.buckets hash hash_of i (entry_of value hash) fits v l.hash_is l.table_is.reached;
       marked = marked_after target hash_of t.buckets i (entry_of value hash) fits (ap bits_of l.hash_is) l.table_is.marked;
       apart = λ x. rw (sum_by-IsPermutation (λ e. cond (same x (target e.value)) 1 0) _ _ (values-set t.buckets i (entry_of value hash) fits v.vacant))
-          (one_more (marked t) l.table_is.apart x (entry_of value hash) (unlike_at_vacant i v));
+          (apart_more (λ (e : Entry T). target e.value) same hash_of law (marked t) l.table_is.apart (entry_of value hash) (unlike_at_vacant i v) x);
     }

@@ -4,10 +4,16 @@ pub mod Kept
 pub mod Tries
 pub mod Grown
 pub mod Lookups
+pub mod Apart
 pub mod Inserts
 pub mod Placed
 pub mod Placing
+pub mod Answered
 pub mod Lists
 pub mod Found
 pub mod Walks
 pub mod Again
+pub mod Settled
+pub mod Runs
+pub mod Replies
+pub mod Shards

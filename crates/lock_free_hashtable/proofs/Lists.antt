@@ -1,30 +1,29 @@
 -- What an insert leaves, in the words of its contract and of the list object.
-use Rattle.std.proofs.Common.{◌≡◌, ℕ, Bool, true, List, [], ◌∷◌, ◌++◌, Option, Some, None, Result, Ok, Err, refl, sym, ap}
-use Rattle.std.specs.Prelude.{Contains, option_map}
+use Rattle.std.proofs.Common.{◌≡◌, ℕ, Bool, List, [], ◌∷◌, ◌++◌, Option, Some, None, Result, Ok, Err, refl, ap}
+use Rattle.std.specs.Prelude.{option_map}
 use Rattle.std.specs.List.Sorted.{IsPermutation}
 use Rattle.std.proofs.lemmas.List.{map-append}
-use Rattle.std.proofs.lemmas.List.Sorted.{IsPermutation-sym, IsPermutation-trans, IsPermutation-append_left, IsPermutation-map, Contains-permutation}
-use Rattle.std.proofs.lemmas.List.Elements.{Contains-append_left}
-use Rattle.terms.specs.ListObject.{Placed, Found, Refused}
+use Rattle.std.proofs.lemmas.List.Sorted.{IsPermutation-map}
 use Rattle.generations.specs.Growth.{entry_of}
 use Rattle.lock_free_hashtable.specs.Growth.{KeepsPlaces}
-use Rattle.lock_free_hashtable.specs.Held.{InsertKeeps, InsertMarks, InsertAnswers, PlacesAsList, Inserted}
+use Rattle.lock_free_hashtable.specs.Held.{InsertKeeps, InsertMarks, Inserted}
 use Rattle.generations.specs.Buckets.{values_of}
-use Rattle.lock_free_hashtable.specs.Table.{HeldTable, IsLater, IsCounted, IsLawful, entries, entry_at, marked_at, marked}
+use Rattle.lock_free_hashtable.specs.Table.{HeldTable, IsLater, IsCounted, held, entries, entry_at, marked_at, marked}
 use Rattle.cell.specs.declared.bucket.Entry.{Entry}
 use Rattle.lock_free_hashtable.specs.declared.place.Place.{Place}
 use Rattle.generations.proofs.Entries.{contains_value}
+use Rattle.lock_free_hashtable.proofs.Answered.{stays, places_as_list}
 use Rattle.lock_free_hashtable.proofs.Placed.{Keeps, Places}
 
 module _ {T : Type 0} where
-  values_kept : (es fs : List (Entry T)) → IsPermutation es fs → IsPermutation (values_of es) (values_of fs)
+  pub values_kept : (es fs : List (Entry T)) → IsPermutation es fs → IsPermutation (values_of es) (values_of fs)
   values_kept es fs kept = IsPermutation-map (λ e. e.value) es fs kept
 
-  values_more : (es fs : List (Entry T)) (e : Entry T) → IsPermutation (es ++ e ∷ []) fs → IsPermutation (values_of es ++ e.value ∷ []) (values_of fs)
+  pub values_more : (es fs : List (Entry T)) (e : Entry T) → IsPermutation (es ++ e ∷ []) fs → IsPermutation (values_of es ++ e.value ∷ []) (values_of fs)
   values_more es fs e kept = rw (map-append (λ e. e.value) es (e ∷ [])) at (values_kept (es ++ e ∷ []) fs kept)
 
   -- the entry at a place, where it is known with its bits
-  home_with : (o : Option (Entry T)) (v : T) → option_map (λ e. e.value) o ≡ Some v → (e : Entry T) × (o ≡ Some e) × (e.value ≡ v)
+  pub home_with : (o : Option (Entry T)) (v : T) → option_map (λ e. e.value) o ≡ Some v → (e : Entry T) × (o ≡ Some e) × (e.value ≡ v)
   home_with None v h = absurd (cc)
   home_with (Some e) v h = (e, refl, cc)
 
@@ -41,42 +40,12 @@ module _ {T U : Type 0} (target : T → U) where
         (back_is, (e.value, rw lives refl, contains_value (marked old) e among, accepted), values_kept (marked old) (marked new) kept)
     keeps_as (Err back) k = (k.0, values_kept (marked old) (marked new) k.1)
 
-    -- each entry stays one
-    stays : (r : Result (Place × Option T) T) → InsertKeeps target accepts (entry_at new) (entries old) value r (entries new) → (v : T) → Contains (entries old) v → Contains (entries new) v
-    stays (Ok (p, None)) k v h = Contains-permutation (entries old ++ value ∷ []) (entries new) v k.1 (Contains-append_left (entries old) (value ∷ []) v h)
-    stays (Ok (p, Some back)) k v h = Contains-permutation (entries old) (entries new) v k.2 h
-    stays (Err back) k v h = Contains-permutation (entries old) (entries new) v k.1 h
-
     later_as : (r : Result (Place × Option T) T) → Keeps target accepts old hash value r new → KeepsPlaces old new → IsLater old new
     later_as r k kept p v at =
         let x = home_with (marked_at old p) v at.lives in
-        record { lives = rw (kept p x.0 x.1) (ap Some x.2); among = stays r (keeps_as r k) v at.among }
+        record { lives = rw (kept p x.0 x.1) (ap Some x.2); among = stays target accepts (entry_at new) (entries old) value (entries new) r (keeps_as r k) v at.among }
 
   module _ (same : U → U → Bool) (hash_of : U → ℕ) (eq : U → U → Bool → Type 0) (rehash : U → ℕ → Type 0) (old : HeldTable T) (hash : ℕ) (value : T) (new : HeldTable T) where
-    list_as : (r : Result (Place × Option T) T) → Keeps target (eq (target value)) old hash value r new → InsertKeeps target (eq (target value)) (entry_at new) (entries old) value r (entries new) → (IsCounted old → IsCounted new)
-        → InsertAnswers target same hash_of eq rehash (IsLawful target same hash_of old) (entries old) hash value r (IsLawful target same hash_of new) → PlacesAsList target same hash_of eq rehash old hash value r new
-    list_as (Ok (p, None)) k i counted lawful l M s = (
-      Placed value,
-      M ++ value ∷ [],
-      rw k.0 refl,
-      ((λ v h. (lawful l).1 v (Contains-permutation M (entries old) v (IsPermutation-sym (entries old) M s.permuted) h)), refl, refl),
-      record { counted = counted s.counted; permuted = IsPermutation-trans _ _ _ (IsPermutation-sym (entries old ++ value ∷ []) (entries new) i.1) (IsPermutation-append_left (value ∷ []) (entries old) M s.permuted) },
-    )
-    list_as (Ok (p, Some back)) (back_is, (e, lives, among, accepted), kept) i counted lawful l M s = (
-      Found e.value back,
-      M,
-      rw lives refl,
-      ((Contains-permutation (entries old) M e.value s.permuted (contains_value (marked old) e among), sym (l.eq_is e.value true (contains_value (marked old) e among) accepted)), back_is, refl),
-      record { counted = counted s.counted; permuted = IsPermutation-trans _ _ _ (IsPermutation-sym (entries old) (entries new) i.2) s.permuted },
-    )
-    list_as (Err back) k i counted lawful l M s = (
-      Refused back,
-      M,
-      refl,
-      ((λ v h. (lawful l).1 v (Contains-permutation M (entries old) v (IsPermutation-sym (entries old) M s.permuted) h)), k.0, refl),
-      record { counted = counted s.counted; permuted = IsPermutation-trans _ _ _ (IsPermutation-sym (entries old) (entries new) i.1) s.permuted },
-    )
-
     -- all that an insert says
     pub inserted : (r : Result (Place × Option T) T) → IsCounted old → Places target same hash_of eq rehash old hash value r new → Inserted target same hash_of eq rehash old hash value r new
     inserted r counted s =
@@ -88,7 +57,7 @@ module _ {T U : Type 0} (target : T → U) where
             later = later_as (eq (target value)) old hash value new r s.keeps s.places;
             counted = s.counted counted;
             lawful = s.lawful;
-            as_list = list_as r s.keeps keeps s.counted s.lawful;
+            as_list = places_as_list target same hash_of held eq rehash old hash value new r keeps (s.counted counted) s.lawful;
           };
           first_capacity = s.first_capacity;
         }

@@ -1,8 +1,6 @@
 -- A look-up shows an entry that its test accepted, and one that finds nothing has met every entry that it accepts.
-use Rattle.std.proofs.Common.{◌≡◌, ℕ, ◌<◌, Bool, true, [], Some, None, length, refl, sym, ap, ◌∙◌, subst, arith, inl, inr}
+use Rattle.std.proofs.Common.{◌≡◌, ℕ, ◌<◌, Bool, [], Some, length, refl, ap, ◌∙◌, subst, arith, inl, inr}
 use Rattle.std.proofs.lemmas.Bool.{cases_Bool}
-use Rattle.std.proofs.lemmas.List.Sorted.{IsPermutation-sym, Contains-permutation}
-use Rattle.terms.specs.ListObject.{Shown, Absent}
 use Rattle.terms.specs.Hashes.{bits_of}
 use Rattle.generations.specs.Buckets.{value_at}
 use Rattle.generations.specs.Ways.{IsReached}
@@ -10,7 +8,7 @@ use Rattle.generations.specs.Probe.{IsPassed, IsAccepted, IsVacant, ProbeGives}
 use Rattle.generations.specs.declared.fixed.ProbeEnd.{ProbeEnd}
 use Rattle.generations.specs.declared.fixed.ProbeEnd.TheVariants.{Accepted, Vacant, Full}
 use Rattle.std.specs.Borrow.{Bor}
-use Rattle.lock_free_hashtable.specs.Held.{FindsOne, FindsNone, LooksUpAsList}
+use Rattle.lock_free_hashtable.specs.Held.{FindsOne, FindsNone}
 use Rattle.lock_free_hashtable.specs.Table.{HeldTable, IsLawful, entries, marked}
 use Rattle.cell.specs.declared.bucket.Entry.{Entry}
 use Rattle.generations.proofs.Entries.{Contains-values, place_of, some_same, contains_value, entry_with}
@@ -48,17 +46,6 @@ module _ {T U : Type 0} (target : T → U) (same : U → U → Bool) (hash_of : 
     shown_is = is;
     accepted = (let one : a.accepted.entry ≡ e = some_same _ _ _ a.accepted.held at in rw one at a.accepted.accepted);
   }
-
-  -- the answers in the words of the list object
-  pub found_as_list : (shown : U) → FindsOne target answers (entries t) shown → LooksUpAsList target same hash_of answers t hash (Some shown)
-  found_as_list shown f p l M s = (
-    Shown f.entry,
-    (f.entry, f.shown_is, refl),
-    ((Contains-permutation (entries t) M f.entry s.permuted f.among, sym (l.test_is f.entry true f.among f.accepted)), refl),
-  )
-
-  pub none_as_list : none_found → LooksUpAsList target same hash_of answers t hash None
-  none_as_list f p l M s = (Absent, refl, ((λ v h. f p l v (Contains-permutation M (entries t) v (IsPermutation-sym (entries t) M s.permuted) h)), refl))
 
   -- a probe that accepts nothing finds none
   pub none_unless_accepted : (s : ProbeEnd T) → ProbeGives target answers t.buckets hash s → ((i : ℕ) (e : Bor (Entry T)) → s ≡ Accepted i e → ⊥) → none_found

@@ -6,3 +6,7 @@ pub mod Growth
 pub mod Held
 pub mod Walks
 pub mod Again
+pub mod Calls
+pub mod Runs
+pub mod Settled
+pub mod Shards

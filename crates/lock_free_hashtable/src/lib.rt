@@ -5,8 +5,10 @@
 //! names a bucket that shows an entry, and stays good over growth.
 #![tactic(auto)]
 
+pub mod alone;
 pub mod place;
 pub mod raw;
+pub mod sharded;
 
 pub use generations::atomic_value;
 pub use generations::atomic_value::{AtomicValue, Law};

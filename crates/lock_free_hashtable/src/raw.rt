@@ -7,6 +7,7 @@ ghost use Rattle.terms.specs.Capacities.{IsFirstCapacity};
 ghost use Rattle.lock_free_hashtable.specs.Capacity.{IsDoubled};
 ghost use Rattle.lock_free_hashtable.specs.Table.{contents_in, shown_rows, AreOfHome};
 
+mod alone;
 mod into_iter;
 mod iter;
 pub mod laws;
@@ -78,7 +79,7 @@ fn generation_at<'a, T: AtomicValue, A: Allocator + Copy>(
 impl<T: AtomicValue, A: Allocator + Copy> HeldRawTable<T, A> {
     ghost use Rattle.lock_free_hashtable.specs.Table.{HeldTable, empty_table, entries, marked, capacity, all_buckets};
     ghost use Rattle.lock_free_hashtable.specs.Table.{entry_at, IsLater, IsCounted, IsLawful, IsLawfulForAll, Stands, CountsAsList};
-    ghost use Rattle.lock_free_hashtable.specs.Growth.{IsOpened, IsGrown, GrowsIfWanted, TriesToPlace, PlacesOrGrows};
+    ghost use Rattle.lock_free_hashtable.specs.Growth.{IsOpened, IsGrown, GrowsIfWanted, KeepsPlaces, TriesToPlace, PlacesOrGrows};
     ghost use Rattle.lock_free_hashtable.specs.Held.{InsertKeeps, InsertMarks, InsertAnswers, PlacesAsList, InsertShows};
     ghost use Rattle.lock_free_hashtable.specs.Held.{ShowsAt, FindsOne, FindsNone, LooksUpAsList};
 
@@ -107,6 +108,13 @@ impl<T: AtomicValue, A: Allocator + Copy> HeldRawTable<T, A> {
             current,
             alloc,
         }
+    }
+
+    /// The empty table with this one's allocator and first capacity. It takes no memory.
+    pub(crate) fn new_like(&self) -> Self
+        ensures { result ≡ empty_table self.now.first_capacity }
+    {
+        HeldRawTable::with_first_capacity(self.alloc, self.first_capacity)
     }
 
     /// The number of entries.
@@ -264,6 +272,7 @@ impl<T: AtomicValue, A: Allocator + Copy> HeldRawTable<T, A> {
             (entries self.old) value result (entries self.new) }
         ensures marks { InsertMarks (marked self.old) hash value result (marked self.new) }
         ensures later { IsLater self.old self.new }
+        ensures places { KeepsPlaces self.old self.new }
         ensures first { self.new.first_capacity ≡ self.old.first_capacity }
         ensures counted { IsCounted self.new }
 

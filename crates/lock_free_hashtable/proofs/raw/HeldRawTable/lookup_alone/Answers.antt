@@ -1,14 +1,16 @@
 use Rattle.std.proofs.Common.{rules, ◌≡◌, []}
 use Rattle.std.specs.Fn.{FnReturnsAt}
 use Rattle.generations.specs.Probe.{ProbeGives}
-use Rattle.lock_free_hashtable.proofs.Lookups.{none_if_empty, none_unless_accepted, found_one, found_as_list, none_as_list}
+use Rattle.lock_free_hashtable.proofs.Lookups.{none_if_empty, none_unless_accepted, found_one}
+use Rattle.lock_free_hashtable.proofs.Answered.{found_as_list, none_as_list}
+use Rattle.lock_free_hashtable.specs.Table.{held}
 use Rattle.lock_free_hashtable.proofs.Kept.{shows_nothing}
 use Rattle.lock_free_hashtable.proofs.raw.HeldRawTable.lookup_alone.Goals as goal
 
 pub returns-then-capacity-eq0-clause-as_list : goal.returns-then-capacity-eq0-clause-as_list
 returns-then-capacity-eq0-clause-as_list g c =
     let none : c.args.self.now.buckets ≡ [] = rw (← c.self.view_is) (shows_nothing c.self.inside.current.contents (search rules)) in
-    none_as_list g.T.AtomicValue.target g.L.Law.same g.L.Law.hash_of (FnReturnsAt g.F.Fn c.args.test) c.args.self.now c.args.hash
+    none_as_list g.T.AtomicValue.target g.L.Law.same g.L.Law.hash_of held (FnReturnsAt g.F.Fn c.args.test) c.args.self.now c.args.hash
     (none_if_empty g.T.AtomicValue.target g.L.Law.same g.L.Law.hash_of (FnReturnsAt g.F.Fn c.args.test) c.args.self.now c.args.hash none)
 
 pub returns-in-Accepted-clause-accepted : goal.returns-in-Accepted-clause-accepted
@@ -19,10 +21,10 @@ returns-in-Accepted-clause-accepted g c =
 
 pub returns-in-Accepted-clause-as_list : goal.returns-in-Accepted-clause-as_list
 returns-in-Accepted-clause-as_list g c =
-    found_as_list g.T.AtomicValue.target g.L.Law.same g.L.Law.hash_of (FnReturnsAt g.F.Fn c.args.test) c.args.self.now c.args.hash c.deref.result.now (returns-in-Accepted-clause-accepted g c)
+    found_as_list g.T.AtomicValue.target g.L.Law.same g.L.Law.hash_of held (FnReturnsAt g.F.Fn c.args.test) c.args.self.now c.args.hash c.deref.result.now (returns-in-Accepted-clause-accepted g c)
 
 pub returns : goal.returns
 returns g c =
     let gives : ProbeGives g.T.AtomicValue.target (FnReturnsAt g.F.Fn c.args.test) c.args.self.now.buckets c.args.hash c.probe.result = rw (← c.self.view_is) c.probe.ensures in
     let none = none_unless_accepted g.T.AtomicValue.target g.L.Law.same g.L.Law.hash_of (FnReturnsAt g.F.Fn c.args.test) c.args.self.now c.args.hash c.probe.result gives c.in_default.not-Accepted in
-    record { accepted = tt; none = none; as_list = none_as_list g.T.AtomicValue.target g.L.Law.same g.L.Law.hash_of (FnReturnsAt g.F.Fn c.args.test) c.args.self.now c.args.hash none }
+    record { accepted = tt; none = none; as_list = none_as_list g.T.AtomicValue.target g.L.Law.same g.L.Law.hash_of held (FnReturnsAt g.F.Fn c.args.test) c.args.self.now c.args.hash none }

@@ -1,4 +1,4 @@
-use Rattle.std.proofs.Common.{◌≡◌, ◌∙◌, ap, sym}
+use Rattle.std.proofs.Common.{◌∙◌, ap}
 use Rattle.lock_free_hashtable.proofs.Walks.{shown_as_shared}
 use Rattle.lock_free_hashtable.proofs.raw.HeldRawTable.share.Goals as goal
 

@@ -1,0 +1,21 @@
+use Rattle.std.proofs.Common.{◌≡◌, ◌≤◌, length}
+use Rattle.std.specs.Fn.{FnReturnsAt, FnReturnsAtPair}
+use Rattle.std.specs.Vec.{vec_len, vec_capacity}
+use Rattle.lock_free_hashtable.specs.Calls.{FnReturnsAtTwo}
+use Rattle.lock_free_hashtable.specs.Runs.{RunKeeps, RunAnswers}
+use Rattle.lock_free_hashtable.specs.Shown.{entries_of}
+use Rattle.lock_free_hashtable.proofs.alone.run_calls.Given as goal
+
+-- what holds after each call: of the calls so far, and of the room that is left
+pub record IsUnderWay (A B C D : Type 0) : Type 0 where
+  pub keeps : A
+  pub answers : B
+  pub long : C
+  pub room : D
+
+abbrev pub invariant-loop-call : goal.invariant-loop-call
+invariant-loop-call g l =
+    IsUnderWay (RunKeeps (entries_of g.B.AloneTable.shows l.fn.table) l.yielded l.replies.items (entries_of g.B.AloneTable.shows l.table))
+    (RunAnswers g.T.AtomicValue.target g.L.Law.same g.L.Law.hash_of g.B.AloneTable.shows (FnReturnsAtPair g.E.Fn l.eq) (FnReturnsAt g.H.Fn l.hash_fn) (FnReturnsAtTwo g.P.Fn l.test) l.fn.table l.yielded l.replies.items l.table)
+    (vec_len l.replies ≡ length l.yielded)
+    (length l.fn.calls.items ≤ vec_capacity l.replies)

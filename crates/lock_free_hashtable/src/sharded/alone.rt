@@ -1,0 +1,37 @@
+//! A table over shards is a table held alone.
+
+use crate::alone::AloneTable;
+use crate::sharded::{HeldShardedTable, ShardPlace};
+use generations::atomic_value::{AtomicValue, Law};
+use std::alloc::Allocator;
+
+impl<T: AtomicValue, const SHARDS: usize, A: Allocator + Copy, L: Law<T::Target>> AloneTable<T, L>
+    for HeldShardedTable<T, SHARDS, A> {
+    ghost use Rattle.lock_free_hashtable.specs.Shards.{sharded};
+
+    type Place = ShardPlace;
+
+    ghost shows = { sharded };
+
+    fn place_alone<E: Fn(&T::Target, &T::Target) -> bool, H: Fn(&T::Target) -> u64>(
+        &mut self,
+        hash: u64,
+        value: T,
+        eq: &E,
+        hash_fn: &H,
+    ) -> Result<(ShardPlace, Option<T>), T> {
+        self.place_alone::<L, E, H>(hash, value, eq, hash_fn)
+    }
+
+    fn target_at(&self, place: ShardPlace) -> &T::Target {
+        self.target_at(place)
+    }
+
+    fn lookup_alone<F: Fn(&T::Target) -> bool>(&self, hash: u64, test: F) -> Option<&T::Target> {
+        self.lookup_alone::<L, F>(hash, test)
+    }
+
+    fn len_alone(&self) -> usize {
+        self.len_alone()
+    }
+}
