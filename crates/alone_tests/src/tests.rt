@@ -1,0 +1,4 @@
+//! Tables held alone, run.
+mod refusals;
+mod runs;
+mod shards;
