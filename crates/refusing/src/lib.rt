@@ -1,9 +1,15 @@
-//! An allocator for tests, which refuses the requests that a rule names, and counts the blocks that it grants and gets back.
+//! An allocator for tests, which refuses the requests that a rule names, lets some of them wait for one another, and counts the
+//! blocks that it grants and gets back.
 #![tactic(auto)]
 
 ghost use Rattle.std.specs.Prelude.{◌≡◌, ◌↔◌, IsTrue};
 ghost use Rattle.refusing.specs.Rules.{least_counted, most_counted, Counts, memory_of, rule_of};
 
+mod lot;
+mod pairs;
+
+use crate::lot::Lot;
+use crate::pairs::Pairs;
 use cell::Low;
 use std::alloc::{AllocError, Allocator};
 use std::sync::atomic::{AtomicU64, Ordering};
@@ -14,6 +20,8 @@ pub struct Rule {
     most: usize,
     passing: AtomicU64,
     refused: AtomicU64,
+    lot: Lot,
+    pairs: Pairs,
     granted: AtomicU64,
     given_back: AtomicU64,
 }
@@ -30,9 +38,31 @@ impl Rule {
             most,
             passing: AtomicU64::new(passing),
             refused: AtomicU64::new(refused),
+            lot: Lot::new(0, 1),
+            pairs: Pairs::new(0),
             granted: AtomicU64::new(0),
             given_back: AtomicU64::new(0),
         }
+    }
+
+    /// The same rule, by which a request that would be refused is granted unless a lot falls on it: one in `one_in`, drawn
+    /// from the seed.
+    pub fn drawn(mut self, seed: u64, one_in: u64) -> Rule
+        ensures least { least_counted result ≡ least_counted self }
+        ensures most { most_counted result ≡ most_counted self }
+    {
+        self.lot = Lot::new(seed, one_in);
+        self
+    }
+
+    /// The same rule, by which the first counted requests that are granted wait in pairs: the first of a pair is answered
+    /// once the second has come, or once it was looked for 2^32 times.
+    pub fn paired(mut self, pairs: u64) -> Rule
+        ensures least { least_counted result ≡ least_counted self }
+        ensures most { most_counted result ≡ most_counted self }
+    {
+        self.pairs = Pairs::new(pairs);
+        self
     }
 
     /// Whether requests of this size are counted.
@@ -43,13 +73,18 @@ impl Rule {
     }
 }
 
-/// Whether the rule refuses a request of this size, which it then counts. A request that it doesn't refuse is granted.
+/// Whether the rule refuses a request of this size. A request that it doesn't refuse is granted, once the other of its pair
+/// has come.
 fn refuses(rule: &Rule, size: usize) -> bool {
-    let passes = !rule.counts(size) || take_one(&rule.passing) || !take_one(&rule.refused);
-    if passes {
-        add_one(&rule.granted);
+    let counts = rule.counts(size);
+    if counts && !take_one(&rule.passing) && rule.lot.falls() && take_one(&rule.refused) {
+        return true;
     }
-    !passes
+    if counts {
+        rule.pairs.meet();
+    }
+    add_one(&rule.granted);
+    false
 }
 
 /// Counts a block that is given back.
@@ -98,6 +133,11 @@ impl<B: Allocator> Refusing<B> {
         self.rule.refused.load(Ordering::SeqCst)
     }
 
+    /// How many requests were to meet another one and went on alone.
+    pub fn went_alone(&self) -> u64 {
+        self.rule.pairs.alone()
+    }
+
     /// How many requests were passed on to the memory below: so many blocks were granted, where that refused none.
     pub fn granted(&self) -> u64 {
         self.rule.granted.load(Ordering::SeqCst)
@@ -118,6 +158,8 @@ impl<B: Allocator> Drop for Refusing<B> {
                 most: _,
                 passing: _,
                 refused: _,
+                lot: _,
+                pairs: _,
                 granted: _,
                 given_back: _,
             },
