@@ -114,18 +114,6 @@ fn assert_told(
         steps,
     )?;
     assert_eq!(rt; four.as_slice(), expected);
-    let eight = run(
-        alloc,
-        &mut HeldShardedTable::<Box<u64>, 8>::new(alloc),
-        steps,
-    )?;
-    assert_eq!(rt; eight.as_slice(), expected);
-    let sixteen = run(
-        alloc,
-        &mut HeldShardedTable::<Box<u64>, 16>::new(alloc),
-        steps,
-    )?;
-    assert_eq!(rt; sixteen.as_slice(), expected);
     Ok(())
 }
 
