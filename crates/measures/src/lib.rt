@@ -6,4 +6,5 @@ mod numbers;
 pub mod report;
 pub mod schedules;
 pub mod seats;
+pub mod shared;
 pub mod texts;
