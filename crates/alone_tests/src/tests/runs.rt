@@ -108,12 +108,6 @@ fn assert_told(
         steps,
     )?;
     assert_eq!(rt; two.as_slice(), expected);
-    let four = run(
-        alloc,
-        &mut HeldShardedTable::<Box<u64>, 4>::new(alloc),
-        steps,
-    )?;
-    assert_eq!(rt; four.as_slice(), expected);
     Ok(())
 }
 
