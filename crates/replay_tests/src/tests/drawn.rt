@@ -1,4 +1,4 @@
-//! Schedules that are drawn. The program `replays` runs more of them.
+//! Schedules that are drawn.
 use crate::drawn::first_fault;
 
 /// How many schedules are drawn.
