@@ -42,7 +42,9 @@ fn main(rt: HostRuntime) -> io::Result<()> {
             check_schedules(&rt)?;
             check_interner(&rt)
         }
-        [word] if word.as_str() == "list" => println!(rt; "{HELD}\n{SHARED}\n{SEATS}\n{CORE}\n{INTERNER}"),
+        [word] if word.as_str() == "list" => println!(rt;
+            "{HELD}\n{SHARED}\n{SEATS}\n{CORE}\n{INTERNER}"
+        ),
         [name, group] if name.as_str() == HELD => {
             measure_held(&rt, &Report { name: HELD }, group.as_str())
         }

@@ -5,13 +5,12 @@ use crate::numbers::{COUNT, spread, total, turn};
 use crate::report::{Report, refuse_words};
 use shared_table::LockFreeRawTable;
 use std::alloc::{AllocError, Global};
-use std::io;
 use std::num::nearest_u64_to_f64;
 use std::rt::{Clock, Files};
 use std::sync::Wait;
-use std::thread;
 use std::thread::Threads;
 use std::time::Instant;
+use std::{io, thread};
 use terms::law::hash_number;
 
 /// How often each thread inserts the same keys.
@@ -193,7 +192,14 @@ fn time_same<R: Print + Clock + Threads + Wait + Sync + AllocGlobal>(
         &|_worker: usize| insert_same(rt, set),
     )?;
     let operations = (ROUNDS * SAME).wrapping_mul(threads);
-    report.time(rt, name.as_str(), start, total(placed.as_slice()), SAME, operations)
+    report.time(
+        rt,
+        name.as_str(),
+        start,
+        total(placed.as_slice()),
+        SAME,
+        operations,
+    )
 }
 
 /// So many threads insert a part of the spread keys each.
