@@ -4,6 +4,7 @@
     tools/speed.py run ROUNDS PROGRAM..     runs each program's tables in turns, and writes docs/speed/raw.txt
     tools/speed.py show held BASE           prints the tables held alone in docs/speed/raw.txt, and draws
                                             docs/speed/ratios.svg, with ratios to the table BASE, as plain-rust
+    tools/speed.py show shared BASE         prints the tables that threads share
     tools/speed.py show seats BASE          prints the number tables that threads share, as plain-atomics
     tools/speed.py show core core           prints the machine of all schedules
     tools/speed.py show interner BASE       prints the interners, as plain-interner
@@ -20,13 +21,18 @@ import sys
 HERE = os.path.join(os.path.dirname(os.path.abspath(__file__)), "..", "docs", "speed")
 RAW = os.path.join(HERE, "raw.txt")
 PLOT = os.path.join(HERE, "ratios.svg")
+# Tables that threads share.
+SHARED = ["shared"]
 # Number tables that threads share. Every other table is held alone, but for the machine of all schedules, `core`.
 SEATED = ["seats", "plain-atomics"]
 # Interners of texts.
 INTERNERS = ["interner", "plain-interner"]
-GROUPS = {"held": ["one", "seq"], "seats": ["one", "seq", "same", "ins"], "core": ["one"], "interner": ["1e4", "1e5", "1e6"]}
+GROUPS = {"held": ["one", "seq"], "shared": ["one", "seq", "same", "ins", "hit"],
+          "seats": ["one", "seq", "same", "ins"], "core": ["one"], "interner": ["1e4", "1e5", "1e6"]}
 MEASUREMENTS = {
     "held": ["a_ins1", "b_hit1", "c_miss1", "seq_ins1", "seq_hit1", "g_rss"],
+    "shared": ["a_ins1", "b_hit1", "c_miss1", "d_same1", "d_same2", "d_same3", "d_same4", "e_ins1", "e_ins2", "e_ins3", "e_ins4",
+               "f_hit1", "f_hit2", "f_hit3", "f_hit4", "seq_ins1", "seq_hit1", "g_rss"],
     "seats": ["a_ins1", "b_hit1", "c_miss1", "d_same4", "e_ins4", "f_hit4", "seq_ins1", "seq_hit1"],
     "core": ["event"],
     "interner": ["new_1e4", "known_1e4", "back_1e4", "new_1e5", "known_1e5", "back_1e5", "new_1e6", "known_1e6", "back_1e6"],
@@ -38,6 +44,8 @@ def kind_of(name):
         return "core"
     if name in INTERNERS:
         return "interner"
+    if name in SHARED:
+        return "shared"
     return "seats" if name in SEATED else "held"
 
 

@@ -2,9 +2,12 @@
 //!
 //!     bench list          the names of what is measured
 //!     bench held GROUP    the table held alone: runs a group of measurements once, in a fresh process: one or seq
+//!     bench shared GROUP [THREADS]    the table that threads share: one or seq, and same, ins or hit with that many
+//!                         threads, of four at most, or with one to four in turn
 //!     bench seats GROUP   the number table of seated threads: one, seq, same or ins
 //!     bench core one      the machine of all schedules
 //!     bench interner N    the interner with 1e4, 1e5 or 1e6 texts
+//!     bench stress MINUTES SEED       no measurement: rounds of threads on shared tables, each of which is accounted for
 //!     bench               a small check, without a clock
 //!
 //! Each line is the name, the measurement and nanoseconds of wall time an operation (`g_rss`: resident bytes an entry).
@@ -15,11 +18,15 @@ use measures::held::{check_held, measure_held};
 use measures::report::{Report, refuse_words};
 use measures::schedules::{check_schedules, measure_schedules};
 use measures::seats::{check_seats, measure_seats};
+use measures::shared::{check_shared, measure_shared};
+use measures::stress::run_stress;
 use measures::texts::{check_interner, measure_interner};
 use std::convert::AsStr;
 use std::{env, io};
 
 const HELD: &str = "held";
+
+const SHARED: &str = "shared";
 
 const SEATS: &str = "seats";
 
@@ -27,18 +34,31 @@ const CORE: &str = "core";
 
 const INTERNER: &str = "interner";
 
+const STRESS: &str = "stress";
+
 fn main(rt: HostRuntime) -> io::Result<()> {
     let words: Vec<String> = env::args(&rt)?.skip(1).collect(rt.alloc())?;
     match words.as_slice() {
         [] => {
             check_held(&rt)?;
+            check_shared(&rt)?;
             check_seats(&rt)?;
             check_schedules(&rt)?;
             check_interner(&rt)
         }
-        [word] if word.as_str() == "list" => println!(rt; "{HELD}\n{SEATS}\n{CORE}\n{INTERNER}"),
+        [word] if word.as_str() == "list" => println!(rt; "{HELD}\n{SHARED}\n{SEATS}\n{CORE}\n{INTERNER}"),
         [name, group] if name.as_str() == HELD => {
             measure_held(&rt, &Report { name: HELD }, group.as_str())
+        }
+        [name, group] if name.as_str() == SHARED => {
+            measure_shared(&rt, &Report { name: SHARED }, group.as_str(), None)
+        }
+        [name, group, threads] if name.as_str() == SHARED => {
+            let threads = Some(threads.as_str());
+            measure_shared(&rt, &Report { name: SHARED }, group.as_str(), threads)
+        }
+        [name, minutes, seed] if name.as_str() == STRESS => {
+            run_stress(&rt, minutes.as_str(), seed.as_str())
         }
         [name, group] if name.as_str() == SEATS => {
             measure_seats(&rt, &Report { name: SEATS }, group.as_str())

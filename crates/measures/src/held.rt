@@ -132,7 +132,7 @@ fn count_in_order<A: Allocator + Copy>(set: &NumberSet<A>) -> u64
 }
 
 /// The resident bytes of this process, as Linux counts them.
-fn resident_bytes<R: Files + AllocGlobal>(rt: &R) -> io::Result<u64> {
+pub(crate) fn resident_bytes<R: Files + AllocGlobal>(rt: &R) -> io::Result<u64> {
     let text = fs::read_to_string(rt, "/proc/self/statm")?;
     let pages = match text.split_whitespace().nth(1) {
         Some(pages) => pages.parse::<u64>().unwrap_or(0),

@@ -32,6 +32,11 @@ pub fn turn(index: u64) -> u64
     (index * STRIDE + START) % COUNT
 }
 
+/// The sum of what threads counted.
+pub fn total(counts: &[u64]) -> u64 {
+    counts.iter().fold(0, |sum, &count| sum.wrapping_add(count))
+}
+
 /// A set of boxed numbers.
 #[derive(Drop)]
 pub struct NumberSet<A: Allocator + Copy> {

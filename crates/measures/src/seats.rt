@@ -3,7 +3,7 @@ ghost use Rattle.std.specs.Prelude.{◌≡◌, ◌+◌, ◌*◌, ◌++◌, [], �
 ghost use Rattle.seated.specs.Tables.{IsSeatOf};
 ghost use Rattle.seated.specs.Numbers.{known_pairs, own_numbers, Knows};
 
-use crate::numbers::{COUNT, START, STRIDE, spread, turn};
+use crate::numbers::{COUNT, START, STRIDE, spread, total, turn};
 use crate::report::{Report, refuse_words};
 use seated::{NumberAnswer, NumberTable, Seat};
 use std::alloc::{AllocError, Allocator, Global};
@@ -217,10 +217,6 @@ fn parts_for(
         parts.push(Part { worker, seat: own })?;
     }
     Ok(parts)
-}
-
-fn total(counts: &[u64]) -> u64 {
-    counts.iter().fold(0, |sum, &count| sum.wrapping_add(count))
 }
 
 /// How many of so many spread keys, from this one on, were placed.

@@ -1,6 +1,14 @@
 //! The table that threads share, run.
 mod alone;
+mod careless;
+mod countings;
+mod ends;
+mod fates;
+mod growth;
+mod lost;
 mod numbers;
 mod racing;
 mod refusals;
+mod rounds;
 mod share;
+mod values;

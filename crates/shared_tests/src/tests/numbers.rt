@@ -2,7 +2,7 @@
 use cell::Low;
 use generations::atomic_value::AtomicValue;
 use shared_table::LockFreeRawTable;
-use std::alloc::{Allocator, Global};
+use std::alloc::{AllocError, Allocator, Global};
 use std::process::Abort;
 use std::sync::Wait;
 use terms::law::hash_number;
@@ -21,6 +21,69 @@ pub(crate) enum Told {
     Refused,
     /// Another number was shown, or came back.
     Wrong,
+}
+
+/// How many inserts were told what.
+#[derive(Clone, Copy, Debug, PartialEq, Eq)]
+pub(crate) struct Tally {
+    pub placed: u64,
+    pub found: u64,
+    pub other: u64,
+}
+
+impl Tally {
+    pub(crate) const NONE: Tally = Tally {
+        placed: 0,
+        found: 0,
+        other: 0,
+    };
+
+    /// With one insert more.
+    pub(crate) fn with(self, told: Told) -> Tally {
+        let Tally {
+            placed,
+            found,
+            other,
+        } = self;
+        match told {
+            Told::Placed => Tally {
+                placed: placed.wrapping_add(1),
+                found,
+                other,
+            },
+            Told::Found => Tally {
+                placed,
+                found: found.wrapping_add(1),
+                other,
+            },
+            Told::Refused | Told::Wrong => Tally {
+                placed,
+                found,
+                other: other.wrapping_add(1),
+            },
+        }
+    }
+
+    /// With those of another thread.
+    pub(crate) fn and(self, more: Tally) -> Tally {
+        Tally {
+            placed: self.placed.wrapping_add(more.placed),
+            found: self.found.wrapping_add(more.found),
+            other: self.other.wrapping_add(more.other),
+        }
+    }
+}
+
+/// What all of these threads are told.
+pub(crate) fn sum(tallies: &[Result<Tally, AllocError>]) -> Result<Tally, AllocError> {
+    let mut sum = Tally::NONE;
+    for tally in tallies {
+        match tally {
+            Ok(tally) => sum = sum.and(*tally),
+            Err(_) => return Err(AllocError),
+        }
+    }
+    Ok(sum)
 }
 
 /// What an insert of the value is told.

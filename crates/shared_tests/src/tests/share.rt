@@ -1,13 +1,11 @@
 //! A table held alone that is shared: what it shows, what is set through `&` beside that, and that each value is dropped once.
-use crate::counting::{Counting, CountingLaw};
+use crate::counting::{Counting, CountingLaw, Drops};
 use cell::Missed;
 use generations::fixed::shared::Look;
 use lock_free_hashtable::raw::{HeldRawTable, LockFreeRawTable};
 use refusing::{Refusing, Rule};
 use std::alloc::{AllocError, Allocator, Global};
-use std::cell::Cell;
 use std::process::Abort;
-use std::rc::Rc;
 use std::test::Fail;
 use terms::law::hash_number;
 use terms::probe::bits_of_hash;
@@ -25,13 +23,12 @@ const TABLES: [(u64, u64); 6] = [(0, 0), (1, 0), (1, 1), (7, 9), (20, 0), (40, 2
 fn held<'a>(
     rt: &impl Abort,
     heap: Memory<'a>,
-    alloc: Global,
     entries: u64,
-    drops: &Rc<Cell<u64>>,
+    drops: &Drops,
 ) -> Result<Held<'a>, AllocError> {
     let mut table = HeldRawTable::new(heap);
     for number in 0..entries {
-        let value = Box::new(alloc, Counting::new(number, drops.clone()?))?;
+        let value = drops.counting(number)?;
         let placed = table.place_alone::<CountingLaw, _, _>(
             hash_number(number),
             value,
@@ -68,16 +65,12 @@ fn sets(table: &Shared<'_>, value: Box<Counting>) -> bool {
 fn set_more(
     rt: &impl Abort,
     table: &Shared<'_>,
-    alloc: Global,
     from: u64,
     more: u64,
-    drops: &Rc<Cell<u64>>,
+    drops: &Drops,
 ) -> Result<(), AllocError> {
     for number in 0..more {
-        let value = Box::new(
-            alloc,
-            Counting::new(number.wrapping_add(from), drops.clone()?),
-        )?;
+        let value = drops.counting(number.wrapping_add(from))?;
         assert!(rt; sets(table, value));
     }
     Ok(())
@@ -135,22 +128,22 @@ fn assert_shared(
     handed: bool,
 ) -> Result<(), AllocError> {
     let heap = Refusing::new(alloc, Rule::new(0, 0, 0, 0));
-    let drops = Rc::new(alloc, Cell::new(0u64))?;
-    let table = held(rt, &heap, alloc, entries, &drops)?;
+    let all = entries.wrapping_add(more);
+    let drops = Drops::new(alloc, all)?;
+    let table = held(rt, &heap, entries, &drops)?;
     let before = heap.granted();
     let table = table.share();
     assert_eq!(rt; table.len() as u64, entries);
     assert_eq!(rt; table.is_empty(), entries == 0);
-    set_more(rt, &table, alloc, entries, more, &drops)?;
-    let all = entries.wrapping_add(more);
+    set_more(rt, &table, entries, more, &drops)?;
     assert_walked(rt, &table, alloc, all)?;
-    assert_eq!(rt; drops.get(), 0);
+    assert_eq!(rt; drops.dropped(0), all);
     if handed {
         assert_handed(rt, table, alloc, all)?;
     } else {
         drop(table);
     }
-    assert_eq!(rt; drops.get(), all);
+    assert_eq!(rt; drops.dropped(1), all);
     assert_eq!(rt; heap.granted(), before.wrapping_add(more));
     assert_eq!(rt; heap.given_back(), heap.granted());
     Ok(())
