@@ -4,7 +4,10 @@
     tools/speed.py run ROUNDS PROGRAM..     runs each program's tables in turns, and writes docs/speed/raw.txt
     tools/speed.py show held BASE           prints the tables held alone in docs/speed/raw.txt, and draws
                                             docs/speed/ratios.svg, with ratios to the table BASE, as plain-rust
-    tools/speed.py show shared BASE         prints the tables that threads share
+    tools/speed.py share ROUNDS PROGRAM..   runs the tables that threads share, and the one held alone, and writes
+                                            docs/speed/shared.txt
+    tools/speed.py show shared BASE         prints the tables in docs/speed/shared.txt, and draws docs/speed/threads.svg,
+                                            one thread to four, as model-direct
     tools/speed.py show seats BASE          prints the number tables that threads share, as plain-atomics
     tools/speed.py show core core           prints the machine of all schedules
     tools/speed.py show interner BASE       prints the interners, as plain-interner
@@ -21,8 +24,13 @@ import sys
 HERE = os.path.join(os.path.dirname(os.path.abspath(__file__)), "..", "docs", "speed")
 RAW = os.path.join(HERE, "raw.txt")
 PLOT = os.path.join(HERE, "ratios.svg")
-# Tables that threads share.
-SHARED = ["shared"]
+SHARED_RAW = os.path.join(HERE, "shared.txt")
+SHARED_PLOT = os.path.join(HERE, "threads.svg")
+# Tables that threads share, and the groups of measurements that each knows.
+ALL_GROUPS = ["one", "seq", "same", "ins", "hit"]
+SHARING = {"shared": ALL_GROUPS, "held": ALL_GROUPS[:2]}
+SHARING_PEERS = ["model-direct", "dashmap", "tbb-unordered_set", "libcuckoo", "urcu-lfht-presized"]
+SHARING.update((name, ALL_GROUPS[:4]) for name in SHARING_PEERS)
 # Number tables that threads share. Every other table is held alone, but for the machine of all schedules, `core`.
 SEATED = ["seats", "plain-atomics"]
 # Interners of texts.
@@ -44,7 +52,7 @@ def kind_of(name):
         return "core"
     if name in INTERNERS:
         return "interner"
-    if name in SHARED:
+    if name == "shared":
         return "shared"
     return "seats" if name in SEATED else "held"
 
@@ -54,33 +62,36 @@ def lines_of(*words):
     return done.stdout.splitlines()
 
 
-def measured(program, name):
-    kind = kind_of(name)
-    lines = [line for group in GROUPS[kind] for line in lines_of(program, name, group)]
+def measured(program, name, groups, kind):
+    lines = [line for group in groups for line in lines_of(program, name, group)]
     return [line for line in lines if line.split()[1] in MEASUREMENTS[kind]]
 
 
-def run(rounds, programs):
-    tables = [(program, name) for program in programs for name in lines_of(program, "list")]
+def run(rounds, programs, sharing):
+    named = [(program, name) for program in programs for name in lines_of(program, "list")]
+    if sharing:
+        tables = [(program, name, SHARING[name], "shared") for program, name in named if name in SHARING]
+    else:
+        tables = [(program, name, GROUPS[kind_of(name)], kind_of(name)) for program, name in named]
     os.makedirs(HERE, exist_ok=True)
-    fresh = RAW + ".new"
-    with open(fresh, "w", encoding="ascii") as raw:
+    final = SHARED_RAW if sharing else RAW
+    with open(final + ".new", "w", encoding="ascii") as raw:
         for round_number in range(rounds):
-            for program, name in tables if round_number % 2 == 0 else reversed(tables):
-                for line in measured(program, name):
+            for table_words in tables if round_number % 2 == 0 else reversed(tables):
+                for line in measured(*table_words):
                     print(line, file=raw)
             load = os.getloadavg()[0]
             print(f"round {round_number + 1} of {rounds}, load {load:.1f}", file=sys.stderr)
-    os.replace(fresh, RAW)
+    os.replace(final + ".new", final)
 
 
 def numbers_of(kind):
     """The numbers of all rounds, by table and measurement."""
     found = {}
-    with open(RAW, encoding="ascii") as raw:
+    with open(SHARED_RAW if kind == "shared" else RAW, encoding="ascii") as raw:
         for line in raw:
             name, measurement, number = line.split()
-            if kind_of(name) == kind:
+            if kind == "shared" or kind_of(name) == kind:
                 found.setdefault(name, {}).setdefault(measurement, []).append(float(number))
     return found
 
@@ -127,16 +138,42 @@ def plot(found, ours, base_name):
         svg.write("\n".join(parts) + "\n")
 
 
+def plot_threads(found):
+    """One line for each work of several threads: nanoseconds an operation, with one thread to four."""
+    own = found.get("shared", {})
+    works = [("d_same", "inserts of what is there", "#b5482a"), ("e_ins", "inserts of new keys", "#4a7ebb"), ("f_hit", "hits", "#3a8a4d")]
+    points = {work: [min(own[f"{work}{n}"]) for n in range(1, 5)] for work, _, _ in works if all(f"{work}{n}" in own for n in range(1, 5))}
+    most = max(max(row) for row in points.values())
+    width, height, left, foot = 560, 300, 60, 40
+    parts = [
+        f'<svg xmlns="http://www.w3.org/2000/svg" width="{width}" height="{height}" font-family="sans-serif" font-size="13">',
+        f'<text x="{left}" y="18">shared: nanoseconds an operation, of all threads together, with 1 to 4 threads</text>',
+    ]
+    for row, (work, words, colour) in enumerate(works):
+        if work not in points:
+            continue
+        at = [(left + 110 * n, height - foot - number / most * (height - foot - 60)) for n, number in enumerate(points[work])]
+        parts.append(f'<polyline fill="none" stroke="{colour}" stroke-width="2" points="' + " ".join(f"{x},{y:.0f}" for x, y in at) + '"/>')
+        parts += [f'<text x="{x - 8}" y="{y - 6:.0f}" fill="{colour}">{number:.0f}</text>' for (x, y), number in zip(at, points[work])]
+        parts.append(f'<text x="{left + 350}" y="{50 + 18 * row}" fill="{colour}">{words}</text>')
+    parts += [f'<text x="{left + 110 * n}" y="{height - 14}">{n + 1}</text>' for n in range(4)]
+    parts.append("</svg>")
+    with open(SHARED_PLOT, "w", encoding="ascii") as svg:
+        svg.write("\n".join(parts) + "\n")
+
+
 def show(kind, base_name):
     found = numbers_of(kind)
     print(table(found, kind, base_name))
     if kind == "held":
         plot(found, kind, base_name)
+    if kind == "shared":
+        plot_threads(found)
 
 
 def main():
-    if sys.argv[1:2] == ["run"] and len(sys.argv) > 3:
-        run(int(sys.argv[2]), sys.argv[3:])
+    if sys.argv[1:2] in (["run"], ["share"]) and len(sys.argv) > 3:
+        run(int(sys.argv[2]), sys.argv[3:], sys.argv[1] == "share")
     elif sys.argv[1:2] == ["show"] and len(sys.argv) == 4 and sys.argv[2] in GROUPS:
         show(sys.argv[2], sys.argv[3])
     else:
