@@ -10,6 +10,13 @@ pub struct Counting {
     drops: Arc<AtomicU64>,
 }
 
+impl Counting {
+    /// A value of this number, whose drop is counted here.
+    pub fn new(number: u64, drops: Arc<AtomicU64>) -> Counting {
+        Counting { number, drops }
+    }
+}
+
 /// How often each of the first numbers was dropped.
 #[derive(Drop)]
 pub struct Drops {
@@ -33,7 +40,7 @@ impl Drops {
             Some(drops) => drops.clone()?,
             None => counter(self.alloc)?,
         };
-        Ok(Box::new(self.alloc, Counting { number, drops })?)
+        Ok(Box::new(self.alloc, Counting::new(number, drops))?)
     }
 
     /// How many of the numbers were dropped so often.
