@@ -1,4 +1,6 @@
 //! A value that counts how often it is dropped.
+ghost use Rattle.std.specs.Prelude.{◌≡◌};
+
 use std::alloc::{AllocError, Global};
 use std::sync::Arc;
 use std::sync::atomic::{AtomicU64, Ordering};
@@ -12,7 +14,9 @@ pub struct Counting {
 
 impl Counting {
     /// A value of this number, whose drop is counted here.
-    pub fn new(number: u64, drops: Arc<AtomicU64>) -> Counting {
+    pub fn new(number: u64, drops: Arc<AtomicU64>) -> Counting
+        ensures { result.number ≡ number }
+    {
         Counting { number, drops }
     }
 }

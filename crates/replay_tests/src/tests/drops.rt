@@ -7,10 +7,9 @@ use refusing::{Refusing, Rule};
 use shared_table::{InsertCall, LockFreeRawTable, Progress};
 use shared_tests::counting::Counting;
 use std::alloc::{AllocError, Global};
-use std::cell::Cell;
 use std::process::Abort;
-use std::rc::Rc;
-use std::sync::Wait;
+use std::sync::atomic::{AtomicU64, Ordering};
+use std::sync::{Arc, Wait};
 use std::test::Fail;
 
 type Table<'a> = LockFreeRawTable<Box<Counting>, &'a Refusing<Global>>;
@@ -127,7 +126,7 @@ fn fill<R: Wait + Abort>(
     alloc: Global,
     table: &Table<'_>,
     entries: u64,
-    drops: &Rc<Cell<u64>>,
+    drops: &Arc<AtomicU64>,
 ) -> Result<(), AllocError> {
     for number in 0..entries {
         let value = Box::new(alloc, Counting::new(number, drops.clone()?))?;
@@ -163,8 +162,8 @@ fn assert_given_up<R: Wait + Abort>(
     steps: u64,
 ) -> Result<(), Fail> {
     let memory = Refusing::new(alloc, Rule::new(0, usize::MAX, 0, 0));
-    let drops = Rc::new(alloc, Cell::new(0u64))?;
-    let others = Rc::new(alloc, Cell::new(0u64))?;
+    let drops = Arc::new(alloc, AtomicU64::new(0))?;
+    let others = Arc::new(alloc, AtomicU64::new(0))?;
     let table: Table<'_> = LockFreeRawTable::new(&memory);
     fill(rt, alloc, &table, course.entries, &others)?;
     memory.refuse(course.passing, course.refused);
@@ -172,7 +171,11 @@ fn assert_given_up<R: Wait + Abort>(
     give_up_after(rt, &table, value, course, steps);
     memory.refuse(0, 0);
     let placed = course.placed_at <= steps;
-    assert_eq!(rt; drops.get(), if placed { 0 } else { 1 }, "{steps}");
+    assert_eq!(rt;
+        drops.load(Ordering::SeqCst),
+        if placed { 0 } else { 1 },
+        "{steps}"
+    );
     assert_eq!(rt; contains(&table, course.entries), placed, "{steps}");
     let next = course.entries.wrapping_add(1);
     let value = Box::new(alloc, Counting::new(next, others.clone()?))?;
@@ -181,8 +184,8 @@ fn assert_given_up<R: Wait + Abort>(
     let entries = if placed { next.wrapping_add(1) } else { next };
     assert_eq!(rt; table.len() as u64, entries, "{steps}");
     drop(table);
-    assert_eq!(rt; drops.get(), 1, "{steps}");
-    assert_eq!(rt; others.get(), next, "{steps}");
+    assert_eq!(rt; drops.load(Ordering::SeqCst), 1, "{steps}");
+    assert_eq!(rt; others.load(Ordering::SeqCst), next, "{steps}");
     assert_eq!(rt; memory.given_back(), memory.granted(), "{steps}");
     Ok(())
 }
