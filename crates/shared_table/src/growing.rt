@@ -15,7 +15,8 @@ use std::sync::atomic::Ordering::SeqCst;
 pub enum Wanted<'a, T: AtomicValue, A: Allocator + Copy> {
     /// There is a generation, and fewer than half of its buckets are set.
     Unwanted,
-    /// Memory was refused, or the capacity can't double. The table is as it was.
+    /// Memory was refused, or the capacity can't double. The table shows what it showed; words for later generations that
+    /// were made stay.
     Failed,
     /// The next generation, to be copied into and shown.
     Begun(Growth<'a, T, A>),
