@@ -16,10 +16,10 @@ ghost use Rattle.shared_table.specs.Stepped.{Advances, MayBlock, IfMoved, IfBloc
 use crate::carried::{Asking, Carried, Held};
 use crate::growing::Wanted;
 use crate::growth::Growth;
-use crate::reading::{Put, Read, alike_entry, meet};
+use crate::reading::{Put, Read};
 use crate::stepped::Progress;
 use crate::table::LockFreeRawTable;
-use cell::{Entry, Low};
+use cell::Low;
 use generations::atomic_value::AtomicValue;
 use generations::fixed::Generation;
 use std::mem;
@@ -197,28 +197,7 @@ impl<
         }
     }
 
-    /// The exchange was lost to this entry: it is met at the same bucket.
-    fn meet_winner(&mut self, first: &'a Entry<T>) -> Answer
-        requires phase { self.old.state.phase ≡ AtEmpty }
-        requires asks { Asks E.IsAlwaysCallable H.IsAlwaysCallable T.target E.Fn self.old.asking self.old.carried }
-        ensures went { Went self.old.state self.new.state result }
-        ensures there { self.new.carried ≢ Gone }
-        ensures same { self.new.asking ≡ self.old.asking }
-        ensures asks { Asks E.IsAlwaysCallable H.IsAlwaysCallable T.target E.Fn self.new.asking self.new.carried }
-        ensures met { accepted self.old.carried ≢ None → accepted self.new.carried ≡ accepted self.old.carried }
-    {
-        let target = alike_entry(first, self.state.hash);
-        let Carried::Value(value) = &self.carried else {
-            unreachable!()
-        };
-        match meet::<T, E>(self.state, target, value, &self.asking.eq) {
-            Read::Empty(_) => unreachable!(),
-            Read::Passed(next, asked) => self.pass(next, asked),
-            Read::Met(next, target) => self.keep(next, target),
-        }
-    }
-
-    /// One exchange at an empty bucket. Who loses it meets the entry that was first there.
+    /// One exchange at an empty bucket. Who loses it passes or accepts the entry that came first.
     fn put(&mut self) -> Answer
         requires phase { self.old.state.phase ≡ AtEmpty }
         requires asks { Asks E.IsAlwaysCallable H.IsAlwaysCallable T.target E.Fn self.old.asking self.old.carried }
@@ -236,7 +215,7 @@ impl<
             unreachable!()
         };
         let mut note = generation.note_at(self.state.index as usize);
-        match table.put_value(generation, self.state, value, &mut note) {
+        match table.put_value(generation, self.state, value, &self.asking.eq, &mut note) {
             Put::Won(next, target) => {
                 self.carried = Carried::Own(target);
                 self.state = next;
@@ -247,9 +226,13 @@ impl<
                 self.state = next;
                 Answer::MemoryRefused
             }
-            Put::Lost(first, value) => {
+            Put::Passed(next, asked, value) => {
                 self.carried = Carried::Value(value);
-                self.meet_winner(first)
+                self.pass(next, asked)
+            }
+            Put::Met(next, target, value) => {
+                self.carried = Carried::Value(value);
+                self.keep(next, target)
             }
         }
     }
