@@ -1,4 +1,5 @@
 pub mod Starts
+mod Alone
 mod Between
 mod Looked
 mod Missed

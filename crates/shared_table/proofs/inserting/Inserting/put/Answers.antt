@@ -1,6 +1,11 @@
-use Rattle.std.proofs.Common.{◌≡◌, ◌∙◌, ap, refl, subst, sym, true}
+use Rattle.std.proofs.Common.{◌≡◌, ◌∙◌, ap, refl, subst, sym, true, Some}
 use Rattle.std.specs.Fn.{FnReturnsAtPair}
-use Rattle.shared_table.specs.Carried.{kept}
+use Rattle.terms.specs.Hashes.{bits_of}
+use Rattle.turns.specs.Steps.{passed}
+use Rattle.table_core.specs.declared.call.Answer.TheVariants.{Holds}
+use Rattle.shared_table.specs.Carried.{accepted, kept}
+use Rattle.shared_table.specs.Reads.{AtAlone, StepTells}
+use Rattle.shared_table.proofs.Alone.{at_accepted, at_passed, at_vacant}
 use Rattle.shared_table.proofs.Between.{has_back, holds_value, loses, wins, within}
 use Rattle.shared_table.proofs.inserting.Inserting.put.Goals as goal
 
@@ -93,6 +98,9 @@ keep-requires-clause-accepted g c =
 pub returns-in-Won-clause-went : goal.returns-in-Won-clause-went
 returns-in-Won-clause-went g c = c.in-Won.ensures.puts.0
 
+pub returns-in-Won-clause-alone : goal.returns-in-Won-clause-alone
+returns-in-Won-clause-alone g c = λ _. at_vacant c.args.self.now.walked c.in-Some.generation c.args.self.now.state.index c.in-Some.is _ c.in-Won.ensures.tells.0
+
 pub returns-in-Won-clause-there : goal.returns-in-Won-clause-there
 returns-in-Won-clause-there g c = λ e. absurd (cc)
 
@@ -104,6 +112,9 @@ returns-in-Won-clause-asks g c = (c.requires.asks.0, c.requires.asks.1, tt)
 
 pub returns-in-Refused-clause-went : goal.returns-in-Refused-clause-went
 returns-in-Refused-clause-went g c = c.in-Refused.ensures.puts.0
+
+pub returns-in-Refused-clause-alone : goal.returns-in-Refused-clause-alone
+returns-in-Refused-clause-alone g c = λ no. absurd (no refl)
 
 pub returns-in-Refused-clause-there : goal.returns-in-Refused-clause-there
 returns-in-Refused-clause-there g c = λ e. absurd (cc)
@@ -117,6 +128,14 @@ returns-in-Refused-clause-asks g c = (c.requires.asks.0, c.requires.asks.1, tt)
 pub returns-in-Passed-clause-went : goal.returns-in-Passed-clause-went
 returns-in-Passed-clause-went g c = c.pass.ensures.went
 
+pub returns-in-Passed-clause-alone : goal.returns-in-Passed-clause-alone
+returns-in-Passed-clause-alone g c =
+    let i = c.args.self.now in
+    let target = g.T.AtomicValue.target in
+    let given : c.in-Value.value ≡ i.asking.given.value = i.stems c.in-Value.value (ap kept (sym c.in-Value.ensures.value)) in
+    λ _. rw c.pass.ensures.answer (subst (λ v. AtAlone i.walked i.state.index (StepTells target (FnReturnsAtPair g.E.Fn i.asking.eq (target v)) (bits_of i.state.hash) (passed c.in-Passed.asked) (accepted c.pass.new.self.carried))) given
+    (at_passed i.walked c.in-Some.generation i.state.index c.in-Some.is target (FnReturnsAtPair g.E.Fn i.asking.eq (target c.in-Value.value)) (bits_of i.state.hash) _ _ c.in-Passed.asked (accepted c.pass.new.self.carried) c.in-Passed.ensures.tells))
+
 pub returns-in-Passed-clause-there : goal.returns-in-Passed-clause-there
 returns-in-Passed-clause-there g c = c.pass.ensures.there
 
@@ -128,6 +147,14 @@ returns-in-Passed-clause-asks g c = c.pass.ensures.asks
 
 pub returns-in-Met-clause-went : goal.returns-in-Met-clause-went
 returns-in-Met-clause-went g c = c.keep.ensures.went
+
+pub returns-in-Met-clause-alone : goal.returns-in-Met-clause-alone
+returns-in-Met-clause-alone g c =
+    let i = c.args.self.now in
+    let target = g.T.AtomicValue.target in
+    let given : c.in-Value.value ≡ i.asking.given.value = i.stems c.in-Value.value (ap kept (sym c.in-Value.ensures.value)) in
+    λ _. rw (c.keep.ensures.answer, c.keep.ensures.kept) (subst (λ v. AtAlone i.walked i.state.index (StepTells target (FnReturnsAtPair g.E.Fn i.asking.eq (target v)) (bits_of i.state.hash) (Holds true) (Some c.in-Met.target))) given
+    (at_accepted i.walked c.in-Some.generation i.state.index c.in-Some.is target (FnReturnsAtPair g.E.Fn i.asking.eq (target c.in-Value.value)) (bits_of i.state.hash) _ _ c.in-Met.target c.in-Met.ensures.tells))
 
 pub returns-in-Met-clause-there : goal.returns-in-Met-clause-there
 returns-in-Met-clause-there g c = c.keep.ensures.there
