@@ -6,3 +6,4 @@ mod Missed
 mod Onward
 pub mod Handed
 pub mod Settled
+mod Walked

@@ -7,7 +7,6 @@ use Rattle.generations.specs.Buckets.{Content, vacant, own, named}
 use Rattle.generations.specs.Looks.{Tells, IsSeen}
 use Rattle.generations.specs.declared.fixed.shared.Look.{Look}
 use Rattle.generations.specs.declared.fixed.shared.Look.TheVariants as look
-use Rattle.table_core.specs.declared.call.Answer.TheVariants.{Holds}
 use Rattle.table_core.specs.declared.call.CallState.{CallState}
 use Rattle.turns.specs.Steps.{passed}
 use Rattle.shared_table.specs.declared.reading.Read.{Read}
