@@ -6,8 +6,7 @@ use Rattle.generations.specs.Generations.{GenerationView}
 use Rattle.generations.specs.declared.atomic_value.AtomicValue.{Ghosts}
 use Rattle.std.specs.Prelude.{if◌then◌else◌, ◌&&◌, ◌<◌}
 use Rattle.std.proofs.lemmas.Bool.{ltb-true, lt-ltb}
-use Rattle.table_core.specs.Calls.{decided, stands_at_bucket, to, is_done, finds_entry}
-use Rattle.table_core.specs.declared.call.Answer.{Answer}
+use Rattle.table_core.specs.Calls.{stands_at_bucket, to, is_done, finds_entry}
 use Rattle.table_core.specs.declared.call.CallState.{CallState}
 use Rattle.table_core.specs.declared.call.Outcome.{Outcome}
 use Rattle.table_core.specs.declared.call.Outcome.TheVariants.{Pending, New}
@@ -123,10 +122,6 @@ module _ {T A E H X : Type 0} {g : Ghosts T X} (i : Inserting T A E H X g) where
   holds_value meets =
       let nothing : reached i.state.phase i.state.outcome ≡ Nothing = meets_reached i.state.phase i.state.outcome meets ∙ ap reached_by (i.hopes (meets_hopes i.state.phase meets)) in
       value_told i.carried (i.tells (meets_carries meets) ∙ ap Some nothing)
-
-  -- a step from a known phase
-  pub stepped : (p : Phase) (a : Answer) (s : CallState) → i.state.phase ≡ p → s ≡ decided i.state.phase i.state a → s ≡ decided p i.state a
-  stepped p a s at is = subst (λ (q : Phase). s ≡ decided q i.state a) at is
 
   -- the lock that is held in a known phase
   pub keeps_lock : (p : Phase) → i.state.phase ≡ p → lock_of i.held ≡ lock_in p

@@ -1,15 +1,17 @@
 -- What a read of a bucket tells, by what the look at it showed.
-use Rattle.std.proofs.Common.{◌≡◌, ◌≢◌, ◌∙◌, ℕ, ap, refl, sym, Bool, Bor}
+use Rattle.std.proofs.Common.{◌≡◌, ◌≢◌, ◌∙◌, ℕ, ap, refl, subst, sym, Bool, true, false, Bor}
 use Rattle.std.specs.Prelude.{Option, Some, None}
+use Rattle.std.specs.Option.{IsSomeAnd}
 use Rattle.cell.specs.declared.bucket.Entry.{Entry}
 use Rattle.generations.specs.Buckets.{Content, vacant, own, named}
 use Rattle.generations.specs.Looks.{Tells, IsSeen}
 use Rattle.generations.specs.declared.fixed.shared.Look.{Look}
 use Rattle.generations.specs.declared.fixed.shared.Look.TheVariants as look
 use Rattle.table_core.specs.declared.call.CallState.{CallState}
+use Rattle.turns.specs.Steps.{passed}
 use Rattle.shared_table.specs.declared.reading.Read.{Read}
 use Rattle.shared_table.specs.declared.reading.Read.TheVariants as read
-use Rattle.shared_table.specs.Reads.{ShowsAlike, InsertMeets, InsertReads, LookupMeets, LookupReads, ReadTells}
+use Rattle.shared_table.specs.Reads.{ShowsAlike, ShowsMarked, Declines, InsertMeets, InsertReads, LookupMeets, LookupReads, IsTrueOf, Accepts, ReadTells}
 
 abbrev pick : {X : Type 0} → X → Option X → X
 pick d None = d
@@ -22,46 +24,56 @@ module _ {T : Type 0} where
   seen_so (own e) old new P Q so saw = record { alone = (so (Some e) saw.alone.0, saw.alone.1); shared = tt }
   seen_so (named e) old new P Q so saw = record { alone = (so (Some e) saw.alone.0, saw.alone.1); shared = tt }
 
-module _ {T X : Type 0} where
-  -- the target that was met is that of the entry that the look showed
-  met_tells : (target : T → X) → (bits : ℕ) → (l : Look T) → (a : Option (Bor X)) → (r : Bor X) → ShowsAlike target l a → a ≡ Some r → (o : Option (Entry T)) → Tells bits o l
-      → (e : Entry T) × (o ≡ Some e) × (r.now ≡ target e.value)
-  met_tells target bits (look.Alike entry) (Some q) r k e o tells = (entry.now, tells.0, ap (λ (x : Option (Bor X)). (pick r x).now) (sym e) ∙ k)
-  met_tells target bits (look.Alike entry) None r k e o tells = absurd k
-  met_tells target bits look.Vacant (Some q) r k e o tells = absurd k
-  met_tells target bits look.Vacant None r k e o tells = absurd (cc)
-  met_tells target bits look.Other (Some q) r k e o tells = absurd k
-  met_tells target bits look.Other None r k e o tells = absurd (cc)
+  -- what follows of the entry shown holds of it
+  and_so : (o : Option (Entry T)) → (P Q : Entry T → Type 0) → ((e : Entry T) → P e → Q e) → IsSomeAnd o P → IsSomeAnd o Q
+  and_so None P Q so holds = absurd holds
+  and_so (Some e) P Q so holds = so e holds
+
+module _ {T X : Type 0} (target : T → X) (says : X → Bool → Type 0) (bits : ℕ) where
+  -- a look that showed an entry showed its target where it has the bits that were sought
+  marked_by : (l : Look T) → (a : Option (Bor X)) → l ≢ look.Vacant → ShowsAlike target l a → (o : Option (Entry T)) → Tells bits o l → IsSomeAnd o (λ e. ShowsMarked target bits e a)
+  marked_by look.Vacant a set k o tells = absurd (set refl)
+  marked_by look.Other None set k o tells = subst (λ (p : Option (Entry T)). IsSomeAnd p (λ e. ShowsMarked target bits e None)) (sym tells.1) tells.2
+  marked_by look.Other (Some r) set k o tells = absurd k
+  marked_by (look.Alike entry) None set k o tells = absurd k
+  marked_by (look.Alike entry) (Some r) set k o tells = subst (λ (p : Option (Entry T)). IsSomeAnd p (λ e. ShowsMarked target bits e (Some r))) (sym tells.0) (tells.1, k)
+
+  -- the answer by which an entry was passed is true of it
+  pub passed_of : (e : Entry T) → (a : Option (Bor X)) → (asked : Bool) → ShowsMarked target bits e a → Declines says a asked → IsTrueOf target says bits e (passed asked)
+  passed_of e None asked marked said = subst (λ (b : Bool). IsTrueOf target says bits e (passed b)) (sym said) marked
+  passed_of e (Some r) asked marked said =
+      subst (λ (b : Bool). IsTrueOf target says bits e (passed b)) (sym said.0) (marked.0, subst (λ (x : X). says x false) marked.1 said.1)
+
+  -- an entry was accepted whose target was met, and of which the closure said yes
+  pub accepted_of : (e : Entry T) → (a : Option (Bor X)) → (r : Bor X) → ShowsMarked target bits e a → a ≡ Some r → says r.now true → Accepts target says bits r e
+  accepted_of e None r marked is said = absurd (cc)
+  accepted_of e (Some q) r marked is said =
+      let same : r.now ≡ target e.value = ap (λ (x : Option (Bor X)). (pick r x).now) (sym is) ∙ marked.1 in
+      ((marked.0, subst (λ (x : X). says x true) same said), same)
 
   -- an insert that has met what a look showed tells of the bucket what the look does
-  pub insert_tells : (target : T → X) → (says : X → Bool → Type 0) → (bits : ℕ) → (l : Look T) → (a : Option (Bor X)) → (s : CallState) → (m : Read (Bor X)) → l ≢ look.Vacant → ShowsAlike target l a → InsertMeets says a s m
-      → (o : Option (Entry T)) → Tells bits o l → ReadTells target o m
-  insert_tells target says bits l a s (read.Empty t) set k m o tells = absurd m
-  insert_tells target says bits look.Vacant a s (read.Passed t asked) set k m o tells = absurd (set refl)
-  insert_tells target says bits look.Other a s (read.Passed t asked) set k m o tells = (tells.0, tells.1)
-  insert_tells target says bits (look.Alike entry) a s (read.Passed t asked) set k m o tells = (entry.now, tells.0)
-  insert_tells target says bits l a s (read.Met t r) set k m o tells = met_tells target bits l a r k m.3 o tells
+  pub insert_tells : (l : Look T) → (a : Option (Bor X)) → (s : CallState) → (m : Read (Bor X)) → l ≢ look.Vacant → ShowsAlike target l a → InsertMeets says a s m → (o : Option (Entry T)) → Tells bits o l → ReadTells target says bits o m
+  insert_tells l a s (read.Empty t) set k m o tells = absurd m
+  insert_tells l a s (read.Passed t asked) set k m o tells = and_so o (λ e. ShowsMarked target bits e a) (λ e. IsTrueOf target says bits e (passed asked)) (λ e marked. passed_of e a asked marked m.2) (marked_by l a set k o tells)
+  insert_tells l a s (read.Met t r) set k m o tells = and_so o (λ e. ShowsMarked target bits e a) (Accepts target says bits r) (λ e marked. accepted_of e a r marked m.3 m.2) (marked_by l a set k o tells)
 
   -- and so does a look-up
-  pub lookup_tells : (target : T → X) → (says : X → Bool → Type 0) → (bits : ℕ) → (l : Look T) → (a : Option (Bor X)) → (s : CallState) → (m : Read (Bor X)) → l ≢ look.Vacant → ShowsAlike target l a → LookupMeets says a s m
-      → (o : Option (Entry T)) → Tells bits o l → ReadTells target o m
-  lookup_tells target says bits l a s (read.Empty t) set k m o tells = absurd m
-  lookup_tells target says bits look.Vacant a s (read.Passed t asked) set k m o tells = absurd (set refl)
-  lookup_tells target says bits look.Other a s (read.Passed t asked) set k m o tells = (tells.0, tells.1)
-  lookup_tells target says bits (look.Alike entry) a s (read.Passed t asked) set k m o tells = (entry.now, tells.0)
-  lookup_tells target says bits l a s (read.Met t r) set k m o tells = met_tells target bits l a r k m.3 o tells
+  pub lookup_tells : (l : Look T) → (a : Option (Bor X)) → (s : CallState) → (m : Read (Bor X)) → l ≢ look.Vacant → ShowsAlike target l a → LookupMeets says a s m → (o : Option (Entry T)) → Tells bits o l → ReadTells target says bits o m
+  lookup_tells l a s (read.Empty t) set k m o tells = absurd m
+  lookup_tells l a s (read.Passed t asked) set k m o tells = and_so o (λ e. ShowsMarked target bits e a) (λ e. IsTrueOf target says bits e (passed asked)) (λ e marked. passed_of e a asked marked m.2) (marked_by l a set k o tells)
+  lookup_tells l a s (read.Met t r) set k m o tells = and_so o (λ e. ShowsMarked target bits e a) (Accepts target says bits r) (λ e marked. accepted_of e a r marked m.3 m.2) (marked_by l a set k o tells)
 
 module _ {X : Type 0} where
   -- an insert that has met an entry has read its bucket
   pub insert_read : (says : X → Bool → Type 0) → (a : Option (Bor X)) → (s : CallState) → (m : Read (Bor X)) → InsertMeets says a s m → InsertReads says s m
   insert_read says a s (read.Empty t) m = absurd m
-  insert_read says a s (read.Passed t asked) m = m
+  insert_read says a s (read.Passed t asked) m = (m.0, m.1)
   insert_read says a s (read.Met t r) m = (m.0, m.1, m.2)
 
   -- and so has a look-up
   pub lookup_read : (says : X → Bool → Type 0) → (a : Option (Bor X)) → (s : CallState) → (m : Read (Bor X)) → LookupMeets says a s m → LookupReads says s m
   lookup_read says a s (read.Empty t) m = absurd m
-  lookup_read says a s (read.Passed t asked) m = m
+  lookup_read says a s (read.Passed t asked) m = (m.0, m.1)
   lookup_read says a s (read.Met t r) m = (m.0, m.1, m.2)
 
 -- what is there is one thing

@@ -1,10 +1,16 @@
 -- What is told of a bucket by an exchange that set nothing.
-use Rattle.std.proofs.Common.{◌≡◌, ap, sym, Bor}
+use Rattle.std.proofs.Common.{◌≡◌, ℕ, Bool, ap, subst, sym, Bor}
 use Rattle.std.specs.Prelude.{Option, Some}
+use Rattle.std.specs.Option.{IsSomeAnd}
 use Rattle.cell.specs.Contents.{Content, vacant, own, named, Misses}
 use Rattle.cell.specs.declared.bucket.Entry.{Entry}
 use Rattle.cell.specs.declared.bucket.Missed.TheVariants.{Taken, NoMemory}
 use Rattle.generations.specs.Looks.{IsSeen}
+use Rattle.terms.specs.Hashes.{bits_of}
+use Rattle.shared_table.specs.declared.reading.Put.{Put}
+use Rattle.shared_table.specs.declared.reading.Put.TheVariants as put
+use Rattle.shared_table.specs.Reads.{LossTells, PutTells}
+use Rattle.shared_table.proofs.Looked.{seen_so}
 
 module _ {T : Type 0} where
   -- the value comes back beside the entry that was first
@@ -30,3 +36,15 @@ module _ {T : Type 0} where
   refused_same vacant value back old new m = m.1
   refused_same (own e) value back old new m = m.1
   refused_same (named e) value back old new m = m.1
+
+  -- what holds of the entry that came first is told of the bucket that shows it
+  first_seen : (c : Content T) (old new : Option (Entry T)) (first : Entry T) (P : Entry T → Type 0) → P first → IsSeen c old new (λ o. o ≡ Some first) → IsSeen c old new (λ o. IsSomeAnd o P)
+  first_seen c old new first P holds saw = seen_so c old new (λ o. o ≡ Some first) (λ o. IsSomeAnd o P) (λ o is. subst (λ (p : Option (Entry T)). IsSomeAnd p P) (sym is) holds) saw
+
+  -- who lost to an entry tells it of the bucket that shows it
+  pub lost_tells : {X : Type 0} (target : T → X) (says : X → Bool → Type 0) (value : T) (hash : ℕ) (c : Content T) (old new : Option (Entry T)) (first : Bor (Entry T)) (m : Put T X)
+      → LossTells target says (bits_of hash) m first.now → IsSeen c old new (λ o. o ≡ Some first.now) → PutTells target says value hash c old new m
+  lost_tells target says value hash c old new first (put.Won t r) loss saw = absurd loss
+  lost_tells target says value hash c old new first (put.Refused t back) loss saw = absurd loss
+  lost_tells target says value hash c old new first (put.Passed t asked back) loss saw = first_seen c old new first.now (LossTells target says (bits_of hash) (put.Passed t asked back)) loss saw
+  lost_tells target says value hash c old new first (put.Met t r back) loss saw = first_seen c old new first.now (LossTells target says (bits_of hash) (put.Met t r back)) loss saw

@@ -1,16 +1,20 @@
 -- What the steps at a bucket of a generation do.
-use Rattle.std.specs.Prelude.{◌≡◌, ℕ, Bool, true, Option, Some, None}
+use Rattle.std.specs.Prelude.{◌≡◌, ◌≢◌, ℕ, Bool, true, false, Option, Some, None, IfSome, option_copied}
 use Rattle.std.specs.Borrow.{Bor}
+use Rattle.std.specs.Option.{ForSome, IsSomeAnd}
 use Rattle.generations.specs.declared.fixed.shared.Look.{Look}
 use Rattle.generations.specs.declared.fixed.shared.Look.TheVariants as look
 use Rattle.cell.specs.declared.bucket.Entry.{Entry}
-use Rattle.generations.specs.Buckets.{Content, vacant}
+use Rattle.generations.specs.Buckets.{Content, vacant, content_at, shown}
+use Rattle.generations.specs.Generations.{GenerationView}
 use Rattle.generations.specs.Growth.{entry_of}
 use Rattle.generations.specs.Looks.{IsSeen}
 use Rattle.table_core.specs.Calls.{to, finds_entry}
 use Rattle.table_core.specs.declared.call.Phase.TheVariants.{AtEmpty, LeaveOk, LeaveRefused, Placed, Done}
-use Rattle.table_core.specs.declared.call.Answer.TheVariants.{Holds, Empty, Won as IsWon, MemoryRefused, Sized}
+use Rattle.table_core.specs.declared.call.Answer.{Answer}
+use Rattle.table_core.specs.declared.call.Answer.TheVariants.{Holds, HoldsUnasked, Empty, Won as IsWon, MemoryRefused, Sized}
 use Rattle.table_core.specs.declared.call.CallState.{CallState}
+use Rattle.terms.specs.Hashes.{bits_of}
 use Rattle.turns.specs.Steps.{Went, Passing, LookingPast, passed}
 use Rattle.shared_table.specs.declared.reading.Read.{Read}
 use Rattle.shared_table.specs.declared.reading.Read.TheVariants as read
@@ -24,21 +28,33 @@ ShowsAlike target look.Other None = Unit {0}
 ShowsAlike target (look.Alike entry) (Some r) = r.now ≡ target entry.now.value
 ShowsAlike target _ _ = ⊥
 
+-- the target of an entry, if it has these bits
+abbrev pub ShowsMarked : {T X : Type 0} → (T → X) → ℕ → Entry T → Option (Bor X) → Type 0
+ShowsMarked target bits e None = e.bits ≢ bits
+ShowsMarked target bits e (Some r) = (e.bits ≡ bits) × (r.now ≡ target e.value)
+
 module _ {X : Type 0} where
-  -- an insert has met the target of an entry with the bits of its hash, or another entry: it passes; or
-  -- it accepts that very target, as the closure said
+  -- the closure was asked of a target that was met, and said no; with none to ask of, it wasn't asked
+  abbrev pub Declines : (X → Bool → Type 0) → Option (Bor X) → Bool → Type 0
+  Declines says None asked = asked ≡ false
+  Declines says (Some r) asked = (asked ≡ true) × says r.now false
+
+  -- an insert has met the target of an entry with the bits of its hash, or another entry: it passes, and
+  -- the closure said no if there was a target; or it accepts that very target, as the closure said
   abbrev pub InsertMeets : (X → Bool → Type 0) → Option (Bor X) → CallState → Read (Bor X) → Type 0
   InsertMeets says alike s (read.Empty t) = ⊥
-  InsertMeets says alike s (read.Passed t asked) = Went s t (passed asked) × Passing s t
+  InsertMeets says alike s (read.Passed t asked) =
+      Went s t (passed asked) × Passing s t × Declines says alike asked
   InsertMeets says alike s (read.Met t r) =
       Went s t (Holds true) × (t ≡ finds_entry LeaveOk s) × says r.now true
       × (alike ≡ Some r)
 
-  -- a look-up has met the target of an entry with the bits of its hash, or another entry: it passes; or
-  -- it accepts that very target, as the closure said
+  -- a look-up has met the target of an entry with the bits of its hash, or another entry: it passes, and
+  -- the closure said no if there was a target; or it accepts that very target, as the closure said
   abbrev pub LookupMeets : (X → Bool → Type 0) → Option (Bor X) → CallState → Read (Bor X) → Type 0
   LookupMeets says alike s (read.Empty t) = ⊥
-  LookupMeets says alike s (read.Passed t asked) = Went s t (passed asked) × LookingPast s t
+  LookupMeets says alike s (read.Passed t asked) =
+      Went s t (passed asked) × LookingPast s t × Declines says alike asked
   LookupMeets says alike s (read.Met t r) =
       Went s t (Holds true) × (t ≡ finds_entry Done s) × says r.now true
       × (alike ≡ Some r)
@@ -58,26 +74,62 @@ module _ {X : Type 0} where
   LookupReads says s (read.Met t r) = Went s t (Holds true) × (t ≡ finds_entry Done s) × says r.now true
 
   -- an insert has offered a value to its bucket: it is there, and not counted yet; or its memory was
-  -- refused; or another entry was there first, and the call has taken no step
-  abbrev pub InsertPuts : {T : Type 0} → (T → X) → T → CallState → Put T X → Type 0
-  InsertPuts target value s (put.Won t r) = Went s t IsWon × (t ≡ to Placed s) × (r.now ≡ target value)
-  InsertPuts target value s (put.Refused t back) = Went s t MemoryRefused × (t ≡ to LeaveRefused s) × (back ≡ value)
-  InsertPuts target value s (put.Lost first back) = back ≡ value
+  -- refused; or another entry was there first, and was passed, or accepted as the closure said
+  abbrev pub InsertPuts : {T : Type 0} → (T → X) → (X → Bool → Type 0) → T → CallState → Put T X → Type 0
+  InsertPuts target says value s (put.Won t r) =
+      Went s t IsWon × (t ≡ to Placed s) × (r.now ≡ target value)
+  InsertPuts target says value s (put.Refused t back) =
+      Went s t MemoryRefused × (t ≡ to LeaveRefused s) × (back ≡ value)
+  InsertPuts target says value s (put.Passed t asked back) =
+      Went s t (passed asked) × Passing s t × (back ≡ value)
+  InsertPuts target says value s (put.Met t r back) =
+      Went s t (Holds true) × (t ≡ finds_entry LeaveOk s) × (back ≡ value) × says r.now true
+
+module _ {T X : Type 0} (target : T → X) (says : X → Bool → Type 0) (bits : ℕ) where
+  -- an answer is true of an entry: it has other bits than those sought, and the closure isn't asked; or
+  -- it has them, and the closure said so of its target
+  abbrev pub IsTrueOf : Entry T → Answer → Type 0
+  IsTrueOf e HoldsUnasked = e.bits ≢ bits
+  IsTrueOf e (Holds accepted) = (e.bits ≡ bits) × says (target e.value) accepted
+  IsTrueOf e _ = ⊥
+
+  -- an entry was accepted, and this is its target
+  abbrev pub Accepts : Bor X → Entry T → Type 0
+  Accepts r e = IsTrueOf e (Holds true) × (r.now ≡ target e.value)
+
+  -- what a read tells of what the bucket shows: nothing; an entry that was passed, by an answer that is
+  -- true of it; or one that was accepted
+  abbrev pub ReadTells : Option (Entry T) → Read (Bor X) → Type 0
+  ReadTells o (read.Empty t) = o ≡ None
+  ReadTells o (read.Passed t asked) = IsSomeAnd o (λ e. IsTrueOf e (passed asked))
+  ReadTells o (read.Met t r) = IsSomeAnd o (Accepts r)
+
+  -- what an insert that lost its exchange tells of the entry that came first: it was passed, by an
+  -- answer that is true of it, or accepted
+  abbrev pub LossTells : Put T X → Entry T → Type 0
+  LossTells (put.Won t r) first = ⊥
+  LossTells (put.Refused t back) first = ⊥
+  LossTells (put.Passed t asked back) first = IsTrueOf first (passed asked)
+  LossTells (put.Met t r back) first = Accepts r first
+
+  -- what a step at an entry tells: its answer is true of it, and after a yes what was met is its target
+  abbrev pub StepTells : Answer → Option (Bor X) → Entry T → Type 0
+  StepTells a met e = IsTrueOf e a × (a ≡ Holds true → option_copied met ≡ Some (target e.value))
 
 module _ {T X : Type 0} where
-  -- what a read tells of what the bucket shows: nothing; an entry; or the one whose target was accepted
-  abbrev pub ReadTells : (T → X) → Option (Entry T) → Read (Bor X) → Type 0
-  ReadTells target o (read.Empty t) = o ≡ None
-  ReadTells target o (read.Passed t asked) = (e : Entry T) × (o ≡ Some e)
-  ReadTells target o (read.Met t r) = (e : Entry T) × (o ≡ Some e) × (r.now ≡ target e.value)
-
   -- what an exchange tells of a bucket, and of the note of it: it was vacant, and shows the value with
-  -- the bits of its hash; nothing; or it shows the entry that was first
-  abbrev pub PutTells : T → ℕ → Content T → Option (Entry T) → Option (Entry T) → Put T X → Type 0
-  PutTells value hash c old new (put.Won t r) =
+  -- the bits of its hash; nothing; or it shows the entry that came first
+  abbrev pub PutTells : (T → X) → (X → Bool → Type 0) → T → ℕ → Content T → Option (Entry T) → Option (Entry T) → Put T X → Type 0
+  PutTells target says value hash c old new (put.Won t r) =
       (c ≡ vacant) × (old ≡ None) × (new ≡ Some (entry_of value hash))
-  PutTells value hash c old new (put.Refused t back) = new ≡ old
-  PutTells value hash c old new (put.Lost first back) = IsSeen c old new (λ o. o ≡ Some first.now)
+  PutTells target says value hash c old new (put.Refused t back) = new ≡ old
+  PutTells target says value hash c old new lost =
+      IsSeen c old new (λ o. IsSomeAnd o (LossTells target says (bits_of hash) lost))
+
+-- this holds of the entry that the bucket of this index was set to alone, in the generation that is
+-- walked
+abbrev pub AtAlone : {A T : Type 0} → Option (Bor (GenerationView A T)) → ℕ → (Entry T → Type 0) → Type 0
+AtAlone walked index P = ForSome walked (λ g. IfSome (shown (content_at g.now.contents index)) P)
 
 -- a call has asked for the size
 abbrev pub AsksSize : CallState → CallState → Type 0

@@ -1,7 +1,7 @@
 -- What a contract sees of a call that goes step by step, and what one step of it does.
-use Rattle.std.specs.Prelude.{◌≡◌, Bool, true, Option, Some, None, IfSome}
+use Rattle.std.specs.Prelude.{Bool, true, Option, Some, None, IfSome}
 use Rattle.std.specs.declared.result.Result.{Result}
-use Rattle.std.specs.declared.result.Result.TheVariants.{Ok, Err}
+use Rattle.std.specs.declared.result.Result.TheVariants.{Ok}
 use Rattle.std.specs.Borrow.{Bor}
 use Rattle.std.specs.Fn.{Shared as SharedFn, FnReturnsAtPair}
 use Rattle.table_core.specs.declared.call.Answer.{Answer}

@@ -12,9 +12,9 @@ ghost use Rattle.shared_table.specs.Inserts.{Answers, Places, Finds, GivesBack, 
 
 use crate::carried::{Asking, Carried, Held};
 use crate::inserting::Inserting;
-use crate::reading::{Put, Read, alike_entry, meet};
+use crate::reading::{Put, Read};
 use crate::table::LockFreeRawTable;
-use cell::{Entry, Low};
+use cell::Low;
 use generations::atomic_value::AtomicValue;
 use generations::fixed::Generation;
 use std::snapshot::Snapshot;
@@ -73,7 +73,8 @@ impl<T: AtomicValue, A: Low + Copy> LockFreeRawTable<T, A> {
         unreachable!()
     }
 
-    /// An insert at an empty bucket: its value is offered, counted once if it was taken, and the lock released.
+    /// An insert at an empty bucket: its value is offered, counted once if it was taken, and the lock released. Who lost the
+    /// exchange goes on from what it met there.
     #[inline(always)]
     fn place<'a, R: Wait, E: Fn(&T::Target, &T::Target) -> bool, H: Fn(&T::Target) -> u64>(
         &'a self,
@@ -94,19 +95,19 @@ impl<T: AtomicValue, A: Low + Copy> LockFreeRawTable<T, A> {
         ensures { Answers T.target (FnReturnsAtPair E.Fn asking.eq (T.target asking.given.value)) asking.given.value result }
     {
         let mut note = generation.note_at(state.index as usize);
-        match self.put_value(generation, state, value, &mut note) {
+        let (next, carried) = match self.put_value(
+            generation, state, value, &asking.eq, &mut note,
+        ) {
             Put::Won(next, target) => {
                 let next = self.count(next);
-                self.settle(rt, next, generation, target, None, guard, asking)
+                return self.settle(rt, next, generation, target, None, guard, asking);
             }
-            Put::Lost(first, value) => self.go_on_beside(
-                rt, state, generation, first, value, guard, asking,
-            ),
-            Put::Refused(next, value) => {
-                let (carried, held) = (Carried::Value(value), Held::Shared(guard));
-                self.go_on_from(rt, next, Some(generation), carried, held, asking)
-            }
-        }
+            Put::Refused(next, value) => (next, Carried::Value(value)),
+            Put::Passed(next, _, value) => (next, Carried::Value(value)),
+            Put::Met(next, target, value) => (next, Carried::Met(target, value)),
+        };
+        let held = Held::Shared(guard);
+        self.go_on_from(rt, next, Some(generation), carried, held, asking)
     }
 
     /// An insert that has an outcome releases the lock, and grows the table if half of its generation is set. `back` is the
@@ -142,43 +143,6 @@ impl<T: AtomicValue, A: Low + Copy> LockFreeRawTable<T, A> {
             Some(value) => Carried::Met(target, value),
         };
         self.go_on_from(rt, state, Some(generation), carried, Held::Nothing, asking)
-    }
-
-    /// The rest of an insert that lost its exchange to an entry: it meets that entry at the same bucket.
-    #[inline(never)]
-    fn go_on_beside<'a, R: Wait, E: Fn(&T::Target, &T::Target) -> bool, H: Fn(&T::Target) -> u64>(
-        &'a self,
-        rt: &R,
-        state: CallState,
-        generation: &'a Generation<T, A>,
-        first: &'a Entry<T>,
-        value: T,
-        guard: RwLockReadGuard<'a, ()>,
-        asking: Asking<T, E, H>,
-    ) -> Result<(&'a T::Target, Option<T>), T>
-        requires phase { state.phase ≡ AtEmpty }
-        requires stands { stands_at_bucket state ≡ true }
-        requires pending { state.outcome ≡ Pending }
-        requires long { length generation.now.contents ≡ state.capacity }
-        requires home { generation.now.home ≡ self.now.home }
-        requires given { value ≡ asking.given.value }
-        requires callable { E.IsAlwaysCallable asking.eq × H.IsAlwaysCallable asking.hash_fn }
-        ensures { Answers T.target (FnReturnsAtPair E.Fn asking.eq (T.target asking.given.value)) asking.given.value result }
-    {
-        let target = alike_entry(first, state.hash);
-        let (next, carried) = match meet::<T, E>(state, target, &value, &asking.eq) {
-            Read::Met(next, target) => (next, Carried::Met(target, value)),
-            Read::Passed(next, _) => (next, Carried::Value(value)),
-            Read::Empty(_) => unreachable!(),
-        };
-        self.go_on_from(
-            rt,
-            next,
-            Some(generation),
-            carried,
-            Held::Shared(guard),
-            asking,
-        )
     }
 
     /// The rest of an insert, from any step but the last. What is rare is kept out of `insert`, which pays at its entry for

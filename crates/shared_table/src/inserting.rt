@@ -5,21 +5,23 @@ ghost use Rattle.std.specs.Fn.{FnReturnsAtPair};
 ghost use Rattle.table_core.specs.Calls.{stands_at_bucket, finds_entry, insert_start};
 ghost use Rattle.table_core.specs.declared.call.Outcome.TheVariants.{Pending};
 ghost use Rattle.table_core.specs.declared.call.Phase.TheVariants.{WantShared, Shared, Probe, AtEmpty, Placed, LeaveOk, AskSize, WantOwned, Owned, Building, Done};
-ghost use Rattle.table_core.specs.declared.call.Answer.TheVariants.{Taken, Holds};
+ghost use Rattle.table_core.specs.declared.call.Answer.TheVariants.{Taken, Holds, MemoryRefused};
 ghost use Rattle.turns.specs.Phases.{Inserts, Meets, AtBucket, Hopes, Walks, Turns, Leaves, lock_in, reached, reached_by, Other};
 ghost use Rattle.turns.specs.Steps.{Went, Passing, passed as passed_answer};
+ghost use Rattle.terms.specs.Hashes.{bits_of};
 ghost use Rattle.shared_table.specs.declared.carried.Carried.TheVariants.{Gone};
 ghost use Rattle.shared_table.specs.Carried.{told, kept, placed, accepted, Asks, lock_of};
 ghost use Rattle.shared_table.specs.Inserts.{Answers, told_by};
+ghost use Rattle.shared_table.specs.Reads.{AtAlone, StepTells};
 ghost use Rattle.shared_table.specs.Stepped.{Advances, MayBlock, IfMoved, IfBlocked, IfEnded, accepted_in};
 
 use crate::carried::{Asking, Carried, Held};
 use crate::growing::Wanted;
 use crate::growth::Growth;
-use crate::reading::{Put, Read, alike_entry, meet};
+use crate::reading::{Put, Read};
 use crate::stepped::Progress;
 use crate::table::LockFreeRawTable;
-use cell::{Entry, Low};
+use cell::Low;
 use generations::atomic_value::AtomicValue;
 use generations::fixed::Generation;
 use std::mem;
@@ -138,6 +140,7 @@ impl<
         requires asks { Asks E.IsAlwaysCallable H.IsAlwaysCallable T.target E.Fn self.old.asking self.old.carried }
         requires went { Went self.old.state next (passed_answer asked) }
         requires passing { Passing self.old.state next }
+        ensures answer { result ≡ passed_answer asked }
         ensures went { Went self.old.state self.new.state result }
         ensures there { self.new.carried ≢ Gone }
         ensures same { self.new.asking ≡ self.old.asking }
@@ -155,6 +158,8 @@ impl<
         requires went { Went self.old.state next (Holds true) }
         requires found { next ≡ finds_entry LeaveOk self.old.state }
         requires accepted { FnReturnsAtPair E.Fn self.old.asking.eq (T.target self.old.asking.given.value) target.now true }
+        ensures answer { result ≡ Holds true }
+        ensures kept { accepted self.new.carried ≡ Some target.entry }
         ensures went { Went self.old.state self.new.state result }
         ensures there { self.new.carried ≢ Gone }
         ensures same { self.new.asking ≡ self.old.asking }
@@ -174,6 +179,8 @@ impl<
         requires phase { self.old.state.phase ≡ Probe }
         requires asks { Asks E.IsAlwaysCallable H.IsAlwaysCallable T.target E.Fn self.old.asking self.old.carried }
         ensures went { Went self.old.state self.new.state result }
+        ensures alone { AtAlone self.old.walked self.old.state.index
+            (StepTells T.target (FnReturnsAtPair E.Fn self.old.asking.eq (T.target self.old.asking.given.value)) (bits_of self.old.state.hash) result (accepted self.new.carried)) }
         ensures there { self.new.carried ≢ Gone }
         ensures same { self.new.asking ≡ self.old.asking }
         ensures asks { Asks E.IsAlwaysCallable H.IsAlwaysCallable T.target E.Fn self.new.asking self.new.carried }
@@ -197,32 +204,13 @@ impl<
         }
     }
 
-    /// The exchange was lost to this entry: it is met at the same bucket.
-    fn meet_winner(&mut self, first: &'a Entry<T>) -> Answer
-        requires phase { self.old.state.phase ≡ AtEmpty }
-        requires asks { Asks E.IsAlwaysCallable H.IsAlwaysCallable T.target E.Fn self.old.asking self.old.carried }
-        ensures went { Went self.old.state self.new.state result }
-        ensures there { self.new.carried ≢ Gone }
-        ensures same { self.new.asking ≡ self.old.asking }
-        ensures asks { Asks E.IsAlwaysCallable H.IsAlwaysCallable T.target E.Fn self.new.asking self.new.carried }
-        ensures met { accepted self.old.carried ≢ None → accepted self.new.carried ≡ accepted self.old.carried }
-    {
-        let target = alike_entry(first, self.state.hash);
-        let Carried::Value(value) = &self.carried else {
-            unreachable!()
-        };
-        match meet::<T, E>(self.state, target, value, &self.asking.eq) {
-            Read::Empty(_) => unreachable!(),
-            Read::Passed(next, asked) => self.pass(next, asked),
-            Read::Met(next, target) => self.keep(next, target),
-        }
-    }
-
-    /// One exchange at an empty bucket. Who loses it meets the entry that was first there.
+    /// One exchange at an empty bucket. Who loses it passes or accepts the entry that came first.
     fn put(&mut self) -> Answer
         requires phase { self.old.state.phase ≡ AtEmpty }
         requires asks { Asks E.IsAlwaysCallable H.IsAlwaysCallable T.target E.Fn self.old.asking self.old.carried }
         ensures went { Went self.old.state self.new.state result }
+        ensures alone { result ≢ MemoryRefused → AtAlone self.old.walked self.old.state.index
+            (StepTells T.target (FnReturnsAtPair E.Fn self.old.asking.eq (T.target self.old.asking.given.value)) (bits_of self.old.state.hash) result (accepted self.new.carried)) }
         ensures there { self.new.carried ≢ Gone }
         ensures same { self.new.asking ≡ self.old.asking }
         ensures asks { Asks E.IsAlwaysCallable H.IsAlwaysCallable T.target E.Fn self.new.asking self.new.carried }
@@ -236,7 +224,7 @@ impl<
             unreachable!()
         };
         let mut note = generation.note_at(self.state.index as usize);
-        match table.put_value(generation, self.state, value, &mut note) {
+        match table.put_value(generation, self.state, value, &self.asking.eq, &mut note) {
             Put::Won(next, target) => {
                 self.carried = Carried::Own(target);
                 self.state = next;
@@ -247,9 +235,13 @@ impl<
                 self.state = next;
                 Answer::MemoryRefused
             }
-            Put::Lost(first, value) => {
+            Put::Passed(next, asked, value) => {
                 self.carried = Carried::Value(value);
-                self.meet_winner(first)
+                self.pass(next, asked)
+            }
+            Put::Met(next, target, value) => {
+                self.carried = Carried::Value(value);
+                self.keep(next, target)
             }
         }
     }

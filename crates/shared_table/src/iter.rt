@@ -12,7 +12,8 @@ use std::iter::FusedIterator;
 use std::marker::Model;
 
 /// The targets of a table's entries. It stays with the generation that was current when it was made, and looks at each
-/// bucket when it comes to it. It is seen as the number of the buckets that are left.
+/// bucket when it comes to it. It is seen as the number of the buckets that are left, and the entries that they were set to
+/// alone: each of them is shown, in their order.
 #[derive(Drop)]
 pub struct Iter<'a, T: AtomicValue, A: Allocator + Copy = Global> {
     home: &'a Home,
@@ -21,12 +22,11 @@ pub struct Iter<'a, T: AtomicValue, A: Allocator + Copy = Global> {
 }
 
 impl<'a, T: AtomicValue, A: Allocator + Copy> Model for Iter<'a, T, A> {
-    ghost use Rattle.std.specs.Prelude.{ℕ};
-    ghost use Rattle.shared_table.specs.Walks.{IsWithin};
+    ghost use Rattle.shared_table.specs.Walks.{WalkView, walk_of, IsWithin};
 
-    ghost Value = { ℕ };
+    ghost Value = { WalkView T };
 
-    ghost view = { λ it. it.left };
+    ghost view = { λ it. walk_of it.generation it.left };
 
     ghost invariant = { λ it. IsWithin it.home.now.id it.generation it.left };
 }
@@ -34,9 +34,9 @@ impl<'a, T: AtomicValue, A: Allocator + Copy> Model for Iter<'a, T, A> {
 impl<'a, V: 'a, T: AtomicValue<Target = V>, A: Allocator + Copy> Iterator for Iter<'a, T, A> {
     type Item = &'a V;
 
-    ghost next_gives = { WalksOn };
+    ghost next_gives = { WalksOn T.target };
 
-    ghost remaining = { λ it. at_most it };
+    ghost remaining = { λ it. at_most it.left };
 
     fn next(&mut self) -> Option<&'a V> {
         let generation = self.generation?;

@@ -7,6 +7,8 @@ ghost use Rattle.table_core.specs.declared.call.Outcome.TheVariants.{Pending};
 ghost use Rattle.table_core.specs.declared.call.Phase.TheVariants.{LookLoad, LookProbe, Done};
 ghost use Rattle.turns.specs.Phases.{Looks, reached_by};
 ghost use Rattle.turns.specs.Steps.{Went};
+ghost use Rattle.terms.specs.Hashes.{bits_of};
+ghost use Rattle.shared_table.specs.Reads.{AtAlone, StepTells};
 ghost use Rattle.shared_table.specs.Stepped.{found_by};
 
 use crate::reading::Read;
@@ -76,6 +78,8 @@ impl<'a, T: AtomicValue, A: Allocator + Copy, F: Fn(&T::Target) -> bool> Looking
         ensures went { Went self.old.state self.new.state result.0 }
         ensures found { IfSome result.1 (λ r. (self.new.state.phase ≡ Done) × FnReturnsAt F.Fn self.old.test r.now true) }
         ensures tells { found_by result.1 ≡ reached_by self.new.state.outcome }
+        ensures alone { AtAlone self.old.walked self.old.state.index
+            (StepTells T.target (FnReturnsAt F.Fn self.old.test) (bits_of self.old.state.hash) result.0 result.1) }
         ensures same { self.new.test ≡ self.old.test }
     {
         let table: &'a LockFreeRawTable<T, A> = self.table;

@@ -1,8 +1,9 @@
 //! The steps at a bucket: what is read or exchanged there, and where that takes the call.
 //!
 //! A call stands at the bucket of its state's index in the generation that it walks. Each function here does at that very
-//! bucket what the phase says, and gives the state after the step.
-ghost use Rattle.std.specs.Prelude.{◌≡◌, ◌≢◌, MatchOption, length, slice_index_or, true};
+//! bucket what the phase says, and gives the state after the step. Its contract ties the step to what the bucket shows: the
+//! closure is asked of an entry with the bits of the hash alone, and the answer is what it said.
+ghost use Rattle.std.specs.Prelude.{◌≡◌, length, slice_index_or, true};
 ghost use Rattle.std.specs.Fn.{FnReturnsAt, FnReturnsAtPair};
 ghost use Rattle.generations.specs.Buckets.{content_at};
 ghost use Rattle.generations.specs.Looks.{Tells, IsSeen};
@@ -11,7 +12,7 @@ ghost use Rattle.table_core.specs.Calls.{stands_at_bucket};
 ghost use Rattle.table_core.specs.declared.call.Outcome.TheVariants.{Pending};
 ghost use Rattle.table_core.specs.declared.call.Phase.TheVariants.{Probe, AtEmpty, LookProbe};
 ghost use Rattle.turns.specs.Phases.{Meets};
-ghost use Rattle.shared_table.specs.Reads.{ShowsAlike, InsertMeets, InsertReads, InsertPuts, LookupMeets, LookupReads, ReadTells, PutTells};
+ghost use Rattle.shared_table.specs.Reads.{ShowsAlike, ShowsMarked, InsertMeets, InsertReads, InsertPuts, LookupMeets, LookupReads, ReadTells, LossTells, PutTells};
 
 use crate::table::LockFreeRawTable;
 use cell::{Entry, Low, Missed, Note};
@@ -41,8 +42,10 @@ pub(crate) enum Put<'a, T, X> {
     Won(CallState, &'a X),
     /// The memory for it was refused.
     Refused(CallState, T),
-    /// This entry was there first. The call stands where it stood.
-    Lost(&'a Entry<T>, T),
+    /// Another entry came first, and was passed: the closure said no, or wasn't asked.
+    Passed(CallState, bool, T),
+    /// Another entry came first, and was accepted.
+    Met(CallState, &'a X, T),
 }
 
 /// The target of the entry that a look shows, if it has the bits that were sought.
@@ -57,8 +60,8 @@ fn alike<T: AtomicValue>(look: Look<'_, T>) -> Option<&T::Target>
 }
 
 /// The target of an entry, if it has the bits of this hash.
-pub(crate) fn alike_entry<T: AtomicValue>(entry: &Entry<T>, hash: u64) -> Option<&T::Target>
-    ensures { MatchOption result (entry.now.bits ≢ bits_of hash) (λ r. r.now ≡ T.target entry.now.value) }
+fn alike_entry<T: AtomicValue>(entry: &Entry<T>, hash: u64) -> Option<&T::Target>
+    ensures { ShowsMarked T.target (bits_of hash) entry.now result }
 {
     if entry.bits == bits_of_hash(hash) {
         Some(entry.value.deref())
@@ -69,7 +72,7 @@ pub(crate) fn alike_entry<T: AtomicValue>(entry: &Entry<T>, hash: u64) -> Option
 
 /// An insert meets an entry in its bucket, and asks about its target if the entry has the bits of its hash.
 #[inline(always)]
-pub(crate) fn meet<'a, T: AtomicValue, E: Fn(&T::Target, &T::Target) -> bool>(
+fn meet<'a, T: AtomicValue, E: Fn(&T::Target, &T::Target) -> bool>(
     state: CallState,
     alike: Option<&'a T::Target>,
     value: &T,
@@ -88,6 +91,29 @@ pub(crate) fn meet<'a, T: AtomicValue, E: Fn(&T::Target, &T::Target) -> bool>(
     }
     let asked = alike.is_some();
     Read::Passed(step_passed(state, asked), asked)
+}
+
+/// An insert that lost its exchange meets the entry that came first. That is rare, so it is kept out of line.
+#[inline(never)]
+fn meet_first<'a, T: AtomicValue, E: Fn(&T::Target, &T::Target) -> bool>(
+    state: CallState,
+    first: &'a Entry<T>,
+    value: T,
+    eq: &E,
+) -> Put<'a, T, T::Target>
+    requires phase { state.phase ≡ AtEmpty }
+    requires stands { stands_at_bucket state ≡ true }
+    requires pending { state.outcome ≡ Pending }
+    requires callable { E.IsAlwaysCallable eq.now }
+    ensures puts { InsertPuts T.target (FnReturnsAtPair E.Fn eq.now (T.target value)) value state result }
+    ensures tells { LossTells T.target (FnReturnsAtPair E.Fn eq.now (T.target value)) (bits_of state.hash) result first.now }
+{
+    let target = alike_entry(first, state.hash);
+    match meet::<T, E>(state, target, &value, eq) {
+        Read::Empty(_) => unreachable!(),
+        Read::Passed(next, asked) => Put::Passed(next, asked, value),
+        Read::Met(next, target) => Put::Met(next, target, value),
+    }
 }
 
 /// A look-up meets an entry in its bucket, and asks about its target if the entry has the bits of its hash.
@@ -150,7 +176,8 @@ impl<T: AtomicValue, A: Allocator + Copy> LockFreeRawTable<T, A> {
         requires of { note.old.of ≡ slice_index_or generation.now.ids state.index 0 }
         ensures of { note.new.of ≡ note.old.of }
         ensures reads { InsertReads (FnReturnsAtPair E.Fn eq.now (T.target value.now)) state result }
-        ensures seen { IsSeen (content_at generation.now.contents state.index) note.old.known note.new.known (λ o. ReadTells T.target o result) }
+        ensures seen { IsSeen (content_at generation.now.contents state.index) note.old.known note.new.known
+            (λ o. ReadTells T.target (FnReturnsAtPair E.Fn eq.now (T.target value.now)) (bits_of state.hash) o result) }
     {
         let look = self.look(generation, state, note);
         if matches!(look, Look::Vacant) {
@@ -176,7 +203,8 @@ impl<T: AtomicValue, A: Allocator + Copy> LockFreeRawTable<T, A> {
         requires of { note.old.of ≡ slice_index_or generation.now.ids state.index 0 }
         ensures of { note.new.of ≡ note.old.of }
         ensures reads { LookupReads (FnReturnsAt F.Fn test.now) state result }
-        ensures seen { IsSeen (content_at generation.now.contents state.index) note.old.known note.new.known (λ o. ReadTells T.target o result) }
+        ensures seen { IsSeen (content_at generation.now.contents state.index) note.old.known note.new.known
+            (λ o. ReadTells T.target (FnReturnsAt F.Fn test.now) (bits_of state.hash) o result) }
     {
         let look = self.look(generation, state, note);
         if matches!(look, Look::Vacant) {
@@ -187,28 +215,32 @@ impl<T: AtomicValue, A: Allocator + Copy> LockFreeRawTable<T, A> {
 }
 
 impl<T: AtomicValue, A: Low + Copy> LockFreeRawTable<T, A> {
-    /// An insert offers its value to its bucket, by one exchange.
+    /// An insert offers its value to its bucket, by one exchange. Who loses it meets the entry that came first.
     #[inline(always)]
-    pub(crate) fn put_value<'a>(
+    pub(crate) fn put_value<'a, E: Fn(&T::Target, &T::Target) -> bool>(
         &'a self,
         generation: &'a Generation<T, A>,
         state: CallState,
         value: T,
+        eq: &E,
         note: &mut Note<Entry<T>>,
     ) -> Put<'a, T, T::Target>
         requires phase { state.phase ≡ AtEmpty }
         requires stands { stands_at_bucket state ≡ true }
+        requires pending { state.outcome ≡ Pending }
         requires home { generation.now.home ≡ self.now.home }
         requires walked { length generation.now.contents ≡ state.capacity }
+        requires callable { E.IsAlwaysCallable eq.now }
         requires of { note.old.of ≡ slice_index_or generation.now.ids state.index 0 }
         ensures of { note.new.of ≡ note.old.of }
-        ensures puts { InsertPuts T.target value state result }
-        ensures tells { PutTells value state.hash (content_at generation.now.contents state.index) note.old.known note.new.known result }
+        ensures puts { InsertPuts T.target (FnReturnsAtPair E.Fn eq.now (T.target value)) value state result }
+        ensures tells { PutTells T.target (FnReturnsAtPair E.Fn eq.now (T.target value)) value state.hash
+            (content_at generation.now.contents state.index) note.old.known note.new.known result }
     {
         let bits = bits_of_hash(state.hash);
         match generation.place_at(self.home(), state.index as usize, value, bits, note) {
             Ok(entry) => Put::Won(step(state, Answer::Won), entry.value.deref()),
-            Err(Missed::Taken(value, first)) => Put::Lost(first, value),
+            Err(Missed::Taken(value, first)) => meet_first::<T, E>(state, first, value, eq),
             Err(Missed::NoMemory(value)) => Put::Refused(step(state, Answer::MemoryRefused), value),
         }
     }

@@ -2,7 +2,8 @@ use Rattle.std.proofs.Common.{refl, nat_lt}
 use Rattle.std.specs.Prelude.{◌/◌}
 use Rattle.table_core.specs.declared.call.Answer.TheVariants.{Sized}
 use Rattle.table_core.specs.declared.call.Phase.TheVariants.{AskSize}
-use Rattle.shared_table.proofs.Between.{asks_size, carries, stepped}
+use Rattle.shared_table.proofs.Between.{asks_size, carries}
+use Rattle.shared_table.proofs.Onward.{taken}
 use Rattle.shared_table.proofs.inserting.Inserting.ask_size.Goals as goal
 
 pub step-self-requires : goal.step-self-requires
@@ -11,7 +12,7 @@ step-self-requires g c = record { fits = rw c.requires.phase (c.args.self.now.wi
 pub invariant_of-self : goal.invariant_of-self
 invariant_of-self g c =
     let i = c.args.self.now in
-    asks_size i (nat_lt c.len-size.result (i.state.capacity / 2)) c.step-self.result c.requires.phase (stepped i AskSize (Sized c.len-size.result) c.step-self.result c.requires.phase c.step-self.ensures.decided)
+    asks_size i (nat_lt c.len-size.result (i.state.capacity / 2)) c.step-self.result c.requires.phase (taken AskSize (Sized c.len-size.result) i.state c.step-self.result c.requires.phase c.step-self.ensures.decided)
 
 pub returns-clause-went : goal.returns-clause-went
 returns-clause-went g c = c.step-self.ensures.went

@@ -2,7 +2,8 @@ use Rattle.std.proofs.Common.{◌≡◌, ◌∙◌, refl, sym, Some, None}
 use Rattle.table_core.specs.declared.call.Answer.TheVariants.{Copied, Shown}
 use Rattle.table_core.specs.declared.call.Phase.TheVariants.{Building, LeaveOwned}
 use Rattle.shared_table.proofs.Looked.{some_same}
-use Rattle.shared_table.proofs.Between.{bears, carries, goes, keeps_lock, stepped}
+use Rattle.shared_table.proofs.Between.{bears, carries, goes, keeps_lock}
+use Rattle.shared_table.proofs.Onward.{taken}
 use Rattle.shared_table.proofs.inserting.Inserting.build.Goals as goal
 
 pub unreachable-requires : goal.unreachable-requires
@@ -20,7 +21,7 @@ step-self-requires g c = record { fits = rw c.requires.phase refl }
 pub invariant_of-self : goal.invariant_of-self
 invariant_of-self g c =
     let i = c.args.self.now in
-    goes i Building Building c.step-self.result (Some c.copy_next.new.self) i.carried i.held c.requires.phase (stepped i Building Copied c.step-self.result c.requires.phase c.step-self.ensures.decided)
+    goes i Building Building c.step-self.result (Some c.copy_next.new.self) i.carried i.held c.requires.phase (taken Building Copied i.state c.step-self.result c.requires.phase c.step-self.ensures.decided)
     (record { inserts = refl; hopes = λ x. x; stands = λ x. x; walks = λ x. x })
     (bears i Building Building c.requires.phase refl refl) (keeps_lock i Building c.requires.phase) (λ _ e. absurd (cc)) (λ x e. sym (some_same c.copy_next.new.self x e) ∙ c.copy_next.ensures ∙ i.grows c.in-Some.growth (sym c.in-Some.ensures.value))
 
@@ -30,7 +31,7 @@ step-self-requires-2 g c = record { fits = rw c.requires.phase refl }
 pub invariant_of-self-2 : goal.invariant_of-self-2
 invariant_of-self-2 g c =
     let i = c.args.self.now in
-    goes i Building LeaveOwned c.step-self-2.result c.take.new.self i.carried i.held c.requires.phase (stepped i Building Shown c.step-self-2.result c.requires.phase c.step-self-2.ensures.decided)
+    goes i Building LeaveOwned c.step-self-2.result c.take.new.self i.carried i.held c.requires.phase (taken Building Shown i.state c.step-self-2.result c.requires.phase c.step-self-2.ensures.decided)
     (record { inserts = refl; hopes = λ x. x; stands = λ x. x; walks = λ x. x })
     (bears i Building LeaveOwned c.requires.phase refl refl) (keeps_lock i Building c.requires.phase) (λ e. absurd (cc)) (λ x e. absurd (let none : Some x ≡ None = sym e ∙ c.take.ensures.after in cc))
 

@@ -2,7 +2,8 @@ use Rattle.std.proofs.Common.{◌∙◌, refl, sym, Some}
 use Rattle.table_core.specs.declared.call.Answer.TheVariants.{Begun, Failed, Unwanted}
 use Rattle.table_core.specs.declared.call.Phase.TheVariants.{Building, LeaveFailed, LeaveOwned, Owned}
 use Rattle.shared_table.proofs.Looked.{some_same}
-use Rattle.shared_table.proofs.Between.{bears, carries, goes, keeps_lock, stepped}
+use Rattle.shared_table.proofs.Between.{bears, carries, goes, keeps_lock}
+use Rattle.shared_table.proofs.Onward.{taken}
 use Rattle.shared_table.proofs.inserting.Inserting.check.Goals as goal
 
 pub step-self-requires : goal.step-self-requires
@@ -11,7 +12,7 @@ step-self-requires g c = record { fits = rw c.requires.phase refl }
 pub invariant_of-self : goal.invariant_of-self
 invariant_of-self g c =
     let i = c.args.self.now in
-    goes i Owned LeaveOwned c.step-self.result i.growth i.carried i.held c.requires.phase (stepped i Owned Unwanted c.step-self.result c.requires.phase c.step-self.ensures.decided)
+    goes i Owned LeaveOwned c.step-self.result i.growth i.carried i.held c.requires.phase (taken Owned Unwanted i.state c.step-self.result c.requires.phase c.step-self.ensures.decided)
     (record { inserts = refl; hopes = λ x. x; stands = λ x. x; walks = λ x. x })
     (bears i Owned LeaveOwned c.requires.phase refl refl) (keeps_lock i Owned c.requires.phase) (λ e. absurd (cc)) i.grows
 
@@ -21,7 +22,7 @@ step-self-requires-in-Failed g c = record { fits = rw c.requires.phase refl }
 pub invariant_of-self-in-Failed : goal.invariant_of-self-in-Failed
 invariant_of-self-in-Failed g c =
     let i = c.args.self.now in
-    goes i Owned LeaveFailed c.step-self-in-Failed.result i.growth i.carried i.held c.requires.phase (stepped i Owned Failed c.step-self-in-Failed.result c.requires.phase c.step-self-in-Failed.ensures.decided)
+    goes i Owned LeaveFailed c.step-self-in-Failed.result i.growth i.carried i.held c.requires.phase (taken Owned Failed i.state c.step-self-in-Failed.result c.requires.phase c.step-self-in-Failed.ensures.decided)
     (record { inserts = refl; hopes = λ x. x; stands = λ x. x; walks = λ x. x })
     (bears i Owned LeaveFailed c.requires.phase refl refl) (keeps_lock i Owned c.requires.phase) (λ e. absurd (cc)) i.grows
 
@@ -31,7 +32,7 @@ step-self-requires-in-Begun g c = record { fits = rw c.requires.phase refl }
 pub invariant_of-self-in-Begun : goal.invariant_of-self-in-Begun
 invariant_of-self-in-Begun g c =
     let i = c.args.self.now in
-    goes i Owned Building c.step-self-in-Begun.result (Some c.in-Begun.growth) i.carried i.held c.requires.phase (stepped i Owned Begun c.step-self-in-Begun.result c.requires.phase c.step-self-in-Begun.ensures.decided)
+    goes i Owned Building c.step-self-in-Begun.result (Some c.in-Begun.growth) i.carried i.held c.requires.phase (taken Owned Begun i.state c.step-self-in-Begun.result c.requires.phase c.step-self-in-Begun.ensures.decided)
     (record { inserts = refl; hopes = λ x. x; stands = λ x. x; walks = λ x. x })
     (bears i Owned Building c.requires.phase refl refl) (keeps_lock i Owned c.requires.phase) (λ _ e. absurd (cc)) (λ x e. sym (some_same c.in-Begun.growth x e) ∙ c.in-Begun.ensures)
 

@@ -13,6 +13,12 @@ invariant_of-self g c =
     let i = c.args.self.now in
     accepts i c.args.next c.args.target c.in-Value.value c.requires.phase c.requires.found (i.stems c.in-Value.value (ap kept (sym c.in-Value.ensures.value)))
 
+pub returns-clause-answer : goal.returns-clause-answer
+returns-clause-answer g c = refl
+
+pub returns-clause-kept : goal.returns-clause-kept
+returns-clause-kept g c = refl
+
 pub returns-clause-went : goal.returns-clause-went
 returns-clause-went g c = c.requires.went
 

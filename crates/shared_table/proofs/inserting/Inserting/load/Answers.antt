@@ -1,7 +1,8 @@
 use Rattle.std.proofs.Common.{inl, refl}
 use Rattle.table_core.specs.declared.call.Answer.TheVariants.{NoGeneration}
 use Rattle.table_core.specs.declared.call.Phase.TheVariants.{Shared}
-use Rattle.shared_table.proofs.Between.{carries, finds_none, starts, stepped}
+use Rattle.shared_table.proofs.Between.{carries, finds_none, starts}
+use Rattle.shared_table.proofs.Onward.{taken}
 use Rattle.shared_table.proofs.inserting.Inserting.load.Goals as goal
 
 pub step-self-requires : goal.step-self-requires
@@ -10,7 +11,7 @@ step-self-requires g c = record { fits = rw c.requires.phase refl }
 pub invariant_of-self : goal.invariant_of-self
 invariant_of-self g c =
     let i = c.args.self.now in
-    finds_none i c.step-self.result c.requires.phase (stepped i Shared NoGeneration c.step-self.result c.requires.phase c.step-self.ensures.decided)
+    finds_none i c.step-self.result c.requires.phase (taken Shared NoGeneration i.state c.step-self.result c.requires.phase c.step-self.ensures.decided)
 
 pub step_loaded-self-requires-clause-phase : goal.step_loaded-self-requires-clause-phase
 step_loaded-self-requires-clause-phase g c = inl c.requires.phase

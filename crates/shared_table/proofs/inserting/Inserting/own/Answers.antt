@@ -2,7 +2,8 @@ use Rattle.std.proofs.Common.{refl}
 use Rattle.table_core.specs.declared.call.Answer.TheVariants.{Taken}
 use Rattle.table_core.specs.declared.call.Phase.TheVariants.{WantOwned, Owned}
 use Rattle.shared_table.specs.declared.carried.Held.TheVariants as held
-use Rattle.shared_table.proofs.Between.{bears, carries, goes, stepped}
+use Rattle.shared_table.proofs.Between.{bears, carries, goes}
+use Rattle.shared_table.proofs.Onward.{taken}
 use Rattle.shared_table.proofs.inserting.Inserting.own.Goals as goal
 
 pub step-self-requires : goal.step-self-requires
@@ -11,7 +12,7 @@ step-self-requires g c = record { fits = rw c.requires.phase refl }
 pub invariant_of-self : goal.invariant_of-self
 invariant_of-self g c =
     let i = c.args.self.now in
-    goes i WantOwned Owned c.step-self.result i.growth i.carried (held.Alone c.args.guard) c.requires.phase (stepped i WantOwned Taken c.step-self.result c.requires.phase c.step-self.ensures.decided)
+    goes i WantOwned Owned c.step-self.result i.growth i.carried (held.Alone c.args.guard) c.requires.phase (taken WantOwned Taken i.state c.step-self.result c.requires.phase c.step-self.ensures.decided)
     (record { inserts = refl; hopes = λ x. x; stands = λ x. x; walks = λ x. x })
     (bears i WantOwned Owned c.requires.phase refl refl) refl (λ e. absurd (cc)) i.grows
 

@@ -7,6 +7,9 @@ use Rattle.shared_table.proofs.inserting.Inserting.pass.Goals as goal
 pub invariant_of-self : goal.invariant_of-self
 invariant_of-self g c = passes c.args.self.now c.args.next c.requires.phase c.requires.passing
 
+pub returns-clause-answer : goal.returns-clause-answer
+returns-clause-answer g c = c.passed.ensures
+
 pub returns-clause-went : goal.returns-clause-went
 returns-clause-went g c = subst (λ (a : Answer). Went c.args.self.now.state c.args.next a) (sym c.passed.ensures) c.requires.went
 

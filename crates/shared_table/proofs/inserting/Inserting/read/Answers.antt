@@ -1,6 +1,11 @@
-use Rattle.std.proofs.Common.{◌≡◌, ap, refl, subst, true}
+use Rattle.std.proofs.Common.{◌≡◌, ap, refl, subst, true, Some}
 use Rattle.std.specs.Fn.{FnReturnsAtPair}
-use Rattle.shared_table.specs.Carried.{kept}
+use Rattle.terms.specs.Hashes.{bits_of}
+use Rattle.turns.specs.Steps.{passed}
+use Rattle.table_core.specs.declared.call.Answer.TheVariants.{Holds}
+use Rattle.shared_table.specs.Carried.{accepted, kept}
+use Rattle.shared_table.specs.Reads.{AtAlone, StepTells}
+use Rattle.shared_table.proofs.Alone.{at_accepted, at_empty, at_passed}
 use Rattle.table_core.specs.declared.call.Phase.TheVariants.{AtEmpty, Probe}
 use Rattle.shared_table.proofs.Between.{bears, carries, goes, holds_value, keeps_lock, within}
 use Rattle.shared_table.proofs.inserting.Inserting.read.Goals as goal
@@ -76,6 +81,9 @@ keep-requires-clause-accepted g c =
 pub returns-in-Empty-clause-went : goal.returns-in-Empty-clause-went
 returns-in-Empty-clause-went g c = c.in-Empty.ensures.reads.0
 
+pub returns-in-Empty-clause-alone : goal.returns-in-Empty-clause-alone
+returns-in-Empty-clause-alone g c = at_empty c.args.self.now.walked c.in-Some.generation c.args.self.now.state.index c.in-Some.is _ _ _ c.in-Empty.ensures.seen
+
 pub returns-in-Empty-clause-there : goal.returns-in-Empty-clause-there
 returns-in-Empty-clause-there g c = carries c.args.self.now Probe c.requires.phase refl
 
@@ -88,6 +96,14 @@ returns-in-Empty-clause-asks g c = c.requires.asks
 pub returns-in-Passed-clause-went : goal.returns-in-Passed-clause-went
 returns-in-Passed-clause-went g c = c.pass.ensures.went
 
+pub returns-in-Passed-clause-alone : goal.returns-in-Passed-clause-alone
+returns-in-Passed-clause-alone g c =
+    let i = c.args.self.now in
+    let target = g.T.AtomicValue.target in
+    let e : c.in-Value.value ≡ i.asking.given.value = i.stems c.in-Value.value (ap kept c.in-Value.is) in
+    rw c.pass.ensures.answer (subst (λ v. AtAlone i.walked i.state.index (StepTells target (FnReturnsAtPair g.E.Fn i.asking.eq (target v)) (bits_of i.state.hash) (passed c.in-Passed.asked) (accepted c.pass.new.self.carried))) e
+    (at_passed i.walked c.in-Some.generation i.state.index c.in-Some.is target (FnReturnsAtPair g.E.Fn i.asking.eq (target c.in-Value.value)) (bits_of i.state.hash) _ _ c.in-Passed.asked (accepted c.pass.new.self.carried) c.in-Passed.ensures.seen))
+
 pub returns-in-Passed-clause-there : goal.returns-in-Passed-clause-there
 returns-in-Passed-clause-there g c = c.pass.ensures.there
 
@@ -99,6 +115,14 @@ returns-in-Passed-clause-asks g c = c.pass.ensures.asks
 
 pub returns-in-Met-clause-went : goal.returns-in-Met-clause-went
 returns-in-Met-clause-went g c = c.keep.ensures.went
+
+pub returns-in-Met-clause-alone : goal.returns-in-Met-clause-alone
+returns-in-Met-clause-alone g c =
+    let i = c.args.self.now in
+    let target = g.T.AtomicValue.target in
+    let e : c.in-Value.value ≡ i.asking.given.value = i.stems c.in-Value.value (ap kept c.in-Value.is) in
+    rw (c.keep.ensures.answer, c.keep.ensures.kept) (subst (λ v. AtAlone i.walked i.state.index (StepTells target (FnReturnsAtPair g.E.Fn i.asking.eq (target v)) (bits_of i.state.hash) (Holds true) (Some c.in-Met.target))) e
+    (at_accepted i.walked c.in-Some.generation i.state.index c.in-Some.is target (FnReturnsAtPair g.E.Fn i.asking.eq (target c.in-Value.value)) (bits_of i.state.hash) _ _ c.in-Met.target c.in-Met.ensures.seen))
 
 pub returns-in-Met-clause-there : goal.returns-in-Met-clause-there
 returns-in-Met-clause-there g c = c.keep.ensures.there

@@ -1,10 +1,12 @@
-use Rattle.std.proofs.Common.{◌∙◌, ap, Some, refl}
+use Rattle.std.proofs.Common.{◌∙◌, ap, subst, sym, true, Bor, Some, refl}
+use Rattle.std.specs.Fn.{FnReturnsAtPair}
 use Rattle.table_core.specs.declared.call.CallState.{CallState}
 use Rattle.turns.specs.Phases.{reached_by}
-use Rattle.shared_table.specs.declared.carried.Carried.TheVariants.{Value}
+use Rattle.shared_table.specs.declared.carried.Carried.{Carried}
 use Rattle.shared_table.specs.declared.carried.Held.TheVariants as held
 use Rattle.shared_table.proofs.Between.{has_room, index_within}
-use Rattle.shared_table.proofs.Onward.{GoesOn, after_refusal}
+use Rattle.shared_table.proofs.Onward.{GoesOn, after_meeting, after_passing, after_refusal}
+use Rattle.shared_table.proofs.table.LockFreeRawTable.place.Goals.{in-Refused, in-Passed, in-Met}
 use Rattle.shared_table.proofs.table.LockFreeRawTable.place.Given as given
 use Rattle.shared_table.proofs.table.LockFreeRawTable.place.Goals as goal
 
@@ -22,6 +24,12 @@ put_value-requires-clause-home g c = c.requires.home
 
 pub put_value-requires-clause-walked : goal.put_value-requires-clause-walked
 put_value-requires-clause-walked g c = c.requires.long
+
+pub put_value-requires-clause-pending : goal.put_value-requires-clause-pending
+put_value-requires-clause-pending g c = c.requires.pending
+
+pub put_value-requires-clause-callable : goal.put_value-requires-clause-callable
+put_value-requires-clause-callable g c = c.requires.callable.0
 
 pub put_value-requires-clause-of : goal.put_value-requires-clause-of
 put_value-requires-clause-of g c = c.note_at-note.ensures.0
@@ -53,32 +61,15 @@ settle-requires-clause-answers g c = (c.in-Won.ensures.puts.2 ∙ ap g.T.AtomicV
 pub settle-requires-clause-callable : goal.settle-requires-clause-callable
 settle-requires-clause-callable g c = c.requires.callable
 
-pub go_on_beside-requires-clause-phase : goal.go_on_beside-requires-clause-phase
-go_on_beside-requires-clause-phase g c = c.requires.phase
-
-pub go_on_beside-requires-clause-stands : goal.go_on_beside-requires-clause-stands
-go_on_beside-requires-clause-stands g c = c.requires.stands
-
-pub go_on_beside-requires-clause-pending : goal.go_on_beside-requires-clause-pending
-go_on_beside-requires-clause-pending g c = c.requires.pending
-
-pub go_on_beside-requires-clause-long : goal.go_on_beside-requires-clause-long
-go_on_beside-requires-clause-long g c = c.requires.long
-
-pub go_on_beside-requires-clause-home : goal.go_on_beside-requires-clause-home
-go_on_beside-requires-clause-home g c = c.requires.home
-
-pub go_on_beside-requires-clause-callable : goal.go_on_beside-requires-clause-callable
-go_on_beside-requires-clause-callable g c = c.requires.callable
-
-pub go_on_beside-requires-clause-given : goal.go_on_beside-requires-clause-given
-go_on_beside-requires-clause-given g c = c.in-Lost.ensures.puts ∙ c.requires.given
-
 -- what the call has that goes on
-onward : (g : given.Over) (c : goal.In-Refused g) → GoesOn g.T.AtomicValue.target (given.E-IsAlwaysCallable g) (given.H-IsAlwaysCallable g) g.E.Fn c.args.self.now.home c.args.asking c.in-Refused.next (Some c.args.generation) (Value c.in-Refused.value) (held.Shared c.args.guard)
+onward : (g : given.Over) (c : goal.After-next-2-1 g) → GoesOn g.T.AtomicValue.target (given.E-IsAlwaysCallable g) (given.H-IsAlwaysCallable g) g.E.Fn c.args.self.now.home c.args.asking c.match-put_value.carried.0 (Some c.args.generation) c.match-put_value.carried.1 (held.Shared c.args.guard)
 onward g c =
-    after_refusal g.T.AtomicValue.target (given.E-IsAlwaysCallable g) (given.H-IsAlwaysCallable g) g.E.Fn c.args.self.now.home c.args.asking c.args.state c.args.generation c.requires.long c.requires.home c.requires.callable.0 c.requires.callable.1 c.in-Refused.next c.in-Refused.value (held.Shared c.args.guard)
-    c.requires.pending c.in-Refused.ensures.puts.1 (c.in-Refused.ensures.puts.2 ∙ c.requires.given) refl
+    let GoesFrom = λ (x : CallState × Carried g.row.T.Denot (Bor g.row.T-Target.Denot)). GoesOn g.T.AtomicValue.target (given.E-IsAlwaysCallable g) (given.H-IsAlwaysCallable g) g.E.Fn c.args.self.now.home c.args.asking x.0 (Some c.args.generation) x.1 (held.Shared c.args.guard) in
+    elim c.match-put_value.branch [
+      | in-Refused w ↦ subst GoesFrom (sym w.carried-is) (after_refusal g.T.AtomicValue.target (given.E-IsAlwaysCallable g) (given.H-IsAlwaysCallable g) g.E.Fn c.args.self.now.home c.args.asking c.args.state c.args.generation c.requires.long c.requires.home c.requires.callable.0 c.requires.callable.1 w.in-Refused.next w.in-Refused.value (held.Shared c.args.guard) c.requires.pending w.in-Refused.ensures.puts.1 (w.in-Refused.ensures.puts.2 ∙ c.requires.given) refl)
+      | in-Passed w ↦ subst GoesFrom (sym w.carried-is) (after_passing g.T.AtomicValue.target (given.E-IsAlwaysCallable g) (given.H-IsAlwaysCallable g) g.E.Fn c.args.self.now.home c.args.asking c.args.state c.args.generation c.requires.long c.requires.home c.requires.callable.0 c.requires.callable.1 w.in-Passed.next w.in-Passed.value (held.Shared c.args.guard) c.requires.pending w.in-Passed.ensures.puts.1 (w.in-Passed.ensures.puts.2 ∙ c.requires.given) refl)
+      | in-Met w ↦ subst GoesFrom (sym w.carried-is) (after_meeting g.T.AtomicValue.target (given.E-IsAlwaysCallable g) (given.H-IsAlwaysCallable g) g.E.Fn c.args.self.now.home c.args.asking c.args.state c.args.generation c.requires.long c.requires.home c.requires.callable.0 c.requires.callable.1 w.in-Met.next w.in-Met.target w.in-Met.value (held.Shared c.args.guard) (has_room c.args.state c.requires.stands) w.in-Met.ensures.puts.1 (subst (λ v. FnReturnsAtPair g.E.Fn c.args.asking.eq (g.T.AtomicValue.target v) w.in-Met.target.now true) c.requires.given w.in-Met.ensures.puts.3) (w.in-Met.ensures.puts.2 ∙ c.requires.given) refl)
+    ]
 
 pub go_on_from-requires-clause-inserts : goal.go_on_from-requires-clause-inserts
 go_on_from-requires-clause-inserts g c = (onward g c).inserts
@@ -128,8 +119,5 @@ go_on_from-requires-clause-asks g c = (onward g c).asks
 pub returns-in-Won : goal.returns-in-Won
 returns-in-Won g c = c.settle.ensures
 
-pub returns-in-Lost : goal.returns-in-Lost
-returns-in-Lost g c = c.go_on_beside.ensures
-
-pub returns-in-Refused : goal.returns-in-Refused
-returns-in-Refused g c = c.go_on_from.ensures
+pub returns : goal.returns
+returns g c = c.go_on_from.ensures

@@ -1,11 +1,13 @@
-use Rattle.std.proofs.Common.{◌∙◌, ap, sym, Some}
+use Rattle.std.proofs.Common.{◌∙◌, ap, subst, sym, Some}
+use Rattle.std.specs.Fn.{FnReturnsAtPair}
 use Rattle.cell.specs.Contents.{entry_from}
 use Rattle.cell.specs.declared.bucket.Entry.{Entry}
 use Rattle.generations.specs.Buckets.{content_at}
 use Rattle.table_core.specs.declared.call.Answer.TheVariants.{Won, MemoryRefused}
 use Rattle.table_core.specs.declared.call.Phase.TheVariants.{AtEmpty}
 use Rattle.shared_table.proofs.Between.{index_within}
-use Rattle.shared_table.proofs.Missed.{refused_back, refused_same, taken_back, taken_seen}
+use Rattle.shared_table.specs.Reads.{InsertPuts, PutTells}
+use Rattle.shared_table.proofs.Missed.{lost_tells, refused_back, refused_same, taken_back, taken_seen}
 use Rattle.shared_table.proofs.Onward.{taken}
 use Rattle.shared_table.proofs.table.LockFreeRawTable.put_value.Goals as goal
 
@@ -40,11 +42,30 @@ returns-in-Ok-clause-tells g c = (c.in-Ok.ensures.ok.0, c.in-Ok.ensures.first.0,
 pub returns-in-Err-Taken-clause-of : goal.returns-in-Err-Taken-clause-of
 returns-in-Err-Taken-clause-of g c = c.place_at.ensures.of
 
+pub meet_first-requires-clause-phase : goal.meet_first-requires-clause-phase
+meet_first-requires-clause-phase g c = c.requires.phase
+
+pub meet_first-requires-clause-stands : goal.meet_first-requires-clause-stands
+meet_first-requires-clause-stands g c = c.requires.stands
+
+pub meet_first-requires-clause-pending : goal.meet_first-requires-clause-pending
+meet_first-requires-clause-pending g c = c.requires.pending
+
+pub meet_first-requires-clause-callable : goal.meet_first-requires-clause-callable
+meet_first-requires-clause-callable g c = c.requires.callable
+
 pub returns-in-Err-Taken-clause-puts : goal.returns-in-Err-Taken-clause-puts
-returns-in-Err-Taken-clause-puts g c = taken_back (content_at c.args.generation.now.contents c.args.state.index) _ _ _ _ _ (rw c.in-Err-Taken.field-0-is at c.in-Err-Taken.ensures.missed)
+returns-in-Err-Taken-clause-puts g c =
+    let back = taken_back (content_at c.args.generation.now.contents c.args.state.index) _ _ _ _ _ (rw c.in-Err-Taken.field-0-is at c.in-Err-Taken.ensures.missed) in
+    subst (λ v. InsertPuts g.T.AtomicValue.target (FnReturnsAtPair g.E.Fn c.args.eq.now (g.T.AtomicValue.target v)) v c.args.state c.meet_first.result) back c.meet_first.ensures.puts
 
 pub returns-in-Err-Taken-clause-tells : goal.returns-in-Err-Taken-clause-tells
-returns-in-Err-Taken-clause-tells g c = taken_seen (content_at c.args.generation.now.contents c.args.state.index) _ _ _ _ _ (rw c.in-Err-Taken.field-0-is at c.in-Err-Taken.ensures.missed)
+returns-in-Err-Taken-clause-tells g c =
+    let at = content_at c.args.generation.now.contents c.args.state.index in
+    let missed = rw c.in-Err-Taken.field-0-is at c.in-Err-Taken.ensures.missed in
+    let back = taken_back at _ _ _ _ _ missed in
+    subst (λ v. PutTells g.T.AtomicValue.target (FnReturnsAtPair g.E.Fn c.args.eq.now (g.T.AtomicValue.target v)) v c.args.state.hash at c.args.note.now.known c.place_at.new.note.known c.meet_first.result) back
+    (lost_tells g.T.AtomicValue.target (FnReturnsAtPair g.E.Fn c.args.eq.now (g.T.AtomicValue.target c.in-Err-Taken.value)) c.in-Err-Taken.value c.args.state.hash at c.args.note.now.known c.place_at.new.note.known c.in-Err-Taken.first c.meet_first.result c.meet_first.ensures.tells (taken_seen at _ _ _ _ _ missed))
 
 pub returns-in-Err-NoMemory-clause-of : goal.returns-in-Err-NoMemory-clause-of
 returns-in-Err-NoMemory-clause-of g c = c.place_at.ensures.of
