@@ -44,6 +44,29 @@ module _ {X : Type 0} (passes : X → Bool) where
     ]
   ]
 
+module _ {X : Type 0} where
+  -- where another test accepts all that this one accepts, it accepts as many
+  count_below : (passes others : X → Bool) → ((x : X) → passes x ≡ true → others x ≡ true) → (xs : List X) → count_by passes xs ≤ count_by others xs
+  count_below passes others within [] = omega arith
+  count_below passes others within (x ∷ xs) =
+      let rest = count_below passes others within xs in
+      let one = sum_by-cons (λ y. cond (passes y) 1 0) x xs in
+      let other = sum_by-cons (λ y. cond (others y) 1 0) x xs in
+      elim (cases_Bool (passes x)) [
+        | inl passed ↦ (let also = within x passed in rw (one, other, passed, also) (omega arith))
+        | inr not_passed ↦ rw (one, other, not_passed) (omega arith)
+      ]
+
+  -- where all that pass are alike, and each is like one element alone, few pass
+  pub few_of_class : (passes : X → Bool) (alike : X → X → Bool) (xs : List X) → ((v w : X) → passes v ≡ true → passes w ≡ true → alike v w ≡ true) → ((v : X) → count_by (alike v) xs ≤ 1) → count_by passes xs ≤ 1
+  few_of_class passes alike [] one_class few = omega arith
+  few_of_class passes alike (x ∷ xs) one_class few = elim (cases_Bool (passes x)) [
+    | inl passed ↦ omega (arith, few x, count_below passes (alike x) (λ w also. one_class x w passed also) (x ∷ xs))
+    | inr not_passed ↦
+        (let rest = few_of_class passes alike xs one_class (λ v. omega (arith, few v, sum_by-cons (λ y. cond (alike v y) 1 0) x xs)) in
+        rw (sum_by-cons (λ y. cond (passes y) 1 0) x xs, not_passed) (omega arith))
+  ]
+
 module _ {E U : Type 0} (image : E → U) (same : U → U → Bool) (hash_of : U → ℕ) (law : IsLaw same hash_of) where
   not_true : (x y z : U) → same x z ≡ true → same z y ≡ false → same x y ≡ false
   not_true x y z one other = elim (cases_Bool (same x y)) [

@@ -1,10 +1,8 @@
--- What callers may conclude: a count answers as the list object, a table without entries is lawful.
-use Rattle.std.proofs.Common.{◌≡◌, ℕ, zero, suc, ◌≤◌, List, [], ◌∷◌, Option, Some, None, length, refl, arith}
-use Rattle.std.proofs.lemmas.List.{length-map}
+-- What callers may conclude: a count answers as the list object.
+use Rattle.std.proofs.Common.{◌≡◌, ℕ, ◌≤◌, length, refl, arith}
 use Rattle.std.proofs.lemmas.List.Sorted.{length_permutation}
 use Rattle.terms.specs.ListObject.{greatest_length}
-use Rattle.generations.specs.Buckets.{values, value_at}
-use Rattle.lock_free_hashtable.specs.Table.{HeldTable, CountsAsList, LawfulWithoutEntries, entries, marked}
+use Rattle.lock_free_hashtable.specs.Table.{HeldTable, CountsAsList, entries}
 
 module _ {T : Type 0} where
   -- the size, which is below 2^64, is the length of each list that the table stands for
@@ -13,25 +11,3 @@ module _ {T : Type 0} where
       let same : length M ≡ length (entries t) = length_permutation _ _ s.permuted in
       let counted = s.counted in
       (omega arith, refl)
-
-module _ {X : Type 0} where
-  no_elements : (xs : List X) → length xs ≡ 0 → xs ≡ []
-  no_elements [] none = refl
-  no_elements (x ∷ xs) none = absurd (omega arith)
-
-  -- where nothing is there of a list of places, no place holds anything
-  none_at : (ps : List (Option X)) (i : ℕ) (v : X) → values ps ≡ [] → value_at ps i ≡ Some v → ⊥
-  none_at [] i v n e = cc
-  none_at (None ∷ ps) zero v n e = cc
-  none_at (None ∷ ps) (suc i) v n e = none_at ps i v n e
-  none_at (Some w ∷ ps) i v n e = cc
-
--- a table without entries is lawful for every equality and every hash
-pub lawful_without_entries : {T U : Type 0} (target : T → U) → LawfulWithoutEntries target
-lawful_without_entries target t none same hash_of =
-    let nothing : marked t ≡ [] = no_elements (marked t) (rw length-map at none) in
-    record {
-      reached = λ i e h. absurd (none_at t.buckets i e nothing h);
-      marked = λ i e h. absurd (none_at t.buckets i e nothing h);
-      apart = λ x. rw nothing (omega arith);
-    }

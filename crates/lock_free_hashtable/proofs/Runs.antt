@@ -1,18 +1,18 @@
 -- One more call of a run.
-use Rattle.std.proofs.Common.{◌≡◌, ℕ, Bool, List, [], ◌∷◌, ◌++◌, Some, map, refl, ap, subst, append_assoc}
-use Rattle.std.specs.Prelude.{Contains}
+use Rattle.std.proofs.Common.{◌≡◌, ℕ, Bool, List, [], ◌∷◌, ◌++◌, Some, map, refl, ap, subst, ◌∙◌, append_assoc}
+use Rattle.std.specs.Prelude.{All, Contains}
 use Rattle.std.specs.List.{flat_map}
 use Rattle.std.specs.List.Sorted.{IsPermutation}
 use Rattle.std.proofs.lemmas.List.{flat_map_more, map-append}
-use Rattle.std.proofs.lemmas.List.Elements.{Contains-push, Contains-append_left, Contains-append_right}
+use Rattle.std.proofs.lemmas.List.Elements.{All-weaker, All-contains, All-contains_itself, Contains-push, Contains-append_left, Contains-append_right}
 use Rattle.std.proofs.lemmas.List.Sorted.{IsPermutation-sym, IsPermutation-trans, IsPermutation-append_left, IsPermutation-append_right, IsPermutation-append_comm, Contains-permutation}
 use Rattle.terms.specs.ListObject.{ListCall, ListReply, Answers, IsListRun}
 use Rattle.lock_free_hashtable.specs.declared.alone.Call.{Call}
 use Rattle.lock_free_hashtable.specs.declared.alone.Reply.{Reply}
 use Rattle.lock_free_hashtable.specs.declared.alone.Call.TheVariants as call
 use Rattle.lock_free_hashtable.specs.Calls.{IsRepliedAsList, given, handed_back, shown_as, asked}
-use Rattle.lock_free_hashtable.specs.Runs.{IsHashed, AreLawful, IsLawfulCall, IsLawfulRun, CallAnswers, RunAnswers, RunKeeps}
-use Rattle.lock_free_hashtable.specs.Shown.{Shows, entries_of}
+use Rattle.lock_free_hashtable.specs.Runs.{OnlyAsks, AreLawfulInserts, IsLawfulTest, AreLawful, IsLawfulCall, IsLawfulRun, CallStaysLawful, CallAnswers, RunStaysLawful, RunAnswers, RunKeeps}
+use Rattle.lock_free_hashtable.specs.Shown.{Shows, IsLawfulInsert, entries_of}
 
 module _ {X : Type 0} where
   -- two parts at the end of a list, in the other order
@@ -64,66 +64,99 @@ replied_push target same meets M mid N cs rs c r q run shows answers = record {
   run = rw (map-append (asked target meets) cs (c ∷ [])) (run_push _ (map (asked target meets) cs) run.told M mid N (asked target meets c) q run.run answers);
 }
 
+-- a run that asked alone left the table as it was, and so does one more call
+pub unchanged_more : {X T K : Type 0} (old mid new : X) (cs : List (Call T K)) (c : Call T K) → (All OnlyAsks cs → mid ≡ old) → (OnlyAsks c → new ≡ mid) → All OnlyAsks (cs ++ c ∷ []) → new ≡ old
+unchanged_more old mid new cs c before one all =
+    one (All-contains OnlyAsks (cs ++ c ∷ []) c all (Contains-push cs c))
+    ∙ before (All-weaker (Contains cs) OnlyAsks (λ d among. All-contains OnlyAsks (cs ++ c ∷ []) d all (Contains-append_left cs _ d among)) cs (All-contains_itself cs))
+
 module _ {X T P U K : Type 0} (target : T → U) (same : U → U → Bool) (hash_of : U → ℕ) (s : Shows X T P)
-    (eq : U → U → Bool → Type 0) (rehash : U → ℕ → Type 0) (test : K → U → Bool → Type 0) where
-  -- the last call of a lawful run, where the entries are of its pool
-  call_lawful : (meets : K → U → Bool) (pool : List T) (cs : List (Call T K)) (c : Call T K) (mid : X)
-      → AreLawful target same hash_of eq rehash test meets pool (cs ++ c ∷ []) → s.lawful U target same hash_of mid
-      → ((e : T) → Contains (entries_of s mid) e → Contains pool e) → ((e : T) → Contains (given c) e → Contains pool e)
-      → IsLawfulCall target same hash_of s eq rehash test meets mid c
-  call_lawful meets pool cs (call.Insert hash value) mid all lawful kept own = record {
-    eq_is = λ e answer among says. all.eq_is value e answer (own value (Contains-push [] value)) (kept e among) says;
+    (eq : U → U → Bool → Type 0) (rehash : U → ℕ → Type 0) where
+  -- the last of lawful inserts, where the entries are of its pool
+  insert_lawful : (pool : List T) (cs : List (Call T K)) (hash : ℕ) (value : T) (mid : X)
+      → AreLawfulInserts target same hash_of eq rehash pool (cs ++ call.Insert hash value ∷ []) → s.lawful U target same hash_of mid
+      → ((e : T) → Contains (entries_of s mid) e → Contains pool e) → Contains pool value
+      → IsLawfulInsert target same hash_of eq rehash (s.lawful U target same hash_of mid) (entries_of s mid) hash value
+  insert_lawful pool cs hash value mid all lawful kept own = record {
+    eq_is = λ e answer among says. all.eq_is value e answer own (kept e among) says;
     rehash_is = λ e h among says. all.rehash_is e h (kept e among) says;
-    rehash_value_is = λ h says. all.rehash_is value h (own value (Contains-push [] value)) says;
-    hash_is = all.hashed (call.Insert hash value) (Contains-push cs _);
+    rehash_value_is = λ h says. all.rehash_is value h own says;
+    hash_is = all.hash_is hash value (Contains-push cs _);
     table_is = lawful;
   }
-  call_lawful meets pool cs (call.Lookup hash key) mid all lawful kept own =
-      let tests = all.hashed (call.Lookup hash key) (Contains-push cs _) in
+
+  -- inserts that are lawful are so without the last call
+  fewer_inserts : (old : List T) (cs : List (Call T K)) (c : Call T K)
+      → AreLawfulInserts target same hash_of eq rehash (old ++ flat_map given (cs ++ c ∷ [])) (cs ++ c ∷ []) → AreLawfulInserts target same hash_of eq rehash (old ++ flat_map given cs) cs
+  fewer_inserts old cs c all =
+      let within = in_more old cs c in
       record {
-        test_is = λ e answer among says. tests.test_is e answer (kept e among) says;
-        hash_is = λ e among accepted. tests.hash_is e (kept e among) accepted;
-        table_is = lawful;
+        eq_is = λ v e answer among_v among_e says. all.eq_is v e answer (within v among_v) (within e among_e) says;
+        rehash_is = λ e h among says. all.rehash_is e h (within e among) says;
+        hash_is = λ hash value among. all.hash_is hash value (Contains-append_left cs _ _ among);
       }
-  call_lawful meets pool cs call.Len mid all lawful kept own = lawful
 
-  -- a call that is hashed for a pool is so for a smaller one
-  hashed_in : (meets : K → U → Bool) (pool more : List T) → ((e : T) → Contains pool e → Contains more e) → (c : Call T K)
-      → IsHashed target same hash_of eq rehash test meets more c → IsHashed target same hash_of eq rehash test meets pool c
-  hashed_in meets pool more within (call.Insert hash value) hashed = hashed
-  hashed_in meets pool more within (call.Lookup hash key) hashed = record {
-    test_is = λ e answer among says. hashed.test_is e answer (within e among) says;
-    hash_is = λ e among accepted. hashed.hash_is e (within e among) accepted;
-  }
-  hashed_in meets pool more within call.Len hashed = tt
-
-  -- a run that is lawful is so without its last call
-  shorter : (meets : K → U → Bool) (old : X) (cs : List (Call T K)) (c : Call T K)
-      → IsLawfulRun target same hash_of s eq rehash test meets old (cs ++ c ∷ []) → IsLawfulRun target same hash_of s eq rehash test meets old cs
-  shorter meets old cs c (lawful, all) =
-      let within = in_more (entries_of s old) cs c in (
-        lawful,
-        record {
-          eq_is = λ v e answer among_v among_e says. all.eq_is v e answer (within v among_v) (within e among_e) says;
-          rehash_is = λ e h among says. all.rehash_is e h (within e among) says;
-          hashed = λ d among. hashed_in meets _ _ within d (all.hashed d (Contains-append_left cs _ d among));
-        },
-      )
-
-  pub answers_none : (t : X) → RunAnswers target same hash_of s eq rehash test t [] [] t
-  answers_none t meets lawful = (lawful.0, λ M stands. (M, record { told = []; shown = refl; run = refl }, stands))
-
-  pub answers_more : (old mid new : X) (cs : List (Call T K)) (rs : List (Reply T U)) (c : Call T K) (r : Reply T U)
+  -- one more call keeps the table lawful
+  pub lawful_more : (old mid new : X) (cs : List (Call T K)) (rs : List (Reply T U)) (c : Call T K)
       → RunKeeps (entries_of s old) cs rs (entries_of s mid)
-      → RunAnswers target same hash_of s eq rehash test old cs rs mid
-      → CallAnswers target same hash_of s eq rehash test mid c r new
-      → RunAnswers target same hash_of s eq rehash test old (cs ++ c ∷ []) (rs ++ r ∷ []) new
-  answers_more old mid new cs rs c r keeps before one meets lawful =
-      let so_far = before meets (shorter meets old cs c lawful) in
-      let last = one meets (call_lawful meets _ cs c mid lawful.1 so_far.0 (kept_in (entries_of s old) (entries_of s mid) cs rs c keeps) (given_in (entries_of s old) cs c)) in (
-        last.0,
-        λ M stands.
-            let reached = so_far.1 M stands in
-            let next = last.1 reached.0 reached.2 in
-            (next.1, replied_push target same meets M reached.0 next.1 cs rs c r next.0 reached.1 next.2 next.3, next.4),
-      )
+      → RunStaysLawful target same hash_of s eq rehash old cs mid
+      → CallStaysLawful target same hash_of s eq rehash mid c new
+      → RunStaysLawful target same hash_of s eq rehash old (cs ++ c ∷ []) new
+  lawful_more old mid new cs rs (call.Insert hash value) keeps before one lawful all =
+      let c = call.Insert hash value in
+      one (insert_lawful _ cs hash value mid all (before lawful (fewer_inserts (entries_of s old) cs c all)) (kept_in (entries_of s old) (entries_of s mid) cs rs c keeps) (given_in (entries_of s old) cs c value (Contains-push [] value)))
+  lawful_more old mid new cs rs (call.Lookup hash key) keeps before one lawful all = one (before lawful (fewer_inserts (entries_of s old) cs (call.Lookup hash key) all))
+  lawful_more old mid new cs rs call.Len keeps before one lawful all = one (before lawful (fewer_inserts (entries_of s old) cs call.Len all))
+
+  module _ (test : K → U → Bool → Type 0) where
+    -- the last call of a lawful run, where the entries are of its pool
+    call_lawful : (meets : K → U → Bool) (pool : List T) (cs : List (Call T K)) (c : Call T K) (mid : X)
+        → AreLawful target same hash_of eq rehash test meets pool (cs ++ c ∷ []) → s.lawful U target same hash_of mid
+        → ((e : T) → Contains (entries_of s mid) e → Contains pool e) → ((e : T) → Contains (given c) e → Contains pool e)
+        → IsLawfulCall target same hash_of s eq rehash test meets mid c
+    call_lawful meets pool cs (call.Insert hash value) mid all lawful kept own = insert_lawful pool cs hash value mid all.inserts lawful kept (own value (Contains-push [] value))
+    call_lawful meets pool cs (call.Lookup hash key) mid all lawful kept own =
+        let tests = all.tests hash key (Contains-push cs _) in
+        record {
+          test_is = λ e answer among says. tests.test_is e answer (kept e among) says;
+          hash_is = λ e among accepted. tests.hash_is e (kept e among) accepted;
+          table_is = lawful;
+        }
+    call_lawful meets pool cs call.Len mid all lawful kept own = lawful
+
+    -- a test that is lawful for a pool is so for a smaller one
+    test_in : (meets : K → U → Bool) (pool more : List T) → ((e : T) → Contains pool e → Contains more e) → (hash : ℕ) (key : K)
+        → IsLawfulTest target same hash_of eq rehash test meets more hash key → IsLawfulTest target same hash_of eq rehash test meets pool hash key
+    test_in meets pool more within hash key lawful = record {
+      test_is = λ e answer among says. lawful.test_is e answer (within e among) says;
+      hash_is = λ e among accepted. lawful.hash_is e (within e among) accepted;
+    }
+
+    -- a run that is lawful is so without its last call
+    shorter : (meets : K → U → Bool) (old : X) (cs : List (Call T K)) (c : Call T K)
+        → IsLawfulRun target same hash_of s eq rehash test meets old (cs ++ c ∷ []) → IsLawfulRun target same hash_of s eq rehash test meets old cs
+    shorter meets old cs c (lawful, all) = (
+      lawful,
+      record {
+        inserts = fewer_inserts (entries_of s old) cs c all.inserts;
+        tests = λ hash key among. test_in meets _ _ (in_more (entries_of s old) cs c) hash key (all.tests hash key (Contains-append_left cs _ _ among));
+      },
+    )
+
+    pub answers_none : (t : X) → RunAnswers target same hash_of s eq rehash test t [] [] t
+    answers_none t meets lawful = (lawful.0, λ M stands. (M, record { told = []; shown = refl; run = refl }, stands))
+
+    pub answers_more : (old mid new : X) (cs : List (Call T K)) (rs : List (Reply T U)) (c : Call T K) (r : Reply T U)
+        → RunKeeps (entries_of s old) cs rs (entries_of s mid)
+        → RunAnswers target same hash_of s eq rehash test old cs rs mid
+        → CallAnswers target same hash_of s eq rehash test mid c r new
+        → RunAnswers target same hash_of s eq rehash test old (cs ++ c ∷ []) (rs ++ r ∷ []) new
+    answers_more old mid new cs rs c r keeps before one meets lawful =
+        let so_far = before meets (shorter meets old cs c lawful) in
+        let last = one meets (call_lawful meets _ cs c mid lawful.1 so_far.0 (kept_in (entries_of s old) (entries_of s mid) cs rs c keeps) (given_in (entries_of s old) cs c)) in (
+          last.0,
+          λ M stands.
+              let reached = so_far.1 M stands in
+              let next = last.1 reached.0 reached.2 in
+              (next.1, replied_push target same meets M reached.0 next.1 cs rs c r next.0 reached.1 next.2 next.3, next.4),
+        )

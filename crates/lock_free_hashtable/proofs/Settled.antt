@@ -1,17 +1,21 @@
 -- Why two list runs of the same calls have the same replies.
 use Rattle.std.proofs.Common.{◌≡◌, ℕ, ◌≤◌, Bool, List, [], ◌∷◌, Option, Some, None, length, map, refl, sym, ap, subst, ◌∙◌, arith, inl, inr}
 use Rattle.std.specs.Prelude.{Contains, count_by, min}
-use Rattle.std.specs.List.{find}
+use Rattle.std.specs.List.{find, flat_map}
+use Rattle.std.proofs.lemmas.List.{nil_from_length}
 use Rattle.std.proofs.lemmas.List.Elements.{Contains-append_right}
+use Rattle.std.proofs.lemmas.List.Sorted.{length_permutation}
 use Rattle.terms.specs.ListObject.{ListCall, ListReply, Insert, Lookup, Length, Walk, Placed, Found, Refused, Shown, Absent, Counted, Walked, Answers, IsListRun, greatest_length}
 use Rattle.terms.specs.Laws.{IsLaw, AllApart}
 use Rattle.lock_free_hashtable.specs.declared.alone.Call.{Call}
 use Rattle.lock_free_hashtable.specs.declared.alone.Reply.{Reply}
 use Rattle.lock_free_hashtable.specs.declared.alone.Call.TheVariants as call
 use Rattle.lock_free_hashtable.specs.declared.alone.Reply.TheVariants as reply
-use Rattle.lock_free_hashtable.specs.Calls.{shown_as, asked}
-use Rattle.lock_free_hashtable.specs.Settled.{NoneRefuses, MeetsFew, EachMeetsFew, RepliesAgree, list_after}
-use Rattle.lock_free_hashtable.proofs.Apart.{first_or_other, apart_more, none_is_found, one_is_found}
+use Rattle.lock_free_hashtable.specs.Shown.{Shows, Stands, LawfulWithoutEntries, entries_of}
+use Rattle.lock_free_hashtable.specs.Calls.{IsRepliedAsList, given, shown_as, asked}
+use Rattle.lock_free_hashtable.specs.Runs.{AreLawful, RunAnswers}
+use Rattle.lock_free_hashtable.specs.Settled.{NoneRefuses, MeetsOneClass, MeetsFew, EachMeetsFew, RepliesAgree, RepliesAgreeByClass, NewTablesAgree, list_after}
+use Rattle.lock_free_hashtable.proofs.Apart.{first_or_other, apart_more, few_of_class, none_is_found, one_is_found}
 
 module _ {T : Type 0} where
   abbrev placed_or_found : T → Option T → ListReply T
@@ -107,6 +111,23 @@ module _ {T U K : Type 0} (target : T → U) (same : U → U → Bool) (hash_of 
       (subst (λ L. EachMeetsFew target meets L cs qs) (sym first.1) few.1) in
       (rw (is, others.0) refl, others.1)
 
+  -- where all that meets a key is the same, each look-up's key is met by few
+  meets_few : MeetsOneClass same meets → (M : List T) → apart M → (c : Call T K) → MeetsFew target meets M c
+  meets_few one_class M one (call.Insert hash value) = tt
+  meets_few one_class M one (call.Lookup hash key) = few_of_class (λ v. meets key (target v)) alike M (λ v w passed also. one_class key (target v) (target w) passed also) (λ v. one (target v))
+  meets_few one_class M one call.Len = tt
+
+  each_meets_few : MeetsOneClass same meets → (M : List T) → apart M → (calls : List (Call T K)) (qs : List (ListReply T)) (N : List T)
+      → IsListRun alike M (map (asked target meets) calls) qs N → none_refused qs → EachMeetsFew target meets M calls qs
+  each_meets_few one_class M one [] qs N run kept = tt
+  each_meets_few one_class M one (c ∷ cs) [] N run kept = tt
+  each_meets_few one_class M one (c ∷ cs) (q ∷ qs) N (next, answers, rest) kept =
+      let few = meets_few one_class M one c in
+      let here = call_settled M one c q next few (λ back is. kept back (0, omega arith, is)) answers in
+      let others = each_meets_few one_class next (rw here.1 (apart_after M one (asked target meets c) q next answers)) cs qs N rest
+      (λ back among. kept back (Contains-append_right (q ∷ []) qs (Refused back) among)) in
+      (few, subst (λ L. EachMeetsFew target meets L cs qs) here.1 others)
+
   -- where no reply is Refused, the list object told nobody so
   kept_told : (qs : List (ListReply T)) (rs : List (Reply T U)) → map (shown_as target) qs ≡ map (λ r. Some r) rs → NoneRefuses rs → none_refused qs
   kept_told [] rs shown none back (k, within, is) = omega arith
@@ -133,3 +154,28 @@ replies_agree K target same hash_of law meets calls replies others N O one other
     let told = told_alike target same hash_of law meets [] (λ y. omega arith) calls one.told other.told N O one.run other.run
     (kept_told target same hash_of law meets one.told replies one.shown none) (kept_told target same hash_of law meets other.told others other.shown none_too) few in
     (shown_alike target same hash_of law meets replies others (sym one.shown ∙ (ap (map (shown_as target)) told.0 ∙ other.shown)), told.1)
+
+pub replies_agree_by_class : {T U : Type 0} (K : Type 0) (target : T → U) (same : U → U → Bool) (hash_of : U → ℕ) → IsLaw same hash_of → RepliesAgreeByClass target K same
+replies_agree_by_class K target same hash_of law meets calls replies others N O one other none none_too one_class =
+    replies_agree K target same hash_of law meets calls replies others N O one other none none_too
+    (each_meets_few target same hash_of law meets one_class [] (λ y. omega arith) calls one.told N one.run (kept_told target same hash_of law meets one.told replies one.shown none))
+
+-- lawful calls on a table without entries are replied as a list replies from the empty one
+run_from_empty : {X T U P K : Type 0} (target : T → U) (same : U → U → Bool) (hash_of : U → ℕ) (s : Shows X T P) → LawfulWithoutEntries s target
+    → (eq : U → U → Bool → Type 0) (rehash : U → ℕ → Type 0) (test : K → U → Bool → Type 0) (meets : K → U → Bool) (calls : List (Call T K)) (replies : List (Reply T U)) (x new : X)
+    → Stands s x [] → AreLawful target same hash_of eq rehash test meets (flat_map given calls) calls → RunAnswers target same hash_of s eq rehash test x calls replies new
+    → (N : List T) × IsRepliedAsList target same meets [] calls replies N
+run_from_empty target same hash_of s empty eq rehash test meets calls replies x new stands lawful answers =
+    let long : length (entries_of s x) ≡ 0 = sym (length_permutation _ _ stands.permuted) in
+    let none : entries_of s x ≡ [] = nil_from_length (entries_of s x) long in
+    let all = answers meets (empty x long same hash_of, rw none lawful) in
+    let run = all.1 [] stands in
+    (run.0, run.1)
+
+pub new_tables_agree : {X Y T U P Q : Type 0} (K : Type 0) (target : T → U) (same : U → U → Bool) (hash_of : U → ℕ) → IsLaw same hash_of
+    → (s : Shows X T P) (r : Shows Y T Q) → LawfulWithoutEntries s target → LawfulWithoutEntries r target
+    → (eq : U → U → Bool → Type 0) (rehash : U → ℕ → Type 0) (test : K → U → Bool → Type 0) → NewTablesAgree target same hash_of s r eq rehash test
+new_tables_agree K target same hash_of law s r empty empty_too eq rehash test meets calls replies others x new_x y new_y stands stands_too lawful answers answers_too none none_too one_class =
+    let one = run_from_empty target same hash_of s empty eq rehash test meets calls replies x new_x stands lawful answers in
+    let other = run_from_empty target same hash_of r empty_too eq rehash test meets calls others y new_y stands_too lawful answers_too in
+    (replies_agree_by_class K target same hash_of law meets calls replies others one.0 other.0 one.1 other.1 none none_too one_class).0

@@ -1,6 +1,6 @@
 -- Where one shard takes a value or gives an answer, so does the table over all shards.
 use Rattle.std.proofs.Common.{◌≡◌, ℕ, zero, suc, ◌+◌, ◌<◌, ◌⊎◌, Bool, false, List, [], ◌∷◌, ◌++◌, Option, Some, None, Result, Ok, Err, length, refl, sym, ap, subst, ◌∙◌, append_assoc, append-nil, arith, inl, inr, set, get_or, ltb, replicate, take, ◌≤◌}
-use Rattle.std.specs.Prelude.{Contains, IsSome, IfNone, min, option_map}
+use Rattle.std.specs.Prelude.{Contains, IfOk, IsSome, IfNone, min, option_map}
 use Rattle.std.specs.Array.{IsFromFnResultFrom}
 use Rattle.std.specs.Fn.{Called}
 use denote.Param.Members.{Mut}
@@ -18,15 +18,16 @@ use Rattle.generations.specs.Buckets.{value_at}
 use Rattle.generations.specs.Growth.{entry_of}
 use Rattle.terms.specs.Laws.{IsLaw}
 use Rattle.lock_free_hashtable.specs.Growth.{KeepsPlaces}
+use Rattle.lock_free_hashtable.specs.Shown as shown
 use Rattle.lock_free_hashtable.specs.Shown.{InsertKeeps, InsertMarks, InsertAnswers, IsLawfulInsert, IsNewUnlessFound, FindsOne, FindsNone, IsLater, InsertSays, ShowsAt, Stands, CountsAsList}
 use Rattle.terms.specs.ListObject.{greatest_length}
 use Rattle.lock_free_hashtable.specs.Table as table
 use Rattle.lock_free_hashtable.specs.Table.{HeldTable, empty_table}
-use Rattle.lock_free_hashtable.specs.Shards.{AreCounted, AreLawful, AreLawfulForAll, empty_shards, capped_sum, shard_of, shard_at, marked, entries, entry_at, sharded}
+use Rattle.lock_free_hashtable.specs.Shards.{AreCounted, AreLawful, AreLawfulForAll, empty_shards, capped_sum, shard_of, shard_at, marked, marked_at, entries, entry_at, sharded}
 use Rattle.lock_free_hashtable.specs.declared.place.Place.{Place}
 use Rattle.lock_free_hashtable.specs.declared.sharded.place.ShardPlace.{ShardPlace}
 use Rattle.lock_free_hashtable.proofs.Answered.{stays, places_as_list}
-use Rattle.lock_free_hashtable.proofs.Found.{lawful_without_entries}
+use Rattle.lock_free_hashtable.specs.Empty.{held_without_entries}
 use Rattle.lock_free_hashtable.proofs.Lists.{values_kept, values_more, home_with}
 use Rattle.lock_free_hashtable.proofs.Runs.{swapped}
 
@@ -46,7 +47,7 @@ module _ {X V : Type 0} (f : X → List V) where
   Contains-flat_map (x ∷ xs) zero d v within among = Contains-append_left (f x) (flat_map f xs) v among
   Contains-flat_map (x ∷ xs) (suc k) d v within among = Contains-append_right (f x) (flat_map f xs) v (Contains-flat_map xs k d v (omega arith) among)
 
-  flat_map-Contains : (xs : List X) (d : X) (v : V) → Contains (flat_map f xs) v → (k : ℕ) × (k < length xs) × Contains (f (get_or xs k d)) v
+  pub flat_map-Contains : (xs : List X) (d : X) (v : V) → Contains (flat_map f xs) v → (k : ℕ) × (k < length xs) × Contains (f (get_or xs k d)) v
   flat_map-Contains [] d v (k, within, is) = absurd (omega arith)
   flat_map-Contains (x ∷ xs) d v among = elim (Contains-append_cases (f x) (flat_map f xs) v among) [
     | inl here ↦ (zero, omega arith, here)
@@ -70,11 +71,16 @@ abbrev pub in_shard : {T : Type 0} → ℕ → Result (Place × Option T) T → 
 in_shard k (Ok (p, back)) = Ok (record { shard = k; place = p }, back)
 in_shard k (Err back) = Err back
 
+-- its place is in that shard
+pub named_in_shard : {T : Type 0} (k home : ℕ) (r : Result (Place × Option T) T) (out : Result (ShardPlace × Option T) T) → out ≡ in_shard k r → k ≡ home → IfOk out (λ placed. placed.0.shard ≡ home)
+named_in_shard k home (Ok (p, back)) out is at = rw is at
+named_in_shard k home (Err back) out is at = rw is tt
+
 module _ {T : Type 0} (ts : List (HeldTable T)) (k : ℕ) (within : k < length ts) (new : HeldTable T) where
   shard_set : shard_at (set ts k new) k ≡ new
   shard_set = get_or-set_same ts k new (empty_table 0) within
 
-  shard_kept : (j : ℕ) → (j ≡ k → ⊥) → shard_at (set ts k new) j ≡ shard_at ts j
+  pub shard_kept : (j : ℕ) → (j ≡ k → ⊥) → shard_at (set ts k new) j ≡ shard_at ts j
   shard_kept j other = get_or-set_other ts k j new (empty_table 0) other
 
   -- what holds of the new shard and of the others holds of each
@@ -82,6 +88,19 @@ module _ {T : Type 0} (ts : List (HeldTable T)) (k : ℕ) (within : k < length t
   each_shard P here there j inside = elim (cases_eq j k) [
     | inl is ↦ rw (is, shard_set) here
     | inr other ↦ rw (shard_kept j other) (there j (rw length-set at inside))
+  ]
+
+  -- the first capacities stay, and so does what each place shows
+  pub firsts_kept : new.first_capacity ≡ (shard_at ts k).first_capacity → (j : ℕ) → (shard_at (set ts k new) j).first_capacity ≡ (shard_at ts j).first_capacity
+  firsts_kept same j = elim (cases_eq j k) [
+    | inl is ↦ rw (is, shard_set) same
+    | inr other ↦ rw (shard_kept j other) refl
+  ]
+
+  pub places_kept : KeepsPlaces (shard_at ts k) new → shown.KeepsPlaces sharded ts (set ts k new)
+  places_kept places p e at = elim (cases_eq p.shard k) [
+    | inl is ↦ rw (is, shard_set) (places p.place e (rw is at at))
+    | inr other ↦ rw (shard_kept p.shard other) at
   ]
 
   pub counted_shards : table.IsCounted new → AreCounted ts → AreCounted (set ts k new)
@@ -114,11 +133,8 @@ module _ {T : Type 0} (ts : List (HeldTable T)) (k : ℕ) (within : k < length t
 
       pub later_shards : (r : Result (Place × Option T) T) → all_keep r → KeepsPlaces (shard_at ts k) new → IsLater sharded ts (set ts k new)
       later_shards r keeps places p v at =
-          let lives : entry_at (set ts k new) p ≡ Some v = elim (cases_eq p.shard k) [
-            | inl is ↦ (let x = home_with (table.marked_at (shard_at ts k) p.place) v (rw is at at.lives) in rw (is, shard_set, places p.place x.0 x.1) (ap Some x.2))
-            | inr other ↦ rw (shard_kept p.shard other) at.lives
-          ] in
-          record { lives = lives; among = stays target accepts (entry_at (set ts k new)) (entries ts) value (entries (set ts k new)) (in_shard k r) keeps v at.among }
+          let was = home_with (marked_at ts p) v at.lives in
+          record { lives = rw (places_kept places p was.0 was.1) (ap Some was.2); among = stays target accepts (entry_at (set ts k new)) (entries ts) value (entries (set ts k new)) (in_shard k r) keeps v at.among }
 
       -- an entry of the new shard was one, or is the value
       was_or_is : (r : Result (Place × Option T) T) → one_keeps r → (v : T) → Contains (table.entries new) v → Contains (table.entries (shard_at ts k)) v ⊎ (value ≡ v)
@@ -291,7 +307,7 @@ module _ (T : Type 0) where
 
 pub new_lawful : {T U : Type 0} (target : T → U) (n first : ℕ) → AreLawfulForAll target (empty_shards n first)
 new_lawful {T} target n first same hash_of = record {
-  each = λ k within. rw (new_shard T n first k within) (lawful_without_entries target (empty_table first) refl same hash_of);
+  each = λ k within. rw (new_shard T n first k within) (held_without_entries target (empty_table first) refl same hash_of);
   home = λ k v within among. absurd (no_element v (rw (new_shard T n first k within) at among));
 }
 

@@ -3,7 +3,8 @@ use Rattle.std.specs.Prelude.{◌≡◌, ℕ, ◌-◌, ◌+◌, ◌*◌, ◌<◌
 use Rattle.generations.specs.Buckets.{value_at}
 use Rattle.generations.specs.Growth.{IsRehashed, TryEnds, entry_of}
 use Rattle.generations.specs.Probe.{IsPassed}
-use Rattle.lock_free_hashtable.specs.Table.{HeldTable, empty_table, marked_at}
+use Rattle.lock_free_hashtable.specs.Shown as shown
+use Rattle.lock_free_hashtable.specs.Table.{HeldTable, empty_table, held, marked_at}
 use Rattle.cell.specs.declared.bucket.Entry.{Entry}
 use Rattle.lock_free_hashtable.specs.declared.place.Place.{Place}
 use Rattle.generations.specs.declared.fixed.Refusal.{Refusal}
@@ -42,7 +43,7 @@ module _ {T : Type 0} where
 
   -- each place keeps what it shows
   abbrev pub KeepsPlaces : HeldTable T → HeldTable T → Type 0
-  KeepsPlaces old new = (p : Place) (e : Entry T) → marked_at old p ≡ Some e → marked_at new p ≡ Some e
+  KeepsPlaces old new = shown.KeepsPlaces held old new
 
   -- bucket i of the current generation, which was empty, now shows the entry
   abbrev pub with_entry : HeldTable T → ℕ → Entry T → HeldTable T

@@ -10,29 +10,38 @@ use Rattle.lock_free_hashtable.specs.declared.alone.Call.{Call}
 use Rattle.lock_free_hashtable.specs.declared.alone.Reply.{Reply}
 use Rattle.lock_free_hashtable.specs.declared.alone.Call.TheVariants as call
 
+-- the call is no insert
+abbrev pub OnlyAsks : {T K : Type 0} → Call T K → Type 0
+OnlyAsks (call.Insert hash value) = ⊥
+OnlyAsks (call.Lookup hash key) = Unit {0}
+OnlyAsks call.Len = Unit {0}
+
 module _ {T U K : Type 0} (target : T → U) (same : U → U → Bool) (hash_of : U → ℕ)
-    (eq : U → U → Bool → Type 0) (rehash : U → ℕ → Type 0) (test : K → U → Bool → Type 0)
-    (meets : K → U → Bool) (pool : List T) where
-  -- on the values of the pool the test of this key answers as `meets`, and accepts only those of
-  -- the hash
-  pub record IsLawfulTest (hash : ℕ) (key : K) : Type 0 where
-    pub test_is : (e : T) (answer : Bool) → Contains pool e → test key (target e) answer
-        → answer ≡ meets key (target e)
-    pub hash_is : (e : T) → Contains pool e → meets key (target e) ≡ true → hash_of (target e) ≡ hash
-
-  -- an insert comes with its value's hash, and a look-up with a lawful test
-  abbrev pub IsHashed : Call T K → Type 0
-  IsHashed (call.Insert hash value) = hash ≡ hash_of (target value)
-  IsHashed (call.Lookup hash key) = IsLawfulTest hash key
-  IsHashed call.Len = Unit {0}
-
-  -- the closures answer by the law for all values of the pool, and each call has its hash
-  pub record AreLawful (calls : List (Call T K)) : Type 0 where
+    (eq : U → U → Bool → Type 0) (rehash : U → ℕ → Type 0) where
+  -- on the values of the pool the closures of inserts answer by the law, and each insert comes
+  -- with its value's hash
+  pub record AreLawfulInserts (pool : List T) (calls : List (Call T K)) : Type 0 where
     pub eq_is : (v e : T) (answer : Bool) → Contains pool v → Contains pool e
         → eq (target v) (target e) answer → answer ≡ same (target v) (target e)
     pub rehash_is : (e : T) (h : ℕ) → Contains pool e → rehash (target e) h
         → h ≡ hash_of (target e)
-    pub hashed : (c : Call T K) → Contains calls c → IsHashed c
+    pub hash_is : (hash : ℕ) (value : T) → Contains calls (call.Insert hash value)
+        → hash ≡ hash_of (target value)
+
+  module _ (test : K → U → Bool → Type 0) (meets : K → U → Bool) (pool : List T) where
+    -- on the values of the pool the test of this key answers as `meets`, and accepts only those
+    -- of the hash
+    pub record IsLawfulTest (hash : ℕ) (key : K) : Type 0 where
+      pub test_is : (e : T) (answer : Bool) → Contains pool e → test key (target e) answer
+          → answer ≡ meets key (target e)
+      pub hash_is : (e : T) → Contains pool e → meets key (target e) ≡ true
+          → hash_of (target e) ≡ hash
+
+    -- the inserts are lawful, and so is the test of each look-up
+    pub record AreLawful (calls : List (Call T K)) : Type 0 where
+      pub inserts : AreLawfulInserts pool calls
+      pub tests : (hash : ℕ) (key : K) → Contains calls (call.Lookup hash key)
+          → IsLawfulTest hash key
 
 module _ {X T P U : Type 0} (target : T → U) (same : U → U → Bool) (hash_of : U → ℕ)
     (s : Shows X T P) where
@@ -58,6 +67,23 @@ module _ {X T P U : Type 0} (target : T → U) (same : U → U → Bool) (hash_o
       (p : U → Bool) → IsLawfulLookup target same hash_of answers
       (s.lawful U target same hash_of t) (entries_of s t) hash p →
       RepliesAsList (Lookup (λ v. p (target v))) t r t
+
+  module _ {K : Type 0} (eq : U → U → Bool → Type 0) (rehash : U → ℕ → Type 0) where
+    -- a lawful insert keeps the table lawful, and so does every other call
+    abbrev pub CallStaysLawful : X → Call T K → X → Type 0
+    CallStaysLawful old (call.Insert hash value) new =
+        IsLawfulInsert target same hash_of eq rehash
+        (s.lawful U target same hash_of old) (entries_of s old) hash value →
+        s.lawful U target same hash_of new
+    CallStaysLawful old _ new = s.lawful U target same hash_of old
+        → s.lawful U target same hash_of new
+
+    -- lawful inserts keep a lawful table lawful, whatever the tests of the look-ups answer
+    abbrev pub RunStaysLawful : X → List (Call T K) → X → Type 0
+    RunStaysLawful old calls new =
+        s.lawful U target same hash_of old
+        → AreLawfulInserts target same hash_of eq rehash (entries_of s old ++ flat_map given calls) calls
+        → s.lawful U target same hash_of new
 
   module _ {K : Type 0} (eq : U → U → Bool → Type 0) (rehash : U → ℕ → Type 0)
       (test : K → U → Bool → Type 0) where

@@ -1,7 +1,10 @@
 -- Lists of calls whose replies the calls alone decide.
-use Rattle.std.specs.Prelude.{◌≡◌, ◌≤◌, ◌++◌, Bool, List, [], ◌∷◌, Contains, count_by}
+use Rattle.std.specs.Prelude.{◌≡◌, ℕ, ◌≤◌, ◌++◌, Bool, true, List, [], ◌∷◌, Contains, count_by}
+use Rattle.std.specs.List.{flat_map}
 use Rattle.terms.specs.ListObject.{ListReply, Placed}
-use Rattle.lock_free_hashtable.specs.Calls.{IsRepliedAsList}
+use Rattle.lock_free_hashtable.specs.Shown.{Shows, Stands}
+use Rattle.lock_free_hashtable.specs.Calls.{IsRepliedAsList, given}
+use Rattle.lock_free_hashtable.specs.Runs.{AreLawful, RunAnswers}
 use Rattle.lock_free_hashtable.specs.declared.alone.Call.{Call}
 use Rattle.lock_free_hashtable.specs.declared.alone.Reply.{Reply}
 use Rattle.lock_free_hashtable.specs.declared.alone.Call.TheVariants as call
@@ -15,6 +18,10 @@ NoneRefuses {T} replies = (back : T) → Contains replies (reply.Refused back) �
 abbrev pub list_after : {T : Type 0} → List T → ListReply T → List T
 list_after M (Placed e) = M ++ e ∷ []
 list_after M _ = M
+
+-- all that meets a key is the same
+abbrev pub MeetsOneClass : {K U : Type 0} → (U → U → Bool) → (K → U → Bool) → Type 0
+MeetsOneClass {K} {U} same meets = (key : K) (x y : U) → meets key x ≡ true → meets key y ≡ true → same x y ≡ true
 
 module _ {T U : Type 0} (target : T → U) where
   -- if the call is a look-up, its key is met by at most one entry of the list
@@ -38,3 +45,28 @@ module _ {T U : Type 0} (target : T → U) where
       (other : IsRepliedAsList target same meets [] calls others O) →
       NoneRefuses replies → NoneRefuses others → EachMeetsFew meets [] calls one.told →
       (replies ≡ others) × (N ≡ O)
+
+  -- so they have, if no reply is Refused and all that meets a key is the same
+  abbrev pub RepliesAgreeByClass : (K : Type 0) → (U → U → Bool) → Type 0
+  RepliesAgreeByClass K same =
+      (meets : K → U → Bool) (calls : List (Call T K)) (replies others : List (Reply T U)) (N O : List T) →
+      IsRepliedAsList target same meets [] calls replies N →
+      IsRepliedAsList target same meets [] calls others O →
+      NoneRefuses replies → NoneRefuses others → MeetsOneClass same meets →
+      (replies ≡ others) × (N ≡ O)
+
+-- lawful calls on two tables without entries, of whatever kinds, have the same replies, if no reply
+-- is Refused and all that meets a key is the same
+module _ {X Y T U P Q : Type 0} (target : T → U) (same : U → U → Bool) (hash_of : U → ℕ)
+    (s : Shows X T P) (r : Shows Y T Q) where
+  abbrev pub NewTablesAgree : {K : Type 0} → (U → U → Bool → Type 0) → (U → ℕ → Type 0)
+      → (K → U → Bool → Type 0) → Type 0
+  NewTablesAgree {K} eq rehash test =
+      (meets : K → U → Bool) (calls : List (Call T K)) (replies others : List (Reply T U))
+      (x new_x : X) (y new_y : Y) →
+      Stands s x [] → Stands r y [] →
+      AreLawful target same hash_of eq rehash test meets (flat_map given calls) calls →
+      RunAnswers target same hash_of s eq rehash test x calls replies new_x →
+      RunAnswers target same hash_of r eq rehash test y calls others new_y →
+      NoneRefuses replies → NoneRefuses others → MeetsOneClass same meets →
+      replies ≡ others

@@ -1,7 +1,7 @@
 -- What tables show to their callers, and what the calls on them say by it: with any closures,
 -- with lawful ones, and in the words of the list object. A table held alone is one kind of table,
 -- and shards of it are another.
-use Rattle.std.specs.Prelude.{◌≡◌, ℕ, ◌++◌, Bool, true, false, List, [], ◌∷◌, Option, Some, None, Result, Ok, Err, Contains, option_map}
+use Rattle.std.specs.Prelude.{◌≡◌, ℕ, ◌++◌, Bool, true, false, List, [], ◌∷◌, Option, Some, None, Result, Ok, Err, Contains, length, option_map}
 use Rattle.std.specs.List.Sorted.{IsPermutation}
 use Rattle.std.specs.Borrow.{Bor}
 use Rattle.terms.specs.ListObject.{ListReply, Placed, Found, Refused, Shown, Absent, Counted, Walked, Insert, Lookup, Length, Walk, Answers}
@@ -37,6 +37,15 @@ module _ {X T P : Type 0} (s : Shows X T P) where
   -- each place keeps its entry, from one table to a later one
   abbrev pub IsLater : X → X → Type 0
   IsLater old new = (p : P) (v : T) → IsEntryAt old p v → IsEntryAt new p v
+
+  -- each place keeps what it shows, the eight bits too
+  abbrev pub KeepsPlaces : X → X → Type 0
+  KeepsPlaces old new = (p : P) (e : Entry T) → s.marked_at old p ≡ Some e → s.marked_at new p ≡ Some e
+
+  -- a table without entries is lawful for every equality and every hash
+  abbrev pub LawfulWithoutEntries : {U : Type 0} → (T → U) → Type 0
+  LawfulWithoutEntries {U} target = (t : X) → length (entries_of t) ≡ 0
+      → (same : U → U → Bool) (hash_of : U → ℕ) → s.lawful U target same hash_of t
 
   -- the table is counted, and its entries are those of the list, in some order
   pub record Stands (t : X) (M : List T) : Type 0 where

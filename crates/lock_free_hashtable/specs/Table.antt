@@ -118,11 +118,6 @@ abbrev pub IsLawfulForAll : {T U : Type 0} → (T → U) → HeldTable T → Typ
 IsLawfulForAll {T} {U} target t = (same : U → U → Bool) (hash_of : U → ℕ)
     → IsLawful target same hash_of t
 
--- a table without entries is lawful for every equality and every hash
-abbrev pub LawfulWithoutEntries : {T U : Type 0} → (T → U) → Type 0
-LawfulWithoutEntries {T} target = (t : HeldTable T) → length (entries t) ≡ 0
-    → IsLawfulForAll target t
-
 -- a table held alone shows its entries so
 abbrev pub held : {T : Type 0} → Shows (HeldTable T) T Place
 held = record {

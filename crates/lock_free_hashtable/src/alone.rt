@@ -1,10 +1,11 @@
 //! Lists of calls on a table that one owner holds alone, written once for every such table.
-ghost use Rattle.std.specs.Prelude.{◌≡◌, ◌++◌, ◌∷◌, [], length, IfOk, IfErr, IfSome, IfNone, IsSome, option_copied};
+ghost use Rattle.std.specs.Prelude.{◌≡◌, ◌++◌, ◌∷◌, [], All, length, IfOk, IfErr, IfSome, IfNone, IsSome, option_copied};
 ghost use Rattle.std.specs.Fn.{FnReturnsAt, FnReturnsAtPair};
 ghost use Rattle.std.specs.List.Sorted.{IsPermutation};
 ghost use Rattle.lock_free_hashtable.specs.Calls.{FnReturnsAtTwo, given, handed_back};
-ghost use Rattle.lock_free_hashtable.specs.Runs.{InsertRepliesAsList, LookupRepliesAsList, CallAnswers, RunAnswers, RunKeeps};
-ghost use Rattle.lock_free_hashtable.specs.Shown.{entries_of};
+ghost use Rattle.lock_free_hashtable.specs.Runs.{InsertRepliesAsList, LookupRepliesAsList, CallStaysLawful, CallAnswers};
+ghost use Rattle.lock_free_hashtable.specs.Runs.{OnlyAsks, RunKeeps, RunStaysLawful, RunAnswers};
+ghost use Rattle.lock_free_hashtable.specs.Shown.{IsLater, entries_of};
 
 pub mod laws;
 
@@ -42,9 +43,10 @@ where
     Len(usize),
 }
 
-/// A table that one owner holds alone, under the law `L`. Contracts see it by what it shows.
+/// A table that one owner holds alone, under the law `L`. Contracts see it by what it shows. Who implements it promises
+/// besides that a table without entries is lawful.
 pub trait AloneTable<T: AtomicValue, L: Law<T::Target>> {
-    ghost use Rattle.lock_free_hashtable.specs.Shown.{Shows, value_of, CountsAsList, PlacesAsList, LooksUpAsList};
+    ghost use Rattle.lock_free_hashtable.specs.Shown.{Shows, value_of, CountsAsList, PlacesAsList, LooksUpAsList, LawfulWithoutEntries};
     ghost use Rattle.lock_free_hashtable.specs.Shown.{ShowsAt, FindsOne, FindsNone, InsertKeeps, InsertAnswers};
 
     /// Names an entry of the table.
@@ -72,6 +74,7 @@ pub trait AloneTable<T: AtomicValue, L: Law<T::Target>> {
         // with any closures
         ensures keeps { InsertKeeps T.target (FnReturnsAtPair E.Fn eq.now (T.target value)) (value_of shows self.new)
             (entries_of shows self.old) value result (entries_of shows self.new) }
+        ensures later { IsLater shows self.old self.new }
         ensures counted { shows.counted self.new }
 
         // with lawful ones
@@ -96,7 +99,10 @@ pub trait AloneTable<T: AtomicValue, L: Law<T::Target>> {
 
     /// The number of entries, or the greatest usize if there are more.
     fn len_alone(&self) -> usize
-        ensures { CountsAsList shows self.now result };
+        ensures counted { shows.counted self.now }
+        ensures as_list { CountsAsList shows self.now result };
+
+    ghost no_entries_is_lawful: { LawfulWithoutEntries shows T.target };
 }
 
 /// Inserts the value, and tells what came of it.
@@ -112,6 +118,8 @@ where
     requires eq_callable { E.IsAlwaysCallable eq.now }
     requires hash_callable { H.IsAlwaysCallable hash_fn.now }
     ensures keeps { IsPermutation (entries_of B.shows table.old ++ value ∷ []) (entries_of B.shows table.new ++ handed_back result) }
+    ensures later { IsLater B.shows table.old table.new }
+    ensures counted { B.shows.counted table.new }
     ensures as_list { InsertRepliesAsList T.target L.same L.hash_of B.shows (FnReturnsAtPair E.Fn eq.now) (FnReturnsAt H.Fn hash_fn.now)
         table.old hash value result table.new }
 {
@@ -163,6 +171,11 @@ where
     requires hash_callable { H.IsAlwaysCallable hash_fn.now }
     requires test_callable { P.IsAlwaysCallable test.now }
     ensures keeps { IsPermutation (entries_of B.shows table.old ++ given call) (entries_of B.shows table.new ++ handed_back result) }
+    ensures later { IsLater B.shows table.old table.new }
+    ensures counted { B.shows.counted table.old → B.shows.counted table.new }
+    ensures unchanged { OnlyAsks call → table.new ≡ table.old }
+    ensures lawful { CallStaysLawful T.target L.same L.hash_of B.shows (FnReturnsAtPair E.Fn eq.now) (FnReturnsAt H.Fn hash_fn.now)
+        table.old call table.new }
     ensures as_list { CallAnswers T.target L.same L.hash_of B.shows (FnReturnsAtPair E.Fn eq.now) (FnReturnsAt H.Fn hash_fn.now)
         (FnReturnsAtTwo P.Fn test.now) table.old call result table.new }
 {
@@ -204,10 +217,16 @@ where
     // with any closures
     ensures keeps { IfOk result (λ replies.
         RunKeeps (entries_of B.shows table.old) calls.items replies.items (entries_of B.shows table.new)) }
+    ensures later { IfOk result (λ _. IsLater B.shows table.old table.new) }
+    ensures counted { IfOk result (λ _. B.shows.counted table.new) }
+    ensures unchanged { IfOk result (λ _. All OnlyAsks calls.items → table.new ≡ table.old) }
     ensures each { IfOk result (λ replies. length replies.items ≡ length calls.items) }
     ensures refused { IfErr result (λ back. (back ≡ calls) × (table.new ≡ table.old)) }
 
     // with lawful ones
+    ensures lawful { IfOk result (λ _.
+        RunStaysLawful T.target L.same L.hash_of B.shows (FnReturnsAtPair E.Fn eq) (FnReturnsAt H.Fn hash_fn)
+        table.old calls.items table.new) }
     ensures as_list { IfOk result (λ replies.
         RunAnswers T.target L.same L.hash_of B.shows (FnReturnsAtPair E.Fn eq) (FnReturnsAt H.Fn hash_fn) (FnReturnsAtTwo P.Fn test)
         table.old calls.items replies.items table.new) }
@@ -215,6 +234,8 @@ where
     let Ok(mut replies) = Vec::with_capacity(alloc, calls.len()) else {
         return Err(calls);
     };
+    // Its contract says that the table is counted, also where no call follows.
+    let _ = table.len_alone();
     for call in calls {
         let reply = reply_call(table, call, &eq, &hash_fn, &test);
         replies.push_reserved(reply);

@@ -1,12 +1,13 @@
 //! A table over shards, held alone.
-ghost use Rattle.std.specs.Prelude.{◌≡◌, ℕ, ◌*◌, ◌/◌, ◌^◌, ◌<◌, ◌≤◌, ◌↔◌, length, []};
-ghost use Rattle.std.specs.Prelude.{min, IfSome, IfNone, IsSome, IsTrue, option_copied};
+ghost use Rattle.std.specs.Prelude.{◌≡◌, ◌≢◌, ℕ, ◌*◌, ◌/◌, ◌^◌, ◌<◌, ◌≤◌, ◌↔◌, length, []};
+ghost use Rattle.std.specs.Prelude.{min, IfOk, IfSome, IfNone, IsSome, IsTrue, option_copied};
 ghost use Rattle.std.specs.Fn.{FnReturnsAt, FnReturnsAtPair};
 ghost use Rattle.std.specs.Int.{IsPowerOfTwo};
 ghost use Rattle.terms.specs.Capacities.{IsFirstCapacity};
 ghost use Rattle.terms.specs.ListObject.{greatest_length};
 
 mod alone;
+pub mod laws;
 pub mod place;
 
 use crate::raw::HeldRawTable;
@@ -40,7 +41,7 @@ impl<T: AtomicValue, const SHARDS: usize, A: Allocator + Copy> Model
 }
 
 impl<T: AtomicValue, const SHARDS: usize, A: Allocator + Copy> HeldShardedTable<T, SHARDS, A> {
-    ghost use Rattle.lock_free_hashtable.specs.Shown.{Stands, IsLater, CountsAsList, PlacesAsList, LooksUpAsList};
+    ghost use Rattle.lock_free_hashtable.specs.Shown.{Stands, IsLater, KeepsPlaces, CountsAsList, PlacesAsList, LooksUpAsList};
     ghost use Rattle.lock_free_hashtable.specs.Shown.{ShowsAt, FindsOne, FindsNone, InsertKeeps, InsertMarks, InsertAnswers};
     ghost use Rattle.lock_free_hashtable.specs.Shards.{sharded, entries, entry_at, marked, empty_shards, capped_sum, shard_at};
     ghost use Rattle.lock_free_hashtable.specs.Shards.{AreCounted, AreLawful, AreLawfulForAll, HasFewBuckets};
@@ -85,6 +86,7 @@ impl<T: AtomicValue, const SHARDS: usize, A: Allocator + Copy> HeldShardedTable<
     /// The number of entries, or the greatest usize if there are more.
     pub fn len_alone(&self) -> usize
         ensures counted { result ≡ min (length (entries self.now)) greatest_length }
+        ensures each { AreCounted self.now }
         ensures as_list { CountsAsList sharded self.now result }
     {
         let mut sum: usize = 0;
@@ -139,6 +141,11 @@ impl<T: AtomicValue, const SHARDS: usize, A: Allocator + Copy> HeldShardedTable<
             (entries self.old) value result (entries self.new) }
         ensures marks { InsertMarks (marked self.old) hash value result (marked self.new) }
         ensures later { IsLater sharded self.old self.new }
+        ensures places { KeepsPlaces sharded self.old self.new }
+        ensures home { IfOk result (λ placed. placed.0.shard ≡ number_of_shard SHARDS hash) }
+        ensures others { (k : ℕ) → k ≢ number_of_shard SHARDS hash → shard_at self.new k ≡ shard_at self.old k }
+        ensures first { (k : ℕ) → (shard_at self.new k).first_capacity ≡ (shard_at self.old k).first_capacity }
+        ensures shards { length self.new ≡ length self.old }
         ensures counted { AreCounted self.new }
 
         // with lawful ones

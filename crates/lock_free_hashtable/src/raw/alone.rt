@@ -9,10 +9,13 @@ use std::alloc::Allocator;
 impl<T: AtomicValue, A: Allocator + Copy, L: Law<T::Target>> AloneTable<T, L>
     for HeldRawTable<T, A> {
     ghost use Rattle.lock_free_hashtable.specs.Table.{held};
+    ghost use Rattle.lock_free_hashtable.specs.Empty.{held_without_entries};
 
     type Place = Place;
 
     ghost shows = { held };
+
+    ghost no_entries_is_lawful = { held_without_entries T.target };
 
     fn place_alone<E: Fn(&T::Target, &T::Target) -> bool, H: Fn(&T::Target) -> u64>(
         &mut self,

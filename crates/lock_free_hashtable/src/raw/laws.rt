@@ -1,7 +1,8 @@
 //! Laws of the table held alone, each the contract of a function that does nothing.
 ghost use Rattle.std.specs.Fn.{FnReturnsAt, FnReturnsAtPair};
 ghost use Rattle.lock_free_hashtable.specs.Again.{LaterIsReflexive, LaterIsTransitive, AnswersLive, FindsAgain};
-ghost use Rattle.lock_free_hashtable.specs.Table.{LawfulWithoutEntries, held};
+ghost use Rattle.lock_free_hashtable.specs.Shown.{LawfulWithoutEntries};
+ghost use Rattle.lock_free_hashtable.specs.Table.{held};
 
 use generations::atomic_value::{AtomicValue, Law};
 
@@ -14,7 +15,7 @@ pub fn places_stay_good<T: AtomicValue>()
 
 /// A table without entries is lawful for every equality and every hash.
 pub fn no_entries_is_lawful<T: AtomicValue>()
-    ensures { LawfulWithoutEntries T.target }
+    ensures { LawfulWithoutEntries held T.target }
 {}
 
 /// An insert by `eq` that was not refused names the place of an entry of the table that it leaves.

@@ -8,10 +8,13 @@ use std::alloc::Allocator;
 impl<T: AtomicValue, const SHARDS: usize, A: Allocator + Copy, L: Law<T::Target>> AloneTable<T, L>
     for HeldShardedTable<T, SHARDS, A> {
     ghost use Rattle.lock_free_hashtable.specs.Shards.{sharded};
+    ghost use Rattle.lock_free_hashtable.specs.Empty.{shards_without_entries};
 
     type Place = ShardPlace;
 
     ghost shows = { sharded };
+
+    ghost no_entries_is_lawful = { shards_without_entries T.target };
 
     fn place_alone<E: Fn(&T::Target, &T::Target) -> bool, H: Fn(&T::Target) -> u64>(
         &mut self,

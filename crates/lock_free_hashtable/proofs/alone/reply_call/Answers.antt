@@ -13,4 +13,4 @@ returns-in-Lookup-clause-as_list g c = rw c.in-Lookup.is
 
 pub returns-in-Len-clause-as_list : goal.returns-in-Len-clause-as_list
 returns-in-Len-clause-as_list g c = rw c.in-Len.is
-    (len_answers g.T.AtomicValue.target g.L.Law.same g.L.Law.hash_of g.B.AloneTable.shows (FnReturnsAtPair g.E.Fn c.args.eq.now) (FnReturnsAt g.H.Fn c.args.hash_fn.now) (FnReturnsAtTwo g.P.Fn c.args.test.now) _ _ c.len_alone.ensures)
+    (len_answers g.T.AtomicValue.target g.L.Law.same g.L.Law.hash_of g.B.AloneTable.shows (FnReturnsAtPair g.E.Fn c.args.eq.now) (FnReturnsAt g.H.Fn c.args.hash_fn.now) (FnReturnsAtTwo g.P.Fn c.args.test.now) _ _ c.len_alone.ensures.as_list)

@@ -2,7 +2,7 @@ use Rattle.std.proofs.Common.{◌≡◌, ◌<◌, length, refl, ◌∙◌, get_o
 use Rattle.std.proofs.lemmas.List.{length-set, get_or_default}
 use Rattle.std.specs.Fn.{FnReturnsAt, FnReturnsAtPair}
 use Rattle.lock_free_hashtable.specs.Shards.{shard_at}
-use Rattle.lock_free_hashtable.proofs.Shards.{shard_within, counted_shards, in_shard, says_all}
+use Rattle.lock_free_hashtable.proofs.Shards.{shard_within, shard_kept, firsts_kept, places_kept, counted_shards, in_shard, named_in_shard, says_all}
 use Rattle.lock_free_hashtable.proofs.sharded.HeldShardedTable.place_alone.Goals.{in-Ok, in-Err}
 use Rattle.lock_free_hashtable.proofs.sharded.HeldShardedTable.place_alone.Goals as goal
 
@@ -26,4 +26,16 @@ returns g c =
     _ c.place_alone.new.self c.args.hash c.args.value c.place_alone.result c.match-place_alone.result
     c.self.invariant.1 c.shard_of-shard.ensures.is read c.self.invariant.2 answered
     c.place_alone.ensures.keeps c.place_alone.ensures.marks c.place_alone.ensures.places c.place_alone.ensures.counted c.place_alone.ensures.lawful in
-    rw (c.as_mut_slice-shards.ensures.value, ← c.self.view_is) (record { keeps = says.keeps; marks = says.marks; later = says.later; counted = says.counted; lawful = says.lawful; as_list = says.as_list })
+    rw (c.as_mut_slice-shards.ensures.value, ← c.self.view_is) (record {
+      keeps = says.keeps;
+      marks = says.marks;
+      later = says.later;
+      places = places_kept c.self.inside.shards c.shard_of-shard.result within c.place_alone.new.self (rw read c.place_alone.ensures.places);
+      home = named_in_shard c.shard_of-shard.result _ c.place_alone.result c.match-place_alone.result answered c.shard_of-shard.ensures.is;
+      others = λ j other. shard_kept c.self.inside.shards c.shard_of-shard.result within c.place_alone.new.self j (λ is. other (is ∙ c.shard_of-shard.ensures.is));
+      first = firsts_kept c.self.inside.shards c.shard_of-shard.result within c.place_alone.new.self (rw read c.place_alone.ensures.first);
+      shards = length-set _ _ _;
+      counted = says.counted;
+      lawful = says.lawful;
+      as_list = says.as_list;
+    })
