@@ -39,7 +39,7 @@ impl Rule {
             passing: AtomicU64::new(passing),
             refused: AtomicU64::new(refused),
             lot: Lot::new(0, 1),
-            pairs: Pairs::new(0),
+            pairs: Pairs::new(0, 0),
             granted: AtomicU64::new(0),
             given_back: AtomicU64::new(0),
         }
@@ -55,13 +55,13 @@ impl Rule {
         self
     }
 
-    /// The same rule, by which the first counted requests that are granted wait in pairs: the first of a pair is answered
-    /// once the second has come, or once it was looked for 2^32 times.
-    pub fn paired(mut self, pairs: u64) -> Rule
+    /// The same rule, by which the first counted requests that are granted wait in so many pairs: the first of a pair is
+    /// answered once the second has come, or once it was looked for so often.
+    pub fn paired(mut self, pairs: u64, looks: u64) -> Rule
         ensures least { least_counted result ≡ least_counted self }
         ensures most { most_counted result ≡ most_counted self }
     {
-        self.pairs = Pairs::new(pairs);
+        self.pairs = Pairs::new(pairs, looks);
         self
     }
 

@@ -22,7 +22,7 @@ impl Lot {
     /// Whether the next request is drawn.
     pub(crate) fn falls(&self) -> bool {
         let number = self.asked.fetch_add(1, Ordering::SeqCst);
-        let drawn = spread(self.seed.wrapping_add(number));
+        let drawn = spread(spread(self.seed).wrapping_add(number));
         drawn.checked_rem(self.one_in).unwrap_or(0) == 0
     }
 }

@@ -2,22 +2,21 @@
 use std::hint;
 use std::sync::atomic::{AtomicU64, Ordering};
 
-/// How often a request looks for the other one of its pair, before it goes on alone.
-const LOOKS: u64 = 1 << 32;
-
 /// The first requests come in pairs: neither of a pair is answered before the other has come.
 #[derive(Drop)]
 pub(crate) struct Pairs {
     pairs: u64,
+    looks: u64,
     come: AtomicU64,
     alone: AtomicU64,
 }
 
 impl Pairs {
-    /// So many pairs.
-    pub(crate) fn new(pairs: u64) -> Pairs {
+    /// So many pairs, of which the first request looks for the second so often before it goes on alone.
+    pub(crate) fn new(pairs: u64, looks: u64) -> Pairs {
         Pairs {
             pairs,
+            looks,
             come: AtomicU64::new(0),
             alone: AtomicU64::new(0),
         }
@@ -33,7 +32,7 @@ impl Pairs {
 
     /// Whether a request comes after the one of this turn, before it was looked for too often.
     fn comes(&self, turn: u64) -> bool {
-        for _look in 0..LOOKS {
+        for _look in 0..self.looks {
             if self.come.load(Ordering::SeqCst).wrapping_sub(turn) > 1 {
                 return true;
             }

@@ -1,9 +1,15 @@
 //! The table that threads share, run.
 mod alone;
 mod careless;
+mod countings;
+mod ends;
+mod fates;
 mod growth;
+mod lost;
 mod numbers;
 mod racing;
 mod refusals;
+mod rounds;
+mod rules;
 mod share;
 mod values;
