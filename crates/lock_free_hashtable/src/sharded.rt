@@ -1,6 +1,6 @@
 //! A table over shards, held alone.
 ghost use Rattle.std.specs.Prelude.{◌≡◌, ℕ, ◌*◌, ◌/◌, ◌^◌, ◌<◌, ◌≤◌, ◌↔◌, length, []};
-ghost use Rattle.std.specs.Prelude.{min, IfSome, IfNone, IsSome, IsTrue, option_copied};
+ghost use Rattle.std.specs.Prelude.{map, min, IfSome, IfNone, IsSome, IsTrue, option_copied};
 ghost use Rattle.std.specs.Fn.{FnReturnsAt, FnReturnsAtPair};
 ghost use Rattle.std.specs.Int.{IsPowerOfTwo};
 ghost use Rattle.terms.specs.Capacities.{IsFirstCapacity};
@@ -139,6 +139,7 @@ impl<T: AtomicValue, const SHARDS: usize, A: Allocator + Copy> HeldShardedTable<
             (entries self.old) value result (entries self.new) }
         ensures marks { InsertMarks (marked self.old) hash value result (marked self.new) }
         ensures later { IsLater sharded self.old self.new }
+        ensures first { map (λ t. t.first_capacity) self.new ≡ map (λ t. t.first_capacity) self.old }
         ensures counted { AreCounted self.new }
 
         // with lawful ones

@@ -1,8 +1,8 @@
-use Rattle.std.proofs.Common.{◌≡◌, ◌<◌, length, refl, ◌∙◌, get_or}
+use Rattle.std.proofs.Common.{◌≡◌, ◌<◌, length, refl, sym, ap, ◌∙◌, get_or}
 use Rattle.std.proofs.lemmas.List.{length-set, get_or_default}
 use Rattle.std.specs.Fn.{FnReturnsAt, FnReturnsAtPair}
 use Rattle.lock_free_hashtable.specs.Shards.{shard_at}
-use Rattle.lock_free_hashtable.proofs.Shards.{shard_within, counted_shards, in_shard, says_all}
+use Rattle.lock_free_hashtable.proofs.Shards.{shard_within, counted_shards, in_shard, says_all, first_kept}
 use Rattle.lock_free_hashtable.proofs.sharded.HeldShardedTable.place_alone.Goals.{in-Ok, in-Err}
 use Rattle.lock_free_hashtable.proofs.sharded.HeldShardedTable.place_alone.Goals as goal
 
@@ -26,4 +26,5 @@ returns g c =
     _ c.place_alone.new.self c.args.hash c.args.value c.place_alone.result c.match-place_alone.result
     c.self.invariant.1 c.shard_of-shard.ensures.is read c.self.invariant.2 answered
     c.place_alone.ensures.keeps c.place_alone.ensures.marks c.place_alone.ensures.places c.place_alone.ensures.counted c.place_alone.ensures.lawful in
-    rw (c.as_mut_slice-shards.ensures.value, ← c.self.view_is) (record { keeps = says.keeps; marks = says.marks; later = says.later; counted = says.counted; lawful = says.lawful; as_list = says.as_list })
+    let firsts = first_kept c.self.inside.shards c.shard_of-shard.result within c.place_alone.new.self (c.place_alone.ensures.first ∙ sym (ap (λ t. t.first_capacity) read)) in
+    rw (c.as_mut_slice-shards.ensures.value, ← c.self.view_is) (record { keeps = says.keeps; marks = says.marks; later = says.later; first = firsts; counted = says.counted; lawful = says.lawful; as_list = says.as_list })
