@@ -1,5 +1,5 @@
 -- Where one shard takes a value or gives an answer, so does the table over all shards.
-use Rattle.std.proofs.Common.{◌≡◌, ℕ, zero, suc, ◌+◌, ◌<◌, ◌⊎◌, Bool, false, List, [], ◌∷◌, ◌++◌, Option, Some, None, Result, Ok, Err, length, refl, sym, ap, subst, ◌∙◌, append_assoc, append-nil, arith, inl, inr, set, get_or, ltb, replicate, take, ◌≤◌}
+use Rattle.std.proofs.Common.{◌≡◌, ℕ, zero, suc, ◌+◌, ◌<◌, ◌⊎◌, Bool, false, List, [], ◌∷◌, ◌++◌, Option, Some, None, Result, Ok, Err, length, refl, sym, ap, subst, ◌∙◌, append_assoc, append-nil, arith, inl, inr, set, get_or, map, ltb, replicate, take, ◌≤◌}
 use Rattle.std.specs.Prelude.{Contains, IfOk, IsSome, IfNone, min, option_map}
 use Rattle.std.specs.Array.{IsFromFnResultFrom}
 use Rattle.std.specs.Fn.{Called}
@@ -54,7 +54,18 @@ module _ {X V : Type 0} (f : X → List V) where
     | inr there ↦ (let at = flat_map-Contains xs d v there in (suc at.0, omega (arith, at.1), at.2))
   ]
 
+-- where one element is replaced by one of which the same is read, the same is read of all
+map-set_same : {X V : Type 0} (f : X → V) (xs : List X) (k : ℕ) (d new : X) → k < length xs → f new ≡ f (get_or xs k d) → map f (set xs k new) ≡ map f xs
+map-set_same f [] k d new within one = absurd (omega arith)
+map-set_same f (x ∷ xs) zero d new within one = ap (λ v. v ∷ map f xs) one
+map-set_same f (x ∷ xs) (suc k) d new within one = ap (λ vs. f x ∷ vs) (map-set_same f xs k d new (omega arith) one)
+
 module _ {T : Type 0} where
+  -- the first capacities stay where one shard's does
+  pub first_kept : (ts : List (HeldTable T)) (k : ℕ) → k < length ts → (new : HeldTable T) → new.first_capacity ≡ (shard_at ts k).first_capacity
+      → map (λ t. t.first_capacity) (set ts k new) ≡ map (λ t. t.first_capacity) ts
+  first_kept ts k within new one = map-set_same (λ t. t.first_capacity) ts k (empty_table 0) new within one
+
   -- the entries are those of each shard
   entries_by_shard : (ts : List (HeldTable T)) → entries ts ≡ flat_map table.entries ts
   entries_by_shard [] = refl
@@ -90,13 +101,7 @@ module _ {T : Type 0} (ts : List (HeldTable T)) (k : ℕ) (within : k < length t
     | inr other ↦ rw (shard_kept j other) (there j (rw length-set at inside))
   ]
 
-  -- the first capacities stay, and so does what each place shows
-  pub firsts_kept : new.first_capacity ≡ (shard_at ts k).first_capacity → (j : ℕ) → (shard_at (set ts k new) j).first_capacity ≡ (shard_at ts j).first_capacity
-  firsts_kept same j = elim (cases_eq j k) [
-    | inl is ↦ rw (is, shard_set) same
-    | inr other ↦ rw (shard_kept j other) refl
-  ]
-
+  -- what each place shows stays
   pub places_kept : KeepsPlaces (shard_at ts k) new → shown.KeepsPlaces sharded ts (set ts k new)
   places_kept places p e at = elim (cases_eq p.shard k) [
     | inl is ↦ rw (is, shard_set) (places p.place e (rw is at at))

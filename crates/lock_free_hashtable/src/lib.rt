@@ -15,5 +15,5 @@ pub use generations::atomic_value::{AtomicValue, Law};
 pub use place::Place;
 pub use raw::{
     FIRST_CAPACITY, HeldIter, HeldRawTable, InsertCall, IntoIter, Iter, LockFreeRawTable,
-    LookupCall, Progress, is_first_capacity,
+    LookupCall, Low, Progress, is_first_capacity,
 };

@@ -15,6 +15,7 @@ mod share;
 
 use crate::place::Place;
 use cell::Home;
+pub use cell::Low;
 use generations::atomic_value::{AtomicValue, Law};
 use generations::fixed::{Generation, ProbeEnd, Refusal};
 use generations::growth::rehashed;

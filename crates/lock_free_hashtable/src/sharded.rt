@@ -1,6 +1,6 @@
 //! A table over shards, held alone.
 ghost use Rattle.std.specs.Prelude.{◌≡◌, ◌≢◌, ℕ, ◌*◌, ◌/◌, ◌^◌, ◌<◌, ◌≤◌, ◌↔◌, length, []};
-ghost use Rattle.std.specs.Prelude.{min, IfOk, IfSome, IfNone, IsSome, IsTrue, option_copied};
+ghost use Rattle.std.specs.Prelude.{map, min, IfOk, IfSome, IfNone, IsSome, IsTrue, option_copied};
 ghost use Rattle.std.specs.Fn.{FnReturnsAt, FnReturnsAtPair};
 ghost use Rattle.std.specs.Int.{IsPowerOfTwo};
 ghost use Rattle.terms.specs.Capacities.{IsFirstCapacity};
@@ -144,7 +144,7 @@ impl<T: AtomicValue, const SHARDS: usize, A: Allocator + Copy> HeldShardedTable<
         ensures places { KeepsPlaces sharded self.old self.new }
         ensures home { IfOk result (λ placed. placed.0.shard ≡ number_of_shard SHARDS hash) }
         ensures others { (k : ℕ) → k ≢ number_of_shard SHARDS hash → shard_at self.new k ≡ shard_at self.old k }
-        ensures first { (k : ℕ) → (shard_at self.new k).first_capacity ≡ (shard_at self.old k).first_capacity }
+        ensures first { map (λ t. t.first_capacity) self.new ≡ map (λ t. t.first_capacity) self.old }
         ensures shards { length self.new ≡ length self.old }
         ensures counted { AreCounted self.new }
 

@@ -1,8 +1,8 @@
-use Rattle.std.proofs.Common.{◌≡◌, ◌<◌, length, refl, ◌∙◌, get_or}
+use Rattle.std.proofs.Common.{◌≡◌, ◌<◌, length, refl, sym, ap, ◌∙◌, get_or}
 use Rattle.std.proofs.lemmas.List.{length-set, get_or_default}
 use Rattle.std.specs.Fn.{FnReturnsAt, FnReturnsAtPair}
 use Rattle.lock_free_hashtable.specs.Shards.{shard_at}
-use Rattle.lock_free_hashtable.proofs.Shards.{shard_within, shard_kept, firsts_kept, places_kept, counted_shards, in_shard, named_in_shard, says_all}
+use Rattle.lock_free_hashtable.proofs.Shards.{shard_within, shard_kept, first_kept, places_kept, counted_shards, in_shard, named_in_shard, says_all}
 use Rattle.lock_free_hashtable.proofs.sharded.HeldShardedTable.place_alone.Goals.{in-Ok, in-Err}
 use Rattle.lock_free_hashtable.proofs.sharded.HeldShardedTable.place_alone.Goals as goal
 
@@ -33,7 +33,7 @@ returns g c =
       places = places_kept c.self.inside.shards c.shard_of-shard.result within c.place_alone.new.self (rw read c.place_alone.ensures.places);
       home = named_in_shard c.shard_of-shard.result _ c.place_alone.result c.match-place_alone.result answered c.shard_of-shard.ensures.is;
       others = λ j other. shard_kept c.self.inside.shards c.shard_of-shard.result within c.place_alone.new.self j (λ is. other (is ∙ c.shard_of-shard.ensures.is));
-      first = firsts_kept c.self.inside.shards c.shard_of-shard.result within c.place_alone.new.self (rw read c.place_alone.ensures.first);
+      first = first_kept c.self.inside.shards c.shard_of-shard.result within c.place_alone.new.self (c.place_alone.ensures.first ∙ sym (ap (λ t. t.first_capacity) read));
       shards = length-set _ _ _;
       counted = says.counted;
       lawful = says.lawful;
