@@ -1,5 +1,5 @@
 //! A walk over a table that threads share.
-ghost use Rattle.std.specs.Prelude.{◌≡◌};
+ghost use Rattle.std.specs.Prelude.{◌≡◌, ◌^◌, ◌<◌};
 ghost use Rattle.std.specs.Iterator.{at_most};
 ghost use Rattle.shared_table.specs.Walks.{WalksOn};
 
@@ -56,7 +56,9 @@ impl<'a, V: 'a, T: AtomicValue<Target = V>, A: Allocator + Copy> FusedIterator f
 
 impl<T: AtomicValue, A: Allocator + Copy> LockFreeRawTable<T, A> {
     /// A walk over the targets of the entries. It takes no lock and no memory.
-    pub fn iter(&self) -> Iter<'_, T, A> {
+    pub fn iter(&self) -> Iter<'_, T, A>
+        ensures fits { result < 2 ^ 64 }
+    {
         let (generation, left) = match self.current() {
             Some(current) => (Some(current.generation), current.generation.capacity()),
             None => (None, 0),

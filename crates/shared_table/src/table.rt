@@ -73,6 +73,14 @@ impl<T: AtomicValue, A: Allocator + Copy> LockFreeRawTable<T, A> {
         LockFreeRawTable::of_parts(first_capacity, home, Vec::new(alloc), base, alloc)
     }
 
+    /// The empty table with this one's allocator and first capacity. It takes no memory.
+    pub fn new_like(&self) -> Self
+        ensures first { result.first_capacity ≡ self.now.first_capacity }
+        ensures empty { result.shared ≡ [] ∷ [] }
+    {
+        LockFreeRawTable::with_first_capacity(self.alloc, self.first_capacity)
+    }
+
     /// The table of these generations, of which the last is the current one. It takes no memory.
     pub fn of_parts(
         first_capacity: usize,
