@@ -183,7 +183,8 @@ impl<T: AtomicValue, A: Allocator + Copy> LockFreeRawTable<T, A> {
         if matches!(look, Look::Vacant) {
             return Read::Empty(step(state, Answer::Empty));
         }
-        meet::<T, E>(state, alike::<T>(look), value, eq)
+        let target = alike::<T>(look);
+        meet::<T, E>(state, target, value, eq)
     }
 
     /// A look-up reads its bucket.
@@ -210,7 +211,8 @@ impl<T: AtomicValue, A: Allocator + Copy> LockFreeRawTable<T, A> {
         if matches!(look, Look::Vacant) {
             return Read::Empty(step(state, Answer::Empty));
         }
-        look_on::<T, F>(state, alike::<T>(look), test)
+        let target = alike::<T>(look);
+        look_on::<T, F>(state, target, test)
     }
 }
 

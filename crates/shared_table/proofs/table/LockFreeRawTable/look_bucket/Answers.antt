@@ -7,7 +7,7 @@ use Rattle.shared_table.proofs.table.LockFreeRawTable.look_bucket.Goals.{in-Vaca
 use Rattle.shared_table.proofs.table.LockFreeRawTable.look_bucket.Goals as goal
 
 pub returns-clause-reads : goal.returns-clause-reads
-returns-clause-reads g c = lookup_read (FnReturnsAt g.F.Fn c.args.test.now) c.alike.result c.args.state c.look_on.result c.look_on.ensures
+returns-clause-reads g c = lookup_read (FnReturnsAt g.F.Fn c.args.test.now) c.alike-target.result c.args.state c.look_on.result c.look_on.ensures
 
 pub returns-clause-seen : goal.returns-clause-seen
 returns-clause-seen g c =
@@ -15,5 +15,5 @@ returns-clause-seen g c =
       | in-Vacant w ↦ absurd (let no : true ≡ false = sym w.matches-is ∙ c.if-matches.false in cc)
       | in_default w ↦ w.in_default.not-Vacant
     ] in
-    seen_so _ _ _ _ _ (lookup_tells g.T.AtomicValue.target (FnReturnsAt g.F.Fn c.args.test.now) (bits_of c.args.state.hash) c.look-look.result c.alike.result c.args.state c.look_on.result set c.alike.ensures c.look_on.ensures)
+    seen_so _ _ _ _ _ (lookup_tells g.T.AtomicValue.target (FnReturnsAt g.F.Fn c.args.test.now) (bits_of c.args.state.hash) c.look-look.result c.alike-target.result c.args.state c.look_on.result set c.alike-target.ensures c.look_on.ensures)
     c.look-look.ensures.seen
