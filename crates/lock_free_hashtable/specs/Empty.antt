@@ -1,5 +1,5 @@
--- A table without entries is lawful: the proofs that the tables give to whom they are lent as tables held alone.
-use Rattle.std.specs.Prelude.{◌≡◌, ℕ, zero, suc, ◌++◌, List, [], ◌∷◌, Option, Some, None, length}
+-- A table without entries is lawful: what the raw table and the one over shards promise as tables held alone.
+use Rattle.std.specs.Prelude.{◌≡◌, ℕ, zero, suc, List, [], ◌∷◌, Option, Some, None, length}
 use Rattle.std.proofs.Common.{refl, arith}
 use Rattle.std.proofs.lemmas.List.{length-map, length-append, nil_from_length}
 use Rattle.generations.specs.Buckets.{values, value_at}

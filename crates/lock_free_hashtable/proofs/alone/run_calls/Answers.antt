@@ -1,4 +1,4 @@
-use Rattle.std.proofs.Common.{rules, arith, refl, sym, ◌∙◌}
+use Rattle.std.proofs.Common.{length, rules, arith, refl, sym, ap, ◌∙◌}
 use Rattle.std.proofs.lemmas.Grind.{common_steps}
 use Rattle.std.specs.Fn.{FnReturnsAt, FnReturnsAtPair}
 use Rattle.std.proofs.lemmas.List.Sorted.{IsPermutation-refl}
@@ -34,22 +34,17 @@ loop-call-preserved g c = record {
 }
 
 -- in the end the calls so far are all calls
-pub returns-clause-keeps : goal.returns-clause-keeps
-returns-clause-keeps g c =
+pub returns : goal.returns
+returns g c =
     let all = YieldsList-end (YieldsList-from_vec {s = c.into_iter-call-iterator.result} c.args.calls.items c.into_iter-call-iterator.ensures.into_iter_gives.0 (c.into_iter-call-iterator.ensures.into_iter_gives.1 ∙ c.args.calls.ok.0)) c.loop-call.yielded c.loop-call.call-iterator c.loop-call.yielded_by c.next.result c.next.new.self c.in-None.is c.next.ensures.steps in
-    rw (← (sym (map_same c.loop-call.yielded) ∙ all.0)) c.loop-call.invariant.keeps
-
-pub returns-clause-unchanged : goal.returns-clause-unchanged
-returns-clause-unchanged g c =
-    let all = YieldsList-end (YieldsList-from_vec {s = c.into_iter-call-iterator.result} c.args.calls.items c.into_iter-call-iterator.ensures.into_iter_gives.0 (c.into_iter-call-iterator.ensures.into_iter_gives.1 ∙ c.args.calls.ok.0)) c.loop-call.yielded c.loop-call.call-iterator c.loop-call.yielded_by c.next.result c.next.new.self c.in-None.is c.next.ensures.steps in
-    rw (← (sym (map_same c.loop-call.yielded) ∙ all.0)) c.loop-call.invariant.unchanged
-
-pub returns-clause-lawful : goal.returns-clause-lawful
-returns-clause-lawful g c =
-    let all = YieldsList-end (YieldsList-from_vec {s = c.into_iter-call-iterator.result} c.args.calls.items c.into_iter-call-iterator.ensures.into_iter_gives.0 (c.into_iter-call-iterator.ensures.into_iter_gives.1 ∙ c.args.calls.ok.0)) c.loop-call.yielded c.loop-call.call-iterator c.loop-call.yielded_by c.next.result c.next.new.self c.in-None.is c.next.ensures.steps in
-    rw (← (sym (map_same c.loop-call.yielded) ∙ all.0)) c.loop-call.invariant.lawful
-
-pub returns-clause-as_list : goal.returns-clause-as_list
-returns-clause-as_list g c =
-    let all = YieldsList-end (YieldsList-from_vec {s = c.into_iter-call-iterator.result} c.args.calls.items c.into_iter-call-iterator.ensures.into_iter_gives.0 (c.into_iter-call-iterator.ensures.into_iter_gives.1 ∙ c.args.calls.ok.0)) c.loop-call.yielded c.loop-call.call-iterator c.loop-call.yielded_by c.next.result c.next.new.self c.in-None.is c.next.ensures.steps in
-    rw (← (sym (map_same c.loop-call.yielded) ∙ all.0)) c.loop-call.invariant.answers
+    let taken = sym (map_same c.loop-call.yielded) ∙ all.0 in
+    record {
+      keeps = rw (← taken) c.loop-call.invariant.keeps;
+      later = c.loop-call.invariant.later;
+      counted = c.loop-call.invariant.counted;
+      unchanged = rw (← taken) c.loop-call.invariant.unchanged;
+      each = omega (arith, ap length taken);
+      refused = tt;
+      lawful = rw (← taken) c.loop-call.invariant.lawful;
+      as_list = rw (← taken) c.loop-call.invariant.answers;
+    }
