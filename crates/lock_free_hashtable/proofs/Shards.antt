@@ -55,7 +55,7 @@ module _ {X V : Type 0} (f : X → List V) where
 
 module _ {T : Type 0} where
   -- the entries are those of each shard
-  entries_by_shard : (ts : List (HeldTable T)) → entries ts ≡ flat_map table.entries ts
+  pub entries_by_shard : (ts : List (HeldTable T)) → entries ts ≡ flat_map table.entries ts
   entries_by_shard [] = refl
   entries_by_shard (t ∷ ts) = rw (map-append (λ (e : Entry T). e.value) (table.marked t) (marked ts), entries_by_shard ts) refl
 
