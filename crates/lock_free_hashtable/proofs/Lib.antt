@@ -18,3 +18,4 @@ pub mod Runs
 pub mod Replies
 pub mod Shards
 pub mod ShardsApart
+pub mod ShardWalks

@@ -11,3 +11,4 @@ pub mod Runs
 pub mod Settled
 pub mod Shards
 pub mod Empty
+pub mod ShardWalks
