@@ -8,10 +8,12 @@ ghost use Rattle.terms.specs.ListObject.{greatest_length};
 
 mod alone;
 pub mod place;
+pub mod shared;
 
 use crate::raw::HeldRawTable;
 use generations::atomic_value::{AtomicValue, Law};
 pub use place::ShardPlace;
+pub use shared::ShardedLockFreeRawTable;
 use std::alloc::{Allocator, Global};
 use std::array;
 use std::marker::Model;
