@@ -19,3 +19,4 @@ pub mod Replies
 pub mod Shards
 pub mod ShardsApart
 pub mod ShardWalks
+pub mod SharedShards

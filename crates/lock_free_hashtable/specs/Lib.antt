@@ -12,3 +12,4 @@ pub mod Settled
 pub mod Shards
 pub mod Empty
 pub mod ShardWalks
+pub mod SharedShards

@@ -13,12 +13,14 @@ mod iter;
 mod later;
 pub mod laws;
 pub mod place;
+pub mod shared;
 
 use crate::raw::HeldRawTable;
 use generations::atomic_value::{AtomicValue, Law};
 pub use into_iter::IntoIter;
 pub use iter::HeldIter;
 pub use place::ShardPlace;
+pub use shared::ShardedLockFreeRawTable;
 use std::alloc::{Allocator, Global};
 use std::array;
 use std::marker::Model;
