@@ -57,7 +57,7 @@ impl<'a, V: 'a, T: AtomicValue<Target = V>, A: Allocator + Copy> FusedIterator f
 impl<T: AtomicValue, A: Allocator + Copy> LockFreeRawTable<T, A> {
     /// A walk over the targets of the entries. It takes no lock and no memory.
     pub fn iter(&self) -> Iter<'_, T, A>
-        ensures fits { result < 2 ^ 64 }
+        ensures fits { result.left < 2 ^ 64 }
     {
         let (generation, left) = match self.current() {
             Some(current) => (Some(current.generation), current.generation.capacity()),

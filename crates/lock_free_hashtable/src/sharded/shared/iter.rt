@@ -27,9 +27,9 @@ impl<'a, T: AtomicValue, const SHARDS: usize, A: Allocator + Copy> Model
 
     ghost Value = { ShardWalk T };
 
-    ghost view = { λ it. record { ahead = it.ahead.now; left = it.walk } };
+    ghost view = { λ it. record { ahead = it.ahead.now; left = it.walk.left } };
 
-    ghost invariant = { λ it. it.walk < 2 ^ 64 };
+    ghost invariant = { λ it. it.walk.left < 2 ^ 64 };
 }
 
 impl<'a, V: 'a, T: AtomicValue<Target = V>, const SHARDS: usize, A: Allocator + Copy> Iterator
