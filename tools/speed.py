@@ -28,7 +28,7 @@ SHARED_RAW = os.path.join(HERE, "shared.txt")
 SHARED_PLOT = os.path.join(HERE, "threads.svg")
 # Tables that threads share, and the groups of measurements that each knows.
 ALL_GROUPS = ["one", "seq", "same", "ins", "hit"]
-SHARING = {"shared": ALL_GROUPS, "held": ALL_GROUPS[:2], "sharded": ["same"]}
+SHARING = {"shared": ALL_GROUPS, "held": ALL_GROUPS[:2]}
 SHARING_PEERS = ["model-direct", "dashmap", "tbb-unordered_set", "libcuckoo", "urcu-lfht-presized"]
 SHARING.update((name, ALL_GROUPS[:4]) for name in SHARING_PEERS)
 # Number tables that threads share. Every other table is held alone, but for the machine of all schedules, `core`.
@@ -39,7 +39,7 @@ GROUPS = {"held": ["one", "seq"], "shared": ["one", "seq", "same", "ins", "hit"]
           "seats": ["one", "seq", "same", "ins"], "core": ["one"], "interner": ["1e4", "1e5", "1e6"]}
 MEASUREMENTS = {
     "held": ["a_ins1", "b_hit1", "c_miss1", "seq_ins1", "seq_hit1", "g_rss"],
-    "shared": ["a_ins1", "b_hit1", "c_miss1", "d_same1", "d_same2", "d_same3", "d_same4", "d_one4", "e_ins1", "e_ins2", "e_ins3", "e_ins4",
+    "shared": ["a_ins1", "b_hit1", "c_miss1", "d_same1", "d_same2", "d_same3", "d_same4", "e_ins1", "e_ins2", "e_ins3", "e_ins4",
                "f_hit1", "f_hit2", "f_hit3", "f_hit4", "seq_ins1", "seq_hit1", "g_rss"],
     "seats": ["a_ins1", "b_hit1", "c_miss1", "d_same4", "e_ins4", "f_hit4", "seq_ins1", "seq_hit1"],
     "core": ["event"],
