@@ -1,5 +1,6 @@
-//! Tests of the tables held alone, raw and over shards, by lists of calls.
+//! Tests of the tables held alone, raw and over shards, by lists of calls and by walks.
 #![tactic(auto)]
 
+pub mod plain_list;
 #[cfg(test)]
 mod tests;

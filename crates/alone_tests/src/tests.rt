@@ -1,4 +1,8 @@
 //! Tables held alone, run.
+mod drops;
+mod makers;
+mod millions;
 mod refusals;
 mod runs;
 mod shards;
+mod walks;
