@@ -8,21 +8,20 @@ use terms::law::{NumberLaw, hash_number};
 
 type EightShards = HeldShardedTable<Box<u64>, 8>;
 
-/// Inserts the number. What is shown, and whether it was placed; None where it was refused.
-fn insert(
-    table: &mut EightShards,
-    alloc: Global,
-    number: u64,
-) -> Result<Option<(u64, bool)>, AllocError> {
+/// Inserts the number. Whether it was placed; None where it was refused.
+fn insert(table: &mut EightShards, alloc: Global, number: u64) -> Result<Option<bool>, AllocError> {
     let value = Box::new(alloc, number)?;
     let eq = |new: &u64, entry: &u64| *new == *entry;
-    let hash = |entry: &u64| hash_number(*entry);
-    Ok(
-        match table.place_alone::<NumberLaw, _, _>(hash_number(number), value, &eq, &hash) {
-            Ok((place, back)) => Some((*table.target_at(place), back.is_none())),
-            Err(_) => None,
-        },
-    )
+    match table.place_alone::<NumberLaw, _, _>(
+        hash_number(number),
+        value,
+        &eq,
+        &|entry: &u64| { hash_number(*entry) },
+    ) {
+        Ok((_, None)) => Ok(Some(true)),
+        Ok((_, Some(_))) => Ok(Some(false)),
+        Err(_) => Ok(None),
+    }
 }
 
 /// Inserts the number, and is told so.
@@ -33,7 +32,7 @@ fn assert_inserted(
     number: u64,
     placed: bool,
 ) -> Result<(), AllocError> {
-    assert_eq!(rt; insert(table, alloc, number)?, Some((number, placed)));
+    assert_eq!(rt; insert(table, alloc, number)?, Some(placed));
     Ok(())
 }
 
