@@ -7,6 +7,7 @@
 //!     bench seats GROUP   the number table of seated threads: one, seq, same or ins
 //!     bench core one      the machine of all schedules
 //!     bench interner N    the interner with 1e4, 1e5 or 1e6 texts
+//!     bench stress MINUTES SEED       no measurement: rounds of threads on shared tables, each of which is accounted for
 //!     bench               a small check, without a clock
 //!
 //! Each line is the name, the measurement and nanoseconds of wall time an operation (`g_rss`: resident bytes an entry).
@@ -18,6 +19,7 @@ use measures::report::{Report, refuse_words};
 use measures::schedules::{check_schedules, measure_schedules};
 use measures::seats::{check_seats, measure_seats};
 use measures::shared::{check_shared, measure_shared};
+use measures::stress::run_stress;
 use measures::texts::{check_interner, measure_interner};
 use std::convert::AsStr;
 use std::{env, io};
@@ -31,6 +33,8 @@ const SEATS: &str = "seats";
 const CORE: &str = "core";
 
 const INTERNER: &str = "interner";
+
+const STRESS: &str = "stress";
 
 fn main(rt: HostRuntime) -> io::Result<()> {
     let words: Vec<String> = env::args(&rt)?.skip(1).collect(rt.alloc())?;
@@ -54,6 +58,9 @@ fn main(rt: HostRuntime) -> io::Result<()> {
         [name, group, threads] if name.as_str() == SHARED => {
             let threads = Some(threads.as_str());
             measure_shared(&rt, &Report { name: SHARED }, group.as_str(), threads)
+        }
+        [name, minutes, seed] if name.as_str() == STRESS => {
+            run_stress(&rt, minutes.as_str(), seed.as_str())
         }
         [name, group] if name.as_str() == SEATS => {
             measure_seats(&rt, &Report { name: SEATS }, group.as_str())
