@@ -12,7 +12,7 @@ use std::thread;
 use std::thread::Threads;
 
 /// How many classes two threads insert at once, each losing its exchange or winning it.
-const LOST: u64 = 300;
+const LOST: u64 = 60;
 
 /// How many classes there are in the end, over some growth.
 const CLASSES: u64 = 3000;
