@@ -1,9 +1,9 @@
 -- Which words name which command.
 use Rattle.std.specs.Prelude.{◌≡◌, ◌≤◌, ℕ, List, [], ◌∷◌, codes}
 use Rattle.commands.specs.declared.arguments.Command.{Command}
-use Rattle.commands.specs.declared.arguments.Command.TheVariants.{Calls, Core, Seats}
+use Rattle.commands.specs.declared.arguments.Command.TheVariants.{Calls, Core, Stress, Seats}
 use Rattle.commands.specs.Spelling.{Writes}
-use Rattle.commands.specs.Faults.{IsInputFault, IsThreadFault}
+use Rattle.commands.specs.Faults.{IsInputFault, IsThreadFault, IsStressFault}
 use Rattle.commands.specs.declared.faults.Fault.{Fault}
 use Rattle.terms.specs.Capacities.{IsFirstCapacity}
 
@@ -23,23 +23,42 @@ NamesThreads [] n = ⊥
 NamesThreads (word ∷ []) n = Writes 10 20 word n × IsThreadCount n
 NamesThreads (word ∷ more ∷ words) n = ⊥
 
+-- as many jobs as `stress` runs of each kind
+abbrev pub IsJobCount : ℕ → Type 0
+IsJobCount n = (1 ≤ n) × (n ≤ 1000)
+
+-- the words after the number of threads say how many jobs of each kind it runs
+abbrev pub NamesJobs : List (List ℕ) → ℕ → Type 0
+NamesJobs [] n = ⊥
+NamesJobs (word ∷ []) n = Writes 10 20 word n × IsJobCount n
+NamesJobs (word ∷ more ∷ words) n = ⊥
+
+-- the words after `stress` say how many threads it runs, and how many jobs of each kind
+abbrev pub NamesStress : List (List ℕ) → ℕ → ℕ → Type 0
+NamesStress [] n jobs = ⊥
+NamesStress (word ∷ words) n jobs = (Writes 10 20 word n × IsThreadCount n) × NamesJobs words jobs
+
 -- no word at all stands for `calls`
 abbrev pub NamesCommand : List (List ℕ) → Command → Type 0
 NamesCommand [] (Calls f) = f ≡ 16
 NamesCommand [] (Core f) = ⊥
+NamesCommand [] (Stress n jobs) = ⊥
 NamesCommand [] (Seats n) = ⊥
 NamesCommand (name ∷ words) (Calls f) = (name ≡ codes "calls") × NamesFirst words f
 NamesCommand (name ∷ words) (Core f) = (name ≡ codes "core") × NamesFirst words f
+NamesCommand (name ∷ words) (Stress n jobs) = (name ≡ codes "stress") × NamesStress words n jobs
 NamesCommand (name ∷ words) (Seats n) = (name ≡ codes "seats") × NamesThreads words n
 
 -- a command that can be run
 abbrev pub IsRunnable : Command → Type 0
 IsRunnable (Calls f) = IsFirstCapacity f
 IsRunnable (Core f) = IsFirstCapacity f
+IsRunnable (Stress n jobs) = IsThreadCount n × IsJobCount jobs
 IsRunnable (Seats n) = IsThreadCount n
 
 -- what may go wrong with a command: with its lines, or with its threads
 abbrev pub IsFaultOf : Command → Fault → Type 0
 IsFaultOf (Calls f) fault = IsInputFault fault
 IsFaultOf (Core f) fault = IsInputFault fault
+IsFaultOf (Stress n jobs) fault = IsStressFault fault
 IsFaultOf (Seats n) fault = IsThreadFault fault

@@ -1,7 +1,8 @@
 -- The message and the status of each fault, and which faults a command has.
 use Rattle.std.specs.Prelude.{ℕ, List, ⊤, ◌++◌, codes, decimal}
+use Rattle.commands.specs.Stress.{kind_text}
 use Rattle.commands.specs.declared.faults.Fault.{Fault}
-use Rattle.commands.specs.declared.faults.Fault.TheVariants.{Usage, BadLine, ReadFailed, WriteFailed, NoMemory, NoThread, GateStuck}
+use Rattle.commands.specs.declared.faults.Fault.TheVariants.{Usage, BadLine, ReadFailed, WriteFailed, NoMemory, NoThread, GateStuck, JobFailed}
 
 -- what a fault prints
 abbrev pub message_of : Fault → List ℕ
@@ -13,6 +14,7 @@ message_of WriteFailed = codes "write failed"
 message_of NoMemory = codes "no memory"
 message_of NoThread = codes "no thread"
 message_of GateStuck = codes "gate stuck"
+message_of (JobFailed kind job) = kind_text kind ++ codes " failed at job " ++ decimal job
 
 -- 2 for words and lines that are wrong, 1 for what the system refuses
 abbrev pub status_of : Fault → ℕ
@@ -23,6 +25,7 @@ status_of WriteFailed = 1
 status_of NoMemory = 1
 status_of NoThread = 1
 status_of GateStuck = 1
+status_of (JobFailed kind job) = 1
 
 -- what may go wrong with the streams
 abbrev pub IsStreamFault : Fault → Type 0
@@ -57,3 +60,20 @@ IsThreadFault NoMemory = ⊤
 IsThreadFault NoThread = ⊤
 IsThreadFault GateStuck = ⊤
 IsThreadFault _ = ⊥
+
+-- what may go wrong with a job
+abbrev pub IsJobFault : Fault → Type 0
+IsJobFault NoMemory = ⊤
+IsJobFault NoThread = ⊤
+IsJobFault GateStuck = ⊤
+IsJobFault (JobFailed kind job) = ⊤
+IsJobFault _ = ⊥
+
+-- what may go wrong with a run of jobs
+abbrev pub IsStressFault : Fault → Type 0
+IsStressFault WriteFailed = ⊤
+IsStressFault NoMemory = ⊤
+IsStressFault NoThread = ⊤
+IsStressFault GateStuck = ⊤
+IsStressFault (JobFailed kind job) = ⊤
+IsStressFault _ = ⊥

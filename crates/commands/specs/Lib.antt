@@ -1,5 +1,6 @@
 pub mod Spelling
 pub mod Replies
+pub mod Stress
 pub mod Faults
 pub mod Arguments
 pub mod Pairs

@@ -1,6 +1,8 @@
 //! The command that the program's words name.
 ghost use Rattle.std.specs.Prelude.{map, IfSome, IfNone, ℕ};
-ghost use Rattle.commands.specs.Arguments.{NamesFirst, NamesThreads, NamesCommand, IsRunnable, IsThreadCount};
+ghost use Rattle.commands.specs.Spelling.{Writes};
+ghost use Rattle.commands.specs.Arguments.{NamesFirst, NamesStress, NamesJobs, NamesThreads, NamesCommand};
+ghost use Rattle.commands.specs.Arguments.{IsRunnable, IsThreadCount, IsJobCount};
 ghost use Rattle.terms.specs.Capacities.{IsFirstCapacity};
 ghost use Rattle.commands.specs.declared.arguments.Command.{Command as CommandOf};
 
@@ -16,6 +18,8 @@ pub enum Command {
     Calls { first: usize },
     /// A schedule of the machine, whose first generation has so many buckets.
     Core { first: usize },
+    /// So many jobs of each kind, each by so many threads that share a table.
+    Stress { threads: usize, jobs: u64 },
     /// So many threads that share a table of numbers.
     Seats { threads: usize },
 }
@@ -38,6 +42,10 @@ pub fn parse_command<S: AsStr>(words: &[S]) -> Option<Command>
             b"core" => {
                 let first = parse_first(rest)?;
                 Some(Command::Core { first })
+            }
+            b"stress" => {
+                let (threads, jobs) = parse_stress(rest)?;
+                Some(Command::Stress { threads, jobs })
             }
             b"seats" => {
                 let threads = parse_threads(rest)?;
@@ -68,17 +76,57 @@ fn parse_first<S: AsStr>(words: &[S]) -> Option<usize>
     }
 }
 
-/// Reads the words after a command's name: a number of threads, from 2 to 64.
+/// Reads the words after `stress`: a number of threads, from 2 to 64, and one of jobs, from 1 to 1000.
+fn parse_stress<S: AsStr>(words: &[S]) -> Option<(usize, u64)>
+    ensures named { IfSome result (λ named. NamesStress (map S.text words.now) named.0 named.1) }
+    ensures threads { IfSome result (λ named. IsThreadCount named.0) }
+    ensures jobs { IfSome result (λ named. IsJobCount named.1) }
+    ensures wrong { IfNone result ((threads jobs : ℕ) → ¬ NamesStress (map S.text words.now) threads jobs) }
+{
+    match words {
+        [] => None,
+        [word, rest @ ..] => {
+            let threads = parse_thread_count(word.as_str().as_bytes())?;
+            let jobs = parse_jobs(rest)?;
+            Some((threads, jobs))
+        }
+    }
+}
+
+/// Reads the words after the number of threads: a number of jobs, from 1 to 1000.
+fn parse_jobs<S: AsStr>(words: &[S]) -> Option<u64>
+    ensures named { IfSome result (NamesJobs (map S.text words.now)) }
+    ensures count { IfSome result IsJobCount }
+    ensures wrong { IfNone result ((jobs : ℕ) → ¬ NamesJobs (map S.text words.now) jobs) }
+{
+    match words {
+        [word] => match parse_decimal(word.as_str().as_bytes())? {
+            jobs @ 1..=1000 => Some(jobs),
+            _ => None,
+        },
+        _ => None,
+    }
+}
+
+/// Reads the words after `seats`: a number of threads, from 2 to 64.
 fn parse_threads<S: AsStr>(words: &[S]) -> Option<usize>
     ensures named { IfSome result (NamesThreads (map S.text words.now)) }
     ensures count { IfSome result IsThreadCount }
     ensures wrong { IfNone result ((threads : ℕ) → ¬ NamesThreads (map S.text words.now) threads) }
 {
     match words {
-        [word] => match parse_decimal(word.as_str().as_bytes())? {
-            threads @ 2..=64 => Some(threads as usize),
-            _ => None,
-        },
+        [word] => parse_thread_count(word.as_str().as_bytes()),
+        _ => None,
+    }
+}
+
+/// Reads a number of threads, from 2 to 64.
+fn parse_thread_count(text: &[u8]) -> Option<usize>
+    ensures named { IfSome result (λ threads. Writes 10 20 text.now threads × IsThreadCount threads) }
+    ensures wrong { IfNone result ((threads : ℕ) → ¬ (Writes 10 20 text.now threads × IsThreadCount threads)) }
+{
+    match parse_decimal(text)? {
+        threads @ 2..=64 => Some(threads as usize),
         _ => None,
     }
 }

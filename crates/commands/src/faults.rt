@@ -1,6 +1,7 @@
 //! What ends a run before its input does.
 ghost use Rattle.std.specs.Prelude.{◌≡◌, Some};
 
+use crate::kinds::Kind;
 use std::fmt;
 
 /// Why a run ended. It is printed as its message.
@@ -16,6 +17,8 @@ pub enum Fault {
     NoThread,
     /// The gate told a worker no.
     GateStuck,
+    /// In the job of this kind and number, counted from 0, a look-up missed a value, or a walk showed too few or too many.
+    JobFailed { kind: Kind, job: u64 },
 }
 
 impl Fault {
@@ -33,6 +36,7 @@ impl Fault {
             Fault::NoMemory => 1,
             Fault::NoThread => 1,
             Fault::GateStuck => 1,
+            Fault::JobFailed { .. } => 1,
         }
     }
 }
@@ -54,6 +58,7 @@ impl fmt::Display for Fault {
             Fault::NoMemory => write!(f, "no memory"),
             Fault::NoThread => write!(f, "no thread"),
             Fault::GateStuck => write!(f, "gate stuck"),
+            Fault::JobFailed { kind, job } => write!(f, "{kind} failed at job {job}"),
         }
     }
 }

@@ -17,6 +17,15 @@ pub trait Gate {
     fn give_up(&self);
 }
 
+/// What gives each run of workers a gate of its own.
+pub trait Gates {
+    /// Their type.
+    type Gate: Gate + Sync + Drop;
+
+    /// A gate that nobody came to yet.
+    fn gate(&self) -> Self::Gate;
+}
+
 /// How often the program's gate looks at most, within one question.
 pub const GATE_TURNS: u64 = 100_000_000;
 
@@ -40,6 +49,18 @@ pub struct MeetingGate {
 struct Progress {
     is_entered: AtomicBool,
     is_answered: AtomicBool,
+}
+
+/// The gates of the program's own commands.
+#[derive(Clone, Copy, Debug)]
+pub struct ProgramGates;
+
+impl Gates for ProgramGates {
+    type Gate = MeetingGate;
+
+    fn gate(&self) -> MeetingGate {
+        MeetingGate::new(GATE_TURNS)
+    }
 }
 
 impl MeetingGate {

@@ -9,12 +9,14 @@ ghost use Rattle.commands.specs.declared.faults.Fault.{Fault as FaultOf};
 use crate::arguments::{Command, parse_command};
 use crate::calls::run_calls;
 use crate::faults::Fault;
-use crate::gate::{GATE_TURNS, MeetingGate};
+use crate::gate::{Gates, ProgramGates};
+use crate::jobs::Crew;
 use crate::lines::Lines;
 use crate::output::Output;
 use crate::schedules::run_core;
 use crate::seats::{WORKER_STACK, run_seats};
-use std::alloc::Allocator;
+use crate::stress::run_stress;
+use lock_free_hashtable::raw::Low;
 use std::convert::AsStr;
 use std::io::{ErrorKind, Read, Write};
 use std::rt::Env;
@@ -25,9 +27,9 @@ use std::{env, io};
 /// Runs the command that the words of the environment stand for, and answers the status. `run_words` says what is written
 /// where.
 pub fn run_program<
-    R: Threads + Wait,
+    R: Threads + Wait + Sync,
     E: Env + Alloc,
-    A: Allocator + Copy + Send + Sync,
+    A: Low + Copy + Send + Sync,
     I: Read + Drop,
     O: Write,
     M: Write,
@@ -42,8 +44,8 @@ pub fn run_program<
 /// the message of a fault goes to `messages`, each on a line of its own. A message that cannot be written is dropped. Where
 /// the words name no command nothing is read, and only the usage is written.
 pub fn run_words<
-    R: Threads + Wait,
-    A: Allocator + Copy + Send + Sync,
+    R: Threads + Wait + Sync,
+    A: Low + Copy + Send + Sync,
     S: AsStr,
     I: Read + Drop,
     O: Write,
@@ -94,7 +96,7 @@ pub fn read_words<E: Env + Alloc>(env: &E) -> Result<Vec<String<E::A>, E::A>, Fa
 }
 
 /// Runs the command. The replies of the lines before a fault are written.
-fn run_command<R: Threads + Wait, A: Allocator + Copy + Send + Sync, I: Read + Drop, O: Write>(
+fn run_command<R: Threads + Wait + Sync, A: Low + Copy + Send + Sync, I: Read + Drop, O: Write>(
     rt: &R,
     alloc: A,
     command: Command,
@@ -109,8 +111,12 @@ fn run_command<R: Threads + Wait, A: Allocator + Copy + Send + Sync, I: Read + D
     let ended = match command {
         Command::Calls { first } => run_calls(alloc, first, &mut lines, &mut output),
         Command::Core { first } => run_core(alloc, first, &mut lines, &mut output),
+        Command::Stress { threads, jobs } => {
+            let crew = Crew::new(threads, WORKER_STACK);
+            run_stress(rt, alloc, crew, jobs, &ProgramGates, &mut output)
+        }
         Command::Seats { threads } => {
-            let gate = MeetingGate::new(GATE_TURNS);
+            let gate = ProgramGates.gate();
             run_seats(rt, alloc, threads, WORKER_STACK, &gate, &mut output)
         }
     };

@@ -1,5 +1,6 @@
 //! The program, run over streams in memory.
 mod faults;
+mod gates;
 mod machine;
 mod memory;
 mod refusals;
@@ -7,9 +8,11 @@ mod rows;
 mod schedules;
 mod seats;
 mod streams;
+mod stress;
 mod words;
 
 use commands::program::run_words;
+use lock_free_hashtable::raw::Low;
 use refusing::{Refusing, Rule};
 use std::alloc::{AllocError, Allocator};
 use std::io::Read;
@@ -27,7 +30,7 @@ struct Ended {
 }
 
 /// Runs the program's words over an input, on memory of an allocator.
-fn run_on<R: Threads + Wait + AllocGlobal, A: Allocator + Copy + Send + Sync, I: Read + Drop>(
+fn run_on<R: Threads + Wait + AllocGlobal + Sync, A: Low + Copy + Send + Sync, I: Read + Drop>(
     rt: &R,
     alloc: A,
     words: &[&str],
@@ -44,7 +47,7 @@ fn run_on<R: Threads + Wait + AllocGlobal, A: Allocator + Copy + Send + Sync, I:
 }
 
 /// Runs the program's words over an input in memory.
-fn run<R: Threads + Wait + AllocGlobal>(
+fn run<R: Threads + Wait + AllocGlobal + Sync>(
     rt: &R,
     words: &[&str],
     input: &[u8],
@@ -53,7 +56,7 @@ fn run<R: Threads + Wait + AllocGlobal>(
 }
 
 /// Runs the program's words on memory under a rule, and answers beside it how many requests the rule was still going to refuse.
-fn run_refusing<R: Threads + Wait + AllocGlobal>(
+fn run_refusing<R: Threads + Wait + AllocGlobal + Sync>(
     rt: &R,
     rule: Rule,
     words: &[&str],
@@ -85,7 +88,7 @@ fn assert_ended<R: Abort>(
 }
 
 /// Asserts what the words print over an input.
-fn assert_prints<R: Threads + Wait + AllocGlobal + Abort>(
+fn assert_prints<R: Threads + Wait + AllocGlobal + Abort + Sync>(
     rt: &R,
     words: &[&str],
     input: &str,

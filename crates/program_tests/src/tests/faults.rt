@@ -152,7 +152,7 @@ const AROUND_EVENTS: Around = (
 );
 
 /// Asserts that each of these lines ends the run.
-fn assert_bad<R: Threads + Wait + AllocGlobal + Abort>(
+fn assert_bad<R: Threads + Wait + AllocGlobal + Abort + Sync>(
     rt: &R,
     around: Around,
     lines: &[&str],
@@ -180,7 +180,10 @@ fn a_bad_line_ends_the_run(rt: HostRuntime) -> Result<(), Fail> {
 }
 
 /// Runs a line of one byte after a line that is well spelled.
-fn assert_byte<R: Threads + Wait + AllocGlobal + Abort>(rt: &R, byte: u8) -> Result<(), Fail> {
+fn assert_byte<R: Threads + Wait + AllocGlobal + Abort + Sync>(
+    rt: &R,
+    byte: u8,
+) -> Result<(), Fail> {
     let ended = run(rt, &[], &[b'n', b'\n', byte, b'\n'])?;
     match byte {
         b'n' | b'c' | b'b' => assert_ended(rt, &ended, "a count", "0\n0\n", "", 0),
@@ -210,7 +213,7 @@ const LINES: [(usize, &str, &str); 7] = [
 ];
 
 /// Asserts what is printed where the input ends within a line: the replies before it, and that it is bad unless it is empty.
-fn assert_cut<R: Threads + Wait + AllocGlobal + Abort>(
+fn assert_cut<R: Threads + Wait + AllocGlobal + Abort + Sync>(
     rt: &R,
     before: &str,
     beginning: &[u8],
@@ -230,7 +233,7 @@ fn assert_cut<R: Threads + Wait + AllocGlobal + Abort>(
 }
 
 /// Asserts what is printed where the input ends within this line.
-fn assert_cuts<R: Threads + Wait + AllocGlobal + Abort>(
+fn assert_cuts<R: Threads + Wait + AllocGlobal + Abort + Sync>(
     rt: &R,
     before: &str,
     line: &[u8],
@@ -264,7 +267,7 @@ fn an_input_cut_at_every_byte(rt: HostRuntime) -> Result<(), Fail> {
 }
 
 /// Asserts that a line is bad which begins so, goes on with a byte again and again, and ends so.
-fn assert_too_long<R: Threads + Wait + AllocGlobal + Abort>(
+fn assert_too_long<R: Threads + Wait + AllocGlobal + Abort + Sync>(
     rt: &R,
     beginning: &[u8],
     byte: u8,

@@ -46,7 +46,7 @@ fn refusals_of_both<R: Abort>(rt: &R, replies: &[&str]) -> u64 {
 }
 
 /// Refuses one request of a run, and answers how many pairs were refused.
-fn refuse_one<R: Threads + Wait + AllocGlobal + Abort>(
+fn refuse_one<R: Threads + Wait + AllocGlobal + Abort + Sync>(
     rt: &R,
     first: &str,
     input: &[u8],
@@ -60,7 +60,10 @@ fn refuse_one<R: Threads + Wait + AllocGlobal + Abort>(
 }
 
 /// Refuses each request of a run in turn.
-fn refuse_each<R: Threads + Wait + AllocGlobal + Abort>(rt: &R, first: &str) -> Result<(), Fail> {
+fn refuse_each<R: Threads + Wait + AllocGlobal + Abort + Sync>(
+    rt: &R,
+    first: &str,
+) -> Result<(), Fail> {
     let mut input = String::new(rt.alloc());
     push_inserts(&mut input)?;
     push_inserts(&mut input)?;
@@ -85,7 +88,7 @@ fn each_request_is_refused_in_turn(rt: HostRuntime) -> Result<(), Fail> {
 const GENERATION: usize = 128;
 
 /// Asserts what `calls` prints on memory under a rule.
-fn assert_refusing<R: Threads + Wait + AllocGlobal + Abort>(
+fn assert_refusing<R: Threads + Wait + AllocGlobal + Abort + Sync>(
     rt: &R,
     rule: Rule,
     input: &str,

@@ -7,6 +7,7 @@ use super::{Ended, run_refusing};
 use commands::program::run_words;
 use core_tests::script::push_events;
 use core_tests::worked::LOST_TO_AN_EQUAL;
+use lock_free_hashtable::raw::Low;
 use refusing::{Refusing, Rule};
 use std::alloc::{Allocator, Global};
 use std::cell::Cell;
@@ -287,7 +288,7 @@ fn refuse_step<R: Abort + AllocGlobal>(
 }
 
 /// Runs `core` over the schedule where one request is refused.
-fn refuse_command<R: Threads + Wait + Abort + AllocGlobal>(
+fn refuse_command<R: Threads + Wait + Abort + AllocGlobal + Sync>(
     rt: &R,
     first: u64,
     schedule: &Schedule,
@@ -320,7 +321,7 @@ enum Way {
 const WAYS: [Way; 4] = [Way::Run(1), Way::Run(u64::MAX), Way::Steps, Way::Command];
 
 /// Takes the schedule where requests are refused after so many.
-fn refuse<R: Threads + Wait + Abort + AllocGlobal>(
+fn refuse<R: Threads + Wait + Abort + AllocGlobal + Sync>(
     rt: &R,
     way: Way,
     first: u64,
@@ -337,7 +338,7 @@ fn refuse<R: Threads + Wait + Abort + AllocGlobal>(
 }
 
 /// Refuses each request of the schedule in turn.
-fn refuse_each<R: Threads + Wait + Abort + AllocGlobal>(
+fn refuse_each<R: Threads + Wait + Abort + AllocGlobal + Sync>(
     rt: &R,
     way: Way,
     first: u64,
@@ -441,7 +442,7 @@ fn assert_replies<R: Abort>(rt: &R, printed: &[u8], lines: usize) {
 
 /// Runs `core` over these lines, and answers whether memory was refused. Then the replies of the lines before are printed, and
 /// no other.
-fn run_asking<R: Threads + Wait + Abort, A: Allocator + Copy + Send + Sync>(
+fn run_asking<R: Threads + Wait + Abort + Sync, A: Low + Copy + Send + Sync>(
     rt: &R,
     alloc: A,
 ) -> bool {
@@ -473,7 +474,7 @@ fn run_asking<R: Threads + Wait + Abort, A: Allocator + Copy + Send + Sync>(
 }
 
 /// Runs these lines where one request is refused.
-fn refuse_asking<R: Threads + Wait + Abort + AllocGlobal>(rt: &R, granted: u64) -> Outcome {
+fn refuse_asking<R: Threads + Wait + Abort + AllocGlobal + Sync>(rt: &R, granted: u64) -> Outcome {
     let memory = Refusing::new(rt.alloc(), Rule::new(0, usize::MAX, granted, 1));
     let is_refused = run_asking(rt, &memory);
     Outcome {

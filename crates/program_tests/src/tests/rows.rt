@@ -8,7 +8,7 @@ use std::thread::Threads;
 /// Words and an input, and what they print.
 type Row = (&'static [&'static str], &'static str, &'static str);
 
-const ROWS: [Row; 12] = [
+const ROWS: [Row; 13] = [
     (&[], "", ""),
     (&["calls"], "", ""),
     (&[], "l 0 1\nn\nw\nc\nb\n", "none\n0\n[]\n0\n0\n"),
@@ -41,6 +41,11 @@ const ROWS: [Row; 12] = [
     ),
     (&["calls", "1073741824"], "c\nb\n", "0\n0\n"),
     (&["seats", "4"], "i 0 1\n", "placed 1024\nfull 4\n"),
+    (
+        &["stress", "4", "1"],
+        "i 0 1\n",
+        "insert_unique 4000\ninsert_same 10000\ninsert_lookup 4000\n",
+    ),
 ];
 
 #[test]
@@ -55,7 +60,7 @@ const USAGE: &str =
     "usage: tablerun calls [F] | shards N [F] | core [F] | stress THREADS JOBS | seats THREADS\n";
 
 /// Words that name no command.
-const WRONG: [&[&str]; 23] = [
+const WRONG: [&[&str]; 29] = [
     &["calls", "24"],
     &["calls", "8"],
     &["calls", "2147483648"],
@@ -77,7 +82,13 @@ const WRONG: [&[&str]; 23] = [
     &["seats", "1"],
     &["seats", "65"],
     &["seats", "4", "4"],
-    &["stress", "4", "1"],
+    &["stress"],
+    &["stress", "4"],
+    &["stress", "1", "1"],
+    &["stress", "65", "1"],
+    &["stress", "4", "0"],
+    &["stress", "4", "1001"],
+    &["stress", "4", "1", "1"],
     &["shards", "2"],
 ];
 
@@ -95,7 +106,10 @@ const FIRST: &str =
     "insert 1 10 0\nshare 1\nload 1\nfree 1\nown 1\ncheck 1 ok\nshow 1\nfree 1\nb\n";
 
 /// Asserts that the tables of both commands begin with so many buckets.
-fn assert_first<R: Threads + Wait + AllocGlobal + Abort>(rt: &R, first: u64) -> Result<(), Fail> {
+fn assert_first<R: Threads + Wait + AllocGlobal + Abort + Sync>(
+    rt: &R,
+    first: u64,
+) -> Result<(), Fail> {
     let word = format!(in rt.alloc(); "{first}")?;
     let placed = format!(in rt.alloc(); "placed\n{first}\n{first}\n")?;
     assert_prints(

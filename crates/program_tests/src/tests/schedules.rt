@@ -19,7 +19,10 @@ fn words_for(first: u64) -> &'static [&'static str] {
 }
 
 /// Asserts what a schedule prints, and that the machine tells the same, event by event and in one run.
-fn assert_row<R: Threads + Wait + AllocGlobal + Abort>(rt: &R, row: &Row) -> Result<(), Fail> {
+fn assert_row<R: Threads + Wait + AllocGlobal + Abort + Sync>(
+    rt: &R,
+    row: &Row,
+) -> Result<(), Fail> {
     let (first, parts, printed) = *row;
     let input = lines_of(rt.alloc(), parts)?;
     assert_prints(rt, words_for(first), input.as_str(), printed)?;

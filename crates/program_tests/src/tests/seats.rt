@@ -2,33 +2,21 @@
 ghost use Rattle.std.specs.Prelude.{IfOk};
 ghost use Rattle.seated.specs.Tables.{IsSeatOf};
 
+use super::gates::ClosedFrom;
 use commands::faults::Fault;
 use commands::gate::{GATE_TURNS, Gate, MeetingGate};
 use commands::seats::{WORKER_STACK, run_seats, work};
+use lock_free_hashtable::raw::Low;
 use refusing::{Refusing, Rule};
 use seated::{NumberTable, Seat};
-use std::alloc::{AllocError, Allocator, Global};
+use std::alloc::{AllocError, Global};
 use std::process::Abort;
 use std::sync::Wait;
 use std::test::Fail;
 use std::thread::Threads;
 
-/// A gate that lets each worker pass the inserts before this one.
-#[derive(Drop)]
-struct ClosedFrom(usize);
-
-impl Gate for ClosedFrom {
-    fn may_pass(&self, _worker: usize, call: usize) -> bool {
-        call < self.0
-    }
-
-    fn answered(&self, _worker: usize, _call: usize) {}
-
-    fn give_up(&self) {}
-}
-
 /// Asserts that workers which must be seen to run at the same time fill one table.
-fn assert_filled<R: Threads + Wait + AllocGlobal + Abort>(
+fn assert_filled<R: Threads + Wait + AllocGlobal + Abort + Sync>(
     rt: &R,
     threads: usize,
 ) -> Result<(), Fail> {
@@ -49,7 +37,7 @@ fn workers_fill_one_table(rt: HostRuntime) -> Result<(), Fail> {
 }
 
 /// Asserts how a run of two workers ends, of whom each may make so many inserts, and that nothing is printed after a fault.
-fn assert_ends<R: Threads + Wait + AllocGlobal + Abort, A: Allocator + Copy + Send + Sync>(
+fn assert_ends<R: Threads + Wait + AllocGlobal + Abort + Sync, A: Low + Copy + Send + Sync>(
     rt: &R,
     alloc: A,
     inserts: usize,

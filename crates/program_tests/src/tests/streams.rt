@@ -69,7 +69,7 @@ fn replies_to(out: &mut String, bytes: usize) -> Result<(), Fail> {
 }
 
 /// Asserts what is printed where so many reads are given and the next one fails, if it is made.
-fn assert_given<R: Threads + Wait + AllocGlobal + Abort>(
+fn assert_given<R: Threads + Wait + AllocGlobal + Abort + Sync>(
     rt: &R,
     at_once: usize,
     given: usize,
@@ -98,7 +98,7 @@ fn a_reader_that_fails_at_each_call(rt: HostRuntime) -> Result<(), Fail> {
 }
 
 /// Asserts that all replies are printed where each read is interrupted first.
-fn assert_interrupted<R: Threads + Wait + AllocGlobal + Abort>(
+fn assert_interrupted<R: Threads + Wait + AllocGlobal + Abort + Sync>(
     rt: &R,
     at_once: usize,
 ) -> Result<(), Fail> {
@@ -120,7 +120,7 @@ fn an_interrupted_read_is_tried_again(rt: HostRuntime) -> Result<(), Fail> {
 }
 
 /// Asserts how a run ends whose reader fails after so many thousand bytes of one line.
-fn assert_fails_in_a_line<R: Threads + Wait + AllocGlobal + Abort>(
+fn assert_fails_in_a_line<R: Threads + Wait + AllocGlobal + Abort + Sync>(
     rt: &R,
     given: u64,
 ) -> Result<(), Fail> {
@@ -175,7 +175,7 @@ impl Write for Full<'_> {
 }
 
 /// Runs `calls` with a reader and writers of the caller's, and asserts the message and the status.
-fn assert_run<R: Threads + Wait + AllocGlobal + Abort, I: Read + Drop>(
+fn assert_run<R: Threads + Wait + AllocGlobal + Abort + Sync, I: Read + Drop>(
     rt: &R,
     input: I,
     writer: &mut Full<'_>,
@@ -189,7 +189,7 @@ fn assert_run<R: Threads + Wait + AllocGlobal + Abort, I: Read + Drop>(
 }
 
 /// Asserts what is written where so many calls of the writer succeed.
-fn assert_writes<R: Threads + Wait + AllocGlobal + Abort>(
+fn assert_writes<R: Threads + Wait + AllocGlobal + Abort + Sync>(
     rt: &R,
     given: usize,
 ) -> Result<(), Fail> {
@@ -234,7 +234,7 @@ fn the_first_failure_wins(rt: HostRuntime) {
 }
 
 /// Asserts the status of a run whose message is dropped.
-fn assert_dropped<R: Threads + Wait + AllocGlobal + Abort>(rt: &R, words: &[&str]) {
+fn assert_dropped<R: Threads + Wait + AllocGlobal + Abort + Sync>(rt: &R, words: &[&str]) {
     let mut output = Vec::new(rt.alloc());
     let mut messages = Vec::new(rt.alloc());
     let count = Cell::new(0);
@@ -299,7 +299,7 @@ impl Write for Keeping<'_> {
 }
 
 /// Runs five lines, and looks each time that the next one is asked for how many bytes the writer has sent.
-fn assert_replies_before_reads<R: Threads + Wait + AllocGlobal + Abort, W: Write>(
+fn assert_replies_before_reads<R: Threads + Wait + AllocGlobal + Abort + Sync, W: Write>(
     rt: &R,
     written: &Cell<usize>,
     writer: &mut W,

@@ -71,7 +71,10 @@ const ROWS: [Row; 9] = [
 ];
 
 /// Asserts what the program prints that is called so.
-fn assert_row<R: Threads + Wait + AllocGlobal + Abort>(rt: &R, row: &Row) -> Result<(), Fail> {
+fn assert_row<R: Threads + Wait + AllocGlobal + Abort + Sync>(
+    rt: &R,
+    row: &Row,
+) -> Result<(), Fail> {
     let (arguments, printed, message, status) = *row;
     let called = Called {
         arguments,
