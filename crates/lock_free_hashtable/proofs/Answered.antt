@@ -6,13 +6,19 @@ use Rattle.std.specs.Borrow.{Bor}
 use Rattle.std.proofs.lemmas.List.Elements.{Contains-append_left}
 use Rattle.std.proofs.lemmas.List.Sorted.{IsPermutation-sym, IsPermutation-trans, IsPermutation-append_left, Contains-permutation}
 use Rattle.terms.specs.ListObject.{Placed, Found, Refused, Shown, Absent}
-use Rattle.lock_free_hashtable.specs.Shown.{Shows, InsertKeeps, InsertAnswers, PlacesAsList, LooksUpAsList, FindsOne, FindsNone, entries_of, value_of}
+use Rattle.std.specs.List.Sorted.{IsPermutation}
+use Rattle.lock_free_hashtable.specs.Shown.{Shows, InsertKeeps, InsertAnswers, PlacesAsList, LooksUpAsList, WalksAsList, FindsOne, FindsNone, entries_of, value_of}
 
 -- each entry stays one
 pub stays : {T U P : Type 0} (target : T → U) (accepts : U → Bool → Type 0) (value_at : P → Option T) (old : List T) (value : T) (new : List T) (r : Result (P × Option T) T) → InsertKeeps target accepts value_at old value r new → (v : T) → Contains old v → Contains new v
 stays target accepts value_at old value new (Ok (p, None)) keeps v among = Contains-permutation (old ++ value ∷ []) new v keeps.1 (Contains-append_left old (value ∷ []) v among)
 stays target accepts value_at old value new (Ok (p, Some back)) keeps v among = Contains-permutation old new v keeps.2 among
 stays target accepts value_at old value new (Err back) keeps v among = Contains-permutation old new v keeps.1 among
+
+module _ {X T P : Type 0} (s : Shows X T P) where
+  -- entries in some order answer a walk as each list that the table stands for does
+  pub walks_as_list : (t : X) (es : List T) → IsPermutation (entries_of s t) es → WalksAsList s t es
+  walks_as_list t es permuted equal M stands = (IsPermutation-trans _ _ _ (IsPermutation-sym _ _ stands.permuted) permuted, refl)
 
 module _ {X T U P : Type 0} (target : T → U) (same : U → U → Bool) (hash_of : U → ℕ) (s : Shows X T P) where
   -- a lawful insert is answered as a list answers it

@@ -17,3 +17,4 @@ pub mod Settled
 pub mod Runs
 pub mod Replies
 pub mod Shards
+pub mod ShardWalks

@@ -66,7 +66,7 @@ module _ {T : Type 0} where
   first_kept ts k within new one = map-set_same (λ t. t.first_capacity) ts k (empty_table 0) new within one
 
   -- the entries are those of each shard
-  entries_by_shard : (ts : List (HeldTable T)) → entries ts ≡ flat_map table.entries ts
+  pub entries_by_shard : (ts : List (HeldTable T)) → entries ts ≡ flat_map table.entries ts
   entries_by_shard [] = refl
   entries_by_shard (t ∷ ts) = rw (map-append (λ (e : Entry T). e.value) (table.marked t) (marked ts), entries_by_shard ts) refl
 

@@ -7,19 +7,16 @@ use Rattle.std.proofs.lemmas.List.{map-append, length-map}
 use Rattle.std.proofs.lemmas.List.Sorted.{IsPermutation-refl, IsPermutation-sym, IsPermutation-trans, IsPermutation-map, IsPermutation-append_comm, length_permutation}
 use Rattle.generations.specs.Buckets.{Content, values, owned, owned_values, shown_entries, shown_all, values_of}
 use Rattle.generations.specs.Generations.{GenerationView}
-use Rattle.lock_free_hashtable.specs.Table.{HeldTable, IsKept, table_of, contents_in, owned_rows, shown_rows, entries}
+use Rattle.lock_free_hashtable.specs.Table.{HeldTable, IsKept, table_of, contents_in, owned_rows, shown_rows, entries, held}
 use Rattle.lock_free_hashtable.specs.Walks.{WalksAsList, GivesEntries}
+use Rattle.lock_free_hashtable.proofs.Answered.{walks_as_list}
 use Rattle.shared_table.specs.Handed.{all_owned, with_later}
 use Rattle.shared_table.specs.Lineages.{shown_in}
 
 module _ {T : Type 0} where
-  -- entries in some order answer a walk as each list that the table stands for does
-  pub walks_as_list : (t : HeldTable T) (es : List T) → IsPermutation (entries t) es → WalksAsList t es
-  walks_as_list t es permuted equal M stands = (IsPermutation-trans _ _ _ (IsPermutation-sym _ _ stands.permuted) permuted, refl)
-
-  -- so do the entries as they stand
+  -- the entries as they stand answer a walk as each list that the table stands for does
   pub entries_walk_as_list : (t : HeldTable T) (es : List T) → es ≡ entries t → WalksAsList t es
-  entries_walk_as_list t es is = walks_as_list t es (rw is (IsPermutation-refl (entries t)))
+  entries_walk_as_list t es is = walks_as_list held t es (rw is (IsPermutation-refl (entries t)))
 
 module _ {A T : Type 0} where
   -- the values that all generations own are those of the entries at home in them
@@ -47,7 +44,7 @@ module _ {A T : Type 0} where
   owned-give_entries first gs current size small kept =
       let permuted = owned-are_entries first gs current size kept in
       record {
-        gives = record { permuted = permuted; as_list = walks_as_list _ _ permuted };
+        gives = record { permuted = permuted; as_list = walks_as_list held _ _ permuted };
         fits = omega (arith, length-owned first gs current size kept);
       }
 

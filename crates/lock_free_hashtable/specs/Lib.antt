@@ -10,3 +10,4 @@ pub mod Calls
 pub mod Runs
 pub mod Settled
 pub mod Shards
+pub mod ShardWalks

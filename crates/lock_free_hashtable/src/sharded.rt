@@ -7,10 +7,16 @@ ghost use Rattle.terms.specs.Capacities.{IsFirstCapacity};
 ghost use Rattle.terms.specs.ListObject.{greatest_length};
 
 mod alone;
+mod hint;
+mod into_iter;
+mod iter;
+mod later;
 pub mod place;
 
 use crate::raw::HeldRawTable;
 use generations::atomic_value::{AtomicValue, Law};
+pub use into_iter::IntoIter;
+pub use iter::HeldIter;
 pub use place::ShardPlace;
 use std::alloc::{Allocator, Global};
 use std::array;
