@@ -1,12 +1,44 @@
 -- Tables of pairs, and what a list of pairs is told.
-use Rattle.std.specs.Prelude.{◌≡◌, ℕ, ◌++◌, List, [], ◌∷◌, Option, Some, None, map, Contains}
+use Rattle.std.specs.Prelude.{◌≡◌, ℕ, ◌++◌, List, [], ◌∷◌, Option, Some, None, map, min, Contains}
 use Rattle.std.specs.List.Sorted.{IsPermutation}
 use Rattle.std.specs.Prelude.{IsSorted}
 use Rattle.std.specs.Ordering.{nat_cmp}
-use Rattle.lock_free_hashtable.specs.Table.{HeldTable, Stands, IsLawful}
+use Rattle.lock_free_hashtable.specs.Shown.{Shows, Stands}
+use Rattle.lock_free_hashtable.specs.Table.{HeldTable, capacity, all_buckets}
+use Rattle.lock_free_hashtable.specs.Shards.{capped_sum}
 use Rattle.terms.specs.Laws.{same_pair, pair_hash}
+use Rattle.terms.specs.ListObject.{greatest_length}
 use Rattle.terms.specs.declared.insertion.Insertion.{Insertion}
 use Rattle.terms.specs.declared.insertion.Insertion.TheVariants.{Placed, Found, Refused}
+
+-- how tables of type X are counted
+pub record Counts (X : Type 0) : Type 0 where
+  -- the first capacity of each raw table
+  pub first : X → List ℕ
+  -- the buckets of the current generations
+  pub capacity : X → ℕ
+  -- the buckets of all generations
+  pub buckets : X → ℕ
+  -- what is told of so many entries
+  pub told : ℕ → ℕ
+
+-- a raw table is counted so
+abbrev pub raw_counts : {T : Type 0} → Counts (HeldTable T)
+raw_counts = record {
+  first = λ t. t.first_capacity ∷ [];
+  capacity = capacity;
+  buckets = all_buckets;
+  told = λ n. n;
+}
+
+-- a table over shards is counted so: sums, which stop at the greatest usize
+abbrev pub sharded_counts : {T : Type 0} → Counts (List (HeldTable T))
+sharded_counts = record {
+  first = λ ts. map (λ t. t.first_capacity) ts;
+  capacity = λ ts. capped_sum capacity ts;
+  buckets = λ ts. capped_sum all_buckets ts;
+  told = λ n. min n greatest_length;
+}
 
 -- how an insert of the pair x ends on a list of pairs, and the list after
 abbrev pub InsertsPair : List (ℕ × ℕ) → ℕ × ℕ → Insertion → List (ℕ × ℕ) → Type 0
@@ -24,18 +56,21 @@ pub record ListsNumbers (ps : List (ℕ × ℕ)) (ns : List ℕ) : Type 0 where
   pub permuted : IsPermutation (map (λ x. x.1) ps) ns
   pub sorted : IsSorted nat_cmp ns
 
-module _ {T : Type 0} (pair_of : T → ℕ × ℕ) (t : HeldTable T) where
+-- the second parts of the pairs of these values
+abbrev pub numbers_of : {T : Type 0} → (T → ℕ × ℕ) → List T → List ℕ
+numbers_of pair_of es = map (λ x. x.1) (map pair_of es)
+
+module _ {X T P : Type 0} (s : Shows X T P) (pair_of : T → ℕ × ℕ) where
   -- the table is lawful for pairs
-  abbrev pub IsPairTable : Type 0
-  IsPairTable = IsLawful pair_of same_pair pair_hash t
+  abbrev pub IsPairTable : X → Type 0
+  IsPairTable t = s.lawful (ℕ × ℕ) pair_of same_pair pair_hash t
 
   -- the table stands for a list of these pairs
-  abbrev pub HoldsPairs : List (ℕ × ℕ) → Type 0
-  HoldsPairs ps = (M : List T) × Stands t M × (map pair_of M ≡ ps)
+  abbrev pub HoldsPairs : X → List (ℕ × ℕ) → Type 0
+  HoldsPairs t ps = (M : List T) × Stands s t M × (map pair_of M ≡ ps)
 
--- on each list of pairs that the old table holds, an insert of the pair x ends so, and the new table
--- holds the list after
-abbrev pub InsertsAsPairs : {T : Type 0} → (T → ℕ × ℕ) → HeldTable T → ℕ × ℕ → Insertion → HeldTable T
-    → Type 0
-InsertsAsPairs pair_of old x how new = (ps : List (ℕ × ℕ)) → HoldsPairs pair_of old ps
-    → (qs : List (ℕ × ℕ)) × InsertsPair ps x how qs × HoldsPairs pair_of new qs
+  -- on each list of pairs that the old table holds, an insert of the pair x ends so, and the new
+  -- table holds the list after
+  abbrev pub InsertsAsPairs : X → ℕ × ℕ → Insertion → X → Type 0
+  InsertsAsPairs old x how new = (ps : List (ℕ × ℕ)) → HoldsPairs old ps
+      → (qs : List (ℕ × ℕ)) × InsertsPair ps x how qs × HoldsPairs new qs

@@ -1,17 +1,20 @@
 //! The command `calls`: lines that are asked of a table held alone.
-ghost use Rattle.std.specs.Prelude.{◌≡◌, ◌++◌, OnOk, OnErr, IfErr, codes};
+ghost use Rattle.std.specs.Prelude.{◌≡◌, ◌++◌, [], OnOk, OnErr, IfErr, codes};
 ghost use Rattle.std.specs.Io.KnownBytes.{Appends};
+ghost use Rattle.lock_free_hashtable.specs.Table.{held};
 ghost use Rattle.terms.specs.Capacities.{IsFirstCapacity};
 ghost use Rattle.commands.specs.Faults.{IsInputFault};
+ghost use Rattle.commands.specs.Pairs.{IsPairTable, HoldsPairs};
 ghost use Rattle.commands.specs.Replies.{reply_text};
 
 use crate::faults::Fault;
 use crate::line_command::{LineCommand, take_lines};
 use crate::lines::Lines;
 use crate::output::Output;
-use crate::pairs::PairTable;
+use crate::pairs::{PairStore, PairTable};
 use crate::replies::Reply;
 use crate::spelling::{Line, parse_line};
+use lock_free_hashtable::raw::HeldRawTable;
 use std::alloc::Allocator;
 use std::io::{Read, Write};
 
@@ -25,16 +28,28 @@ pub fn run_calls<A: Allocator + Copy, I: Read, O: Write>(
     requires { IsFirstCapacity first }
     ensures fault { IfErr result IsInputFault }
 {
-    let mut table = PairTable::new(alloc, first);
-    take_lines(&mut table, lines, output)
+    let table = raw_pairs(alloc, first);
+    take_lines(&mut PairTable { table, alloc }, lines, output)
 }
 
-impl<A: Allocator + Copy> LineCommand for PairTable<A> {
+/// The empty raw table of pairs, whose first generation will have `first` buckets. It takes no memory.
+pub fn raw_pairs<A: Allocator + Copy>(alloc: A, first: usize) -> HeldRawTable<Box<(u64, u64), A>, A>
+    requires { IsFirstCapacity first }
+    ensures lawful { IsPairTable held (λ b. b.value) result }
+    ensures empty { HoldsPairs held (λ b. b.value) result [] }
+    ensures first { result.first_capacity ≡ first }
+{
+    HeldRawTable::with_first_capacity(alloc, first)
+}
+
+impl<B: PairStore<Box<(u64, u64), A>>, A: Allocator + Copy> LineCommand for PairTable<B, A> {
     ghost use Rattle.std.specs.Prelude.{ℕ, List, IfSome, IfNone};
     ghost use Rattle.commands.specs.Faults.{IsLineFault};
     ghost use Rattle.commands.specs.Replies.{AnswersAsPairs};
     ghost use Rattle.commands.specs.Spelling.{SpellsLine};
     ghost use Rattle.commands.specs.declared.spelling.Line.{Line as LineOf};
+
+    ghost ready = { λ t. IsPairTable B.shows (λ b. b.value) t.table };
 
     type Line = Line;
 
@@ -47,9 +62,11 @@ impl<A: Allocator + Copy> LineCommand for PairTable<A> {
 
     /// Asks the table, and writes its reply. The text is that of the list of pairs which the table holds.
     fn take<W: Write>(&mut self, line: Line, output: &mut W) -> Result<(), Fault>
+        requires { IsPairTable B.shows (λ b. b.value) self.old.table }
         ensures fault { IfErr result IsLineFault }
-        ensures first { self.new.first_capacity ≡ self.old.first_capacity }
-        ensures answered { OnOk result ((text : List ℕ) × AnswersAsPairs (λ b. b.value) self.old line text self.new
+        ensures ready { IsPairTable B.shows (λ b. b.value) self.new.table }
+        ensures first { B.counts.first self.new.table ≡ B.counts.first self.old.table }
+        ensures answered { OnOk result ((text : List ℕ) × AnswersAsPairs B.shows B.counts (λ b. b.value) self.old.table line text self.new.table
             × Appends (W.contents output.old) (W.contents output.new) (text ++ codes "\n")) }
     {
         match line {
@@ -61,9 +78,9 @@ impl<A: Allocator + Copy> LineCommand for PairTable<A> {
                 let found = self.lookup(hash, number);
                 reply_with(output, Reply::of_lookup(found))
             }
-            Line::Length => reply_with(output, Reply::Count(self.length())),
-            Line::Capacity => reply_with(output, Reply::Count(self.capacity())),
-            Line::Buckets => reply_with(output, Reply::Count(self.buckets())),
+            Line::Length => reply_with(output, Reply::Count(self.table.length())),
+            Line::Capacity => reply_with(output, Reply::Count(self.table.capacity())),
+            Line::Buckets => reply_with(output, Reply::Count(self.table.buckets())),
             Line::Walk => match self.numbers() {
                 Ok(numbers) => reply_with(output, Reply::Numbers(numbers.as_slice())),
                 Err(_) => Err(Fault::NoMemory),

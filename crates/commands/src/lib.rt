@@ -20,6 +20,7 @@ pub mod program;
 pub mod replies;
 pub mod schedules;
 pub mod seats;
+pub mod shards;
 pub mod spelling;
 pub mod stress;
 pub mod workers;

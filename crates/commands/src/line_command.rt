@@ -9,15 +9,19 @@ use std::io::{Read, Write};
 
 /// A command whose input is lines.
 pub trait LineCommand {
+    ghost ready: { Self → Type 0 } = { λ _. Unit {0} };
+
     /// What a line asks.
     type Line: Copy;
 
     /// Reads a whole line, without its line break. `None` is a line that is spelled in no way that the command knows.
     fn parse(text: &[u8]) -> Option<Self::Line>;
 
-    /// Does what the line asks, and writes its reply on a line of its own.
+    /// Does what the line asks, and writes its reply on a line of its own. What a command needs before a line holds after it.
     fn take<W: Write>(&mut self, line: Self::Line, output: &mut W) -> Result<(), Fault>
-        ensures fault { IfErr result IsLineFault };
+        requires { ready self.old }
+        ensures fault { IfErr result IsLineFault }
+        ensures ready { ready self.new };
 }
 
 /// Takes the lines of the input, one by one, until one is spelled in no way or the input ends. Every reply is sent before more
@@ -27,6 +31,7 @@ pub fn take_lines<C: LineCommand, I: Read, O: Write>(
     lines: &mut Lines<I>,
     output: &mut Output<O>,
 ) -> Result<(), Fault>
+    requires { C.ready command.old }
     ensures fault { IfErr result IsInputFault }
 {
     // Counted only so that the loop has an end, and to name a bad line.

@@ -1,55 +1,72 @@
-//! A table of pairs, held alone: two pairs are equal if both parts are, and the hash of a pair is its first part.
-ghost use Rattle.std.specs.Prelude.{◌≡◌, ◌+◌, ◌*◌, ◌<◌, [], List, length, IfOk};
-ghost use Rattle.lock_free_hashtable.specs.Capacity.{IsDoubled};
-ghost use Rattle.lock_free_hashtable.specs.Table.{capacity, all_buckets};
-ghost use Rattle.terms.specs.Capacities.{IsFirstCapacity};
+//! Tables of pairs, held alone: two pairs are equal if both parts are, and the hash of a pair is its first part.
+ghost use Rattle.std.specs.Prelude.{◌≡◌, ℕ, List, IfOk, length};
+ghost use Rattle.std.specs.Fn.{FnReturnsAt, FnReturnsAtPair};
+ghost use Rattle.lock_free_hashtable.specs.Shown.{InsertAnswers, PlacesAsList, entries_of};
+ghost use Rattle.terms.specs.Laws.{same_pair, pair_hash};
+ghost use Rattle.commands.specs.Pairs.{Counts, IsPairTable, HoldsPairs, InsertsAsPairs, LooksUpPair, ListsNumbers, numbers_of};
 
-use lock_free_hashtable::raw::HeldRawTable;
+mod raw;
+mod sharded;
+
+use lock_free_hashtable::AtomicValue;
+use lock_free_hashtable::alone::AloneTable;
 use std::alloc::{AllocError, Allocator};
-use std::marker::Model;
 use terms::insertion::Insertion;
 use terms::law::PairLaw;
 
-/// A table of pairs that one owner holds alone.
+/// A table of pairs that one owner holds alone, raw or over shards, of which the program asks more than every such table
+/// answers: its numbers of buckets, its length, and all entries. Its values are of type `T`, and lead to pairs.
+pub trait PairStore<T: AtomicValue<Target = (u64, u64)>>: AloneTable<T, PairLaw> + Drop {
+    ghost counts: { Counts Self };
+
+    /// Inserts the pair as `place_alone` does. The first capacities stay.
+    fn place_pair<E: Fn(&(u64, u64), &(u64, u64)) -> bool, H: Fn(&(u64, u64)) -> u64>(
+        &mut self,
+        hash: u64,
+        pair: T,
+        eq: &E,
+        hash_fn: &H,
+    ) -> Result<(Self::Place, Option<T>), T>
+        requires eq_callable { E.IsAlwaysCallable eq.now }
+        requires hash_callable { H.IsAlwaysCallable hash_fn.now }
+        ensures first { counts.first self.new ≡ counts.first self.old }
+        ensures lawful { InsertAnswers T.target same_pair pair_hash (FnReturnsAtPair E.Fn eq.now) (FnReturnsAt H.Fn hash_fn.now)
+            (IsPairTable Self.shows T.target self.old) (entries_of Self.shows self.old) hash pair result
+            (IsPairTable Self.shows T.target self.new) }
+        ensures as_list { PlacesAsList T.target same_pair pair_hash Self.shows (FnReturnsAtPair E.Fn eq.now) (FnReturnsAt H.Fn hash_fn.now)
+            self.old hash pair result self.new };
+
+    /// What is told of the number of entries.
+    fn length(&self) -> usize
+        ensures { result ≡ counts.told (length (entries_of Self.shows self.now)) };
+
+    /// The buckets of the current generations.
+    fn capacity(&self) -> usize
+        ensures { result ≡ counts.capacity self.now };
+
+    /// The buckets of all generations.
+    fn buckets(&self) -> usize
+        ensures { result ≡ counts.buckets self.now };
+
+    /// The second parts of all entries, in the order of the entries, in memory of `alloc`.
+    fn numbers<A: Allocator + Copy>(&self, alloc: A) -> Result<Vec<u64, A>, AllocError>
+        ensures { IfOk result (λ numbers. numbers.items ≡ numbers_of T.target (entries_of Self.shows self.now)) };
+}
+
+/// A table of pairs, with the memory of their boxes.
 #[derive(Drop)]
-pub struct PairTable<A: Allocator + Copy> {
-    table: HeldRawTable<Box<(u64, u64), A>, A>,
-    alloc: A,
+pub struct PairTable<B, A> {
+    pub table: B,
+    pub alloc: A,
 }
 
-impl<A: Allocator + Copy> Model for PairTable<A> {
-    ghost use Rattle.std.specs.Prelude.{ℕ};
-    ghost use Rattle.std.specs.declared.boxed.Box.{Box};
-    ghost use Rattle.lock_free_hashtable.specs.Table.{HeldTable};
-    ghost use Rattle.commands.specs.Pairs.{IsPairTable};
-
-    ghost Value = { HeldTable (Box (ℕ × ℕ) A) };
-
-    ghost view = { λ t. t.table };
-
-    ghost invariant = { λ t. IsPairTable (λ b. b.value) t.table };
-}
-
-impl<A: Allocator + Copy> PairTable<A> {
-    ghost use Rattle.std.specs.Prelude.{ℕ};
-    ghost use Rattle.commands.specs.Pairs.{HoldsPairs, InsertsAsPairs, LooksUpPair, ListsNumbers};
-
-    /// The empty table, whose first generation will have `first` buckets. It takes no memory.
-    pub fn new(alloc: A, first: usize) -> Self
-        requires { IsFirstCapacity first }
-        ensures empty { HoldsPairs (λ b. b.value) result [] }
-        ensures first { result.first_capacity ≡ first }
-    {
-        PairTable {
-            table: HeldRawTable::with_first_capacity(alloc, first),
-            alloc,
-        }
-    }
-
+impl<B: PairStore<Box<(u64, u64), A>>, A: Allocator + Copy> PairTable<B, A> {
     /// Inserts the pair, unless it is an entry. It is refused only where it is none.
     pub fn insert(&mut self, hash: u64, number: u64) -> Insertion
-        ensures first { self.new.first_capacity ≡ self.old.first_capacity }
-        ensures inserts { InsertsAsPairs (λ b. b.value) self.old (hash, number) result self.new }
+        requires { IsPairTable B.shows (λ b. b.value) self.old.table }
+        ensures lawful { IsPairTable B.shows (λ b. b.value) self.new.table }
+        ensures first { B.counts.first self.new.table ≡ B.counts.first self.old.table }
+        ensures inserts { InsertsAsPairs B.shows (λ b. b.value) self.old.table (hash, number) result self.new.table }
     {
         let Ok(pair) = Box::new(self.alloc, (hash, number)) else {
             return match self.lookup(hash, number) {
@@ -57,7 +74,7 @@ impl<A: Allocator + Copy> PairTable<A> {
                 None => Insertion::Refused,
             };
         };
-        match self.table.place_alone::<PairLaw, _, _>(
+        match self.table.place_pair(
             hash,
             pair,
             &|new: &(u64, u64), entry: &(u64, u64)| new.0 == entry.0 && new.1 == entry.1,
@@ -71,48 +88,20 @@ impl<A: Allocator + Copy> PairTable<A> {
 
     /// The second part of the entry that is equal to the pair.
     pub fn lookup(&self, hash: u64, number: u64) -> Option<u64>
-        ensures { (ps : List (ℕ × ℕ)) → HoldsPairs (λ b. b.value) self.now ps → LooksUpPair ps (hash, number) result }
+        requires { IsPairTable B.shows (λ b. b.value) self.now.table }
+        ensures { (ps : List (ℕ × ℕ)) → HoldsPairs B.shows (λ b. b.value) self.now.table ps → LooksUpPair ps (hash, number) result }
     {
-        let entry = self
-            .table
-            .lookup_alone::<PairLaw, _>(hash, |entry: &(u64, u64)| {
-                entry.0 == hash && entry.1 == number
-            })?;
+        let entry = self.table.lookup_alone(hash, |entry: &(u64, u64)| {
+            entry.0 == hash && entry.1 == number
+        })?;
         Some(entry.1)
-    }
-
-    /// The number of entries.
-    pub fn length(&self) -> usize
-        ensures { (ps : List (ℕ × ℕ)) → HoldsPairs (λ b. b.value) self.now ps → result ≡ length ps }
-    {
-        self.table.len_alone()
-    }
-
-    /// The buckets of the current generation.
-    pub fn capacity(&self) -> usize
-        ensures current { result ≡ capacity self.now }
-        ensures doubled { IsDoubled self.now.first_capacity result }
-    {
-        self.table.capacity_alone()
-    }
-
-    /// The buckets of all generations.
-    pub fn buckets(&self) -> usize
-        ensures all { result ≡ all_buckets self.now }
-        ensures twice_the_capacity { 0 < capacity self.now → result + self.now.first_capacity ≡ 2 * capacity self.now }
-    {
-        self.table.buckets_alone()
     }
 
     /// The second parts of all entries, in ascending order.
     pub fn numbers(&self) -> Result<Vec<u64, A>, AllocError>
-        ensures { IfOk result (λ numbers. (ps : List (ℕ × ℕ)) → HoldsPairs (λ b. b.value) self.now ps → ListsNumbers ps numbers.items) }
+        ensures { IfOk result (λ numbers. (ps : List (ℕ × ℕ)) → HoldsPairs B.shows (λ b. b.value) self.now.table ps → ListsNumbers ps numbers.items) }
     {
-        let mut numbers = Vec::with_capacity(self.alloc, self.table.len_alone())?;
-        let mut walk = self.table.iter_alone();
-        while let Some(entry) = walk.next() {
-            numbers.push(entry.1)?;
-        }
+        let mut numbers = self.table.numbers(self.alloc)?;
         numbers.sort_unstable();
         Ok(numbers)
     }

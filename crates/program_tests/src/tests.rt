@@ -7,6 +7,7 @@ mod refusals;
 mod rows;
 mod schedules;
 mod seats;
+mod shards;
 mod streams;
 mod stress;
 mod words;

@@ -6,10 +6,12 @@ use std::sync::Wait;
 use std::test::Fail;
 use std::thread::Threads;
 
-/// The lines `i k k` for k below 17, then the fifth again.
-fn push_inserts(input: &mut String) -> Result<(), Fail> {
+/// Inserts of the numbers below 17, then the fifth again. The hash of each is the number; of the odd ones it is more by
+/// `apart`.
+fn push_inserts(input: &mut String, apart: u64) -> Result<(), Fail> {
     for k in 0..17u64 {
-        writeln!(input, "i {k} {k}")?;
+        let more = if k % 2 == 1 { apart } else { 0 };
+        writeln!(input, "i {} {k}", k.wrapping_add(more))?;
     }
     input.push_str("i 4 4\n")?;
     Ok(())
@@ -48,40 +50,45 @@ fn refusals_of_both<R: Abort>(rt: &R, replies: &[&str]) -> u64 {
 /// Refuses one request of a run, and answers how many pairs were refused.
 fn refuse_one<R: Threads + Wait + AllocGlobal + Abort + Sync>(
     rt: &R,
-    first: &str,
+    words: &[&str],
     input: &[u8],
     granted: u64,
 ) -> Result<u64, Fail> {
     let rule = Rule::new(0, usize::MAX, granted, 1);
-    let (ended, _) = run_refusing(rt, rule, &["calls", first], input)?;
+    let (ended, _) = run_refusing(rt, rule, words, input)?;
     assert_eq!(rt; ended.status, 0, "after {granted} requests");
     let replies: Vec<&str> = ended.output.lines().collect(rt.alloc())?;
     Ok(refusals_of_both(rt, replies.as_slice()))
 }
 
-/// Refuses each request of a run in turn.
+/// Refuses each request of a run in turn, and answers how many inserts were refused. The hashes of the odd numbers are
+/// more by `apart`.
 fn refuse_each<R: Threads + Wait + AllocGlobal + Abort + Sync>(
     rt: &R,
-    first: &str,
-) -> Result<(), Fail> {
+    words: &[&str],
+    apart: u64,
+) -> Result<u64, Fail> {
     let mut input = String::new(rt.alloc());
-    push_inserts(&mut input)?;
-    push_inserts(&mut input)?;
+    push_inserts(&mut input, apart)?;
+    push_inserts(&mut input, apart)?;
     input.push_str("n\n")?;
     let mut refusals = 0u64;
     for granted in 0..100 {
-        let refused = refuse_one(rt, first, input.as_bytes(), granted)?;
+        let refused = refuse_one(rt, words, input.as_bytes(), granted)?;
         refusals = refusals.saturating_add(refused);
     }
-    // Each of the 17 for its pair and for its block, and the first for its generation's marks and words.
-    assert_eq!(rt; refusals, 36, "{first}");
-    Ok(())
+    Ok(refusals)
 }
 
 #[test]
 fn each_request_is_refused_in_turn(rt: HostRuntime) -> Result<(), Fail> {
-    refuse_each(&rt, "16")?;
-    refuse_each(&rt, "32")
+    // Each of the 17 for its pair and for its block, and the first for its generation's marks and words.
+    assert_eq!(rt; refuse_each(&rt, &["calls", "16"], 0)?, 36);
+    assert_eq!(rt; refuse_each(&rt, &["calls", "32"], 0)?, 36);
+    assert_eq!(rt; refuse_each(&rt, &["shards", "1"], 0)?, 36);
+    // Here the first in each of two shards.
+    assert_eq!(rt; refuse_each(&rt, &["shards", "2"], 1 << 63)?, 38);
+    Ok(())
 }
 
 /// Requests of so many bytes or more are for generations: the words of the first take as many.
@@ -109,7 +116,7 @@ fn the_first_generation_is_refused(rt: HostRuntime) -> Result<(), Fail> {
 #[test]
 fn every_growth_is_refused(rt: HostRuntime) -> Result<(), Fail> {
     let mut input = String::new(rt.alloc());
-    push_inserts(&mut input)?;
+    push_inserts(&mut input, 0)?;
     input.push_str("c\nn\nl 15 15\nl 16 16\n")?;
     let mut wanted = String::new(rt.alloc());
     for _placed in 0..16 {

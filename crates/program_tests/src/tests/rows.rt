@@ -60,7 +60,7 @@ const USAGE: &str =
     "usage: tablerun calls [F] | shards N [F] | core [F] | stress THREADS JOBS | seats THREADS\n";
 
 /// Words that name no command.
-const WRONG: [&[&str]; 29] = [
+const WRONG: [&[&str]; 35] = [
     &["calls", "24"],
     &["calls", "8"],
     &["calls", "2147483648"],
@@ -89,7 +89,13 @@ const WRONG: [&[&str]; 29] = [
     &["stress", "4", "0"],
     &["stress", "4", "1001"],
     &["stress", "4", "1", "1"],
-    &["shards", "2"],
+    &["shards"],
+    &["shards", "0"],
+    &["shards", "3"],
+    &["shards", "32"],
+    &["shards", "2", "24"],
+    &["shards", "2", "16", "16"],
+    &["shards", "0x2"],
 ];
 
 #[test]

@@ -1,6 +1,7 @@
-use Rattle.std.proofs.Common.{refl, ap}
+use Rattle.std.proofs.Common.{refl, ap, ◌∙◌}
 use Rattle.std.specs.Prelude.{decimal}
 use Rattle.commands.specs.Replies.{insertion_text, lookup_text, number_list}
+use Rattle.commands.proofs.PairTables.{held_length}
 use Rattle.commands.proofs.Replied.{on_ok}
 use Rattle.commands.proofs.calls.PairTableLineCommand.take.Goals as goal
 
@@ -14,15 +15,15 @@ returns-in-Lookup-clause-answered g c = rw c.in-Lookup.is (on_ok c.reply_with-in
 
 pub returns-in-Length-clause-answered : goal.returns-in-Length-clause-answered
 returns-in-Length-clause-answered g c = rw c.in-Length.is (on_ok c.reply_with-in-Length.result _ _ (λ wrote.
-    (decimal c.length.result, (λ ps held. (ps, (ap decimal (c.length.ensures ps held), refl), held)), wrote)) c.reply_with-in-Length.ensures.written)
+    (decimal c.length.result, (λ ps held. (ps, (ap decimal (c.length.ensures ∙ ap g.B.PairStore.counts.told (held_length g.B.AloneTable.shows (λ b. b.value) c.args.self.old.table ps held)), refl), held)), wrote)) c.reply_with-in-Length.ensures.written)
 
 pub returns-in-Capacity-clause-answered : goal.returns-in-Capacity-clause-answered
 returns-in-Capacity-clause-answered g c = rw c.in-Capacity.is (on_ok c.reply_with-in-Capacity.result _ _ (λ wrote.
-    (decimal c.capacity.result, (λ ps held. (ps, (ap decimal c.capacity.ensures.current, refl), held)), wrote)) c.reply_with-in-Capacity.ensures.written)
+    (decimal c.capacity.result, (λ ps held. (ps, (ap decimal c.capacity.ensures, refl), held)), wrote)) c.reply_with-in-Capacity.ensures.written)
 
 pub returns-in-Buckets-clause-answered : goal.returns-in-Buckets-clause-answered
 returns-in-Buckets-clause-answered g c = rw c.in-Buckets.is (on_ok c.reply_with-in-Buckets.result _ _ (λ wrote.
-    (decimal c.buckets.result, (λ ps held. (ps, (ap decimal c.buckets.ensures.all, refl), held)), wrote)) c.reply_with-in-Buckets.ensures.written)
+    (decimal c.buckets.result, (λ ps held. (ps, (ap decimal c.buckets.ensures, refl), held)), wrote)) c.reply_with-in-Buckets.ensures.written)
 
 pub returns-in-Ok-clause-answered : goal.returns-in-Ok-clause-answered
 returns-in-Ok-clause-answered g c = rw c.in-Walk.is (on_ok c.reply_with-in-Ok.result _ _ (λ wrote.

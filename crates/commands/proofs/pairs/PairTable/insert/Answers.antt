@@ -8,21 +8,21 @@ returns-in-Some-clause-inserts g c = λ ps held. (ps, ((c.in-Some.ensures ps hel
 
 pub returns-in-Ok-default-None-clause-inserts : goal.returns-in-Ok-default-None-clause-inserts
 returns-in-Ok-default-None-clause-inserts g c = λ ps held.
-    rw c.in-Ok.ensures.ok at (inserts (λ b. b.value) _ _ c.self.inside.table c.place_alone.new.self c.args.hash c.in-Ok.pair (Ok (c.in-Ok-default-None.field-0-0, None))
+    rw c.in-Ok.ensures.ok at (inserts g.B.AloneTable.shows (λ b. b.value) _ _ c.args.self.old.table c.place_pair.new.self c.args.hash c.in-Ok.pair (Ok (c.in-Ok-default-None.field-0-0, None))
     (rw c.in-Ok-default-None.field-0-1-is at c.in-Ok-default-None.ensures.as_list)
-    (lawful_insert (λ b. b.value) _ _ c.self.inside.table c.args.hash c.in-Ok.pair (λ x y answer s. search rules) (λ x h s. search rules) (grind (arith, common_steps)) c.self.invariant)
-    ps (rw (← c.self.view_is) at held))
+    (lawful_insert g.B.AloneTable.shows (λ b. b.value) _ _ c.args.self.old.table c.args.hash c.in-Ok.pair (λ x y answer s. search rules) (λ x h s. search rules) (grind (arith, common_steps)) c.requires)
+    ps held)
 
 pub returns-in-Ok-default-Some-clause-inserts : goal.returns-in-Ok-default-Some-clause-inserts
 returns-in-Ok-default-Some-clause-inserts g c = λ ps held.
-    rw c.in-Ok.ensures.ok at (inserts (λ b. b.value) _ _ c.self.inside.table c.place_alone.new.self c.args.hash c.in-Ok.pair (Ok (c.in-Ok-default-Some.field-0-0, Some c.in-Ok-default-Some.field-0-1-0))
+    rw c.in-Ok.ensures.ok at (inserts g.B.AloneTable.shows (λ b. b.value) _ _ c.args.self.old.table c.place_pair.new.self c.args.hash c.in-Ok.pair (Ok (c.in-Ok-default-Some.field-0-0, Some c.in-Ok-default-Some.field-0-1-0))
     (rw c.in-Ok-default-Some.field-0-1-is at c.in-Ok-default-Some.ensures.as_list)
-    (lawful_insert (λ b. b.value) _ _ c.self.inside.table c.args.hash c.in-Ok.pair (λ x y answer s. search rules) (λ x h s. search rules) (grind (arith, common_steps)) c.self.invariant)
-    ps (rw (← c.self.view_is) at held))
+    (lawful_insert g.B.AloneTable.shows (λ b. b.value) _ _ c.args.self.old.table c.args.hash c.in-Ok.pair (λ x y answer s. search rules) (λ x h s. search rules) (grind (arith, common_steps)) c.requires)
+    ps held)
 
 pub returns-clause-inserts : goal.returns-clause-inserts
 returns-clause-inserts g c = λ ps held.
-    rw c.in-Ok.ensures.ok at (inserts (λ b. b.value) _ _ c.self.inside.table c.place_alone.new.self c.args.hash c.in-Ok.pair (Err c.in-Err.field-0)
+    rw c.in-Ok.ensures.ok at (inserts g.B.AloneTable.shows (λ b. b.value) _ _ c.args.self.old.table c.place_pair.new.self c.args.hash c.in-Ok.pair (Err c.in-Err.field-0)
     c.in-Err.ensures.as_list
-    (lawful_insert (λ b. b.value) _ _ c.self.inside.table c.args.hash c.in-Ok.pair (λ x y answer s. search rules) (λ x h s. search rules) (grind (arith, common_steps)) c.self.invariant)
-    ps (rw (← c.self.view_is) at held))
+    (lawful_insert g.B.AloneTable.shows (λ b. b.value) _ _ c.args.self.old.table c.args.hash c.in-Ok.pair (λ x y answer s. search rules) (λ x h s. search rules) (grind (arith, common_steps)) c.requires)
+    ps held)

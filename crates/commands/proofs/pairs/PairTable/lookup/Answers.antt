@@ -4,10 +4,10 @@ use Rattle.commands.proofs.pairs.PairTable.lookup.Goals as goal
 
 pub returns-in_err-entry : goal.returns-in_err-entry
 returns-in_err-entry g c = rw c.from_residual.ensures
-    (λ ps held. looks_up (λ b. b.value) _ _ (c.args.hash, c.args.number) c.args.hash None c.in_err-entry.ensures.as_list
-    (lawful_lookup (λ b. b.value) _ c.self.inside.table (c.args.hash, c.args.number) c.ranges.hash.fits (λ y answer s. search rules) c.self.invariant) ps (rw (← c.self.view_is) at held))
+    (λ ps held. looks_up g.B.AloneTable.shows (λ b. b.value) _ _ (c.args.hash, c.args.number) c.args.hash None c.in_err-entry.ensures.as_list
+    (lawful_lookup g.B.AloneTable.shows (λ b. b.value) _ c.args.self.now.table (c.args.hash, c.args.number) c.ranges.hash.fits (λ y answer s. search rules) c.requires) ps held)
 
 pub returns : goal.returns
 returns g c =
-    λ ps held. looks_up (λ b. b.value) _ _ (c.args.hash, c.args.number) c.args.hash (Some c.in_ok-entry.entry.now) c.in_ok-entry.ensures.as_list
-    (lawful_lookup (λ b. b.value) _ c.self.inside.table (c.args.hash, c.args.number) c.ranges.hash.fits (λ y answer s. search rules) c.self.invariant) ps (rw (← c.self.view_is) at held)
+    λ ps held. looks_up g.B.AloneTable.shows (λ b. b.value) _ _ (c.args.hash, c.args.number) c.args.hash (Some c.in_ok-entry.entry.now) c.in_ok-entry.ensures.as_list
+    (lawful_lookup g.B.AloneTable.shows (λ b. b.value) _ c.args.self.now.table (c.args.hash, c.args.number) c.ranges.hash.fits (λ y answer s. search rules) c.requires) ps held

@@ -1,14 +1,6 @@
-use Rattle.std.proofs.Common.{arith, ◌≡◌}
-use Rattle.lock_free_hashtable.specs.Table.{entries}
-use Rattle.std.proofs.lemmas.Grind.{common_steps}
-use Rattle.commands.proofs.PairTables.{lists_numbers, all_gathered, numbers_of}
+use Rattle.commands.proofs.PairTables.{lists_numbers}
 use Rattle.commands.proofs.pairs.PairTable.numbers.Goals as goal
 
 pub returns : goal.returns
 returns g c = λ ps held.
-    let gathered : c.loop-entry.numbers.items ≡ numbers_of (λ b. b.value) (entries c.self.inside.table) =
-    all_gathered (λ b. b.value) _ c.loop-entry.walk _ _ c.loop-entry.invariant c.in_default.ensures.steps.0 c.iter_alone-walk.ensures.entries in
-    lists_numbers (λ b. b.value) c.self.inside.table c.loop-entry.numbers.items _ gathered c.sort_unstable.ensures.permutation c.sort_unstable.ensures.sorted ps (rw (← c.self.view_is) at held)
-
-pub loop-entry-preserved : goal.loop-entry-preserved
-loop-entry-preserved g c = grind (arith, common_steps)
+    lists_numbers g.B.AloneTable.shows (λ b. b.value) c.args.self.now.table _ _ c.numbers.ensures c.sort_unstable.ensures.permutation c.sort_unstable.ensures.sorted ps held
