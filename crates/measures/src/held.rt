@@ -1,9 +1,8 @@
 //! Measurements of the table held alone.
 ghost use Rattle.std.specs.Prelude.{◌≤◌, ◌^◌};
 
-use crate::numbers::{COUNT, NumberSet, spread, turn};
+use crate::numbers::{COUNT, KeySet, NumberSet, spread, turn};
 use crate::report::{Report, refuse_words};
-use std::alloc::Allocator;
 use std::num::nearest_u64_to_f64;
 use std::rt::{Clock, Files};
 use std::time::Instant;
@@ -19,19 +18,20 @@ pub fn measure_held<R: Print + Eprint + Clock + Files + AllocGlobal>(
     group: &str,
 ) -> io::Result<()> {
     match group {
-        "one" => measure_one(rt, report),
-        "seq" => measure_seq(rt, report),
+        "one" => measure_one(rt, report, NumberSet::new(rt.alloc())),
+        "seq" => measure_seq(rt, report, NumberSet::new(rt.alloc())),
         _ => refuse_words(rt),
     }
 }
 
-/// Spread keys: inserts, resident bytes, hits and misses.
-fn measure_one<R: Print + Clock + Files + AllocGlobal>(
+/// Spread keys in an empty set: inserts, resident bytes, hits and misses.
+pub(crate) fn measure_one<R: Print + Clock + Files + AllocGlobal, S: KeySet + Drop>(
     rt: &R,
     report: &Report<'_>,
+    set: S,
 ) -> io::Result<()> {
     let before = resident_bytes(rt)?;
-    let mut set = NumberSet::new(rt.alloc());
+    let mut set = set;
 
     let start = Instant::now(rt)?;
     let placed = insert_spread(&mut set);
@@ -51,9 +51,13 @@ fn measure_one<R: Print + Clock + Files + AllocGlobal>(
     report.time(rt, "c_miss1", start, misses, COUNT, COUNT)
 }
 
-/// The keys 0, 1, 2, ..: inserts and hits.
-fn measure_seq<R: Print + Clock + AllocGlobal>(rt: &R, report: &Report<'_>) -> io::Result<()> {
-    let mut set = NumberSet::new(rt.alloc());
+/// The keys 0, 1, 2, .. in an empty set: inserts and hits.
+pub(crate) fn measure_seq<R: Print + Clock, S: KeySet + Drop>(
+    rt: &R,
+    report: &Report<'_>,
+    set: S,
+) -> io::Result<()> {
+    let mut set = set;
 
     let start = Instant::now(rt)?;
     let placed = insert_in_order(&mut set);
@@ -66,11 +70,7 @@ fn measure_seq<R: Print + Clock + AllocGlobal>(rt: &R, report: &Report<'_>) -> i
 
 /// Each workload once, counted and not timed.
 pub fn check_held<R: Print + AllocGlobal>(rt: &R) -> io::Result<()> {
-    let mut set = NumberSet::new(rt.alloc());
-    let placed = insert_spread(&mut set);
-    let hits = count_spread(&set, 0);
-    let misses = COUNT - count_spread(&set, 1 << 40);
-    println!(rt; "held spread: {placed} placed, {hits} hits, {misses} misses")?;
+    check_spread(rt, "held", NumberSet::new(rt.alloc()))?;
 
     let mut set = NumberSet::new(rt.alloc());
     let placed = insert_in_order(&mut set);
@@ -78,8 +78,21 @@ pub fn check_held<R: Print + AllocGlobal>(rt: &R) -> io::Result<()> {
     println!(rt; "held in order: {placed} placed, {hits} hits")
 }
 
+/// Spread keys in an empty set, counted and not timed.
+pub(crate) fn check_spread<R: Print, S: KeySet + Drop>(
+    rt: &R,
+    name: &str,
+    set: S,
+) -> io::Result<()> {
+    let mut set = set;
+    let placed = insert_spread(&mut set);
+    let hits = count_spread(&set, 0);
+    let misses = COUNT - count_spread(&set, 1 << 40);
+    println!(rt; "{name} spread: {placed} placed, {hits} hits, {misses} misses")
+}
+
 /// How many of the spread keys were placed.
-fn insert_spread<A: Allocator + Copy>(set: &mut NumberSet<A>) -> u64
+fn insert_spread<S: KeySet>(set: &mut S) -> u64
     ensures { result ≤ COUNT }
 {
     let mut placed = 0;
@@ -92,7 +105,7 @@ fn insert_spread<A: Allocator + Copy>(set: &mut NumberSet<A>) -> u64
 }
 
 /// How many of the keys 0, 1, 2, .. were placed.
-fn insert_in_order<A: Allocator + Copy>(set: &mut NumberSet<A>) -> u64
+fn insert_in_order<S: KeySet>(set: &mut S) -> u64
     ensures { result ≤ COUNT }
 {
     let mut placed = 0;
@@ -105,7 +118,7 @@ fn insert_in_order<A: Allocator + Copy>(set: &mut NumberSet<A>) -> u64
 }
 
 /// How many of the spread keys, taken in another order and so much further on, are entries.
-fn count_spread<A: Allocator + Copy>(set: &NumberSet<A>, further: u64) -> u64
+fn count_spread<S: KeySet>(set: &S, further: u64) -> u64
     requires { further ≤ 2 ^ 40 }
     ensures { result ≤ COUNT }
 {
@@ -119,7 +132,7 @@ fn count_spread<A: Allocator + Copy>(set: &NumberSet<A>, further: u64) -> u64
 }
 
 /// How many of the keys 0, 1, 2, .., taken in another order, are entries.
-fn count_in_order<A: Allocator + Copy>(set: &NumberSet<A>) -> u64
+fn count_in_order<S: KeySet>(set: &S) -> u64
     ensures { result ≤ COUNT }
 {
     let mut found = 0;

@@ -6,5 +6,6 @@ mod numbers;
 pub mod report;
 pub mod schedules;
 pub mod seats;
+pub mod sharded;
 pub mod shared;
 pub mod texts;

@@ -23,7 +23,7 @@ const SAME: u64 = 10_000;
 const ABSENT: u64 = 1 << 40;
 
 /// The most threads that are measured.
-const MOST: u64 = 4;
+pub(crate) const MOST: u64 = 4;
 
 /// What several threads do at once.
 #[derive(Clone, Copy)]
@@ -34,6 +34,12 @@ enum Work {
     Inserts,
     /// Each looks all keys up.
     Hits,
+}
+
+/// A set of numbers that threads share.
+pub(crate) trait SharedKeys {
+    /// Whether the number was placed: it is new, and memory was there.
+    fn insert<R: Wait>(&self, rt: &R, number: u64) -> bool;
 }
 
 /// A set of boxed numbers that threads share.
@@ -52,7 +58,15 @@ impl SharedSet {
         }
     }
 
-    /// Whether the number was placed: it is new, and memory was there.
+    /// Whether the number is an entry.
+    fn contains(&self, number: u64) -> bool {
+        self.table
+            .lookup(hash_number(number), |entry: &u64| *entry == number)
+            .is_some()
+    }
+}
+
+impl SharedKeys for SharedSet {
     fn insert<R: Wait>(&self, rt: &R, number: u64) -> bool {
         let Ok(value) = Box::new(self.alloc, number) else {
             return false;
@@ -67,13 +81,6 @@ impl SharedSet {
             ),
             Ok((_, None))
         )
-    }
-
-    /// Whether the number is an entry.
-    fn contains(&self, number: u64) -> bool {
-        self.table
-            .lookup(hash_number(number), |entry: &u64| *entry == number)
-            .is_some()
     }
 }
 
@@ -167,7 +174,7 @@ fn measure_team<R: Print + Clock + Threads + Wait + Sync + AllocGlobal>(
 ) -> io::Result<()> {
     let set = SharedSet::new(rt.alloc());
     match work {
-        Work::Same => time_same(rt, report, &set, threads),
+        Work::Same => time_same(rt, report, "d_same", &set, threads),
         Work::Inserts => time_inserts(rt, report, &set, threads),
         Work::Hits => {
             insert_spread(rt, &set, 0, COUNT);
@@ -177,13 +184,11 @@ fn measure_team<R: Print + Clock + Threads + Wait + Sync + AllocGlobal>(
 }
 
 /// So many threads insert the same keys, again and again.
-fn time_same<R: Print + Clock + Threads + Wait + Sync + AllocGlobal>(
-    rt: &R,
-    report: &Report<'_>,
-    set: &SharedSet,
-    threads: u64,
-) -> io::Result<()> {
-    let name = format!(in rt.alloc(); "d_same{threads}")?;
+pub(crate) fn time_same<
+    R: Print + Clock + Threads + Wait + Sync + AllocGlobal,
+    S: SharedKeys + Sync,
+>(rt: &R, report: &Report<'_>, measurement: &str, set: &S, threads: u64) -> io::Result<()> {
+    let name = format!(in rt.alloc(); "{measurement}{threads}")?;
     let start = Instant::now(rt)?;
     let placed = thread::map_indices(
         rt,
@@ -276,7 +281,7 @@ pub fn check_shared<R: Print + Threads + Wait + Sync + AllocGlobal>(rt: &R) -> i
 }
 
 /// How many of so many spread keys, from this one on, were placed.
-fn insert_spread<R: Wait>(rt: &R, set: &SharedSet, from: u64, count: u64) -> u64 {
+fn insert_spread<R: Wait, S: SharedKeys>(rt: &R, set: &S, from: u64, count: u64) -> u64 {
     let mut placed = 0u64;
     for index in 0..count {
         if set.insert(rt, spread(from.wrapping_add(index))) {
@@ -298,7 +303,7 @@ fn insert_in_order<R: Wait>(rt: &R, set: &SharedSet) -> u64 {
 }
 
 /// How many of the same keys were placed, in all rounds.
-fn insert_same<R: Wait>(rt: &R, set: &SharedSet) -> u64 {
+fn insert_same<R: Wait, S: SharedKeys>(rt: &R, set: &S) -> u64 {
     let mut placed = 0u64;
     for _round in 0..ROUNDS {
         placed = placed.wrapping_add(insert_spread(rt, set, 0, SAME));
