@@ -4,7 +4,7 @@ use Rattle.lock_free_hashtable.proofs.sharded.shared.iter.IterIterator.next.Give
 
 -- only shards whose walk ended were passed
 abbrev pub invariant-loop-target : goal.invariant-loop-target
-invariant-loop-target g l = HasPassed l.fn.self l.self-inside.ahead.now l.self-inside.walk
+invariant-loop-target g l = HasPassed l.fn.self l.self-inside.ahead.now l.self-inside.walk.left
 
 abbrev pub decreases-loop-target : goal.decreases-loop-target
 decreases-loop-target g l = length l.self-inside.ahead.now
