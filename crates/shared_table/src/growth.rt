@@ -3,6 +3,9 @@ ghost use Rattle.std.specs.Prelude.{◌≡◌, IfOk};
 ghost use Rattle.shared_table.specs.Lineages.{IsOpen};
 ghost use Rattle.shared_table.specs.Growths.{IsFresh};
 
+mod window;
+
+use crate::growth::window::Window;
 use crate::later::{Slot, show_block};
 use cell::{Home, Low};
 use generations::atomic_value::AtomicValue;
@@ -19,6 +22,7 @@ pub struct Growth<'a, T: AtomicValue, A: Allocator + Copy> {
     from: Option<&'a Generation<T, A>>,
     /// So many buckets of the generation before are copied.
     copied: usize,
+    ahead: Window,
     built: Generation<T, A>,
     slot: Slot<'a, T, A>,
     /// Where the generation will lie.
@@ -58,13 +62,29 @@ impl<'a, T: AtomicValue, A: Allocator + Copy> Growth<'a, T, A> {
             number,
             from,
             copied: 0,
+            ahead: Window::new(),
             built,
             slot,
             block,
         })
     }
 
-    /// Names the next entry that isn't copied yet in the generation that is made. False says that there is none.
+    /// Asks for the hashes of the next entries ahead of their copies, if none is left that was. To be called while the lock is
+    /// held alone, so that these buckets stay as they are.
+    pub(crate) fn ask_ahead<H: Fn(&T::Target) -> u64>(&mut self, hash_fn: &H)
+        requires { H.IsAlwaysCallable hash_fn.now }
+        ensures { self.new ≡ self.old }
+    {
+        if let Some(from) = self.from
+            && self.ahead.end() <= self.copied
+            && self.copied < from.capacity()
+        {
+            self.ahead.fill(self.home, from, self.copied, hash_fn);
+        }
+    }
+
+    /// Names the next entry that isn't copied yet in the generation that is made. False says that there is none. Its hash is
+    /// asked for, where `ask_ahead` hasn't.
     pub fn copy_next<H: Fn(&T::Target) -> u64>(&mut self, hash_fn: &H) -> bool
         requires { H.IsAlwaysCallable hash_fn.now }
         ensures { self.new ≡ self.old }
@@ -77,7 +97,10 @@ impl<'a, T: AtomicValue, A: Allocator + Copy> Growth<'a, T, A> {
             self.copied += 1;
             let mut note = from.note_at(index);
             if let Some(name) = from.name_at(self.home, index, &mut note) {
-                let hash = hash_fn(name.as_ref().entry(self.home).value.deref());
+                let hash = match self.ahead.hash_at(index) {
+                    Some(hash) => hash,
+                    None => hash_fn(name.as_ref().entry(self.home).value.deref()),
+                };
                 self.built.insert_unique(self.home, hash, name);
                 return true;
             }

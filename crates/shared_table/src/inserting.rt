@@ -325,6 +325,16 @@ impl<
         }
     }
 
+    /// Where a generation is built, the hashes of the next entries are asked for ahead of their copies.
+    fn ask_ahead(&mut self)
+        requires asks { Asks E.IsAlwaysCallable H.IsAlwaysCallable T.target E.Fn self.old.asking self.old.carried }
+        ensures { self.new ≡ self.old }
+    {
+        if let Some(growth) = &mut self.growth {
+            growth.ask_ahead(&self.asking.hash_fn);
+        }
+    }
+
     /// One entry is copied, or what was built is shown.
     fn build(&mut self) -> Answer
         requires phase { self.old.state.phase ≡ Building }
@@ -335,14 +345,16 @@ impl<
         ensures asks { Asks E.IsAlwaysCallable H.IsAlwaysCallable T.target E.Fn self.new.asking self.new.carried }
         ensures met { accepted self.old.carried ≢ None → accepted self.new.carried ≡ accepted self.old.carried }
     {
-        let Some(mut growth) = self.growth.take() else {
+        let Some(growth) = &mut self.growth else {
             unreachable!()
         };
         if growth.copy_next(&self.asking.hash_fn) {
-            self.growth = Some(growth);
             self.state = step(self.state, Answer::Copied);
             return Answer::Copied;
         }
+        let Some(growth) = self.growth.take() else {
+            unreachable!()
+        };
         self.table.show(growth);
         self.state = step(self.state, Answer::Shown);
         Answer::Shown
@@ -471,6 +483,7 @@ impl<
                 Phase::WantShared => call.share(table.lock.read(rt)),
                 Phase::WantOwned => call.own(table.lock.write(rt)),
                 _ => {
+                    call.ask_ahead();
                     let _ = call.turn();
                     if call.state.phase == Phase::Done {
                         return call.finish();
