@@ -8,8 +8,8 @@ use Rattle.std.proofs.lemmas.List.Sorted.{length_permutation, IsPermutation-map,
 use Rattle.std.specs.Prelude.{IsSorted}
 use Rattle.std.specs.Ordering.{nat_cmp}
 use Rattle.std.proofs.Math.ListN.{get_or-map}
-use Rattle.lock_free_hashtable.specs.Table.{HeldTable, Place, Stands, entries, entry_at}
-use Rattle.lock_free_hashtable.specs.Held.{ShowsAt, IsLawfulInsert, PlacesAsList, InsertReplies, equal, LooksUpAsList, LookupReplies, IsLawfulLookup}
+use Rattle.held_table.specs.Table.{HeldTable, Place, Stands, entries, entry_at}
+use Rattle.held_table.specs.Held.{ShowsAt, IsLawfulInsert, PlacesAsList, InsertReplies, equal, LooksUpAsList, LookupReplies, IsLawfulLookup}
 use Rattle.terms.specs.ListObject.{ListReply, Placed, Found, Refused, Insert, Lookup, Answers, AcceptsNone}
 use Rattle.terms.specs.declared.insertion.Insertion.{Insertion}
 use Rattle.terms.specs.declared.insertion.Insertion.TheVariants as insertion

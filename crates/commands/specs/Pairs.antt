@@ -3,7 +3,7 @@ use Rattle.std.specs.Prelude.{◌≡◌, ℕ, ◌++◌, List, [], ◌∷◌, Opt
 use Rattle.std.specs.List.Sorted.{IsPermutation}
 use Rattle.std.specs.Prelude.{IsSorted}
 use Rattle.std.specs.Ordering.{nat_cmp}
-use Rattle.lock_free_hashtable.specs.Table.{HeldTable, Stands, IsLawful}
+use Rattle.held_table.specs.Table.{HeldTable, Stands, IsLawful}
 use Rattle.terms.specs.Laws.{same_pair, pair_hash}
 use Rattle.terms.specs.declared.insertion.Insertion.{Insertion}
 use Rattle.terms.specs.declared.insertion.Insertion.TheVariants.{Placed, Found, Refused}

@@ -6,7 +6,7 @@ use Rattle.terms.specs.declared.insertion.Insertion.{Insertion}
 use Rattle.terms.specs.declared.insertion.Insertion.TheVariants as insertion
 use Rattle.commands.specs.declared.spelling.Line.{Line}
 use Rattle.commands.specs.declared.spelling.Line.TheVariants as line
-use Rattle.lock_free_hashtable.specs.Table.{HeldTable, capacity, all_buckets}
+use Rattle.held_table.specs.Table.{HeldTable, capacity, all_buckets}
 use Rattle.commands.specs.Pairs.{InsertsPair, LooksUpPair, ListsNumbers, HoldsPairs}
 
 -- each number after a comma and a space

@@ -1,7 +1,7 @@
 //! A table of pairs, held alone: two pairs are equal if both parts are, and the hash of a pair is its first part.
 ghost use Rattle.std.specs.Prelude.{◌≡◌, ◌+◌, ◌*◌, ◌<◌, [], List, length, IfOk};
-ghost use Rattle.lock_free_hashtable.specs.Capacity.{IsDoubled};
-ghost use Rattle.lock_free_hashtable.specs.Table.{capacity, all_buckets};
+ghost use Rattle.held_table.specs.Capacity.{IsDoubled};
+ghost use Rattle.held_table.specs.Table.{capacity, all_buckets};
 ghost use Rattle.terms.specs.Capacities.{IsFirstCapacity};
 
 use lock_free_hashtable::raw::HeldRawTable;
@@ -20,7 +20,7 @@ pub struct PairTable<A: Allocator + Copy> {
 impl<A: Allocator + Copy> Model for PairTable<A> {
     ghost use Rattle.std.specs.Prelude.{ℕ};
     ghost use Rattle.std.specs.declared.boxed.Box.{Box};
-    ghost use Rattle.lock_free_hashtable.specs.Table.{HeldTable};
+    ghost use Rattle.held_table.specs.Table.{HeldTable};
     ghost use Rattle.commands.specs.Pairs.{IsPairTable};
 
     ghost Value = { HeldTable (Box (ℕ × ℕ) A) };

@@ -9,8 +9,8 @@ use Rattle.std.proofs.lemmas.List.Sorted.{Contains-permutation}
 use Rattle.std.proofs.Common.{eq-eqb, arith}
 use Rattle.std.proofs.lemmas.Grind.{common_steps}
 use Rattle.terms.specs.Laws.{number_hash}
-use Rattle.lock_free_hashtable.specs.Table.{HeldTable, entries}
-use Rattle.lock_free_hashtable.specs.Held.{FindsOne, FindsNone}
+use Rattle.held_table.specs.Table.{HeldTable, entries}
+use Rattle.held_table.specs.Held.{FindsOne, FindsNone}
 use Rattle.examples.specs.Memo.{same_answer, answer_hash, IsByArgument, Keeps, KeepsAll}
 use Rattle.examples.specs.declared.memo.Answer.{Answer}
 

@@ -1,8 +1,8 @@
 -- A look-up of a word, in the words of a table's clauses.
 use Rattle.std.proofs.Common.{◌≡◌, ℕ, ◌<◌, ◌^◌, Bool, true, Option, Some, subst, arith}
 use Rattle.std.proofs.lemmas.Grind.{common_steps}
-use Rattle.lock_free_hashtable.specs.Table.{HeldTable}
-use Rattle.lock_free_hashtable.specs.Held.{ShowsAt, LooksUpAsList}
+use Rattle.held_table.specs.Table.{HeldTable}
+use Rattle.held_table.specs.Held.{ShowsAt, LooksUpAsList}
 use Rattle.examples.specs.Words.{same_word, word_hash}
 
 -- a word below 2^64 is its own hash

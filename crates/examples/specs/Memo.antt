@@ -2,7 +2,7 @@
 use Rattle.std.specs.Prelude.{◌≡◌, ℕ, Bool, Contains}
 use Rattle.std.specs.declared.boxed.Box.{Box}
 use Rattle.terms.specs.Laws.{same_by_number, hash_by_number}
-use Rattle.lock_free_hashtable.specs.Table.{HeldTable, IsLawful, entries}
+use Rattle.held_table.specs.Table.{HeldTable, IsLawful, entries}
 use Rattle.examples.specs.declared.memo.Answer.{Answer}
 
 -- answers are the same if their arguments are

@@ -2,8 +2,8 @@
 use Rattle.std.specs.Prelude.{ℕ, ◌==◌, ◌%◌, ◌^◌, Bool}
 use Rattle.std.proofs.Common.{arith}
 use Rattle.std.proofs.lemmas.Grind.{common_steps}
-use Rattle.lock_free_hashtable.specs.Law.{IsLaw}
-use Rattle.lock_free_hashtable.specs.Table.{HeldTable, IsLawful}
+use Rattle.terms.specs.Laws.{IsLaw}
+use Rattle.held_table.specs.Table.{HeldTable, IsLawful}
 
 abbrev pub same_word : ℕ → ℕ → Bool
 same_word a b = a == b

@@ -1,8 +1,8 @@
 //! Words in a table held alone: what was inserted is found.
 ghost use Rattle.std.specs.Prelude.{◌≡◌, IfOk, IfErr};
-ghost use Rattle.lock_free_hashtable.specs.Table.{entries, entry_at, IsLater};
+ghost use Rattle.held_table.specs.Table.{entries, entry_at, IsLater};
 ghost use Rattle.std.specs.List.Sorted.{IsPermutation};
-ghost use Rattle.lock_free_hashtable.specs.Held.{ShowsAt};
+ghost use Rattle.held_table.specs.Held.{ShowsAt};
 ghost use Rattle.examples.specs.Words.{HoldsWords};
 
 use lock_free_hashtable::raw::laws::inserted_is_found_again;

@@ -37,7 +37,7 @@ pub struct Memo<A: Allocator + Copy = Global> {
 
 impl<A: Allocator + Copy> Model for Memo<A> {
     ghost use Rattle.std.specs.declared.boxed.Box.{Box};
-    ghost use Rattle.lock_free_hashtable.specs.Table.{HeldTable};
+    ghost use Rattle.held_table.specs.Table.{HeldTable};
     ghost use Rattle.examples.specs.Memo.{IsByArgument};
     ghost use Rattle.examples.specs.declared.memo.Answer.{Answer};
 
@@ -50,7 +50,7 @@ impl<A: Allocator + Copy> Model for Memo<A> {
 
 impl<A: Allocator + Copy> Memo<A> {
     ghost use Rattle.std.specs.Prelude.{IfNone, IsOk, OnOk};
-    ghost use Rattle.lock_free_hashtable.specs.Table.{empty_table};
+    ghost use Rattle.held_table.specs.Table.{empty_table};
     ghost use Rattle.examples.specs.Memo.{Keeps, KeepsAll};
 
     /// No answer is kept yet. It takes no memory.

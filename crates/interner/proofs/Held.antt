@@ -8,8 +8,8 @@ use Rattle.std.proofs.lemmas.Option.{slice_get-map, slice_get-get_or}
 use Rattle.std.proofs.lemmas.Slice.Eq.{bytes_eq-Decides}
 use Rattle.std.proofs.Math.ListN.{get_or-map}
 use Rattle.terms.specs.ListObject.{ListReply, Placed, Found, Refused, Insert, Lookup, Answers}
-use Rattle.lock_free_hashtable.specs.Table.{HeldTable, Place, IsLawful, entries, entry_at}
-use Rattle.lock_free_hashtable.specs.Held.{ShowsAt, IsLawfulInsert, IsLawfulLookup, LookupReplies, PlacesAsList, LooksUpAsList, InsertAnswers, equal}
+use Rattle.held_table.specs.Table.{HeldTable, Place, IsLawful, entries, entry_at}
+use Rattle.held_table.specs.Held.{ShowsAt, IsLawfulInsert, IsLawfulLookup, LookupReplies, PlacesAsList, LooksUpAsList, InsertAnswers, equal}
 use Rattle.interner.specs.Texts.{text_hash, same_by_text, hash_by_text, HasNumber, greatest_number}
 use Rattle.interner.specs.Kept.{IsKept}
 use Rattle.interner.proofs.Numbers.{push_cases, different_push}

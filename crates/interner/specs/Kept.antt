@@ -1,6 +1,6 @@
 -- What is true of the table and the vector of every interner.
 use Rattle.std.specs.Prelude.{◌≡◌, ℕ, ◌+◌, ◌≤◌, List, Some, length, map, slice_get}
-use Rattle.lock_free_hashtable.specs.Table.{HeldTable, Stands, IsLawful}
+use Rattle.held_table.specs.Table.{HeldTable, Stands, IsLawful}
 use Rattle.interner.specs.Texts.{same_by_text, hash_by_text, greatest_number, AllDifferent}
 
 -- the table stands for values with these targets

@@ -7,7 +7,7 @@ use Rattle.std.specs.Int.NonZero.{non_zero_u32_get}
 use Rattle.std.specs.declared.num.NonZeroU32.{NonZeroU32}
 use Rattle.std.proofs.Common.{sym, ap, ◌∙◌, arith}
 use Rattle.std.proofs.lemmas.Slice.Eq.{bytes_eq-Decides}
-use Rattle.lock_free_hashtable.specs.Law.{IsLaw}
+use Rattle.terms.specs.Laws.{IsLaw}
 
 -- the hash of a text with one byte more
 abbrev pub hash_with : ℕ → ℕ → ℕ

@@ -6,8 +6,8 @@ use Rattle.std.proofs.lemmas.Bool.{false≢true}
 use Rattle.std.proofs.lemmas.List.{length-map, map_push}
 use Rattle.std.proofs.lemmas.Slice.Eq.{bytes_eq-Decides}
 use Rattle.std.proofs.Math.ListN.{get_or-map}
-use Rattle.lock_free_hashtable.specs.Table.{HeldTable, Place, entries, entry_at}
-use Rattle.lock_free_hashtable.specs.Held.{ShowsAt, IsLawfulInsert, PlacesAsList, InsertReplies, equal, LooksUpAsList, LookupReplies, IsLawfulLookup}
+use Rattle.held_table.specs.Table.{HeldTable, Place, entries, entry_at}
+use Rattle.held_table.specs.Held.{ShowsAt, IsLawfulInsert, PlacesAsList, InsertReplies, equal, LooksUpAsList, LookupReplies, IsLawfulLookup}
 use Rattle.terms.specs.ListObject.{ListReply, Placed, Found, Insert, Lookup, Answers}
 use Rattle.text_tools.specs.Hashes.{line_hash, same_by_bytes, hash_by_bytes}
 use Rattle.std.specs.Io.KnownBytes.{Appends}

@@ -5,7 +5,7 @@ use Rattle.std.specs.List.{fold}
 use Rattle.std.specs.Str.{bytes_eq}
 use Rattle.std.proofs.Common.{sym, ap, ◌∙◌, arith}
 use Rattle.std.proofs.lemmas.Slice.Eq.{bytes_eq-Decides}
-use Rattle.lock_free_hashtable.specs.Law.{IsLaw}
+use Rattle.terms.specs.Laws.{IsLaw}
 
 -- the hash of a line with one byte more
 abbrev pub hash_with : ℕ → ℕ → ℕ

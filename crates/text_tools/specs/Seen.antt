@@ -1,6 +1,6 @@
 -- The lines that a table holds.
 use Rattle.std.specs.Prelude.{◌≡◌, ◌↔◌, ℕ, ◌++◌, Bool, List, [], ◌∷◌, map, Contains, IsTrue, Option}
-use Rattle.lock_free_hashtable.specs.Table.{HeldTable, Stands, IsLawful}
+use Rattle.held_table.specs.Table.{HeldTable, Stands, IsLawful}
 use Rattle.text_tools.specs.Hashes.{same_by_bytes, hash_by_bytes}
 use Rattle.std.specs.Io.KnownBytes.{Appends}
 use Rattle.text_tools.specs.Firsts.{firsts, deduped}

@@ -18,7 +18,7 @@ impl<A: Allocator + Copy> Model for Seen<A> {
     ghost use Rattle.std.specs.Prelude.{ℕ};
     ghost use Rattle.std.specs.declared.boxed.Box.{Box};
     ghost use Rattle.std.specs.declared.vec.Vec.{Vec};
-    ghost use Rattle.lock_free_hashtable.specs.Table.{HeldTable};
+    ghost use Rattle.held_table.specs.Table.{HeldTable};
     ghost use Rattle.text_tools.specs.Seen.{IsLineTable};
 
     ghost Value = { HeldTable (Box (Vec ℕ A) A) };

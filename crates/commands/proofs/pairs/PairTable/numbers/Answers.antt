@@ -1,5 +1,5 @@
 use Rattle.std.proofs.Common.{arith, ◌≡◌}
-use Rattle.lock_free_hashtable.specs.Table.{entries}
+use Rattle.held_table.specs.Table.{entries}
 use Rattle.std.proofs.lemmas.Grind.{common_steps}
 use Rattle.commands.proofs.PairTables.{lists_numbers, all_gathered, numbers_of}
 use Rattle.commands.proofs.pairs.PairTable.numbers.Goals as goal

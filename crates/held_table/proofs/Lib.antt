@@ -1,0 +1,15 @@
+pub mod Rows
+pub mod Sizes
+pub mod Kept
+pub mod Tries
+pub mod Grown
+pub mod Lookups
+pub mod Apart
+pub mod Inserts
+pub mod Placed
+pub mod Placing
+pub mod Answered
+pub mod Lists
+pub mod Found
+pub mod Walks
+pub mod Again

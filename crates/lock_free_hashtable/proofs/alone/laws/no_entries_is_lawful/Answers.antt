@@ -1,4 +1,0 @@
-use Rattle.lock_free_hashtable.proofs.alone.laws.no_entries_is_lawful.Goals as goal
-
-pub returns : goal.returns
-returns g c = g.met.B.AloneTable.no_entries_is_lawful

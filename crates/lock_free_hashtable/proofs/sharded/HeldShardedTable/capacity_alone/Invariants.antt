@@ -1,8 +1,0 @@
-use Rattle.std.proofs.Common.{◌≡◌, take}
-use Rattle.lock_free_hashtable.specs.Table.{capacity}
-use Rattle.lock_free_hashtable.specs.Shards.{capped_sum}
-use Rattle.lock_free_hashtable.proofs.sharded.HeldShardedTable.capacity_alone.Given as goal
-
--- the buckets of the shards so far
-abbrev pub invariant-loop-shard : goal.invariant-loop-shard
-invariant-loop-shard g l = l.sum ≡ capped_sum capacity (take l.shard-index l.shard-items)

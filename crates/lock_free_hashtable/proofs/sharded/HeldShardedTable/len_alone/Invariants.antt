@@ -1,8 +1,0 @@
-use Rattle.std.proofs.Common.{◌≡◌, take, length}
-use Rattle.lock_free_hashtable.specs.Table.{entries}
-use Rattle.lock_free_hashtable.specs.Shards.{capped_sum}
-use Rattle.lock_free_hashtable.proofs.sharded.HeldShardedTable.len_alone.Given as goal
-
--- the entries of the shards so far
-abbrev pub invariant-loop-shard : goal.invariant-loop-shard
-invariant-loop-shard g l = l.sum ≡ capped_sum (λ t. length (entries t)) (take l.shard-index l.shard-items)

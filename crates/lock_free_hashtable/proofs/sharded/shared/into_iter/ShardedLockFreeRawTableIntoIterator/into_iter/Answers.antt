@@ -1,5 +1,0 @@
-use Rattle.std.proofs.Common.{rules, ◌≡◌, length, ◌∙◌, ap}
-use Rattle.lock_free_hashtable.proofs.sharded.shared.into_iter.ShardedLockFreeRawTableIntoIterator.into_iter.Goals as goal
-
-pub of_tables-requires : goal.of_tables-requires
-of_tables-requires g c = (search rules, ap length c.as_mut_slice.ensures.value ∙ c.self.invariant.1)

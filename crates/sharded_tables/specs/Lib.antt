@@ -1,0 +1,4 @@
+pub mod Shards
+pub mod Empty
+pub mod ShardWalks
+pub mod SharedShards
