@@ -1,7 +1,5 @@
-//! Tests of the table that threads share, and the rounds that they run.
+//! Tests of the table that threads share.
 #![tactic(auto)]
 
-pub mod counting;
-pub mod rounds;
 #[cfg(test)]
 mod tests;

@@ -2,10 +2,10 @@
 ghost use Rattle.shared_table.specs.Stepped.{MayStep};
 
 use cell::Low;
+use counting::Counting;
 use generations::atomic_value::AtomicValue;
 use refusing::{Refusing, Rule};
 use shared_table::{InsertCall, LockFreeRawTable, Progress};
-use shared_tests::counting::Counting;
 use std::alloc::{AllocError, Global};
 use std::process::Abort;
 use std::sync::atomic::{AtomicU64, Ordering};

@@ -1,6 +1,6 @@
 //! Counting values in a shared table whose memory keeps a rule.
 use super::numbers::{Tally, Told};
-use crate::counting::{Counting, Drops};
+use counting::{Counting, Drops};
 use refusing::{Refusing, Rule};
 use shared_table::LockFreeRawTable;
 use std::alloc::{AllocError, Global};

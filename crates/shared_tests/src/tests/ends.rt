@@ -1,7 +1,7 @@
 //! Each value is dropped once: those that came back, those that are taken out at the end, and the rest.
 use super::countings::{CAPACITY, Countings, Filling, fill, open, paired};
 use super::numbers::{Tally, sum};
-use crate::counting::Drops;
+use counting::Drops;
 use lock_free_hashtable::raw::{LockFreeRawTable, is_first_capacity};
 use refusing::{Refusing, Rule};
 use std::alloc::{AllocError, Global};
@@ -12,7 +12,7 @@ use std::thread;
 use std::thread::Threads;
 
 /// How many classes two threads insert at once, each losing its exchange or winning it.
-const LOST: u64 = 300;
+const LOST: u64 = 60;
 
 /// How many classes there are in the end, over some growth.
 const CLASSES: u64 = 3000;

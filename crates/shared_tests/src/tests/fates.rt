@@ -1,7 +1,7 @@
 //! The account of a round sees what is wrong.
-use crate::rounds::Fault;
-use crate::rounds::fates::{Fate, Fates};
 use std::alloc::Global;
+use thread_rounds::Fault;
+use thread_rounds::fates::{Fate, Fates};
 
 /// Three values: which of them came back, which are handed out at the end, and the fault.
 const ACCOUNTS: [(&[u64], &[u64], Result<(), Fault>); 7] = [

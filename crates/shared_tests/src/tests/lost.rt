@@ -2,7 +2,7 @@
 //! answered before the other has asked.
 use super::countings::{CAPACITY, Countings, insert, open, paired};
 use super::numbers::Tally;
-use crate::counting::Drops;
+use counting::Drops;
 use lock_free_hashtable::raw::{LockFreeRawTable, is_first_capacity};
 use std::alloc::{AllocError, Global};
 use std::process::Abort;

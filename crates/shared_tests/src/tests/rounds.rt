@@ -1,9 +1,9 @@
 //! Threads that give values at once: none is lost or there twice.
-use crate::rounds::{Account, Kind, Round, run_round};
 use std::alloc::Global;
 use std::process::Abort;
 use std::sync::Wait;
 use std::thread::Threads;
+use thread_rounds::{Account, Kind, Round, run_round};
 
 /// Rounds whose closures keep a law: what the threads do, how many they are, how many values each gives, the first
 /// capacity, and how many of the values differ.

@@ -1,6 +1,6 @@
 //! A table held alone that is shared: what it shows, what is set through `&` beside that, and that each value is dropped once.
-use crate::counting::{Counting, CountingLaw, Drops};
 use cell::Missed;
+use counting::{Counting, CountingLaw, Drops};
 use generations::fixed::shared::Look;
 use lock_free_hashtable::raw::{HeldRawTable, LockFreeRawTable};
 use refusing::{Refusing, Rule};

@@ -1,14 +1,14 @@
 //! What became of each value.
 ghost use Rattle.std.specs.Prelude.{◌≡◌, ◌≢◌, ◌↔◌, All, IfOk, IsOk, OnErr, OnOk, Some, replicate, slice_get, slice_set};
-ghost use Rattle.shared_tests.specs.declared.rounds.fates.Fate.TheVariants.{Open};
+ghost use Rattle.thread_rounds.specs.declared.fates.Fate.TheVariants.{Open};
 
-use crate::rounds::Fault;
+use crate::Fault;
 use std::alloc::{AllocError, Global};
 use std::marker::Model;
 
 /// What became of a value.
 #[derive(Clone, Copy, Debug, PartialEq, Eq)]
-pub(crate) enum Fate {
+pub enum Fate {
     Open,
     /// It came back beside an entry.
     Found,
@@ -20,13 +20,13 @@ pub(crate) enum Fate {
 
 /// What became of each value, by its number.
 #[derive(Drop)]
-pub(crate) struct Fates {
+pub struct Fates {
     each: Vec<Fate>,
 }
 
 impl Model for Fates {
     ghost use Rattle.std.specs.Prelude.{List};
-    ghost use Rattle.shared_tests.specs.declared.rounds.fates.Fate.{Fate};
+    ghost use Rattle.thread_rounds.specs.declared.fates.Fate.{Fate};
 
     ghost Value = { List Fate };
 
@@ -35,7 +35,7 @@ impl Model for Fates {
 
 impl Fates {
     /// So many values, of which nothing is known.
-    pub(crate) fn new(alloc: Global, values: u64) -> Result<Fates, AllocError>
+    pub fn new(alloc: Global, values: u64) -> Result<Fates, AllocError>
         ensures { IfOk result (λ f. f ≡ replicate values Open) }
     {
         Ok(Fates {
@@ -44,7 +44,7 @@ impl Fates {
     }
 
     /// What became of the value.
-    pub(crate) fn of(&self, number: u64) -> Option<Fate>
+    pub fn of(&self, number: u64) -> Option<Fate>
         ensures { result ≡ slice_get self.now number }
     {
         self.each.get(number as usize).copied()
@@ -52,7 +52,7 @@ impl Fates {
 
     /// Notes what became of the value: of each something becomes once. A number that is none, or whose value has a fate, is a
     /// fault, and nothing is noted.
-    pub(crate) fn settle(&mut self, number: u64, fate: Fate) -> Result<(), Fault>
+    pub fn settle(&mut self, number: u64, fate: Fate) -> Result<(), Fault>
         ensures ok { OnOk result ((slice_get self.old number ≡ Some Open) × (self.new ≡ slice_set self.old number fate)) }
         ensures err { OnErr result ((slice_get self.old number ≢ Some Open) × (self.new ≡ self.old)) }
     {
@@ -67,7 +67,7 @@ impl Fates {
     }
 
     /// Notes the same of each of these values.
-    pub(crate) fn settle_all(&mut self, numbers: &[u64], fate: Fate) -> Result<(), Fault> {
+    pub fn settle_all(&mut self, numbers: &[u64], fate: Fate) -> Result<(), Fault> {
         for number in numbers {
             self.settle(*number, fate)?;
         }
@@ -75,7 +75,7 @@ impl Fates {
     }
 
     /// Something became of each value.
-    pub(crate) fn check_settled(&self) -> Result<(), Fault>
+    pub fn check_settled(&self) -> Result<(), Fault>
         ensures { IsOk result ↔ All (λ fate. fate ≢ Open) self.now }
     {
         match self.each.iter().position(|fate: &Fate| *fate == Fate::Open) {
@@ -85,7 +85,7 @@ impl Fates {
     }
 
     /// The same values are entries in both.
-    pub(crate) fn check_same_entries(&self, other: &Fates) -> Result<(), Fault> {
+    pub fn check_same_entries(&self, other: &Fates) -> Result<(), Fault> {
         for (number, fate) in (0u64..).zip(self.each.as_slice()) {
             let there = other.of(number) == Some(Fate::Entry);
             if there != (*fate == Fate::Entry) {

@@ -1,5 +1,5 @@
 //! Closures that keep no law.
-use crate::rounds::value::Given;
+use crate::value::Given;
 use rand_core::{Rng, SeedableRng};
 use rand_xoshiro::SplitMix64;
 use std::sync::atomic::{AtomicU64, Ordering};

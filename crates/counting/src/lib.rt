@@ -1,4 +1,6 @@
 //! A value that counts how often it is dropped.
+#![tactic(auto)]
+
 ghost use Rattle.std.specs.Prelude.{◌≡◌};
 
 use std::alloc::{AllocError, Global};

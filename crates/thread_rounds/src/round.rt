@@ -1,5 +1,5 @@
 //! What a round is: who gives which values to which table.
-use crate::rounds::value::Given;
+use crate::value::Given;
 use rand_core::{Rng, SeedableRng};
 use rand_xoshiro::SplitMix64;
 use refusing::Rule;

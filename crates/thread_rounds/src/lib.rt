@@ -1,27 +1,28 @@
 //! Rounds: threads give values to one table at once, and afterwards each value is accounted for.
+#![tactic(auto)]
 
 mod account;
 mod closures;
-pub(crate) mod fates;
+pub mod fates;
 mod fault;
 mod round;
 mod start;
 mod value;
 mod work;
 
-pub use crate::rounds::account::Account;
-use crate::rounds::account::account_for;
-use crate::rounds::closures::Whims;
-pub use crate::rounds::fault::Fault;
-pub use crate::rounds::round::{FIRST_CAPACITIES, KINDS, Kind, Round, THREADS};
-use crate::rounds::start::Start;
-use crate::rounds::work::{Job, Told, Values, work};
+pub use account::Account;
+use account::account_for;
+use closures::Whims;
+pub use fault::Fault;
 use lock_free_hashtable::raw::{LockFreeRawTable, is_first_capacity};
 use refusing::Refusing;
+pub use round::{FIRST_CAPACITIES, KINDS, Kind, Round, THREADS};
+use start::Start;
 use std::alloc::Global;
 use std::sync::Wait;
 use std::thread;
 use std::thread::Threads;
+use work::{Job, Told, Values, work};
 
 /// Runs a round, and accounts for each value, or says the first fault.
 pub fn run_round<R: Threads + Wait + Sync>(

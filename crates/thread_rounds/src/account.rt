@@ -1,8 +1,8 @@
 //! The account of a round: what its threads were told, what the table shows, and what it hands out at the end.
-use crate::rounds::fates::{Fate, Fates};
-use crate::rounds::value::Value;
-use crate::rounds::work::{Told, Values, look};
-use crate::rounds::{Fault, Round};
+use crate::fates::{Fate, Fates};
+use crate::value::Value;
+use crate::work::{Told, Values, look};
+use crate::{Fault, Round};
 use std::alloc::Global;
 
 /// What became of the values of a round without a fault. All together they are the values that were given.

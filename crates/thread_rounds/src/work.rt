@@ -1,8 +1,8 @@
 //! What one thread of a round does.
-use crate::rounds::closures::Whims;
-use crate::rounds::start::Start;
-use crate::rounds::value::{Given, Value};
-use crate::rounds::{Fault, Kind, Round};
+use crate::closures::Whims;
+use crate::start::Start;
+use crate::value::{Given, Value};
+use crate::{Fault, Kind, Round};
 use refusing::Refusing;
 use shared_table::LockFreeRawTable;
 use std::alloc::{AllocError, Global};
