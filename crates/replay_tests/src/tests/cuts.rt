@@ -1,12 +1,8 @@
 //! Two calls that cut into each other.
-use crate::fault::Fault;
-use crate::item::Item;
-use crate::replay::{Ground, Replay};
-use crate::running::Table;
-use crate::schedules::Ask;
-use crate::script::{Manner, Script};
-use refusing::{Refusing, Rule};
-use shared_table::LockFreeRawTable;
+use schedule_replay::course::{Course, run_course};
+use schedule_replay::fault::Fault;
+use schedule_replay::schedules::Ask;
+use schedule_replay::script::Manner;
 use std::alloc::Global;
 use std::process::Abort;
 
@@ -61,24 +57,13 @@ const MOST: u64 = 400;
 
 /// The calls of a start, with so many steps of the first and of the second ahead.
 fn cut(alloc: Global, start: &Start, steps: (u64, u64)) -> Result<(), Fault> {
-    let memory = Refusing::new(alloc, Rule::new(0, usize::MAX, 0, 0));
-    let table: Table<'_> = LockFreeRawTable::new(&memory);
-    let script = Script::new(Manner::Lawful, 0);
-    let ground = Ground {
-        alloc,
-        first: 16,
-        memory: &memory,
-        table: &table,
-        script: &script,
+    let course = Course::Cut {
+        hashes: start.0,
+        asks: start.1,
+        steps,
+        most: MOST,
     };
-    let mut replay = Replay::new(
-        ground,
-        |new: &Item, entry: &Item| script.says(new.class, entry.class),
-        |entry: &Item| script.rehashes(entry.hash),
-        |entry: &Item| script.seeks(entry.class),
-    );
-    replay.fill(start.0)?;
-    replay.cut(start.1, steps, MOST)
+    run_course(alloc, 16, Manner::Lawful, 0, course)
 }
 
 /// The calls of a start tell what the machine tells, however far the first is ahead.

@@ -1,6 +1,6 @@
 //! Calls on a running table, step by step, and each step on the machine.
 ghost use Rattle.terms.specs.Capacities.{IsFirstCapacity};
-ghost use Rattle.replay_tests.specs.Running.{IsReady};
+ghost use Rattle.schedule_replay.specs.Running.{IsReady};
 
 use crate::events::{answers_of, event_taken, takes};
 use crate::fault::Fault;

@@ -1,6 +1,6 @@
 //! A call of a schedule on a running table.
 ghost use Rattle.std.specs.Prelude.{◌≡◌};
-ghost use Rattle.replay_tests.specs.Running.{MayRun};
+ghost use Rattle.schedule_replay.specs.Running.{MayRun};
 
 use crate::item::{Item, Said};
 use refusing::Refusing;

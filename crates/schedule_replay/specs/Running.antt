@@ -3,11 +3,11 @@ use Rattle.std.specs.Prelude.{Bool, All}
 use Rattle.std.specs.Borrow.{Bor}
 use Rattle.std.specs.Fn.{Shared as SharedFn}
 use Rattle.shared_table.specs.Stepped.{MayStep}
-use Rattle.replay_tests.specs.declared.item.Item.{Item}
-use Rattle.replay_tests.specs.declared.running.Steps.{Steps}
-use Rattle.replay_tests.specs.declared.running.Steps.TheVariants.{Insert, Lookup}
-use Rattle.replay_tests.specs.declared.running.Running.{Running}
-use Rattle.replay_tests.specs.declared.replay.Replay.{Replay}
+use Rattle.schedule_replay.specs.declared.item.Item.{Item}
+use Rattle.schedule_replay.specs.declared.running.Steps.{Steps}
+use Rattle.schedule_replay.specs.declared.running.Steps.TheVariants.{Insert, Lookup}
+use Rattle.schedule_replay.specs.declared.running.Running.{Running}
+use Rattle.schedule_replay.specs.declared.replay.Replay.{Replay}
 
 module _ {E H F : Type 0} (CallE : E → Type 0) (CallH : H → Type 0) (CallF : F → Type 0)
     (says : SharedFn E (Bor Item × (Bor Item × Unit {0})) Bool) where

@@ -1,5 +1,5 @@
 //! Schedules that a replay runs.
-ghost use Rattle.replay_tests.specs.Running.{IsReady};
+ghost use Rattle.schedule_replay.specs.Running.{IsReady};
 
 use crate::fault::Fault;
 use crate::item::Item;

@@ -1,5 +1,5 @@
-use Rattle.replay_tests.specs.Running.{IsReady}
-use Rattle.replay_tests.proofs.replay.Replay.fill_drawn.Given as goal
+use Rattle.schedule_replay.specs.Running.{IsReady}
+use Rattle.schedule_replay.proofs.replay.Replay.wander.Given as goal
 
 abbrev pub invariant-loop : goal.invariant-loop
 invariant-loop g l = IsReady (goal.E-IsAlwaysCallable g) (goal.H-IsAlwaysCallable g) (goal.F-IsAlwaysCallable g) g.E.Fn l.self

@@ -1,0 +1,30 @@
+//! Schedules that are drawn, each from its seed.
+use crate::course::{Course, run_course};
+use crate::fault::Fault;
+use crate::script::Manner;
+use std::alloc::Global;
+
+/// The capacity of the first generation.
+const FIRST: u64 = 16;
+
+/// Runs the schedule of a seed. One half of the seeds has careless closures, and one half is refused memory.
+pub fn run_seed(alloc: Global, seed: u64) -> Result<(), Fault> {
+    let manner = if seed % 2 == 0 {
+        Manner::Lawful
+    } else {
+        Manner::Careless
+    };
+    let refuses = seed % 4 >= 2;
+    run_course(alloc, FIRST, manner, seed, Course::Drawn { refuses })
+}
+
+/// Runs the schedules of so many seeds from this one on: the first of them whose schedule has a fault, and that.
+pub fn first_fault(alloc: Global, first_seed: u64, seeds: u64) -> Option<(u64, Fault)> {
+    for index in 0..seeds {
+        let seed = first_seed.wrapping_add(index);
+        if let Err(fault) = run_seed(alloc, seed) {
+            return Some((seed, fault));
+        }
+    }
+    None
+}
