@@ -1,7 +1,7 @@
 //! Measurements of the machine of all schedules: many calls, one after another.
 
 use crate::report::{Report, refuse_words};
-use core_tests::load::{Hashes, INSERTS, LOOKUPS, load_events};
+use core_schedules::load::{Hashes, INSERTS, LOOKUPS, load_events};
 use std::alloc::Allocator;
 use std::io;
 use std::rt::Clock;

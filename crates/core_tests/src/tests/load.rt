@@ -1,6 +1,6 @@
 //! The long schedule runs.
 
-use crate::load::{Hashes, INSERTS, LOOKUPS, load_events};
+use core_schedules::load::{Hashes, INSERTS, LOOKUPS, load_events};
 use std::alloc::Global;
 use std::process::Abort;
 use std::test::Fail;

@@ -1,8 +1,8 @@
 //! Worked schedules: what their events print, and what the machine tells of them.
 use super::assert_prints;
 use super::machine::{lines_of_run, lines_of_steps};
-use core_tests::script::lines_of;
-use core_tests::worked::{Row, SCHEDULES};
+use core_schedules::script::lines_of;
+use core_schedules::worked::{Row, SCHEDULES};
 use std::alloc::Global;
 use std::process::Abort;
 use std::sync::Wait;

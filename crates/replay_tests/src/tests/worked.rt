@@ -2,8 +2,8 @@
 ghost use Rattle.terms.specs.Capacities.{IsFirstCapacity};
 
 use commands::events::{ScheduleLine, parse_schedule_line};
-use core_tests::script::lines_of;
-use core_tests::worked::{Row, SCHEDULES};
+use core_schedules::script::lines_of;
+use core_schedules::worked::{Row, SCHEDULES};
 use schedule_replay::course::{Course, run_course};
 use schedule_replay::script::Manner;
 use std::alloc::Global;
