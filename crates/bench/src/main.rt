@@ -1,7 +1,8 @@
 //! Measures the tables, beside others that answer in the same form.
 //!
 //!     bench list          the names of what is measured
-//!     bench held GROUP    the table held alone: runs a group of measurements once, in a fresh process: one or seq
+//!     bench held GROUP    the table held alone: runs a group of measurements once, in a fresh process: one or seq,
+//!                         with a million keys, or 1e4, 1e5 or 1e7, with as many
 //!     bench shared GROUP [THREADS]    the table that threads share: one or seq, and same, ins or hit with that many
 //!                         threads, of four at most, or with one to four in turn
 //!     bench seats GROUP   the number table of seated threads: one, seq, same or ins

@@ -3,6 +3,7 @@ ghost use Rattle.std.specs.Prelude.{◌≤◌, ◌^◌};
 
 use crate::numbers::{COUNT, NumberSet, spread, turn};
 use crate::report::{Report, refuse_words};
+use crate::sizes::measure_size;
 use std::alloc::Allocator;
 use std::num::nearest_u64_to_f64;
 use std::rt::{Clock, Files};
@@ -21,6 +22,15 @@ pub fn measure_held<R: Print + Eprint + Clock + Files + AllocGlobal>(
     match group {
         "one" => measure_one(rt, report),
         "seq" => measure_seq(rt, report),
+        "1e4" => measure_size(rt, report, 10_000, 100, ["ins_1e4", "hit_1e4", "miss_1e4"]),
+        "1e5" => measure_size(rt, report, 100_000, 10, ["ins_1e5", "hit_1e5", "miss_1e5"]),
+        "1e7" => measure_size(
+            rt,
+            report,
+            10_000_000,
+            1,
+            ["ins_1e7", "hit_1e7", "miss_1e7"],
+        ),
         _ => refuse_words(rt),
     }
 }

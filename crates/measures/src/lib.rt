@@ -7,4 +7,5 @@ pub mod report;
 pub mod schedules;
 pub mod seats;
 pub mod shared;
+mod sizes;
 pub mod texts;
