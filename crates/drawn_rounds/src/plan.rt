@@ -1,0 +1,73 @@
+//! Which rounds are run.
+use std::convert::AsStr;
+
+/// How many rounds run where no time is given.
+const FEW: u64 = 20;
+
+/// How many values these have at most.
+const SMALL: u64 = 10_000;
+
+/// How many values the others have at most.
+const LARGE: u64 = 1_000_000;
+
+/// When no more rounds begin.
+#[derive(Clone, Copy, Debug, PartialEq, Eq)]
+pub(crate) enum End {
+    /// After so many rounds.
+    Rounds(u64),
+    /// After so many minutes.
+    Minutes(u64),
+}
+
+/// The rounds of the seeds from the first on, each with so many values at most.
+#[derive(Clone, Copy, Debug, PartialEq, Eq)]
+pub(crate) struct Plan {
+    pub(crate) end: End,
+    pub(crate) first_seed: u64,
+    pub(crate) most: u64,
+}
+
+impl Plan {
+    /// A few small rounds.
+    fn few() -> Plan {
+        Plan {
+            end: End::Rounds(FEW),
+            first_seed: 0,
+            most: SMALL,
+        }
+    }
+
+    /// Rounds for so many minutes.
+    fn timed(minutes: u64, first_seed: u64) -> Plan {
+        Plan {
+            end: End::Minutes(minutes),
+            first_seed,
+            most: LARGE,
+        }
+    }
+
+    /// The plan that the arguments ask for: none, the minutes, or the minutes and the first seed.
+    pub(crate) fn of_words<S: AsStr>(words: &[S]) -> Option<Plan> {
+        match words {
+            [] => Some(Plan::few()),
+            [minutes] => Some(Plan::timed(parse_word(minutes)?, 0)),
+            [minutes, first_seed] => {
+                Some(Plan::timed(parse_word(minutes)?, parse_word(first_seed)?))
+            }
+            _ => None,
+        }
+    }
+
+    /// Whether no more rounds begin after so many rounds and minutes.
+    pub(crate) fn is_over(&self, rounds: u64, minutes: u64) -> bool {
+        match self.end {
+            End::Rounds(most) => most <= rounds,
+            End::Minutes(most) => most <= minutes,
+        }
+    }
+}
+
+/// Reads a number.
+fn parse_word<S: AsStr>(word: &S) -> Option<u64> {
+    word.as_str().parse::<u64>().ok()
+}
