@@ -1,4 +1,9 @@
 //! Tables held alone, run.
+mod drops;
+mod makers;
+mod millions;
+mod numbers;
 mod refusals;
 mod runs;
 mod shards;
+mod walks;

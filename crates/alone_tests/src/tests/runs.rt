@@ -1,7 +1,7 @@
 //! Lists of calls on every kind of table, compared reply by reply.
+use super::makers::{eight_shards, four_shards, one_shard, sixteen_shards, two_shards};
 use lock_free_hashtable::alone::{AloneTable, Call, Reply, run_calls};
 use lock_free_hashtable::raw::HeldRawTable;
-use lock_free_hashtable::sharded::HeldShardedTable;
 use rand_core::{Rng, SeedableRng};
 use rand_xoshiro::SplitMix64;
 use std::alloc::{AllocError, Allocator, Global};
@@ -63,52 +63,68 @@ fn told_by(reply: &Reply<Box<u64>>) -> Told {
     }
 }
 
+/// What these replies tell.
+pub fn told_by_all(alloc: Global, replies: &[Reply<Box<u64>>]) -> Result<Vec<Told>, AllocError> {
+    let mut told = Vec::with_capacity(alloc, replies.len())?;
+    for reply in replies {
+        told.push(told_by(reply))?;
+    }
+    Ok(told)
+}
+
+/// Makes the calls, under the law of numbers.
+pub fn run_numbers<B: AloneTable<Box<u64>, NumberLaw>, A: Allocator + Copy>(
+    alloc: A,
+    table: &mut B,
+    calls: Vec<Call<Box<u64>, u64>, A>,
+) -> Result<Vec<Reply<Box<u64>>, A>, Vec<Call<Box<u64>, u64>, A>> {
+    run_calls::<Box<u64>, NumberLaw, u64, B, _, _, _, A>(
+        alloc,
+        table,
+        calls,
+        |new: &u64, entry: &u64| *new == *entry,
+        |entry: &u64| hash_number(*entry),
+        |key: &u64, entry: &u64| *key == *entry,
+    )
+}
+
 /// What the steps are told by this table.
 fn run<B: AloneTable<Box<u64>, NumberLaw>>(
     alloc: Global,
     table: &mut B,
     steps: &[Step],
 ) -> Result<Vec<Told>, AllocError> {
-    let made = run_calls::<Box<u64>, NumberLaw, u64, B, _, _, _, Global>(
-        alloc,
-        table,
-        calls(alloc, alloc, steps)?,
-        |new: &u64, entry: &u64| *new == *entry,
-        |entry: &u64| hash_number(*entry),
-        |key: &u64, entry: &u64| *key == *entry,
-    );
-    let Ok(replies) = made else {
-        return Err(AllocError);
-    };
-    let mut all = Vec::with_capacity(alloc, replies.len())?;
-    for reply in replies.iter() {
-        all.push(told_by(reply))?;
+    match run_numbers(alloc, table, calls(alloc, alloc, steps)?) {
+        Ok(replies) => told_by_all(alloc, replies.as_slice()),
+        Err(_) => Err(AllocError),
     }
-    Ok(all)
 }
 
-/// New tables, raw and over shards, tell the steps this.
+/// This table tells the steps this.
+fn assert_run<B: AloneTable<Box<u64>, NumberLaw>>(
+    rt: &impl Abort,
+    alloc: Global,
+    table: &mut B,
+    steps: &[Step],
+    expected: &[Told],
+) -> Result<(), AllocError> {
+    assert_eq!(rt; run(alloc, table, steps)?.as_slice(), expected);
+    Ok(())
+}
+
+/// New tables of every kind tell the steps this: the raw table, and those over shards.
 fn assert_told(
     rt: &impl Abort,
     alloc: Global,
     steps: &[Step],
     expected: &[Told],
 ) -> Result<(), AllocError> {
-    let raw = run(alloc, &mut HeldRawTable::new(alloc), steps)?;
-    assert_eq!(rt; raw.as_slice(), expected);
-    let one = run(
-        alloc,
-        &mut HeldShardedTable::<Box<u64>, 1>::new(alloc),
-        steps,
-    )?;
-    assert_eq!(rt; one.as_slice(), expected);
-    let two = run(
-        alloc,
-        &mut HeldShardedTable::<Box<u64>, 2>::new(alloc),
-        steps,
-    )?;
-    assert_eq!(rt; two.as_slice(), expected);
-    Ok(())
+    assert_run(rt, alloc, &mut HeldRawTable::new(alloc), steps, expected)?;
+    assert_run(rt, alloc, &mut one_shard(alloc), steps, expected)?;
+    assert_run(rt, alloc, &mut two_shards(alloc), steps, expected)?;
+    assert_run(rt, alloc, &mut four_shards(alloc), steps, expected)?;
+    assert_run(rt, alloc, &mut eight_shards(alloc), steps, expected)?;
+    assert_run(rt, alloc, &mut sixteen_shards(alloc), steps, expected)
 }
 
 const STEPS: [Step; 7] = [
@@ -138,7 +154,7 @@ fn calls_are_told_what_a_list_tells(rt: HostRuntime) -> Result<(), Fail> {
 }
 
 /// What a list of numbers tells of the step, and the list after.
-fn list_tells(list: &mut Vec<u64>, step: Step) -> Result<Told, AllocError> {
+pub fn list_tells(list: &mut Vec<u64>, step: Step) -> Result<Told, AllocError> {
     match step {
         Step::Insert(number) => {
             if list.contains(&number) {
