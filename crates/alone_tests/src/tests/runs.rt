@@ -2,6 +2,7 @@
 use super::makers::{eight_shards, four_shards, one_shard, sixteen_shards, two_shards};
 use lock_free_hashtable::alone::{AloneTable, Call, Reply, run_calls};
 use lock_free_hashtable::raw::HeldRawTable;
+use plain_list::PlainList;
 use rand_core::{Rng, SeedableRng};
 use rand_xoshiro::SplitMix64;
 use std::alloc::{AllocError, Allocator, Global};
@@ -112,13 +113,14 @@ fn assert_run<B: AloneTable<Box<u64>, NumberLaw>>(
     Ok(())
 }
 
-/// New tables of every kind tell the steps this: the raw table, and those over shards.
+/// New tables of every kind tell the steps this: the plain list, the raw table, and those over shards.
 fn assert_told(
     rt: &impl Abort,
     alloc: Global,
     steps: &[Step],
     expected: &[Told],
 ) -> Result<(), AllocError> {
+    assert_run(rt, alloc, &mut PlainList::new(alloc), steps, expected)?;
     assert_run(rt, alloc, &mut HeldRawTable::new(alloc), steps, expected)?;
     assert_run(rt, alloc, &mut one_shard(alloc), steps, expected)?;
     assert_run(rt, alloc, &mut two_shards(alloc), steps, expected)?;
