@@ -1,6 +1,7 @@
 //! A gate that workers pass only where they run at the same time.
-ghost use Rattle.std.specs.Prelude.{◌<◌, IsTrue};
+ghost use Rattle.std.specs.Prelude.{◌≡◌, ◌<◌, IsTrue};
 
+use crate::faults::Fault;
 use std::hint::spin_loop;
 use std::sync::atomic::{AtomicBool, Ordering};
 use std::thread::yield_now;
@@ -24,6 +25,14 @@ pub trait Gates {
 
     /// A gate that nobody came to yet.
     fn gate(&self) -> Self::Gate;
+}
+
+/// A worker can't be started, so the gate lets no other wait for it.
+pub(crate) fn no_thread<G: Gate>(gate: &G) -> Fault
+    ensures { result ≡ Fault.NoThread }
+{
+    gate.give_up();
+    Fault::NoThread
 }
 
 /// How often the program's gate looks at most, within one question.

@@ -5,7 +5,7 @@ ghost use Rattle.commands.specs.Stress.{entries_of};
 
 use crate::endings::Ending;
 use crate::faults::Fault;
-use crate::gate::Gate;
+use crate::gate::{Gate, no_thread};
 use crate::job::Job;
 use crate::kinds::Kind;
 use crate::workers::{Values, Worker, insert_all, look_all};
@@ -144,12 +144,4 @@ fn work<R: Wait, A: Low + Copy, G: Gate>(
         Part::Inserts => insert_all(rt, alloc, gate, table, worker),
         Part::Lookups => look_all(table, worker),
     }
-}
-
-/// A worker cannot be started, so the gate lets no other wait for it.
-fn no_thread<G: Gate>(gate: &G) -> Fault
-    ensures { result ≡ Fault.NoThread }
-{
-    gate.give_up();
-    Fault::NoThread
 }

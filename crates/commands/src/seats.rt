@@ -5,7 +5,7 @@ ghost use Rattle.seated.specs.Numbers.{own_numbers};
 ghost use Rattle.commands.specs.Faults.{IsStartFault, IsThreadFault};
 
 use crate::faults::Fault;
-use crate::gate::Gate;
+use crate::gate::{Gate, no_thread};
 use seated::{NumberAnswer, NumberTable, Seat};
 use std::alloc::Allocator;
 use std::io::Write;
@@ -134,14 +134,6 @@ fn start_workers<R: Threads + Wait, A: Allocator + Copy + Send + Sync, G: Gate +
             Ok(all)
         },
     )
-}
-
-/// A worker cannot be started, so the gate lets no other wait for it.
-fn no_thread<G: Gate>(gate: &G) -> Fault
-    ensures { result ≡ Fault.NoThread }
-{
-    gate.give_up();
-    Fault::NoThread
 }
 
 /// Inserts 1 to one more than the table holds, in order, for as long as the gate lets it. The seat comes back with what the

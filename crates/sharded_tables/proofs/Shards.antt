@@ -27,7 +27,7 @@ use Rattle.sharded_tables.specs.Shards.{AreCounted, AreLawful, AreLawfulForAll, 
 use Rattle.held_table.specs.declared.place.Place.{Place}
 use Rattle.sharded_tables.specs.declared.sharded.place.ShardPlace.{ShardPlace}
 use Rattle.held_table.proofs.Answered.{stays, places_as_list}
-use Rattle.sharded_tables.specs.Empty.{held_without_entries}
+use Rattle.held_table.specs.Empty.{held_without_entries}
 use Rattle.held_table.proofs.Lists.{values_kept, values_more, home_with}
 use Rattle.list_runs.proofs.Runs.{swapped}
 

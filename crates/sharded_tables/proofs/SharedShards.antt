@@ -9,7 +9,10 @@ use Rattle.std.specs.Int.{IsPowerOfTwo}
 use Rattle.std.proofs.lemmas.Bool.{cases_eq}
 use Rattle.std.proofs.lemmas.List.{get_or_default, get_or-set_other, length-set, length_push, length-append, drop_more, drop-set, drop-set-lt}
 use Rattle.std.specs.List.{flat_map}
+use Rattle.std.specs.Borrow.{Bor}
 use Rattle.shared_table.specs.Tables.{SharedTable}
+use Rattle.shared_table.specs.Walks as raw
+use Rattle.shared_table.specs.Walks.{WalkView}
 use Rattle.sharded_tables.specs.SharedShards.{ShardWalk, GoesOn, GivesAt, SharesOne, shard_at, steps_left}
 use Rattle.held_table.specs.Table.{HeldTable, empty_table}
 use Rattle.sharded_tables.proofs.Shards.{some_shards}
@@ -68,38 +71,48 @@ module _ {T : Type 0} where
     long = rw one.left (length-set old k (empty_table one.taken.first_capacity));
   }
 
--- a walk that has passed shards since it was this, and has so many buckets left in the one that it is in
-pub record HasPassed {T : Type 0} (old : ShardWalk T) (ahead : List (SharedTable T)) (left : ℕ) : Type 0 where
+-- a walk that has passed shards since it was this, and is in one of which so much is left
+pub record HasPassed {T : Type 0} (old : ShardWalk T) (ahead : List (SharedTable T)) (walk : WalkView T) : Type 0 where
   pub passed : List (SharedTable T)
   pub order : old.ahead ≡ passed ++ ahead
-  pub stays : passed ≡ [] → left ≤ old.left
-  pub small : left < 2 ^ 64
+  pub stays : passed ≡ [] → walk ≡ old.walk
+  pub leaves : ¬ (passed ≡ []) → old.walk.alone ≡ []
+  pub small : walk.left < 2 ^ 64
 
 module _ {T : Type 0} where
   not_pushed : (ts : List (SharedTable T)) (t : SharedTable T) → ts ++ t ∷ [] ≡ [] → ⊥
   not_pushed ts t none = omega (arith, length_push ts t, ap length none)
 
-  pub has_passed_none : (old : ShardWalk T) → old.left < 2 ^ 64 → HasPassed old old.ahead old.left
-  has_passed_none old small = record { passed = []; order = refl; stays = λ _. omega arith; small = small }
+  pub has_passed_none : (old : ShardWalk T) → old.walk.left < 2 ^ 64 → HasPassed old old.ahead old.walk
+  has_passed_none old small = record { passed = []; order = refl; stays = λ _. refl; leaves = λ some. absurd (some refl); small = small }
 
-  pub passes_one : (old : ShardWalk T) (ahead rest : List (SharedTable T)) (t : SharedTable T) (left next : ℕ) → HasPassed old ahead left → ahead ≡ t ∷ rest → next < 2 ^ 64 → HasPassed old rest next
-  passes_one old ahead rest t left next has split small = record {
+  left_out : (old : ShardWalk T) (walk : WalkView T) (passed : List (SharedTable T)) → (passed ≡ [] → walk ≡ old.walk) → (¬ (passed ≡ []) → old.walk.alone ≡ []) → walk.alone ≡ [] → old.walk.alone ≡ []
+  left_out old walk [] stays leaves none = rw (← stays refl) none
+  left_out old walk (t ∷ ts) stays leaves none = leaves (λ is. omega (arith, ap length is))
+
+  -- where the walk of a shard has ended, nothing is left out of the one that it was in at first
+  pub none_left_out : (old : ShardWalk T) (ahead : List (SharedTable T)) (walk : WalkView T) → HasPassed old ahead walk → walk.alone ≡ [] → old.walk.alone ≡ []
+  none_left_out old ahead walk has none = left_out old walk has.passed has.stays has.leaves none
+
+  pub passes_one : (old : ShardWalk T) (ahead rest : List (SharedTable T)) (t : SharedTable T) (walk next : WalkView T) → HasPassed old ahead walk → walk.alone ≡ [] → ahead ≡ t ∷ rest → next.left < 2 ^ 64 → HasPassed old rest next
+  passes_one old ahead rest t walk next has none split small = record {
     passed = has.passed ++ t ∷ [];
     order = has.order ∙ (ap (λ ts. has.passed ++ ts) split ∙ sym (append_assoc has.passed (t ∷ []) rest));
-    stays = λ none. absurd (not_pushed has.passed t none);
+    stays = λ is. absurd (not_pushed has.passed t is);
+    leaves = λ _. none_left_out old ahead walk has none;
     small = small;
   }
 
-  pub shows_one : (old : ShardWalk T) (ahead : List (SharedTable T)) (left next : ℕ) → HasPassed old ahead left → next < left → GoesOn old (record { ahead = ahead; left = next })
-  shows_one old ahead left next has less = record { passed = has.passed; order = has.order; stays = λ none. omega (arith, has.stays none) }
+  pub shows_one : {X : Type 0} (target : T → X) (shown : Bor X) (old : ShardWalk T) (ahead : List (SharedTable T)) (walk next : WalkView T) → HasPassed old ahead walk → raw.WalksOn target walk (Some shown) next → GoesOn target old shown (record { ahead = ahead; walk = next })
+  shows_one target shown old ahead walk next has on = record { passed = has.passed; order = has.order; stays = λ none. rw (← has.stays none) on; leaves = has.leaves }
 
-  fewer_steps : (old new : ShardWalk T) (passed : List (SharedTable T)) → old.ahead ≡ passed ++ new.ahead → (passed ≡ [] → new.left < old.left) → new.left < 2 ^ 64 → steps_left new < steps_left old
+  fewer_steps : (old new : ShardWalk T) (passed : List (SharedTable T)) → old.ahead ≡ passed ++ new.ahead → (passed ≡ [] → new.walk.left < old.walk.left) → new.walk.left < 2 ^ 64 → steps_left new < steps_left old
   fewer_steps old new [] order stays small = omega (arith, ap length order, stays refl)
   fewer_steps old new (t ∷ ts) order stays small = omega (arith, ap length order, length-append ts new.ahead)
 
   -- it is nearer to its end
-  pub nears : (old new : ShardWalk T) → GoesOn old new → new.left < 2 ^ 64 → steps_left new < steps_left old
-  nears old new on small = fewer_steps old new on.passed on.order on.stays small
+  pub nears : {X : Type 0} (target : T → X) (shown : Bor X) (old new : ShardWalk T) → GoesOn target old shown new → new.walk.left < 2 ^ 64 → steps_left new < steps_left old
+  nears target shown old new on small = fewer_steps old new on.passed on.order (λ none. (on.stays none).0) small
 
   -- lists that are handed out, one after another
 

@@ -1,14 +1,17 @@
 -- A table over shards that threads share, as its callers see it: the list of its shards.
 use Rattle.std.specs.Prelude.{◌≡◌, ℕ, ◌+◌, ◌*◌, ◌^◌, ◌<◌, ◌++◌, List, [], ◌∷◌, Option, Some, None, length, slice_index_or, slice_set}
 use Rattle.std.specs.Iterator.{YieldsFirst, Drains}
+use Rattle.std.specs.Borrow.{Bor}
 use Rattle.shared_table.specs.Tables.{SharedTable}
+use Rattle.shared_table.specs.Walks as raw
+use Rattle.shared_table.specs.Walks.{WalkView}
 use Rattle.sharded_tables.specs.Shards.{capped_sum}
 use Rattle.held_table.specs.Table.{HeldTable, empty_table}
 
--- a walk over shards: those that it hasn't come to, and how many buckets are left in the one that it is in
+-- a walk over shards: those that it hasn't come to, and the walk over the one that it is in
 pub record ShardWalk (T : Type 0) : Type 0 where
   pub ahead : List (SharedTable T)
-  pub left : ℕ
+  pub walk : WalkView T
 
 module _ {T : Type 0} where
   -- the shard of this number; past the last one there is a table without a generation
@@ -20,20 +23,22 @@ module _ {T : Type 0} where
     pub first : SharedTable T
     pub others : ts ≡ first ∷ walk.ahead
 
-  -- a step that shows something has gone on in its shard, or past some shards in their order
-  pub record GoesOn (old new : ShardWalk T) : Type 0 where
+  -- a step that shows something has gone on in its shard, as a walk over one does; or it has gone past some shards in their
+  -- order, and then none of the entries that were set alone is left out of the shard that it was in
+  pub record GoesOn {X : Type 0} (target : T → X) (old : ShardWalk T) (shown : Bor X) (new : ShardWalk T) : Type 0 where
     pub passed : List (SharedTable T)
     pub order : old.ahead ≡ passed ++ new.ahead
-    pub stays : passed ≡ [] → new.left < old.left
+    pub stays : passed ≡ [] → raw.WalksOn target old.walk (Some shown) new.walk
+    pub leaves : ¬ (passed ≡ []) → old.walk.alone ≡ []
 
-  -- a walk goes through the shards, and ends for good after the last one
-  abbrev pub WalksOn : {X : Type 0} → ShardWalk T → Option X → ShardWalk T → Type 0
-  WalksOn old None new = (new.ahead ≡ []) × (new.left ≡ 0)
-  WalksOn old (Some x) new = GoesOn old new
+  -- a walk goes through the shards, and ends for good after the last one, with no such entry left out
+  abbrev pub WalksOn : {X : Type 0} → (T → X) → ShardWalk T → Option (Bor X) → ShardWalk T → Type 0
+  WalksOn target old None new = (new.ahead ≡ []) × (new.walk.left ≡ 0) × (old.walk.alone ≡ [])
+  WalksOn target old (Some shown) new = GoesOn target old shown new
 
   -- no more steps than this are left, since no shard has 2^64 buckets
   abbrev pub steps_left : ShardWalk T → ℕ
-  steps_left walk = length walk.ahead * 2 ^ 64 + walk.left
+  steps_left walk = length walk.ahead * 2 ^ 64 + walk.walk.left
 
 module _ {T : Type 0} where
   -- of lists that are handed out, this one has given its first element, or nothing where it was empty

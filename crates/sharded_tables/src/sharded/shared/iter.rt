@@ -12,8 +12,7 @@ use std::iter::FusedIterator;
 use std::marker::Model;
 
 /// The targets of the entries of a table's shards, shard after shard. The walk of a shard is begun once that of the one
-/// before is exhausted. It is seen as the shards that it hasn't come to, and the number of the buckets that are left in the
-/// one that it is in.
+/// before is exhausted. It is seen as the shards that it hasn't come to, and the walk over the one that it is in.
 #[derive(Drop)]
 pub struct Iter<'a, T: AtomicValue, const SHARDS: usize, A: Allocator + Copy = Global> {
     walk: raw::Iter<'a, T, A>,
@@ -27,7 +26,7 @@ impl<'a, T: AtomicValue, const SHARDS: usize, A: Allocator + Copy> Model
 
     ghost Value = { ShardWalk T };
 
-    ghost view = { λ it. record { ahead = it.ahead.now; left = it.walk.left } };
+    ghost view = { λ it. record { ahead = it.ahead.now; walk = it.walk } };
 
     ghost invariant = { λ it. it.walk.left < 2 ^ 64 };
 }
@@ -36,7 +35,7 @@ impl<'a, V: 'a, T: AtomicValue<Target = V>, const SHARDS: usize, A: Allocator + 
     for Iter<'a, T, SHARDS, A> {
     type Item = &'a V;
 
-    ghost next_gives = { WalksOn };
+    ghost next_gives = { WalksOn T.target };
 
     ghost remaining = { λ it. at_most (steps_left it) };
 
