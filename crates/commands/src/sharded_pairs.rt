@@ -1,8 +1,9 @@
 //! A table of pairs over shards, held alone: a pair lies in the shard of its hash.
-ghost use Rattle.std.specs.Prelude.{◌≡◌, []};
+ghost use Rattle.std.specs.Prelude.{◌≡◌, ◌%◌, ◌^◌, []};
 ghost use Rattle.std.specs.Int.{IsPowerOfTwo};
 ghost use Rattle.sharded_tables.specs.Shards.{sharded, empty_shards};
 ghost use Rattle.terms.specs.Capacities.{IsFirstCapacity};
+ghost use Rattle.terms.specs.Laws.{same_pair, pair_hash};
 ghost use Rattle.commands.specs.Pairs.{HoldsPairs};
 
 use crate::pairs::PairCalls;
@@ -63,8 +64,12 @@ impl<const SHARDS: usize, A: Allocator + Copy> PairCalls<A> for ShardedPairs<SHA
         match self.table.place_alone::<PairLaw, _, _>(
             hash,
             pair,
-            &|new: &(u64, u64), entry: &(u64, u64)| new.0 == entry.0 && new.1 == entry.1,
-            &|pair: &(u64, u64)| pair.0,
+            &|new: &(u64, u64), entry: &(u64, u64)|
+                ensures { result ≡ same_pair new.now entry.now }
+            { new.0 == entry.0 && new.1 == entry.1 },
+            &|pair: &(u64, u64)|
+                ensures { result ≡ pair_hash pair.now }
+            { hash_of_first(pair.0) },
         ) {
             Ok((_, None)) => Insertion::Placed,
             Ok((_, Some(_))) => Insertion::Found,
@@ -73,11 +78,12 @@ impl<const SHARDS: usize, A: Allocator + Copy> PairCalls<A> for ShardedPairs<SHA
     }
 
     fn lookup(&self, hash: u64, number: u64) -> Option<u64> {
-        let entry = self
-            .table
-            .lookup_alone::<PairLaw, _>(hash, |entry: &(u64, u64)| {
-                entry.0 == hash && entry.1 == number
-            })?;
+        let entry = self.table.lookup_alone::<PairLaw, _>(
+            hash,
+            |entry: &(u64, u64)|
+                ensures { result ≡ same_pair (hash, number) entry.now }
+            { entry.0 == hash && entry.1 == number },
+        )?;
         Some(entry.1)
     }
 
@@ -102,4 +108,11 @@ impl<const SHARDS: usize, A: Allocator + Copy> PairCalls<A> for ShardedPairs<SHA
         numbers.sort_unstable();
         Ok(numbers)
     }
+}
+
+/// The hash of a pair with this first part.
+fn hash_of_first(first: u64) -> u64
+    ensures { result ≡ first % 2 ^ 64 }
+{
+    first
 }

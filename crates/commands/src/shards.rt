@@ -30,12 +30,23 @@ pub fn run_shards<A: Allocator + Copy, I: Read, O: Write>(
     ensures fault { IfErr result IsInputFault }
 {
     match shards {
-        ShardCount::One => take_lines(&mut one(alloc, first), lines, output),
-        ShardCount::Two => take_lines(&mut two(alloc, first), lines, output),
-        ShardCount::Four => take_lines(&mut four(alloc, first), lines, output),
-        ShardCount::Eight => take_lines(&mut eight(alloc, first), lines, output),
-        ShardCount::Sixteen => take_lines(&mut sixteen(alloc, first), lines, output),
+        ShardCount::One => run_over(one(alloc, first), lines, output),
+        ShardCount::Two => run_over(two(alloc, first), lines, output),
+        ShardCount::Four => run_over(four(alloc, first), lines, output),
+        ShardCount::Eight => run_over(eight(alloc, first), lines, output),
+        ShardCount::Sixteen => run_over(sixteen(alloc, first), lines, output),
     }
+}
+
+/// Answers the lines of the input on this table.
+fn run_over<const SHARDS: usize, A: Allocator + Copy, I: Read, O: Write>(
+    mut table: ShardedPairs<SHARDS, A>,
+    lines: &mut Lines<I>,
+    output: &mut Output<O>,
+) -> Result<(), Fault>
+    ensures fault { IfErr result IsInputFault }
+{
+    take_lines(&mut table, lines, output)
 }
 
 /// The empty table over one shard.

@@ -4,6 +4,14 @@ use Rattle.sharded_tables.specs.Shards.{sharded}
 use Rattle.commands.proofs.PairTables.{inserts, lawful_insert}
 use Rattle.commands.proofs.sharded_pairs.ShardedPairsPairCalls.insert.Goals as goal
 
+pub invariant_of-self : goal.invariant_of-self
+invariant_of-self g c =
+    (c.place_alone.ensures.lawful (lawful_insert sharded (λ b. b.value) _ _ c.self.inside.table c.args.hash c.in-Ok.pair (λ x y answer s. search rules) (λ x h s. search rules) (grind (arith, common_steps)) c.self.invariant)).0
+
+pub invariant_of-self-in-Ok-default-Some : goal.invariant_of-self-in-Ok-default-Some
+invariant_of-self-in-Ok-default-Some g c =
+    (c.place_alone.ensures.lawful (lawful_insert sharded (λ b. b.value) _ _ c.self.inside.table c.args.hash c.in-Ok.pair (λ x y answer s. search rules) (λ x h s. search rules) (grind (arith, common_steps)) c.self.invariant)).0
+
 pub returns-in-Some-clause-inserts : goal.returns-in-Some-clause-inserts
 returns-in-Some-clause-inserts g c = λ ps holds. (ps, ((c.in-Some.ensures ps holds).0, refl), holds)
 
