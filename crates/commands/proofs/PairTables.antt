@@ -1,4 +1,4 @@
--- What the table's clauses say of the pairs that it holds.
+-- What a table's clauses say of the pairs that it holds.
 use Rattle.std.proofs.Common.{◌≡◌, ℕ, zero, suc, ◌<◌, ◌^◌, ◌%◌, ◌++◌, Bool, true, false, List, [], ◌∷◌, Option, Some, None, Result, Ok, Err, length, map, arith, refl, sym, ◌∙◌, ap}
 use Rattle.std.specs.Prelude.{Contains}
 use Rattle.std.specs.List.Sorted.{IsPermutation}
@@ -8,13 +8,12 @@ use Rattle.std.proofs.lemmas.List.Sorted.{length_permutation, IsPermutation-map,
 use Rattle.std.specs.Prelude.{IsSorted}
 use Rattle.std.specs.Ordering.{nat_cmp}
 use Rattle.std.proofs.Math.ListN.{get_or-map}
-use Rattle.held_table.specs.Table.{HeldTable, Place, Stands, entries, entry_at}
-use Rattle.held_table.specs.Held.{ShowsAt, IsLawfulInsert, PlacesAsList, InsertReplies, equal, LooksUpAsList, LookupReplies, IsLawfulLookup}
+use Rattle.held_table.specs.Shown.{Shows, Stands, entries_of, value_of, ShowsAt, IsLawfulInsert, PlacesAsList, InsertReplies, equal, LooksUpAsList, LookupReplies, IsLawfulLookup}
 use Rattle.terms.specs.ListObject.{ListReply, Placed, Found, Refused, Insert, Lookup, Answers, AcceptsNone}
 use Rattle.terms.specs.declared.insertion.Insertion.{Insertion}
 use Rattle.terms.specs.declared.insertion.Insertion.TheVariants as insertion
 use Rattle.terms.specs.Laws.{same_pair, pair_hash}
-use Rattle.commands.specs.Pairs.{InsertsPair, LooksUpPair, HoldsPairs, IsPairTable, ListsNumbers}
+use Rattle.commands.specs.Pairs.{InsertsPair, LooksUpPair, HoldsPairs, IsPairTable, ListsNumbers, numbers_of}
 
 same_self : (x : ℕ × ℕ) → same_pair x x ≡ true
 same_self x = grind (arith, common_steps)
@@ -62,38 +61,10 @@ module _ {T : Type 0} (pair_of : T → ℕ × ℕ) where
     found back (Some e) s h = let told = rw s at h in (e, told.0.0, told.0.1, told.2)
 
   -- how an insert of a value ends
-  abbrev pub insertion_of : Result (Place × Option T) T → Insertion
+  abbrev pub insertion_of : {P : Type 0} → Result (P × Option T) T → Insertion
   insertion_of (Ok (p, None)) = insertion.Placed
   insertion_of (Ok (p, Some back)) = insertion.Found
   insertion_of (Err back) = insertion.Refused
-
-  module _ (old new : HeldTable T) (value : T) (M N : List T) (reply : ListReply T) (stands : Stands new N) where
-    pub inserted : (r : Result (Place × Option T) T) → InsertReplies (entry_at new) r reply → Answers (equal pair_of same_pair pair_hash) M (Insert value) reply N
-        → (qs : List (ℕ × ℕ)) × InsertsPair (map pair_of M) (pair_of value) (insertion_of r) qs × HoldsPairs pair_of new qs
-    inserted (Ok (p, None)) replies h =
-        let told = placed M N value reply (entry_at new p) replies h in
-        (map pair_of N, (has_none M (pair_of value) told.0, rw told.1 (map_push pair_of M value)), (N, stands, refl))
-    inserted (Ok (p, Some back)) replies h =
-        let told = found M N value reply back (entry_at new p) replies h in
-        let among : Contains (map pair_of M) (pair_of told.0) = has_pair M told.0 told.1 in
-        let same : pair_of told.0 ≡ pair_of value = same_equal (pair_of value) (pair_of told.0) told.2 in
-        (map pair_of N, ((rw same at among), rw told.3 refl), (N, stands, refl))
-    inserted (Err back) replies h =
-        let told = refused M N value reply back replies h in
-        (map pair_of N, (has_none M (pair_of value) told.0, rw told.1 refl), (N, stands, refl))
-
-  -- an insert of a value, on every list of pairs
-  pub inserts : (eq : ℕ × ℕ → ℕ × ℕ → Bool → Type 0) (rehash : ℕ × ℕ → ℕ → Type 0) (old new : HeldTable T) (hash : ℕ) (value : T) (r : Result (Place × Option T) T)
-      → PlacesAsList pair_of same_pair pair_hash eq rehash old hash value r new
-      → IsLawfulInsert pair_of same_pair pair_hash eq rehash (IsPairTable pair_of old) (entries old) hash value
-      → (ps : List (ℕ × ℕ)) → HoldsPairs pair_of old ps → (qs : List (ℕ × ℕ)) × InsertsPair ps (pair_of value) (insertion_of r) qs × HoldsPairs pair_of new qs
-  inserts eq rehash old new hash value r as_list lawful ps (M, stands, is) =
-      let told = as_list lawful M stands in
-      rw (← is) (inserted old new value M told.1 told.0 told.4 r told.2 told.3)
-
-  -- the length of a table is that of the list
-  pub held_length : (t : HeldTable T) (ps : List (ℕ × ℕ)) → HoldsPairs pair_of t ps → length (entries t) ≡ length ps
-  held_length t ps (M, stands, is) = sym (length_permutation _ _ stands.permuted) ∙ sym (length-map M pair_of) ∙ ap length is
 
   -- a look-up of a pair, on every list of pairs
   module _ (M : List T) (x : ℕ × ℕ) (reply : ListReply T) where
@@ -105,21 +76,49 @@ module _ {T : Type 0} (pair_of : T → ℕ × ℕ) where
         let same : pair_of e ≡ x = same_equal x (pair_of e) told.0.1 in
         ((rw same at (has_pair M e told.0.0)), ap (λ z. z.1) (shown_is ∙ same))
 
-  pub looks_up : (answers : ℕ × ℕ → Bool → Type 0) (t : HeldTable T) (x : ℕ × ℕ) (hash : ℕ) (shown : Option (ℕ × ℕ))
-      → LooksUpAsList pair_of same_pair pair_hash answers t hash shown
-      → IsLawfulLookup pair_of same_pair pair_hash answers (IsPairTable pair_of t) (entries t) hash (same_pair x)
-      → (ps : List (ℕ × ℕ)) → HoldsPairs pair_of t ps → LooksUpPair ps x (Rattle.std.specs.Prelude.option_map (λ y. y.1) shown)
+module _ {X T P : Type 0} (s : Shows X T P) (pair_of : T → ℕ × ℕ) where
+  module _ (new : X) (value : T) (M N : List T) (reply : ListReply T) (stands : Stands s new N) where
+    pub inserted : (r : Result (P × Option T) T) → InsertReplies (value_of s new) r reply → Answers (equal pair_of same_pair pair_hash) M (Insert value) reply N
+        → (qs : List (ℕ × ℕ)) × InsertsPair (map pair_of M) (pair_of value) (insertion_of pair_of r) qs × HoldsPairs s pair_of new qs
+    inserted (Ok (p, None)) replies h =
+        let told = placed pair_of M N value reply (value_of s new p) replies h in
+        (map pair_of N, (has_none pair_of M (pair_of value) told.0, rw told.1 (map_push pair_of M value)), (N, stands, refl))
+    inserted (Ok (p, Some back)) replies h =
+        let told = found pair_of M N value reply back (value_of s new p) replies h in
+        let among : Contains (map pair_of M) (pair_of told.0) = has_pair pair_of M told.0 told.1 in
+        let same : pair_of told.0 ≡ pair_of value = same_equal (pair_of value) (pair_of told.0) told.2 in
+        (map pair_of N, ((rw same at among), rw told.3 refl), (N, stands, refl))
+    inserted (Err back) replies h =
+        let told = refused pair_of M N value reply back replies h in
+        (map pair_of N, (has_none pair_of M (pair_of value) told.0, rw told.1 refl), (N, stands, refl))
+
+  -- an insert of a value, on every list of pairs
+  pub inserts : (eq : ℕ × ℕ → ℕ × ℕ → Bool → Type 0) (rehash : ℕ × ℕ → ℕ → Type 0) (old new : X) (hash : ℕ) (value : T) (r : Result (P × Option T) T)
+      → PlacesAsList pair_of same_pair pair_hash s eq rehash old hash value r new
+      → IsLawfulInsert pair_of same_pair pair_hash eq rehash (IsPairTable s pair_of old) (entries_of s old) hash value
+      → (ps : List (ℕ × ℕ)) → HoldsPairs s pair_of old ps → (qs : List (ℕ × ℕ)) × InsertsPair ps (pair_of value) (insertion_of pair_of r) qs × HoldsPairs s pair_of new qs
+  inserts eq rehash old new hash value r as_list lawful ps (M, stands, is) =
+      let told = as_list lawful M stands in
+      rw (← is) (inserted new value M told.1 told.0 told.4 r told.2 told.3)
+
+  -- the length of a table is that of the list
+  pub held_length : (t : X) (ps : List (ℕ × ℕ)) → HoldsPairs s pair_of t ps → length (entries_of s t) ≡ length ps
+  held_length t ps (M, stands, is) = sym (length_permutation _ _ stands.permuted) ∙ sym (length-map M pair_of) ∙ ap length is
+
+  pub looks_up : (answers : ℕ × ℕ → Bool → Type 0) (t : X) (x : ℕ × ℕ) (hash : ℕ) (shown : Option (ℕ × ℕ))
+      → LooksUpAsList pair_of same_pair pair_hash s answers t hash shown
+      → IsLawfulLookup pair_of same_pair pair_hash answers (IsPairTable s pair_of t) (entries_of s t) hash (same_pair x)
+      → (ps : List (ℕ × ℕ)) → HoldsPairs s pair_of t ps → LooksUpPair ps x (Rattle.std.specs.Prelude.option_map (λ y. y.1) shown)
   looks_up answers t x hash shown as_list lawful ps (M, stands, is) =
       let told = as_list (same_pair x) lawful M stands in
-      rw (← is) (looked_up M x told.0 shown told.1 told.2)
+      rw (← is) (looked_up pair_of M x told.0 shown told.1 told.2)
 
--- closures that answer as pairs do are lawful
-module _ {T : Type 0} (pair_of : T → ℕ × ℕ) where
-  pub lawful_insert : (eq : ℕ × ℕ → ℕ × ℕ → Bool → Type 0) (rehash : ℕ × ℕ → ℕ → Type 0) (t : HeldTable T) (hash : ℕ) (value : T)
+  -- closures that answer as pairs do are lawful
+  pub lawful_insert : (eq : ℕ × ℕ → ℕ × ℕ → Bool → Type 0) (rehash : ℕ × ℕ → ℕ → Type 0) (t : X) (hash : ℕ) (value : T)
       → ((x y : ℕ × ℕ) (answer : Bool) → eq x y answer → answer ≡ same_pair x y)
       → ((x : ℕ × ℕ) (h : ℕ) → rehash x h → h ≡ pair_hash x)
-      → hash ≡ pair_hash (pair_of value) → IsPairTable pair_of t
-      → IsLawfulInsert pair_of same_pair pair_hash eq rehash (IsPairTable pair_of t) (entries t) hash value
+      → hash ≡ pair_hash (pair_of value) → IsPairTable s pair_of t
+      → IsLawfulInsert pair_of same_pair pair_hash eq rehash (IsPairTable s pair_of t) (entries_of s t) hash value
   lawful_insert eq rehash t hash value asks hashes hash_is lawful = record {
     eq_is = λ e answer among h. asks _ _ answer h;
     rehash_is = λ e h among r. hashes _ h r;
@@ -128,31 +127,27 @@ module _ {T : Type 0} (pair_of : T → ℕ × ℕ) where
     table_is = lawful;
   }
 
-  pub lawful_lookup : (answers : ℕ × ℕ → Bool → Type 0) (t : HeldTable T) (x : ℕ × ℕ) → x.0 < 2 ^ 64
-      → ((y : ℕ × ℕ) (answer : Bool) → answers y answer → answer ≡ same_pair x y) → IsPairTable pair_of t
-      → IsLawfulLookup pair_of same_pair pair_hash answers (IsPairTable pair_of t) (entries t) x.0 (same_pair x)
+  pub lawful_lookup : (answers : ℕ × ℕ → Bool → Type 0) (t : X) (x : ℕ × ℕ) → x.0 < 2 ^ 64
+      → ((y : ℕ × ℕ) (answer : Bool) → answers y answer → answer ≡ same_pair x y) → IsPairTable s pair_of t
+      → IsLawfulLookup pair_of same_pair pair_hash answers (IsPairTable s pair_of t) (entries_of s t) x.0 (same_pair x)
   lawful_lookup answers t x small asks lawful = record {
     test_is = λ e answer among h. asks _ answer h;
     hash_is = λ e among h. let same : pair_of e ≡ x = same_equal x (pair_of e) h in rw same (small_hash x.0 small);
     table_is = lawful;
   }
 
-module _ {T : Type 0} (pair_of : T → ℕ × ℕ) where
-  -- the second parts of the pairs
-  abbrev pub numbers_of : List T → List ℕ
-  numbers_of es = map (λ x. x.1) (map pair_of es)
-
-  -- a walk at its end has gathered the numbers of all
-  pub all_gathered : (gathered : List ℕ) (rest all es : List T) → gathered ++ numbers_of rest ≡ numbers_of all → map pair_of rest ≡ [] → all ≡ es → gathered ≡ numbers_of es
-  all_gathered gathered rest all es kept none is =
-      let whole : gathered ++ [] ≡ numbers_of all = rw none at kept in
-      sym (append-nil gathered) ∙ whole ∙ ap numbers_of is
-
   -- the sorted second parts of the entries' pairs
-  pub lists_numbers : (t : HeldTable T) (gathered ns : List ℕ) → gathered ≡ numbers_of (entries t) → IsPermutation gathered ns → IsSorted nat_cmp ns
-      → (ps : List (ℕ × ℕ)) → HoldsPairs pair_of t ps → ListsNumbers ps ns
+  pub lists_numbers : (t : X) (gathered ns : List ℕ) → gathered ≡ numbers_of pair_of (entries_of s t) → IsPermutation gathered ns → IsSorted nat_cmp ns
+      → (ps : List (ℕ × ℕ)) → HoldsPairs s pair_of t ps → ListsNumbers ps ns
   lists_numbers t gathered ns is sorting sorted ps (M, stands, pairs_are) =
-      let of_pairs : IsPermutation (map pair_of (entries t)) ps = rw pairs_are at (IsPermutation-map pair_of (entries t) M stands.permuted) in
-      let of_numbers : IsPermutation (map (λ x. x.1) (map pair_of (entries t))) (map (λ x. x.1) ps) = IsPermutation-map (λ x. x.1) _ _ of_pairs in
-      let gathered_them : IsPermutation (map (λ x. x.1) (map pair_of (entries t))) ns = rw is at sorting in
+      let of_pairs : IsPermutation (map pair_of (entries_of s t)) ps = rw pairs_are at (IsPermutation-map pair_of (entries_of s t) M stands.permuted) in
+      let of_numbers : IsPermutation (map (λ x. x.1) (map pair_of (entries_of s t))) (map (λ x. x.1) ps) = IsPermutation-map (λ x. x.1) _ _ of_pairs in
+      let gathered_them : IsPermutation (map (λ x. x.1) (map pair_of (entries_of s t))) ns = rw is at sorting in
       record { permuted = IsPermutation-trans _ _ _ (IsPermutation-sym _ _ of_numbers) gathered_them; sorted = sorted }
+
+-- a walk at its end has gathered the numbers of all
+pub all_gathered : {T : Type 0} (pair_of : T → ℕ × ℕ) (gathered : List ℕ) (rest all es : List T) → gathered ++ numbers_of pair_of rest ≡ numbers_of pair_of all → map pair_of rest ≡ [] → all ≡ es
+    → gathered ≡ numbers_of pair_of es
+all_gathered pair_of gathered rest all es kept none is =
+    let whole : gathered ++ [] ≡ numbers_of pair_of all = rw none at kept in
+    sym (append-nil gathered) ∙ whole ∙ ap (numbers_of pair_of) is

@@ -1,7 +1,9 @@
 -- Which words name which command.
 use Rattle.std.specs.Prelude.{◌≡◌, ◌≤◌, ℕ, List, [], ◌∷◌, codes}
 use Rattle.commands.specs.declared.arguments.Command.{Command}
-use Rattle.commands.specs.declared.arguments.Command.TheVariants.{Calls, Core, Stress, Seats}
+use Rattle.commands.specs.declared.arguments.Command.TheVariants.{Calls, Shards, Core, Stress, Seats}
+use Rattle.commands.specs.declared.arguments.ShardCount.{ShardCount}
+use Rattle.commands.specs.declared.arguments.ShardCount.TheVariants.{One, Two, Four, Eight, Sixteen}
 use Rattle.commands.specs.Spelling.{Writes}
 use Rattle.commands.specs.Faults.{IsInputFault, IsThreadFault, IsStressFault}
 use Rattle.commands.specs.declared.faults.Fault.{Fault}
@@ -12,6 +14,19 @@ abbrev pub NamesFirst : List (List ℕ) → ℕ → Type 0
 NamesFirst [] f = f ≡ 16
 NamesFirst (word ∷ []) f = Writes 10 20 word f × IsFirstCapacity f
 NamesFirst (word ∷ more ∷ words) f = ⊥
+
+-- how many shards these are
+abbrev pub number_of : ShardCount → ℕ
+number_of One = 1
+number_of Two = 2
+number_of Four = 4
+number_of Eight = 8
+number_of Sixteen = 16
+
+-- the words after `shards` say over how many shards it runs, and with which first capacity
+abbrev pub NamesShards : List (List ℕ) → ShardCount → ℕ → Type 0
+NamesShards [] n f = ⊥
+NamesShards (word ∷ words) n f = Writes 10 20 word (number_of n) × NamesFirst words f
 
 -- as many threads as the commands with threads take
 abbrev pub IsThreadCount : ℕ → Type 0
@@ -41,10 +56,12 @@ NamesStress (word ∷ words) n jobs = (Writes 10 20 word n × IsThreadCount n) �
 -- no word at all stands for `calls`
 abbrev pub NamesCommand : List (List ℕ) → Command → Type 0
 NamesCommand [] (Calls f) = f ≡ 16
+NamesCommand [] (Shards n f) = ⊥
 NamesCommand [] (Core f) = ⊥
 NamesCommand [] (Stress n jobs) = ⊥
 NamesCommand [] (Seats n) = ⊥
 NamesCommand (name ∷ words) (Calls f) = (name ≡ codes "calls") × NamesFirst words f
+NamesCommand (name ∷ words) (Shards n f) = (name ≡ codes "shards") × NamesShards words n f
 NamesCommand (name ∷ words) (Core f) = (name ≡ codes "core") × NamesFirst words f
 NamesCommand (name ∷ words) (Stress n jobs) = (name ≡ codes "stress") × NamesStress words n jobs
 NamesCommand (name ∷ words) (Seats n) = (name ≡ codes "seats") × NamesThreads words n
@@ -52,6 +69,7 @@ NamesCommand (name ∷ words) (Seats n) = (name ≡ codes "seats") × NamesThrea
 -- a command that can be run
 abbrev pub IsRunnable : Command → Type 0
 IsRunnable (Calls f) = IsFirstCapacity f
+IsRunnable (Shards n f) = IsFirstCapacity f
 IsRunnable (Core f) = IsFirstCapacity f
 IsRunnable (Stress n jobs) = IsThreadCount n × IsJobCount jobs
 IsRunnable (Seats n) = IsThreadCount n
@@ -59,6 +77,7 @@ IsRunnable (Seats n) = IsThreadCount n
 -- what may go wrong with a command: with its lines, or with its threads
 abbrev pub IsFaultOf : Command → Fault → Type 0
 IsFaultOf (Calls f) fault = IsInputFault fault
+IsFaultOf (Shards n f) fault = IsInputFault fault
 IsFaultOf (Core f) fault = IsInputFault fault
 IsFaultOf (Stress n jobs) fault = IsStressFault fault
 IsFaultOf (Seats n) fault = IsThreadFault fault

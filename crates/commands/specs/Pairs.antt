@@ -1,10 +1,14 @@
 -- Tables of pairs, and what a list of pairs is told.
-use Rattle.std.specs.Prelude.{◌≡◌, ℕ, ◌++◌, List, [], ◌∷◌, Option, Some, None, map, Contains}
+use Rattle.std.specs.Prelude.{◌≡◌, ℕ, ◌++◌, List, [], ◌∷◌, Option, Some, None, map, min, Contains}
+use Rattle.std.specs.declared.boxed.Box.{Box}
 use Rattle.std.specs.List.Sorted.{IsPermutation}
 use Rattle.std.specs.Prelude.{IsSorted}
 use Rattle.std.specs.Ordering.{nat_cmp}
-use Rattle.held_table.specs.Table.{HeldTable, Stands, IsLawful}
+use Rattle.held_table.specs.Shown.{Shows, Stands}
+use Rattle.held_table.specs.Table.{HeldTable, held, capacity, all_buckets}
+use Rattle.sharded_tables.specs.Shards.{sharded, capped_sum}
 use Rattle.terms.specs.Laws.{same_pair, pair_hash}
+use Rattle.terms.specs.ListObject.{greatest_length}
 use Rattle.terms.specs.declared.insertion.Insertion.{Insertion}
 use Rattle.terms.specs.declared.insertion.Insertion.TheVariants.{Placed, Found, Refused}
 
@@ -24,18 +28,54 @@ pub record ListsNumbers (ps : List (ℕ × ℕ)) (ns : List ℕ) : Type 0 where
   pub permuted : IsPermutation (map (λ x. x.1) ps) ns
   pub sorted : IsSorted nat_cmp ns
 
-module _ {T : Type 0} (pair_of : T → ℕ × ℕ) (t : HeldTable T) where
+-- the second parts of the pairs of these values
+abbrev pub numbers_of : {T : Type 0} → (T → ℕ × ℕ) → List T → List ℕ
+numbers_of pair_of es = map (λ x. x.1) (map pair_of es)
+
+module _ {X T P : Type 0} (s : Shows X T P) (pair_of : T → ℕ × ℕ) where
   -- the table is lawful for pairs
-  abbrev pub IsPairTable : Type 0
-  IsPairTable = IsLawful pair_of same_pair pair_hash t
+  abbrev pub IsPairTable : X → Type 0
+  IsPairTable t = s.lawful (ℕ × ℕ) pair_of same_pair pair_hash t
 
   -- the table stands for a list of these pairs
-  abbrev pub HoldsPairs : List (ℕ × ℕ) → Type 0
-  HoldsPairs ps = (M : List T) × Stands t M × (map pair_of M ≡ ps)
+  abbrev pub HoldsPairs : X → List (ℕ × ℕ) → Type 0
+  HoldsPairs t ps = (M : List T) × Stands s t M × (map pair_of M ≡ ps)
+
+-- what tables of pairs of type X show to who asks them
+pub record ShowsPairs (X : Type 0) : Type 1 where
+  -- the table holds a list of these pairs
+  pub holds : X → List (ℕ × ℕ) → Type 0
+  -- the first capacity of each raw table
+  pub first : X → List ℕ
+  -- the buckets of the current generations
+  pub capacity : X → ℕ
+  -- the buckets of all generations
+  pub buckets : X → ℕ
+  -- the length that is told of so many entries
+  pub told : ℕ → ℕ
+
+-- a raw table of boxed pairs shows them so
+abbrev pub raw_pairs : {A : Type 0} → ShowsPairs (HeldTable (Box (ℕ × ℕ) A))
+raw_pairs = record {
+  holds = HoldsPairs held (λ b. b.value);
+  first = λ t. t.first_capacity ∷ [];
+  capacity = capacity;
+  buckets = all_buckets;
+  told = λ n. n;
+}
+
+-- shards of boxed pairs show them so: counts are sums, which stop at the greatest usize
+abbrev pub sharded_pairs : {A : Type 0} → ShowsPairs (List (HeldTable (Box (ℕ × ℕ) A)))
+sharded_pairs = record {
+  holds = HoldsPairs sharded (λ b. b.value);
+  first = λ ts. map (λ t. t.first_capacity) ts;
+  capacity = λ ts. capped_sum capacity ts;
+  buckets = λ ts. capped_sum all_buckets ts;
+  told = λ n. min n greatest_length;
+}
 
 -- on each list of pairs that the old table holds, an insert of the pair x ends so, and the new table
 -- holds the list after
-abbrev pub InsertsAsPairs : {T : Type 0} → (T → ℕ × ℕ) → HeldTable T → ℕ × ℕ → Insertion → HeldTable T
-    → Type 0
-InsertsAsPairs pair_of old x how new = (ps : List (ℕ × ℕ)) → HoldsPairs pair_of old ps
-    → (qs : List (ℕ × ℕ)) × InsertsPair ps x how qs × HoldsPairs pair_of new qs
+abbrev pub InsertsAsPairs : {X : Type 0} → ShowsPairs X → X → ℕ × ℕ → Insertion → X → Type 0
+InsertsAsPairs s old x how new = (ps : List (ℕ × ℕ)) → s.holds old ps
+    → (qs : List (ℕ × ℕ)) × InsertsPair ps x how qs × s.holds new qs

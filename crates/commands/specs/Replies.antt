@@ -6,8 +6,7 @@ use Rattle.terms.specs.declared.insertion.Insertion.{Insertion}
 use Rattle.terms.specs.declared.insertion.Insertion.TheVariants as insertion
 use Rattle.commands.specs.declared.spelling.Line.{Line}
 use Rattle.commands.specs.declared.spelling.Line.TheVariants as line
-use Rattle.held_table.specs.Table.{HeldTable, capacity, all_buckets}
-use Rattle.commands.specs.Pairs.{InsertsPair, LooksUpPair, ListsNumbers, HoldsPairs}
+use Rattle.commands.specs.Pairs.{ShowsPairs, InsertsPair, LooksUpPair, ListsNumbers}
 
 -- each number after a comma and a space
 abbrev pub further_numbers : List ℕ → List ℕ
@@ -42,21 +41,21 @@ lookup_text None = codes "none"
 
 -- the table t was asked the line when it held the pairs ps; it is told this text, and then holds
 -- the pairs qs
-abbrev pub AnswersLine : {T : Type 0} → HeldTable T → List (ℕ × ℕ) → Line → List ℕ → List (ℕ × ℕ)
+abbrev pub AnswersLine : {X : Type 0} → ShowsPairs X → X → List (ℕ × ℕ) → Line → List ℕ → List (ℕ × ℕ)
     → Type 0
-AnswersLine t ps (line.Insert hash number) text qs =
+AnswersLine s t ps (line.Insert hash number) text qs =
     (how : Insertion) × InsertsPair ps (hash, number) how qs × (text ≡ insertion_text how)
-AnswersLine t ps (line.Lookup hash number) text qs =
+AnswersLine s t ps (line.Lookup hash number) text qs =
     (found : Option ℕ) × LooksUpPair ps (hash, number) found × (text ≡ lookup_text found)
     × (qs ≡ ps)
-AnswersLine t ps line.Length text qs = (text ≡ decimal (length ps)) × (qs ≡ ps)
-AnswersLine t ps line.Walk text qs =
+AnswersLine s t ps line.Length text qs = (text ≡ decimal (s.told (length ps))) × (qs ≡ ps)
+AnswersLine s t ps line.Walk text qs =
     (ns : List ℕ) × ListsNumbers ps ns × (text ≡ number_list ns) × (qs ≡ ps)
-AnswersLine t ps line.Capacity text qs = (text ≡ decimal (capacity t)) × (qs ≡ ps)
-AnswersLine t ps line.Buckets text qs = (text ≡ decimal (all_buckets t)) × (qs ≡ ps)
+AnswersLine s t ps line.Capacity text qs = (text ≡ decimal (s.capacity t)) × (qs ≡ ps)
+AnswersLine s t ps line.Buckets text qs = (text ≡ decimal (s.buckets t)) × (qs ≡ ps)
 
 -- on each list of pairs that the old table holds, the line is told this text, and the new table
 -- holds the list after
-abbrev pub AnswersAsPairs : {T : Type 0} → (T → ℕ × ℕ) → HeldTable T → Line → List ℕ → HeldTable T → Type 0
-AnswersAsPairs pair_of old line text new = (ps : List (ℕ × ℕ)) → HoldsPairs pair_of old ps
-    → (qs : List (ℕ × ℕ)) × AnswersLine new ps line text qs × HoldsPairs pair_of new qs
+abbrev pub AnswersAsPairs : {X : Type 0} → ShowsPairs X → X → Line → List ℕ → X → Type 0
+AnswersAsPairs s old line text new = (ps : List (ℕ × ℕ)) → s.holds old ps
+    → (qs : List (ℕ × ℕ)) × AnswersLine s new ps line text qs × s.holds new qs

@@ -1,10 +1,11 @@
 //! The command that the program's words name.
 ghost use Rattle.std.specs.Prelude.{map, IfSome, IfNone, ℕ};
 ghost use Rattle.commands.specs.Spelling.{Writes};
-ghost use Rattle.commands.specs.Arguments.{NamesFirst, NamesStress, NamesJobs, NamesThreads, NamesCommand};
-ghost use Rattle.commands.specs.Arguments.{IsRunnable, IsThreadCount, IsJobCount};
+ghost use Rattle.commands.specs.Arguments.{NamesFirst, NamesShards, NamesStress, NamesJobs, NamesThreads, NamesCommand};
+ghost use Rattle.commands.specs.Arguments.{IsRunnable, IsThreadCount, IsJobCount, number_of};
 ghost use Rattle.terms.specs.Capacities.{IsFirstCapacity};
 ghost use Rattle.commands.specs.declared.arguments.Command.{Command as CommandOf};
+ghost use Rattle.commands.specs.declared.arguments.ShardCount.{ShardCount as ShardCountOf};
 
 use crate::spelling::parse_decimal;
 use lock_free_hashtable::raw::FIRST_CAPACITY;
@@ -16,12 +17,24 @@ use terms::capacity::is_first_capacity;
 pub enum Command {
     /// Calls on a table held alone, whose first generation has so many buckets.
     Calls { first: usize },
+    /// The same calls on a table over so many shards, whose first generations have so many buckets.
+    Shards { shards: ShardCount, first: usize },
     /// A schedule of the machine, whose first generation has so many buckets.
     Core { first: usize },
     /// So many jobs of each kind, each by so many threads that share a table.
     Stress { threads: usize, jobs: u64 },
     /// So many threads that share a table of numbers.
     Seats { threads: usize },
+}
+
+/// Over how many shards a table is.
+#[derive(Clone, Copy, Debug, PartialEq, Eq)]
+pub enum ShardCount {
+    One,
+    Two,
+    Four,
+    Eight,
+    Sixteen,
 }
 
 /// Reads the words after the program's name. `None` is for words that name no command.
@@ -38,6 +51,10 @@ pub fn parse_command<S: AsStr>(words: &[S]) -> Option<Command>
             b"calls" => {
                 let first = parse_first(rest)?;
                 Some(Command::Calls { first })
+            }
+            b"shards" => {
+                let (shards, first) = parse_shards(rest)?;
+                Some(Command::Shards { shards, first })
             }
             b"core" => {
                 let first = parse_first(rest)?;
@@ -72,6 +89,37 @@ fn parse_first<S: AsStr>(words: &[S]) -> Option<usize>
                 None
             }
         }
+        _ => None,
+    }
+}
+
+/// Reads the words after `shards`: a number of shards, and then a first capacity, or none for 16.
+fn parse_shards<S: AsStr>(words: &[S]) -> Option<(ShardCount, usize)>
+    ensures named { IfSome result (λ named. NamesShards (map S.text words.now) named.0 named.1) }
+    ensures first { IfSome result (λ named. IsFirstCapacity named.1) }
+    ensures wrong { IfNone result ((shards : ShardCountOf) (first : ℕ) → ¬ NamesShards (map S.text words.now) shards first) }
+{
+    match words {
+        [] => None,
+        [word, rest @ ..] => {
+            let shards = parse_shard_count(word.as_str().as_bytes())?;
+            let first = parse_first(rest)?;
+            Some((shards, first))
+        }
+    }
+}
+
+/// Reads a number of shards.
+fn parse_shard_count(text: &[u8]) -> Option<ShardCount>
+    ensures written { IfSome result (λ shards. Writes 10 20 text.now (number_of shards)) }
+    ensures wrong { IfNone result ((shards : ShardCountOf) → ¬ Writes 10 20 text.now (number_of shards)) }
+{
+    match parse_decimal(text)? {
+        1 => Some(ShardCount::One),
+        2 => Some(ShardCount::Two),
+        4 => Some(ShardCount::Four),
+        8 => Some(ShardCount::Eight),
+        16 => Some(ShardCount::Sixteen),
         _ => None,
     }
 }

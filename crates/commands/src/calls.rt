@@ -1,15 +1,15 @@
 //! The command `calls`: lines that are asked of a table held alone.
-ghost use Rattle.std.specs.Prelude.{◌≡◌, ◌++◌, OnOk, OnErr, IfErr, codes};
+ghost use Rattle.std.specs.Prelude.{◌≡◌, ◌++◌, ℕ, List, OnOk, OnErr, IfErr, codes};
 ghost use Rattle.std.specs.Io.KnownBytes.{Appends};
 ghost use Rattle.terms.specs.Capacities.{IsFirstCapacity};
-ghost use Rattle.commands.specs.Faults.{IsInputFault};
-ghost use Rattle.commands.specs.Replies.{reply_text};
+ghost use Rattle.commands.specs.Faults.{IsInputFault, IsLineFault};
+ghost use Rattle.commands.specs.Replies.{AnswersAsPairs, reply_text};
 
 use crate::faults::Fault;
 use crate::line_command::{LineCommand, take_lines};
 use crate::lines::Lines;
 use crate::output::Output;
-use crate::pairs::PairTable;
+use crate::pairs::{PairCalls, PairTable};
 use crate::replies::Reply;
 use crate::spelling::{Line, parse_line};
 use std::alloc::Allocator;
@@ -32,6 +32,7 @@ pub fn run_calls<A: Allocator + Copy, I: Read, O: Write>(
 impl<A: Allocator + Copy> LineCommand for PairTable<A> {
     ghost use Rattle.std.specs.Prelude.{ℕ, List, IfSome, IfNone};
     ghost use Rattle.commands.specs.Faults.{IsLineFault};
+    ghost use Rattle.commands.specs.Pairs.{raw_pairs};
     ghost use Rattle.commands.specs.Replies.{AnswersAsPairs};
     ghost use Rattle.commands.specs.Spelling.{SpellsLine};
     ghost use Rattle.commands.specs.declared.spelling.Line.{Line as LineOf};
@@ -49,26 +50,40 @@ impl<A: Allocator + Copy> LineCommand for PairTable<A> {
     fn take<W: Write>(&mut self, line: Line, output: &mut W) -> Result<(), Fault>
         ensures fault { IfErr result IsLineFault }
         ensures first { self.new.first_capacity ≡ self.old.first_capacity }
-        ensures answered { OnOk result ((text : List ℕ) × AnswersAsPairs (λ b. b.value) self.old line text self.new
+        ensures answered { OnOk result ((text : List ℕ) × AnswersAsPairs raw_pairs self.old line text self.new
             × Appends (W.contents output.old) (W.contents output.new) (text ++ codes "\n")) }
     {
-        match line {
-            Line::Insert { hash, number } => {
-                let how = self.insert(hash, number);
-                reply_with(output, Reply::of_insertion(how))
-            }
-            Line::Lookup { hash, number } => {
-                let found = self.lookup(hash, number);
-                reply_with(output, Reply::of_lookup(found))
-            }
-            Line::Length => reply_with(output, Reply::Count(self.length())),
-            Line::Capacity => reply_with(output, Reply::Count(self.capacity())),
-            Line::Buckets => reply_with(output, Reply::Count(self.buckets())),
-            Line::Walk => match self.numbers() {
-                Ok(numbers) => reply_with(output, Reply::Numbers(numbers.as_slice())),
-                Err(_) => Err(Fault::NoMemory),
-            },
+        answer_line::<A, PairTable<A>, W>(self, line, output)
+    }
+}
+
+/// Asks a table of pairs the line, and writes its reply. The text is that of the list of pairs which the table holds.
+pub fn answer_line<A: Allocator + Copy, B: PairCalls<A>, W: Write>(
+    table: &mut B,
+    line: Line,
+    output: &mut W,
+) -> Result<(), Fault>
+    ensures fault { IfErr result IsLineFault }
+    ensures first { B.shows.first table.new ≡ B.shows.first table.old }
+    ensures answered { OnOk result ((text : List ℕ) × AnswersAsPairs B.shows table.old line text table.new
+        × Appends (W.contents output.old) (W.contents output.new) (text ++ codes "\n")) }
+{
+    match line {
+        Line::Insert { hash, number } => {
+            let how = table.insert(hash, number);
+            reply_with(output, Reply::of_insertion(how))
         }
+        Line::Lookup { hash, number } => {
+            let found = table.lookup(hash, number);
+            reply_with(output, Reply::of_lookup(found))
+        }
+        Line::Length => reply_with(output, Reply::Count(table.length())),
+        Line::Capacity => reply_with(output, Reply::Count(table.capacity())),
+        Line::Buckets => reply_with(output, Reply::Count(table.buckets())),
+        Line::Walk => match table.numbers() {
+            Ok(numbers) => reply_with(output, Reply::Numbers(numbers.as_slice())),
+            Err(_) => Err(Fault::NoMemory),
+        },
     }
 }
 

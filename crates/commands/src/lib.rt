@@ -20,6 +20,8 @@ pub mod program;
 pub mod replies;
 pub mod schedules;
 pub mod seats;
+pub mod sharded_pairs;
+pub mod shards;
 pub mod spelling;
 pub mod stress;
 pub mod workers;

@@ -1,8 +1,9 @@
-//! A table of pairs, held alone: two pairs are equal if both parts are, and the hash of a pair is its first part.
-ghost use Rattle.std.specs.Prelude.{◌≡◌, ◌+◌, ◌*◌, ◌<◌, [], List, length, IfOk};
+//! Tables of pairs, held alone: two pairs are equal if both parts are, and the hash of a pair is its first part.
+ghost use Rattle.std.specs.Prelude.{◌≡◌, ◌+◌, ◌*◌, ◌<◌, ℕ, [], List, length, IfOk};
 ghost use Rattle.held_table.specs.Capacity.{IsDoubled};
-ghost use Rattle.held_table.specs.Table.{capacity, all_buckets};
+ghost use Rattle.held_table.specs.Table.{held, capacity, all_buckets};
 ghost use Rattle.terms.specs.Capacities.{IsFirstCapacity};
+ghost use Rattle.commands.specs.Pairs.{HoldsPairs, InsertsAsPairs, LooksUpPair, ListsNumbers};
 
 use lock_free_hashtable::raw::HeldRawTable;
 use std::alloc::{AllocError, Allocator};
@@ -10,7 +11,39 @@ use std::marker::Model;
 use terms::insertion::Insertion;
 use terms::law::PairLaw;
 
-/// A table of pairs that one owner holds alone.
+/// What the program asks of a table of pairs that one owner holds alone, raw or over shards.
+pub trait PairCalls<A: Allocator + Copy> {
+    ghost use Rattle.commands.specs.Pairs.{ShowsPairs};
+
+    ghost shows: { ShowsPairs Self };
+
+    /// Inserts the pair, unless it is an entry. It is refused only where it is none.
+    fn insert(&mut self, hash: u64, number: u64) -> Insertion
+        ensures first { shows.first self.new ≡ shows.first self.old }
+        ensures inserts { InsertsAsPairs shows self.old (hash, number) result self.new };
+
+    /// The second part of the entry that is equal to the pair.
+    fn lookup(&self, hash: u64, number: u64) -> Option<u64>
+        ensures { (ps : List (ℕ × ℕ)) → shows.holds self.now ps → LooksUpPair ps (hash, number) result };
+
+    /// The number of entries, or the greatest that can be told.
+    fn length(&self) -> usize
+        ensures { (ps : List (ℕ × ℕ)) → shows.holds self.now ps → result ≡ shows.told (length ps) };
+
+    /// The buckets of the current generations.
+    fn capacity(&self) -> usize
+        ensures current { result ≡ shows.capacity self.now };
+
+    /// The buckets of all generations.
+    fn buckets(&self) -> usize
+        ensures all { result ≡ shows.buckets self.now };
+
+    /// The second parts of all entries, in ascending order.
+    fn numbers(&self) -> Result<Vec<u64, A>, AllocError>
+        ensures { IfOk result (λ numbers. (ps : List (ℕ × ℕ)) → shows.holds self.now ps → ListsNumbers ps numbers.items) };
+}
+
+/// A raw table of pairs that one owner holds alone.
 #[derive(Drop)]
 pub struct PairTable<A: Allocator + Copy> {
     table: HeldRawTable<Box<(u64, u64), A>, A>,
@@ -20,24 +53,21 @@ pub struct PairTable<A: Allocator + Copy> {
 impl<A: Allocator + Copy> Model for PairTable<A> {
     ghost use Rattle.std.specs.Prelude.{ℕ};
     ghost use Rattle.std.specs.declared.boxed.Box.{Box};
-    ghost use Rattle.held_table.specs.Table.{HeldTable};
+    ghost use Rattle.held_table.specs.Table.{HeldTable, held};
     ghost use Rattle.commands.specs.Pairs.{IsPairTable};
 
     ghost Value = { HeldTable (Box (ℕ × ℕ) A) };
 
     ghost view = { λ t. t.table };
 
-    ghost invariant = { λ t. IsPairTable (λ b. b.value) t.table };
+    ghost invariant = { λ t. IsPairTable held (λ b. b.value) t.table };
 }
 
 impl<A: Allocator + Copy> PairTable<A> {
-    ghost use Rattle.std.specs.Prelude.{ℕ};
-    ghost use Rattle.commands.specs.Pairs.{HoldsPairs, InsertsAsPairs, LooksUpPair, ListsNumbers};
-
     /// The empty table, whose first generation will have `first` buckets. It takes no memory.
     pub fn new(alloc: A, first: usize) -> Self
         requires { IsFirstCapacity first }
-        ensures empty { HoldsPairs (λ b. b.value) result [] }
+        ensures empty { HoldsPairs held (λ b. b.value) result [] }
         ensures first { result.first_capacity ≡ first }
     {
         PairTable {
@@ -45,12 +75,14 @@ impl<A: Allocator + Copy> PairTable<A> {
             alloc,
         }
     }
+}
 
-    /// Inserts the pair, unless it is an entry. It is refused only where it is none.
-    pub fn insert(&mut self, hash: u64, number: u64) -> Insertion
-        ensures first { self.new.first_capacity ≡ self.old.first_capacity }
-        ensures inserts { InsertsAsPairs (λ b. b.value) self.old (hash, number) result self.new }
-    {
+impl<A: Allocator + Copy> PairCalls<A> for PairTable<A> {
+    ghost use Rattle.commands.specs.Pairs.{raw_pairs};
+
+    ghost shows = { raw_pairs };
+
+    fn insert(&mut self, hash: u64, number: u64) -> Insertion {
         let Ok(pair) = Box::new(self.alloc, (hash, number)) else {
             return match self.lookup(hash, number) {
                 Some(_) => Insertion::Found,
@@ -69,10 +101,7 @@ impl<A: Allocator + Copy> PairTable<A> {
         }
     }
 
-    /// The second part of the entry that is equal to the pair.
-    pub fn lookup(&self, hash: u64, number: u64) -> Option<u64>
-        ensures { (ps : List (ℕ × ℕ)) → HoldsPairs (λ b. b.value) self.now ps → LooksUpPair ps (hash, number) result }
-    {
+    fn lookup(&self, hash: u64, number: u64) -> Option<u64> {
         let entry = self
             .table
             .lookup_alone::<PairLaw, _>(hash, |entry: &(u64, u64)| {
@@ -81,33 +110,25 @@ impl<A: Allocator + Copy> PairTable<A> {
         Some(entry.1)
     }
 
-    /// The number of entries.
-    pub fn length(&self) -> usize
-        ensures { (ps : List (ℕ × ℕ)) → HoldsPairs (λ b. b.value) self.now ps → result ≡ length ps }
-    {
+    fn length(&self) -> usize {
         self.table.len_alone()
     }
 
-    /// The buckets of the current generation.
-    pub fn capacity(&self) -> usize
+    fn capacity(&self) -> usize
         ensures current { result ≡ capacity self.now }
         ensures doubled { IsDoubled self.now.first_capacity result }
     {
         self.table.capacity_alone()
     }
 
-    /// The buckets of all generations.
-    pub fn buckets(&self) -> usize
+    fn buckets(&self) -> usize
         ensures all { result ≡ all_buckets self.now }
         ensures twice_the_capacity { 0 < capacity self.now → result + self.now.first_capacity ≡ 2 * capacity self.now }
     {
         self.table.buckets_alone()
     }
 
-    /// The second parts of all entries, in ascending order.
-    pub fn numbers(&self) -> Result<Vec<u64, A>, AllocError>
-        ensures { IfOk result (λ numbers. (ps : List (ℕ × ℕ)) → HoldsPairs (λ b. b.value) self.now ps → ListsNumbers ps numbers.items) }
-    {
+    fn numbers(&self) -> Result<Vec<u64, A>, AllocError> {
         let mut numbers = Vec::with_capacity(self.alloc, self.table.len_alone())?;
         let mut walk = self.table.iter_alone();
         while let Some(entry) = walk.next() {

@@ -15,6 +15,7 @@ use crate::lines::Lines;
 use crate::output::Output;
 use crate::schedules::run_core;
 use crate::seats::{WORKER_STACK, run_seats};
+use crate::shards::run_shards;
 use crate::stress::run_stress;
 use lock_free_hashtable::raw::Low;
 use std::convert::AsStr;
@@ -110,6 +111,9 @@ fn run_command<R: Threads + Wait + Sync, A: Low + Copy + Send + Sync, I: Read + 
     let mut output = Output::new(output);
     let ended = match command {
         Command::Calls { first } => run_calls(alloc, first, &mut lines, &mut output),
+        Command::Shards { shards, first } => {
+            run_shards(&alloc, shards, first, &mut lines, &mut output)
+        }
         Command::Core { first } => run_core(alloc, first, &mut lines, &mut output),
         Command::Stress { threads, jobs } => {
             let crew = Crew::new(threads, WORKER_STACK);

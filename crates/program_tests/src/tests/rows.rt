@@ -8,7 +8,7 @@ use std::thread::Threads;
 /// Words and an input, and what they print.
 type Row = (&'static [&'static str], &'static str, &'static str);
 
-const ROWS: [Row; 13] = [
+const ROWS: [Row; 20] = [
     (&[], "", ""),
     (&["calls"], "", ""),
     (&[], "l 0 1\nn\nw\nc\nb\n", "none\n0\n[]\n0\n0\n"),
@@ -40,6 +40,41 @@ const ROWS: [Row; 13] = [
         "placed\n16\n",
     ),
     (&["calls", "1073741824"], "c\nb\n", "0\n0\n"),
+    (
+        &["shards", "2"],
+        "i 0 1\ni 0x8000000000000000 1\nl 0x8000000000000000 1\nn\nw\nc\nb\n",
+        "placed\nplaced\nsome 1\n2\n[1, 1]\n32\n32\n",
+    ),
+    (
+        &["shards", "1"],
+        "i 0 1\ni 0x8000000000000000 1\nl 0x8000000000000000 1\nn\nw\nc\nb\n",
+        "placed\nplaced\nsome 1\n2\n[1, 1]\n16\n16\n",
+    ),
+    (&["shards", "1"], "l 0 1\nn\nw\nc\nb\n", "none\n0\n[]\n0\n0\n"),
+    // The highest and the lowest quarter of the hashes: one shard each.
+    (
+        &["shards", "4", "32"],
+        "i 0xFFFFFFFFFFFFFFFF 2\ni 0 1\ni 0x3FFFFFFFFFFFFFFF 1\ni 0 1\nl 0 2\nn\nw\nc\nb\n",
+        "placed\nplaced\nplaced\nfound\nnone\n3\n[1, 1, 2]\n64\n64\n",
+    ),
+    // Shards 0, 1, 7 and 7 again.
+    (
+        &["shards", "8"],
+        "i 0 1\ni 0x2000000000000000 1\ni 0xE000000000000000 1\ni 0xFFFFFFFFFFFFFFFF 1\nc\nb\nn\n",
+        "placed\nplaced\nplaced\nplaced\n48\n48\n4\n",
+    ),
+    // Shards 0, 1 and 15.
+    (
+        &["shards", "16"],
+        "i 0 1\ni 0x1000000000000000 1\ni 0xF000000000000000 1\nc\nb\nn\n",
+        "placed\nplaced\nplaced\n48\n48\n3\n",
+    ),
+    // Eight entries fill half of a shard, which then grows; the other one stays.
+    (
+        &["shards", "2"],
+        "i 0x8000000000000000 9\ni 0 1\ni 0 2\ni 0 3\ni 0 4\ni 0 5\ni 0 6\ni 0 7\nc\ni 0 8\nc\nb\nn\nw\n",
+        "placed\nplaced\nplaced\nplaced\nplaced\nplaced\nplaced\nplaced\n32\nplaced\n48\n64\n9\n[1, 2, 3, 4, 5, 6, 7, 8, 9]\n",
+    ),
     (&["seats", "4"], "i 0 1\n", "placed 1024\nfull 4\n"),
     (
         &["stress", "4", "1"],
@@ -60,7 +95,7 @@ const USAGE: &str =
     "usage: tablerun calls [F] | shards N [F] | core [F] | stress THREADS JOBS | seats THREADS\n";
 
 /// Words that name no command.
-const WRONG: [&[&str]; 29] = [
+const WRONG: [&[&str]; 37] = [
     &["calls", "24"],
     &["calls", "8"],
     &["calls", "2147483648"],
@@ -89,7 +124,15 @@ const WRONG: [&[&str]; 29] = [
     &["stress", "4", "0"],
     &["stress", "4", "1001"],
     &["stress", "4", "1", "1"],
-    &["shards", "2"],
+    &["shards"],
+    &["shards", "3"],
+    &["shards", "0"],
+    &["shards", "32"],
+    &["shards", "0x2"],
+    &["shards", ""],
+    &["shards", "2", "24"],
+    &["shards", "2", "16", "16"],
+    &["shards", "18446744073709551618"],
 ];
 
 #[test]

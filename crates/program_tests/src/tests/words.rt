@@ -52,11 +52,13 @@ type Row = (&'static [&'static [u8]], &'static str, &'static str, u8);
 const USAGE: &str =
     "usage: tablerun calls [F] | shards N [F] | core [F] | stress THREADS JOBS | seats THREADS\n";
 
-const ROWS: [Row; 9] = [
+const ROWS: [Row; 11] = [
     (&[b"tablerun"], "placed\n16\n", "", 0),
     (&[], "placed\n16\n", "", 0),
     (&[b"tablerun", b"calls"], "placed\n16\n", "", 0),
     (&[b"tablerun", b"calls", b"32"], "placed\n32\n", "", 0),
+    (&[b"tablerun", b"shards", b"8"], "placed\n16\n", "", 0),
+    (&[b"tablerun", b"shards", b"3"], "", USAGE, 2),
     (&[b"tablerun", b"core"], "", "bad line 1\n", 2),
     (
         &[b"tablerun", b"seats", b"2"],

@@ -1,5 +1,5 @@
 use Rattle.std.proofs.Common.{rules}
-use Rattle.commands.proofs.pairs.PairTable.buckets.Goals as goal
+use Rattle.commands.proofs.pairs.PairTablePairCalls.buckets.Goals as goal
 
 pub returns-clause-all : goal.returns-clause-all
 returns-clause-all g c = search rules

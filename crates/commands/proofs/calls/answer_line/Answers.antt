@@ -2,7 +2,7 @@ use Rattle.std.proofs.Common.{refl, ap}
 use Rattle.std.specs.Prelude.{decimal}
 use Rattle.commands.specs.Replies.{insertion_text, lookup_text, number_list}
 use Rattle.commands.proofs.Replied.{on_ok}
-use Rattle.commands.proofs.calls.PairTableLineCommand.take.Goals as goal
+use Rattle.commands.proofs.calls.answer_line.Goals as goal
 
 pub returns-in-Insert-clause-answered : goal.returns-in-Insert-clause-answered
 returns-in-Insert-clause-answered g c = rw c.in-Insert.is (on_ok c.reply_with.result _ _ (λ wrote.

@@ -1,6 +1,6 @@
 use Rattle.std.proofs.Common.{◌≡◌, ◌++◌, length}
-use Rattle.commands.proofs.PairTables.{numbers_of}
-use Rattle.commands.proofs.pairs.PairTable.numbers.Given as goal
+use Rattle.commands.specs.Pairs.{numbers_of}
+use Rattle.commands.proofs.sharded_pairs.ShardedPairsPairCalls.numbers.Given as goal
 
 abbrev pub invariant-loop-entry : goal.invariant-loop-entry
 invariant-loop-entry g l = l.numbers.items ++ numbers_of (λ b. b.value) l.walk ≡ numbers_of (λ b. b.value) l.initial.walk

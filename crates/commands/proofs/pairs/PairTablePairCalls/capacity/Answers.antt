@@ -1,5 +1,5 @@
 use Rattle.std.proofs.Common.{rules}
-use Rattle.commands.proofs.pairs.PairTable.capacity.Goals as goal
+use Rattle.commands.proofs.pairs.PairTablePairCalls.capacity.Goals as goal
 
 pub returns-clause-current : goal.returns-clause-current
 returns-clause-current g c = search rules
