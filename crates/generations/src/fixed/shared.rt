@@ -1,5 +1,5 @@
 //! A generation whose buckets threads set through `&`.
-ghost use Rattle.std.specs.Prelude.{◌≡◌, ◌*◌, ◌<◌, length, option_copied, option_map, slice_index_or, IfSome, IfNone, IfOk, IfErr, None, Some};
+ghost use Rattle.std.specs.Prelude.{◌≡◌, ◌*◌, ◌<◌, length, option_copied, option_map, slice_index_or, IfSome, IfNone, ◌⊎◌, ◌^◌, ◌≤◌, IfOk, IfErr, None, Some};
 ghost use Rattle.std.specs.Int.{IsPowerOfTwo};
 ghost use Rattle.cell.specs.Contents.{bucket, named, shown, vacant, entry_from, Keeps, Misses};
 ghost use Rattle.generations.specs.Buckets.{content_at};
@@ -64,6 +64,7 @@ impl<T: AtomicValue, A: Allocator + Copy> Generation<T, A> {
     pub fn doubled(&self) -> Option<usize>
         ensures power { IfSome result (λ c. IsPowerOfTwo c) }
         ensures twice { IfSome result (λ c. c ≡ 2 * length self.now.contents) }
+        ensures none { IfNone result ((length self.now.contents ≡ 0) ⊎ (2 ^ 63 ≤ length self.now.contents)) }
     {
         let capacity = self.row.len();
         if capacity == 0 {
