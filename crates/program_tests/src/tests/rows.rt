@@ -50,7 +50,11 @@ const ROWS: [Row; 20] = [
         "i 0 1\ni 0x8000000000000000 1\nl 0x8000000000000000 1\nn\nw\nc\nb\n",
         "placed\nplaced\nsome 1\n2\n[1, 1]\n16\n16\n",
     ),
-    (&["shards", "1"], "l 0 1\nn\nw\nc\nb\n", "none\n0\n[]\n0\n0\n"),
+    (
+        &["shards", "1"],
+        "l 0 1\nn\nw\nc\nb\n",
+        "none\n0\n[]\n0\n0\n",
+    ),
     // The highest and the lowest quarter of the hashes: one shard each.
     (
         &["shards", "4", "32"],
