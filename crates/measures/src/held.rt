@@ -1,10 +1,9 @@
 //! Measurements of the table held alone.
 ghost use Rattle.std.specs.Prelude.{◌≤◌, ◌^◌};
 
-use crate::numbers::{COUNT, NumberSet, spread, turn};
+use crate::numbers::{COUNT, KeySet, NumberSet, spread, turn};
 use crate::report::{Report, refuse_words};
 use crate::sizes::measure_size;
-use std::alloc::Allocator;
 use std::num::nearest_u64_to_f64;
 use std::rt::{Clock, Files};
 use std::time::Instant;
@@ -20,7 +19,7 @@ pub fn measure_held<R: Print + Eprint + Clock + Files + AllocGlobal>(
     group: &str,
 ) -> io::Result<()> {
     match group {
-        "one" => measure_one(rt, report),
+        "one" => measure_one(rt, report, NumberSet::new(rt.alloc())),
         "seq" => measure_seq(rt, report),
         "1e4" => measure_size(rt, report, 10_000, 100, ["ins_1e4", "hit_1e4", "miss_1e4"]),
         "1e5" => measure_size(rt, report, 100_000, 10, ["ins_1e5", "hit_1e5", "miss_1e5"]),
@@ -35,13 +34,13 @@ pub fn measure_held<R: Print + Eprint + Clock + Files + AllocGlobal>(
     }
 }
 
-/// Spread keys: inserts, resident bytes, hits and misses.
-fn measure_one<R: Print + Clock + Files + AllocGlobal>(
+/// Spread keys in an empty set: inserts, resident bytes, hits and misses.
+pub(crate) fn measure_one<R: Print + Clock + Files + AllocGlobal, S: KeySet + Drop>(
     rt: &R,
     report: &Report<'_>,
+    mut set: S,
 ) -> io::Result<()> {
     let before = resident_bytes(rt)?;
-    let mut set = NumberSet::new(rt.alloc());
 
     let start = Instant::now(rt)?;
     let placed = insert_spread(&mut set);
@@ -89,7 +88,7 @@ pub fn check_held<R: Print + AllocGlobal>(rt: &R) -> io::Result<()> {
 }
 
 /// How many of the spread keys were placed.
-fn insert_spread<A: Allocator + Copy>(set: &mut NumberSet<A>) -> u64
+pub(crate) fn insert_spread<S: KeySet>(set: &mut S) -> u64
     ensures { result ≤ COUNT }
 {
     let mut placed = 0;
@@ -102,7 +101,7 @@ fn insert_spread<A: Allocator + Copy>(set: &mut NumberSet<A>) -> u64
 }
 
 /// How many of the keys 0, 1, 2, .. were placed.
-fn insert_in_order<A: Allocator + Copy>(set: &mut NumberSet<A>) -> u64
+fn insert_in_order<S: KeySet>(set: &mut S) -> u64
     ensures { result ≤ COUNT }
 {
     let mut placed = 0;
@@ -115,7 +114,7 @@ fn insert_in_order<A: Allocator + Copy>(set: &mut NumberSet<A>) -> u64
 }
 
 /// How many of the spread keys, taken in another order and so much further on, are entries.
-fn count_spread<A: Allocator + Copy>(set: &NumberSet<A>, further: u64) -> u64
+pub(crate) fn count_spread<S: KeySet>(set: &S, further: u64) -> u64
     requires { further ≤ 2 ^ 40 }
     ensures { result ≤ COUNT }
 {
@@ -129,7 +128,7 @@ fn count_spread<A: Allocator + Copy>(set: &NumberSet<A>, further: u64) -> u64
 }
 
 /// How many of the keys 0, 1, 2, .., taken in another order, are entries.
-fn count_in_order<A: Allocator + Copy>(set: &NumberSet<A>) -> u64
+fn count_in_order<S: KeySet>(set: &S) -> u64
     ensures { result ≤ COUNT }
 {
     let mut found = 0;

@@ -6,6 +6,7 @@ mod numbers;
 pub mod report;
 pub mod schedules;
 pub mod seats;
+pub mod sharded;
 pub mod shared;
 mod sizes;
 pub mod texts;

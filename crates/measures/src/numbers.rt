@@ -37,6 +37,15 @@ pub fn total(counts: &[u64]) -> u64 {
     counts.iter().fold(0, |sum, &count| sum.wrapping_add(count))
 }
 
+/// A set of numbers that one owner holds alone.
+pub trait KeySet {
+    /// Whether the number was placed: it is new, and memory was there.
+    fn insert(&mut self, number: u64) -> bool;
+
+    /// Whether the number is an entry.
+    fn contains(&self, number: u64) -> bool;
+}
+
 /// A set of boxed numbers.
 #[derive(Drop)]
 pub struct NumberSet<A: Allocator + Copy> {
@@ -52,9 +61,10 @@ impl<A: Allocator + Copy> NumberSet<A> {
             alloc,
         }
     }
+}
 
-    /// Whether the number was placed: it is new, and memory was there.
-    pub fn insert(&mut self, number: u64) -> bool {
+impl<A: Allocator + Copy> KeySet for NumberSet<A> {
+    fn insert(&mut self, number: u64) -> bool {
         let Ok(value) = Box::new(self.alloc, number) else {
             return false;
         };
@@ -69,8 +79,7 @@ impl<A: Allocator + Copy> NumberSet<A> {
         )
     }
 
-    /// Whether the number is an entry.
-    pub fn contains(&self, number: u64) -> bool {
+    fn contains(&self, number: u64) -> bool {
         self.table
             .lookup_alone::<NumberLaw, _>(hash_number(number), |entry: &u64| *entry == number)
             .is_some()

@@ -23,17 +23,29 @@ const SAME: u64 = 10_000;
 const ABSENT: u64 = 1 << 40;
 
 /// The most threads that are measured.
-const MOST: u64 = 4;
+pub(crate) const MOST: u64 = 4;
 
 /// What several threads do at once.
 #[derive(Clone, Copy)]
-enum Work {
+pub(crate) enum Work {
     /// Each inserts the same keys, again and again.
     Same,
     /// Each inserts a part of the keys.
     Inserts,
     /// Each looks all keys up.
     Hits,
+}
+
+/// A set of numbers that threads share.
+pub(crate) trait SharedKeys {
+    /// The empty set.
+    fn empty(alloc: Global) -> Self;
+
+    /// Whether the number was placed: it is new, and memory was there.
+    fn insert<R: Wait>(&self, rt: &R, number: u64) -> bool;
+
+    /// Whether the number is an entry.
+    fn contains(&self, number: u64) -> bool;
 }
 
 /// A set of boxed numbers that threads share.
@@ -43,16 +55,14 @@ struct SharedSet {
     alloc: Global,
 }
 
-impl SharedSet {
-    /// The empty set.
-    fn new(alloc: Global) -> Self {
+impl SharedKeys for SharedSet {
+    fn empty(alloc: Global) -> Self {
         SharedSet {
             table: LockFreeRawTable::new(alloc),
             alloc,
         }
     }
 
-    /// Whether the number was placed: it is new, and memory was there.
     fn insert<R: Wait>(&self, rt: &R, number: u64) -> bool {
         let Ok(value) = Box::new(self.alloc, number) else {
             return false;
@@ -69,7 +79,6 @@ impl SharedSet {
         )
     }
 
-    /// Whether the number is an entry.
     fn contains(&self, number: u64) -> bool {
         self.table
             .lookup(hash_number(number), |entry: &u64| *entry == number)
@@ -88,9 +97,9 @@ pub fn measure_shared<R: Print + Eprint + Clock + Files + Threads + Wait + Sync 
     match (group, threads) {
         ("one", None) => measure_one(rt, report),
         ("seq", None) => measure_seq(rt, report),
-        ("same", _) => measure_work(rt, report, Work::Same, threads),
-        ("ins", _) => measure_work(rt, report, Work::Inserts, threads),
-        ("hit", _) => measure_work(rt, report, Work::Hits, threads),
+        ("same", _) => measure_work::<R, SharedSet>(rt, report, Work::Same, threads),
+        ("ins", _) => measure_work::<R, SharedSet>(rt, report, Work::Inserts, threads),
+        ("hit", _) => measure_work::<R, SharedSet>(rt, report, Work::Hits, threads),
         _ => refuse_words(rt),
     }
 }
@@ -101,7 +110,7 @@ fn measure_one<R: Print + Clock + Files + Threads + Wait + Sync + AllocGlobal>(
     report: &Report<'_>,
 ) -> io::Result<()> {
     let before = resident_bytes(rt)?;
-    let set = SharedSet::new(rt.alloc());
+    let set = SharedSet::empty(rt.alloc());
 
     let start = Instant::now(rt)?;
     let placed = insert_spread(rt, &set, 0, COUNT);
@@ -128,7 +137,7 @@ fn measure_seq<R: Print + Clock + Wait + AllocGlobal>(
     rt: &R,
     report: &Report<'_>,
 ) -> io::Result<()> {
-    let set = SharedSet::new(rt.alloc());
+    let set = SharedSet::empty(rt.alloc());
 
     let start = Instant::now(rt)?;
     let placed = insert_in_order(rt, &set);
@@ -140,32 +149,30 @@ fn measure_seq<R: Print + Clock + Wait + AllocGlobal>(
 }
 
 /// The work with so many threads, or with one to four in turn, each time in a new set.
-fn measure_work<R: Print + Eprint + Clock + Threads + Wait + Sync + AllocGlobal>(
-    rt: &R,
-    report: &Report<'_>,
-    work: Work,
-    threads: Option<&str>,
-) -> io::Result<()> {
+pub(crate) fn measure_work<
+    R: Print + Eprint + Clock + Threads + Wait + Sync + AllocGlobal,
+    S: SharedKeys + Sync + Drop,
+>(rt: &R, report: &Report<'_>, work: Work, threads: Option<&str>) -> io::Result<()> {
     let Some(word) = threads else {
         for threads in 1..=MOST {
-            measure_team(rt, report, work, threads)?;
+            measure_team::<R, S>(rt, report, work, threads)?;
         }
         return Ok(());
     };
     match word.parse::<u64>() {
-        Ok(threads) if 1 <= threads && threads <= MOST => measure_team(rt, report, work, threads),
+        Ok(threads) if 1 <= threads && threads <= MOST => measure_team::<R, S>(
+            rt, report, work, threads,
+        ),
         _ => refuse_words(rt),
     }
 }
 
 /// The work with so many threads, in a new set.
-fn measure_team<R: Print + Clock + Threads + Wait + Sync + AllocGlobal>(
-    rt: &R,
-    report: &Report<'_>,
-    work: Work,
-    threads: u64,
-) -> io::Result<()> {
-    let set = SharedSet::new(rt.alloc());
+fn measure_team<
+    R: Print + Clock + Threads + Wait + Sync + AllocGlobal,
+    S: SharedKeys + Sync + Drop,
+>(rt: &R, report: &Report<'_>, work: Work, threads: u64) -> io::Result<()> {
+    let set = S::empty(rt.alloc());
     match work {
         Work::Same => time_same(rt, report, &set, threads),
         Work::Inserts => time_inserts(rt, report, &set, threads),
@@ -177,10 +184,10 @@ fn measure_team<R: Print + Clock + Threads + Wait + Sync + AllocGlobal>(
 }
 
 /// So many threads insert the same keys, again and again.
-fn time_same<R: Print + Clock + Threads + Wait + Sync + AllocGlobal>(
+fn time_same<R: Print + Clock + Threads + Wait + Sync + AllocGlobal, S: SharedKeys + Sync>(
     rt: &R,
     report: &Report<'_>,
-    set: &SharedSet,
+    set: &S,
     threads: u64,
 ) -> io::Result<()> {
     let name = format!(in rt.alloc(); "d_same{threads}")?;
@@ -203,10 +210,10 @@ fn time_same<R: Print + Clock + Threads + Wait + Sync + AllocGlobal>(
 }
 
 /// So many threads insert a part of the spread keys each.
-fn time_inserts<R: Print + Clock + Threads + Wait + Sync + AllocGlobal>(
+fn time_inserts<R: Print + Clock + Threads + Wait + Sync + AllocGlobal, S: SharedKeys + Sync>(
     rt: &R,
     report: &Report<'_>,
-    set: &SharedSet,
+    set: &S,
     threads: u64,
 ) -> io::Result<()> {
     let name = format!(in rt.alloc(); "e_ins{threads}")?;
@@ -223,10 +230,10 @@ fn time_inserts<R: Print + Clock + Threads + Wait + Sync + AllocGlobal>(
 }
 
 /// So many threads look up all of the spread keys each, in an order that begins elsewhere for each.
-fn time_hits<R: Print + Clock + Threads + Sync + AllocGlobal>(
+fn time_hits<R: Print + Clock + Threads + Sync + AllocGlobal, S: SharedKeys + Sync>(
     rt: &R,
     report: &Report<'_>,
-    set: &SharedSet,
+    set: &S,
     threads: u64,
 ) -> io::Result<()> {
     let name = format!(in rt.alloc(); "f_hit{threads}")?;
@@ -237,10 +244,10 @@ fn time_hits<R: Print + Clock + Threads + Sync + AllocGlobal>(
 }
 
 /// How many hits so many threads have.
-fn hits_of<R: Threads + Sync>(
+pub(crate) fn hits_of<R: Threads + Sync, S: SharedKeys + Sync>(
     rt: &R,
     alloc: Global,
-    set: &SharedSet,
+    set: &S,
     threads: u64,
 ) -> Result<u64, AllocError> {
     let part = COUNT.checked_div(threads).unwrap_or(COUNT);
@@ -255,7 +262,7 @@ fn hits_of<R: Threads + Sync>(
 
 /// Each workload once, counted and not timed.
 pub fn check_shared<R: Print + Threads + Wait + Sync + AllocGlobal>(rt: &R) -> io::Result<()> {
-    let set = SharedSet::new(rt.alloc());
+    let set = SharedSet::empty(rt.alloc());
     let placed = insert_spread(rt, &set, 0, COUNT);
     let hits = count_spread(&set, 0, 0);
     let found = count_spread(&set, 0, ABSENT);
@@ -264,7 +271,7 @@ pub fn check_shared<R: Print + Threads + Wait + Sync + AllocGlobal>(rt: &R) -> i
     let hits = hits_of(rt, rt.alloc(), &set, MOST)?;
     println!(rt; "shared by four: {hits} hits")?;
 
-    let set = SharedSet::new(rt.alloc());
+    let set = SharedSet::empty(rt.alloc());
     let placed = thread::map_indices(
         rt,
         rt.alloc(),
@@ -276,7 +283,7 @@ pub fn check_shared<R: Print + Threads + Wait + Sync + AllocGlobal>(rt: &R) -> i
 }
 
 /// How many of so many spread keys, from this one on, were placed.
-fn insert_spread<R: Wait>(rt: &R, set: &SharedSet, from: u64, count: u64) -> u64 {
+pub(crate) fn insert_spread<R: Wait, S: SharedKeys>(rt: &R, set: &S, from: u64, count: u64) -> u64 {
     let mut placed = 0u64;
     for index in 0..count {
         if set.insert(rt, spread(from.wrapping_add(index))) {
@@ -298,7 +305,7 @@ fn insert_in_order<R: Wait>(rt: &R, set: &SharedSet) -> u64 {
 }
 
 /// How many of the same keys were placed, in all rounds.
-fn insert_same<R: Wait>(rt: &R, set: &SharedSet) -> u64 {
+fn insert_same<R: Wait, S: SharedKeys>(rt: &R, set: &S) -> u64 {
     let mut placed = 0u64;
     for _round in 0..ROUNDS {
         placed = placed.wrapping_add(insert_spread(rt, set, 0, SAME));
@@ -307,7 +314,7 @@ fn insert_same<R: Wait>(rt: &R, set: &SharedSet) -> u64 {
 }
 
 /// How many of the spread keys, taken in another order from its turn `start` on and so much further on, are entries.
-fn count_spread(set: &SharedSet, start: u64, further: u64) -> u64 {
+fn count_spread<S: SharedKeys>(set: &S, start: u64, further: u64) -> u64 {
     let mut found = 0u64;
     for index in 0..COUNT {
         let key = turn(index.wrapping_add(start) % COUNT);

@@ -1,7 +1,7 @@
 //! Measurements of the table held alone with fewer keys than a million, and with more.
 ghost use Rattle.std.specs.Prelude.{◌<◌};
 
-use crate::numbers::{NumberSet, START, STRIDE, spread};
+use crate::numbers::{KeySet, NumberSet, START, STRIDE, spread};
 use crate::report::Report;
 use std::alloc::{Allocator, Global};
 use std::io;
