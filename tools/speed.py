@@ -4,8 +4,8 @@
     tools/speed.py run ROUNDS PROGRAM..     runs each program's tables in turns, and writes docs/speed/raw.txt
     tools/speed.py show held BASE           prints the tables held alone in docs/speed/raw.txt, and draws
                                             docs/speed/ratios.svg, with ratios to the table BASE, as plain-rust
-    tools/speed.py share ROUNDS PROGRAM..   runs the tables that threads share, and the one held alone, and writes
-                                            docs/speed/shared.txt
+    tools/speed.py share ROUNDS PROGRAM..   runs the tables that threads share, the one held alone and those over
+                                            shards, and writes docs/speed/shared.txt
     tools/speed.py show shared BASE         prints the tables in docs/speed/shared.txt, and draws docs/speed/threads.svg,
                                             one thread to four, as model-direct
     tools/speed.py show seats BASE          prints the number tables that threads share, as plain-atomics
@@ -28,7 +28,8 @@ SHARED_RAW = os.path.join(HERE, "shared.txt")
 SHARED_PLOT = os.path.join(HERE, "threads.svg")
 # Tables that threads share, and the groups of measurements that each knows.
 ALL_GROUPS = ["one", "seq", "same", "ins", "hit"]
-SHARING = {"shared": ALL_GROUPS, "held": ALL_GROUPS[:2]}
+SHARDED_GROUPS = ["one", "same", "hit"]
+SHARING = {"shared": ALL_GROUPS, "held": ALL_GROUPS[:2], "sharded": SHARDED_GROUPS}
 SHARING_PEERS = ["model-direct", "dashmap", "tbb-unordered_set", "libcuckoo", "urcu-lfht-presized"]
 SHARING.update((name, ALL_GROUPS[:4]) for name in SHARING_PEERS)
 # Number tables that threads share. Every other table is held alone, but for the machine of all schedules, `core`.
@@ -36,11 +37,12 @@ SEATED = ["seats", "plain-atomics"]
 # Interners of texts.
 INTERNERS = ["interner", "plain-interner"]
 GROUPS = {"held": ["one", "seq"], "shared": ["one", "seq", "same", "ins", "hit"],
-          "seats": ["one", "seq", "same", "ins"], "core": ["one"], "interner": ["1e4", "1e5", "1e6"]}
+          "sharded": SHARDED_GROUPS, "seats": ["one", "seq", "same", "ins"], "core": ["one"], "interner": ["1e4", "1e5", "1e6"]}
 MEASUREMENTS = {
     "held": ["a_ins1", "b_hit1", "c_miss1", "seq_ins1", "seq_hit1", "g_rss"],
     "shared": ["a_ins1", "b_hit1", "c_miss1", "d_same1", "d_same2", "d_same3", "d_same4", "e_ins1", "e_ins2", "e_ins3", "e_ins4",
                "f_hit1", "f_hit2", "f_hit3", "f_hit4", "seq_ins1", "seq_hit1", "g_rss"],
+    "sharded": ["a_ins1", "b_hit1", "c_miss1", "d_same1", "d_same2", "d_same3", "d_same4", "f_hit1", "f_hit2", "f_hit3", "f_hit4", "g_rss"],
     "seats": ["a_ins1", "b_hit1", "c_miss1", "d_same4", "e_ins4", "f_hit4", "seq_ins1", "seq_hit1"],
     "core": ["event"],
     "interner": ["new_1e4", "known_1e4", "back_1e4", "new_1e5", "known_1e5", "back_1e5", "new_1e6", "known_1e6", "back_1e6"],
@@ -52,8 +54,8 @@ def kind_of(name):
         return "core"
     if name in INTERNERS:
         return "interner"
-    if name == "shared":
-        return "shared"
+    if name in ("shared", "sharded"):
+        return name
     return "seats" if name in SEATED else "held"
 
 
