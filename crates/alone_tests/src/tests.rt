@@ -6,4 +6,5 @@ mod numbers;
 mod refusals;
 mod runs;
 mod shards;
+mod shown;
 mod walks;

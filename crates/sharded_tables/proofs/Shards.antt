@@ -1,9 +1,10 @@
 -- Where one shard takes a value or gives an answer, so does the table over all shards.
 use Rattle.std.proofs.Common.{◌≡◌, ℕ, zero, suc, ◌+◌, ◌<◌, ◌⊎◌, Bool, false, List, [], ◌∷◌, ◌++◌, Option, Some, None, Result, Ok, Err, length, refl, sym, ap, subst, ◌∙◌, append_assoc, append-nil, arith, inl, inr, set, get_or, map, ltb, replicate, take, ◌≤◌}
-use Rattle.std.specs.Prelude.{Contains, IfOk, IsSome, IfNone, min, option_map}
+use Rattle.std.specs.Prelude.{Contains, IfOk, IsErrAnd, IsSome, IfNone, min, option_map}
 use Rattle.std.specs.Array.{IsFromFnResultFrom}
 use Rattle.std.specs.Fn.{Called}
 use denote.Param.Members.{Mut}
+use Rattle.std.specs.Borrow.{Bor}
 use Rattle.std.specs.Int.{IsPowerOfTwo}
 use Rattle.std.specs.List.{flat_map, sum_by}
 use Rattle.std.specs.List.Sorted.{IsPermutation}
@@ -19,7 +20,7 @@ use Rattle.generations.specs.Growth.{entry_of}
 use Rattle.terms.specs.Laws.{IsLaw}
 use Rattle.held_table.specs.Growth.{KeepsPlaces}
 use Rattle.held_table.specs.Shown as shown
-use Rattle.held_table.specs.Shown.{InsertKeeps, InsertMarks, InsertAnswers, IsLawfulInsert, IsNewUnlessFound, FindsOne, FindsNone, IsLater, InsertSays, ShowsAt, Stands, CountsAsList}
+use Rattle.held_table.specs.Shown.{InsertKeeps, InsertMarks, InsertAnswers, IsLawfulInsert, IsNewUnlessFound, FindsOne, FindsNone, IsLater, InsertSays, ResultShows, ShowsAt, Stands, CountsAsList}
 use Rattle.terms.specs.ListObject.{greatest_length}
 use Rattle.held_table.specs.Table as table
 use Rattle.held_table.specs.Table.{HeldTable, empty_table}
@@ -260,6 +261,16 @@ some_shards n (k, is) = rw is (pow_pos k)
 blank : {X : Type 0} (rows : List (List (Option X))) → rows ≡ [] ∷ [] → (g i : ℕ) → value_at (get_or rows g []) i ≡ None
 blank rows is zero i = rw is refl
 blank rows is (suc g) i = rw is refl
+
+-- where an insert says that its entry is, an entry is shown
+pub shows_placed : {T U P : Type 0} (target : T → U) (accepts : U → Bool → Type 0) (shows : P → Option T) (old new : List T) (value : T) (p : P) (back : Option T) → InsertKeeps target accepts shows old value (Ok (p, back)) new → IsSome (shows p)
+shows_placed target accepts shows old new value p None keeps = rw keeps.0 refl
+shows_placed target accepts shows old new value p (Some back) (same, (e, at, among, accepted), kept) = rw at refl
+
+-- a value that comes back from a refused insert is what is shown of it
+pub shows_refused : {T U : Type 0} (target : T → U) (same : U → U → Bool) (hash_of : U → ℕ) (back : T) (new : List (HeldTable T)) (out : Result (Bor U × Option T) T) → IsErrAnd out (λ e. e ≡ back) → ResultShows target same hash_of sharded (Err back) out new
+shows_refused target same hash_of back new (Ok shown) refused = absurd refused
+shows_refused target same hash_of back new (Err out) refused = refused
 
 module _ {T : Type 0} where
   -- a hash has a shard

@@ -2,3 +2,4 @@ pub mod Shards
 pub mod Empty
 pub mod ShardWalks
 pub mod SharedShards
+pub mod Inserted

@@ -53,6 +53,7 @@ impl<T: AtomicValue, const SHARDS: usize, A: Allocator + Copy> HeldShardedTable<
     ghost use Rattle.held_table.specs.Shown.{ShowsAt, FindsOne, FindsNone, InsertKeeps, InsertMarks, InsertAnswers};
     ghost use Rattle.sharded_tables.specs.Shards.{sharded, entries, entry_at, marked, empty_shards, capped_sum, shard_at};
     ghost use Rattle.sharded_tables.specs.Shards.{AreCounted, AreLawful, AreLawfulForAll, HasFewBuckets};
+    ghost use Rattle.sharded_tables.specs.Inserted.{InsertShows};
     ghost use Rattle.held_table.specs.Table.{capacity, all_buckets};
     ghost use Rattle.sharded_tables.specs.Shards.{shard_of as number_of_shard};
 
@@ -178,6 +179,24 @@ impl<T: AtomicValue, const SHARDS: usize, A: Allocator + Copy> HeldShardedTable<
     {
         let shards = self.shards.as_slice();
         shards[place.shard()].target_at(place.place())
+    }
+
+    /// Inserts the value into the shard of its hash, unless an entry there is accepted as equal, and shows the entry's target.
+    /// It is `place_alone`, and then `target_at` of the place: see there for what each answer leaves.
+    pub fn insert_alone<
+        L: Law<T::Target>,
+        E: Fn(&T::Target, &T::Target) -> bool,
+        H: Fn(&T::Target) -> u64,
+    >(&mut self, hash: u64, value: T, eq: E, hash_fn: H) -> Result<(&T::Target, Option<T>), T>
+        requires eq_callable { E.IsAlwaysCallable eq }
+        requires hash_callable { H.IsAlwaysCallable hash_fn }
+        ensures { InsertShows T.target L.same L.hash_of SHARDS (FnReturnsAtPair E.Fn eq)
+            (FnReturnsAt H.Fn hash_fn) self.old hash value result }
+    {
+        // The `&mut` slice of the shards says that they fit in memory, which `target_at` wants to know.
+        let _ = self.shards.as_mut_slice();
+        let (place, back) = self.place_alone::<L, E, H>(hash, value, &eq, &hash_fn)?;
+        Ok((self.target_at(place), back))
     }
 
     /// The target of an entry that the test accepts, or None. It asks the shard of the hash alone: see
