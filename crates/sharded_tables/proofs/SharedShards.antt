@@ -34,6 +34,10 @@ inside n i t u xs long (low, is, more) = omega (arith, low, is, long)
 pub smaller : (k e more bound : ℕ) → up k e + more < bound → e < bound
 smaller k e more bound less = omega (arith, up-ge k e, less)
 
+-- a part of what is less than a bound is less than it
+pub part_below : (before part after bound : ℕ) → before + part + after < bound → part < bound
+part_below before part after bound less = omega arith
+
 -- lists whose elements agree by what is read of them
 pub same_by : {X Y Z : Type 0} (f : X → Z) (h : Y → Z) (xs : List X) (ys : List Y) → length ys ≡ length xs → ((k : ℕ) (d : X) (e : Y) → k < length xs → h (get_or ys k e) ≡ f (get_or xs k d)) → map h ys ≡ map f xs
 same_by f h [] [] long each = refl

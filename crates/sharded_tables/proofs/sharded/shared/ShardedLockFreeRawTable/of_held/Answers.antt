@@ -4,13 +4,13 @@ use Rattle.std.proofs.lemmas.List.{length-set}
 use Rattle.shared_table.specs.Tables.{SharedTable}
 use Rattle.held_table.specs.Table.{HeldTable, empty_table}
 use Rattle.sharded_tables.specs.SharedShards.{SharesOne}
-use Rattle.sharded_tables.proofs.SharedShards.{KeepsShown, inside, made_taking, shared_out, same_by}
+use Rattle.sharded_tables.proofs.SharedShards.{KeepsShown, inside, part_below, made_taking, shared_out, same_by}
 use Rattle.sharded_tables.proofs.sharded.shared.ShardedLockFreeRawTable.of_held.Given as given
 use Rattle.sharded_tables.proofs.sharded.shared.ShardedLockFreeRawTable.of_held.Goals as goal
 
 pub from_fn-shards-requires : goal.from_fn-shards-requires
 from_fn-shards-requires g c = (
-  search rules,
+  search part_below,
   serves_by _ (λ xs f. length f.0.now ≡ g.row.SHARDS)
       (λ xs f i q kept step. (let one : SharesOne i f.0.now step.0 q.0.now = search rules in ap length one.left ∙ (length-set f.0.now i (empty_table one.taken.first_capacity) ∙ kept)))
       _ _ 0 _ c.requires.shards (λ xs t f i u yields next kept _ _ _ _ _ _ _ _ _ _. inside _ i t u f.0.now kept next),
