@@ -59,5 +59,6 @@ module _ {T U : Type 0} (target : T → U) where
             lawful = s.lawful;
             as_list = places_as_list target same hash_of held eq rehash old hash value new r keeps (s.counted counted) s.lawful;
           };
+          places = s.places;
           first_capacity = s.first_capacity;
         }

@@ -17,6 +17,10 @@ use Rattle.generations.proofs.Counts.{full_values}
 use Rattle.held_table.proofs.Rows.{current_row}
 use Rattle.held_table.proofs.Kept.{kept_placed, table_placed, places_kept}
 
+-- where a row shows buckets there is one
+pub has_bucket : {T : Type 0} (cur : List (Content T)) → 0 < length (shown_all cur) → 0 < length cur
+has_bucket cur some = let long : length (shown_all cur) ≡ length cur = length-map cur shown in rw (← long) some
+
 module _ {T U : Type 0} (target : T → U) (answers : U → Bool → Type 0) (first : ℕ) (gs : List (List (Content T))) (cur : List (Content T)) (size : ℕ) (kept : IsKept first gs cur size)
     (some : 0 < length cur) (hash : ℕ) (value : T) where
   fits : (i : ℕ) → IsVacant target answers (shown_all cur) hash i → i < length cur

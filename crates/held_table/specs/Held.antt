@@ -24,9 +24,11 @@ module _ {T U : Type 0} (target : T → U) (same : U → U → Bool) (hash_of : 
       → Type 0) (old : HeldTable T) (hash : ℕ) (value : T)
       (r : Result (Place × Option T) T) (new : HeldTable T) : Type 0 where
     pub says : shown.InsertSays target same hash_of held eq rehash old hash value r new
+    pub places : shown.KeepsPlaces held old new
     pub first_capacity : new.first_capacity ≡ old.first_capacity
 
-  -- what an insert shows at once: as one shows that leaves such a table
+  -- what an insert shows at once: as one shows that leaves such a table. No clause says that the
+  -- call leaves this one
   abbrev pub InsertShows : (U → U → Bool → Type 0) → (U → ℕ → Type 0) → HeldTable T → ℕ → T
       → Result (Bor U × Option T) T → Type 0
   InsertShows eq rehash old hash value shows =

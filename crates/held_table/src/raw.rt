@@ -304,7 +304,8 @@ impl<T: AtomicValue, A: Allocator + Copy> HeldRawTable<T, A> {
     }
 
     /// Inserts the value, unless an entry is accepted as equal, and shows the entry's target. It is `place_alone`, and
-    /// then `target_at` of the place: see there for what each answer leaves.
+    /// then `target_at` of the place: see there for what each answer leaves. No clause of its own says what it leaves: who has to
+    /// know calls `place_alone`.
     pub fn insert_alone<
         L: Law<T::Target>,
         E: Fn(&T::Target, &T::Target) -> bool,

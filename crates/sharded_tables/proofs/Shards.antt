@@ -23,10 +23,11 @@ use Rattle.held_table.specs.Shown as shown
 use Rattle.held_table.specs.Shown.{InsertKeeps, InsertMarks, InsertAnswers, IsLawfulInsert, IsNewUnlessFound, FindsOne, FindsNone, IsLater, InsertSays, ResultShows, ShowsAt, Stands, CountsAsList}
 use Rattle.terms.specs.ListObject.{greatest_length}
 use Rattle.held_table.specs.Table as table
-use Rattle.held_table.specs.Table.{HeldTable, empty_table}
-use Rattle.sharded_tables.specs.Shards.{AreCounted, AreLawful, AreLawfulForAll, empty_shards, capped_sum, shard_of, shard_at, marked, marked_at, entries, entry_at, sharded}
+use Rattle.held_table.specs.Table.{HeldTable, empty_table, held}
+use Rattle.sharded_tables.specs.Shards.{AreCounted, AreLawful, AreLawfulForAll, empty_shards, capped_sum, shard_of, shard_at, marked, marked_at, entries, entry_at, sharded, LivesInItsShard}
 use Rattle.held_table.specs.declared.place.Place.{Place}
 use Rattle.sharded_tables.specs.declared.sharded.place.ShardPlace.{ShardPlace}
+use Rattle.held_table.proofs.Again.{every_answer_lives}
 use Rattle.held_table.proofs.Answered.{stays, places_as_list}
 use Rattle.held_table.specs.Empty.{held_without_entries}
 use Rattle.held_table.proofs.Lists.{values_kept, values_more, home_with}
@@ -136,6 +137,11 @@ module _ {T : Type 0} (ts : List (HeldTable T)) (k : ℕ) (within : k < length t
       keeps_shards (Ok (p, Some back)) marks (is, (e, lives, among, accepted), kept) =
           (is, (e, rw shard_set lives, in_all ts k e within among, accepted), values_kept (marked ts) (marked (set ts k new)) (marks_shards (Ok (p, Some back)) marks))
       keeps_shards (Err back) marks (is, kept) = (is, values_kept (marked ts) (marked (set ts k new)) (marks_shards (Err back) marks))
+
+      -- what an answer names lives in its shard
+      pub lives_inside : (r : Result (Place × Option T) T) (out : Result (ShardPlace × Option T) T) → out ≡ in_shard k r → one_keeps r → IfOk out (λ placed. LivesInItsShard (set ts k new) placed.0)
+      lives_inside (Ok (p, back)) out is keeps = rw (is, shard_set) (every_answer_lives held target (λ _. accepts) (shard_at ts k) new value p back keeps)
+      lives_inside (Err back) out is keeps = rw is tt
 
       pub later_shards : (r : Result (Place × Option T) T) → all_keep r → KeepsPlaces (shard_at ts k) new → IsLater sharded ts (set ts k new)
       later_shards r keeps places p v at =

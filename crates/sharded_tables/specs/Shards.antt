@@ -72,3 +72,7 @@ module _ {T : Type 0} where
   -- the value that lives at a place
   abbrev pub entry_at : List (HeldTable T) → ShardPlace → Option T
   entry_at ts p = shown.value_of sharded ts p
+
+  -- what lives at the place is an entry of the shard that it names
+  abbrev pub LivesInItsShard : List (HeldTable T) → ShardPlace → Type 0
+  LivesInItsShard ts p = (e : T) × table.IsEntryAt (shard_at ts p.shard) p.place e

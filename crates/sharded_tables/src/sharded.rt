@@ -52,7 +52,7 @@ impl<T: AtomicValue, const SHARDS: usize, A: Allocator + Copy> HeldShardedTable<
     ghost use Rattle.held_table.specs.Shown.{Stands, IsLater, KeepsPlaces, CountsAsList, PlacesAsList, LooksUpAsList};
     ghost use Rattle.held_table.specs.Shown.{ShowsAt, FindsOne, FindsNone, InsertKeeps, InsertMarks, InsertAnswers};
     ghost use Rattle.sharded_tables.specs.Shards.{sharded, entries, entry_at, marked, empty_shards, capped_sum, shard_at};
-    ghost use Rattle.sharded_tables.specs.Shards.{AreCounted, AreLawful, AreLawfulForAll, HasFewBuckets};
+    ghost use Rattle.sharded_tables.specs.Shards.{AreCounted, AreLawful, AreLawfulForAll, HasFewBuckets, LivesInItsShard};
     ghost use Rattle.sharded_tables.specs.Inserted.{InsertShows};
     ghost use Rattle.held_table.specs.Table.{capacity, all_buckets};
     ghost use Rattle.sharded_tables.specs.Shards.{shard_of as number_of_shard};
@@ -152,6 +152,7 @@ impl<T: AtomicValue, const SHARDS: usize, A: Allocator + Copy> HeldShardedTable<
         ensures later { IsLater sharded self.old self.new }
         ensures places { KeepsPlaces sharded self.old self.new }
         ensures home { IfOk result (λ placed. placed.0.shard ≡ number_of_shard SHARDS hash) }
+        ensures inside { IfOk result (λ placed. LivesInItsShard self.new placed.0) }
         ensures others { (k : ℕ) → k ≢ number_of_shard SHARDS hash → shard_at self.new k ≡ shard_at self.old k }
         ensures first { map (λ t. t.first_capacity) self.new ≡ map (λ t. t.first_capacity) self.old }
         ensures shards { length self.new ≡ length self.old }
@@ -182,7 +183,10 @@ impl<T: AtomicValue, const SHARDS: usize, A: Allocator + Copy> HeldShardedTable<
     }
 
     /// Inserts the value into the shard of its hash, unless an entry there is accepted as equal, and shows the entry's target.
-    /// It is `place_alone`, and then `target_at` of the place: see there for what each answer leaves.
+    ///
+    /// It is `place_alone`, and then `target_at` of the place: `HeldRawTable::place_alone` says what the arguments are, when it
+    /// refuses, and what each answer leaves (Err: the value comes back, and the entries are as they were). No clause of its own says
+    /// what it leaves: who has to know calls `place_alone`.
     pub fn insert_alone<
         L: Law<T::Target>,
         E: Fn(&T::Target, &T::Target) -> bool,

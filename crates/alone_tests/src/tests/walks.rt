@@ -17,7 +17,10 @@ fn filled(rt: &impl Abort, alloc: Global, numbers: u64) -> Result<EightShards, A
 }
 
 /// The numbers of a walk.
-pub(crate) fn walked(table: &EightShards, alloc: Global) -> Result<Vec<u64>, AllocError> {
+pub(crate) fn walked<const SHARDS: usize>(
+    table: &Numbers<SHARDS, Global>,
+    alloc: Global,
+) -> Result<Vec<u64>, AllocError> {
     let mut numbers = Vec::new(alloc);
     for number in table {
         numbers.push(*number)?;

@@ -40,7 +40,7 @@ pub returns-in_err-placed-clause-later : goal.returns-in_err-placed-clause-later
 returns-in_err-placed-clause-later g c = (inserted_back g c).says.later
 
 pub returns-in_err-placed-clause-places : goal.returns-in_err-placed-clause-places
-returns-in_err-placed-clause-places g c = (places_back g c).places
+returns-in_err-placed-clause-places g c = (inserted_back g c).places
 
 pub returns-in_err-placed-clause-counted : goal.returns-in_err-placed-clause-counted
 returns-in_err-placed-clause-counted g c = (inserted_back g c).says.counted
@@ -61,7 +61,7 @@ pub returns-clause-later : goal.returns-clause-later
 returns-clause-later g c = (inserted_ok g c).says.later
 
 pub returns-clause-places : goal.returns-clause-places
-returns-clause-places g c = (places_ok g c).places
+returns-clause-places g c = (inserted_ok g c).places
 
 pub returns-clause-counted : goal.returns-clause-counted
 returns-clause-counted g c = (inserted_ok g c).says.counted

@@ -24,7 +24,9 @@ returns-in_err-place g c = (
       lawful = c.in_err-place.ensures.lawful;
       as_list = c.in_err-place.ensures.as_list;
     };
+    places = c.in_err-place.ensures.places;
     home = c.in_err-place.ensures.home;
+    inside = c.in_err-place.ensures.inside;
     others = c.in_err-place.ensures.others;
     first = c.in_err-place.ensures.first;
     long = c.in_err-place.ensures.shards;
@@ -45,7 +47,9 @@ returns g c = (
       lawful = c.in_ok-place.ensures.lawful;
       as_list = c.in_ok-place.ensures.as_list;
     };
+    places = c.in_ok-place.ensures.places;
     home = c.in_ok-place.ensures.home;
+    inside = c.in_ok-place.ensures.inside;
     others = c.in_ok-place.ensures.others;
     first = c.in_ok-place.ensures.first;
     long = c.in_ok-place.ensures.shards;

@@ -2,7 +2,7 @@ use Rattle.std.proofs.Common.{◌≡◌, ◌<◌, length, refl, sym, ap, ◌∙�
 use Rattle.std.proofs.lemmas.List.{length-set, get_or_default}
 use Rattle.std.specs.Fn.{FnReturnsAt, FnReturnsAtPair}
 use Rattle.sharded_tables.specs.Shards.{shard_at}
-use Rattle.sharded_tables.proofs.Shards.{shard_within, shard_kept, first_kept, places_kept, counted_shards, in_shard, named_in_shard, says_all}
+use Rattle.sharded_tables.proofs.Shards.{shard_within, shard_kept, first_kept, places_kept, counted_shards, in_shard, named_in_shard, lives_inside, says_all}
 use Rattle.sharded_tables.proofs.sharded.HeldShardedTable.place_alone.Goals.{in-Ok, in-Err}
 use Rattle.sharded_tables.proofs.sharded.HeldShardedTable.place_alone.Goals as goal
 
@@ -32,6 +32,7 @@ returns g c =
       later = says.later;
       places = places_kept c.self.inside.shards c.shard_of-shard.result within c.place_alone.new.self (rw read c.place_alone.ensures.places);
       home = named_in_shard c.shard_of-shard.result _ c.place_alone.result c.match-place_alone.result answered c.shard_of-shard.ensures.is;
+      inside = lives_inside c.self.inside.shards c.shard_of-shard.result within c.place_alone.new.self c.args.hash c.args.value g.T.AtomicValue.target (FnReturnsAtPair g.E.Fn c.args.eq.now (g.T.AtomicValue.target c.args.value)) c.place_alone.result c.match-place_alone.result answered (rw read c.place_alone.ensures.keeps);
       others = λ j other. shard_kept c.self.inside.shards c.shard_of-shard.result within c.place_alone.new.self j (λ is. other (is ∙ c.shard_of-shard.ensures.is));
       first = first_kept c.self.inside.shards c.shard_of-shard.result within c.place_alone.new.self (c.place_alone.ensures.first ∙ sym (ap (λ t. t.first_capacity) read));
       shards = length-set _ _ _;
