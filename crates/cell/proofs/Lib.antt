@@ -1,3 +1,5 @@
+pub mod Hinted
+pub mod HintNames
 pub mod Homes
 pub mod Marks
 pub mod Moves

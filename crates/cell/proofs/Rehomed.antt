@@ -1,14 +1,14 @@
 -- Buckets that are moved to another home, one after the other.
-use Rattle.std.proofs.Common.{◌≡◌, ℕ, zero, suc, ◌+◌, ◌<◌, ◌≤◌, ◌++◌, List, [], ◌∷◌, length, take, inl, inr, refl, sym, ap, subst, ◌∙◌, arith, get_or-set_other, get_or-set_same}
+use Rattle.std.proofs.Common.{◌≡◌, ℕ, zero, suc, ◌+◌, ◌<◌, List, [], ◌∷◌, length, inl, inr, refl, ap, subst, ◌∙◌, arith, get_or-set_other, get_or-set_same}
 use Rattle.std.specs.Prelude.{All, slice_index_or, slice_set, map}
 use Rattle.std.proofs.lemmas.Bool.{cases_eq}
-use Rattle.std.proofs.lemmas.List.{length-append, length-map, length-set, map-append, get_or-map, get_or_default, take_more}
+use Rattle.std.proofs.lemmas.List.{length-map, length-set, get_or-map, get_or_default}
 use Rattle.std.proofs.lemmas.List.Elements.{All-head, All-tail}
 use Rattle.cell.specs.Contents.{BucketView, bucket, Lies, KeepsOwn, NamesNone}
-use Rattle.cell.specs.Contents.{Content, vacant, IsMarked, bucket_of}
+use Rattle.cell.specs.Contents.{Content, vacant, bucket_of}
 use Rattle.cell.specs.Words.{WordView}
-use Rattle.cell.specs.Rows.{content_at, contents_of, buckets_of, AreMarked, WordLies}
-use Rattle.cell.specs.Rehomed.{AreRehomed, IsRehomed, RehomesAt, AreMovedBelow}
+use Rattle.cell.specs.Rows.{contents_of, buckets_of, AreMarked, WordLies}
+use Rattle.cell.specs.Rehomed.{AreRehomed, RehomesAt, AreMovedBelow}
 use Rattle.cell.specs.declared.bucket.Entry.{Entry}
 use Rattle.cell.specs.declared.bucket.Mark.{Mark}
 

@@ -4,7 +4,7 @@ use Rattle.std.specs.Prelude.{All, map, slice_set}
 use Rattle.std.proofs.lemmas.List.{get_or-map}
 use Rattle.std.proofs.lemmas.List.Elements.{All-head, All-tail, All-get_or}
 use Rattle.cell.specs.Words.{WordView}
-use Rattle.cell.specs.Contents.{Content, vacant, IsMarked, content_of, bucket_of}
+use Rattle.cell.specs.Contents.{vacant, IsMarked, content_of, bucket_of}
 use Rattle.cell.specs.Rows.{content_at, contents_of, AreMarked, WordLies, bucket_at, row_of}
 use Rattle.cell.specs.declared.bucket.Entry.{Entry}
 use Rattle.cell.specs.declared.bucket.Mark.{Mark}

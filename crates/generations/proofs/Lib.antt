@@ -2,6 +2,7 @@ pub mod Entries
 pub mod Laws
 pub mod Contents
 pub mod Counts
+pub mod Hinting
 pub mod Probes
 pub mod Rehashes
 pub mod Windows

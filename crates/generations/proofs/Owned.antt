@@ -4,7 +4,7 @@ use Rattle.std.specs.Prelude.{All}
 use Rattle.std.proofs.lemmas.List.{length-append, map-append, take_more}
 use Rattle.std.proofs.lemmas.List.Elements.{All-head, All-tail}
 use Rattle.cell.specs.Contents.{NamesNone}
-use Rattle.generations.specs.Buckets.{Content, vacant, own, named, shown, shown_entries, owned_values, content_at}
+use Rattle.generations.specs.Buckets.{Content, vacant, own, named, shown_entries, owned_values, content_at}
 use Rattle.generations.proofs.Entries.{values-append}
 
 module _ {T : Type 0} where

@@ -1,6 +1,6 @@
 -- What calls through `&` see of a bucket: what it was set to alone, or else what a note of it then knows.
 use Rattle.std.specs.Prelude.{◌≡◌, ◌≢◌, ℕ, Option, Some, None, IfSome, IfNone}
-use Rattle.cell.specs.Contents.{Keeps, Misses}
+use Rattle.cell.specs.Contents.{Keeps}
 use Rattle.cell.specs.declared.bucket.Entry.{Entry}
 use Rattle.generations.specs.Buckets.{Content, shown}
 use Rattle.generations.specs.declared.fixed.shared.Look.{Look}

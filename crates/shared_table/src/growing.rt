@@ -28,7 +28,8 @@ impl<T: AtomicValue, A: Low + Copy> LockFreeRawTable<T, A> {
         ensures { IfOk result (λ g. g ≡ self.now.home) }
     {
         let slot = self.lineage.slot(&self.home, 0)?;
-        let built = Generation::with_capacity(self.alloc, &self.home, self.first_capacity)?;
+        let mut built = Generation::with_capacity(self.alloc, &self.home, self.first_capacity)?;
+        built.hint()?;
         Growth::begun(&self.home, 0, None, built, slot)
     }
 
@@ -45,7 +46,8 @@ impl<T: AtomicValue, A: Low + Copy> LockFreeRawTable<T, A> {
             return Err(AllocError);
         };
         let slot = self.lineage.slot(&self.home, number)?;
-        let built = current.generation.sibling(&self.home, capacity)?;
+        let mut built = current.generation.sibling(&self.home, capacity)?;
+        built.hint()?;
         Growth::begun(&self.home, number, Some(current.generation), built, slot)
     }
 

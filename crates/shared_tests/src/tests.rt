@@ -12,4 +12,5 @@ mod refusals;
 mod rounds;
 mod rules;
 mod share;
+mod told;
 mod values;

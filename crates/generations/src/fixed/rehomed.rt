@@ -42,6 +42,7 @@ impl<T: AtomicValue, A: Allocator + Copy> Generation<T, A> {
     {
         let row = self.row.rehomed(closed, home);
         let size = count_set(&row);
-        Generation { row, size }
+        let hints = Vec::new(row.alloc());
+        Generation { row, size, hints }
     }
 }

@@ -1,4 +1,4 @@
-use Rattle.std.proofs.Common.{arith, ◌≢◌, true, false, ◌≡◌, ◌<◌, Some, length, refl, sym, ap, ◌∙◌}
+use Rattle.std.proofs.Common.{arith, ◌≢◌, true, false, ◌≡◌, ◌<◌, length, refl, sym, ap, ◌∙◌}
 use Rattle.std.proofs.lemmas.List.{map-set}
 use Rattle.std.proofs.lemmas.List.Elements.{All-set}
 use Rattle.cell.specs.Contents.{content_of, own}

@@ -1,4 +1,4 @@
-use Rattle.std.proofs.Common.{◌<◌, ◌∙◌, length, arith, sym, ap}
+use Rattle.std.proofs.Common.{◌<◌, ◌∙◌, length, arith, ap}
 use Rattle.cell.specs.Contents.{bucket_of}
 use Rattle.cell.specs.Rows.{buckets_of}
 use Rattle.cell.proofs.Rows.{length-marks, length-words, marked_at, marked_set}
