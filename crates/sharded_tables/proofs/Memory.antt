@@ -1,5 +1,5 @@
 -- Shards that fit in memory make a table that fits.
-use Rattle.std.proofs.Common.{◌≡◌, ℕ, ◌+◌, ◌-◌, ◌*◌, ◌%◌, ◌<◌, max, arith, add-zero}
+use Rattle.std.proofs.Common.{◌≡◌, ℕ, ◌+◌, ◌*◌, ◌%◌, ◌<◌, max, arith, add-zero}
 use Rattle.std.proofs.Math.Nat.{sub-zero, zero-add}
 use prog.Align.{Dv, dv→, dv_self, dv_zero, dv_mul, dv_up}
 use prog.Memory.{up}

@@ -1,5 +1,5 @@
 -- A table over shards that threads share, as its callers see it: the list of its shards.
-use Rattle.std.specs.Prelude.{◌≡◌, ℕ, ◌+◌, ◌*◌, ◌^◌, ◌<◌, ◌++◌, List, [], ◌∷◌, Option, Some, None, length, slice_index_or, slice_set}
+use Rattle.std.specs.Prelude.{◌≡◌, ℕ, ◌+◌, ◌*◌, ◌^◌, ◌++◌, List, [], ◌∷◌, Option, Some, None, length, slice_index_or, slice_set}
 use Rattle.std.specs.Iterator.{YieldsFirst, Drains}
 use Rattle.std.specs.Borrow.{Bor}
 use Rattle.shared_table.specs.Tables.{SharedTable}

@@ -1,4 +1,4 @@
-use Rattle.std.proofs.Common.{◌≡◌, arith}
+use Rattle.std.proofs.Common.{arith}
 use Rattle.commands.proofs.shards.eight.Goals as goal
 
 -- so many shards fit in memory, and 8 is a power of two

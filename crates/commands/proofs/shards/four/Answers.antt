@@ -1,4 +1,4 @@
-use Rattle.std.proofs.Common.{◌≡◌, arith}
+use Rattle.std.proofs.Common.{arith}
 use Rattle.commands.proofs.shards.four.Goals as goal
 
 -- so many shards fit in memory, and 4 is a power of two

@@ -1,4 +1,4 @@
-use Rattle.std.proofs.Common.{◌≡◌, arith}
+use Rattle.std.proofs.Common.{arith}
 use Rattle.commands.proofs.shards.sixteen.Goals as goal
 
 -- so many shards fit in memory, and 16 is a power of two

@@ -1,4 +1,4 @@
-use Rattle.std.proofs.Common.{◌≡◌, ◌∙◌}
+use Rattle.std.proofs.Common.{◌∙◌}
 use Rattle.turns.proofs.ByPhase.{accepted_by, accepted_fits}
 use Rattle.turns.proofs.steps.step_accepted.Goals as goal
 

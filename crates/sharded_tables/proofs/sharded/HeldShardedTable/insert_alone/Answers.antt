@@ -1,4 +1,4 @@
-use Rattle.std.proofs.Common.{◌≡◌, ◌∙◌, Ok, Err, sym, ap, length, refl, arith}
+use Rattle.std.proofs.Common.{◌∙◌, Ok, Err, sym, ap, length, refl, arith}
 use Rattle.std.specs.Fn.{FnReturnsAtPair}
 use Rattle.sharded_tables.specs.Shards.{entry_at}
 use Rattle.sharded_tables.proofs.Memory.{array_fits}

@@ -1,6 +1,5 @@
 use Rattle.std.proofs.Common.{◌≡◌, ◌+◌, length, refl}
 use Rattle.std.specs.List.{flat_map}
-use Rattle.std.specs.Iterator.SizeHint.{IsExactHint}
 use Rattle.std.proofs.lemmas.List.{length-append}
 use Rattle.held_table.specs.Table.{entries}
 use Rattle.sharded_tables.proofs.ShardWalks.{upper_of_exact}

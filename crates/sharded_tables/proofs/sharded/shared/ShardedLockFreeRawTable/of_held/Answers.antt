@@ -1,4 +1,4 @@
-use Rattle.std.proofs.Common.{rules, ℕ, ◌≡◌, ◌+◌, ◌<◌, length, ◌∙◌, ap, sym, arith, get_or}
+use Rattle.std.proofs.Common.{rules, ℕ, ◌≡◌, ◌<◌, length, ◌∙◌, ap, sym, arith, get_or}
 use Rattle.std.proofs.lemmas.Fn.{serves_by}
 use Rattle.std.proofs.lemmas.List.{length-set}
 use Rattle.shared_table.specs.Tables.{SharedTable}

@@ -1,4 +1,4 @@
-use Rattle.std.proofs.Common.{rules, ◌≡◌, ◌<◌, length, ◌∙◌, ap}
+use Rattle.std.proofs.Common.{rules, ◌≡◌, length, ◌∙◌, ap}
 use Rattle.std.proofs.lemmas.Fn.{serves_by}
 use Rattle.std.proofs.lemmas.List.{length-set}
 use Rattle.sharded_tables.specs.SharedShards.{TakesOne}

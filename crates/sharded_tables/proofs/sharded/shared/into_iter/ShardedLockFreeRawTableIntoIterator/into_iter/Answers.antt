@@ -1,4 +1,4 @@
-use Rattle.std.proofs.Common.{rules, ◌≡◌, length, ◌∙◌, ap}
+use Rattle.std.proofs.Common.{rules, length, ◌∙◌, ap}
 use Rattle.sharded_tables.proofs.SharedShards.{part_below}
 use Rattle.sharded_tables.proofs.sharded.shared.into_iter.ShardedLockFreeRawTableIntoIterator.into_iter.Goals as goal
 
