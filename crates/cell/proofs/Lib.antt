@@ -1,5 +1,3 @@
-pub mod Hinted
-pub mod HintNames
 pub mod Homes
 pub mod Marks
 pub mod Moves

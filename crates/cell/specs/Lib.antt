@@ -1,5 +1,4 @@
 pub mod Contents
-pub mod Hints
 pub mod Notes
 pub mod Rehomed
 pub mod Rows

@@ -22,8 +22,6 @@ pub struct Entry<T> {
 /// An entry fits every home: it names no block.
 impl<T> Homed for Entry<T> {
     ghost fits = { λ _ _. Unit {0} };
-
-    ghost bits = { λ e. e.bits };
 }
 
 /// What stands beside the word of a bucket, so that a probe that skips follows nothing.

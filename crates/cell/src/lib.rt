@@ -2,7 +2,6 @@
 #![tactic(auto)]
 
 mod bucket;
-mod hints;
 mod home;
 mod loose_block;
 mod low;
@@ -12,7 +11,6 @@ mod row;
 mod word;
 
 pub use bucket::{Bucket, BucketRef, Entry, Mark, Missed, Refusal};
-pub use hints::Hints;
 pub use home::{Closed, Home, Homed};
 pub use loose_block::LooseBlock;
 pub use low::Low;

@@ -3,7 +3,6 @@ ghost use Rattle.std.specs.Prelude.{◌≡◌, ◌<◌, length, replicate, [], s
 ghost use Rattle.cell.specs.Contents.{vacant, own, entry_from, Lies, HandsBack};
 ghost use Rattle.cell.specs.Rows.{content_at, bucket_at, AreOfOneRow, TakesFirst};
 
-mod hinted;
 mod rehomed;
 
 use crate::bucket::{Bucket, BucketRef, Entry, Mark, Refusal};

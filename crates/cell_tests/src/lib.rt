@@ -4,8 +4,6 @@
 #[cfg(test)]
 mod held;
 #[cfg(test)]
-mod hinted;
-#[cfg(test)]
 mod noted;
 #[cfg(test)]
 mod refused;

@@ -2,7 +2,6 @@ pub mod Entries
 pub mod Laws
 pub mod Contents
 pub mod Counts
-pub mod Hinting
 pub mod Probes
 pub mod Rehashes
 pub mod Windows

@@ -1,9 +1,8 @@
 -- A generation as the layer above sees it.
-use Rattle.std.specs.Prelude.{◌≡◌, ◌⊎◌, ℕ, ◌+◌, ◌/◌, ◌^◌, ◌<◌, ⊤, List, [], Option, Some, None, Result, Ok, Err, All, length, replicate}
+use Rattle.std.specs.Prelude.{◌≡◌, ◌⊎◌, ℕ, ◌+◌, ◌^◌, ◌<◌, ⊤, List, [], Option, Some, None, Result, Ok, Err, All, length, replicate}
 use Rattle.std.specs.Int.{IsPowerOfTwo}
-use Rattle.cell.specs.Hints.{IsHinted}
 use Rattle.cell.specs.Rows.{RowView}
-use Rattle.generations.specs.Buckets.{Content, vacant, own, named, content_at, shown_entries, owned_values}
+use Rattle.generations.specs.Buckets.{Content, vacant, own, named, shown_entries, owned_values}
 use Rattle.generations.specs.declared.fixed.Refusal.{Refusal}
 
 -- a generation: the allocator and the home of its blocks, its buckets with the names by which notes
@@ -51,16 +50,6 @@ module _ {T : Type 0} where
     pub powered : (ps ≡ []) ⊎ IsPowerOfTwo (length ps)
     pub fits : length ps < 2 ^ 64
     pub counted : size ≡ length (shown_entries ps)
-
-  -- what is told of a vacant bucket, where it has a hint, is told of its word
-  abbrev pub AreHinted : List (List ℕ) → List ℕ → List (Content T) → Type 0
-  AreHinted hs ids ps = (k : ℕ) → k < length ps → content_at ps k ≡ vacant → k / 8 < length hs
-      → IsHinted hs ids k
-
-  -- a generation with its hints, if there are any
-  pub record IsWhole (hs : List (List ℕ)) (ids : List ℕ) (ps : List (Content T)) (size : ℕ) : Type 0 where
-    pub sized : IsGeneration ps size
-    pub hinted : AreHinted hs ids ps
 
   -- the bucket names an entry
   abbrev pub IsName : Content T → Type 0

@@ -8,13 +8,12 @@ ghost use Rattle.generations.specs.Probe.{ComparisonGives, ProbeGives};
 ghost use Rattle.generations.specs.Growth.{Inserts, PutsName};
 ghost use Rattle.generations.specs.Generations.{CountsInsert, AreOfOneHome, IsName};
 
-mod hinted;
 pub mod owning;
 mod rehomed;
 pub mod shared;
 
 use crate::atomic_value::AtomicValue;
-use cell::{Bucket, BucketRef, Entry, Hints, Home, Mark, Refusal as BucketRefusal, Row};
+use cell::{Bucket, BucketRef, Entry, Home, Mark, Refusal as BucketRefusal, Row};
 use std::alloc::{AllocError, Allocator};
 use std::marker::Model;
 use terms::probe::{bits_of_hash, first_bucket, next_bucket};
@@ -49,18 +48,16 @@ pub enum Refusal<T> {
 pub struct Generation<T: AtomicValue, A: Allocator + Copy> {
     row: Row<T, A>,
     size: usize,
-    /// What is told of buckets that were set through `&`. A generation that was made for one owner has no hint, shared or not.
-    hints: Vec<Hints<Entry<T>>, A>,
 }
 
 impl<T: AtomicValue, A: Allocator + Copy> Model for Generation<T, A> {
-    ghost use Rattle.generations.specs.Generations.{GenerationView, generation_of, IsWhole};
+    ghost use Rattle.generations.specs.Generations.{GenerationView, generation_of, IsGeneration};
 
     ghost Value = { GenerationView A T };
 
     ghost view = { λ g. generation_of g.row g.size };
 
-    ghost invariant = { λ g. IsWhole g.hints.items g.row.ids g.row.contents g.size };
+    ghost invariant = { λ g. IsGeneration g.row.contents g.size };
 }
 
 /// What the test says of an entry.
@@ -108,7 +105,6 @@ impl<T: AtomicValue, A: Allocator + Copy> Generation<T, A> {
         Generation {
             row: Row::new(alloc, home),
             size: 0,
-            hints: Vec::new(alloc),
         }
     }
 
@@ -120,7 +116,6 @@ impl<T: AtomicValue, A: Allocator + Copy> Generation<T, A> {
         Ok(Generation {
             row: Row::vacant(alloc, home, capacity)?,
             size: 0,
-            hints: Vec::new(alloc),
         })
     }
 

@@ -28,8 +28,7 @@ impl<T: AtomicValue, A: Low + Copy> LockFreeRawTable<T, A> {
         ensures { IfOk result (λ g. g ≡ self.now.home) }
     {
         let slot = self.lineage.slot(&self.home, 0)?;
-        let mut built = Generation::with_capacity(self.alloc, &self.home, self.first_capacity)?;
-        built.hint()?;
+        let built = Generation::with_capacity(self.alloc, &self.home, self.first_capacity)?;
         Growth::begun(&self.home, 0, None, built, slot)
     }
 
@@ -46,8 +45,7 @@ impl<T: AtomicValue, A: Low + Copy> LockFreeRawTable<T, A> {
             return Err(AllocError);
         };
         let slot = self.lineage.slot(&self.home, number)?;
-        let mut built = current.generation.sibling(&self.home, capacity)?;
-        built.hint()?;
+        let built = current.generation.sibling(&self.home, capacity)?;
         Growth::begun(&self.home, number, Some(current.generation), built, slot)
     }
 

@@ -12,5 +12,4 @@ mod refusals;
 mod rounds;
 mod rules;
 mod share;
-mod told;
 mod values;

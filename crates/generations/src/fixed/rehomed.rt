@@ -42,7 +42,6 @@ impl<T: AtomicValue, A: Allocator + Copy> Generation<T, A> {
     {
         let row = self.row.rehomed(closed, home);
         let size = count_set(&row);
-        let hints = Vec::new(row.alloc());
-        Generation { row, size, hints }
+        Generation { row, size }
     }
 }

@@ -7,7 +7,7 @@ ghost use Rattle.generations.specs.Looks.{Tells, IsSeen};
 
 use crate::atomic_value::AtomicValue;
 use crate::fixed::Generation;
-use cell::{Bucket, Entry, Home, Homed, Low, Mark, Missed, Note};
+use cell::{Bucket, BucketRef, Entry, Home, Homed, Low, Mark, Missed, Note};
 use std::alloc::Allocator;
 
 /// What a probe for eight bits meets at a bucket.
@@ -34,6 +34,28 @@ fn look_at_entry<T>(entry: &Entry<T>, sought: u8) -> Look<'_, T>
         Look::Alike(entry)
     } else {
         Look::Other
+    }
+}
+
+/// What a probe for these bits meets at a bucket. The block of an entry whose mark has other bits isn't read.
+fn look_at_bucket<'a, T: AtomicValue, A: Allocator + Copy>(
+    home: &'a Home,
+    bucket: &BucketRef<'a, T, A>,
+    sought: u8,
+    note: &mut Note<Entry<T>>,
+) -> Look<'a, T>
+    requires home { bucket.now.home ≡ home.now.id }
+    requires of { note.old.of ≡ bucket.now.id }
+    ensures of { note.new.of ≡ note.old.of }
+    ensures seen { IsSeen bucket.now.content note.old.known note.new.known (λ o. Tells sought o result) }
+{
+    match bucket.mark() {
+        Mark::Vacant => match bucket.get(home, note) {
+            Some(entry) => look_at_entry(entry, sought),
+            None => Look::Vacant,
+        },
+        Mark::Own(bits) | Mark::Named(bits) if bits == sought => Look::Alike(bucket.entry(home)),
+        _ => Look::Other,
     }
 }
 
@@ -76,33 +98,7 @@ impl<T: AtomicValue, A: Allocator + Copy> Generation<T, A> {
         self.row.at(index).get(home, note)
     }
 
-    /// What a probe for these bits meets at a bucket that is set through `&`, if it is. The block of an entry that was told to
-    /// have other bits isn't read.
-    fn look_at_set<'a>(
-        &'a self,
-        home: &'a Home,
-        index: usize,
-        sought: u8,
-        note: &mut Note<Entry<T>>,
-    ) -> Look<'a, T>
-        requires home { self.now.home ≡ home.now.id }
-        requires within { index < length self.now.contents }
-        requires vacant { content_at self.now.contents index ≡ vacant }
-        requires of { note.old.of ≡ slice_index_or self.now.ids index 0 }
-        ensures of { note.new.of ≡ note.old.of }
-        ensures seen { IsSeen (content_at self.now.contents index) note.old.known note.new.known (λ o. Tells sought o result) }
-    {
-        let Some(entry) = self.entry_at(home, index, note) else {
-            return Look::Vacant;
-        };
-        match self.told_at(index, note) {
-            Some(bits) if bits != sought => Look::Other,
-            _ => look_at_entry(entry, sought),
-        }
-    }
-
-    /// What a probe for these bits meets at the bucket of this index. The block of an entry whose mark has other bits isn't
-    /// read.
+    /// What a probe for these bits meets at the bucket of this index.
     pub fn look_at<'a>(
         &'a self,
         home: &'a Home,
@@ -116,14 +112,7 @@ impl<T: AtomicValue, A: Allocator + Copy> Generation<T, A> {
         ensures of { note.new.of ≡ note.old.of }
         ensures seen { IsSeen (content_at self.now.contents index) note.old.known note.new.known (λ o. Tells sought o result) }
     {
-        let bucket = self.row.at(index);
-        match bucket.mark() {
-            Mark::Vacant => self.look_at_set(home, index, sought, note),
-            Mark::Own(bits) | Mark::Named(bits) if bits == sought => {
-                Look::Alike(bucket.entry(home))
-            }
-            _ => Look::Other,
-        }
+        look_at_bucket(home, &self.row.at(index), sought, note)
     }
 
     /// A bucket that names the entry in the bucket at this index, also where that was set through `&`.
@@ -163,13 +152,8 @@ impl<T: AtomicValue, A: Low + Copy> Generation<T, A> {
         ensures first { IfOk result (λ e. (note.old.known ≡ None) × (note.new.known ≡ Some e.now)) }
         ensures missed { IfErr result (λ m. Misses (content_at self.now.contents index) value note.old.known note.new.known m) }
     {
-        let placed = self
-            .row
+        self.row
             .at(index)
-            .place(home, self.row.alloc(), value, bits, note);
-        if placed.is_ok() {
-            self.tell_at(index, bits, note);
-        }
-        placed
+            .place(home, self.row.alloc(), value, bits, note)
     }
 }

@@ -11,9 +11,9 @@ use std::test::Fail;
 const NUMBERS: u64 = 17;
 
 /// The requests whose refusal an insert is told: one block a number, and for the first generation of each shard its marks, its
-/// words, its hints, its block, the words for the later ones, the room to take those out, and the block of both. A later
-/// growth that is refused changes no answer, since the number was placed.
-const TOLD: u64 = NUMBERS + 2 * 7;
+/// words, its block, the words for the later ones, the room to take those out, and the block of both. A later growth
+/// that is refused changes no answer, since the number was placed.
+const TOLD: u64 = NUMBERS + 2 * 6;
 
 /// Inserts the numbers, each again after a refusal, where one request after `passing` many is refused: how many inserts
 /// were refused.

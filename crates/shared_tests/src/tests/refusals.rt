@@ -10,10 +10,10 @@ use std::test::Fail;
 /// How many numbers are inserted: a growth from 16 buckets to 32 lies among them.
 const NUMBERS: u64 = 17;
 
-/// The requests whose refusal an insert is told: one block a number, and for the first generation its marks, its words, its hints,
-/// its block, the words for the later ones, the room to take those out, and the block of both. A later growth that is
-/// refused changes no answer, since the number was placed.
-const TOLD: u64 = NUMBERS + 7;
+/// The requests whose refusal an insert is told: one block a number, and for the first generation its marks, its words, its block,
+/// the words for the later ones, the room to take those out, and the block of both. A later growth that is refused changes
+/// no answer, since the number was placed.
+const TOLD: u64 = NUMBERS + 6;
 
 /// Inserts the numbers, each again after a refusal, where one request after `passing` many is refused: how many inserts
 /// were refused.

@@ -1,7 +1,6 @@
-use Rattle.std.proofs.Common.{arith, refl, ap, ◌∙◌}
+use Rattle.std.proofs.Common.{arith, refl, sym, ap, ◌∙◌}
 use Rattle.generations.specs.Growth.{entry_of}
 use Rattle.generations.proofs.Contents.{generation_set, generation_room}
-use Rattle.generations.proofs.Hinting.{set_hinted}
 use Rattle.generations.proofs.Probes.{vacant_below, vacant_held}
 use Rattle.generations.proofs.fixed.Generation.insert.Goals as goal
 
@@ -12,26 +11,18 @@ pub overflow_add-self : goal.overflow_add-self
 overflow_add-self g c =
     let v = rw (← c.self.view_is) at c.in-Vacant.ensures in
     let below = vacant_below _ _ c.args.hash c.self.inside.row.contents c.in-Vacant.index v in
-    let room = generation_room c.self.inside.row.contents c.self.inside.size c.in-Vacant.index (entry_of c.args.value c.args.hash) c.self.invariant.sized below v.vacant in
-    let fits = c.self.invariant.sized.fits in
+    let room = generation_room c.self.inside.row.contents c.self.inside.size c.in-Vacant.index (entry_of c.args.value c.args.hash) c.self.invariant below v.vacant in
+    let fits = c.self.invariant.fits in
     record { fits = omega arith }
 
 pub invariant_of-self : goal.invariant_of-self
 invariant_of-self g c =
     let v = rw (← c.self.view_is) at c.in-Vacant.ensures in
     let below = vacant_below _ _ c.args.hash c.self.inside.row.contents c.in-Vacant.index v in
-    rw (c.in-Ok.ensures.placed, c.in-Ok.ensures.ids) (record {
-      sized = generation_set c.self.inside.row.contents c.self.inside.size c.in-Vacant.index _ _ c.self.invariant.sized below v.vacant refl;
-      hinted = set_hinted _ c.self.inside.row.ids c.self.inside.row.contents c.in-Vacant.index 0 _ _ refl c.self.invariant.hinted;
-    })
+    rw c.in-Ok.ensures.placed (generation_set c.self.inside.row.contents c.self.inside.size c.in-Vacant.index _ _ c.self.invariant below v.vacant refl)
 
 pub unreachable-requires : goal.unreachable-requires
 unreachable-requires g c =
     let v = rw (← c.self.view_is) at c.in-Vacant.ensures in
     let back = rw c.in-Err-Taken.field-0-is at c.in-Err-Taken.ensures.refused.1 in
     back.1 (vacant_held c.self.inside.row.contents c.in-Vacant.index v.vacant)
-
-pub returns-in-Err-NoMemory-clause-inserts : goal.returns-in-Err-NoMemory-clause-inserts
-returns-in-Err-NoMemory-clause-inserts g c =
-    let refused = rw c.in-Err-NoMemory.field-0-is at c.in-Err-NoMemory.ensures.refused in
-    ((c.in-Vacant.index, rw (← c.deref.ensures) c.in-Vacant.ensures), refused.1, ap (λ r. r.contents) refused.0 ∙ ap (λ v. v.contents) c.self.view_is)

@@ -1,7 +1,6 @@
-use Rattle.std.proofs.Common.{◌≡◌, true, false, arith, rules}
+use Rattle.std.proofs.Common.{◌≡◌, true, false, arith, rules, ap}
 use Rattle.generations.specs.Buckets.{shown_all}
 use Rattle.generations.proofs.Contents.{generation_set, generation_room, length-shown_all, name_shows}
-use Rattle.generations.proofs.Hinting.{set_hinted}
 use Rattle.generations.proofs.Probes.{vacant_below, vacant_held, vacant_into, ends_vacant}
 use Rattle.generations.proofs.fixed.Generation.insert_unique.Goals as goal
 
@@ -16,8 +15,8 @@ overflow_add-self g c =
     let v = rw (← c.self.view_is) at c.in-Vacant.ensures in
     let below = vacant_below _ _ c.args.hash c.self.inside.row.contents c.in-Vacant.index v in
     let (e, shows, is) = name_shows c.args.name.content c.requires.name in
-    let room = generation_room c.self.inside.row.contents c.self.inside.size c.in-Vacant.index e c.self.invariant.sized below v.vacant in
-    let fits = c.self.invariant.sized.fits in
+    let room = generation_room c.self.inside.row.contents c.self.inside.size c.in-Vacant.index e c.self.invariant below v.vacant in
+    let fits = c.self.invariant.fits in
     record { fits = omega arith }
 
 pub invariant_of-self : goal.invariant_of-self
@@ -25,17 +24,14 @@ invariant_of-self g c =
     let v = rw (← c.self.view_is) at c.in-Vacant.ensures in
     let below = vacant_below _ _ c.args.hash c.self.inside.row.contents c.in-Vacant.index v in
     let (e, shows, is) = name_shows c.args.name.content c.requires.name in
-    rw (c.put.ensures.put, c.put.ensures.ids) (record {
-      sized = generation_set c.self.inside.row.contents c.self.inside.size c.in-Vacant.index c.args.name.content e c.self.invariant.sized below v.vacant shows;
-      hinted = set_hinted c.self.inside.hints.items c.self.inside.row.ids c.self.inside.row.contents c.in-Vacant.index c.args.name.id c.args.name.content e shows c.self.invariant.hinted;
-    })
+    rw c.put.ensures.put (generation_set c.self.inside.row.contents c.self.inside.size c.in-Vacant.index c.args.name.content e c.self.invariant below v.vacant shows)
 
 pub unreachable-requires : goal.unreachable-requires
 unreachable-requires g c =
     let ps = shown_all c.self.inside.row.contents in
     let room = rw (← c.self.view_is) at c.requires.room in
     let long = length-shown_all c.self.inside.row.contents in
-    let counted = c.self.invariant.sized.counted in
+    let counted = c.self.invariant.counted in
     let (i, ends) = ends_vacant _ _ c.args.hash ps c.probe.result (λ x said. (let e : false ≡ true = search rules in (cc))) (omega arith) (rw (← c.self.view_is) at c.probe.ensures) in
     c.in_default.not-Vacant i ends
 
@@ -43,4 +39,4 @@ pub returns-clause-put : goal.returns-clause-put
 returns-clause-put g c = (c.in-Vacant.index, vacant_into _ _ _ (λ x r said. tt) _ _ _ c.in-Vacant.ensures, rw (← c.self.view_is) c.put.ensures.put)
 
 pub returns-clause-counted : goal.returns-clause-counted
-returns-clause-counted g c = (invariant_of-self g c).sized.counted
+returns-clause-counted g c = (invariant_of-self g c).counted
