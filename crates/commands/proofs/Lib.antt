@@ -1,7 +1,2 @@
-pub mod Digits
-pub mod Spaces
-pub mod LetterCalls
-pub mod NumberLists
 pub mod PairTables
 pub mod Replied
-pub mod EventPieces

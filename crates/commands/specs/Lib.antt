@@ -1,9 +1,3 @@
-pub mod Spelling
-pub mod Replies
-pub mod Stress
-pub mod Faults
-pub mod Arguments
 pub mod Pairs
-pub mod Events
-pub mod Answers
+pub mod Answered
 pub mod Schedules

@@ -1,8 +1,8 @@
 -- What a line of `core` does to the machine, and what it prints.
 use Rattle.std.specs.Prelude.{ℕ, List, [], ◌++◌, Option, Some, None, codes, decimal}
-use Rattle.commands.specs.Answers.{answer_text}
-use Rattle.commands.specs.declared.events.ScheduleLine.{ScheduleLine}
-use Rattle.commands.specs.declared.events.ScheduleLine.TheVariants.{Step, Buckets}
+use Rattle.program_texts.specs.Answers.{answer_text}
+use Rattle.program_texts.specs.declared.events.ScheduleLine.{ScheduleLine}
+use Rattle.program_texts.specs.declared.events.ScheduleLine.TheVariants.{Step, Buckets}
 use Rattle.table_core.specs.Replies.{Finished}
 use Rattle.table_core.specs.Machine.{World, happens, finishes}
 use Rattle.table_core.specs.History.{buckets}

@@ -2,16 +2,17 @@
 ghost use Rattle.std.specs.Prelude.{◌≡◌, ◌++◌, ℕ, List, OnOk, OnErr, IfErr, codes};
 ghost use Rattle.std.specs.Io.KnownBytes.{Appends};
 ghost use Rattle.terms.specs.Capacities.{IsFirstCapacity};
-ghost use Rattle.commands.specs.Faults.{IsInputFault, IsLineFault};
-ghost use Rattle.commands.specs.Replies.{AnswersAsPairs, reply_text};
+ghost use Rattle.program_texts.specs.Faults.{IsInputFault, IsLineFault};
+ghost use Rattle.program_texts.specs.Replies.{reply_text};
+ghost use Rattle.commands.specs.Answered.{AnswersAsPairs};
 
-use crate::faults::Fault;
-use crate::line_command::{LineCommand, take_lines};
-use crate::lines::Lines;
-use crate::output::Output;
 use crate::pairs::{PairCalls, PairTable};
-use crate::replies::Reply;
-use crate::spelling::{Line, parse_line};
+use program_texts::faults::Fault;
+use program_texts::line_command::{LineCommand, take_lines};
+use program_texts::lines::Lines;
+use program_texts::output::Output;
+use program_texts::replies::Reply;
+use program_texts::spelling::{Line, parse_line};
 use std::alloc::Allocator;
 use std::io::{Read, Write};
 
@@ -31,11 +32,11 @@ pub fn run_calls<A: Allocator + Copy, I: Read, O: Write>(
 
 impl<A: Allocator + Copy> LineCommand for PairTable<A> {
     ghost use Rattle.std.specs.Prelude.{ℕ, List, IfSome, IfNone};
-    ghost use Rattle.commands.specs.Faults.{IsLineFault};
+    ghost use Rattle.program_texts.specs.Faults.{IsLineFault};
     ghost use Rattle.commands.specs.Pairs.{raw_pairs};
-    ghost use Rattle.commands.specs.Replies.{AnswersAsPairs};
-    ghost use Rattle.commands.specs.Spelling.{SpellsLine};
-    ghost use Rattle.commands.specs.declared.spelling.Line.{Line as LineOf};
+    ghost use Rattle.commands.specs.Answered.{AnswersAsPairs};
+    ghost use Rattle.program_texts.specs.Spelling.{SpellsLine};
+    ghost use Rattle.program_texts.specs.declared.spelling.Line.{Line as LineOf};
 
     type Line = Line;
 

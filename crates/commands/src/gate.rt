@@ -1,7 +1,7 @@
 //! A gate that workers pass only where they run at the same time.
 ghost use Rattle.std.specs.Prelude.{◌≡◌, ◌<◌, IsTrue};
 
-use crate::faults::Fault;
+use program_texts::faults::Fault;
 use std::hint::spin_loop;
 use std::sync::atomic::{AtomicBool, Ordering};
 use std::thread::yield_now;

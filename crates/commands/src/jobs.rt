@@ -1,18 +1,18 @@
 //! A job of `stress`: workers that share a table at the same time.
 ghost use Rattle.std.specs.Prelude.{◌≡◌, ◌<◌, ◌≤◌, IfOk, IfErr};
-ghost use Rattle.commands.specs.Faults.{IsStartFault, IsJobFault};
-ghost use Rattle.commands.specs.Stress.{entries_of};
+ghost use Rattle.program_texts.specs.Faults.{IsStartFault, IsJobFault};
+ghost use Rattle.program_texts.specs.Stress.{entries_of};
 
-use crate::endings::Ending;
-use crate::faults::Fault;
 use crate::gate::{Gate, no_thread};
-use crate::job::Job;
-use crate::kinds::Kind;
 use crate::workers::{Values, Worker, insert_all, look_all};
 use lock_free_hashtable::raw::{LockFreeRawTable, Low};
+use program_texts::endings::Ending;
+use program_texts::faults::Fault;
+use program_texts::job::Job;
+use program_texts::kinds::Kind;
 use std::sync::Wait;
-use std::thread;
 use std::thread::{Builder, Threads};
+use std::thread;
 
 /// The workers that run at the same time.
 #[derive(Clone, Copy, Debug)]

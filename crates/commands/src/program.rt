@@ -1,29 +1,29 @@
 //! The program, over its words and streams.
-ghost use Rattle.std.specs.Prelude.{◌≡◌, ◌⊎◌, ◌++◌, OnOk, IfErr, map, codes};
-ghost use Rattle.std.specs.Io.KnownBytes.{Appends};
-ghost use Rattle.commands.specs.Arguments.{NamesCommand, IsRunnable, IsFaultOf};
-ghost use Rattle.commands.specs.Faults.{message_of, status_of};
-ghost use Rattle.commands.specs.declared.arguments.Command.{Command as CommandOf};
-ghost use Rattle.commands.specs.declared.faults.Fault.{Fault as FaultOf};
+ghost use Rattle.std.specs.Prelude.{◌≡◌, ◌⊎◌, IfErr, map};
+ghost use Rattle.program_texts.specs.Arguments.{NamesCommand, IsRunnable, IsFaultOf};
+ghost use Rattle.program_texts.specs.Faults.{status_of};
+ghost use Rattle.program_texts.specs.declared.arguments.Command.{Command as CommandOf};
+ghost use Rattle.program_texts.specs.declared.faults.Fault.{Fault as FaultOf};
 
-use crate::arguments::{Command, parse_command};
 use crate::calls::run_calls;
-use crate::faults::Fault;
 use crate::gate::{Gates, ProgramGates};
 use crate::jobs::Crew;
-use crate::lines::Lines;
-use crate::output::Output;
 use crate::schedules::run_core;
 use crate::seats::{WORKER_STACK, run_seats};
 use crate::shards::run_shards;
 use crate::stress::run_stress;
 use lock_free_hashtable::raw::Low;
+use program_texts::arguments::{Command, parse_command};
+use program_texts::faults::Fault;
+use program_texts::lines::Lines;
+use program_texts::messages::end_with;
+use program_texts::output::Output;
 use std::convert::AsStr;
+use std::env;
 use std::io::{ErrorKind, Read, Write};
 use std::rt::Env;
 use std::sync::Wait;
 use std::thread::Threads;
-use std::{env, io};
 
 /// Runs the command that the words of the environment stand for, and answers the status. `run_words` says what is written
 /// where.
@@ -64,23 +64,6 @@ pub fn run_words<
         Ok(()) => 0,
         Err(fault) => end_with(fault, messages),
     }
-}
-
-/// Writes the message of the fault, if it can be written, and answers the status.
-pub fn end_with<M: Write>(fault: Fault, messages: &mut M) -> u8
-    ensures { result ≡ status_of fault }
-{
-    if write_message(fault, messages).is_ok() {
-        let _ = messages.flush();
-    }
-    fault.status()
-}
-
-/// Writes the message of the fault on a line of its own.
-pub fn write_message<M: Write>(fault: Fault, messages: &mut M) -> io::Result<()>
-    ensures { OnOk result (Appends (M.contents messages.old) (M.contents messages.new) (message_of fault ++ codes "\n")) }
-{
-    writeln!(messages, "{fault}")
 }
 
 /// The words after the program's name. Words that are no text name no command.

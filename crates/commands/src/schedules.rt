@@ -1,16 +1,16 @@
 //! The command `core`: the events of a schedule, taken one by one.
 ghost use Rattle.std.specs.Prelude.{◌≡◌, ◌++◌, OnOk, OnErr, IfErr, codes, decimal};
 ghost use Rattle.std.specs.Io.KnownBytes.{Appends};
-ghost use Rattle.commands.specs.Answers.{answer_text};
-ghost use Rattle.commands.specs.Faults.{IsInputFault};
+ghost use Rattle.program_texts.specs.Answers.{answer_text};
+ghost use Rattle.program_texts.specs.Faults.{IsInputFault};
 ghost use Rattle.terms.specs.Capacities.{IsFirstCapacity};
 
-use crate::answers::Answer;
-use crate::events::{ScheduleLine, parse_schedule_line};
-use crate::faults::Fault;
-use crate::line_command::{LineCommand, take_lines};
-use crate::lines::Lines;
-use crate::output::Output;
+use program_texts::answers::Answer;
+use program_texts::events::{ScheduleLine, parse_schedule_line};
+use program_texts::faults::Fault;
+use program_texts::line_command::{LineCommand, take_lines};
+use program_texts::lines::Lines;
+use program_texts::output::Output;
 use std::alloc::Allocator;
 use std::io::{Read, Write};
 use table_core::reply::Finished;
@@ -33,10 +33,10 @@ pub fn run_core<A: Allocator + Copy, I: Read, O: Write>(
 
 impl<A: Allocator + Copy> LineCommand for State<A> {
     ghost use Rattle.std.specs.Prelude.{IfSome, IfNone};
-    ghost use Rattle.commands.specs.Events.{SpellsScheduleLine};
-    ghost use Rattle.commands.specs.Faults.{IsLineFault};
+    ghost use Rattle.program_texts.specs.Events.{SpellsScheduleLine};
+    ghost use Rattle.program_texts.specs.Faults.{IsLineFault};
     ghost use Rattle.commands.specs.Schedules.{world_after, printed};
-    ghost use Rattle.commands.specs.declared.events.ScheduleLine.{ScheduleLine as LineOf};
+    ghost use Rattle.program_texts.specs.declared.events.ScheduleLine.{ScheduleLine as LineOf};
 
     type Line = ScheduleLine;
 

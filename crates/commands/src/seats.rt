@@ -2,17 +2,17 @@
 ghost use Rattle.std.specs.Prelude.{◌≡◌, ◌+◌, length, IfErr};
 ghost use Rattle.seated.specs.Tables.{IsSeatOf};
 ghost use Rattle.seated.specs.Numbers.{own_numbers};
-ghost use Rattle.commands.specs.Faults.{IsStartFault, IsThreadFault};
+ghost use Rattle.program_texts.specs.Faults.{IsStartFault, IsThreadFault};
 
-use crate::faults::Fault;
 use crate::gate::{Gate, no_thread};
+use program_texts::faults::Fault;
 use seated::{NumberAnswer, NumberTable, Seat};
 use std::alloc::Allocator;
 use std::io::Write;
 use std::num::NonZeroU64;
 use std::sync::Wait;
-use std::thread;
 use std::thread::{Builder, Threads};
+use std::thread;
 
 /// How many numbers the table holds. Each worker inserts one more.
 const WORDS: usize = 1024;

@@ -3,16 +3,16 @@ ghost use Rattle.std.specs.Prelude.{◌≡◌, ◌++◌, OnOk, IfErr, codes};
 ghost use Rattle.std.specs.Io.KnownBytes.{Appends};
 ghost use Rattle.sharded_tables.specs.Shards.{empty_shards};
 ghost use Rattle.terms.specs.Capacities.{IsFirstCapacity};
-ghost use Rattle.commands.specs.Faults.{IsInputFault};
+ghost use Rattle.program_texts.specs.Faults.{IsInputFault};
 
-use crate::arguments::ShardCount;
 use crate::calls::answer_line;
-use crate::faults::Fault;
-use crate::line_command::{LineCommand, take_lines};
-use crate::lines::Lines;
-use crate::output::Output;
 use crate::sharded_pairs::ShardedPairs;
-use crate::spelling::{Line, parse_line};
+use program_texts::arguments::ShardCount;
+use program_texts::faults::Fault;
+use program_texts::line_command::{LineCommand, take_lines};
+use program_texts::lines::Lines;
+use program_texts::output::Output;
+use program_texts::spelling::{Line, parse_line};
 use std::alloc::Allocator;
 use std::io::{Read, Write};
 
@@ -91,11 +91,11 @@ fn sixteen<A: Allocator + Copy>(alloc: &A, first: usize) -> ShardedPairs<16, &A>
 
 impl<const SHARDS: usize, A: Allocator + Copy> LineCommand for ShardedPairs<SHARDS, A> {
     ghost use Rattle.std.specs.Prelude.{ℕ, List, IfSome, IfNone, map};
-    ghost use Rattle.commands.specs.Faults.{IsLineFault};
+    ghost use Rattle.program_texts.specs.Faults.{IsLineFault};
     ghost use Rattle.commands.specs.Pairs.{sharded_pairs};
-    ghost use Rattle.commands.specs.Replies.{AnswersAsPairs};
-    ghost use Rattle.commands.specs.Spelling.{SpellsLine};
-    ghost use Rattle.commands.specs.declared.spelling.Line.{Line as LineOf};
+    ghost use Rattle.commands.specs.Answered.{AnswersAsPairs};
+    ghost use Rattle.program_texts.specs.Spelling.{SpellsLine};
+    ghost use Rattle.program_texts.specs.declared.spelling.Line.{Line as LineOf};
 
     type Line = Line;
 

@@ -1,15 +1,15 @@
 //! The command `stress`: jobs of three kinds, each by many threads at once on a table that they share.
 ghost use Rattle.std.specs.Prelude.{◌≡◌, ◌<◌, ◌≤◌, OnOk, IfErr};
 ghost use Rattle.std.specs.Io.KnownBytes.{Appends};
-ghost use Rattle.commands.specs.Faults.{IsStressFault};
-ghost use Rattle.commands.specs.Stress.{kind_line, stress_text};
+ghost use Rattle.program_texts.specs.Faults.{IsStressFault};
+ghost use Rattle.program_texts.specs.Stress.{kind_line, stress_text};
 
-use crate::faults::Fault;
 use crate::gate::Gates;
-use crate::job::Job;
 use crate::jobs::{Crew, run_job};
-use crate::kinds::Kind;
 use lock_free_hashtable::raw::Low;
+use program_texts::faults::Fault;
+use program_texts::job::Job;
+use program_texts::kinds::Kind;
 use std::io::Write;
 use std::sync::Wait;
 use std::thread::Threads;

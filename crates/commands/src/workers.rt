@@ -1,12 +1,12 @@
 //! What each worker of a job does on the table that they share.
 ghost use Rattle.std.specs.Prelude.{◌≡◌, ◌<◌, IfOk};
-ghost use Rattle.commands.specs.Stress.{inserts_of, value_of, value_hash};
+ghost use Rattle.program_texts.specs.Stress.{inserts_of, value_of, value_hash};
 
-use crate::endings::Ending;
 use crate::gate::Gate;
-use crate::job::Job;
-use crate::kinds::Kind;
 use lock_free_hashtable::raw::{LockFreeRawTable, Low};
+use program_texts::endings::Ending;
+use program_texts::job::Job;
+use program_texts::kinds::Kind;
 use std::alloc::{AllocError, Allocator};
 use std::sync::Wait;
 

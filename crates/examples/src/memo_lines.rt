@@ -1,18 +1,18 @@
 //! The memo table over lines of numbers.
 ghost use Rattle.std.specs.Prelude.{◌≡◌, ◌⊎◌, ◌++◌, ℕ, OnOk, IfErr, IfSome, IfNone, codes, decimal};
 ghost use Rattle.std.specs.Io.KnownBytes.{Appends};
-ghost use Rattle.commands.specs.Faults.{IsLineFault, IsInputFault, status_of};
-ghost use Rattle.commands.specs.Spelling.{Writes};
-ghost use Rattle.commands.specs.declared.faults.Fault.{Fault as FaultOf};
+ghost use Rattle.program_texts.specs.Faults.{IsLineFault, IsInputFault, status_of};
+ghost use Rattle.program_texts.specs.Spelling.{Writes};
+ghost use Rattle.program_texts.specs.declared.faults.Fault.{Fault as FaultOf};
 ghost use Rattle.examples.specs.Fibonacci.{fibonacci_word};
 
 use crate::memo::Memo;
-use commands::faults::Fault;
-use commands::line_command::{LineCommand, take_lines};
-use commands::lines::Lines;
-use commands::output::Output;
-use commands::program::end_with;
-use commands::spelling::parse_decimal;
+use program_texts::faults::Fault;
+use program_texts::line_command::{LineCommand, take_lines};
+use program_texts::lines::Lines;
+use program_texts::messages::end_with;
+use program_texts::output::Output;
+use program_texts::spelling::parse_decimal;
 use std::alloc::Allocator;
 use std::io::{Read, Write};
 

@@ -27,4 +27,5 @@ pub use growth::Growth;
 pub use into_iter::IntoIter;
 pub use iter::Iter;
 pub use stepped::{InsertCall, LookupCall, Progress};
-pub use table::{Current, FIRST_CAPACITY, LockFreeRawTable};
+pub use table::{Current, LockFreeRawTable};
+pub use terms::capacity::FIRST_CAPACITY;

@@ -13,9 +13,7 @@ use std::marker::Model;
 use std::sync::RwLock;
 use std::sync::atomic::AtomicUsize;
 use std::sync::atomic::Ordering::SeqCst;
-
-/// The capacity of the first generation of a table made by `new`.
-pub const FIRST_CAPACITY: usize = 16;
+use terms::capacity::FIRST_CAPACITY;
 
 /// An insertion-only set that threads share. A look-up takes no lock.
 ///

@@ -1,6 +1,6 @@
 //! Bad lines, and inputs that are cut.
 use super::{assert_ended, assert_prints, run};
-use commands::blocks::BLOCK;
+use program_texts::blocks::BLOCK;
 use std::process::Abort;
 use std::sync::Wait;
 use std::test::Fail;

@@ -1,8 +1,8 @@
 //! The machine itself, over the lines of a schedule.
 ghost use Rattle.terms.specs.Capacities.{IsFirstCapacity};
 
-use commands::answers::Answer;
-use commands::events::{ScheduleLine, parse_schedule_line};
+use program_texts::answers::Answer;
+use program_texts::events::{ScheduleLine, parse_schedule_line};
 use std::alloc::{Allocator, Global};
 use std::test::Fail;
 use table_core::event::Event;

@@ -3,10 +3,10 @@ ghost use Rattle.std.specs.Prelude.{IfOk};
 ghost use Rattle.seated.specs.Tables.{IsSeatOf};
 
 use super::gates::ClosedFrom;
-use commands::faults::Fault;
 use commands::gate::{GATE_TURNS, Gate, MeetingGate};
 use commands::seats::{WORKER_STACK, run_seats, work};
 use lock_free_hashtable::raw::Low;
+use program_texts::faults::Fault;
 use refusing::{Refusing, Rule};
 use seated::{NumberTable, Seat};
 use std::alloc::{AllocError, Global};

@@ -1,16 +1,16 @@
 //! Jobs of many threads on a table that they share, and what ends them.
 use super::gates::{ClosedFrom, ClosedTo};
 use super::{assert_ended, assert_prints, run_refusing};
-use commands::endings::Ending;
-use commands::faults::Fault;
 use commands::gate::{Gate, Gates, MeetingGate, ProgramGates};
-use commands::job::Job;
 use commands::jobs::{Crew, run_job};
-use commands::kinds::Kind;
 use commands::seats::WORKER_STACK;
 use commands::stress::run_stress;
 use commands::workers::{Values, Worker, insert_all, make_call};
 use lock_free_hashtable::raw::{LockFreeRawTable, Low};
+use program_texts::endings::Ending;
+use program_texts::faults::Fault;
+use program_texts::job::Job;
+use program_texts::kinds::Kind;
 use refusing::{Refusing, Rule};
 use std::process::Abort;
 use std::sync::Wait;

@@ -1,9 +1,9 @@
 //! The worked schedules, on a table beside the machine.
 ghost use Rattle.terms.specs.Capacities.{IsFirstCapacity};
 
-use commands::events::{ScheduleLine, parse_schedule_line};
 use core_schedules::script::lines_of;
 use core_schedules::worked::{Row, SCHEDULES};
+use program_texts::events::{ScheduleLine, parse_schedule_line};
 use schedule_replay::course::{Course, run_course};
 use schedule_replay::script::Manner;
 use std::alloc::Global;

@@ -1,6 +1,6 @@
 use Rattle.std.proofs.Common.{refl, ap}
 use Rattle.std.specs.Prelude.{decimal}
-use Rattle.commands.specs.Replies.{insertion_text, lookup_text, number_list}
+use Rattle.program_texts.specs.Replies.{insertion_text, lookup_text, number_list}
 use Rattle.commands.proofs.Replied.{on_ok}
 use Rattle.commands.proofs.calls.answer_line.Goals as goal
 

@@ -1,5 +1,5 @@
 use Rattle.std.proofs.Common.{inr}
-use Rattle.commands.specs.declared.faults.Fault.TheVariants.{Usage}
+use Rattle.program_texts.specs.declared.faults.Fault.TheVariants.{Usage}
 use Rattle.commands.proofs.program.run_words.Goals as goal
 
 pub returns-in_default-clause-status : goal.returns-in_default-clause-status

@@ -1,5 +1,5 @@
 use Rattle.std.proofs.Common.{◌≡◌, ◌<◌}
-use Rattle.commands.specs.Stress.{entries_of}
+use Rattle.program_texts.specs.Stress.{entries_of}
 use Rattle.commands.proofs.stress.run_kind.Given as goal
 
 abbrev pub invariant-loop-number : goal.invariant-loop-number

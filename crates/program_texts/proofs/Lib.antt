@@ -1,0 +1,5 @@
+pub mod Digits
+pub mod Spaces
+pub mod LetterCalls
+pub mod NumberLists
+pub mod EventPieces

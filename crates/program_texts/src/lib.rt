@@ -1,0 +1,17 @@
+//! What the program reads and writes: words, lines, replies, faults.
+#![tactic(auto)]
+
+pub mod answers;
+pub mod arguments;
+pub mod blocks;
+pub mod endings;
+pub mod events;
+pub mod faults;
+pub mod job;
+pub mod kinds;
+pub mod line_command;
+pub mod lines;
+pub mod messages;
+pub mod output;
+pub mod replies;
+pub mod spelling;

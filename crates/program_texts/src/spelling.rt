@@ -1,0 +1,97 @@
+//! How the lines of the input are spelled.
+ghost use Rattle.std.specs.Prelude.{◌≡◌, ◌≤◌, ◌++◌, ℕ, IfSome, IfNone, codes};
+ghost use Rattle.program_texts.specs.Spelling.{Writes, SpellsNumber, SpellsPair, SpellsLine, HasNoSpace};
+ghost use Rattle.program_texts.specs.declared.spelling.Line.{Line as LineOf};
+
+/// A line of `calls`: what is asked of the table.
+#[derive(Clone, Copy, Debug, PartialEq, Eq)]
+pub enum Line {
+    Insert { hash: u64, number: u64 },
+    Lookup { hash: u64, number: u64 },
+    Length,
+    Walk,
+    Capacity,
+    Buckets,
+}
+
+/// Reads a whole line, without its line break. `None` is a line that is spelled in no such way.
+pub fn parse_line(text: &[u8]) -> Option<Line>
+    ensures spelled { IfSome result (SpellsLine text.now) }
+    ensures bad { IfNone result ((line : LineOf) → ¬ SpellsLine text.now line) }
+{
+    match text {
+        [b'i', b' ', rest @ ..] => {
+            let (hash, number) = parse_pair(rest)?;
+            Some(Line::Insert { hash, number })
+        }
+        [b'l', b' ', rest @ ..] => {
+            let (hash, number) = parse_pair(rest)?;
+            Some(Line::Lookup { hash, number })
+        }
+        b"n" => Some(Line::Length),
+        b"w" => Some(Line::Walk),
+        b"c" => Some(Line::Capacity),
+        b"b" => Some(Line::Buckets),
+        _ => None,
+    }
+}
+
+/// Reads two numbers with one space between them.
+pub fn parse_pair(text: &[u8]) -> Option<(u64, u64)>
+    ensures spelled { IfSome result (λ pair. SpellsPair text.now pair.0 pair.1) }
+    ensures bad { IfNone result ((first second : ℕ) → ¬ SpellsPair text.now first second) }
+{
+    let (before, after) = split_at_space(text)?;
+    let first = parse_number(before)?;
+    let second = parse_number(after)?;
+    Some((first, second))
+}
+
+/// What stands before the first space, and after it.
+pub fn split_at_space(text: &[u8]) -> Option<(&[u8], &[u8])>
+    ensures parts { IfSome result (λ parts. text.now ≡ parts.0.now ++ codes " " ++ parts.1.now) }
+    ensures first { IfSome result (λ parts. HasNoSpace parts.0.now) }
+    ensures missing { IfNone result (HasNoSpace text.now) }
+{
+    let space = text.iter().position(|byte| *byte == b' ')?;
+    Some((&text[..space], &text[space + 1..]))
+}
+
+/// Reads a number: 1 to 20 decimal digits, or `0x` and 1 to 16 hexadecimal digits of either case.
+pub fn parse_number(text: &[u8]) -> Option<u64>
+    ensures spelled { IfSome result (SpellsNumber text.now) }
+    ensures bad { IfNone result ((n : ℕ) → ¬ SpellsNumber text.now n) }
+{
+    match text {
+        [b'0', b'x', digits @ ..] => parse_digits(digits, 16, 16),
+        _ => parse_decimal(text),
+    }
+}
+
+/// Reads 1 to 20 decimal digits of a number below 2^64.
+pub fn parse_decimal(text: &[u8]) -> Option<u64>
+    ensures written { IfSome result (Writes 10 20 text.now) }
+    ensures bad { IfNone result ((n : ℕ) → ¬ Writes 10 20 text.now n) }
+{
+    parse_digits(text, 10, 20)
+}
+
+/// Reads at most so many digits of the radix.
+fn parse_digits(digits: &[u8], radix: u32, most: usize) -> Option<u64>
+    requires two { 2 ≤ radix }
+    requires letters { radix ≤ 36 }
+    ensures written { IfSome result (Writes radix most digits.now) }
+    ensures bad { IfNone result ((n : ℕ) → ¬ Writes radix most digits.now n) }
+{
+    if digits.is_empty() || digits.len() > most {
+        return None;
+    }
+    let mut value = 0u64;
+    for byte in digits {
+        let digit = char::from(*byte).to_digit(radix)?;
+        value = value
+            .checked_mul(u64::from(radix))?
+            .checked_add(u64::from(digit))?;
+    }
+    Some(value)
+}
