@@ -20,6 +20,7 @@ use Rattle.shared_table.specs.declared.carried.Held.{Held}
 use Rattle.shared_table.specs.declared.carried.Held.TheVariants as held
 use Rattle.shared_table.specs.declared.inserting.Inserting.{Inserting}
 use Rattle.shared_table.specs.Carried.{told, kept, placed, lock_of}
+use Rattle.shared_table.specs.Growths.{GrowthView}
 use Rattle.shared_table.proofs.Looked.{some_same}
 
 -- what holds in the next phase held in this one
@@ -89,7 +90,7 @@ value_told (Met r v) e = absurd (cc)
 
 module _ {T A E H X : Type 0} {g : Ghosts T X} (i : Inserting T A E H X g) where
   -- what holds between two steps of an insert that has this value, in this state, with what it walks, builds, carries and holds
-  abbrev pub Between : CallState → Option (Bor (GenerationView A T)) → Option ℕ → Carried T (Bor X) → Held → Type 0
+  abbrev pub Between : CallState → Option (Bor (GenerationView A T)) → Option (GrowthView T) → Carried T (Bor X) → Held → Type 0
   Between s walked growth carried held = record {
     inserts : Inserts s.phase;
     hopes : Hopes s.phase → s.outcome ≡ Pending;
@@ -100,7 +101,7 @@ module _ {T A E H X : Type 0} {g : Ghosts T X} (i : Inserting T A E H X g) where
     homes : ForSome walked (λ g. g.now.home ≡ i.table.now.home);
     locks : lock_of held ≡ lock_in s.phase;
     builds : s.phase ≡ Building → growth ≢ None;
-    grows : ForSome growth (λ g. g ≡ i.table.now.home);
+    grows : ForSome growth (λ g. g.home ≡ i.table.now.home);
     there : s.phase ≢ Done → carried ≢ Gone;
     tells : carried ≢ Gone → told carried ≡ Some (reached s.phase s.outcome);
     stems : ForSome (kept carried) (λ v. v ≡ i.asking.given.value);
@@ -144,8 +145,8 @@ module _ {T A E H X : Type 0} {g : Ghosts T X} (i : Inserting T A E H X g) where
   }
 
   -- an insert that goes to another phase
-  pub goes : (p q : Phase) (s : CallState) (growth : Option ℕ) (carried : Carried T (Bor X)) (held : Held) → i.state.phase ≡ p → s ≡ to q i.state → Leads p q → Bears q carried
-      → lock_of held ≡ lock_in q → (q ≡ Building → growth ≢ None) → ForSome growth (λ g. g ≡ i.table.now.home) → Between s i.walked growth carried held
+  pub goes : (p q : Phase) (s : CallState) (growth : Option (GrowthView T)) (carried : Carried T (Bor X)) (held : Held) → i.state.phase ≡ p → s ≡ to q i.state → Leads p q → Bears q carried
+      → lock_of held ≡ lock_in q → (q ≡ Building → growth ≢ None) → ForSome growth (λ g. g.home ≡ i.table.now.home) → Between s i.walked growth carried held
   goes p q s growth carried held at is leads bears locks builds grows =
       subst (λ (t : CallState). Between t i.walked growth carried held) (sym is) (record {
         inserts = leads.inserts;

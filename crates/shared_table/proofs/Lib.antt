@@ -1,6 +1,7 @@
 pub mod Starts
 mod Alone
 mod Between
+mod Copied
 mod Looked
 mod Missed
 mod Onward

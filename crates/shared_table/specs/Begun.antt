@@ -7,4 +7,4 @@ use Rattle.shared_table.specs.declared.growing.Wanted.TheVariants as wanted
 abbrev pub Begins : {A T U : Type 0} → ℕ → Wanted A T U → Type 0
 Begins home wanted.Unwanted = Unit {0}
 Begins home wanted.Failed = Unit {0}
-Begins home (wanted.Begun growth) = growth ≡ home
+Begins home (wanted.Begun growth) = growth.home ≡ home

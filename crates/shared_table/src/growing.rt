@@ -1,6 +1,7 @@
 //! Growth of a shared table, step by step, under its lock held alone.
 ghost use Rattle.std.specs.Prelude.{◌≡◌, ◌<◌, IfOk, length};
 ghost use Rattle.shared_table.specs.Begun.{Begins};
+ghost use Rattle.shared_table.specs.Growths.{PassedAll};
 
 use crate::growth::Growth;
 use crate::table::{Current, LockFreeRawTable};
@@ -25,7 +26,7 @@ pub enum Wanted<'a, T: AtomicValue, A: Allocator + Copy> {
 impl<T: AtomicValue, A: Low + Copy> LockFreeRawTable<T, A> {
     /// The first generation, without an entry.
     fn begin_first(&self) -> Result<Growth<'_, T, A>, AllocError>
-        ensures { IfOk result (λ g. g ≡ self.now.home) }
+        ensures { IfOk result (λ g. g.home ≡ self.now.home) }
     {
         let slot = self.lineage.slot(&self.home, 0)?;
         let built = Generation::with_capacity(self.alloc, &self.home, self.first_capacity)?;
@@ -36,7 +37,8 @@ impl<T: AtomicValue, A: Low + Copy> LockFreeRawTable<T, A> {
     fn begin_after<'a>(&'a self, current: Current<'a, T, A>) -> Result<Growth<'a, T, A>, AllocError>
         requires home { current.generation.now.home ≡ self.now.home }
         requires room { 0 < length current.generation.now.contents }
-        ensures { IfOk result (λ g. g ≡ self.now.home) }
+        ensures home { IfOk result (λ g. g.home ≡ self.now.home) }
+        ensures before { IfOk result (λ g. (g.before ≡ current.entry.generation.now.contents) × (g.passed ≡ 0)) }
     {
         let Some(number) = (current.number as usize).checked_add(1) else {
             return Err(AllocError);
@@ -71,7 +73,8 @@ impl<T: AtomicValue, A: Low + Copy> LockFreeRawTable<T, A> {
 
     /// Shows the generation that was made: from then on it is the current one. To be called while the lock is held alone.
     pub(crate) fn show(&self, growth: Growth<'_, T, A>)
-        requires { growth ≡ self.now.home }
+        requires home { growth.home ≡ self.now.home }
+        requires whole { PassedAll growth }
     {
         self.shown.store(growth.show(), SeqCst);
     }

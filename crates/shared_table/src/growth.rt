@@ -1,7 +1,8 @@
 //! The next generation of a shared table while it is made.
 ghost use Rattle.std.specs.Prelude.{◌≡◌, IfOk};
+ghost use Rattle.std.specs.Fn.{FnReturnsAt};
 ghost use Rattle.shared_table.specs.Lineages.{IsOpen};
-ghost use Rattle.shared_table.specs.Growths.{IsFresh};
+ghost use Rattle.shared_table.specs.Growths.{IsFresh, AreNamed, CopiesNext, PassedAll, growth_of};
 
 use crate::later::{Slot, show_block};
 use cell::{Home, Low};
@@ -26,13 +27,12 @@ pub struct Growth<'a, T: AtomicValue, A: Allocator + Copy> {
 }
 
 impl<'a, T: AtomicValue, A: Allocator + Copy> Model for Growth<'a, T, A> {
-    ghost use Rattle.std.specs.Prelude.{ℕ};
     ghost use Rattle.std.specs.Box.{box_allocator};
-    ghost use Rattle.shared_table.specs.Growths.{IsUnderWay};
+    ghost use Rattle.shared_table.specs.Growths.{GrowthView, IsUnderWay, growth_of};
 
-    ghost Value = { ℕ };
+    ghost Value = { GrowthView T };
 
-    ghost view = { λ g. g.home.now.id };
+    ghost view = { λ g. growth_of g.home.now.id g.from g.copied g.built };
 
     ghost invariant = { λ g. IsUnderWay g.home.now.id g.from g.copied g.built g.slot.alloc g.slot.word.now (box_allocator g.block) };
 }
@@ -48,7 +48,7 @@ impl<'a, T: AtomicValue, A: Allocator + Copy> Growth<'a, T, A> {
     ) -> Result<Self, AllocError>
         requires fresh { IsFresh home.now.id from built }
         requires open { IsOpen home.now.id slot.alloc slot.word.now }
-        ensures { IfOk result (λ g. g ≡ home.now.id) }
+        ensures { IfOk result (λ g. g ≡ growth_of home.now.id from.entry 0 built) }
     {
         let Ok(block) = Box::new(slot.alloc, Generation::none(slot.alloc, home)) else {
             return Err(AllocError);
@@ -67,7 +67,10 @@ impl<'a, T: AtomicValue, A: Allocator + Copy> Growth<'a, T, A> {
     /// Names the next entry that isn't copied yet in the generation that is made. False says that there is none.
     pub fn copy_next<H: Fn(&T::Target) -> u64>(&mut self, hash_fn: &H) -> bool
         requires { H.IsAlwaysCallable hash_fn.now }
-        ensures { self.new ≡ self.old }
+        ensures home { self.new.home ≡ self.old.home }
+        ensures before { self.new.before ≡ self.old.before }
+        ensures copies { CopiesNext T.target (FnReturnsAt H.Fn hash_fn.now) self.old result self.new }
+        ensures named { AreNamed self.new.before self.new.passed self.new.built }
     {
         let Some(from) = self.from else {
             return false;
@@ -88,7 +91,9 @@ impl<'a, T: AtomicValue, A: Allocator + Copy> Growth<'a, T, A> {
 
 impl<'a, T: AtomicValue, A: Low + Copy> Growth<'a, T, A> {
     /// Shows the generation that was made, and says how many there are with it.
-    pub(crate) fn show(self) -> usize {
+    pub(crate) fn show(self) -> usize
+        requires whole { PassedAll self }
+    {
         let Growth {
             home,
             number,

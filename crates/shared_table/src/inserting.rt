@@ -55,7 +55,7 @@ pub(crate) struct Inserting<
     ghost homes: { ForSome walked (λ g. g.now.home ≡ table.now.home) },
     ghost locks: { lock_of held ≡ lock_in state.phase },
     ghost builds: { state.phase ≡ Building → growth ≢ None },
-    ghost grows: { ForSome growth (λ g. g ≡ table.now.home) },
+    ghost grows: { ForSome growth (λ g. g.home ≡ table.now.home) },
     ghost there: { state.phase ≢ Done → carried ≢ Gone },
     ghost tells: { carried ≢ Gone → told carried ≡ Some (reached state.phase state.outcome) },
     ghost stems: { ForSome (kept carried) (λ v. v ≡ asking.given.value) },

@@ -13,7 +13,10 @@ pub copy_next-requires : goal.copy_next-requires
 copy_next-requires g c = c.requires.asks.1
 
 pub show-requires : goal.show-requires
-show-requires g c = c.copy_next.ensures ∙ c.args.self.now.grows c.in-Some.growth (sym c.in-Some.ensures.value)
+show-requires g c = record {
+  home = c.copy_next.ensures.home ∙ c.args.self.now.grows c.in-Some.growth (sym c.in-Some.ensures.value);
+  whole = (rw c.if-copy_next.false at c.copy_next.ensures.copies).1;
+}
 
 pub step-self-requires : goal.step-self-requires
 step-self-requires g c = record { fits = rw c.requires.phase refl }
@@ -23,7 +26,7 @@ invariant_of-self g c =
     let i = c.args.self.now in
     goes i Building Building c.step-self.result (Some c.copy_next.new.self) i.carried i.held c.requires.phase (taken Building Copied i.state c.step-self.result c.requires.phase c.step-self.ensures.decided)
     (record { inserts = refl; hopes = λ x. x; stands = λ x. x; walks = λ x. x })
-    (bears i Building Building c.requires.phase refl refl) (keeps_lock i Building c.requires.phase) (λ _ e. absurd (cc)) (λ x e. sym (some_same c.copy_next.new.self x e) ∙ c.copy_next.ensures ∙ i.grows c.in-Some.growth (sym c.in-Some.ensures.value))
+    (bears i Building Building c.requires.phase refl refl) (keeps_lock i Building c.requires.phase) (λ _ e. absurd (cc)) (λ x e. rw (← some_same c.copy_next.new.self x e) (c.copy_next.ensures.home ∙ i.grows c.in-Some.growth (sym c.in-Some.ensures.value)))
 
 pub step-self-requires-2 : goal.step-self-requires-2
 step-self-requires-2 g c = record { fits = rw c.requires.phase refl }

@@ -34,7 +34,7 @@ invariant_of-self-in-Begun g c =
     let i = c.args.self.now in
     goes i Owned Building c.step-self-in-Begun.result (Some c.in-Begun.growth) i.carried i.held c.requires.phase (taken Owned Begun i.state c.step-self-in-Begun.result c.requires.phase c.step-self-in-Begun.ensures.decided)
     (record { inserts = refl; hopes = λ x. x; stands = λ x. x; walks = λ x. x })
-    (bears i Owned Building c.requires.phase refl refl) (keeps_lock i Owned c.requires.phase) (λ _ e. absurd (cc)) (λ x e. sym (some_same c.in-Begun.growth x e) ∙ c.in-Begun.ensures)
+    (bears i Owned Building c.requires.phase refl refl) (keeps_lock i Owned c.requires.phase) (λ _ e. absurd (cc)) (λ x e. rw (← some_same c.in-Begun.growth x e) c.in-Begun.ensures)
 
 pub returns-in-Unwanted-clause-went : goal.returns-in-Unwanted-clause-went
 returns-in-Unwanted-clause-went g c = c.step-self.ensures.went
