@@ -6,7 +6,6 @@ pub mod gate;
 pub mod jobs;
 pub mod pairs;
 pub mod program;
-pub mod schedules;
 pub mod seats;
 pub mod sharded_pairs;
 pub mod shards;

@@ -5,3 +5,4 @@ pub mod Faults
 pub mod Arguments
 pub mod Events
 pub mod Answers
+pub mod Schedules

@@ -1,4 +1,4 @@
-//! What the program reads and writes: words, lines, replies, faults.
+//! What the program reads and writes: words, lines, replies, faults; and the command that asks the machine of all schedules.
 #![tactic(auto)]
 
 pub mod answers;
@@ -14,4 +14,5 @@ pub mod lines;
 pub mod messages;
 pub mod output;
 pub mod replies;
+pub mod schedules;
 pub mod spelling;

@@ -5,12 +5,12 @@ ghost use Rattle.program_texts.specs.Answers.{answer_text};
 ghost use Rattle.program_texts.specs.Faults.{IsInputFault};
 ghost use Rattle.terms.specs.Capacities.{IsFirstCapacity};
 
-use program_texts::answers::Answer;
-use program_texts::events::{ScheduleLine, parse_schedule_line};
-use program_texts::faults::Fault;
-use program_texts::line_command::{LineCommand, take_lines};
-use program_texts::lines::Lines;
-use program_texts::output::Output;
+use crate::answers::Answer;
+use crate::events::{ScheduleLine, parse_schedule_line};
+use crate::faults::Fault;
+use crate::line_command::{LineCommand, take_lines};
+use crate::lines::Lines;
+use crate::output::Output;
 use std::alloc::Allocator;
 use std::io::{Read, Write};
 use table_core::reply::Finished;
@@ -35,7 +35,7 @@ impl<A: Allocator + Copy> LineCommand for State<A> {
     ghost use Rattle.std.specs.Prelude.{IfSome, IfNone};
     ghost use Rattle.program_texts.specs.Events.{SpellsScheduleLine};
     ghost use Rattle.program_texts.specs.Faults.{IsLineFault};
-    ghost use Rattle.commands.specs.Schedules.{world_after, printed};
+    ghost use Rattle.program_texts.specs.Schedules.{world_after, printed};
     ghost use Rattle.program_texts.specs.declared.events.ScheduleLine.{ScheduleLine as LineOf};
 
     type Line = ScheduleLine;
