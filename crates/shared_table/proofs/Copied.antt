@@ -1,6 +1,6 @@
 -- Entries of the generation before that are named in the one that is made.
-use Rattle.std.proofs.Common.{◌≡◌, ◌≢◌, ◌∙◌, ℕ, ◌+◌, ◌<◌, ◌≤◌, inl, inr, List, Option, Some, None, length, refl, sym, ap, arith, get_or-set_other, get_or-set_same}
-use Rattle.std.specs.Prelude.{IfSome, map, option_map, ⊤}
+use Rattle.std.proofs.Common.{◌≡◌, ◌∙◌, ℕ, ◌+◌, ◌<◌, inl, inr, List, Option, Some, None, length, refl, sym, ap, arith, get_or-set_other, get_or-set_same}
+use Rattle.std.specs.Prelude.{IfSome, option_map, ⊤}
 use Rattle.std.proofs.lemmas.Bool.{cases_eq}
 use Rattle.cell.specs.Contents.{BucketView, bucket}
 use Rattle.cell.specs.declared.bucket.Entry.{Entry}

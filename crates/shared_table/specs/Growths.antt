@@ -34,8 +34,9 @@ module _ {T : Type 0} where
   PassedAll g = length g.before ≤ g.passed
 
 module _ {T U : Type 0} (target : T → U) (rehash : U → ℕ → Type 0) where
-  -- bucket i was passed as the next one that shows an entry: the one that it was set to alone, if it
-  -- was. That entry is named in the first empty bucket for a hash that rehash may answer for it
+  -- bucket i is passed, none that is passed before it was set alone, and e is named in the first
+  -- empty bucket for a hash that rehash may answer for it. If bucket i was set alone, e is its entry;
+  -- otherwise this doesn't say which entry e is
   pub record CopiesAt (old new : GrowthView T) (i : ℕ) (e : Entry T) (hash : ℕ) : Type 0 where
     pub on : old.passed ≤ i
     pub within : i < length old.before
@@ -45,7 +46,8 @@ module _ {T U : Type 0} (target : T → U) (rehash : U → ℕ → Type 0) where
     pub asked : rehash (target e.value) hash
     pub put : PutsName target old.built new.built hash (named e)
 
-  -- the next entry is copied; or all buckets are passed, and none that was left was set alone
+  -- one more bucket is passed and one entry named; or nothing is named, all buckets are passed, and
+  -- none that was left was set alone
   abbrev pub CopiesNext : GrowthView T → Bool → GrowthView T → Type 0
   CopiesNext old true new = (i : ℕ) × (e : Entry T) × (hash : ℕ) × CopiesAt old new i e hash
   CopiesNext old false new = (new.built ≡ old.built) × PassedAll new × NoneAlone old.before old.passed (length old.before)
@@ -56,29 +58,30 @@ module _ {A T : Type 0} where
   buckets_before None = []
   buckets_before (Some from) = from.now.contents
 
+  -- a growth as its callers see it
   abbrev pub growth_of : ℕ → Option (Bor (GenerationView A T)) → ℕ → GenerationView A T → GrowthView T
   growth_of home from passed built =
       record { home = home; before = buckets_before from; passed = passed; built = built.contents }
 
-  -- after so many buckets of the generation before, no more entries are copied; it is of the same
-  -- home, and has fewer buckets than the one that is made
-  abbrev pub IsBehind : Option (Bor (GenerationView A T)) → ℕ → GenerationView A T → Type 0
-  IsBehind None copied built = Unit {0}
-  IsBehind (Some from) copied built = AreOfOneHome built from.now × (length from.now.contents < length built.contents)
+  -- the generation before, if there is one, is of the same home and allocator, and has fewer buckets
+  -- than the one that is made
+  abbrev pub IsBehind : Option (Bor (GenerationView A T)) → GenerationView A T → Type 0
+  IsBehind None built = Unit {0}
+  IsBehind (Some from) built = AreOfOneHome built from.now × (length from.now.contents < length built.contents)
 
   -- a generation of this home that is made after the one before, with no entry copied yet
   pub record IsFresh (home : ℕ) (from : Option (Bor (GenerationView A T))) (built : GenerationView A T) : Type 0 where
     pub home_is : built.home ≡ home
     pub room : 0 < length built.contents
-    pub behind : IsBehind from 0 built
+    pub behind : IsBehind from built
     pub empty : built.size ≡ 0
 
   -- a generation that is made: at most so many entries are copied as buckets were passed, those that
-  -- were set alone are named, and its word and its block are of one allocator
+  -- the passed buckets were set to alone are named, and its word and its block are of one allocator
   pub record IsUnderWay {X : Type 0} (home : ℕ) (from : Option (Bor (GenerationView A T))) (copied : ℕ)
       (built : GenerationView A T) (alloc : A) (word : WordView A X) (block : A) : Type 0 where
     pub home_is : built.home ≡ home
-    pub behind : IsBehind from copied built
+    pub behind : IsBehind from built
     pub few : built.size ≤ copied
     pub all_named : AreNamed (buckets_before from) copied built.contents
     pub is_open : IsOpen home alloc word

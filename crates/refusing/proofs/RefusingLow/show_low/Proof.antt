@@ -1,12 +1,11 @@
 -- The allocator below answers whether a block may be compared with null.
-use Rattle.std.proofs.Common.{◌≡◌, [], ◌∷◌, refl, sym, ap, subst}
+use Rattle.std.proofs.Common.{[], ◌∷◌, refl, sym, ap, subst}
 use base.Logic.{SProp, emp, id⊢}
 use base.Fml.{Fml, ftrue, fsep, flft}
 use mir.Syntax.{a_type, dcons, dnil}
 use mir.Val.{Val, vunit}
 use mir.MapTy.{inst_fn}
-use prog.Wp.{WpFn}
-use types.Kit.{‵, raw, ◌⊛◌, some, later, at_ret, ◌$◌, ◌∵◌, !, qed, drop, keep, move, use0, use1, join, split, split3, fjoin, fsplit, pick, await, feq_i, feq_l, suffices, group, done}
+use types.Kit.{‵, raw, ◌⊛◌, some, later, at_ret, ◌$◌, ◌∵◌, !, qed, drop, keep, move, use0, use1, join, split, fjoin, pick, await, feq_i, feq_l, suffices, group, done}
 use types.Run.{enter, of_opd, unit_lit, no_more, and_then, first, blocks, exec, returns}
 use types.ByLocal.{alloc_all, pass_all, free_all, look_at, get, sets, lands_last, env}
 use contract.Monad.{fact, fact_i}
@@ -20,7 +19,6 @@ use denote.RawPtr.{Ptr, RawPtr, ptr_val, rawptr_vals, rawptr_Tells}
 use denote.Signature.{plain, types_at}
 use denote.Steps.{nothing, only, heard}
 use denote.Triple.Clauses.{Lasts, lasts}
-use denote.Triple.Entry.{on_entry}
 use denote.Triple.Spec.{triple_of}
 use denote.Triple.Call.{calls_at_last}
 use denote.Triple.Walked.{Stays, walk_of, stay_dropped, Goes-dropped, ends_at}

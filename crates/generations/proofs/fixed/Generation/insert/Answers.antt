@@ -1,4 +1,4 @@
-use Rattle.std.proofs.Common.{arith, refl, sym, ap, ◌∙◌}
+use Rattle.std.proofs.Common.{arith, refl}
 use Rattle.generations.specs.Growth.{entry_of}
 use Rattle.generations.proofs.Contents.{generation_set, generation_room}
 use Rattle.generations.proofs.Probes.{vacant_below, vacant_held}

@@ -1,4 +1,4 @@
-use Rattle.std.proofs.Common.{◌≡◌, true, false, arith, rules, ap}
+use Rattle.std.proofs.Common.{◌≡◌, true, false, arith, rules}
 use Rattle.generations.specs.Buckets.{shown_all}
 use Rattle.generations.proofs.Contents.{generation_set, generation_room, length-shown_all, name_shows}
 use Rattle.generations.proofs.Probes.{vacant_below, vacant_held, vacant_into, ends_vacant}

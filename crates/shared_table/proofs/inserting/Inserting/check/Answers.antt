@@ -1,4 +1,4 @@
-use Rattle.std.proofs.Common.{◌∙◌, refl, sym, Some}
+use Rattle.std.proofs.Common.{refl, Some}
 use Rattle.table_core.specs.declared.call.Answer.TheVariants.{Begun, Failed, Unwanted}
 use Rattle.table_core.specs.declared.call.Phase.TheVariants.{Building, LeaveFailed, LeaveOwned, Owned}
 use Rattle.shared_table.proofs.Looked.{some_same}
