@@ -11,8 +11,8 @@ use program_texts::faults::Fault;
 use program_texts::job::Job;
 use program_texts::kinds::Kind;
 use std::sync::Wait;
-use std::thread::{Builder, Threads};
 use std::thread;
+use std::thread::{Builder, Threads};
 
 /// The workers that run at the same time.
 #[derive(Clone, Copy, Debug)]

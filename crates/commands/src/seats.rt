@@ -11,8 +11,8 @@ use std::alloc::Allocator;
 use std::io::Write;
 use std::num::NonZeroU64;
 use std::sync::Wait;
-use std::thread::{Builder, Threads};
 use std::thread;
+use std::thread::{Builder, Threads};
 
 /// How many numbers the table holds. Each worker inserts one more.
 const WORDS: usize = 1024;

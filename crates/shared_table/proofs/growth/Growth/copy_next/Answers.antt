@@ -11,7 +11,7 @@ invariant_of-self-in-Some-name_at g c =
     let behind = rw at at w.behind in
     let one_home = c.insert_unique.ensures.home in
     let (is, alone) = seen_name c.in-Some.from.now.from c.in-Some.from.now.home (content_at c.in-Some.from.now.contents c.loop-self.self-inside.copied) _ _ c.in-Some-name_at.name c.entry.result.now
-        c.in-Some-name_at.ensures.seen (rw c.as_ref.ensures at c.entry.ensures) in
+    c.in-Some-name_at.ensures.seen (rw c.as_ref.ensures at c.entry.ensures) in
     let put = rw is at c.insert_unique.ensures.put in
     rw at (record {
       home_is = one_home.0 ∙ w.home_is;
@@ -25,16 +25,21 @@ invariant_of-self-in-Some-name_at g c =
 pub returns-in-Some-name_at-clause-copies : goal.returns-in-Some-name_at-clause-copies
 returns-in-Some-name_at-clause-copies g c =
     let (is, alone) = seen_name c.in-Some.from.now.from c.in-Some.from.now.home (content_at c.in-Some.from.now.contents c.loop-self.self-inside.copied) _ _ c.in-Some-name_at.name c.entry.result.now
-        c.in-Some-name_at.ensures.seen (rw c.as_ref.ensures at c.entry.ensures) in
-    rw (← c.self.view_is, ← c.loop-self.invariant.built_is, c.in-Some.is) (c.loop-self.self-inside.copied, c.entry.result.now, c.hash_fn-hash.result, record {
-      on = c.loop-self.invariant.on;
-      within = (let below = c.loop-self-test.true in let long = c.capacity.ensures in omega arith);
-      passed = refl {a = c.loop-self.self-inside.copied + 1};
-      skipped = rw c.in-Some.is at c.loop-self.invariant.skipped;
-      alone = alone;
-      asked = record { shown = c.deref.result; shows = c.deref.ensures; says = record { met = c.hash_fn-hash.ensures } };
-      put = rw is at c.insert_unique.ensures.put;
-    })
+    c.in-Some-name_at.ensures.seen (rw c.as_ref.ensures at c.entry.ensures) in
+    rw (← c.self.view_is, ← c.loop-self.invariant.built_is, c.in-Some.is) (
+      c.loop-self.self-inside.copied,
+      c.entry.result.now,
+      c.hash_fn-hash.result,
+      record {
+        on = c.loop-self.invariant.on;
+        within = (let below = c.loop-self-test.true in let long = c.capacity.ensures in omega arith);
+        passed = refl {a = c.loop-self.self-inside.copied + 1};
+        skipped = rw c.in-Some.is at c.loop-self.invariant.skipped;
+        alone = alone;
+        asked = record { shown = c.deref.result; shows = c.deref.ensures; says = record { met = c.hash_fn-hash.ensures } };
+        put = rw is at c.insert_unique.ensures.put;
+      },
+    )
 
 pub returns-in-Some-name_at-clause-named : goal.returns-in-Some-name_at-clause-named
 returns-in-Some-name_at-clause-named g c = (invariant_of-self-in-Some-name_at g c).all_named
