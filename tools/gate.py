@@ -1,5 +1,5 @@
 #!/usr/bin/env python3
-"""Runs the gate, `rt ci`, and says how many CPU minutes each crate's proof, tests and edits took.
+"""Runs the gate, `.ci/run`, and says how many CPU minutes each crate's proof, tests and edits took.
 
     tools/gate.py [LOG]
 
@@ -12,13 +12,16 @@ import sys
 import time
 
 TICKS = os.sysconf("SC_CLK_TCK")
-KINDS = ("proof", "tests", "edits", "programs")
+GATE = os.path.join(os.path.dirname(os.path.abspath(__file__)), "..", ".ci", "run")
+KINDS = ("proof", "tests", "edits", "kept", "programs")
 
 
 def kind_of(words, folder):
-    """What a run of the prover is for."""
-    if os.path.basename(folder).startswith("rt-edit-"):
+    """What a run of the prover is for: `kept` is what `tools/edits.py` has proved before it tries the edits of a crate."""
+    if os.path.basename(folder).startswith("rt-edit-") or "/edits-" in folder:
         return "edits"
+    if "--incremental" in words:
+        return "kept"
     if "--test" in words:
         return "tests"
     return "programs" if "--backend" in words else "proof"
@@ -46,7 +49,7 @@ def main():
     log = sys.argv[1] if len(sys.argv) > 1 else "gate.log"
     seen, began = {}, time.time()
     with open(log, "w") as out:
-        gate = subprocess.Popen(["rt", "ci"], stdin=subprocess.DEVNULL, stdout=out, stderr=subprocess.STDOUT)
+        gate = subprocess.Popen([GATE], stdin=subprocess.DEVNULL, stdout=out, stderr=subprocess.STDOUT)
         while gate.poll() is None:
             look(seen)
             time.sleep(0.5)

@@ -1,30 +1,78 @@
 #!/usr/bin/env python3
-"""Writes docs/CALLS.md: the public calls of every crate, each with its signature and the first sentence of its docs.
+"""Writes what the pages say of the sources, and checks it.
 
     tools/pages.py [--check]
 
-With --check it writes nothing, and ends by 1 where that page isn't what it would write, or where a block of README.md or docs/EXAMPLE.md
-isn't part of the file that is named right above it.
+It writes the parts of pages that follow from the sources:
+- docs/PROMISES.md: below each call its signature and the names of its clauses; and the calls of the crates that have no section there;
+- docs/STATUS.md: the table of sizes;
+- docs/ARCHITECTURE.md: the table of crates and the index of the proof files;
+- each block below a line that ends in 'the whole of `FILE`:'.
+
+With --check it writes nothing, and ends by 1 where a part isn't what it would write. Either way it says so and ends by 1 where
+- PROMISES.md names a call or a clause that isn't there, or a public call of a crate that has a section there has no line;
+- a block below a line that ends in a file's name isn't part of that file, or a clause of CONTRACT.md isn't as its file has it;
+- a link leads to no file.
 """
+import collections
+import dataclasses
 import pathlib
 import re
 import sys
 
 TOP = pathlib.Path(__file__).resolve().parent.parent
-PAGE = TOP / "docs" / "CALLS.md"
-HEAD = """# Public calls
+DOCS = TOP / "docs"
+PAGES = [TOP / "README.md", TOP / "CONTRIBUTING.md", TOP / "CHANGELOG.md", *sorted(DOCS.glob("*.md"))]
 
-Every public call of every crate, with its signature as it stands in the code and the first sentence of its docs. What a call promises is
-its contract, in the file named; README.md says the promises in words. Methods of std's traits, as `into_iter`, aren't listed. `tools/pages.py` writes this page.
-"""
+
+# The crates
 
 
 def crates():
-    """The crates in the order of crates.txt, lowest first."""
+    """The crates in the order of crates.txt, each with the names of those that it stands on."""
     for line in (TOP / "crates.txt").read_text().splitlines():
-        name = line.partition("#")[0].partition(":")[0].strip()
-        if name:
-            yield name.split()[0]
+        name, _, below = line.partition("#")[0].partition(":")
+        if name.strip():
+            yield name.split()[0], below.split()
+
+
+def folder_of(crate):
+    return TOP / "crates" / crate
+
+
+def first_sentence(docs):
+    """The first sentence of a call's docs."""
+    text = " ".join(docs[:docs.index("")] if "" in docs else docs)
+    return re.split(r"(?<=[.:]) (?=[A-Z`])", text, maxsplit=1)[0].rstrip(":") if text else ""
+
+
+def files_below(crate, folder, ending):
+    return sorted((folder_of(crate) / folder).rglob(f"*{ending}"))
+
+
+# The calls
+
+
+@dataclasses.dataclass
+class Call:
+    """A function of a crate, with the names of its clauses: an unnamed one is ''."""
+
+    owner: str
+    name: str
+    public: bool
+    signature: str
+    docs: str
+    requires: list
+    ensures: list
+
+    def line(self):
+        """The signature and the names of the clauses, on one line."""
+        parts = [f"`{self.signature}`"]
+        for word, names in (("requires", self.requires), ("ensures", self.ensures)):
+            named = [f"`{name}`" if name else "one clause" for name in names]
+            if named:
+                parts.append(f"{word} " + ", ".join(named))
+        return "; ".join(parts)
 
 
 def shown(root):
@@ -53,104 +101,307 @@ def public_types(names):
     return types
 
 
-def first_sentence(docs):
-    """The first sentence of a call's docs."""
-    text = " ".join(docs[:docs.index("")] if "" in docs else docs)
-    return re.split(r"(?<=[.:]) (?=[A-Z`])", text, maxsplit=1)[0].rstrip(":") if text else ""
+def without_parameters(text):
+    """What follows the parameters in angle brackets that a text begins with."""
+    depth = 0
+    for at, letter in enumerate(text):
+        depth += (letter == "<") - (letter == ">" and text[at - 1] != "-")
+        if depth == 0:
+            return text[at + (letter == ">"):].strip()
+    return text
 
 
-def owner_of(line):
-    """The type or trait whose methods a block holds that begins with this line, or None for an impl of a trait."""
-    if " for " in line:
-        return None
-    head = re.sub(r"^(unsafe )?(impl(<.*?>)?|pub trait|trait) (?=\w)", "", line)
-    return re.match(r"\w+", head).group()
+def owner_of(head):
+    """The type or trait whose methods a block with this head holds; of an impl of a trait the type."""
+    kind, rest = re.match(r"(?:unsafe )?(?:pub )?(impl|trait)\b\s*(.*)", head).groups()
+    rest = without_parameters(rest) if kind == "impl" and rest.startswith("<") else rest
+    name = re.search(r" for (?:&(?:'\w+ )?(?:mut )?)?(?:\w+::)*(\w+)", rest) if kind == "impl" else None
+    return (name or re.match(r"(?:\w+::)*(\w+)", rest)).group(1)
 
 
-def calls(text, names, types):
-    """The signatures of a file's public calls, each with its docs and the type that it is of."""
-    lines = text.splitlines()
-    owner, block, docs = None, "", []
+def is_of_trait(head):
+    """Whether a block with this head is an impl of a trait."""
+    kind, _, rest = head.removeprefix("unsafe ").partition("impl")
+    return kind == "" and " for " in without_parameters(rest.strip())
+
+
+def head_at(lines, at):
+    """The head of the impl or trait that begins at a line, up to its brace."""
+    parts = []
+    for line in lines[at:]:
+        parts.append(line.strip())
+        if line.rstrip().endswith(("{", "{}")):
+            break
+    return " ".join(parts)
+
+
+def signature_at(lines, at):
+    """The signature that begins at a line, on one line, and the names of its clauses."""
+    parts, clauses = [], {"requires": [], "ensures": []}
+    for line in lines[at:]:
+        stripped = line.strip()
+        clause = re.match(r"(requires|ensures)\*?\s*(\w*)\s*\{", stripped)
+        if clause:
+            clauses[clause.group(1)].append(clause.group(2))
+        elif not any(clauses.values()) and not stripped.startswith(("{", "ghost", "where", "//")):
+            parts.append(re.sub(r"\s*(\{|\{\}|;)$", "", stripped))
+        begun = any(clauses.values())
+        if stripped in ("{", "{}") or stripped.endswith(";") or (stripped.endswith(("{", "{}")) and not begun):
+            break
+    text = re.sub(r",? ([)>])(?!=)", r"\1", " ".join(parts))
+    return re.sub(r"([(<]) ", r"\1", text).replace("pub ", "", 1), clauses
+
+
+def calls_in(file, only, types):
+    """The functions of a file that a crate's users can call, and those of std's traits."""
+    lines = file.read_text().splitlines()
+    head, docs, ghosts = "", [], []
     for at, line in enumerate(lines):
-        start = re.match(r"(unsafe )?(impl|pub trait|trait)\b", line)
-        if start or line.startswith("}"):
-            block = line if start else ""
-            owner = owner_of(line) if start else None
+        if re.match(r"(unsafe )?(impl|pub trait|trait)\b", line) or line.startswith("}"):
+            head, ghosts = "" if line.startswith("}") else head_at(lines, at), []
+            head = "" if head.endswith("{}") else head
         stripped = line.strip()
         if stripped.startswith("///"):
             docs.append(stripped[3:].strip())
             continue
+        ghost = re.match(r"ghost (\w+)\s*=", stripped)
+        if ghost and is_of_trait(head):
+            ghosts.append(ghost.group(1))
         call = re.match(r"(pub )?(unsafe )?fn (\w+)", stripped)
-        if call and (call.group(1) or block.startswith("pub trait")):
-            shown_free = not block and (names is None or call.group(3) in names) and not line.startswith(" ")
-            if shown_free or owner in types:
-                yield owner, signature(lines, at), first_sentence(docs)
+        if call:
+            owner = owner_of(head) if head else ""
+            of_trait = is_of_trait(head)
+            free = not head and not line.startswith(" ") and (only is None or call.group(3) in only)
+            public = bool(call.group(1) or head.startswith("pub trait")) and (free or owner in types) and not of_trait
+            if public or (of_trait and owner in types):
+                text, clauses = signature_at(lines, at)
+                yield Call(owner, call.group(3), public, text, first_sentence(docs), clauses["requires"],
+                           ghosts + clauses["ensures"])
+            ghosts = []
         if not stripped.startswith("#["):
             docs = []
 
 
-def signature(lines, at):
-    """The signature that begins at a line, on one line."""
+def calls_of(crate):
+    """The calls of a library, file by file."""
+    root = folder_of(crate) / "src" / "lib.rt"
+    if not root.exists():
+        return []
+    files = shown(root)
+    types = public_types(files)
+    return [call for file, only in sorted(files.items()) for call in calls_in(file, only, types)]
+
+
+# docs/PROMISES.md
+
+
+def names_of(line):
+    """The names that a list item begins with, before its colon."""
+    item = re.match(r"\s*- ((?:`[\w:]+`(?:, )?)+):", line)
+    return re.findall(r"`([\w:]+)`", item.group(1)) if item else []
+
+
+class Promises:
+    """The page of the promises: its lines as they should be, and what is wrong with it."""
+
+    def __init__(self, text):
+        self.lines, self.faults, self.sections = [], [], []
+        self.calls, self.missing, self.crate, self.owner = {}, set(), "", ""
+        self.item, self.unwritten = [], []
+        for line in text.splitlines():
+            if not (self.crate and re.match(r"  - `(unsafe )?fn ", line)):
+                self.take(line)
+        self.end_section()
+
+    def take(self, line):
+        """Takes a line that isn't of the tool's own."""
+        if not line.startswith("  ") or line.startswith("  - "):
+            self.write_signatures()
+        if line.startswith("## "):
+            self.end_section()
+            section = re.match(r"## .*\(`(\w+)`\)$", line)
+            self.crate = section.group(1) if section else ""
+            self.begin_section()
+        elif line.startswith("### "):
+            kind = re.match(r"### `(\w+)`", line)
+            self.owner = kind.group(1) if kind else ""
+        self.lines.append(line)
+        if self.crate and line.startswith("- `"):
+            self.take_item(line)
+        elif self.crate and line.startswith("  - `"):
+            self.check_clauses(line)
+
+    def write_signatures(self):
+        """Writes the signatures of the calls of an item, once its text is written."""
+        self.lines += [f"  - {call.line()}" for call in self.unwritten if call.public]
+        self.unwritten = []
+
+    def begin_section(self):
+        """A section of a crate's calls begins, or another one."""
+        self.calls, self.owner = collections.defaultdict(list), ""
+        if self.crate:
+            self.sections.append(self.crate)
+            for call in calls_of(self.crate):
+                self.calls[call.owner, call.name].append(call)
+        self.missing = {key for key, some in self.calls.items() if any(call.public for call in some)}
+
+    def end_section(self):
+        """A section of a crate's calls ends: each of them has had its line."""
+        self.write_signatures()
+        for owner, name in sorted(self.missing):
+            self.faults.append(f"{self.crate}: no line for {owner}::{name}")
+
+    def take_item(self, line):
+        """The calls that an item begins with."""
+        self.item = []
+        for name in names_of(line):
+            owner, _, call = name.rpartition("::")
+            keys = [key for key in ((owner or self.owner, call), ("", call)) if key in self.calls]
+            if not keys:
+                self.faults.append(f"{self.crate}: no call {owner or self.owner}::{call}")
+                continue
+            self.missing.discard(keys[0])
+            self.item += self.calls[keys[0]]
+        self.unwritten = list(self.item)
+
+    def check_clauses(self, line):
+        """The clauses that a line below an item begins with are those of its calls."""
+        known = {name for call in self.item for name in call.requires + call.ensures}
+        for name in names_of(line):
+            if name not in known:
+                self.faults.append(f"{self.crate}: no clause {name} of {self.item[0].name if self.item else line}")
+
+    def text(self):
+        return "\n".join(self.lines) + "\n"
+
+
+def other_calls(sections):
+    """The public calls of the crates that have no section of their own."""
     parts = []
-    for line in lines[at:]:
-        stripped = line.strip()
-        if parts and re.match(r"(requires|ensures|ghost|where|\{)", stripped):
-            break
-        parts.append(re.sub(r"\s*[{;]$", "", stripped))
-        if stripped.endswith(("{", ";")):
-            break
-    text = re.sub(r",? ([)>])", r"\1", " ".join(parts))
-    return re.sub(r"([(<]) ", r"\1", text).replace("pub ", "", 1)
+    for crate, _ in crates():
+        calls = [call for call in calls_of(crate) if call.public] if crate not in sections else []
+        if calls:
+            parts.append(f"\n### Calls of `{crate}`\n")
+        for call in calls:
+            of = f"`{call.owner}`: " if call.owner else ""
+            parts.append(f"- {of}{call.docs or '(no docs)'}\n  - {call.line()}")
+    return "\n".join(parts).strip("\n")
 
 
-def page():
-    """The whole page."""
-    parts = [HEAD]
-    for crate in crates():
-        root = TOP / "crates" / crate / "src" / "lib.rt"
-        if not root.exists():
-            continue
-        rows = []
-        files = shown(root)
-        types = public_types(files)
-        for file, names in sorted(files.items()):
-            for owner, text, docs in calls(file.read_text(), names, types):
-                rows.append((file.relative_to(TOP / "crates" / crate / "src"), owner, text, docs))
-        if not rows:
-            continue
-        parts.append(f"\n## `{crate}`\n")
-        last = None
-        for file, owner, text, docs in rows:
-            if (file, owner) != last:
-                of = f"`{owner}`, " if owner else ""
-                parts.append(f"\n### {of}src/{file}\n\n")
-                last = (file, owner)
-            parts.append(f"- `{text}`\n  {docs}\n" if docs else f"- `{text}`\n")
-    return "".join(parts)
+# The tables of docs/STATUS.md and docs/ARCHITECTURE.md
 
 
-def quotes(text):
-    """The blocks of a page, each with the file that is named right above it."""
-    return re.findall(r"`([\w/.]+)`:\n\n```\w*\n(.*?)```", text, re.S)
+def lines_in(files):
+    return sum(len(file.read_text().splitlines()) for file in files)
 
 
-def check(text):
-    """What is stale in the pages, or 0."""
-    if PAGE.read_text() != text:
-        return "docs/CALLS.md is stale: run tools/pages.py"
-    for quoting in ("README.md", "docs/EXAMPLE.md"):
-        for name, block in quotes((TOP / quoting).read_text()):
-            if block not in (TOP / name).read_text():
-                return f"{quoting} quotes {name} as it isn't"
-    return 0
+def sizes():
+    """How large each crate is."""
+    rows = ["| Crate | Code | Definitions | Proofs | Edits that must fail | Tests |", "|---|---|---|---|---|---|"]
+    for crate, _ in crates():
+        code = files_below(crate, "src", ".rt")
+        edits = files_below(crate, "must-fail", ".edit") + files_below(crate, "edits", ".edit")
+        tests = sum(len(re.findall(r"^\s*#\[test\]", file.read_text(), re.M)) for file in code)
+        specs, proofs = files_below(crate, "specs", ".antt"), files_below(crate, "proofs", ".antt")
+        rows.append(f"| `{crate}` | {lines_in(code)} | {lines_in(specs)} | {lines_in(proofs)} | {len(edits)} | {tests} |")
+    return "\n".join(rows)
+
+
+def docs_of(crate):
+    """The first sentence of what a crate says of itself."""
+    root = next(file for name in ("lib.rt", "main.rt") if (file := folder_of(crate) / "src" / name).exists())
+    docs = [line[3:].strip() for line in root.read_text().splitlines() if line.startswith("//!")]
+    return re.split(r"(?<=\.) (?=[A-Z])", " ".join(docs).partition("  ")[0], maxsplit=1)[0].rstrip(".")
+
+
+def crate_table():
+    """What each crate is, and what it stands on."""
+    rows = ["| Crate | What it is | Stands on |", "|---|---|---|"]
+    for crate, below in crates():
+        rows.append(f"| `{crate}` | {docs_of(crate)} | {', '.join(f'`{name}`' for name in below)} |")
+    return "\n".join(rows)
+
+
+def proof_index():
+    """The lemma files of each crate, by their first lines."""
+    parts = []
+    for crate, _ in crates():
+        files = sorted((folder_of(crate) / "proofs").glob("*.antt"))
+        rows = [(file.stem, file.read_text().splitlines()[0]) for file in files if file.stem != "Lib"]
+        if rows:
+            parts.append(f"### `{crate}`\n\n| File | What it shows |\n|---|---|")
+            parts[-1] += "".join(f"\n| `{name}` | {first.removeprefix('-- ').rstrip('.')} |" for name, first in rows)
+    return "\n\n".join(parts)
+
+
+# The pages
+
+
+def with_parts(text, parts):
+    """A page with each of its parts written anew, between the markers that name it."""
+    for name, part in parts.items():
+        begin, end = f"<!-- {name}: written by tools/pages.py -->", f"<!-- end of {name} -->"
+        text = re.sub(f"{begin}.*?{end}", lambda _: f"{begin}\n\n{part}\n\n{end}", text, flags=re.S)
+    return text
+
+
+def with_quotes(text):
+    """A page with each block written anew that stands below 'the whole of' a file."""
+    def written(match):
+        return match.group(1) + (TOP / match.group(2)).read_text() + match.group(3)
+    return re.sub(r"([Tt]he\s+whole\s+of\s+`([\w/.-]+)`:\n\n```\w*\n).*?(```)", written, text, flags=re.S)
+
+
+def written_pages():
+    """Each page that the tool writes to, as it should be, and what is wrong with what is hand-written."""
+    promises = Promises((DOCS / "PROMISES.md").read_text())
+    parts = {"calls": other_calls(promises.sections), "sizes": sizes(), "crates": crate_table(), "proof files": proof_index()}
+    pages = {}
+    for page in PAGES:
+        text = promises.text() if page.name == "PROMISES.md" else page.read_text()
+        pages[page] = with_quotes(with_parts(text, parts))
+    return pages, [f"docs/PROMISES.md: {fault}" for fault in promises.faults]
+
+
+def quote_faults(page, text):
+    """The blocks of a page that aren't part of the file which is named right above."""
+    for name, block in re.findall(r"`([\w/.-]+)`:\n\n```\w*\n(.*?)```", text, re.S):
+        file = TOP / name
+        if not file.exists() or block not in file.read_text():
+            yield f"{page.relative_to(TOP)} quotes {name} as it isn't"
+
+
+def clause_faults(page, text):
+    """The clauses of a page that reads a contract aloud, where they aren't as the file has them which the page names first."""
+    if page.name != "CONTRACT.md":
+        return
+    file = re.search(r"crates/\S+\.rt", text).group()
+    code = " ".join((TOP / file).read_text().split())
+    for label, block in re.findall(r"^```(\w*)\n(.*?)^```", text, re.S | re.M):
+        for clause in [] if label else re.split(r"\n(?=requires|ensures)", block.strip()):
+            if " ".join(clause.split()) not in code:
+                yield f"{page.relative_to(TOP)}: not so in {file}: {clause.splitlines()[0]}"
+
+
+def link_faults(page, text):
+    """The links of a page that lead to no file."""
+    for link in re.findall(r"\]\(([^)#:]+)(?:#[^)]*)?\)", text):
+        if not (page.parent / link).exists():
+            yield f"{page.relative_to(TOP)} links to {link}, which isn't there"
 
 
 def main():
-    text = page()
-    if "--check" in sys.argv[1:]:
-        sys.exit(check(text))
-    PAGE.write_text(text)
+    pages, faults = written_pages()
+    for page, text in pages.items():
+        faults += [*quote_faults(page, text), *clause_faults(page, text), *link_faults(page, text)]
+        if "--check" in sys.argv[1:]:
+            if text != page.read_text():
+                faults.append(f"{page.relative_to(TOP)} is stale: run tools/pages.py")
+        else:
+            page.write_text(text)
+    print(*faults, sep="\n", end="\n" if faults else "")
+    return 1 if faults else 0
 
 
 if __name__ == "__main__":
-    main()
+    sys.exit(main())

@@ -2,36 +2,44 @@
 """Measures tables side by side.
 
     tools/speed.py run ROUNDS PROGRAM..     runs each program's tables in turns, and writes docs/speed/raw.txt
-    tools/speed.py show held BASE           prints the tables held alone in docs/speed/raw.txt, and draws
-                                            docs/speed/ratios.svg, with ratios to the table BASE, as plain-rust
+    tools/speed.py show held BASE           prints the tables held alone in docs/speed/raw.txt, with ratios to the table
+                                            BASE, as plain-rust
     tools/speed.py share ROUNDS PROGRAM..   runs the tables that threads share, the one held alone and those over
                                             shards, and writes docs/speed/shared.txt
-    tools/speed.py show shared BASE         prints the tables in docs/speed/shared.txt, and draws docs/speed/threads.svg,
-                                            one thread to four, as model-direct
+    tools/speed.py show shared BASE         prints the tables in docs/speed/shared.txt, as dashmap
+    tools/speed.py show sharded BASE        prints the tables over shards in docs/speed/shards.txt, lines of a run of `share`
+                                            with those tables alone, as held or shared
     tools/speed.py show seats BASE          prints the number tables that threads share, as plain-atomics
     tools/speed.py show core core           prints the machine of all schedules
     tools/speed.py show interner BASE       prints the interners, as plain-interner
 
+`tools/plots.py` draws what docs/speed/shared.txt has.
+
 A PROGRAM answers `PROGRAM list` with the names of its tables, one a line, and `PROGRAM NAME GROUP` with lines
-`NAME MEASUREMENT NUMBER`. Each group runs in a process of its own; every second round goes backwards. The best of all
+`NAME MEASUREMENT NUMBER`; it may be several words in quotes, as "tool_checks bench". Each group runs in a process of its own; every second round goes backwards. The best of all
 rounds counts. In brackets stand two ratios to BASE: of the best rounds, and of the middle ones.
 """
 import os
+import shlex
 import statistics
 import subprocess
 import sys
 
 HERE = os.path.join(os.path.dirname(os.path.abspath(__file__)), "..", "docs", "speed")
 RAW = os.path.join(HERE, "raw.txt")
-PLOT = os.path.join(HERE, "ratios.svg")
 SHARED_RAW = os.path.join(HERE, "shared.txt")
-SHARED_PLOT = os.path.join(HERE, "threads.svg")
+SHARDS_RAW = os.path.join(HERE, "shards.txt")
+# What is measured in a run of its own lies in a file of its own.
+RAW_OF = {"shared": SHARED_RAW, "sharded": SHARDS_RAW}
 # Tables that threads share, and the groups of measurements that each knows.
 ALL_GROUPS = ["one", "seq", "same", "ins", "hit"]
 SHARDED_GROUPS = ["one", "same", "hit"]
-SHARING = {"shared": ALL_GROUPS, "held": ALL_GROUPS[:2], "sharded": SHARDED_GROUPS}
-SHARING_PEERS = ["model-direct", "dashmap", "tbb-unordered_set", "libcuckoo", "urcu-lfht-presized"]
-SHARING.update((name, ALL_GROUPS[:4]) for name in SHARING_PEERS)
+SIZES = ["1e4", "1e5", "1e7"]
+SHARING = {"shared": ALL_GROUPS, "shared-in-place": ALL_GROUPS, "shared-set": ALL_GROUPS, "sharded": SHARDED_GROUPS}
+SHARING.update((name, ALL_GROUPS[:2] + SIZES) for name in ("held", "held-in-place", "held-set", "std-HashSet"))
+SHARING.update((name, ALL_GROUPS + SIZES) for name in ("dashmap", "rwlock-HashSet"))
+# Programs that know four threads alone, and no other number of keys.
+SHARING.update((name, ALL_GROUPS[:4]) for name in ("model-direct", "tbb-unordered_set", "libcuckoo", "urcu-lfht-presized"))
 # Number tables that threads share. Every other table is held alone, but for the machine of all schedules, `core`.
 SEATED = ["seats", "plain-atomics"]
 # Interners of texts.
@@ -41,7 +49,7 @@ GROUPS = {"held": ["one", "seq"], "shared": ["one", "seq", "same", "ins", "hit"]
 MEASUREMENTS = {
     "held": ["a_ins1", "b_hit1", "c_miss1", "seq_ins1", "seq_hit1", "g_rss"],
     "shared": ["a_ins1", "b_hit1", "c_miss1", "d_same1", "d_same2", "d_same3", "d_same4", "e_ins1", "e_ins2", "e_ins3", "e_ins4",
-               "f_hit1", "f_hit2", "f_hit3", "f_hit4", "seq_ins1", "seq_hit1", "g_rss"],
+               "f_hit1", "f_hit2", "f_hit3", "f_hit4", "seq_ins1", "seq_hit1", "g_rss"] + [f"{it}_{size}" for size in SIZES for it in ("ins", "hit", "miss")],
     "sharded": ["a_ins1", "b_hit1", "c_miss1", "d_same1", "d_same2", "d_same3", "d_same4", "f_hit1", "f_hit2", "f_hit3", "f_hit4", "g_rss"],
     "seats": ["a_ins1", "b_hit1", "c_miss1", "d_same4", "e_ins4", "f_hit4", "seq_ins1", "seq_hit1"],
     "core": ["event"],
@@ -56,11 +64,13 @@ def kind_of(name):
         return "interner"
     if name in ("shared", "sharded"):
         return name
+    if name in ("shared-in-place", "shared-set"):
+        return "shared"
     return "seats" if name in SEATED else "held"
 
 
-def lines_of(*words):
-    done = subprocess.run(words, capture_output=True, text=True, timeout=300, check=True)
+def lines_of(program, *words):
+    done = subprocess.run([*shlex.split(program), *words], capture_output=True, text=True, timeout=300, check=True)
     return done.stdout.splitlines()
 
 
@@ -90,10 +100,10 @@ def run(rounds, programs, sharing):
 def numbers_of(kind):
     """The numbers of all rounds, by table and measurement."""
     found = {}
-    with open(SHARED_RAW if kind == "shared" else RAW, encoding="ascii") as raw:
+    with open(RAW_OF.get(kind, RAW), encoding="ascii") as raw:
         for line in raw:
             name, measurement, number = line.split()
-            if kind == "shared" or kind_of(name) == kind:
+            if kind in RAW_OF or kind_of(name) == kind:
                 found.setdefault(name, {}).setdefault(measurement, []).append(float(number))
     return found
 
@@ -119,58 +129,8 @@ def table(found, kind, base_name):
     return "\n".join(rows)
 
 
-def plot(found, ours, base_name):
-    """One bar for each measurement: ours as a ratio to the base, of the best rounds."""
-    own, base = found.get(ours, {}), found.get(base_name, {})
-    bars = [(m, ratios(own[m], base[m])[0]) for m in MEASUREMENTS[ours] if m in own and m in base]
-    width, height, left, scale = 560, 40 + 34 * len(bars), 110, 280
-    parts = [
-        f'<svg xmlns="http://www.w3.org/2000/svg" width="{width}" height="{height}" font-family="sans-serif" font-size="13">',
-        f'<text x="{left}" y="18">{ours} as a ratio to {base_name} (1 is the line; less is better)</text>',
-    ]
-    for row, (measurement, ratio) in enumerate(bars):
-        y = 32 + 34 * row
-        parts.append(f'<text x="{left - 8}" y="{y + 16}" text-anchor="end">{measurement}</text>')
-        parts.append(f'<rect x="{left}" y="{y}" width="{ratio * scale:.0f}" height="22" fill="#4a7ebb"/>')
-        parts.append(f'<text x="{left + ratio * scale + 6:.0f}" y="{y + 16}">{ratio:.2f}</text>')
-    x = left + scale
-    parts.append(f'<line x1="{x}" y1="26" x2="{x}" y2="{height - 4}" stroke="#333" stroke-dasharray="4 3"/>')
-    parts.append("</svg>")
-    with open(PLOT, "w", encoding="ascii") as svg:
-        svg.write("\n".join(parts) + "\n")
-
-
-def plot_threads(found):
-    """One line for each work of several threads: nanoseconds an operation, with one thread to four."""
-    own = found.get("shared", {})
-    works = [("d_same", "inserts of what is there", "#b5482a"), ("e_ins", "inserts of new keys", "#4a7ebb"), ("f_hit", "hits", "#3a8a4d")]
-    points = {work: [min(own[f"{work}{n}"]) for n in range(1, 5)] for work, _, _ in works if all(f"{work}{n}" in own for n in range(1, 5))}
-    most = max(max(row) for row in points.values())
-    width, height, left, foot = 560, 300, 60, 40
-    parts = [
-        f'<svg xmlns="http://www.w3.org/2000/svg" width="{width}" height="{height}" font-family="sans-serif" font-size="13">',
-        f'<text x="{left}" y="18">shared: nanoseconds an operation, of all threads together, with 1 to 4 threads</text>',
-    ]
-    for row, (work, words, colour) in enumerate(works):
-        if work not in points:
-            continue
-        at = [(left + 110 * n, height - foot - number / most * (height - foot - 60)) for n, number in enumerate(points[work])]
-        parts.append(f'<polyline fill="none" stroke="{colour}" stroke-width="2" points="' + " ".join(f"{x},{y:.0f}" for x, y in at) + '"/>')
-        parts += [f'<text x="{x - 8}" y="{y - 6:.0f}" fill="{colour}">{number:.0f}</text>' for (x, y), number in zip(at, points[work])]
-        parts.append(f'<text x="{left + 350}" y="{50 + 18 * row}" fill="{colour}">{words}</text>')
-    parts += [f'<text x="{left + 110 * n}" y="{height - 14}">{n + 1}</text>' for n in range(4)]
-    parts.append("</svg>")
-    with open(SHARED_PLOT, "w", encoding="ascii") as svg:
-        svg.write("\n".join(parts) + "\n")
-
-
 def show(kind, base_name):
-    found = numbers_of(kind)
-    print(table(found, kind, base_name))
-    if kind == "held":
-        plot(found, kind, base_name)
-    if kind == "shared":
-        plot_threads(found)
+    print(table(numbers_of(kind), kind, base_name))
 
 
 def main():

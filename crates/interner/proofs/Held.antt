@@ -7,14 +7,14 @@ use Rattle.std.proofs.lemmas.List.{length-map, map_push, length-append}
 use Rattle.std.proofs.lemmas.Option.{slice_get-map, slice_get-get_or}
 use Rattle.std.proofs.lemmas.Slice.Eq.{bytes_eq-Decides}
 use Rattle.std.proofs.Math.ListN.{get_or-map}
-use Rattle.terms.specs.ListObject.{ListReply, Placed, Found, Refused, Insert, Lookup, Answers}
-use Rattle.held_table.specs.Table.{HeldTable, Place, IsLawful, entries, entry_at}
-use Rattle.held_table.specs.Held.{ShowsAt, IsLawfulInsert, IsLawfulLookup, LookupReplies, PlacesAsList, LooksUpAsList, InsertAnswers, equal}
-use Rattle.interner.specs.Texts.{text_hash, same_by_text, hash_by_text, HasNumber, greatest_number}
+use Rattle.table_terms.specs.ListObject.{ListReply, Placed, Found, Refused, Insert, Lookup, Answers}
+use Rattle.table_held.specs.Table.{HeldTable, Place, IsLawful, entries, entry_at}
+use Rattle.table_held.specs.Held.{ShowsAt, IsLawfulInsert, IsLawfulLookup, LookupReplies, PlacesAsList, LooksUpAsList, InsertAnswers, equal}
+use Rattle.interner.specs.Texts.{same_by_text, hash_by_text, HasNumber, greatest_number}
 use Rattle.interner.specs.Kept.{IsKept}
 use Rattle.interner.proofs.Numbers.{push_cases, different_push}
 
-module _ {T V : Type 0} (target : T → V) (text : V → List ℕ) (number : V → ℕ) where
+module _ {T V : Type 0} (target : T → V) (text : V → List ℕ) (number : V → ℕ) (hash : List ℕ → ℕ) where
   abbrev text_of : T → List ℕ
   text_of e = text (target e)
 
@@ -36,7 +36,7 @@ module _ {T V : Type 0} (target : T → V) (text : V → List ℕ) (number : V �
       (k, omega arith, sym (get_or-map target values k e) ∙ ap (λ vs. get_or vs k (target e)) (sym is) ∙ get_or-map target M k e ∙ ap target at)
 
   -- the value at place k of an interner has the text and the number of that place
-  has_number : (values : List T) (t : HeldTable T) (k : ℕ) (e : T) → IsKept target text number values t → k < length values → target (get_or values k e) ≡ target e → HasNumber (map text_of values) (text_of e) (number (target e))
+  has_number : (values : List T) (t : HeldTable T) (k : ℕ) (e : T) → IsKept target text number hash values t → k < length values → target (get_or values k e) ≡ target e → HasNumber (map text_of values) (text_of e) (number (target e))
   has_number values t k e kept within is =
       let at : slice_get values k ≡ Some (get_or values k e) = slice_get-get_or values k e within in
       let numbered : number (target e) ≡ k + 1 = rw is at (kept.numbered k (get_or values k e) at) in
@@ -57,13 +57,13 @@ module _ {T V : Type 0} (target : T → V) (text : V → List ℕ) (number : V �
 
   module _ (t : HeldTable T) where
     abbrev IsTextTable : Type 0
-    IsTextTable = IsLawful target (same_by_text text) (hash_by_text text) t
+    IsTextTable = IsLawful target (same_by_text text) (hash_by_text text hash) t
 
     lawful_lookup : (answers : V → Bool → Type 0) (x : List ℕ) → ((v : V) (answer : Bool) → answers v answer → answer ≡ has_text x v) → IsTextTable
-        → IsLawfulLookup target (same_by_text text) (hash_by_text text) answers IsTextTable (entries t) (text_hash x) (has_text x)
+        → IsLawfulLookup target (same_by_text text) (hash_by_text text hash) answers IsTextTable (entries t) (hash x) (has_text x)
     lawful_lookup answers x test_is lawful = record {
       test_is = λ e answer among h. test_is _ answer h;
-      hash_is = λ e among h. ap text_hash ((bytes_eq-Decides (text_of e) x).0 h);
+      hash_is = λ e among h. ap hash ((bytes_eq-Decides (text_of e) x).0 h);
       table_is = lawful;
     }
 
@@ -72,8 +72,8 @@ module _ {T V : Type 0} (target : T → V) (text : V → List ℕ) (number : V �
   ShowsNumber texts x (Some v) = HasNumber texts x (number v)
   ShowsNumber texts x None = ¬ Contains texts x
 
-  shows : (values M : List T) (t : HeldTable T) (x : List ℕ) (shown : Option V) (reply : ListReply T) → IsKept target text number values t → map target M ≡ map target values
-      → LookupReplies target shown reply → Answers (equal target (same_by_text text) (hash_by_text text)) M (Lookup (λ e. has_text x (target e))) reply M → ShowsNumber (map text_of values) x shown
+  shows : (values M : List T) (t : HeldTable T) (x : List ℕ) (shown : Option V) (reply : ListReply T) → IsKept target text number hash values t → map target M ≡ map target values
+      → LookupReplies target shown reply → Answers (equal target (same_by_text text) (hash_by_text text hash)) M (Lookup (λ e. has_text x (target e))) reply M → ShowsNumber (map text_of values) x shown
   shows values M t x None reply kept is replies answers =
       let told = rw replies at answers in
       rw (← same_texts M values is) (not_among M x told.0)
@@ -84,19 +84,19 @@ module _ {T V : Type 0} (target : T → V) (text : V → List ℕ) (number : V �
       let text_is : text_of e ≡ x = (bytes_eq-Decides (text_of e) x).0 told.0.1 in
       rw shown_is (rw text_is at has)
 
-  pub looks_up : (answers : V → Bool → Type 0) (values : List T) (t : HeldTable T) (x : List ℕ) (hash : ℕ) (shown : Option V) → IsKept target text number values t
-      → ((v : V) (answer : Bool) → answers v answer → answer ≡ has_text x v) → hash ≡ text_hash x
-      → LooksUpAsList target (same_by_text text) (hash_by_text text) answers t hash shown → ShowsNumber (map text_of values) x shown
-  looks_up answers values t x hash shown kept test_is hash_is as_list =
+  pub looks_up : (answers : V → Bool → Type 0) (values : List T) (t : HeldTable T) (x : List ℕ) (key : ℕ) (shown : Option V) → IsKept target text number hash values t
+      → ((v : V) (answer : Bool) → answers v answer → answer ≡ has_text x v) → key ≡ hash x
+      → LooksUpAsList target (same_by_text text) (hash_by_text text hash) answers t key shown → ShowsNumber (map text_of values) x shown
+  looks_up answers values t x key shown kept test_is hash_is as_list =
       let held = kept.held in
-      let at_hash : LooksUpAsList target (same_by_text text) (hash_by_text text) answers t (text_hash x) shown = rw hash_is at as_list in
+      let at_hash : LooksUpAsList target (same_by_text text) (hash_by_text text hash) answers t (hash x) shown = rw hash_is at as_list in
       let told = at_hash (has_text x) (lawful_lookup t answers x test_is kept.lawful) held.0 held.1 in
       shows values held.0 t x shown told.0 kept held.2 told.1 told.2
 
   -- what an insert is told by the list of the entries
   module _ (M N : List T) (value : T) (reply : ListReply T) where
     abbrev Answered : Type 0
-    Answered = Answers (equal target (same_by_text text) (hash_by_text text)) M (Insert value) reply N
+    Answered = Answers (equal target (same_by_text text) (hash_by_text text hash)) M (Insert value) reply N
 
     placed : (shown : Option T) → ShowsAt shown (λ e. reply ≡ Placed e) → Answered → N ≡ M ++ value ∷ []
     placed None s h = absurd s
@@ -110,28 +110,28 @@ module _ {T V : Type 0} (target : T → V) (text : V → List ℕ) (number : V �
     found back (Some e) s h = let told = rw s at h in (e, told.0.0, (bytes_eq-Decides (text_of value) (text_of e)).0 told.0.1)
 
   -- an insert of a value whose text is new, by closures that answer as texts do
-  module _ (eq : V → V → Bool → Type 0) (rehash : V → ℕ → Type 0) (values : List T) (t new : HeldTable T) (hash : ℕ) (value : T) (x : List ℕ) (texts : List (List ℕ))
-      (kept : IsKept target text number values t)
+  module _ (eq : V → V → Bool → Type 0) (rehash : V → ℕ → Type 0) (values : List T) (t new : HeldTable T) (key : ℕ) (value : T) (x : List ℕ) (texts : List (List ℕ))
+      (kept : IsKept target text number hash values t)
       (eq_is : (a b : V) (answer : Bool) → eq a b answer → answer ≡ same_by_text text a b)
-      (rehash_is : (a : V) (h : ℕ) → rehash a h → h ≡ hash_by_text text a)
-      (hash_is : hash ≡ text_hash x)
+      (rehash_is : (a : V) (h : ℕ) → rehash a h → h ≡ hash_by_text text hash a)
+      (hash_is : key ≡ hash x)
       (text_is : text_of value ≡ x)
       (texts_are : map text_of values ≡ texts)
       (is_new : ¬ Contains texts x) where
-    lawful_insert : IsLawfulInsert target (same_by_text text) (hash_by_text text) eq rehash (IsTextTable t) (entries t) hash value
+    lawful_insert : IsLawfulInsert target (same_by_text text) (hash_by_text text hash) eq rehash (IsTextTable t) (entries t) key value
     lawful_insert = record {
       eq_is = λ e answer among h. eq_is _ _ answer h;
       rehash_is = λ e h among r. rehash_is _ h r;
       rehash_value_is = λ h r. rehash_is _ h r;
-      hash_is = hash_is ∙ ap text_hash (sym text_is);
+      hash_is = hash_is ∙ ap hash (sym text_is);
       table_is = kept.lawful;
     }
 
     abbrev AsList : Result (Place × Option T) T → Type 0
-    AsList r = PlacesAsList target (same_by_text text) (hash_by_text text) eq rehash t hash value r new
+    AsList r = PlacesAsList target (same_by_text text) (hash_by_text text hash) eq rehash t key value r new
 
     abbrev Lawfully : Result (Place × Option T) T → Type 0
-    Lawfully r = InsertAnswers target (same_by_text text) (hash_by_text text) eq rehash (IsTextTable t) (entries t) hash value r (IsTextTable new)
+    Lawfully r = InsertAnswers target (same_by_text text) (hash_by_text text hash) eq rehash (IsTextTable t) (entries t) key value r (IsTextTable new)
 
     -- no entry is its equal
     pub never_found : (p : Place) (back : T) → AsList (Ok (p, Some back)) → ⊥
@@ -143,7 +143,7 @@ module _ {T V : Type 0} (target : T → V) (text : V → List ℕ) (number : V �
         is_new (rw (texts_are, ← e.2, text_is) at among)
 
     -- a refused insert keeps what is kept
-    pub kept_refused : (back : T) → AsList (Err back) → Lawfully (Err back) → IsKept target text number values new
+    pub kept_refused : (back : T) → AsList (Err back) → Lawfully (Err back) → IsKept target text number hash values new
     kept_refused back as_list lawful =
         let told = as_list lawful_insert kept.held.0 kept.held.1 in
         let same : told.1 ≡ kept.held.0 = refused kept.held.0 told.1 value told.0 back told.2 told.3 in
@@ -157,7 +157,7 @@ module _ {T V : Type 0} (target : T → V) (text : V → List ℕ) (number : V �
 
     -- with a name of the value's target behind the others, all is kept
     pub kept_placed : (p : Place) (name : T) → target name ≡ target value → number (target name) ≡ length texts + 1 → length texts < greatest_number
-        → AsList (Ok (p, None)) → Lawfully (Ok (p, None)) → IsKept target text number (values ++ name ∷ []) new
+        → AsList (Ok (p, None)) → Lawfully (Ok (p, None)) → IsKept target text number hash (values ++ name ∷ []) new
     kept_placed p name name_is next few as_list lawful =
         let told = as_list lawful_insert kept.held.0 kept.held.1 in
         let more : told.1 ≡ kept.held.0 ++ value ∷ [] = placed kept.held.0 told.1 value told.0 (entry_at new p) told.2 told.3 in

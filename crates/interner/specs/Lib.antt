@@ -1,3 +1,4 @@
+pub mod Hashes
 pub mod Texts
 pub mod Interns
 pub mod Kept

@@ -1,45 +1,32 @@
--- Texts, their hash and their numbers. A text is the list of its bytes.
-use Rattle.std.specs.Prelude.{◌≡◌, ℕ, ◌+◌, ◌-◌, ◌*◌, ◌<◌, ◌^◌, ◌%◌, Bool, List, [], ◌∷◌, Option, Some, None, Contains, slice_get, refl}
+-- Texts and their numbers. A text is the list of its bytes.
+use Rattle.std.specs.Prelude.{◌≡◌, ℕ, ◌-◌, ◌<◌, ◌^◌, Bool, List, Option, Some, None, Contains, slice_get, refl}
 use Rattle.std.specs.Bool.{Decides}
-use Rattle.std.specs.List.{fold}
 use Rattle.std.specs.Str.{bytes_eq}
 use Rattle.std.specs.Int.NonZero.{non_zero_u32_get}
 use Rattle.std.specs.declared.num.NonZeroU32.{NonZeroU32}
-use Rattle.std.proofs.Common.{sym, ap, ◌∙◌, arith}
+use Rattle.std.proofs.Common.{sym, ap, ◌∙◌}
 use Rattle.std.proofs.lemmas.Slice.Eq.{bytes_eq-Decides}
-use Rattle.terms.specs.Laws.{IsLaw}
+use Rattle.table_terms.specs.Laws.{IsLaw}
 
--- the hash of a text with one byte more
-abbrev pub hash_with : ℕ → ℕ → ℕ
-hash_with hash byte = (hash * 31 + byte) % 2 ^ 64
+-- values that are compared and hashed by a text of theirs, by any hash of texts
+abbrev pub same_by_text : {V : Type 0} → (V → List ℕ) → V → V → Bool
+same_by_text text a b = bytes_eq (text a) (text b)
 
--- the hash of a text: from 0 on, 31 times it and the next byte, modulo 2^64
-abbrev pub text_hash : List ℕ → ℕ
-text_hash text = fold hash_with 0 text
-
-hash_small : (text : List ℕ) (hash : ℕ) → hash < 2 ^ 64 → fold hash_with hash text < 2 ^ 64
-hash_small [] hash small = small
-hash_small (byte ∷ text) hash small = hash_small text (hash_with hash byte) (omega arith)
-
--- values that are compared and hashed by a text of theirs
-module _ {V : Type 0} (text : V → List ℕ) where
-  abbrev pub same_by_text : V → V → Bool
-  same_by_text a b = bytes_eq (text a) (text b)
-
+module _ {V : Type 0} (text : V → List ℕ) (hash : List ℕ → ℕ) where
   abbrev pub hash_by_text : V → ℕ
-  hash_by_text a = text_hash (text a)
+  hash_by_text a = hash (text a)
 
   -- the test answers true exactly for equal texts
-  decides : (a b : V) → Decides (same_by_text a b) (text a ≡ text b)
+  decides : (a b : V) → Decides (same_by_text text a b) (text a ≡ text b)
   decides a b = bytes_eq-Decides (text a) (text b)
 
-  pub text_lawful : IsLaw same_by_text hash_by_text
-  text_lawful = record {
+  pub text_lawful : ((x : List ℕ) → hash x < 2 ^ 64) → IsLaw (same_by_text text) hash_by_text
+  text_lawful hash_small = record {
     reflexive = λ a. (decides a a).1 refl;
     symmetric = λ a b h. (decides b a).1 (sym ((decides a b).0 h));
     transitive = λ a b c h k. (decides a c).1 ((decides a b).0 h ∙ (decides b c).0 k);
-    small = λ a. hash_small (text a) 0 (omega arith);
-    agrees = λ a b h. ap text_hash ((decides a b).0 h);
+    small = λ a. hash_small (text a);
+    agrees = λ a b h. ap hash ((decides a b).0 h);
   }
 
 -- the greatest number that is given

@@ -2,28 +2,31 @@
 ghost use Rattle.std.specs.Prelude.{◌≡◌, ◌+◌, ◌-◌, ◌<◌, ◌≤◌, ◌++◌, [], ◌∷◌, length, OnOk, OnErr, IfOk, Contains};
 ghost use Rattle.std.specs.Prelude.{option_copied, slice_get};
 ghost use Rattle.std.specs.Int.NonZero.{non_zero_u32_get};
-ghost use Rattle.interner.specs.Texts.{text_hash, greatest_number, AllDifferent, FindsNumber};
+ghost use Rattle.interner.specs.Texts.{greatest_number, AllDifferent, FindsNumber};
 ghost use Rattle.interner.specs.Interns.{Interns, GivesNext};
 
-use crate::name::{Name, TextLaw, hash_text};
+use crate::hash::{TextHash, Times31};
+use crate::name::{Name, TextLaw};
 use crate::refused::Refused;
-use lock_free_hashtable::HeldRawTable;
 use std::alloc::{AllocError, Allocator, Global};
-use std::marker::Model;
+use std::marker::{Model, PhantomData};
 use std::num::NonZeroU32;
 use std::sync::Arc;
+use table_held::HeldRawTable;
 
-/// Different texts, numbered from 1 on in the order of first appearance. One owner holds them alone.
+/// Different texts, numbered from 1 on in the order of first appearance. One owner holds them alone. They are hashed by `H`: by
+/// `Mixed` where others choose them.
 ///
 /// A contract sees the list of the texts, each as its bytes.
 #[derive(Drop)]
-pub struct Interner<A: Allocator + Copy = Global> {
+pub struct Interner<A: Allocator + Copy = Global, H: TextHash = Times31> {
     by_text: HeldRawTable<Arc<Name<A>, A>, A>,
     by_number: Vec<Arc<Name<A>, A>, A>,
     alloc: A,
+    hash: PhantomData<H>,
 }
 
-impl<A: Allocator + Copy> Model for Interner<A> {
+impl<A: Allocator + Copy, H: TextHash> Model for Interner<A, H> {
     ghost use Rattle.std.specs.Prelude.{ℕ, List, map, string_bytes};
     ghost use Rattle.std.specs.Int.NonZero.{non_zero_u32_get};
     ghost use Rattle.interner.specs.Kept.{IsKept};
@@ -33,18 +36,28 @@ impl<A: Allocator + Copy> Model for Interner<A> {
     ghost view = { λ t. map (λ name. string_bytes name.value.text) t.by_number.items };
 
     ghost invariant = { λ t. IsKept (λ name. name.value) (λ name. string_bytes name.text)
-        (λ name. non_zero_u32_get name.number) t.by_number.items t.by_text };
+        (λ name. non_zero_u32_get name.number) H.hash_of t.by_number.items t.by_text };
 }
 
 impl<A: Allocator + Copy> Interner<A> {
-    /// No text has a number yet. It takes no memory.
+    /// No text has a number yet. Texts are hashed by `Times31`. It takes no memory.
     pub fn new(alloc: A) -> Self
+        ensures { result ≡ [] }
+    {
+        Interner::with_hash(alloc)
+    }
+}
+
+impl<A: Allocator + Copy, H: TextHash> Interner<A, H> {
+    /// No text has a number yet. Texts are hashed by `H`. It takes no memory.
+    pub fn with_hash(alloc: A) -> Self
         ensures { result ≡ [] }
     {
         Interner {
             by_text: HeldRawTable::new(alloc),
             by_number: Vec::new(alloc),
             alloc,
+            hash: PhantomData,
         }
     }
 
@@ -56,7 +69,7 @@ impl<A: Allocator + Copy> Interner<A> {
         ensures interns { Interns self.old text.now result self.new }
         ensures different { AllDifferent self.new }
     {
-        let hash = hash_text(text);
+        let hash = H::hash(text.as_bytes());
         if let Some(number) = self.number_by_hash(hash, text) {
             return Ok(number);
         }
@@ -72,7 +85,7 @@ impl<A: Allocator + Copy> Interner<A> {
         ensures finds { FindsNumber self.now text.now result }
         ensures different { AllDifferent self.now }
     {
-        self.number_by_hash(hash_text(text), text)
+        self.number_by_hash(H::hash(text.as_bytes()), text)
     }
 
     /// The text of the number, or None where the number is not given. It takes no memory and changes nothing.
@@ -94,13 +107,13 @@ impl<A: Allocator + Copy> Interner<A> {
 
     /// The number of the text, whose hash this is.
     fn number_by_hash(&self, hash: u64, text: &str) -> Option<NonZeroU32>
-        requires { hash ≡ text_hash text.now }
+        requires { hash ≡ H.hash_of text.now }
         ensures finds { FindsNumber self.now text.now result }
         ensures different { AllDifferent self.now }
     {
         let name = self
             .by_text
-            .lookup_alone::<TextLaw, _>(hash, |name: &Name<A>| name.text.as_str() == text)?;
+            .lookup_alone::<TextLaw<H>, _>(hash, |name: &Name<A>| name.text.as_str() == text)?;
         Some(name.number)
     }
 
@@ -120,7 +133,7 @@ impl<A: Allocator + Copy> Interner<A> {
 
     /// Gives the text, which has none, this number, the next one. An Err changes nothing.
     fn add(&mut self, hash: u64, text: &str, number: NonZeroU32) -> Result<(), AllocError>
-        requires hash { hash ≡ text_hash text.now }
+        requires hash { hash ≡ H.hash_of text.now }
         requires new { ¬ Contains self.old text.now }
         requires few { length self.old < greatest_number }
         requires next { non_zero_u32_get number ≡ length self.old + 1 }
@@ -130,11 +143,11 @@ impl<A: Allocator + Copy> Interner<A> {
         self.by_number.reserve(1)?;
         let name = Name::shared(self.alloc, text, number)?;
         let shared = Arc::try_clone(&name)?;
-        match self.by_text.place_alone::<TextLaw, _, _>(
+        match self.by_text.place_alone::<TextLaw<H>, _, _>(
             hash,
             shared,
             &|new: &Name<A>, entry: &Name<A>| new.text.as_str() == entry.text.as_str(),
-            &|entry: &Name<A>| hash_text(entry.text.as_str()),
+            &|entry: &Name<A>| H::hash(entry.text.as_bytes()),
         ) {
             Ok((_, None)) => {}
             Ok((_, Some(_))) => unreachable!(),

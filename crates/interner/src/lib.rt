@@ -4,10 +4,12 @@
 //! An [`Interner`] holds its texts alone. A contract sees it as the list of its texts, the one of number 1 first.
 #![tactic(auto)]
 
+pub mod hash;
 pub mod interner;
 pub mod laws;
 mod name;
 pub mod refused;
 
+pub use hash::{Mixed, TextHash, Times31};
 pub use interner::Interner;
 pub use refused::Refused;

@@ -1,13 +1,13 @@
 //! A text with its number, and what the table is told of it.
 ghost use Rattle.std.specs.Prelude.{◌≡◌, IfOk, string_bytes};
 ghost use Rattle.std.specs.Int.NonZero.{non_zero_u32_get};
-ghost use Rattle.interner.specs.Texts.{text_hash};
 
-use lock_free_hashtable::Law;
-use lock_free_hashtable::atomic_value::AtomicValue;
+use crate::hash::TextHash;
 use std::alloc::{AllocError, Allocator};
+use std::marker::PhantomData;
 use std::num::NonZeroU32;
 use std::sync::Arc;
+use table_held::{AtomicValue, Law};
 
 /// A text and its number.
 #[derive(Drop)]
@@ -28,26 +28,17 @@ impl<A: Allocator + Copy> Name<A> {
 }
 
 /// Names are the same if their texts are, and the hash of a name is that of its text.
-pub struct TextLaw;
+pub struct TextLaw<H> {
+    _hash: PhantomData<H>,
+}
 
-impl<A: Allocator> Law<Name<A>> for TextLaw {
+impl<A: Allocator, H: TextHash> Law<Name<A>> for TextLaw<H> {
     ghost use Rattle.std.specs.Prelude.{string_bytes};
     ghost use Rattle.interner.specs.Texts.{same_by_text, hash_by_text, text_lawful};
 
     ghost same = { same_by_text (λ name. string_bytes name.text) };
 
-    ghost hash_of = { hash_by_text (λ name. string_bytes name.text) };
+    ghost hash_of = { hash_by_text (λ name. string_bytes name.text) H.hash_of };
 
-    ghost lawful = { text_lawful (λ name. string_bytes name.text) };
-}
-
-/// The hash of a text: from 0 on, 31 times it and the next byte, modulo 2^64.
-pub fn hash_text(text: &str) -> u64
-    ensures { result ≡ text_hash text.now }
-{
-    let mut hash = 0u64;
-    for byte in text.as_bytes() {
-        hash = hash.wrapping_mul(31).wrapping_add(u64::from(*byte));
-    }
-    hash
+    ghost lawful = { text_lawful (λ name. string_bytes name.text) H.hash_of H.small };
 }

@@ -1,20 +1,23 @@
-//! An insertion-only hash table whose every answer is proved.
+//! An insertion-only hash table, held by one owner or shared by threads, whose calls keep proved promises.
 //!
 //! A [`HeldRawTable`] keeps one value for each target: what a value leads to, as its [`AtomicValue`] says. Its calls take
 //! the hash of a target and closures that compare and hash; a [`Law`] says what their caller means by them. A [`Place`]
 //! names a bucket that shows an entry, and stays good over growth. [`LockFreeRawTable`] is the one that threads share,
 //! [`sharded`] has both over several shards, and [`alone`] has lists of calls on any table held alone.
 //!
-//! This crate names what the crates below it make: it has no code of its own.
+//! This crate names what the crates below it make: it has no code of its own. Who needs one owner's table alone names
+//! `table_held`, below which nothing knows of threads.
 #![tactic(auto)]
 
-pub use generations::atomic_value;
-pub use generations::atomic_value::{AtomicValue, Law};
-pub use held_table::place::Place;
-pub use held_table::raw::{
+pub mod raw;
+
+pub use raw::{
     FIRST_CAPACITY, HeldIter, HeldRawTable, InsertCall, IntoIter, Iter, LockFreeRawTable,
-    LookupCall, Low, Progress, is_first_capacity,
+    LookupCall, Low, Progress, Share, is_first_capacity,
 };
-pub use held_table::{place, raw};
-pub use list_runs::alone;
-pub use sharded_tables::sharded;
+pub use table_generations::atomic_value;
+pub use table_generations::atomic_value::{AtomicValue, InPlace, Law};
+pub use table_held::place;
+pub use table_held::place::Place;
+pub use table_runs::alone;
+pub use table_shards::sharded;

@@ -12,7 +12,7 @@ use Rattle.atomic_table.specs.Table.{State, step, keeps, stepped, Allows, Splits
 use Rattle.atomic_table.proofs.Lists.{at_set, at_snoc, at_longer, set_here, set_else, set_again}
 use Rattle.seated.specs.declared.seat.View.{View}
 use Rattle.seated.specs.Views.{times, placings, fresh_view, spent_view, note_of, gift_of, with_pair, with_number, with_next_turn, without_gift, unchanged, join_of}
-use Rattle.terms.specs.Probes.{bucket_at}
+use Rattle.table_terms.specs.Probes.{bucket_at}
 use Rattle.seated.specs.Rule.{IsLaidOut, Fits, IsBacked, RuleHolds}
 use Rattle.seated.specs.Steps.{SeatState, Shows, Reads, Claims, HasPassed, IsNext}
 use Rattle.seated.proofs.Counts.{times_self, times_other, times-append, at_inside, placings-set, placings_push, placings_at, placings_two, placings_none}

@@ -8,7 +8,7 @@ use mathlib.Core.Logic.{dite}
 use native.Mathlib.Decide.{ℕ_discrete}
 use Rattle.seated.specs.declared.seat.View.{View}
 use Rattle.seated.specs.Views.{with_pair}
-use Rattle.terms.specs.Probes.{bucket_at}
+use Rattle.table_terms.specs.Probes.{bucket_at}
 use Rattle.seated.specs.Rule.{IsLaidOut, Fits}
 use Rattle.seated.specs.Steps.{HasPassed, IsNext}
 

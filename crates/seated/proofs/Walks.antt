@@ -11,7 +11,7 @@ use Rattle.seated.specs.declared.seat.View.{View}
 use Rattle.seated.proofs.Counts.{times-append, times_in}
 use Rattle.seated.specs.declared.seat.NumberAnswer.TheVariants.{Placed, Found, Full}
 use Rattle.seated.specs.Views.{times, with_pair, with_number, with_next_turn, without_gift, unchanged, note_of, gift_of, join_of}
-use Rattle.terms.specs.Probes.{bucket_at}
+use Rattle.table_terms.specs.Probes.{bucket_at}
 use Rattle.seated.specs.Rule.{IsLaidOut, Fits}
 use Rattle.seated.specs.Steps.{SeatState, Shows, Reads, HasPassed, IsNext, Learns}
 use Rattle.seated.specs.Numbers.{Knows, KnowsEach, KnowsEachBucket, Within, Disjoint, Inserts}

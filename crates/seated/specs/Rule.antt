@@ -6,7 +6,7 @@ use lib.ListN.{get_elem?}
 use Rattle.atomic_table.specs.Table.{State}
 use Rattle.seated.specs.declared.seat.View.{View}
 use Rattle.seated.specs.Views.{times, placings}
-pub use Rattle.terms.specs.Probes.{bucket_at}
+pub use Rattle.table_terms.specs.Probes.{bucket_at}
 
 -- the numbers lie on the ways of their probes, and no two are the same
 pub record IsLaidOut (n : ℕ) (words : List ℕ) : Type 0 where

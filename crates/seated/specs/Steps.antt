@@ -3,7 +3,7 @@ use Rattle.std.specs.Prelude.{◌≡◌, ◌≢◌, ℕ, ◌+◌, ◌<◌, ◌�
 use Rattle.atomic_table.specs.Table.{Step, Me}
 use Rattle.seated.specs.declared.seat.View.{View}
 use Rattle.seated.specs.Views.{times, with_pair, with_number}
-use Rattle.terms.specs.Probes.{bucket_at}
+use Rattle.table_terms.specs.Probes.{bucket_at}
 use Rattle.seated.specs.Rule.{IsLaidOut, Fits}
 use Rattle.seated.specs.Numbers.{Within}
 

@@ -9,7 +9,7 @@ use crate::seat::{NumberAnswer, Seat, View};
 use atomic_table::Table;
 use std::alloc::{AllocError, Allocator, Global};
 use std::num::NonZeroU64;
-use terms::probe::{first_bucket, next_bucket};
+use table_terms::probe::{first_bucket, next_bucket};
 
 /// A set of numbers other than 0, which threads share by reference.
 ///

@@ -4,7 +4,7 @@ use Rattle.std.specs.Prelude.{◌==◌, if◌then◌else◌, slice_set, option_t
 use Rattle.std.specs.List.{slice_get, find}
 use Rattle.table_core.specs.Replies.{Reply, Finished}
 use Rattle.table_core.specs.Generations.{Table}
-use Rattle.terms.specs.Capacities.{IsFirstCapacity}
+use Rattle.table_terms.specs.Capacities.{IsFirstCapacity}
 use Rattle.table_core.specs.Calls.{Call, starts, is_done}
 use Rattle.table_core.specs.Machine.{World, empty, Act, Begins, Goes, acts, happens, finished_call, finished_by, finishes, run, after}
 use Rattle.table_core.specs.History.{replies, fate, answers_so, has_later}
@@ -23,7 +23,7 @@ use Rattle.table_core.proofs.Standing.{fitting, CallsOk}
 use Rattle.table_core.proofs.Facts.{Numbered}
 use Rattle.table_core.proofs.Contents.{fit_at, same_number}
 use Rattle.table_core.proofs.Invariant.{inv}
-use Rattle.table_core.proofs.Truth.{not-true, and_both}
+use Rattle.std.proofs.lemmas.Bool.{false_from_ne_true, and_parts}
 
 -- A turn that a call takes
 
@@ -167,7 +167,7 @@ reply_ends f s x r h =
 
 pub find_option : (n : ℕ) (o : Option Finished) (rs : List Finished) → ((q : Finished) → o ≡ Some q → q.call ≡ n → ⊥) → find (λ (r : Finished). r.call == n) (option_to_list o ++ rs) ≡ find (λ r. r.call == n) rs
 find_option n None rs f = refl
-find_option n (Some q) rs f = rw (not-true (eqb q.call n) (λ e. f q refl (eqb-true q.call n e))) refl
+find_option n (Some q) rs f = rw (false_from_ne_true (eqb q.call n) (λ e. f q refl (eqb-true q.call n e))) refl
 
 pub find_append_none_at : (n : ℕ) (x : Finished) (xs ys : List Finished) (b : Bool) → (x.call == n) ≡ b → (if b then Some x else find (λ (r : Finished). r.call == n) xs) ≡ None → (find (λ (r : Finished). r.call == n) xs ≡ None → find (λ (r : Finished). r.call == n) (xs ++ ys) ≡ find (λ r. r.call == n) ys) → (if b then Some x else find (λ (r : Finished). r.call == n) (xs ++ ys)) ≡ find (λ r. r.call == n) ys
 find_append_none_at n x xs ys true e h k = absurd (cc)
@@ -211,7 +211,7 @@ run_after f s es = sym (run_append s es (empty f))
 pub not_answered : (f : ℕ) → IsFirstCapacity f → (s : List Event) (x : Event) (k : Phase → Answer → Bool) (n : ℕ) (o : Option Act) → acts (after f s) x ≡ o → Has IsDone (after f s) n → answers_so k o n ≡ false
 not_answered f h s x k n None e d = refl
 not_answered f h s x k n (Some (Begins c)) e d = refl
-not_answered f h s x k n (Some (Goes c a)) e d = not-true _ (λ q. done_silent f h s n x c a d e (eqb-true c.number n (and_both (k c.state.phase a) (c.number == n) q).1))
+not_answered f h s x k n (Some (Goes c a)) e d = false_from_ne_true _ (λ q. done_silent f h s n x c a d e (eqb-true c.number n (and_parts (k c.state.phase a) (c.number == n) q).1))
 
 pub done_later : (f : ℕ) → IsFirstCapacity f → (es s : List Event) (k : Phase → Answer → Bool) (n : ℕ) → Has IsDone (after f s) n → has_later k (after f s) es n ≡ false
 done_later f h [] s k n d = refl

@@ -5,7 +5,7 @@ use Rattle.std.specs.List.{slice_get, list_any}
 use Rattle.table_core.proofs.Weights.{weigh, count_by-weigh, same_weights}
 use Rattle.table_core.specs.Replies.{Reply, ReplyFound, ReplyRefused, Finished}
 use Rattle.table_core.specs.Generations.{Gen, Table, last_of, gen_of, bucket_in, is_current}
-use Rattle.terms.specs.Capacities.{IsFirstCapacity}
+use Rattle.table_terms.specs.Capacities.{IsFirstCapacity}
 use Rattle.table_core.specs.Calls.{Call, starts, is_done, is_pending}
 use Rattle.table_core.specs.Machine.{World, empty, walked_gen, refused, reply_of_outcome, reply, Act, Begins, acts, finished_call, finishes, after}
 use Rattle.table_core.specs.History.{replies, placed_by, placed, given, handed_back, back, kept, runs, running}
@@ -35,7 +35,7 @@ use Rattle.table_core.proofs.Pasts.{turn_after, placed_snoc, replies_snoc, by_sn
 use Rattle.table_core.proofs.Invariant.{inv, values_weigh, kept_weighs}
 use Rattle.table_core.proofs.Lawful.{lawful_before, law_after, none_placed, current_at, misses_at_turn, fresh_value, passes_le, placed_once_each}
 use Rattle.table_core.proofs.Right.{weigh-in, found_told, told_by_reply}
-use Rattle.table_core.proofs.Truth.{and_both, or-false}
+use Rattle.std.proofs.lemmas.Bool.{and_parts, or_parts}
 use Rattle.table_core.proofs.Refusals.{outcome_unrefused}
 
 -- Replies that name a value
@@ -98,7 +98,7 @@ any_passes p (x ∷ xs) h = any_at p xs (p x) (any_passes p xs) h
 
 none_passing : (p : ℕ → Bool) (xs : List ℕ) → list_any p xs ≡ false → passing p xs ≡ 0
 none_passing p [] h = refl
-none_passing p (x ∷ xs) h = let k : (p x ≡ false) × (list_any p xs ≡ false) = or-false _ _ h in omega (arith, ap one_if k.0, none_passing p xs k.1)
+none_passing p (x ∷ xs) h = let k : (p x ≡ false) × (list_any p xs ≡ false) = or_parts _ _ h in omega (arith, ap one_if k.0, none_passing p xs k.1)
 
 -- No insert is refused in vain
 
@@ -302,7 +302,7 @@ told_given_up p _ h = refl
 back_given_up : (p : ℕ → Bool) (rs : List Finished) → list_any (λ (r : Finished). is_refusal r.reply) rs ≡ false → passing p (back rs) ≡ given_ups p rs
 back_given_up p [] h = refl
 back_given_up p (r ∷ rs) h =
-    let k : (is_refusal r.reply ≡ false) × (list_any (λ (r : Finished). is_refusal r.reply) rs ≡ false) = or-false _ _ h in
+    let k : (is_refusal r.reply ≡ false) × (list_any (λ (r : Finished). is_refusal r.reply) rs ≡ false) = or_parts _ _ h in
     omega (arith, weigh-append (λ u. one_if (p u)) (handed_back r.reply) (back rs), back_given_up p rs k.1, told_given_up p r.reply k.0)
 
 done_runs : (p : Phase) (o : Outcome) → is_done p ≡ true → runs p o ≡ false
@@ -313,7 +313,7 @@ done_runs _ o h = absurd (cc)
 none_running : (cs : List Call) → list_all (λ (c : Call). is_done c.state.phase) cs ≡ true → running cs ≡ []
 none_running [] h = refl
 none_running (c ∷ cs) h =
-    let k : (is_done c.state.phase ≡ true) × (list_all (λ (c : Call). is_done c.state.phase) cs ≡ true) = and_both _ _ h in
+    let k : (is_done c.state.phase ≡ true) × (list_all (λ (c : Call). is_done c.state.phase) cs ≡ true) = and_parts _ _ h in
     rw (done_runs c.state.phase c.state.outcome k.0) (none_running cs k.1)
 
 -- the values of a class that were placed or handed back, where each of those handed back has an equal that was placed

@@ -9,7 +9,7 @@ use Rattle.std.proofs.lemmas.Nat.{mod_below}
 use Rattle.std.proofs.Math.Nat.{mod-add-mod, mod-eq_of_lt, add-mod_left}
 use Rattle.table_core.specs.Generations.{Gen, bucket, if_empty, empty_from, first_empty}
 use Rattle.table_core.specs.Bound.{entry_of, AllSet, IsRun, RunsHold}
-use Rattle.terms.specs.Probes.{bucket_at}
+use Rattle.table_terms.specs.Probes.{bucket_at}
 use Rattle.table_core.specs.declared.generation.Entry.{Entry}
 use Rattle.table_core.specs.declared.generation.Slot.{Slot}
 use Rattle.table_core.proofs.CodeEntries.{below, same, above, compared, at_place_test}

@@ -13,7 +13,8 @@ use Rattle.table_core.specs.declared.call.CallState.{CallState}
 use Rattle.table_core.specs.declared.call.Phase.{Phase}
 use Rattle.table_core.specs.declared.call.Phase.TheVariants.{WalkAt, Done}
 use Rattle.table_core.specs.declared.call.Answer.{Answer}
-use Rattle.table_core.proofs.Lists.{get-set_same, length-set}
+use Rattle.table_core.proofs.Lists.{get-set_same}
+use Rattle.std.proofs.lemmas.List.{length-set}
 
 pub set_same : {X : Type 0} (xs : List X) (i : ℕ) (x : X) → slice_get xs i ≡ Some x → xs ≡ slice_set xs i x
 set_same [] i x h = refl

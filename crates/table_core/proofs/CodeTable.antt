@@ -11,7 +11,7 @@ use Rattle.table_core.specs.declared.call.Answer.TheVariants.{Begun, Unwanted, F
 use Rattle.table_core.proofs.Weights.{weigh, sum_by-weigh}
 use Rattle.table_core.specs.Generations.{Gen, last_of, change, change_at, next_copied, next_capacity, fresh}
 use Rattle.table_core.specs.Bound.{Doubles, capacities, build_of}
-use Rattle.terms.specs.Capacities.{IsFirstCapacity, IsCapacity}
+use Rattle.table_terms.specs.Capacities.{IsFirstCapacity, IsCapacity}
 use Rattle.table_core.specs.Indexed.{IsTable}
 use Rattle.table_core.proofs.Lists.{weigh-append, weigh-map}
 use Rattle.table_core.specs.declared.generation.Entry.{Entry}

@@ -5,7 +5,7 @@ use Rattle.std.specs.List.{slice_get}
 use Rattle.table_core.proofs.Weights.{weigh}
 use Rattle.table_core.specs.Replies.{Reply, Finished}
 use Rattle.table_core.specs.Generations.{Gen, Build, Table, bucket, put_in, first_empty, fresh, fill, count, copy_in, last_of, current, change_at, change, next_capacity, entries_of, entry_left, next_copied, copy_on, built}
-use Rattle.terms.specs.Hashes.{bits_of}
+use Rattle.table_terms.specs.Hashes.{bits_of}
 use Rattle.table_core.specs.Calls.{Call, holds_shared}
 use Rattle.table_core.specs.Machine.{World, empty, bucket_of, place, add_one, begin_growth, show_built, Act, Goes}
 use Rattle.table_core.specs.History.{placed_by}
@@ -26,7 +26,7 @@ use Rattle.table_core.proofs.Turns.{Turn, rests, opens, takes}
 use Rattle.table_core.proofs.Pasts.{append-none}
 use Rattle.table_core.proofs.Standing.{fitting, stands, IsLast, CallOk, CallsOk, length-change}
 use Rattle.table_core.proofs.Facts.{values, In, Holding, Grew, AllGrew}
-use Rattle.table_core.proofs.Truth.{not-true}
+use Rattle.std.proofs.lemmas.Bool.{false_from_ne_true}
 
 pub put_in_at : (f : Entry → ℕ) (e x : Entry) (xs : List Entry) (b : Bool) → weigh f (put_in e xs) ≡ f e + weigh f xs → weigh f (if b then e ∷ x ∷ xs else x ∷ put_in e xs) ≡ f e + (f x + weigh f xs)
 put_in_at f e x xs true h = refl
@@ -74,12 +74,12 @@ order (suc a) zero = inr (inr (omega arith))
 order (suc a) (suc b) = elim (order a b) [ inl h ↦ inl (omega arith) | inr h ↦ elim h [ inl e ↦ inr (inl (ap suc e)) | inr e ↦ inr (inr (omega arith)) ] ]
 
 pub put_kept_at : (e d x : Entry) (xs : List Entry) (i : ℕ) (b c : Bool) → nat_lt e.index x.index ≡ b → eqb x.index i ≡ c → (eqb e.index i ≡ true → ⊥) → (bucket (put_in e xs) i ≡ bucket xs i) → bucket (if b then e ∷ x ∷ xs else x ∷ put_in e xs) i ≡ bucket (x ∷ xs) i
-put_kept_at e d x xs i true c h k n q = rw (not-true _ n) refl
+put_kept_at e d x xs i true c h k n q = rw (false_from_ne_true _ n) refl
 put_kept_at e d x xs i false true h k n q = rw k refl
 put_kept_at e d x xs i false false h k n q = rw k q
 
 pub put_kept : (e : Entry) (es : List Entry) (i : ℕ) → (eqb e.index i ≡ true → ⊥) → bucket (put_in e es) i ≡ bucket es i
-put_kept e [] i n = rw (not-true _ n) refl
+put_kept e [] i n = rw (false_from_ne_true _ n) refl
 put_kept e (x ∷ xs) i n = put_kept_at e x x xs i _ _ refl refl n (put_kept e xs i n)
 
 pub tail_none : (x : Entry) (xs : List Entry) (i : ℕ) (b : Bool) → eqb x.index i ≡ b → bucket (x ∷ xs) i ≡ None → (b ≡ false) × (bucket xs i ≡ None)

@@ -3,7 +3,7 @@ use Rattle.std.proofs.Common.{ℕ, ◌≡◌, ◌^◌, ◌++◌, List, [], ◌�
 use Rattle.std.specs.Prelude.{◌==◌, ◌&&◌, if◌then◌else◌, not}
 use Rattle.table_core.specs.Replies.{Reply, Finished}
 use Rattle.table_core.specs.Generations.{Table}
-use Rattle.terms.specs.Hashes.{bits_of}
+use Rattle.table_terms.specs.Hashes.{bits_of}
 use Rattle.table_core.specs.Calls.{Call, starts, is_used, call_numbered, replaced, decided}
 use Rattle.table_core.specs.Machine.{World, finds_in, finds, changed, reply_in, list_in, number_of, in_range, Act, Begins, Goes, act_of, acts, after_act, happens, finished_call, finished_by, finishes}
 use Rattle.table_core.specs.declared.event.Event.{Event}

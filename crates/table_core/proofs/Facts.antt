@@ -5,8 +5,8 @@ use Rattle.std.specs.List.{slice_get}
 use Rattle.table_core.proofs.Weights.{weigh}
 use Rattle.table_core.specs.Replies.{Finished}
 use Rattle.table_core.specs.Generations.{Gen, Build, Table, bucket, current, gen_of, bucket_in, entries_of}
-use Rattle.terms.specs.Hashes.{bits_of}
-use Rattle.terms.specs.Probes.{bucket_at}
+use Rattle.table_terms.specs.Hashes.{bits_of}
+use Rattle.table_terms.specs.Probes.{bucket_at}
 use Rattle.table_core.specs.Calls.{Call, stands_at_bucket}
 use Rattle.table_core.specs.Machine.{World}
 use Rattle.table_core.specs.History.{back, picks}

@@ -25,7 +25,7 @@ use Rattle.table_core.proofs.Facts.{Inv}
 use Rattle.table_core.proofs.Seats.{many_buckets}
 use Rattle.table_core.proofs.Numbers.{unused_at}
 use Rattle.table_core.proofs.Pasts.{turn_after, placed_snoc, reads_snoc, loads_snoc, beginnings_snoc, by_snoc, by_snoc_from}
-use Rattle.table_core.proofs.Truth.{true_or_false, or-false}
+use Rattle.std.proofs.lemmas.Bool.{cases_Bool, or_parts}
 
 -- Before a call has begun it has read and loaded nothing, and no event begins it
 
@@ -37,7 +37,7 @@ pub other_number : (n m : ℕ) → (n ≡ m → ⊥) → (n == m) ≡ false
 other_number n m h = other_number_at n m (n == m) refl h
 
 other_read : (c : Call) (a : Answer) (x : Event) (n : ℕ) → (c.number == n) ≡ false → read_by (Some (Goes c a)) x n ≡ 0
-other_read c a x n h = elim (true_or_false (is_read x)) [ inl y ↦ rw (y, h) refl | inr y ↦ rw y refl ]
+other_read c a x n h = elim (cases_Bool (is_read x)) [ inl y ↦ rw (y, h) refl | inr y ↦ rw y refl ]
 
 pub other_loaded : (c : Call) (a : Answer) (n : ℕ) → (c.number == n) ≡ false → loaded_by (Some (Goes c a)) n ≡ []
 other_loaded c (Loaded g k) n h = rw h refl
@@ -49,17 +49,17 @@ used_at n cs u i c g = other_number c.number n (unused_at n cs i c u g)
 
 used_push : (n : ℕ) (cs : List Call) (d : Call) → is_used n (cs ++ d ∷ []) ≡ false → is_used n cs ≡ false
 used_push n [] d h = refl
-used_push n (c ∷ cs) d h = let o : ((c.number == n) ≡ false) × (is_used n (cs ++ d ∷ []) ≡ false) = or-false _ _ h in rw (o.0) (used_push n cs d o.1)
+used_push n (c ∷ cs) d h = let o : ((c.number == n) ≡ false) × (is_used n (cs ++ d ∷ []) ≡ false) = or_parts _ _ h in rw (o.0) (used_push n cs d o.1)
 
 used_set : (n : ℕ) (cs : List Call) (i : ℕ) (c d : Call) → slice_get cs i ≡ Some c → d.number ≡ c.number → is_used n (slice_set cs i d) ≡ false → is_used n cs ≡ false
 used_set n [] i c d g e h = refl
 used_set n (x ∷ cs) zero c d g e h =
     let k : x ≡ c = cc in
-    let o : ((d.number == n) ≡ false) × (is_used n cs ≡ false) = or-false _ _ h in
+    let o : ((d.number == n) ≡ false) × (is_used n cs ≡ false) = or_parts _ _ h in
     let same : x.number ≡ d.number = ap (λ (z : Call). z.number) k ∙ sym e in
     rw (same, o.0) o.1
 used_set n (x ∷ cs) (suc i) c d g e h =
-    let o : ((x.number == n) ≡ false) × (is_used n (slice_set cs i d) ≡ false) = or-false _ _ h in
+    let o : ((x.number == n) ≡ false) × (is_used n (slice_set cs i d) ≡ false) = or_parts _ _ h in
     rw o.0 (used_set n cs i c d g e o.1)
 
 -- what an unused number has done
@@ -122,7 +122,7 @@ abbrev one_if_read : Event → ℕ
 one_if_read x = if is_read x then 1 else 0
 
 own_read : (c : Call) (a : Answer) (x : Event) (n : ℕ) → c.number ≡ n → read_by (Some (Goes c a)) x n ≡ one_if_read x
-own_read c a x n e = let q : (c.number == n) ≡ true = eq-eqb c.number n e in elim (true_or_false (is_read x)) [ inl y ↦ rw (y, q) refl | inr y ↦ rw y refl ]
+own_read c a x n e = let q : (c.number == n) ≡ true = eq-eqb c.number n e in elim (cases_Bool (is_read x)) [ inl y ↦ rw (y, q) refl | inr y ↦ rw y refl ]
 
 row_few : (w : World) (c : Call) {p : Phase} {x : Event} {a : Answer} {r : CallState} {ls : List ℕ} {t : Table} {q : Option Reply} → Row w c p x a r ls t q → (reads n : ℕ) → (p ≡ LookProbe → c.state.seen ≤ n) → Few p c.state.seen reads n → Few r.phase r.seen (reads + one_if_read x) n
 row_few w c (looks_none m e) reads n s f = omega arith

@@ -3,7 +3,7 @@ use Rattle.std.proofs.Common.{ℕ, ◌≡◌, ◌++◌, ◌⊎◌, inl, inr, Lis
 use Rattle.std.specs.Prelude.{◌&&◌, option_to_list, not}
 use Rattle.table_core.specs.Replies.{Reply, ReplyPlaced, ReplyLen, ReplyWalk, Finished}
 use Rattle.table_core.specs.Generations.{Table}
-use Rattle.terms.specs.Capacities.{IsFirstCapacity}
+use Rattle.table_terms.specs.Capacities.{IsFirstCapacity}
 use Rattle.table_core.specs.Calls.{Call, is_pending}
 use Rattle.table_core.specs.Machine.{World, empty, bucket_of, reply_of_outcome, Goes, acts, happens, finishes, run, after}
 use Rattle.table_core.specs.History.{replies, fate, placed_by, placed, has_later}
@@ -30,7 +30,8 @@ use Rattle.table_core.proofs.Lawful.{law_after, lawful_before, fresh_value}
 use Rattle.table_core.proofs.Right.{say, right, place_answer}
 use Rattle.table_core.proofs.Callings.{took_after, run_after, telling}
 use Rattle.table_core.proofs.Settled.{moment_once, refusal_try, later_found}
-use Rattle.table_core.proofs.Truth.{true_or_false, not_both_ways, or-false}
+use Rattle.table_core.proofs.Truth.{not_both_ways}
+use Rattle.std.proofs.lemmas.Bool.{cases_Bool, or_parts}
 
 -- Schedules cut twice
 
@@ -108,7 +109,7 @@ refused_before f t s x d y more n c a h e m u k =
     cc
 
 pub apart_moments : (f : ℕ) → IsFirstCapacity f → (t : Reply) (s : List Event) (x : Event) (d : List Event) (y : Event) (more : List Event) (n : ℕ) (c e : Call) (a b : Answer) → acts (after f s) x ≡ Some (Goes c a) → c.number ≡ n → is_moment t c.state.phase a ≡ true → acts (after f (s ++ x ∷ d)) y ≡ Some (Goes e b) → e.number ≡ n → is_moment t e.state.phase b ≡ true → (is_refusal t ≡ true → has_later may_be_refused (after f (s ++ x ∷ [])) (d ++ y ∷ more) n ≡ false) → ⊥
-apart_moments f i t s x d y more n c e a b h k m g o u z = elim (true_or_false (is_refusal t)) [
+apart_moments f i t s x d y more n c e a b h k m g o u z = elim (cases_Bool (is_refusal t)) [
   | inl q ↦ refused_before f t s x d y more n e b g o u q (z q)
   | inr q ↦ moment_once f i t s x d y n c e a b h k m g o u q
 ]
@@ -167,7 +168,7 @@ answer_here l f i s x xs c a r u h e m z =
     let early : is_refusal r.reply ≡ true → has_later may_be_refused (after f (s ++ x ∷ [])) g.inner r.call ≡ false = λ q. (
     let y : has_later may_be_refused (happens (after f s) x) (g.inner ++ g.rest) c.number ≡ false = rw g.split at (z q) in
     let y2 : has_later may_be_refused (after f (s ++ x ∷ [])) (g.inner ++ g.rest) c.number ≡ false = rw (after_snoc f s x) y in
-    let y3 = or-false _ _ (sym (has_later_append may_be_refused g.inner g.rest (after f (s ++ x ∷ [])) c.number) ∙ y2) in
+    let y3 = or_parts _ _ (sym (has_later_append may_be_refused g.inner g.rest (after f (s ++ x ∷ [])) c.number) ∙ y2) in
     subst (λ n. has_later may_be_refused (after f (s ++ x ∷ [])) g.inner n ≡ false) (sym t.1) y3.0) in
     let w = same_moment f i r.reply r.call s x g.inner k.at.before k.at.event k.at.rest c k.at.call a k.at.found eq h (sym t.1) m early k.at.taken k.at.own k.moment k.last (cut s x g.inner k.at.before k.at.event k.at.rest eq) in
     let ans : Answers l.equal (placed (empty f) s) (asked l r) (answered r.reply) (placed (empty f) (s ++ x ∷ [])) = answer_at l f r s x k.at.before k.at.event w.before w.event k.answer in

@@ -4,7 +4,7 @@ use Rattle.std.specs.Prelude.{◌==◌, ◌&&◌, if◌then◌else◌, option_to
 use Rattle.std.specs.List.{find}
 use Rattle.table_core.specs.Replies.{Reply, ReplyPlaced, Finished}
 use Rattle.table_core.specs.Generations.{Table}
-use Rattle.terms.specs.Capacities.{IsFirstCapacity}
+use Rattle.table_terms.specs.Capacities.{IsFirstCapacity}
 use Rattle.table_core.specs.Calls.{Call, to}
 use Rattle.table_core.specs.Machine.{World, empty, Act, Begins, Goes, acts, happens, finished_call, finishes, run, after}
 use Rattle.table_core.specs.History.{replies, fate, placed_by, placed_at, placed, has_later}
@@ -31,7 +31,7 @@ use Rattle.table_core.proofs.Right.{say}
 use Rattle.table_core.proofs.Callings.{took_after, Has, has_after, has_same, run_after, replied, Telling, telling, told_at}
 use Rattle.table_core.proofs.Settled.{settled_stays, settled_now, settled, IsSettled}
 use Rattle.table_core.proofs.Histories.{heads, won_row, placed_or_none, StandsHere, nothing, one, put_answer, not_both, answer_here, placed_told}
-use Rattle.table_core.proofs.Truth.{and_both}
+use Rattle.std.proofs.lemmas.Bool.{and_parts}
 
 -- What stands in the history for one event
 
@@ -100,7 +100,7 @@ not_placing f i s x xs c a r later h e n (inr k) =
 
 pub stands_some : (l : Law) (f : ℕ) → IsFirstCapacity f → (s : List Event) (x : Event) (xs : List Event) (c : Call) (a : Answer) (r : Finished) (later b : Bool) → IsLawful l f (s ++ x ∷ xs) → acts (after f s) x ≡ Some (Goes c a) → fate (after f s) (x ∷ xs) c.number ≡ Some r → has_later may_be_refused (happens (after f s) x) xs c.number ≡ later → (is_moment r.reply c.state.phase a && not (is_refusal r.reply && later)) ≡ b → StandsHere l f s (if b then r ∷ [] else []) (placed_by (Some (Goes c a)))
 stands_some l f i s x xs c a r later true u h e w k =
-    let z = and_both _ _ k in
+    let z = and_parts _ _ k in
     one r refl (answer_here l f i s x xs c a r u h e z.0 (λ q. w ∙ not_both _ _ z.1 q))
 stands_some l f i s x xs c a r later false u h e w k = nothing refl (not_placing f i s x xs c a r later h e k (placed_or_none c a))
 
@@ -157,7 +157,7 @@ stands_unfinished w x xs c a r f (inr k) i = let z : Is r (placed_here c.number 
 
 pub stands_finished : (w : World) (x : Event) (xs : List Event) (c : Call) (a : Answer) (q r : Finished) (later b : Bool) → fate w (x ∷ xs) c.number ≡ Some q → has_later may_be_refused (happens w x) xs c.number ≡ later → (is_moment q.reply c.state.phase a && not (is_refusal q.reply && later)) ≡ b → Is r (if b then q ∷ [] else []) → Standing w x xs c a r
 stands_finished w x xs c a q r later true f e k i =
-    let z = and_both _ _ k in
+    let z = and_parts _ _ k in
     let m : q ≡ r = is_one q r i in
     rw (← m) (finished f z.0 (λ g. e ∙ not_both _ _ z.1 g))
 stands_finished w x xs c a q r later false f e k i = absurd i

@@ -6,7 +6,7 @@ use Rattle.table_core.specs.Calls.{Call, starts}
 use Rattle.table_core.specs.Steps.{left, Opens, opens_insert, opens_lookup, opens_len, opens_walk}
 use Rattle.table_core.proofs.Lists.{weigh-append, weigh-set, weigh-flat_map}
 use Rattle.table_core.specs.Replies.{Finished}
-use Rattle.terms.specs.Capacities.{IsFirstCapacity}
+use Rattle.table_terms.specs.Capacities.{IsFirstCapacity}
 use Rattle.table_core.specs.Machine.{World, empty, Act, Begins, acts, happens, run, after}
 use Rattle.table_core.specs.History.{replies, placed_by, placed, given_by, given, back, kept, running}
 use Rattle.table_core.specs.declared.event.Event.{Event}

@@ -5,9 +5,9 @@ use Rattle.std.specs.List.{slice_get}
 use Rattle.table_core.proofs.Weights.{weigh, count_by-weigh}
 use Rattle.table_core.specs.Replies.{Reply, Finished}
 use Rattle.table_core.specs.Generations.{Gen, Build, Table, bucket, put_in, first_empty, fresh, fill, count, copy_in, last_of, current, gen_of, bucket_in, change_at, change, next_capacity, entries_of, entry_left, copy_on, built}
-use Rattle.terms.specs.Hashes.{bits_of}
-use Rattle.terms.specs.Probes.{bucket_at}
-use Rattle.terms.specs.Capacities.{IsFirstCapacity}
+use Rattle.table_terms.specs.Hashes.{bits_of}
+use Rattle.table_terms.specs.Probes.{bucket_at}
+use Rattle.table_terms.specs.Capacities.{IsFirstCapacity}
 use Rattle.table_core.specs.Calls.{Call, starts}
 use Rattle.table_core.specs.Machine.{World, empty, bucket_of, place, begin_growth, Act, Goes, happens, run, after}
 use Rattle.table_core.specs.History.{replies, placed_by, placed}
@@ -37,7 +37,8 @@ use Rattle.table_core.proofs.Contents.{order, in_put, in_bucket, in_get, put_sta
 use Rattle.table_core.proofs.Seats.{first_empty_way, copy_room}
 use Rattle.table_core.proofs.Tracks.{growth_from, asking_outcome, load_outcome, none_shared, none_look, none_len, none_walk, tracked_row}
 use Rattle.table_core.proofs.Invariant.{inv}
-use Rattle.table_core.proofs.Truth.{and_both, and-not, not-and, not-true}
+use Rattle.table_core.proofs.Truth.{and-not, not-and}
+use Rattle.std.proofs.lemmas.Bool.{and_parts, false_from_ne_true}
 use Rattle.table_core.proofs.Sizes.{place_building}
 
 -- What a probe misses
@@ -51,7 +52,7 @@ passed_all l c g seen d e s p i t lt y =
 
 -- where the probe meets an empty bucket, no entry is accepted
 pub misses_at_empty : (l : Law) (c : Call) (g : Gen) (seen : ℕ) → Seated g → Reached l g → Missed l c g seen → ((x : ℕ) → accepts l c x ≡ true → l.hash x ≡ c.state.hash) → bucket g.entries (bucket_at g.capacity c.state.hash seen) ≡ None → (e : Entry) → In e g.entries → accepts l c e.value ≡ false
-misses_at_empty l c g seen u r p t n e i = not-true _ (λ y.
+misses_at_empty l c g seen u r p t n e i = false_from_ne_true _ (λ y.
     let h : l.hash e.value ≡ c.state.hash = t e.value y in
     let k : Way g.capacity g.entries c.state.hash e.index = rw h at (r.way e i) in
     elim (order k.steps seen) [
@@ -64,7 +65,7 @@ misses_at_empty l c g seen u r p t n e i = not-true _ (λ y.
 
 -- after a whole turn, no entry is accepted
 pub misses_at_turn : (l : Law) (c : Call) (g : Gen) (seen : ℕ) → Seated g → Reached l g → Missed l c g seen → ((x : ℕ) → accepts l c x ≡ true → l.hash x ≡ c.state.hash) → g.capacity ≤ seen → (e : Entry) → In e g.entries → accepts l c e.value ≡ false
-misses_at_turn l c g seen u r p t n e i = not-true _ (λ y.
+misses_at_turn l c g seen u r p t n e i = false_from_ne_true _ (λ y.
     let h : l.hash e.value ≡ c.state.hash = t e.value y in
     let k : Way g.capacity g.entries c.state.hash e.index = rw h at (r.way e i) in
     let pos : 0 < g.capacity = u.roomy in
@@ -145,13 +146,13 @@ differing e s y h = not-and (e.bits == bits_of s.hash) y h
 -- an answer yes where the bits agree: the entry is accepted
 pub accepted_at : (l : Law) (w : World) (c : Call) (p : Phase) (x : Event) (e : Entry) (y : Bool) → c.state.phase ≡ p → (UsesBy l w c p x → AsksBy l w c y) → bucket_of w.table c.state ≡ Some e → is_accepted e c.state y ≡ true → UsesBy l w c c.state.phase x → accepts l c e.value ≡ true
 accepted_at l w c p x e y k s q f u =
-    let b : ((e.bits == bits_of c.state.hash) ≡ true) × (y ≡ true) = and_both (e.bits == bits_of c.state.hash) y f in
+    let b : ((e.bits == bits_of c.state.hash) ≡ true) × (y ≡ true) = and_parts (e.bits == bits_of c.state.hash) y f in
     sym (s (subst (λ z. UsesBy l w c z x) k u) e q (eqb-true e.bits (bits_of c.state.hash) b.0)) ∙ b.1
 
 -- an answer no, or other bits: the entry isn't accepted
 pub refused_at : (l : Law) (w : World) (c : Call) (p : Phase) (x : Event) (e : Entry) (y b : Bool) → (e.bits == bits_of c.state.hash) ≡ b → c.state.phase ≡ p → (UsesBy l w c p x → AsksBy l w c y) → bucket_of w.table c.state ≡ Some e → (b && y) ≡ false → UsesBy l w c c.state.phase x → e.bits ≡ bits_of (l.hash e.value) → ((x : ℕ) → accepts l c x ≡ true → l.hash x ≡ c.state.hash) → accepts l c e.value ≡ false
 refused_at l w c p x e y true h k s q f u m t = sym (s (subst (λ z. UsesBy l w c z x) k u) e q (eqb-true e.bits (bits_of c.state.hash) h)) ∙ f
-refused_at l w c p x e y false h k s q f u m t = not-true _ (λ z. let n : l.hash e.value ≡ c.state.hash = t e.value z in let v : e.bits ≡ bits_of c.state.hash = rw n at m in let o : eqb e.bits (bits_of c.state.hash) ≡ true = eq-eqb _ _ v in cc)
+refused_at l w c p x e y false h k s q f u m t = false_from_ne_true _ (λ z. let n : l.hash e.value ≡ c.state.hash = t e.value z in let v : e.bits ≡ bits_of c.state.hash = rw n at m in let o : eqb e.bits (bits_of c.state.hash) ≡ true = eq-eqb _ _ v in cc)
 
 abbrev pub AllReached : Law → World → Type 0
 AllReached l w = (k : ℕ) (g : Gen) → slice_get w.table.gens k ≡ Some g → Reached l g

@@ -4,7 +4,7 @@ use Rattle.std.specs.Prelude.{slice_set, map}
 use Rattle.std.specs.List.{slice_get, list_any, flat_map}
 use Rattle.table_core.specs.Bound.{one_if}
 use Rattle.table_core.proofs.Weights.{weigh}
-use Rattle.table_core.proofs.Truth.{or-false}
+use Rattle.std.proofs.lemmas.Bool.{or_parts}
 
 pub weigh-append : {X : Type 0} (f : X → ℕ) (xs ys : List X) → weigh f (xs ++ ys) ≡ weigh f xs + weigh f ys
 weigh-append f [] ys = omega arith
@@ -47,11 +47,6 @@ get-set_other (u ∷ xs) zero (suc j) y n = refl
 get-set_other (u ∷ xs) (suc i) zero y n = refl
 get-set_other (u ∷ xs) (suc i) (suc j) y n = get-set_other xs i j y (λ e. n (ap suc e))
 
-pub length-set : {X : Type 0} (xs : List X) (i : ℕ) (y : X) → length (slice_set xs i y) ≡ length xs
-length-set [] i y = refl
-length-set (u ∷ xs) zero y = refl
-length-set (u ∷ xs) (suc i) y = ap suc (length-set xs i y)
-
 pub get-push : {X : Type 0} (xs : List X) (y z : X) (j : ℕ) → slice_get (xs ++ y ∷ []) j ≡ Some z → ((j ≡ length xs) × (z ≡ y)) ⊎ (slice_get xs j ≡ Some z)
 get-push [] y z zero k = inl (refl, cc)
 get-push [] y z (suc j) k = absurd (cc)
@@ -69,7 +64,7 @@ get-push_last (x ∷ xs) y = get-push_last xs y
 
 pub none_counted : {X : Type 0} (p : X → Bool) (xs : List X) → list_any p xs ≡ false → weigh (λ x. one_if (p x)) xs ≡ 0
 none_counted p [] h = refl
-none_counted p (x ∷ xs) h = let k : (p x ≡ false) × (list_any p xs ≡ false) = or-false _ _ h in omega (arith, ap one_if k.0, none_counted p xs k.1)
+none_counted p (x ∷ xs) h = let k : (p x ≡ false) × (list_any p xs ≡ false) = or_parts _ _ h in omega (arith, ap one_if k.0, none_counted p xs k.1)
 
 pub weigh-plus : {X : Type 0} (f g k : X → ℕ) → ((x : X) → f x ≡ g x + k x) → (xs : List X) → weigh f xs ≡ weigh g xs + weigh k xs
 weigh-plus f g k e [] = refl

@@ -10,12 +10,12 @@ use Rattle.table_core.proofs.Lists.{get-set, get-push}
 use Rattle.std.proofs.lemmas.Bool.{eq-eqb}
 use Rattle.table_core.proofs.Turns.{Turn, rests, opens, takes}
 use Rattle.table_core.proofs.Facts.{Numbered, Valued}
-use Rattle.table_core.proofs.Truth.{or-false}
+use Rattle.std.proofs.lemmas.Bool.{or_parts}
 
 pub unused_at : (n : ℕ) (cs : List Call) (i : ℕ) (c : Call) → is_used n cs ≡ false → slice_get cs i ≡ Some c → c.number ≡ n → ⊥
 unused_at n [] i c u h e = cc
-unused_at n (x ∷ cs) zero c u h e = let k : x ≡ c = cc in let q : eqb x.number n ≡ true = eq-eqb x.number n (ap (λ (z : Call). z.number) k ∙ e) in let o : (eqb x.number n ≡ false) × (is_used n cs ≡ false) = or-false _ _ u in let z : eqb x.number n ≡ false = o.0 in cc
-unused_at n (x ∷ cs) (suc i) c u h e = unused_at n cs i c (or-false _ _ u).1 h e
+unused_at n (x ∷ cs) zero c u h e = let k : x ≡ c = cc in let q : eqb x.number n ≡ true = eq-eqb x.number n (ap (λ (z : Call). z.number) k ∙ e) in let o : (eqb x.number n ≡ false) × (is_used n cs ≡ false) = or_parts _ _ u in let z : eqb x.number n ≡ false = o.0 in cc
+unused_at n (x ∷ cs) (suc i) c u h e = unused_at n cs i c (or_parts _ _ u).1 h e
 
 pub keeps_numbered : {w v : World} {x : Event} {a : Option Act} {r : Option Finished} → Turn w x a v r → Numbered w → Numbered v
 keeps_numbered rests o = o
@@ -37,8 +37,8 @@ numbered_empty first = record { apart = λ i j c d g k e. absurd (cc) }
 
 pub unused_value_at : (v : ℕ) (cs : List Call) (i : ℕ) (c : Call) → is_used_value v cs ≡ false → slice_get cs i ≡ Some c → c.value ≡ Some v → ⊥
 unused_value_at v [] i c u h e = cc
-unused_value_at v (x ∷ cs) zero c u h e = let k : x ≡ c = cc in let q : x.value ≡ Some v = ap (λ (z : Call). z.value) k ∙ e in let o : (is_value v x.value ≡ false) × (is_used_value v cs ≡ false) = or-false _ _ u in let z : is_value v (Some v) ≡ false = rw q at o.0 in let y : eqb v v ≡ true = eq-eqb v v refl in cc
-unused_value_at v (x ∷ cs) (suc i) c u h e = unused_value_at v cs i c (or-false _ _ u).1 h e
+unused_value_at v (x ∷ cs) zero c u h e = let k : x ≡ c = cc in let q : x.value ≡ Some v = ap (λ (z : Call). z.value) k ∙ e in let o : (is_value v x.value ≡ false) × (is_used_value v cs ≡ false) = or_parts _ _ u in let z : is_value v (Some v) ≡ false = rw q at o.0 in let y : eqb v v ≡ true = eq-eqb v v refl in cc
+unused_value_at v (x ∷ cs) (suc i) c u h e = unused_value_at v cs i c (or_parts _ _ u).1 h e
 
 pub new_value_at : (v u : Option ℕ) (n : ℕ) (cs : List Call) (i : ℕ) (c : Call) → IsNewValue cs v → slice_get cs i ≡ Some c → v ≡ Some n → c.value ≡ Some n → ⊥
 new_value_at None u n cs i c f h e k = cc

@@ -4,7 +4,7 @@ use Rattle.std.specs.Prelude.{◌==◌, ◌&&◌, ◌||◌, if◌then◌else◌,
 use Rattle.std.specs.List.{find}
 use Rattle.table_core.proofs.Weights.{weigh, count_by-ifs}
 use Rattle.table_core.specs.Replies.{ReplyPlaced, Finished}
-use Rattle.terms.specs.Capacities.{IsFirstCapacity}
+use Rattle.table_terms.specs.Capacities.{IsFirstCapacity}
 use Rattle.table_core.specs.Calls.{Call}
 use Rattle.table_core.specs.Machine.{World, empty, Act, Begins, Goes, acts, happens, finishes, run, after}
 use Rattle.table_core.specs.History.{replies, fate, placed_by, placed, has_later}

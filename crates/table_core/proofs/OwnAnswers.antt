@@ -4,7 +4,7 @@ use Rattle.std.specs.Prelude.{◌==◌}
 use Rattle.std.specs.List.{slice_get}
 use Rattle.table_core.specs.Replies.{Reply, ReplyPlaced, ReplyFound, ReplyRefused, ReplySome, Finished}
 use Rattle.table_core.specs.Generations.{Gen, Table, gen_of, bucket_in}
-use Rattle.terms.specs.Hashes.{bits_of}
+use Rattle.table_terms.specs.Hashes.{bits_of}
 use Rattle.table_core.specs.Calls.{Call, starts, finds_entry}
 use Rattle.table_core.specs.Machine.{World, empty, walked_gen, bucket_of, refused, found_entry, reply_of_outcome, Act, Goes, acts, finished_call, after}
 use Rattle.table_core.specs.History.{replies, placed, TakenEvent, bucket_then}
@@ -30,7 +30,7 @@ use Rattle.table_core.proofs.Tracks.{load_outcome, none_shared, none_look, none_
 use Rattle.table_core.proofs.Lawful.{entry_stays}
 use Rattle.table_core.proofs.Pasts.{turn_after, by_snoc, taken_now, taken_later}
 use Rattle.table_core.proofs.Beginnings.{row_own}
-use Rattle.table_core.proofs.Truth.{and_both}
+use Rattle.std.proofs.lemmas.Bool.{and_parts}
 
 -- Accepted entries
 
@@ -58,7 +58,7 @@ data Meeting (w : World) (c : Call) (x : Event) (r : CallState) (k : ℕ) : Type
 
 says_yes_to : (x : Event) (s : CallState) (e : Entry) (y : Bool) → says_yes x ≡ y → is_accepted e s y ≡ true → SaysYes x s e
 says_yes_to x s e y q h =
-    let both : ((e.bits == bits_of s.hash) ≡ true) × (y ≡ true) = and_both (e.bits == bits_of s.hash) y h in
+    let both : ((e.bits == bits_of s.hash) ≡ true) × (y ≡ true) = and_parts (e.bits == bits_of s.hash) y h in
     record { yes = q ∙ both.1; bits = eqb-true e.bits (bits_of s.hash) both.0 }
 
 meeting_now : (w : World) (c : Call) (p : Phase) (x : Event) (y : Bool) (e : Entry) (k : ℕ) → says_yes x ≡ y → bucket_of w.table c.state ≡ Some e → is_accepted e c.state y ≡ true → Existing c.state.index ≡ Existing k → Meeting w c x (finds_entry p c.state) k

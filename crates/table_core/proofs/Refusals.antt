@@ -34,7 +34,7 @@ use Rattle.table_core.proofs.FewReads.{other_number}
 use Rattle.table_core.proofs.OwnAnswers.{reply_by_row}
 use Rattle.table_core.proofs.Pasts.{turn_after, by_snoc, by_snoc_from, taken_now, taken_later, after_taken, later_snoc}
 use Rattle.table_core.proofs.Callings.{row_not_done}
-use Rattle.table_core.proofs.Truth.{and-false}
+use Rattle.std.proofs.lemmas.Bool.{and_right}
 
 -- a call that may be told that it is refused
 abbrev refusable : Phase → Outcome → Bool
@@ -73,7 +73,7 @@ begin_refusable (opens_insert n v h) = refl
 begin_refusable _ = refl
 
 other_answer : (c : Call) (a : Answer) (n : ℕ) → (c.number == n) ≡ false → answers_so is_put_or_check (Some (Goes c a)) n ≡ false
-other_answer c a n h = rw h (and-false (is_put_or_check c.state.phase a))
+other_answer c a n h = rw h (and_right (is_put_or_check c.state.phase a) false refl)
 
 module _ (f : ℕ) (inv : (s : List Event) → Inv (after f s) (placed (empty f) s) (replies (empty f) s)) where
   abbrev AllCaused : List Event → World → Type 0

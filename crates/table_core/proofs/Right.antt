@@ -5,8 +5,8 @@ use Rattle.std.specs.List.{slice_get}
 use Rattle.table_core.proofs.Weights.{weigh}
 use Rattle.table_core.specs.Replies.{Reply, ReplyPlaced, ReplyFound, ReplyRefused, ReplySome, ReplyNone, ReplyLen, ReplyWalk, Finished}
 use Rattle.table_core.specs.Generations.{Gen, Table, bucket, last_of, current, gen_of, bucket_in, is_current}
-use Rattle.terms.specs.Probes.{bucket_at}
-use Rattle.terms.specs.Capacities.{IsFirstCapacity}
+use Rattle.table_terms.specs.Probes.{bucket_at}
+use Rattle.table_terms.specs.Capacities.{IsFirstCapacity}
 use Rattle.table_core.specs.Calls.{Call, starts}
 use Rattle.table_core.specs.Machine.{World, empty, walked_gen, bucket_of, refused, found_entry, reply_of_outcome, Act, Goes, acts, finished_call, run, after}
 use Rattle.table_core.specs.History.{replies, placed_by, placed, TakenEvent, answers_so}
@@ -43,7 +43,7 @@ use Rattle.table_core.proofs.Tracks.{load_outcome, none_shared, none_look, none_
 use Rattle.table_core.proofs.Lawful.{accepted_at, refused_by, declined, differing, missed_more, misses_at_empty, misses_at_turn, none_placed, fresh_value, same_entry, same_gen, same_walk, entry_stays, lawful_before, lawful_then, law_after, none_passes}
 use Rattle.table_core.proofs.Members.{none_in, counted, contains_of}
 use Rattle.table_core.proofs.Invariant.{InvAfter, inv}
-use Rattle.table_core.proofs.Truth.{not-true, and-false}
+use Rattle.std.proofs.lemmas.Bool.{false_from_ne_true, and_right}
 
 abbrev pub say : ℕ → Reply → Finished
 say n t = record { call = n; reply = t }
@@ -339,10 +339,10 @@ fated_begin l f s gens (opens_len n) = record { placed = λ u e y. absurd (cc); 
 fated_begin l f s gens (opens_walk n) = record { placed = λ u e y. absurd (cc); found = λ u i e w o b. absurd (cc); refused = λ u e y. absurd (cc); looked = λ e. absurd (let m = ap is_look_probe e in cc) }
 
 pub other_number : (w : World) (i j : ℕ) (c d : Call) → Numbered w → (i ≡ j → ⊥) → slice_get w.calls i ≡ Some c → slice_get w.calls j ≡ Some d → (c.number == d.number) ≡ false
-other_number w i j c d n ne g h = not-true _ (λ q. ne (n.apart i j c d g h (eqb-true c.number d.number q)))
+other_number w i j c d n ne g h = false_from_ne_true _ (λ q. ne (n.apart i j c d g h (eqb-true c.number d.number q)))
 
 pub not_its : (w : World) (i j : ℕ) (c d : Call) (a : Answer) → Numbered w → (i ≡ j → ⊥) → slice_get w.calls i ≡ Some c → slice_get w.calls j ≡ Some d → answers_so may_be_refused (Some (Goes c a)) d.number ≡ false
-not_its w i j c d a n ne g h = let z : (c.number == d.number) ≡ false = other_number w i j c d n ne g h in rw z (and-false (may_be_refused c.state.phase a))
+not_its w i j c d a n ne g h = let z : (c.number == d.number) ≡ false = other_number w i j c d n ne g h in rw z (and_right (may_be_refused c.state.phase a) false refl)
 
 -- two calls don't hold the lock for themselves
 pub not_both : (w : World) (i j : ℕ) (c d : Call) → Locked w → slice_get w.calls i ≡ Some c → slice_get w.calls j ≡ Some d → c.state.phase ≡ Building → d.state.phase ≡ LeaveFailed → ⊥

@@ -3,7 +3,7 @@ use Rattle.std.proofs.Common.{eqb-true, ℕ, ◌≡◌, ◌+◌, ◌/◌, ◌^�
 use Rattle.std.specs.Prelude.{◌==◌, ◌&&◌, ◌||◌, nat_lt, if◌then◌else◌, not}
 use Rattle.table_core.specs.Replies.{ReplyNone, ReplyWalk}
 use Rattle.table_core.specs.Generations.{Gen, current, is_current, next_copied}
-use Rattle.terms.specs.Hashes.{bits_of}
+use Rattle.table_terms.specs.Hashes.{bits_of}
 use Rattle.table_core.specs.Calls.{Call, starts, is_used, is_used_value, call_numbered, is_owned, is_locked, to, is_pending, decided}
 use Rattle.table_core.specs.Machine.{World, takes_unless, loaded, walked_gen, bucket_of, read, read_unasked, exchanged, sized, checked, finds_in, finds, changed, refused, by_outcome, reply_at_end, reply_in, kept_list, list_in, number_of, in_range, Act, begins_unless, goes_by, act_of, acts, after_act, finished_by}
 use Rattle.table_core.specs.Machine.{finds_copy, finds_show, call_acts}
@@ -16,7 +16,7 @@ use Rattle.table_core.specs.declared.call.Phase.{Phase}
 use Rattle.table_core.specs.declared.call.Phase.TheVariants.{WantShared, Shared, Probe, AtEmpty, Placed, LeaveOk, LeaveGrow, LeaveRefused, AskSize, WantOwned, Owned, Building, LeaveOwned, LeaveFailed, LookLoad, LookProbe, LenLoad, LenSize, WalkLoad, WalkAt, Done}
 use Rattle.table_core.specs.declared.call.Answer.{Answer}
 use Rattle.table_core.specs.declared.call.Answer.TheVariants.{Taken, Released, ReleasedAfterFailure, Empty, Holds, HoldsUnasked, MemoryRefused, Sized, Begun, Unwanted, Failed}
-use Rattle.table_core.proofs.Truth.{or-false}
+use Rattle.std.proofs.lemmas.Bool.{or_parts}
 
 -- what a phase makes of an event and its answer is a row
 abbrev Rows : World → Call → Phase → Event → Answer → Type 0
@@ -212,7 +212,7 @@ step_goes w x None r h = tt
 step_goes w x (Some c) r h = step_finds w x c (finds w c.state x) r h refl
 
 pub step_of : (w : World) (x : Event) → in_range x ≡ true → StepsBy w x (act_of w x)
-step_of w (Insert n v h) r = step_begins w (Insert n v h) n (Some v) WantShared h (is_used n w.calls || is_used_value v w.calls) r (opens_insert n v h) (or-false _ _)
+step_of w (Insert n v h) r = step_begins w (Insert n v h) n (Some v) WantShared h (is_used n w.calls || is_used_value v w.calls) r (opens_insert n v h) (or_parts _ _)
 step_of w (Lookup n h) r = step_begins w (Lookup n h) n None LookLoad h (is_used n w.calls) r (opens_lookup n h) (λ f. (f, tt))
 step_of w (Len n) r = step_begins w (Len n) n None LenLoad 0 (is_used n w.calls) r (opens_len n) (λ f. (f, tt))
 step_of w (Walk n) r = step_begins w (Walk n) n None WalkLoad 0 (is_used n w.calls) r (opens_walk n) (λ f. (f, tt))

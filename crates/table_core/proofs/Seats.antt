@@ -5,8 +5,8 @@ use Rattle.std.specs.List.{slice_get}
 use Rattle.table_core.proofs.Weights.{weigh}
 use Rattle.table_core.specs.Replies.{Reply, Finished}
 use Rattle.table_core.specs.Generations.{Gen, Build, Table, bucket, if_empty, empty_from, first_empty, fresh, fill, count, copy_in, current, change_at, change, next_capacity, entries_of, entry_left, copy_on, built}
-use Rattle.terms.specs.Probes.{bucket_at}
-use Rattle.terms.specs.Capacities.{IsFirstCapacity}
+use Rattle.table_terms.specs.Probes.{bucket_at}
+use Rattle.table_terms.specs.Capacities.{IsFirstCapacity}
 use Rattle.table_core.specs.Calls.{Call}
 use Rattle.table_core.specs.Machine.{World, empty, bucket_of, place, begin_growth, Act}
 use Rattle.table_core.specs.Steps.{Row, puts, adds, begins_first, begins_next, copies, shows}
@@ -25,7 +25,7 @@ use Rattle.table_core.proofs.Facts.{values, In, IsSet, Holding, Seated, AllSeate
 use Rattle.table_core.proofs.Contents.{weigh-put_in, order, put_new, put_stays, in_put, entry_of, bucket_none}
 use Rattle.table_core.proofs.Sizes.{first_row, place_building}
 use Rattle.table_core.proofs.Pasts.{append-none}
-use Rattle.table_core.proofs.Truth.{not-true}
+use Rattle.std.proofs.lemmas.Bool.{false_from_ne_true}
 
 -- Places that differ
 
@@ -65,7 +65,7 @@ hits capacity hash x (suc n) = one_if (x == bucket_at capacity hash n) + hits ca
 pub no_hits : (capacity hash x n : ℕ) → ((j : ℕ) → j < n → x ≡ bucket_at capacity hash j → ⊥) → hits capacity hash x n ≡ 0
 no_hits capacity hash x zero f = refl
 no_hits capacity hash x (suc n) f =
-    let z : (x == bucket_at capacity hash n) ≡ false = not-true _ (λ q. f n (omega arith) (eqb-true x (bucket_at capacity hash n) q)) in
+    let z : (x == bucket_at capacity hash n) ≡ false = false_from_ne_true _ (λ q. f n (omega arith) (eqb-true x (bucket_at capacity hash n) q)) in
     omega (arith, ap one_if z, no_hits capacity hash x n (λ j lt. f j (omega arith)))
 
 pub one_hit_at : (capacity hash x n : ℕ) → suc n ≤ capacity → (b : Bool) → (x == bucket_at capacity hash n) ≡ b → hits capacity hash x n ≤ 1 → one_if b + hits capacity hash x n ≤ 1

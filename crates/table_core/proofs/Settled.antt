@@ -3,7 +3,7 @@ use Rattle.std.proofs.Common.{ℕ, ◌≡◌, ◌++◌, ◌⊎◌, inl, inr, Lis
 use Rattle.std.specs.Prelude.{◌==◌, ◌||◌, not}
 use Rattle.table_core.specs.Replies.{Reply, ReplyPlaced, ReplyFound, ReplyRefused, ReplySome, ReplyNone, ReplyLen, ReplyWalk}
 use Rattle.table_core.specs.Generations.{Table}
-use Rattle.terms.specs.Capacities.{IsFirstCapacity}
+use Rattle.table_terms.specs.Capacities.{IsFirstCapacity}
 use Rattle.table_core.specs.Calls.{Call}
 use Rattle.table_core.specs.Machine.{World, Goes, acts, run, after}
 use Rattle.table_core.specs.History.{answers_so, has_later}
@@ -28,7 +28,8 @@ use Rattle.table_core.proofs.Facts.{in_table}
 use Rattle.table_core.proofs.Places.{by_class, in_put}
 use Rattle.table_core.proofs.Invariant.{inv}
 use Rattle.table_core.proofs.Callings.{took_after, Has, Kept, has_after, has_same, run_after}
-use Rattle.table_core.proofs.Truth.{not_both_ways, or_second}
+use Rattle.table_core.proofs.Truth.{not_both_ways}
+use Rattle.std.proofs.lemmas.Bool.{or_right}
 
 abbrev pub is_existing : Outcome → Bool
 is_existing (Existing _) = true
@@ -181,4 +182,4 @@ later_found k f s es y more n d b h e m =
     let w : acts (run (after f s) es) y ≡ Some (Goes d b) = rw (run_after f s es) h in
     let q : (d.number == n) ≡ true = eq-eqb d.number n e in
     let z : answers_so k (acts (run (after f s) es) y) n ≡ true = ap (λ o. answers_so k o n) w ∙ rw (m, q) refl in
-    has_later_append k es (y ∷ more) (after f s) n ∙ or_second _ _ (or_left _ _ z)
+    has_later_append k es (y ∷ more) (after f s) n ∙ or_right _ _ (or_left _ _ z)

@@ -5,7 +5,7 @@ use Rattle.std.specs.List.{slice_get}
 use Rattle.table_core.proofs.Weights.{weigh, sum_by-weigh}
 use Rattle.table_core.specs.Replies.{Reply, Finished}
 use Rattle.table_core.specs.Generations.{Gen, Build, Table, put_in, first_empty, fresh, fill, count, copy_in, last_of, current, change_at, change, next_capacity, copy_on, built}
-use Rattle.terms.specs.Capacities.{IsFirstCapacity}
+use Rattle.table_terms.specs.Capacities.{IsFirstCapacity}
 use Rattle.table_core.specs.Calls.{Call, starts, holds_shared, holds_owned}
 use Rattle.table_core.specs.Machine.{World, empty, place, add_one, begin_growth, Act, Goes}
 use Rattle.table_core.specs.History.{placed_by, buckets}

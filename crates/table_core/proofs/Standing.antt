@@ -4,7 +4,7 @@ use Rattle.std.specs.Prelude.{◌||◌, not}
 use Rattle.std.specs.List.{slice_get}
 use Rattle.table_core.specs.Replies.{Reply, Finished}
 use Rattle.table_core.specs.Generations.{Gen, Table, fill, count, last_of, change_at, change}
-use Rattle.terms.specs.Hashes.{bits_of}
+use Rattle.table_terms.specs.Hashes.{bits_of}
 use Rattle.table_core.specs.Calls.{Call, starts, holds_shared, holds_owned, is_pending}
 use Rattle.table_core.specs.Machine.{World, empty, place, Act}
 use Rattle.table_core.specs.Steps.{Row, loads, reads_empty, meets, goes_on, goes_on_unasked, puts, loses_meets, loses_goes_on, loses_goes_on_unasked, adds, shows, starts_over, tries_again, look_meets, Opens, opens_insert, opens_lookup, opens_len, opens_walk, left}
@@ -16,7 +16,8 @@ use Rattle.table_core.specs.declared.call.Outcome.{Outcome}
 use Rattle.table_core.specs.declared.call.Outcome.TheVariants.{Pending, New, Existing}
 use Rattle.table_core.specs.declared.call.Answer.{Answer}
 use Rattle.table_core.proofs.Turns.{Turn, rests, opens, takes}
-use Rattle.table_core.proofs.Lists.{weigh-get, get-set, length-set, get-push, zero-each}
+use Rattle.table_core.proofs.Lists.{weigh-get, get-set, get-push, zero-each}
+use Rattle.std.proofs.lemmas.List.{length-set}
 use Rattle.table_core.proofs.Locks.{Locked, nobody, alone, sharers, owners, builders, is_owning, is_building, owned_split}
 use Rattle.std.specs.Option.{is_some}
 use Rattle.table_core.specs.Bound.{one_if}

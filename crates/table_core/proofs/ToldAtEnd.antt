@@ -5,7 +5,7 @@ use Rattle.std.specs.Option.{is_some}
 use Rattle.std.specs.List.{slice_get}
 use Rattle.table_core.specs.Replies.{Reply, Finished}
 use Rattle.table_core.specs.Generations.{Table, bucket_in}
-use Rattle.terms.specs.Capacities.{IsFirstCapacity}
+use Rattle.table_terms.specs.Capacities.{IsFirstCapacity}
 use Rattle.table_core.specs.Calls.{Call, starts, is_used, call_numbered, is_done, is_finished, is_pending}
 use Rattle.table_core.specs.Machine.{World, empty, walked_gen, refused, reply_of_outcome, Act, finishes, finished_call, after}
 use Rattle.table_core.specs.History.{replies, fate}
@@ -20,7 +20,7 @@ use Rattle.table_core.specs.declared.call.Outcome.TheVariants.{Pending, New, Exi
 use Rattle.table_core.specs.declared.call.Answer.{Answer}
 use Rattle.table_core.specs.Values.{ToldAtEnd}
 use Rattle.table_core.proofs.Lists.{get-set, get-push}
-use Rattle.table_core.proofs.Truth.{by_both}
+use Rattle.std.specs.Cmp.{both_ways}
 use Rattle.table_core.proofs.Turns.{Turn, rests, opens, takes, slot}
 use Rattle.table_core.proofs.Standing.{fitting, Each, of_each, implies, imply}
 use Rattle.table_core.proofs.Facts.{Met}
@@ -136,4 +136,4 @@ told_finished f h s n (Some r) e t =
     done_finished f h s n d _ refl
 
 pub told_at_end : (f : ℕ) (s : List Event) (n : ℕ) → IsFirstCapacity f → ToldAtEnd f s n
-told_at_end f s n h = by_both _ _ (finished_told f h s n _ refl) (told_finished f h s n _ refl)
+told_at_end f s n h = both_ways _ _ (finished_told f h s n _ refl) (told_finished f h s n _ refl)

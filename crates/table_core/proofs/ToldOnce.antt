@@ -2,7 +2,7 @@
 use Rattle.std.proofs.Common.{ℕ, ◌≡◌, ◌++◌, ◌+◌, ◌≤◌, ◌⊎◌, inl, inr, List, [], ◌∷◌, false, refl, Option, Some, None, length, sym, subst, arith, ◌∙◌}
 use Rattle.std.specs.Prelude.{◌==◌, option_to_list}
 use Rattle.table_core.specs.Replies.{Finished}
-use Rattle.terms.specs.Capacities.{IsFirstCapacity}
+use Rattle.table_terms.specs.Capacities.{IsFirstCapacity}
 use Rattle.table_core.specs.Machine.{empty, finishes, after}
 use Rattle.table_core.specs.History.{replies}
 use Rattle.table_core.specs.declared.event.Event.{Event}

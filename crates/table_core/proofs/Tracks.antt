@@ -4,7 +4,7 @@ use Rattle.std.specs.Prelude.{nat_lt}
 use Rattle.std.specs.List.{slice_get}
 use Rattle.table_core.specs.Replies.{Reply, Finished}
 use Rattle.table_core.specs.Generations.{Gen, Table, bucket, current, gen_of, bucket_in}
-use Rattle.terms.specs.Probes.{bucket_at}
+use Rattle.table_terms.specs.Probes.{bucket_at}
 use Rattle.table_core.specs.Calls.{Call, starts, probes, finds_entry, stands_at_bucket}
 use Rattle.table_core.specs.Machine.{World, empty, bucket_of, Act}
 use Rattle.table_core.specs.Steps.{next_bucket, turned, Row, loads_none, loads, reads_empty, meets, turns, turns_unasked, goes_on, goes_on_unasked, puts, loses_meets, loses_turns, loses_turns_unasked, loses_goes_on, loses_goes_on_unasked, adds, leaves_ok, leaves_grow, large, owns, begins_first, fails_first, unwanted, fails_largest, fails_refused, begins_next, copies, shows, looks, look_meets, look_goes_on, look_goes_on_unasked, len_loads, walk_loads, walk_skips, walk_takes, Opens, opens_insert, opens_lookup, opens_len, opens_walk, left}

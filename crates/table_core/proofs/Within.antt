@@ -14,7 +14,8 @@ use Rattle.table_core.specs.declared.call.CallState.{CallState}
 use Rattle.table_core.specs.declared.call.Phase.{Phase}
 use Rattle.table_core.specs.declared.call.Phase.TheVariants.{AtEmpty, Placed}
 use Rattle.table_core.specs.declared.call.Answer.{Answer}
-use Rattle.table_core.proofs.Lists.{weigh-append, get-set, get-set_same, length-set, get-push}
+use Rattle.table_core.proofs.Lists.{weigh-append, get-set, get-set_same, get-push}
+use Rattle.std.proofs.lemmas.List.{length-set}
 use Rattle.table_core.proofs.Locks.{Locked}
 use Rattle.table_core.proofs.Turns.{Turn, rests, opens, takes}
 use Rattle.table_core.proofs.Pasts.{append-none}

@@ -4,7 +4,7 @@ use Rattle.std.specs.Prelude.{◌==◌, ◌&&◌, ◌||◌, not, nat_lt, if◌th
 use Rattle.std.proofs.lemmas.Bool.{eq-eqb}
 use Rattle.table_core.specs.Replies.{ReplyPlaced, ReplyRefused, ReplySome, ReplyNone, ReplyLen, ReplyWalk}
 use Rattle.table_core.specs.Generations.{next_copied}
-use Rattle.terms.specs.Hashes.{bits_of}
+use Rattle.table_terms.specs.Hashes.{bits_of}
 use Rattle.table_core.specs.Calls.{Call}
 use Rattle.table_core.specs.Machine.{World, empty, Act, Begins, Goes, acts, happens, bucket_of}
 use Rattle.table_core.specs.Law.{Law, accepts, AsksBy, CopiesBy, UsesBy, OpensBy, ActsBy, RunsBy}
@@ -14,7 +14,7 @@ use Rattle.table_core.specs.declared.event.Event.TheVariants.{Insert, Lookup, Re
 use Rattle.table_core.specs.declared.generation.Entry.{Entry}
 use Rattle.table_core.specs.declared.call.Phase.{Phase}
 use Rattle.table_core.specs.declared.call.Phase.TheVariants.{Probe, AtEmpty, Building, LookProbe}
-use Rattle.table_core.proofs.Truth.{and_both}
+use Rattle.std.proofs.lemmas.Bool.{and_parts}
 
 -- A test whether a schedule is lawful
 
@@ -90,7 +90,7 @@ runs_ok l look w (x ∷ xs) = acts_ok l look w x (acts w x) && runs_ok l look (h
 runs_by : (l : Law) (look : ℕ → ℕ) (w : World) (s : List Event) → Tests l look → runs_ok l look w s ≡ true → RunsBy l w s
 runs_by l look w [] t h = tt
 runs_by l look w (x ∷ xs) t h =
-    let k = and_both _ _ h in
+    let k = and_parts _ _ h in
     (acts_by l look w x (acts w x) t k.0, runs_by l look (happens w x) xs t k.1)
 
 -- Laws
@@ -146,7 +146,7 @@ two_classes = law_by below_12 (λ c. if c == 12 then 1 else 0) (λ n e. (n == 4)
 
 two_classes_tests : Tests two_classes (λ n. if n == 4 then 0 else 3)
 two_classes_tests n e h =
-    let k : ((n == 4) ≡ true) × ((below_12 e == 0) ≡ true) = and_both (n == 4) (below_12 e == 0) h in
+    let k : ((n == 4) ≡ true) × ((below_12 e == 0) ≡ true) = and_parts (n == 4) (below_12 e == 0) h in
     rw (k.0, eqb-true (below_12 e) 0 k.1) refl
 
 -- Schedules

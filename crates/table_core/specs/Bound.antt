@@ -5,8 +5,8 @@ use Rattle.std.specs.Prelude.{true, false, Option, Some, None, List, [], ◌∷�
 use Rattle.std.specs.Prelude.{option_to_list}
 use Rattle.std.specs.Option.{option_map}
 use Rattle.table_core.specs.Generations.{Gen, Build, bucket}
-use Rattle.terms.specs.Probes.{bucket_at}
-use Rattle.terms.specs.Capacities.{IsCapacity}
+use Rattle.table_terms.specs.Probes.{bucket_at}
+use Rattle.table_terms.specs.Capacities.{IsCapacity}
 use Rattle.table_core.specs.Calls.{Call, holds_shared, holds_owned}
 use Rattle.table_core.specs.declared.generation.Entry.{Entry}
 use Rattle.table_core.specs.declared.generation.Slot.{Slot}

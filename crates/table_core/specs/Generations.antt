@@ -3,7 +3,7 @@ use Rattle.std.specs.Prelude.{ℕ, suc, zero, ◌+◌, ◌-◌, ◌*◌, ◌==�
 use Rattle.std.specs.Prelude.{if◌then◌else◌, Bool, Option, Some, None, List, [], ◌∷◌, length}
 use Rattle.std.specs.Prelude.{slice_set}
 use Rattle.std.specs.List.{find, slice_get}
-use Rattle.terms.specs.Probes.{bucket_at}
+use Rattle.table_terms.specs.Probes.{bucket_at}
 use Rattle.table_core.specs.declared.generation.Entry.{Entry}
 
 -- a generation: its capacity, its size, and its set buckets in order of their indices

@@ -7,7 +7,7 @@ use Rattle.std.specs.HashSet.{HashSet}
 use Rattle.table_core.specs.Calls.{Call, is_used_value}
 use Rattle.table_core.specs.Bound.{position_of, sharing_among, owning_among, Doubles, capacities}
 use Rattle.table_core.specs.Generations.{Gen, entries_of, last_of}
-use Rattle.terms.specs.Capacities.{IsFirstCapacity}
+use Rattle.table_terms.specs.Capacities.{IsFirstCapacity}
 use Rattle.table_core.specs.declared.generation.Entry.{Entry}
 
 -- where each call stands, which values are used, and how many calls hold the lock

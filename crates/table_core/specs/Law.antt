@@ -1,7 +1,7 @@
 -- Lawful schedules: the closures answer by one equality, one hash and one test a look-up.
 use Rattle.std.specs.Prelude.{ℕ, ◌≡◌, Bool, true, Option, Some, None, List, [], ◌∷◌}
 use Rattle.table_core.specs.Generations.{next_copied}
-use Rattle.terms.specs.Hashes.{bits_of}
+use Rattle.table_terms.specs.Hashes.{bits_of}
 use Rattle.table_core.specs.Calls.{Call}
 use Rattle.table_core.specs.Machine.{World, empty, Act, Begins, Goes, acts, happens, bucket_of}
 use Rattle.table_core.specs.declared.event.Event.{Event}

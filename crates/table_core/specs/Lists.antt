@@ -19,7 +19,7 @@ use Rattle.table_core.specs.Machine.{finishes}
 use Rattle.table_core.specs.History.{replies, fate, placed, placed_by, given, kept, beginnings}
 use Rattle.table_core.specs.History.{TakenEvent, bucket_then, has_later}
 use Rattle.table_core.specs.Law.{Law, IsLawful}
-use Rattle.terms.specs.Laws.{AllApart}
+use Rattle.table_terms.specs.Laws.{AllApart}
 use Rattle.table_core.specs.Values.{Ends, entry_named, IsOwn}
 use Rattle.table_core.specs.declared.event.Event.{Event}
 use Rattle.table_core.specs.declared.event.Event.TheVariants.{Insert}

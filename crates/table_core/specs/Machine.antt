@@ -6,7 +6,7 @@ use Rattle.table_core.specs.Replies.{ReplyNone, ReplyLen, ReplyWalk, Finished}
 use Rattle.table_core.specs.Generations.{Gen, Table, fresh, fill, count, current, gen_of}
 use Rattle.table_core.specs.Generations.{bucket_in, is_current, change, next_capacity}
 use Rattle.table_core.specs.Generations.{next_copied, copy_on, built}
-use Rattle.terms.specs.Hashes.{bits_of}
+use Rattle.table_terms.specs.Hashes.{bits_of}
 use Rattle.table_core.specs.Calls.{Call, starts, is_used, is_used_value, call_numbered, replaced}
 use Rattle.table_core.specs.Calls.{is_owned, is_locked, decided, is_pending}
 use Rattle.table_core.specs.declared.event.Event.{Event}

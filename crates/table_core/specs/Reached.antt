@@ -4,7 +4,7 @@ use Rattle.std.specs.Prelude.{ℕ, ◌≡◌, ◌<◌, ◌++◌, ◌||◌, Bool,
 use Rattle.std.specs.Prelude.{List, [], ◌∷◌, length, slice_set}
 use Rattle.table_core.specs.Replies.{Reply, ReplyPlaced}
 use Rattle.table_core.specs.Generations.{Gen, Build, Table, bucket, first_empty, current}
-use Rattle.terms.specs.Capacities.{IsFirstCapacity}
+use Rattle.table_terms.specs.Capacities.{IsFirstCapacity}
 use Rattle.table_core.specs.Calls.{Call, is_used, is_used_value}
 use Rattle.table_core.specs.Machine.{World, after, walked_gen, bucket_of, checked, changed}
 use Rattle.table_core.specs.Machine.{call_after, reply, found_entry}

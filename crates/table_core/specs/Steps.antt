@@ -3,7 +3,7 @@ use Rattle.std.specs.Prelude.{ℕ, ◌+◌, ◌-◌, ◌/◌, ◌%◌, ◌^◌, 
 use Rattle.std.specs.Prelude.{true, false, Option, Some, None, List, [], ◌∷◌, ◌++◌, length}
 use Rattle.table_core.specs.Replies.{Reply, ReplySome, ReplyNone, ReplyLen, ReplyWalk, Finished}
 use Rattle.table_core.specs.Generations.{Gen, Table, current, is_current, next_copied, copy_on}
-use Rattle.terms.specs.Hashes.{bits_of}
+use Rattle.table_terms.specs.Hashes.{bits_of}
 use Rattle.table_core.specs.Calls.{Call, starts, is_used, is_used_value, call_numbered, replaced}
 use Rattle.table_core.specs.Calls.{is_owned, is_locked, holds_shared, holds_owned, to, probes}
 use Rattle.table_core.specs.Calls.{finds_entry, is_pending}

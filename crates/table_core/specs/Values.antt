@@ -7,7 +7,7 @@ use Rattle.table_core.specs.Bags.{SameBag}
 use Rattle.table_core.specs.Replies.{Reply, ReplyPlaced, ReplyFound, ReplyRefused, ReplySome}
 use Rattle.table_core.specs.Replies.{ReplyNone, ReplyLen, ReplyWalk, Finished}
 use Rattle.table_core.specs.Generations.{Gen, current}
-use Rattle.terms.specs.Hashes.{bits_of}
+use Rattle.table_terms.specs.Hashes.{bits_of}
 use Rattle.table_core.specs.Calls.{Call, call_numbered, is_finished, holds_shared}
 use Rattle.table_core.specs.Machine.{empty, Begins, acts, after, finishes}
 use Rattle.table_core.specs.History.{replies, fate, placed, given, back, kept, running, buckets}

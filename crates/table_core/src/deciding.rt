@@ -6,7 +6,7 @@ ghost use Rattle.table_core.specs.Calls.{insert_meets, lookup_meets, walk_passes
 use crate::call::Answer::*;
 use crate::call::Phase::*;
 use crate::call::{Answer, CallState, Outcome, Phase};
-use terms::probe::remainder;
+use table_terms::probe::remainder;
 
 /// The state of a call after what its event found.
 ///

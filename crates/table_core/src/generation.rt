@@ -1,8 +1,8 @@
 //! One generation: its set buckets alone, so that memory goes with entries.
 ghost use Rattle.std.specs.Prelude.{◌≡◌, ◌<◌, ◌≤◌, None, map, length, IfOk};
 ghost use Rattle.std.specs.Result.{OnOk, OnErr};
-ghost use Rattle.terms.specs.Capacities.{IsCapacity};
-ghost use Rattle.terms.specs.Probes.{bucket_at};
+ghost use Rattle.table_terms.specs.Capacities.{IsCapacity};
+ghost use Rattle.table_terms.specs.Probes.{bucket_at};
 ghost use Rattle.table_core.specs.Generations.{bucket, fresh, fill, count, copy_in, first_empty};
 ghost use Rattle.table_core.specs.Bound.{entry_of, AllSet};
 
@@ -39,7 +39,7 @@ pub struct Generation<A: Allocator + Copy> {
 impl<A: Allocator + Copy> Model for Generation<A> {
     ghost use Rattle.std.specs.Prelude.{◌≤◌, map, length};
     ghost use Rattle.table_core.specs.Generations.{Gen};
-    ghost use Rattle.terms.specs.Capacities.{IsCapacity};
+    ghost use Rattle.table_terms.specs.Capacities.{IsCapacity};
     ghost use Rattle.table_core.specs.Bound.{entry_of, RunsHold};
 
     ghost Value = { Gen };

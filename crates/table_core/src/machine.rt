@@ -3,7 +3,7 @@ ghost use Rattle.std.specs.Prelude.{◌≡◌, ◌≢◌, ◌<◌, true, false, 
 ghost use Rattle.std.specs.Option.{option_map, is_some};
 ghost use Rattle.std.specs.List.{slice_get};
 ghost use Rattle.table_core.specs.Replies.{ReplyWalk, reply_of};
-ghost use Rattle.terms.specs.Capacities.{IsFirstCapacity};
+ghost use Rattle.table_terms.specs.Capacities.{IsFirstCapacity};
 ghost use Rattle.table_core.specs.Generations.{next_copied};
 ghost use Rattle.table_core.specs.History.{buckets};
 ghost use Rattle.table_core.specs.Calls.{Call as SpecCall, decide as after_answer, new_call, fits, holds_shared, holds_owned};
@@ -22,7 +22,7 @@ use crate::reply::{Finished, Reply};
 use crate::table::Table;
 use std::alloc::{AllocError, Allocator};
 use std::marker::Model;
-use terms::probe::bits_of_hash;
+use table_terms::probe::bits_of_hash;
 
 /// The table and its calls.
 #[derive(Drop)]

@@ -1,6 +1,6 @@
 //! The machine as its users see it, and whole schedules.
 ghost use Rattle.std.specs.Prelude.{◌≡◌, ◌++◌, option_to_list, OnOk, OnErr, IfOk};
-ghost use Rattle.terms.specs.Capacities.{IsFirstCapacity};
+ghost use Rattle.table_terms.specs.Capacities.{IsFirstCapacity};
 ghost use Rattle.table_core.specs.History.{replies, buckets};
 ghost use Rattle.table_core.specs.Machine.{empty, happens, finishes, AsksMemory};
 

@@ -1,7 +1,7 @@
 //! All generations, and the one that is being built.
 ghost use Rattle.std.specs.Prelude.{◌≡◌, ◌<◌, ◌^◌, true, Some, None, [], length, sum_by, OnOk, OnErr, IfOk, option_copied};
 ghost use Rattle.std.specs.Option.{option_map};
-ghost use Rattle.terms.specs.Capacities.{IsCapacity, IsFirstCapacity};
+ghost use Rattle.table_terms.specs.Capacities.{IsCapacity, IsFirstCapacity};
 ghost use Rattle.table_core.specs.Generations.{Gen, Build, bucket, first_empty, gen_of, last_of, bucket_in, current, is_current, next_copied, fill, count, change, next_capacity, entries_of};
 ghost use Rattle.table_core.specs.Machine.{loads, checked, begin_growth, copy_next, show_built};
 ghost use Rattle.table_core.specs.History.{buckets};

@@ -1,7 +1,7 @@
 //! What holds of every schedule: contracts of functions that do nothing.
 ghost use Rattle.std.specs.Prelude.{ℕ, List, Option, [], ◌∷◌, ◌++◌};
 ghost use Rattle.table_core.specs.Calls.{Call};
-ghost use Rattle.terms.specs.Capacities.{IsFirstCapacity};
+ghost use Rattle.table_terms.specs.Capacities.{IsFirstCapacity};
 ghost use Rattle.table_core.specs.Generations.{Table};
 ghost use Rattle.table_core.specs.Machine.{World, Act, acts, happens, finishes};
 ghost use Rattle.table_core.specs.Replies.{Reply, Finished, ReplyPlaced, ReplyRefused, ReplySome, ReplyNone, ReplyLen, ReplyWalk};

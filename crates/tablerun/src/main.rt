@@ -1,8 +1,8 @@
 //! Runs a table over the lines of its input.
 #![tactic(auto)]
 
-use commands::program::run_program;
 use std::process::ExitCode;
+use tool_commands::program::run_program;
 
 fn main(rt: HostRuntime) -> ExitCode {
     let mut output = rt.stdout();

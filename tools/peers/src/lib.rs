@@ -6,6 +6,9 @@
 
 pub mod atomics;
 pub mod interner;
+pub mod keys;
+pub mod sharing;
+pub mod timing;
 
 struct Block<T> {
     value: Box<T>,

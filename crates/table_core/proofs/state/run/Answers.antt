@@ -1,4 +1,4 @@
-use Rattle.terms.proofs.FirstCapacities.{sixteen_is_first}
+use Rattle.table_terms.proofs.FirstCapacities.{sixteen_is_first}
 use Rattle.table_core.proofs.state.run.Goals as goal
 
 pub run_with-requires : goal.run_with-requires

@@ -1,31 +1,20 @@
-//! The measurements of the crate `bench`, on the plain-Rust tables and on std's set.
+//! The measurements of `tool_checks bench`, on the plain-Rust tables and on std's set.
 //!
 //!     peers list | peers PEER one | peers PEER seq | peers plain-atomics same | peers plain-atomics ins |
-//!     peers plain-interner 1e4 | 1e5 | 1e6
+//!     peers plain-interner 1e4 | 1e5 | 1e6 | peers rwlock-HashSet one|seq|same|ins|hit|1e4|1e5|1e7
 
 mod interner;
 mod seats;
 
+use peers::keys::{hash_number, spread, turn_of, StdSet, COUNT};
+use peers::sharing::measure_set;
+use peers::timing::{resident_bytes, time, time_of};
 use std::collections::HashSet;
-use std::hash::{BuildHasherDefault, Hasher};
 use std::hint::black_box;
-use std::time::Instant;
-
-const COUNT: u64 = 1_000_000;
-
-fn hash_number(number: u64) -> u64 {
-    number.wrapping_mul(0x9E37_79B9_7F4A_7C15)
-}
-
-fn spread(index: u64) -> u64 {
-    let z = index.wrapping_add(0x9E37_79B9_7F4A_7C15);
-    let z = (z ^ (z >> 30)).wrapping_mul(0xBF58_476D_1CE4_E5B9);
-    let z = (z ^ (z >> 27)).wrapping_mul(0x94D0_49BB_1331_11EB);
-    z ^ (z >> 31)
-}
+use std::sync::RwLock;
 
 fn turn(index: u64) -> u64 {
-    (index * 618_033 + 12_345) % COUNT
+    turn_of(index, COUNT)
 }
 
 trait Set: Default {
@@ -42,23 +31,6 @@ impl Set for peers::Table<u64> {
     }
 }
 
-#[derive(Default)]
-struct Stated(u64);
-
-impl Hasher for Stated {
-    fn finish(&self) -> u64 {
-        self.0
-    }
-    fn write(&mut self, _: &[u8]) {
-        unreachable!()
-    }
-    fn write_u64(&mut self, number: u64) {
-        self.0 = hash_number(number);
-    }
-}
-
-type StdSet = HashSet<Box<u64>, BuildHasherDefault<Stated>>;
-
 impl Set for StdSet {
     fn insert(&mut self, number: u64) -> bool {
         HashSet::insert(self, Box::new(number))
@@ -66,21 +38,6 @@ impl Set for StdSet {
     fn has(&self, number: u64) -> bool {
         self.contains(&number)
     }
-}
-
-fn resident_bytes() -> u64 {
-    let text = std::fs::read_to_string("/proc/self/statm").unwrap();
-    text.split_whitespace().nth(1).unwrap().parse::<u64>().unwrap() * 4096
-}
-
-fn time_of(name: &str, measurement: &str, operations: u64, run: impl FnOnce()) {
-    let start = Instant::now();
-    run();
-    println!("{name} {measurement} {:.2}", start.elapsed().as_secs_f64() * 1e9 / operations as f64);
-}
-
-fn time(name: &str, measurement: &str, run: impl FnOnce()) {
-    time_of(name, measurement, COUNT, run);
 }
 
 fn measure<S: Set>(name: &str, group: &str) {
@@ -98,18 +55,40 @@ fn measure<S: Set>(name: &str, group: &str) {
             time(name, "seq_ins1", || (0..COUNT).for_each(|i| assert!(black_box(set.insert(i)))));
             time(name, "seq_hit1", || (0..COUNT).for_each(|i| assert!(set.has(turn(i)))));
         }
+        "1e4" => measure_size::<S>(name, group, 10_000, 100),
+        "1e5" => measure_size::<S>(name, group, 100_000, 10),
+        "1e7" => measure_size::<S>(name, group, 10_000_000, 1),
         _ => {}
     }
+}
+
+/// So many keys a set: inserts into so many sets, then hits and misses of one, over all its keys as often.
+fn measure_size<S: Set>(name: &str, size: &str, keys: u64, rounds: u64) {
+    let filled = || {
+        let mut set = S::default();
+        (0..keys).for_each(|i| assert!(black_box(set.insert(spread(i)))));
+        set
+    };
+    time_of(name, &format!("ins_{size}"), keys * rounds, || (0..rounds).for_each(|_| drop(filled())));
+    let set = filled();
+    let look = |further: u64, is_there: bool| {
+        for _ in 0..rounds {
+            (0..keys).for_each(|i| assert_eq!(set.has(spread(turn_of(i, keys) + further)), is_there));
+        }
+    };
+    time_of(name, &format!("hit_{size}"), keys * rounds, || look(0, true));
+    time_of(name, &format!("miss_{size}"), keys * rounds, || look(1 << 40, false));
 }
 
 fn main() {
     let words: Vec<String> = std::env::args().skip(1).collect();
     match words.iter().map(String::as_str).collect::<Vec<_>>()[..] {
-        ["list"] => println!("plain-rust\nstd-HashSet\nplain-atomics\nplain-interner"),
+        ["list"] => println!("plain-rust\nstd-HashSet\nrwlock-HashSet\nplain-atomics\nplain-interner"),
         ["plain-rust", group] => measure::<peers::Table<u64>>("plain-rust", group),
         ["std-HashSet", group] => measure::<StdSet>("std-HashSet", group),
         ["plain-atomics", group] => seats::measure(group),
         ["plain-interner", group] => interner::measure(group),
+        [name @ "rwlock-HashSet", group] => measure_set::<RwLock<StdSet>>(name, group),
         _ => {}
     }
 }

@@ -1,4 +1,4 @@
-//! The measurements of `bench seats`, on the plain-Rust table of atomics: the same keys in the same order.
+//! The measurements of `tool_checks bench seats`, on the plain-Rust table of atomics: the same keys in the same order.
 
 use crate::{spread, time_of, COUNT};
 use peers::atomics::{Answer, NumberTable};

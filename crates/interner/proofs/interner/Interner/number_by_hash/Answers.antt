@@ -6,12 +6,12 @@ use Rattle.interner.proofs.interner.Interner.number_by_hash.Goals as goal
 
 pub returns-in_err-name-clause-finds : goal.returns-in_err-name-clause-finds
 returns-in_err-name-clause-finds g c = rw (c.from_residual.ensures, ← c.self.view_is)
-    (looks_up (λ name. name.value) (λ name. string_bytes name.text) (λ name. non_zero_u32_get name.number) _ _ _ c.args.text.now _ None
+    (looks_up (λ name. name.value) (λ name. string_bytes name.text) (λ name. non_zero_u32_get name.number) g.H.TextHash.hash_of _ _ _ c.args.text.now _ None
     c.self.invariant (λ v answer s. search rules) c.requires c.in_err-name.ensures.as_list)
 
 pub returns-clause-finds : goal.returns-clause-finds
 returns-clause-finds g c = rw (← c.self.view_is)
-    (looks_up (λ name. name.value) (λ name. string_bytes name.text) (λ name. non_zero_u32_get name.number) _ _ _ c.args.text.now _ (Some c.in_ok-name.name.now)
+    (looks_up (λ name. name.value) (λ name. string_bytes name.text) (λ name. non_zero_u32_get name.number) g.H.TextHash.hash_of _ _ _ c.args.text.now _ (Some c.in_ok-name.name.now)
     c.self.invariant (λ v answer s. search rules) c.requires c.in_ok-name.ensures.as_list)
 
 pub returns-in_err-name-clause-different : goal.returns-in_err-name-clause-different

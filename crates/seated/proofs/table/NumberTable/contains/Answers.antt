@@ -4,7 +4,7 @@ use Rattle.seated.specs.Numbers.{Knows, Within}
 use Rattle.seated.specs.Steps.{SeatState}
 use Rattle.seated.specs.Views.{unchanged}
 use Rattle.seated.proofs.Keeps.{reads, unchanged_mild}
-use Rattle.terms.specs.Probes.{bucket_at}
+use Rattle.table_terms.specs.Probes.{bucket_at}
 use Rattle.seated.proofs.Walks.{walks_on, finds, misses, goes_round, affirmed, denied, still_known}
 use Rattle.seated.proofs.table.NumberTable.contains.Goals as goal
 

@@ -1,5 +1,5 @@
 use Rattle.std.proofs.Common.{◌≡◌, []}
-use Rattle.terms.specs.Probes.{bucket_at}
+use Rattle.table_terms.specs.Probes.{bucket_at}
 use Rattle.seated.proofs.Walks.{Walked}
 use Rattle.seated.proofs.table.NumberTable.contains.Given as goal
 

@@ -2,7 +2,7 @@ use Rattle.std.proofs.Common.{rules, sym, ap, ◌∙◌, ◌≡◌, subst, ℕ, 
 use Rattle.std.specs.NonZero.{non_zero_u64_get}
 use Rattle.seated.specs.Numbers.{Inserts, Knows}
 use Rattle.seated.specs.declared.seat.NumberAnswer.TheVariants.{Placed, Found, Full}
-use Rattle.terms.specs.Probes.{bucket_at}
+use Rattle.table_terms.specs.Probes.{bucket_at}
 use Rattle.seated.proofs.Walks.{next, walks_on, finds, places, goes_round, inserted_known}
 use Rattle.seated.proofs.table.NumberTable.insert.Goals as goal
 

@@ -1,6 +1,6 @@
 use Rattle.std.proofs.Common.{sym, subst}
 use Rattle.std.specs.Int.{IsPowerOfTwo}
-use Rattle.terms.proofs.Masks.{power_of_two}
+use Rattle.table_terms.proofs.Masks.{power_of_two}
 use Rattle.seated.proofs.table.NumberTable.word_count.Goals as goal
 
 pub returns-clause-power : goal.returns-clause-power

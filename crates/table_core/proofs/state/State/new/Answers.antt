@@ -1,4 +1,4 @@
-use Rattle.terms.proofs.FirstCapacities.{sixteen_is_first}
+use Rattle.table_terms.proofs.FirstCapacities.{sixteen_is_first}
 use Rattle.table_core.proofs.state.State.new.Goals as goal
 
 pub with_first_capacity-requires : goal.with_first_capacity-requires

@@ -1,8 +1,0 @@
-use mathlib.Core.List.{[], ◌∷◌}
-use Rattle.core.proofs.atomic.Sent.{chain-Keyless}
-use denote.Struct.Owning.{shape, to}
-use denote.Param.Send.{IsSync, struct_sync, sendable}
-use Rattle.cell.specs.contracts.home.Home as C
-
-pub sync : IsSync C.the_row
-sync = let O = C.the_type in record { shared = λ d b o κ. ((struct_sync (shape O) (search sendable, tt)).shared (to O d) b o κ, (λ νs. chain-Keyless νs κ (d.id ∷ []))) }

@@ -1,5 +1,0 @@
-use Rattle.std.proofs.Common.{rules}
-use Rattle.commands.proofs.seats.run_seats.Goals as goal
-
-pub returns-then-tally : goal.returns-then-tally
-returns-then-tally g c = search rules

@@ -1,7 +1,0 @@
-//! Schedules for tests of the machine: a long one to test and to measure it by, and worked ones, which `program_tests` takes by
-//! the program and by the machine, and `replay_tests` on a table beside the machine.
-#![tactic(auto)]
-
-pub mod load;
-pub mod script;
-pub mod worked;

@@ -1,0 +1,117 @@
+//! Equal nodes become one node: a graph of expressions in which each different node stands once.
+#![tactic(auto)]
+
+ghost use Rattle.std.specs.Prelude.{◌≡◌};
+ghost use Rattle.demo_nodes.specs.Nodes.{mixed};
+
+use std::alloc::{AllocError, Global};
+use std::io;
+use std::sync::Arc;
+use table_sets::{HeldSet, Law, SetLaw, Shown};
+use table_terms::law::hash_number;
+
+/// A symbol with its operands, which are the numbers of other nodes, or 0 where there is none.
+#[derive(Clone, Copy, Drop)]
+pub struct Shape {
+    symbol: char,
+    left: u64,
+    right: u64,
+}
+
+/// A shape with its number.
+#[derive(Drop)]
+pub struct Node {
+    shape: Shape,
+    number: u64,
+}
+
+/// Nodes are the same if their shapes are, whatever their numbers.
+pub struct NodeLaw;
+
+impl Law<Node> for NodeLaw {
+    ghost use Rattle.demo_nodes.specs.Nodes.{same_by_shape, hash_by_shape, shape_lawful};
+
+    ghost same = { same_by_shape (λ n. n.shape) };
+
+    ghost hash_of = { hash_by_shape (λ n. n.shape) };
+
+    ghost lawful = { shape_lawful (λ n. n.shape) };
+}
+
+/// Mixes one number more into those before.
+fn mix(before: u64, more: u64) -> u64
+    ensures { result ≡ mixed before more }
+{
+    before.wrapping_mul(31).wrapping_add(more)
+}
+
+impl SetLaw<Node> for NodeLaw {
+    fn is_same(one: &Node, other: &Node) -> bool {
+        let (one, other) = (one.shape, other.shape);
+        one.symbol == other.symbol && one.left == other.left && one.right == other.right
+    }
+
+    fn hash(node: &Node) -> u64 {
+        let Shape {
+            symbol,
+            left,
+            right,
+        } = node.shape;
+        hash_number(mix(mix(u64::from(symbol), left), right))
+    }
+}
+
+/// The nodes so far, by their shapes and by their numbers, from 1 on.
+#[derive(Drop)]
+struct Graph {
+    by_shape: HeldSet<Arc<Node>, NodeLaw>,
+    by_number: Vec<Arc<Node>>,
+    alloc: Global,
+}
+
+impl Graph {
+    /// The number of the node of this shape: that of the one that is there, or else the next one. Err: no memory.
+    fn number_of(&mut self, shape: Shape) -> Result<u64, AllocError> {
+        self.by_number.reserve(1)?;
+        let number = self.by_number.len() as u64 + 1;
+        let node = Arc::new(self.alloc, Node { shape, number })?;
+        let shared = Arc::try_clone(&node)?;
+        match self.by_shape.insert_and_show(shared) {
+            Shown::Placed(_) => self.by_number.push_reserved(node),
+            Shown::Found(known, _) => return Ok(known.number),
+            Shown::Refused(_) => return Err(AllocError),
+        }
+        Ok(number)
+    }
+
+    /// The number of the node with this symbol and these operands.
+    fn join(&mut self, symbol: char, left: u64, right: u64) -> Result<u64, AllocError> {
+        self.number_of(Shape {
+            symbol,
+            left,
+            right,
+        })
+    }
+}
+
+fn main(rt: HostRuntime) -> io::Result<()> {
+    let mut graph = Graph {
+        by_shape: HeldSet::new(rt.alloc()),
+        by_number: Vec::new(rt.alloc()),
+        alloc: rt.alloc(),
+    };
+    let a = graph.join('a', 0, 0)?;
+    let b = graph.join('b', 0, 0)?;
+    let sum = graph.join('+', a, b)?;
+    let again = graph.join('+', a, b)?;
+    let product = graph.join('*', sum, again)?;
+    println!(rt; "a + b is node {sum}, and again node {again}; their product is node {product}")?;
+    for node in &graph.by_number {
+        let shape = node.shape;
+        println!(rt;
+            "{}: {} {} {}",
+            node.number, shape.symbol, shape.left, shape.right
+        )?;
+    }
+    Ok(())
+}

@@ -1,4 +1,0 @@
-pub mod Words
-pub mod Fibonacci
-pub mod Memo
-pub mod Schedules

@@ -1,8 +1,0 @@
-//! Small examples: functions whose contracts follow from those of the tables that they call.
-#![tactic(auto)]
-
-pub mod held;
-pub mod memo;
-pub mod memo_lines;
-pub mod schedules;
-pub mod seats;

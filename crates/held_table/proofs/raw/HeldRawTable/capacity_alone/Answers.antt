@@ -1,5 +1,0 @@
-use Rattle.held_table.proofs.Kept.{doubled}
-use Rattle.held_table.proofs.raw.HeldRawTable.capacity_alone.Goals as goal
-
-pub returns-clause-doubled : goal.returns-clause-doubled
-returns-clause-doubled g c = rw (c.capacity.ensures, ← c.self.view_is) (doubled _ _ _ _ c.self.invariant.0)

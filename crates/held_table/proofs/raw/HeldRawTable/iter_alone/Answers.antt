@@ -1,6 +1,0 @@
-use Rattle.std.proofs.Common.{rules}
-use Rattle.held_table.proofs.Walks.{entries_walk_as_list}
-use Rattle.held_table.proofs.raw.HeldRawTable.iter_alone.Goals as goal
-
-pub returns-clause-as_list : goal.returns-clause-as_list
-returns-clause-as_list g c = entries_walk_as_list _ _ (search rules)

@@ -1,5 +1,0 @@
-use Rattle.std.proofs.Common.{refl, arith}
-use Rattle.held_table.proofs.raw.HeldRawTable.new.Goals as goal
-
-pub with_first_capacity-requires : goal.with_first_capacity-requires
-with_first_capacity-requires g c = ((4, refl), omega arith, omega arith)

@@ -1,5 +1,0 @@
-use Rattle.held_table.specs.Empty.{held_without_entries}
-use Rattle.held_table.proofs.raw.laws.no_entries_is_lawful.Goals as goal
-
-pub returns : goal.returns
-returns g c = held_without_entries _

@@ -1,0 +1,10 @@
+//! One table, held alone or shared by threads.
+//!
+//! A [`HeldRawTable`] is filled by its owner; [`Share::share`] makes a [`LockFreeRawTable`] of it.
+
+pub use table_cell::Low;
+pub use table_held::raw::{
+    FIRST_CAPACITY, HeldIter, HeldParts, HeldRawTable, IntoIter, is_first_capacity, laws,
+};
+pub use table_shards::Share;
+pub use table_shared::{Current, InsertCall, Iter, LockFreeRawTable, LookupCall, Progress};

@@ -1,6 +1,0 @@
-use Rattle.std.proofs.Common.{◌≤◌}
-use Rattle.seated.specs.Tables.{IsSeatOf}
-use Rattle.measures.proofs.seats.count_spread.Given as goal
-
-abbrev pub invariant-loop-index : goal.invariant-loop-index
-invariant-loop-index _ l = (l.found ≤ l.index) × IsSeatOf l.table l.seat

@@ -1,5 +1,0 @@
-pub mod Digits
-pub mod Spaces
-pub mod LetterCalls
-pub mod NumberLists
-pub mod EventPieces

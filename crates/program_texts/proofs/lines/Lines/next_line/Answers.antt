@@ -1,5 +1,0 @@
-use Rattle.std.proofs.Common.{rules}
-use Rattle.program_texts.proofs.lines.Lines.next_line.Goals as goal
-
-pub returns-in_err-map_err-2 : goal.returns-in_err-map_err-2
-returns-in_err-map_err-2 g c = search rules

@@ -1,5 +1,0 @@
-use Rattle.std.proofs.Common.{rules}
-use Rattle.program_texts.proofs.messages.end_with.Goals as goal
-
-pub returns : goal.returns
-returns g c = search rules

@@ -1,5 +1,0 @@
-use Rattle.std.proofs.Common.{rules}
-use Rattle.program_texts.proofs.schedules.StateLineCommand.take.Goals as goal
-
-pub returns-in-Ok-Some-clause-printed : goal.returns-in-Ok-Some-clause-printed
-returns-in-Ok-Some-clause-printed g c = search rules

@@ -1,5 +1,0 @@
-pub mod Shards
-pub mod ShardsApart
-pub mod ShardWalks
-pub mod SharedShards
-pub mod Memory

@@ -1,8 +1,0 @@
-use Rattle.std.proofs.Common.{◌≡◌, length}
-use Rattle.shared_table.specs.Settled.{AreSettledBelow}
-use Rattle.shared_table.proofs.ending.rehome_all.Given as goal
-
-abbrev pub invariant-loop-index : goal.invariant-loop-index
-invariant-loop-index g l =
-    (length l.generations.items ≡ length l.fn.generations.items)
-    × AreSettledBelow l.home.id l.closed.id l.index l.generations.items

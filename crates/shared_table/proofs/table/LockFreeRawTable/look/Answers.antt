@@ -1,4 +1,0 @@
-use Rattle.shared_table.proofs.table.LockFreeRawTable.look.Goals as goal
-
-pub returns-clause-seen : goal.returns-clause-seen
-returns-clause-seen g c = rw (← c.bits_of_hash-sought.ensures) c.look_at.ensures.seen

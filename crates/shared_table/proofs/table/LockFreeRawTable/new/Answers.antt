@@ -1,5 +1,0 @@
-use Rattle.terms.proofs.FirstCapacities.{sixteen_is_first}
-use Rattle.shared_table.proofs.table.LockFreeRawTable.new.Goals as goal
-
-pub with_first_capacity-requires : goal.with_first_capacity-requires
-with_first_capacity-requires g c = sixteen_is_first

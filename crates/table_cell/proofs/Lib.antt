@@ -1,0 +1,10 @@
+pub mod Homes
+pub mod Marks
+pub mod Moves
+pub mod Notes
+pub mod Rehomed
+pub mod Rows
+pub mod Sent
+pub mod Tokens
+pub mod Values
+pub mod Walks

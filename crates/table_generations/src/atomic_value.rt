@@ -1,0 +1,77 @@
+//! Values that a table holds.
+ghost use Rattle.std.specs.Prelude.{◌≡◌};
+
+use std::alloc::Allocator;
+use std::num::{NonZeroU32, NonZeroU64};
+use std::sync::Arc;
+pub use table_terms::law::Law;
+
+/// A value that a table can hold. The table compares and hashes what the value leads to, its target.
+///
+/// Who implements it promises that the target is one function of the value, `target`, and that `deref` shows it.
+pub trait AtomicValue: Drop {
+    /// What is compared, hashed and shown.
+    type Target;
+
+    ghost target: { Self → Self.Target };
+
+    /// The target of the value.
+    fn deref(&self) -> &Self::Target
+        ensures { result.now ≡ target self.now };
+}
+
+/// A value that lies in the table's own block, where its target is read: the first choice for a value of the caller's own
+/// making. It asks for no block beside the table's, and a look-up reads one line of memory less than by a `Box`.
+#[derive(Drop)]
+pub struct InPlace<T>(pub T);
+
+// `T: Drop`, here and for `Box` and `Arc`: a value can be dropped only where what it holds can be, and a table drops its values.
+impl<T: Drop> AtomicValue for InPlace<T> {
+    type Target = T;
+
+    ghost target = { λ v. v.0 };
+
+    fn deref(&self) -> &T {
+        &self.0
+    }
+}
+
+impl<T: Drop, A: Allocator> AtomicValue for Box<T, A> {
+    type Target = T;
+
+    ghost target = { λ b. b.value };
+
+    fn deref(&self) -> &T {
+        self.as_ref()
+    }
+}
+
+impl<T: Drop, A: Allocator> AtomicValue for Arc<T, A> {
+    type Target = T;
+
+    ghost target = { λ a. a.value };
+
+    fn deref(&self) -> &T {
+        self.as_ref()
+    }
+}
+
+impl AtomicValue for NonZeroU64 {
+    type Target = NonZeroU64;
+
+    ghost target = { λ n. n };
+
+    fn deref(&self) -> &NonZeroU64 {
+        self
+    }
+}
+
+impl AtomicValue for NonZeroU32 {
+    type Target = NonZeroU32;
+
+    ghost target = { λ n. n };
+
+    fn deref(&self) -> &NonZeroU32 {
+        self
+    }
+}

@@ -1,0 +1,64 @@
+//! The values of one generation, taken out of it once its home has ended.
+ghost use Rattle.std.specs.Prelude.{◌≡◌, []};
+ghost use Rattle.std.specs.Iterator.{YieldsFirst};
+ghost use Rattle.table_generations.specs.Buckets.{owned_values};
+
+use crate::atomic_value::AtomicValue;
+use crate::fixed::Generation;
+use std::alloc::Allocator;
+use std::marker::Model;
+use table_cell::{Buckets, Closed};
+
+/// The values that the buckets of a generation own, in the order of the buckets, seen as the list of those that are left.
+/// `drop_rest` drops them; who lets it go with values left leaves their blocks unfreed.
+#[derive(Drop)]
+pub struct OwnValues<T: AtomicValue, A: Allocator + Copy> {
+    buckets: Buckets<T, A>,
+}
+
+impl<T: AtomicValue, A: Allocator + Copy> Model for OwnValues<T, A> {
+    ghost use Rattle.table_generations.specs.Generations.{OwnValuesView, own_values_of};
+
+    ghost Value = { OwnValuesView T };
+
+    ghost view = { λ it. own_values_of it.buckets };
+}
+
+impl<T: AtomicValue, A: Allocator + Copy> OwnValues<T, A> {
+    /// The next value, out of its block, which is freed.
+    pub fn next_value(&mut self, closed: &Closed) -> Option<T>
+        requires { self.old.home ≡ closed.now.id }
+        ensures home { self.new.home ≡ self.old.home }
+        ensures first { YieldsFirst (λ rest. rest) self.old.values result self.new.values }
+    {
+        let alloc = self.buckets.alloc();
+        while let Some(bucket) = self.buckets.next_bucket() {
+            if let Some(value) = bucket.take_alone(closed, alloc) {
+                return Some(value);
+            }
+        }
+        None
+    }
+
+    /// Drops the values that are left, and frees their blocks: none is left.
+    pub fn drop_rest(&mut self, closed: &Closed)
+        requires { self.old.home ≡ closed.now.id }
+        ensures { self.new.values ≡ [] }
+    {
+        while let Some(value) = self.next_value(closed) {
+            drop(value);
+        }
+    }
+}
+
+impl<T: AtomicValue, A: Allocator + Copy> Generation<T, A> {
+    /// Takes the generation apart. It takes no memory.
+    pub fn into_own_values(self) -> OwnValues<T, A>
+        ensures home { result.home ≡ self.home }
+        ensures values { result.values ≡ owned_values self.contents }
+    {
+        OwnValues {
+            buckets: self.row.into_buckets(),
+        }
+    }
+}

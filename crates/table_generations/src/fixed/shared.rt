@@ -1,0 +1,159 @@
+//! A generation whose buckets threads set through `&`.
+ghost use Rattle.std.specs.Prelude.{◌≡◌, ◌*◌, ◌<◌, length, option_copied, option_map, slice_index_or, IfSome, IfNone, ◌⊎◌, ◌^◌, ◌≤◌, IfOk, IfErr, None, Some};
+ghost use Rattle.std.specs.Int.{IsPowerOfTwo};
+ghost use Rattle.table_cell.specs.Contents.{bucket, named, shown, vacant, entry_from, Keeps, Misses};
+ghost use Rattle.table_generations.specs.Buckets.{content_at};
+ghost use Rattle.table_generations.specs.Looks.{Tells, IsSeen};
+
+use crate::atomic_value::AtomicValue;
+use crate::fixed::Generation;
+use std::alloc::Allocator;
+use table_cell::{Bucket, BucketRef, Entry, Home, Homed, Low, Mark, Missed, Note};
+
+/// What a probe for eight bits meets at a bucket.
+#[derive(Clone, Copy)]
+pub enum Look<'a, T> {
+    /// The bucket was empty.
+    Vacant,
+    /// An entry with other bits.
+    Other,
+    /// An entry with these bits.
+    Alike(&'a Entry<T>),
+}
+
+/// A generation fits the home of its buckets.
+impl<T: AtomicValue, A: Allocator + Copy> Homed for Generation<T, A> {
+    ghost fits = { λ g h. g.home ≡ h };
+}
+
+/// The entry, where it has these bits.
+fn look_at_entry<T>(entry: &Entry<T>, sought: u8) -> Look<'_, T>
+    ensures { Tells sought (Some entry.now) result }
+{
+    if entry.bits == sought {
+        Look::Alike(entry)
+    } else {
+        Look::Other
+    }
+}
+
+/// What a probe for these bits meets at a bucket. The block of an entry whose mark has other bits isn't read.
+fn look_at_bucket<'a, T: AtomicValue, A: Allocator + Copy>(
+    home: &'a Home,
+    bucket: &BucketRef<'a, T, A>,
+    sought: u8,
+    note: &mut Note<Entry<T>>,
+) -> Look<'a, T>
+    requires home { bucket.now.home ≡ home.now.id }
+    requires of { note.old.of ≡ bucket.now.id }
+    ensures of { note.new.of ≡ note.old.of }
+    ensures seen { IsSeen bucket.now.content note.old.known note.new.known (λ o. Tells sought o result) }
+{
+    match bucket.mark() {
+        Mark::Vacant => match bucket.get(home, note) {
+            Some(entry) => look_at_entry(entry, sought),
+            None => Look::Vacant,
+        },
+        Mark::Own(bits) | Mark::Named(bits) if bits == sought => Look::Alike(bucket.entry(home)),
+        _ => Look::Other,
+    }
+}
+
+impl<T: AtomicValue, A: Allocator + Copy> Generation<T, A> {
+    /// Twice the number of buckets, if there is a bucket and twice as many can be counted.
+    pub fn doubled(&self) -> Option<usize>
+        ensures power { IfSome result (λ c. IsPowerOfTwo c) }
+        ensures twice { IfSome result (λ c. c ≡ 2 * length self.now.contents) }
+        ensures none { IfNone result ((length self.now.contents ≡ 0) ⊎ (2 ^ 63 ≤ length self.now.contents)) }
+    {
+        let capacity = self.row.len();
+        if capacity == 0 {
+            return None;
+        }
+        let twice = capacity.checked_mul(2)?;
+        Some(twice)
+    }
+
+    /// A note of what the bucket at this index is set to through `&`, which knows nothing yet.
+    pub fn note_at(&self, index: usize) -> Note<Entry<T>>
+        requires { index < length self.now.contents }
+        ensures { (result.of ≡ slice_index_or self.now.ids index 0) × (result.known ≡ None) }
+    {
+        self.row.at(index).note()
+    }
+
+    /// The entry in the bucket at this index, also where it was set through `&`: then the note knows it.
+    pub fn entry_at<'a>(
+        &'a self,
+        home: &'a Home,
+        index: usize,
+        note: &mut Note<Entry<T>>,
+    ) -> Option<&'a Entry<T>>
+        requires home { self.now.home ≡ home.now.id }
+        requires within { index < length self.now.contents }
+        requires of { note.old.of ≡ slice_index_or self.now.ids index 0 }
+        ensures of { note.new.of ≡ note.old.of }
+        ensures seen { IsSeen (content_at self.now.contents index) note.old.known note.new.known (λ o. option_copied result ≡ o) }
+    {
+        self.row.at(index).get(home, note)
+    }
+
+    /// What a probe for these bits meets at the bucket of this index.
+    pub fn look_at<'a>(
+        &'a self,
+        home: &'a Home,
+        index: usize,
+        sought: u8,
+        note: &mut Note<Entry<T>>,
+    ) -> Look<'a, T>
+        requires home { self.now.home ≡ home.now.id }
+        requires within { index < length self.now.contents }
+        requires of { note.old.of ≡ slice_index_or self.now.ids index 0 }
+        ensures of { note.new.of ≡ note.old.of }
+        ensures seen { IsSeen (content_at self.now.contents index) note.old.known note.new.known (λ o. Tells sought o result) }
+    {
+        look_at_bucket(home, &self.row.at(index), sought, note)
+    }
+
+    /// A bucket that names the entry in the bucket at this index, also where that was set through `&`.
+    pub fn name_at(
+        &self,
+        home: &Home,
+        index: usize,
+        note: &mut Note<Entry<T>>,
+    ) -> Option<Bucket<T, A>>
+        requires home { self.now.home ≡ home.now.id }
+        requires within { index < length self.now.contents }
+        requires of { note.old.of ≡ slice_index_or self.now.ids index 0 }
+        ensures of { note.new.of ≡ note.old.of }
+        ensures seen { IsSeen (content_at self.now.contents index) note.old.known note.new.known
+            (λ o. result ≡ option_map (λ e. bucket self.now.from self.now.home (named e)) o) }
+    {
+        self.row.at(index).naming_set(home, self.row.alloc(), note)
+    }
+}
+
+impl<T: AtomicValue, A: Low + Copy> Generation<T, A> {
+    /// Sets the bucket at this index by one exchange, unless it is set. The block is asked for first. The note then knows
+    /// the entry that was placed here, or the one that came first.
+    pub fn place_at<'a>(
+        &'a self,
+        home: &'a Home,
+        index: usize,
+        value: T,
+        bits: u8,
+        note: &mut Note<Entry<T>>,
+    ) -> Result<&'a Entry<T>, Missed<'a, T>>
+        requires home { self.now.home ≡ home.now.id }
+        requires within { index < length self.now.contents }
+        requires of { note.old.of ≡ slice_index_or self.now.ids index 0 }
+        ensures of { note.new.of ≡ note.old.of }
+        ensures ok { IfOk result (λ e. (content_at self.now.contents index ≡ vacant) × (e.now ≡ entry_from value bits)) }
+        ensures first { IfOk result (λ e. (note.old.known ≡ None) × (note.new.known ≡ Some e.now)) }
+        ensures missed { IfErr result (λ m. Misses (content_at self.now.contents index) value note.old.known note.new.known m) }
+    {
+        self.row
+            .at(index)
+            .place(home, self.row.alloc(), value, bits, note)
+    }
+}

@@ -1,0 +1,29 @@
+//! The values of a table held alone, handed out.
+ghost use Rattle.std.specs.Prelude.{◌≡◌};
+ghost use Rattle.table_held.specs.Walks.{GivesEntries};
+
+use crate::raw::HeldRawTable;
+use std::alloc::Allocator;
+use table_generations::atomic_value::AtomicValue;
+use table_values::IntoIter;
+
+impl<T: AtomicValue, A: Allocator + Copy> IntoIterator for HeldRawTable<T, A> {
+    type Item = T;
+
+    type IntoIter = IntoIter<T, A>;
+
+    ghost into_iter_gives = { λ t it. GivesEntries t it };
+
+    /// Takes the table apart, and hands out each value that it holds. It takes no memory.
+    fn into_iter(self) -> IntoIter<T, A> {
+        let left = self.len_alone();
+        let HeldRawTable {
+            first_capacity: _,
+            home,
+            earlier,
+            current,
+            alloc,
+        } = self;
+        IntoIter::of_generations(home.close(), current, earlier, Vec::new(alloc), left)
+    }
+}

@@ -1,0 +1,41 @@
+//! A raw table held alone is a table held alone.
+
+use crate::alone::AloneTable;
+use std::alloc::Allocator;
+use table_generations::atomic_value::{AtomicValue, Law};
+use table_held::place::Place;
+use table_held::raw::HeldRawTable;
+
+impl<T: AtomicValue, A: Allocator + Copy, L: Law<T::Target>> AloneTable<T, L>
+    for HeldRawTable<T, A> {
+    ghost use Rattle.table_held.specs.Table.{held};
+    ghost use Rattle.table_held.specs.Empty.{held_without_entries};
+
+    type Place = Place;
+
+    ghost shows = { held };
+
+    ghost no_entries_is_lawful = { held_without_entries T.target };
+
+    fn place_alone<E: Fn(&T::Target, &T::Target) -> bool, H: Fn(&T::Target) -> u64>(
+        &mut self,
+        hash: u64,
+        value: T,
+        eq: &E,
+        hash_fn: &H,
+    ) -> Result<(Place, Option<T>), T> {
+        self.place_alone::<L, E, H>(hash, value, eq, hash_fn)
+    }
+
+    fn target_at(&self, place: Place) -> &T::Target {
+        self.target_at(place)
+    }
+
+    fn lookup_alone<F: Fn(&T::Target) -> bool>(&self, hash: u64, test: F) -> Option<&T::Target> {
+        self.lookup_alone::<L, F>(hash, test)
+    }
+
+    fn len_alone(&self) -> usize {
+        self.len_alone()
+    }
+}

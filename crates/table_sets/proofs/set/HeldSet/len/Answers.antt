@@ -1,0 +1,6 @@
+use Rattle.table_sets.proofs.Listed.{lawful_apart}
+use Rattle.table_sets.proofs.set.HeldSet.len.Goals as goal
+
+pub returns-clause-apart : goal.returns-clause-apart
+returns-clause-apart g c = rw (← c.self.view_is)
+    (lawful_apart g.T.AtomicValue.target g.L.Law.same g.L.Law.hash_of c.self.inside.table c.self.invariant.0)

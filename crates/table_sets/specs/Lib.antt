@@ -1,0 +1,5 @@
+pub mod Sets
+pub mod Again
+pub mod Placing
+pub mod Pairs
+pub mod Texts

@@ -1,0 +1,41 @@
+//! Pairs, by a law of each part.
+ghost use Rattle.std.specs.Prelude.{◌≡◌};
+ghost use Rattle.table_sets.specs.Pairs.{mixed_hash};
+
+use crate::law::SetLaw;
+use std::marker::PhantomData;
+use table_held::Law;
+use table_terms::law::hash_number;
+
+/// Two pairs are the same if their first parts are under `L` and their second parts under `M`. A hash mixes those of both.
+pub struct PairsOf<L, M> {
+    first: PhantomData<L>,
+    second: PhantomData<M>,
+}
+
+/// Mixes the hashes of two parts into one.
+pub fn mix_hashes(first: u64, second: u64) -> u64
+    ensures { result ≡ mixed_hash first second }
+{
+    hash_number(hash_number(first).wrapping_add(second))
+}
+
+impl<V, W, L: Law<V>, M: Law<W>> Law<(V, W)> for PairsOf<L, M> {
+    ghost use Rattle.table_sets.specs.Pairs.{same_parts, pair_hash, pairs_lawful};
+
+    ghost same = { same_parts L.same M.same };
+
+    ghost hash_of = { pair_hash L.hash_of M.hash_of };
+
+    ghost lawful = { pairs_lawful L.lawful M.lawful };
+}
+
+impl<V, W, L: SetLaw<V>, M: SetLaw<W>> SetLaw<(V, W)> for PairsOf<L, M> {
+    fn is_same(one: &(V, W), other: &(V, W)) -> bool {
+        L::is_same(&one.0, &other.0) && M::is_same(&one.1, &other.1)
+    }
+
+    fn hash(target: &(V, W)) -> u64 {
+        mix_hashes(L::hash(&target.0), M::hash(&target.1))
+    }
+}

@@ -1,0 +1,175 @@
+//! The set that one owner holds alone.
+ghost use Rattle.std.specs.Prelude.{◌≡◌, ◌↔◌, [], length, IsTrue, MatchBool, option_copied};
+ghost use Rattle.std.specs.List.Sorted.{IsPermutation};
+ghost use Rattle.table_terms.specs.Capacities.{IsFirstCapacity};
+ghost use Rattle.table_sets.specs.Sets.{AllApart, Inserts, InsertShows, Finds, OnePasses, NonePasses};
+
+use crate::inserted::{Inserted, Shown};
+use crate::law::{KeyLaw, SetLaw};
+use crate::placing::place_by_law;
+use std::alloc::{Allocator, Global};
+use std::marker::{Model, PhantomData};
+use table_held::{AtomicValue, HeldIter, HeldRawTable, IntoIter};
+
+/// Values of which no two are the same under the law `L`. One owner holds them alone.
+///
+/// A contract sees the list of the entries, in an order that an insert may change.
+pub struct HeldSet<T: AtomicValue, L: SetLaw<T::Target>, A: Allocator + Copy = Global> {
+    table: HeldRawTable<T, A>,
+    law: PhantomData<L>,
+}
+
+impl<T: AtomicValue, L: SetLaw<T::Target>, A: Allocator + Copy> Model for HeldSet<T, L, A> {
+    ghost use Rattle.std.specs.Prelude.{List};
+    ghost use Rattle.table_held.specs.Table.{entries, IsLawful, IsCounted};
+
+    ghost Value = { List T };
+
+    ghost view = { λ s. entries s.table };
+
+    ghost invariant = { λ s. IsLawful T.target L.same L.hash_of s.table × IsCounted s.table };
+}
+
+impl<T: AtomicValue, L: SetLaw<T::Target>, A: Allocator + Copy> HeldSet<T, L, A> {
+    ghost use Rattle.table_held.specs.Table.{entries, IsLawful};
+
+    /// The empty set. It takes no memory.
+    pub fn new(alloc: A) -> Self
+        ensures { result ≡ [] }
+    {
+        HeldSet {
+            table: HeldRawTable::new(alloc),
+            law: PhantomData,
+        }
+    }
+
+    /// The empty set, whose first generation will have `first_capacity` buckets: see `is_first_capacity`. It takes no memory.
+    pub fn with_first_capacity(alloc: A, first_capacity: usize) -> Self
+        requires { IsFirstCapacity first_capacity }
+        ensures { result ≡ [] }
+    {
+        HeldSet {
+            table: HeldRawTable::with_first_capacity(alloc, first_capacity),
+            law: PhantomData,
+        }
+    }
+
+    /// Inserts the value, unless an entry is the same. What isn't placed comes back, and the entries are those before; it is
+    /// refused where memory is, or where the capacity can't double.
+    pub fn insert(&mut self, value: T) -> Inserted<T>
+        ensures inserts { Inserts T.target L.same self.old self.new value result }
+        ensures apart { AllApart T.target L.same self.new }
+    {
+        match place_by_law::<T, L, A>(&mut self.table, value) {
+            Ok((_, None)) => Inserted::Placed,
+            Ok((_, Some(value))) => Inserted::Found(value),
+            Err(value) => Inserted::Refused(value),
+        }
+    }
+
+    /// Inserts the value, unless an entry is the same, and shows the target of the entry. No clause says what it leaves, since
+    /// what it shows is still borrowed: who has to know calls `insert`, and `get`.
+    pub fn insert_and_show(&mut self, value: T) -> Shown<&T::Target, T>
+        ensures { InsertShows T.target L.same self.old value result }
+    {
+        match place_by_law::<T, L, A>(&mut self.table, value) {
+            Ok((place, None)) => Shown::Placed(self.table.target_at(place)),
+            Ok((place, Some(value))) => Shown::Found(self.table.target_at(place), value),
+            Err(value) => Shown::Refused(value),
+        }
+    }
+
+    /// The target of the entry that is the same as this one, or None. It takes no memory and changes nothing.
+    pub fn get(&self, target: &T::Target) -> Option<&T::Target>
+        ensures finds { Finds T.target (L.same target.now) self.now (option_copied result) }
+        ensures apart { AllApart T.target L.same self.now }
+    {
+        self.table.lookup_alone::<L, _>(
+            L::hash(target),
+            |entry: &T::Target| L::is_same(target, entry),
+        )
+    }
+
+    /// The target of an entry that meets the key, or None. It takes no memory and changes nothing.
+    pub fn get_by_key<K>(&self, key: &K) -> Option<&T::Target>
+    where
+        L: KeyLaw<K, T::Target>,
+        ensures finds { Finds T.target (L.meets key.now) self.now (option_copied result) }
+        ensures apart { AllApart T.target L.same self.now }
+    {
+        self.table.lookup_alone::<L, _>(L::hash_key(key), |entry: &T::Target| L::is_met(key, entry))
+    }
+
+    /// Whether an entry is the same as this target. It takes no memory and changes nothing.
+    pub fn contains(&self, target: &T::Target) -> bool
+        ensures { MatchBool result (OnePasses T.target (L.same target.now) self.now)
+            (NonePasses T.target (L.same target.now) self.now) }
+    {
+        self.get(target).is_some()
+    }
+
+    /// The number of entries.
+    pub fn len(&self) -> usize
+        ensures length { result ≡ length self.now }
+        ensures apart { AllApart T.target L.same self.now }
+    {
+        self.table.len_alone()
+    }
+
+    /// Whether there is no entry.
+    pub fn is_empty(&self) -> bool
+        ensures { IsTrue result ↔ (self.now ≡ []) }
+    {
+        self.table.is_empty_alone()
+    }
+
+    /// A walk over the targets of the entries, each once. It takes no memory.
+    pub fn iter(&self) -> HeldIter<'_, T, A>
+        ensures entries { result ≡ self.now }
+        ensures apart { AllApart T.target L.same self.now }
+    {
+        self.table.iter_alone()
+    }
+
+    /// The raw table of the set, which is lawful. It takes no memory.
+    pub fn into_table(self) -> HeldRawTable<T, A>
+        ensures entries { entries result ≡ self }
+        ensures lawful { IsLawful T.target L.same L.hash_of result }
+    {
+        let HeldSet { table, law: _ } = self;
+        table
+    }
+}
+
+impl<T: AtomicValue, L: SetLaw<T::Target>, A: Allocator + Copy> IntoIterator for HeldSet<T, L, A> {
+    type Item = T;
+
+    type IntoIter = IntoIter<T, A>;
+
+    ghost into_iter_gives = { λ s it. IsPermutation s it };
+
+    /// Takes the set apart, and hands out each of its values. It takes no memory.
+    fn into_iter(self) -> IntoIter<T, A> {
+        self.into_table().into_iter()
+    }
+}
+
+impl<'a, V: 'a, T: AtomicValue<Target = V>, L: SetLaw<V>, A: Allocator + Copy> IntoIterator
+    for &'a HeldSet<T, L, A> {
+    type Item = &'a V;
+
+    type IntoIter = HeldIter<'a, T, A>;
+
+    ghost into_iter_gives = { λ s it. it ≡ s.now };
+
+    fn into_iter(self) -> HeldIter<'a, T, A> {
+        self.iter()
+    }
+}
+
+impl<T: AtomicValue, L: SetLaw<T::Target>, A: Allocator + Copy> Drop for HeldSet<T, L, A> {
+    /// Drops each value once, and frees its block.
+    fn drop(self) {
+        drop(self.into_table());
+    }
+}

@@ -1,0 +1,62 @@
+//! Texts under the law that each is the same as one of the same bytes.
+ghost use Rattle.std.specs.Prelude.{◌≡◌};
+ghost use Rattle.table_sets.specs.Texts.{text_hash};
+
+use crate::law::{KeyLaw, SetLaw};
+use std::alloc::Allocator;
+use table_held::Law;
+use table_terms::law::hash_number;
+
+/// Texts are the same if their bytes are, and a text is looked up by a `&str` too.
+pub struct TextLaw;
+
+/// The hash of a text: from 0 on, that of the number before and the next byte.
+pub fn hash_text(text: &str) -> u64
+    ensures { result ≡ text_hash text.now }
+{
+    let mut hash = 0u64;
+    for byte in text.as_bytes() {
+        hash = hash_number(hash.wrapping_add(u64::from(*byte) + 1));
+    }
+    hash
+}
+
+impl<A: Allocator> Law<String<A>> for TextLaw {
+    ghost use Rattle.std.specs.Prelude.{string_bytes};
+    ghost use Rattle.table_sets.specs.Texts.{same_by_text, hash_by_text, text_lawful};
+
+    ghost same = { same_by_text string_bytes };
+
+    ghost hash_of = { hash_by_text string_bytes };
+
+    ghost lawful = { text_lawful string_bytes };
+}
+
+impl<A: Allocator> SetLaw<String<A>> for TextLaw {
+    fn is_same(one: &String<A>, other: &String<A>) -> bool {
+        one.as_str() == other.as_str()
+    }
+
+    fn hash(target: &String<A>) -> u64 {
+        hash_text(target.as_str())
+    }
+}
+
+impl<'a, A: Allocator> KeyLaw<&'a str, String<A>> for TextLaw {
+    ghost use Rattle.std.specs.Prelude.{string_bytes};
+    ghost use Rattle.table_sets.specs.Texts.{meets_text, text_hash, meeting_agrees};
+
+    ghost meets = { λ key text. meets_text key.now (string_bytes text) };
+
+    ghost key_hash = { λ key. text_hash key.now };
+
+    fn is_met(key: &&'a str, target: &String<A>) -> bool {
+        target.as_str() == *key
+    }
+
+    fn hash_key(key: &&'a str) -> u64 {
+        hash_text(*key)
+    }
+
+    ghost agrees = { λ key text is. meeting_agrees key.now (string_bytes text) is };
+}

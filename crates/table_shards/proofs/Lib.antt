@@ -1,0 +1,6 @@
+pub mod Shards
+pub mod ShardsApart
+pub mod ShardWalks
+pub mod SharedShards
+pub mod Memory
+mod SharedTables

@@ -1,0 +1,222 @@
+//! A table over shards, held alone.
+ghost use Rattle.std.specs.Prelude.{◌≡◌, ◌≢◌, ℕ, ◌*◌, ◌/◌, ◌^◌, ◌<◌, ◌≤◌, ◌↔◌, length, []};
+ghost use Rattle.std.specs.Prelude.{map, min, IfOk, IfSome, IfNone, IsSome, IsTrue, option_copied};
+ghost use Rattle.std.specs.Fn.{FnReturnsAt, FnReturnsAtPair};
+ghost use Rattle.std.specs.Int.{IsPowerOfTwo};
+ghost use Rattle.table_terms.specs.Capacities.{IsFirstCapacity};
+ghost use Rattle.table_terms.specs.ListObject.{greatest_length};
+
+mod alone;
+mod hint;
+mod into_iter;
+mod iter;
+mod later;
+pub mod laws;
+pub mod place;
+pub mod shared;
+
+pub use into_iter::IntoIter;
+pub use iter::HeldIter;
+pub use place::ShardPlace;
+pub use shared::ShardedLockFreeRawTable;
+use std::alloc::{Allocator, Global};
+use std::array;
+use std::marker::Model;
+use table_generations::atomic_value::{AtomicValue, Law};
+use table_held::raw::HeldRawTable;
+
+/// An insertion-only set over `SHARDS` raw tables that one owner holds alone. A value lies in the shard of its hash.
+///
+/// `SHARDS` is a power of two, 1 included. Each call is that of the raw table, on the shard of the hash or on all shards,
+/// and promises the same.
+#[derive(Drop)]
+pub struct HeldShardedTable<T: AtomicValue, const SHARDS: usize, A: Allocator + Copy = Global> {
+    shards: [HeldRawTable<T, A>; SHARDS],
+}
+
+impl<T: AtomicValue, const SHARDS: usize, A: Allocator + Copy> Model
+    for HeldShardedTable<T, SHARDS, A> {
+    ghost use Rattle.std.specs.Prelude.{◌≡◌, List, length};
+    ghost use Rattle.std.specs.Int.{IsPowerOfTwo};
+    ghost use Rattle.table_shards.specs.Shards.{AreCounted};
+    ghost use Rattle.table_held.specs.Table.{HeldTable};
+
+    ghost Value = { List (HeldTable T) };
+
+    ghost view = { λ t. t.shards };
+
+    ghost invariant = { λ t. IsPowerOfTwo SHARDS × (length t.shards ≡ SHARDS) × AreCounted t.shards };
+}
+
+impl<T: AtomicValue, const SHARDS: usize, A: Allocator + Copy> HeldShardedTable<T, SHARDS, A> {
+    ghost use Rattle.table_held.specs.Shown.{Stands, IsLater, KeepsPlaces, CountsAsList, PlacesAsList, LooksUpAsList};
+    ghost use Rattle.table_held.specs.Shown.{ShowsAt, FindsOne, FindsNone, InsertKeeps, InsertMarks, InsertAnswers};
+    ghost use Rattle.table_shards.specs.Shards.{sharded, entries, entry_at, marked, empty_shards, capped_sum, shard_at};
+    ghost use Rattle.table_shards.specs.Shards.{AreCounted, AreLawful, AreLawfulForAll, HasFewBuckets, LivesInItsShard};
+    ghost use Rattle.table_shards.specs.Inserted.{InsertShows};
+    ghost use Rattle.table_held.specs.Table.{capacity, all_buckets};
+    ghost use Rattle.table_shards.specs.Shards.{shard_of as number_of_shard};
+
+    /// The empty table; the first generation of each shard will have 16 buckets. It takes no memory.
+    pub fn new(alloc: A) -> Self
+        requires { IsPowerOfTwo SHARDS }
+        ensures empty { result ≡ empty_shards SHARDS 16 }
+        ensures stands { Stands sharded result [] }
+        ensures lawful { AreLawfulForAll T.target result }
+    {
+        // Not by `with_first_capacity`: no proof shows its caller that so many shards fit in memory.
+        let like: HeldRawTable<T, A> = HeldRawTable::new(alloc);
+        let shards = array::from_fn(|_| like.new_like());
+        HeldShardedTable { shards }
+    }
+
+    /// The empty table; the first generation of each shard will have `first_capacity` buckets: see `is_first_capacity`.
+    /// It takes no memory.
+    pub fn with_first_capacity(alloc: A, first_capacity: usize) -> Self
+        requires shards { IsPowerOfTwo SHARDS }
+        requires first { IsFirstCapacity first_capacity }
+        ensures empty { result ≡ empty_shards SHARDS first_capacity }
+        ensures stands { Stands sharded result [] }
+        ensures lawful { AreLawfulForAll T.target result }
+    {
+        let like: HeldRawTable<T, A> = HeldRawTable::with_first_capacity(alloc, first_capacity);
+        let shards = array::from_fn(|_| like.new_like());
+        HeldShardedTable { shards }
+    }
+
+    /// The number of the shard of a hash: its top bits, exactly `hash * SHARDS / 2^64`.
+    pub fn shard_of(hash: u64) -> usize
+        ensures is { result ≡ number_of_shard SHARDS hash }
+        ensures inside { 0 < SHARDS → result < SHARDS }
+    {
+        ((hash as u128 * SHARDS as u128) >> 64) as usize
+    }
+
+    /// The number of entries, or the greatest usize if there are more.
+    pub fn len_alone(&self) -> usize
+        ensures counted { result ≡ min (length (entries self.now)) greatest_length }
+        ensures each { AreCounted self.now }
+        ensures as_list { CountsAsList sharded self.now result }
+    {
+        let mut sum: usize = 0;
+        for shard in self.shards.as_slice() {
+            sum = sum.saturating_add(shard.len_alone());
+        }
+        sum
+    }
+
+    /// Whether there is no entry.
+    pub fn is_empty_alone(&self) -> bool
+        ensures { IsTrue result ↔ (length (entries self.now) ≡ 0) }
+    {
+        self.len_alone() == 0
+    }
+
+    /// The buckets of the current generations of all shards, or the greatest usize if there are more.
+    pub fn capacity_alone(&self) -> usize
+        ensures { result ≡ capped_sum capacity self.now }
+    {
+        let mut sum: usize = 0;
+        for shard in self.shards.as_slice() {
+            sum = sum.saturating_add(shard.capacity_alone());
+        }
+        sum
+    }
+
+    /// The buckets of all generations of all shards, or the greatest usize if there are more.
+    pub fn buckets_alone(&self) -> usize
+        ensures all { result ≡ capped_sum all_buckets self.now }
+        ensures linear_in_entries { (k : ℕ) → k < length self.now → HasFewBuckets (shard_at self.now k) }
+    {
+        let mut sum: usize = 0;
+        for shard in self.shards.as_slice() {
+            sum = sum.saturating_add(shard.buckets_alone());
+        }
+        sum
+    }
+
+    /// Inserts the value into the shard of its hash, unless an entry there is accepted as equal, and says where the entry
+    /// lives: see `HeldRawTable::place_alone`.
+    pub fn place_alone<
+        L: Law<T::Target>,
+        E: Fn(&T::Target, &T::Target) -> bool,
+        H: Fn(&T::Target) -> u64,
+    >(&mut self, hash: u64, value: T, eq: &E, hash_fn: &H) -> Result<(ShardPlace, Option<T>), T>
+        requires eq_callable { E.IsAlwaysCallable eq.now }
+        requires hash_callable { H.IsAlwaysCallable hash_fn.now }
+
+        // with any closures
+        ensures keeps { InsertKeeps T.target (FnReturnsAtPair E.Fn eq.now (T.target value)) (entry_at self.new)
+            (entries self.old) value result (entries self.new) }
+        ensures marks { InsertMarks (marked self.old) hash value result (marked self.new) }
+        ensures later { IsLater sharded self.old self.new }
+        ensures places { KeepsPlaces sharded self.old self.new }
+        ensures home { IfOk result (λ placed. placed.0.shard ≡ number_of_shard SHARDS hash) }
+        ensures inside { IfOk result (λ placed. LivesInItsShard self.new placed.0) }
+        ensures others { (k : ℕ) → k ≢ number_of_shard SHARDS hash → shard_at self.new k ≡ shard_at self.old k }
+        ensures first { map (λ t. t.first_capacity) self.new ≡ map (λ t. t.first_capacity) self.old }
+        ensures shards { length self.new ≡ length self.old }
+        ensures counted { AreCounted self.new }
+
+        // with lawful ones
+        ensures lawful { InsertAnswers T.target L.same L.hash_of (FnReturnsAtPair E.Fn eq.now) (FnReturnsAt H.Fn hash_fn.now)
+            (AreLawful T.target L.same L.hash_of self.old) (entries self.old) hash value result
+            (AreLawful T.target L.same L.hash_of self.new) }
+        ensures as_list { PlacesAsList T.target L.same L.hash_of sharded (FnReturnsAtPair E.Fn eq.now) (FnReturnsAt H.Fn hash_fn.now)
+            self.old hash value result self.new }
+    {
+        let shard = HeldShardedTable::<T, SHARDS, A>::shard_of(hash);
+        let shards = self.shards.as_mut_slice();
+        match shards[shard].place_alone::<L, E, H>(hash, value, eq, hash_fn) {
+            Ok((place, back)) => Ok((ShardPlace { shard, place }, back)),
+            Err(value) => Err(value),
+        }
+    }
+
+    /// The target of the entry that lives at a place of this table.
+    pub fn target_at(&self, place: ShardPlace) -> &T::Target
+        requires { IsSome (entry_at self.now place) }
+        ensures { ShowsAt (entry_at self.now place) (λ v. result.now ≡ T.target v) }
+    {
+        let shards = self.shards.as_slice();
+        shards[place.shard()].target_at(place.place())
+    }
+
+    /// Inserts the value into the shard of its hash, unless an entry there is accepted as equal, and shows the entry's target.
+    ///
+    /// It is `place_alone`, and then `target_at` of the place: `HeldRawTable::place_alone` says what the arguments are, when it
+    /// refuses, and what each answer leaves (Err: the value comes back, and the entries are as they were). No clause of its own says
+    /// what it leaves: who has to know calls `place_alone`.
+    pub fn insert_alone<
+        L: Law<T::Target>,
+        E: Fn(&T::Target, &T::Target) -> bool,
+        H: Fn(&T::Target) -> u64,
+    >(&mut self, hash: u64, value: T, eq: E, hash_fn: H) -> Result<(&T::Target, Option<T>), T>
+        requires eq_callable { E.IsAlwaysCallable eq }
+        requires hash_callable { H.IsAlwaysCallable hash_fn }
+        ensures { InsertShows T.target L.same L.hash_of SHARDS (FnReturnsAtPair E.Fn eq)
+            (FnReturnsAt H.Fn hash_fn) self.old hash value result }
+    {
+        // The `&mut` slice of the shards says that they fit in memory, which `target_at` wants to know.
+        let _ = self.shards.as_mut_slice();
+        let (place, back) = self.place_alone::<L, E, H>(hash, value, &eq, &hash_fn)?;
+        Ok((self.target_at(place), back))
+    }
+
+    /// The target of an entry that the test accepts, or None. It asks the shard of the hash alone: see
+    /// `HeldRawTable::lookup_alone`. It takes no memory and changes nothing.
+    pub fn lookup_alone<L: Law<T::Target>, F: Fn(&T::Target) -> bool>(
+        &self,
+        hash: u64,
+        test: F,
+    ) -> Option<&T::Target>
+        requires { F.IsAlwaysCallable test }
+        ensures accepted { IfSome result (λ found. FindsOne T.target (FnReturnsAt F.Fn test) (entries self.now) found.now) }
+        ensures none { IfNone result (FindsNone T.target L.same L.hash_of (FnReturnsAt F.Fn test)
+            (AreLawful T.target L.same L.hash_of self.now) (entries self.now) hash) }
+        ensures as_list { LooksUpAsList T.target L.same L.hash_of sharded (FnReturnsAt F.Fn test) self.now hash (option_copied result) }
+    {
+        let shards = self.shards.as_slice();
+        shards[HeldShardedTable::<T, SHARDS, A>::shard_of(hash)].lookup_alone::<L, F>(hash, test)
+    }
+}

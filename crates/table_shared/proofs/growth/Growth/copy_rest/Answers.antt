@@ -1,0 +1,15 @@
+use Rattle.std.proofs.Common.{◌∙◌}
+use Rattle.std.specs.Fn.{FnReturnsAt}
+use Rattle.table_shared.proofs.Ahead.{on_both}
+use Rattle.table_shared.proofs.growth.Growth.copy_rest.Goals as goal
+
+pub loop-self-preserved : goal.loop-self-preserved
+loop-self-preserved g c =
+    let so = c.loop-self.invariant in
+    let more = c.copy_window-state.ensures in
+    record {
+      stays = more.stays ∙ so.stays;
+      home_is = more.same.0 ∙ so.home_is;
+      before_is = more.same.1 ∙ so.before_is;
+      copied = on_both g.T.AtomicValue.target (FnReturnsAt g.H.Fn c.args.hash_fn.now) c.args.self.now c.loop-self.self c.copy_window-state.new.self so.copied more.copies;
+    }

@@ -1,0 +1,52 @@
+use Rattle.std.proofs.Common.{refl, rules, Some}
+use Rattle.table_core.specs.declared.call.Answer.TheVariants.{Begun, Failed, Unwanted}
+use Rattle.table_core.specs.declared.call.Phase.TheVariants.{Building, LeaveFailed, LeaveOwned, Owned}
+use Rattle.table_shared.proofs.Looked.{some_same}
+use Rattle.table_shared.proofs.Between.{carries, goes_on, taken}
+use Rattle.table_shared.proofs.Stepping.{carries_on}
+use Rattle.table_shared.proofs.insert.between.Inserting.check.Goals as goal
+
+pub step-self-requires : goal.step-self-requires
+step-self-requires g c = record { fits = rw c.requires.phase refl }
+
+pub invariant_of-self : goal.invariant_of-self
+invariant_of-self g c =
+    let i = c.args.self.now in
+    record {
+      between =
+          goes_on i.between Owned LeaveOwned c.step-self.result i.growth c.requires.phase (taken Owned Unwanted i.state c.step-self.result c.requires.phase c.step-self.ensures.decided)
+          (search rules) refl refl refl (λ e. absurd (cc)) i.between.grows;
+    }
+
+pub step-self-requires-in-Failed : goal.step-self-requires-in-Failed
+step-self-requires-in-Failed g c = record { fits = rw c.requires.phase refl }
+
+pub invariant_of-self-in-Failed : goal.invariant_of-self-in-Failed
+invariant_of-self-in-Failed g c =
+    let i = c.args.self.now in
+    record {
+      between =
+          goes_on i.between Owned LeaveFailed c.step-self-in-Failed.result i.growth c.requires.phase (taken Owned Failed i.state c.step-self-in-Failed.result c.requires.phase c.step-self-in-Failed.ensures.decided)
+          (search rules) refl refl refl (λ e. absurd (cc)) i.between.grows;
+    }
+
+pub step-self-requires-in-Begun : goal.step-self-requires-in-Begun
+step-self-requires-in-Begun g c = record { fits = rw c.requires.phase refl }
+
+pub invariant_of-self-in-Begun : goal.invariant_of-self-in-Begun
+invariant_of-self-in-Begun g c =
+    let i = c.args.self.now in
+    record {
+      between =
+          goes_on i.between Owned Building c.step-self-in-Begun.result (Some c.in-Begun.growth) c.requires.phase (taken Owned Begun i.state c.step-self-in-Begun.result c.requires.phase c.step-self-in-Begun.ensures.decided)
+          (search rules) refl refl refl (λ _ e. absurd (cc)) (λ x e. rw (← some_same c.in-Begun.growth x e) c.in-Begun.ensures);
+    }
+
+pub returns-in-Unwanted : goal.returns-in-Unwanted
+returns-in-Unwanted g c = carries_on g.E.Fn _ _ _ c.step-self.ensures.went (carries c.args.self.now.between Owned c.requires.phase refl) refl refl
+
+pub returns-in-Failed : goal.returns-in-Failed
+returns-in-Failed g c = carries_on g.E.Fn _ _ _ c.step-self-in-Failed.ensures.went (carries c.args.self.now.between Owned c.requires.phase refl) refl refl
+
+pub returns-in-Begun : goal.returns-in-Begun
+returns-in-Begun g c = carries_on g.E.Fn _ _ _ c.step-self-in-Begun.ensures.went (carries c.args.self.now.between Owned c.requires.phase refl) refl refl

@@ -1,0 +1,13 @@
+pub mod Lineages
+pub mod Tables
+pub mod Growths
+pub mod Ahead
+pub mod Walks
+pub mod Begun
+pub mod Carried
+pub mod Between
+pub mod Steps
+pub mod Inserts
+pub mod Reads
+pub mod Settled
+pub mod Stepped

@@ -1,0 +1,47 @@
+-- The generations of a shared table in their order.
+use Rattle.std.specs.Prelude.{◌≡◌, ℕ, ◌≤◌, ◌++◌, true, List, [], ◌∷◌, All, Option, None, length, map}
+use Rattle.table_cell.specs.Words.{WordView}
+use Rattle.table_cell.specs.declared.bucket.Entry.{Entry}
+use Rattle.table_generations.specs.Buckets.{shown_all}
+use Rattle.table_generations.specs.Generations.{GenerationView}
+
+module _ {A X : Type 0} where
+  -- a word of this home and this allocator that is set through `&` alone
+  pub record IsOpen (home : ℕ) (from : A) (w : WordView A X) : Type 0 where
+    pub home_is : w.home ≡ home
+    pub from_is : w.from ≡ from
+    pub owning : w.owning ≡ true
+    pub unset : w.value ≡ None
+
+  -- each word is open, and there is room for as many things as there are words
+  pub record AreRoomy {Y : Type 0} (home : ℕ) (from : A) (words : List (WordView A X)) (taken : List Y)
+      (room : ℕ) : Type 0 where
+    pub all_open : All (IsOpen home from) words
+    pub none_taken : taken ≡ []
+    pub roomy : length words ≤ room
+
+-- the generations of a shared table: the allocator and the home of their blocks, and what the
+-- buckets of each showed that it had when it was shared, the last of them at the end
+pub record LineageView (A T : Type 0) : Type 0 where
+  pub from : A
+  pub home : ℕ
+  pub shared : List (List (Option (Entry T)))
+
+module _ {A T : Type 0} where
+  -- generation by generation, what each bucket shows
+  abbrev pub shown_in : List (GenerationView A T) → GenerationView A T → List (List (Option (Entry T)))
+  shown_in earlier base = map (λ g. shown_all g.contents) (earlier ++ base ∷ [])
+
+  -- generations of one home
+  abbrev pub AreOfHome : ℕ → List (GenerationView A T) → GenerationView A T → Type 0
+  AreOfHome home earlier base = All (λ g. g.home ≡ home) earlier × (base.home ≡ home)
+
+  abbrev pub lineage_of : A → List (GenerationView A T) → GenerationView A T → LineageView A T
+  lineage_of from earlier base =
+      record { from = from; home = base.home; shared = shown_in earlier base }
+
+  -- the generations and the word for later ones are of one home, and the word is open
+  pub record IsLineage {X : Type 0} (from : A) (earlier : List (GenerationView A T))
+      (base : GenerationView A T) (later : WordView A X) : Type 0 where
+    pub of_home : All (λ g. g.home ≡ base.home) earlier
+    pub is_open : IsOpen base.home from later

@@ -1,0 +1,115 @@
+//! The next generation of a shared table while it is made.
+ghost use Rattle.std.specs.Prelude.{◌≡◌, IfOk, IsSome};
+ghost use Rattle.std.specs.Fn.{FnReturnsAt};
+ghost use Rattle.table_shared.specs.Lineages.{IsOpen};
+ghost use Rattle.table_shared.specs.Growths.{IsFresh, AreNamed, CopiesNext, PassedAll, growth_of};
+
+pub(crate) mod ahead;
+pub(crate) mod begin;
+
+use crate::lineage::later::{Slot, show_block};
+use std::alloc::{AllocError, Allocator};
+use std::marker::Model;
+use table_cell::{Home, Low, Note};
+use table_generations::atomic_value::AtomicValue;
+use table_generations::fixed::Generation;
+
+/// The next generation while it is made, with all the memory that it needs. Dropped, it is given up: its buckets name
+/// entries and own none.
+#[derive(Drop)]
+pub struct Growth<'a, T: AtomicValue, A: Allocator + Copy> {
+    home: &'a Home,
+    number: usize,
+    from: Option<&'a Generation<T, A>>,
+    /// So many buckets of the generation before are copied.
+    copied: usize,
+    built: Generation<T, A>,
+    slot: Slot<'a, T, A>,
+    /// Where the generation will lie.
+    block: Box<Generation<T, A>, A>,
+}
+
+impl<'a, T: AtomicValue, A: Allocator + Copy> Model for Growth<'a, T, A> {
+    ghost use Rattle.std.specs.Box.{box_allocator};
+    ghost use Rattle.table_shared.specs.Growths.{GrowthView, IsUnderWay, growth_of};
+
+    ghost Value = { GrowthView T };
+
+    ghost view = { λ g. growth_of g.home.now.id g.from g.copied g.built };
+
+    ghost invariant = { λ g. IsUnderWay g.home.now.id g.from g.copied g.built g.slot.alloc
+        g.slot.word.now (box_allocator g.block) };
+}
+
+impl<'a, T: AtomicValue, A: Allocator + Copy> Growth<'a, T, A> {
+    /// A generation with no entry copied. Its block is asked for.
+    pub(crate) fn begun(
+        home: &'a Home,
+        number: usize,
+        from: Option<&'a Generation<T, A>>,
+        built: Generation<T, A>,
+        slot: Slot<'a, T, A>,
+    ) -> Result<Self, AllocError>
+        requires fresh { IsFresh home.now.id from built }
+        requires open { IsOpen home.now.id slot.alloc slot.word.now }
+        ensures { IfOk result (λ g. g ≡ growth_of home.now.id from.entry 0 built) }
+    {
+        let Ok(block) = Box::new(slot.alloc, Generation::none(slot.alloc, home)) else {
+            return Err(AllocError);
+        };
+        Ok(Growth {
+            home,
+            number,
+            from,
+            copied: 0,
+            built,
+            slot,
+            block,
+        })
+    }
+
+    /// Names the next entry that isn't copied yet in the generation that is made. False says that there is none.
+    pub fn copy_next<H: Fn(&T::Target) -> u64>(&mut self, hash_fn: &H) -> bool
+        requires { H.IsAlwaysCallable hash_fn.now }
+        ensures home { self.new.home ≡ self.old.home }
+        ensures before { self.new.before ≡ self.old.before }
+        ensures copies { CopiesNext T.target (FnReturnsAt H.Fn hash_fn.now) self.old result
+            self.new }
+        ensures named { AreNamed self.new.before self.new.passed self.new.built }
+    {
+        let Some(from) = self.from else {
+            return false;
+        };
+        while self.copied < from.capacity() {
+            let index = self.copied;
+            self.copied += 1;
+            let mut note = from.note_at(index);
+            if let Some(name) = from.name_at(self.home, index, &mut note) {
+                let hash = hash_fn(name.as_ref().entry(self.home).value.deref());
+                self.built.insert_unique(self.home, hash, name);
+                return true;
+            }
+        }
+        false
+    }
+}
+
+impl<'a, T: AtomicValue, A: Low + Copy> Growth<'a, T, A> {
+    /// Shows the generation that was made, and says how many there are with it, beside a note that has seen it.
+    pub(crate) fn show(self) -> (usize, Note<Generation<T, A>>)
+        requires whole { PassedAll self }
+        ensures seen { IsSome result.1.known }
+    {
+        let Growth {
+            home,
+            number,
+            built,
+            slot,
+            mut block,
+            ..
+        } = self;
+        drop(Box::replace(&mut block, built));
+        let last = show_block(slot.word, home, slot.alloc, block);
+        (number.saturating_add(1), last)
+    }
+}

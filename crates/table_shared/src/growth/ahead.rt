@@ -1,0 +1,134 @@
+//! Entries that are read ahead of their copies.
+//!
+//! Entries lie far apart in memory. In a loop that does nothing but read them the reads overlap; where each is named before
+//! the next is read, they don't.
+ghost use Rattle.std.specs.Prelude.{◌≡◌, ◌<◌, ◌≤◌, ◌↔◌, IsTrue, length};
+ghost use Rattle.std.specs.Fn.{FnReturnsAt};
+ghost use Rattle.table_core.specs.declared.call.Phase.TheVariants.{Building};
+ghost use Rattle.table_shared.specs.Ahead.{IsRead, AreRead, CopiesOn};
+ghost use Rattle.table_shared.specs.Growths.{PassedAll};
+
+use crate::growth::Growth;
+use std::alloc::Allocator;
+use std::array;
+use table_cell::{Bucket, Home};
+use table_core::{Answer, CallState};
+use table_generations::atomic_value::AtomicValue;
+use table_generations::fixed::Generation;
+use table_turns::step;
+
+/// So many buckets are read before the entries of the first of them are named.
+pub(crate) const WINDOW: usize = 64;
+
+/// An entry that was read ahead of its copy: a bucket that names it, and the hash that was answered for it.
+#[derive(Drop)]
+pub(crate) struct Ahead<T: Drop, A: Allocator + Copy> {
+    pub(crate) hash: u64,
+    pub(crate) name: Bucket<T, A>,
+}
+
+/// Reads the entry of a bucket, if there is one, and asks for its hash.
+fn read_ahead<T: AtomicValue, A: Allocator + Copy, H: Fn(&T::Target) -> u64>(
+    home: &Home,
+    from: &Generation<T, A>,
+    index: usize,
+    hash_fn: &H,
+) -> Option<Ahead<T, A>>
+    requires home { from.now.home ≡ home.now.id }
+    requires within { index < length from.now.contents }
+    requires callable { H.IsAlwaysCallable hash_fn.now }
+    ensures { IsRead T.target (FnReturnsAt H.Fn hash_fn.now) from.now index result }
+{
+    let mut note = from.note_at(index);
+    let name = from.name_at(home, index, &mut note)?;
+    let hash = hash_fn(name.as_ref().entry(home).value.deref());
+    Some(Ahead { hash, name })
+}
+
+/// Reads the buckets from this one on, as many as the window is wide or as are left, in their order.
+pub(crate) fn read_window<T: AtomicValue, A: Allocator + Copy, H: Fn(&T::Target) -> u64>(
+    home: &Home,
+    from: &Generation<T, A>,
+    first: usize,
+    hash_fn: &H,
+    window: &mut [Option<Ahead<T, A>>; WINDOW],
+)
+    requires home { from.now.home ≡ home.now.id }
+    requires place { first ≤ length from.now.contents }
+    requires callable { H.IsAlwaysCallable hash_fn.now }
+    ensures { AreRead T.target (FnReturnsAt H.Fn hash_fn.now) from.now first 0 64 window.new }
+{
+    let left = from.capacity() - first;
+    let count = left.min(WINDOW);
+    for ahead in 0..count {
+        window[ahead] = read_ahead(home, from, first + ahead, hash_fn);
+    }
+}
+
+impl<'a, T: AtomicValue, A: Allocator + Copy> Growth<'a, T, A> {
+    /// Whether each bucket of the generation before is passed.
+    fn has_passed_all(&self) -> bool
+        ensures { IsTrue result ↔ PassedAll self.now }
+    {
+        match self.from {
+            Some(from) => from.capacity() <= self.copied,
+            None => true,
+        }
+    }
+
+    /// Reads the next buckets ahead, and then copies their entries in their order, each by a step of the call, which stays
+    /// where it stands.
+    fn copy_window<H: Fn(&T::Target) -> u64>(
+        &mut self,
+        state: CallState,
+        hash_fn: &H,
+        window: &mut [Option<Ahead<T, A>>; WINDOW],
+    ) -> CallState
+        requires phase { state.phase ≡ Building }
+        requires left { self.old.passed < length self.old.before }
+        requires callable { H.IsAlwaysCallable hash_fn.now }
+        ensures stays { result ≡ state }
+        ensures same { (self.new.home ≡ self.old.home) × (self.new.before ≡ self.old.before) }
+        ensures on { self.old.passed < self.new.passed }
+        ensures copies { CopiesOn T.target (FnReturnsAt H.Fn hash_fn.now) self.old self.new }
+    {
+        let Some(from) = self.from else {
+            return state;
+        };
+        let first = self.copied;
+        read_window(self.home, from, first, hash_fn, window);
+        let mut state = state;
+        let count = (from.capacity() - first).min(WINDOW);
+        for place in 0..count {
+            if let Some(read) = window[place].take() {
+                self.built.insert_unique(self.home, read.hash, read.name);
+                state = step(state, Answer::Copied);
+            }
+            self.copied = first + place + 1;
+        }
+        state
+    }
+
+    /// Copies all entries that are left, each by a step of the call, which stays where it stands. Their hashes are asked for
+    /// in their order, up to 64 buckets ahead of the copies. To be called while the lock is held alone.
+    #[inline(never)]
+    pub(crate) fn copy_rest<H: Fn(&T::Target) -> u64>(
+        &mut self,
+        state: CallState,
+        hash_fn: &H,
+    ) -> CallState
+        requires phase { state.phase ≡ Building }
+        requires callable { H.IsAlwaysCallable hash_fn.now }
+        ensures stays { result ≡ state }
+        ensures same { (self.new.home ≡ self.old.home) × (self.new.before ≡ self.old.before) }
+        ensures whole { PassedAll self.new }
+        ensures copies { CopiesOn T.target (FnReturnsAt H.Fn hash_fn.now) self.old self.new }
+    {
+        let mut state = state;
+        let mut window: [Option<Ahead<T, A>>; WINDOW] = array::from_fn(|_place: usize| None);
+        while !self.has_passed_all() {
+            state = self.copy_window(state, hash_fn, &mut window);
+        }
+        state
+    }
+}

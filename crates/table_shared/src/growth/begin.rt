@@ -1,0 +1,82 @@
+//! Growth of a shared table, step by step, under its lock held alone.
+ghost use Rattle.std.specs.Prelude.{◌≡◌, ◌<◌, IfOk, length};
+ghost use Rattle.table_shared.specs.Begun.{Begins};
+ghost use Rattle.table_shared.specs.Growths.{PassedAll};
+
+use crate::growth::Growth;
+use crate::table::{Current, LockFreeRawTable};
+use std::alloc::{AllocError, Allocator};
+use table_cell::Low;
+use table_generations::atomic_value::AtomicValue;
+use table_generations::fixed::Generation;
+
+/// What a look at the size finds, under the lock held alone.
+#[derive(Drop)]
+pub enum Wanted<'a, T: AtomicValue, A: Allocator + Copy> {
+    /// There is a generation, and fewer than half of its buckets are set.
+    Unwanted,
+    /// Memory was refused, or the capacity can't double. The table shows what it showed; words for later generations that
+    /// were made stay.
+    Failed,
+    /// The next generation, to be copied into and shown.
+    Begun(Growth<'a, T, A>),
+}
+
+impl<T: AtomicValue, A: Low + Copy> LockFreeRawTable<T, A> {
+    /// The first generation, without an entry.
+    fn begin_first(&self) -> Result<Growth<'_, T, A>, AllocError>
+        ensures { IfOk result (λ g. g.home ≡ self.now.home) }
+    {
+        let slot = self.lineage.slot(&self.home, 0)?;
+        let built = Generation::with_capacity(self.alloc, &self.home, self.first_capacity)?;
+        Growth::begun(&self.home, 0, None, built, slot)
+    }
+
+    /// The generation after the current one, with twice the capacity.
+    fn begin_after<'a>(&'a self, current: Current<'a, T, A>) -> Result<Growth<'a, T, A>, AllocError>
+        requires home { current.generation.now.home ≡ self.now.home }
+        requires room { 0 < length current.generation.now.contents }
+        ensures home { IfOk result (λ g. g.home ≡ self.now.home) }
+        ensures before { IfOk result (λ g. (g.before ≡ current.entry.generation.now.contents)
+            × (g.passed ≡ 0)) }
+    {
+        let Some(number) = (current.number as usize).checked_add(1) else {
+            return Err(AllocError);
+        };
+        let Some(capacity) = current.generation.doubled() else {
+            return Err(AllocError);
+        };
+        let slot = self.lineage.slot(&self.home, number)?;
+        let built = current.generation.sibling(&self.home, capacity)?;
+        Growth::begun(&self.home, number, Some(current.generation), built, slot)
+    }
+
+    /// Looks at the size again, and asks for all the memory of the next generation if it is still wanted. To be called
+    /// while the lock is held alone.
+    pub(crate) fn begin(&self) -> Wanted<'_, T, A>
+        ensures { Begins self.now.home result }
+    {
+        let begun = match self.current() {
+            None => self.begin_first(),
+            Some(current) => {
+                if !self.wants_growth(current.generation) {
+                    return Wanted::Unwanted;
+                }
+                self.begin_after(current)
+            }
+        };
+        match begun {
+            Ok(growth) => Wanted::Begun(growth),
+            Err(_) => Wanted::Failed,
+        }
+    }
+
+    /// Shows the generation that was made: from then on it is the current one. To be called while the lock is held alone.
+    pub(crate) fn show(&self, growth: Growth<'_, T, A>)
+        requires home { growth.home ≡ self.now.home }
+        requires whole { PassedAll growth }
+    {
+        let (count, last) = growth.show();
+        self.shown.set(count, &last);
+    }
+}

@@ -1,0 +1,110 @@
+//! An insert between two steps: what it walks, builds and carries, and the lock that it holds.
+ghost use Rattle.std.specs.Prelude.{◌≡◌, ◌≢◌, None};
+ghost use Rattle.table_core.specs.Calls.{insert_start};
+ghost use Rattle.table_shared.specs.Between.{IsBetween};
+ghost use Rattle.table_shared.specs.Carried.{IsAnswer, met_in};
+
+use crate::growth::Growth;
+use crate::table::LockFreeRawTable;
+use std::snapshot::Snapshot;
+use std::sync::{RwLockReadGuard, RwLockWriteGuard};
+use table_cell::Low;
+use table_core::CallState;
+use table_generations::atomic_value::AtomicValue;
+use table_generations::fixed::Generation;
+
+/// What an insert carries: its value, the target of its own entry, or the target that it accepted beside its value.
+#[derive(Drop)]
+pub(crate) enum Carried<T, R> {
+    /// It was handed out.
+    Gone,
+    Value(T),
+    Own(R),
+    Met(R, T),
+}
+
+impl<T, R> Carried<T, R> {
+    /// What is carried, as the answer of the insert.
+    #[inline(always)]
+    pub(crate) fn into_answer(self) -> Result<(R, Option<T>), T>
+        requires there { self ≢ Carried.Gone }
+        ensures { IsAnswer self result }
+    {
+        match self {
+            Carried::Value(value) => Err(value),
+            Carried::Own(target) => Ok((target, None)),
+            Carried::Met(target, value) => Ok((target, Some(value))),
+            Carried::Gone => unreachable!(),
+        }
+    }
+}
+
+/// The lock that a call holds.
+#[derive(Drop)]
+pub(crate) enum Held<'a> {
+    Nothing,
+    Shared(RwLockReadGuard<'a, ()>),
+    Alone(RwLockWriteGuard<'a, ()>),
+}
+
+/// Whom an insert asks, and of which value.
+#[derive(Drop)]
+pub(crate) struct Asking<T, E, H> {
+    pub(crate) given: Snapshot<T>,
+    pub(crate) eq: E,
+    pub(crate) hash_fn: H,
+}
+
+/// An insert between two steps: where it stands, the generation that it walks, what it builds and carries, and the lock that
+/// it holds.
+#[derive(Drop)]
+pub(crate) struct Inserting<
+    'a,
+    T: AtomicValue,
+    A: Low + Copy,
+    E: Fn(&T::Target, &T::Target) -> bool,
+    H: Fn(&T::Target) -> u64,
+> {
+    pub(crate) table: &'a LockFreeRawTable<T, A>,
+    pub(crate) state: CallState,
+    pub(crate) walked: Option<&'a Generation<T, A>>,
+    pub(crate) growth: Option<Growth<'a, T, A>>,
+    pub(crate) carried: Carried<T, &'a T::Target>,
+    pub(crate) held: Held<'a>,
+    pub(crate) asking: Asking<T, E, H>,
+    ghost between: { IsBetween table.now.home T.target asking.given.value state walked growth
+        carried held },
+}
+
+impl<
+    'a,
+    T: AtomicValue,
+    A: Low + Copy,
+    E: Fn(&T::Target, &T::Target) -> bool,
+    H: Fn(&T::Target) -> u64,
+> Inserting<'a, T, A, E, H> {
+    /// An insert that has taken no step.
+    pub(crate) fn new(
+        table: &'a LockFreeRawTable<T, A>,
+        hash: u64,
+        value: T,
+        eq: E,
+        hash_fn: H,
+    ) -> Inserting<'a, T, A, E, H>
+        ensures starts { result.state ≡ insert_start hash }
+        ensures given { result.asking.given.value ≡ value }
+        ensures closures { (result.asking.eq ≡ eq) × (result.asking.hash_fn ≡ hash_fn) }
+        ensures unmet { met_in result.carried ≡ None }
+    {
+        let given = Snapshot::of(&value);
+        Inserting {
+            table,
+            state: CallState::insert(hash),
+            walked: None,
+            growth: None,
+            carried: Carried::Value(value),
+            held: Held::Nothing,
+            asking: Asking { given, eq, hash_fn },
+        }
+    }
+}

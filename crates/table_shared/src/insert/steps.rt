@@ -1,0 +1,346 @@
+//! The steps of an insert, each by what its phase says.
+ghost use Rattle.std.specs.Prelude.{◌≡◌, ◌≢◌, Some, true};
+ghost use Rattle.std.specs.Fn.{FnReturnsAtPair};
+ghost use Rattle.table_core.specs.Calls.{finds_entry};
+ghost use Rattle.table_core.specs.declared.call.Phase.TheVariants.{Shared, Probe, AtEmpty, Placed, LeaveOk, AskSize, Owned, Building, Done};
+ghost use Rattle.table_core.specs.declared.call.Answer.TheVariants.{Taken, Holds, MemoryRefused};
+ghost use Rattle.table_turns.specs.Phases.{Meets, Turns, Leaves};
+ghost use Rattle.table_turns.specs.Steps.{Went, Passing, passed as passed_answer};
+ghost use Rattle.table_terms.specs.Hashes.{bits_of};
+ghost use Rattle.table_shared.specs.Carried.{Asks, Wants, lock_of, met_in};
+ghost use Rattle.table_shared.specs.Inserts.{Answers};
+ghost use Rattle.table_shared.specs.Reads.{AtAlone, StepTells};
+ghost use Rattle.table_shared.specs.Steps.{Steps, Stays, Ends, TriesStep};
+
+use crate::growth::begin::Wanted;
+use crate::insert::between::{Carried, Held, Inserting};
+use crate::probe::{Matched, Put, Read};
+use crate::table::LockFreeRawTable;
+use std::mem;
+use std::sync::Wait;
+use table_cell::Low;
+use table_core::{Answer, CallState, Phase};
+use table_generations::atomic_value::AtomicValue;
+use table_turns::{passed, released, step, step_loaded, step_released};
+
+impl<
+    'a,
+    T: AtomicValue,
+    A: Low + Copy,
+    E: Fn(&T::Target, &T::Target) -> bool,
+    H: Fn(&T::Target) -> u64,
+> Inserting<'a, T, A, E, H> {
+    /// The lock that it wants is taken.
+    fn take(&mut self, held: Held<'a>) -> Answer
+        requires wanted { Wants self.old.state.phase (lock_of held) }
+        ensures { Steps E.Fn self.old result self.new }
+    {
+        self.held = held;
+        self.state = step(self.state, Answer::Taken);
+        Answer::Taken
+    }
+
+    /// The current generation is loaded.
+    fn load(&mut self) -> Answer
+        requires phase { self.old.state.phase ≡ Shared }
+        ensures { Steps E.Fn self.old result self.new }
+    {
+        let table: &'a LockFreeRawTable<T, A> = self.table;
+        match table.current() {
+            None => {
+                self.walked = None;
+                self.state = step(self.state, Answer::NoGeneration);
+                Answer::NoGeneration
+            }
+            Some(current) => {
+                let number = current.number;
+                let capacity = current.generation.capacity() as u64;
+                self.walked = Some(current.generation);
+                self.state = step_loaded(self.state, number, capacity);
+                Answer::Loaded { number, capacity }
+            }
+        }
+    }
+
+    /// An entry was passed.
+    fn pass(&mut self, next: CallState, asked: bool) -> Answer
+        requires phase { Meets self.old.state.phase }
+        requires went { Went self.old.state next (passed_answer asked) }
+        requires passing { Passing self.old.state next }
+        ensures answer { result ≡ passed_answer asked }
+        ensures steps { Steps E.Fn self.old result self.new }
+    {
+        self.state = next;
+        passed(asked)
+    }
+
+    /// What was accepted is kept beside the value.
+    fn keep(&mut self, next: CallState, target: &'a T::Target) -> Answer
+        requires phase { Meets self.old.state.phase }
+        requires went { Went self.old.state next (Holds true) }
+        requires found { next ≡ finds_entry LeaveOk self.old.state }
+        requires accepted { FnReturnsAtPair E.Fn self.old.asking.eq
+            (T.target self.old.asking.given.value) target.now true }
+        ensures answer { result ≡ Holds true }
+        ensures kept { met_in self.new.carried ≡ Some target.entry }
+        ensures steps { Steps E.Fn self.old result self.new }
+    {
+        let Carried::Value(value) = mem::replace(&mut self.carried, Carried::Gone) else {
+            unreachable!()
+        };
+        self.carried = Carried::Met(target, value);
+        self.state = next;
+        Answer::Holds { accepted: true }
+    }
+
+    /// The bucket is read. Where it is empty the call stands at it.
+    fn read(&mut self) -> Answer
+        requires phase { self.old.state.phase ≡ Probe }
+        requires callable { E.IsAlwaysCallable self.old.asking.eq }
+        ensures steps { Steps E.Fn self.old result self.new }
+        ensures alone { AtAlone self.old.walked self.old.state.index
+            (StepTells T.target
+            (FnReturnsAtPair E.Fn self.old.asking.eq (T.target self.old.asking.given.value))
+            (bits_of self.old.state.hash) result (met_in self.new.carried)) }
+    {
+        let table: &'a LockFreeRawTable<T, A> = self.table;
+        let Some(generation) = self.walked else {
+            unreachable!()
+        };
+        let Carried::Value(value) = &self.carried else {
+            unreachable!()
+        };
+        let mut note = generation.note_at(self.state.index as usize);
+        let probing = Matched {
+            value,
+            eq: &self.asking.eq,
+        };
+        match table.read_bucket(generation, self.state, &probing, &mut note) {
+            Read::Empty(next) => {
+                self.state = next;
+                Answer::Empty
+            }
+            Read::Passed(next, asked) => self.pass(next, asked),
+            Read::Met(next, target) => self.keep(next, target),
+        }
+    }
+
+    /// One exchange at an empty bucket. Who loses it passes or accepts the entry that came first.
+    fn put(&mut self) -> Answer
+        requires phase { self.old.state.phase ≡ AtEmpty }
+        requires callable { E.IsAlwaysCallable self.old.asking.eq }
+        ensures steps { Steps E.Fn self.old result self.new }
+        ensures alone { result ≢ MemoryRefused → AtAlone self.old.walked self.old.state.index
+            (StepTells T.target
+            (FnReturnsAtPair E.Fn self.old.asking.eq (T.target self.old.asking.given.value))
+            (bits_of self.old.state.hash) result (met_in self.new.carried)) }
+    {
+        let table: &'a LockFreeRawTable<T, A> = self.table;
+        let Some(generation) = self.walked else {
+            unreachable!()
+        };
+        let Carried::Value(value) = mem::replace(&mut self.carried, Carried::Gone) else {
+            unreachable!()
+        };
+        let mut note = generation.note_at(self.state.index as usize);
+        match table.put_value(generation, self.state, value, &self.asking.eq, &mut note) {
+            Put::Won(next, target) => {
+                self.carried = Carried::Own(target);
+                self.state = next;
+                Answer::Won
+            }
+            Put::Refused(next, value) => {
+                self.carried = Carried::Value(value);
+                self.state = next;
+                Answer::MemoryRefused
+            }
+            Put::Passed(next, asked, value) => {
+                self.carried = Carried::Value(value);
+                self.pass(next, asked)
+            }
+            Put::Met(next, target, value) => {
+                self.carried = Carried::Value(value);
+                self.keep(next, target)
+            }
+        }
+    }
+
+    /// The placed value is counted.
+    fn count(&mut self) -> Answer
+        requires phase { self.old.state.phase ≡ Placed }
+        ensures { Steps E.Fn self.old result self.new }
+    {
+        let Held::Shared(guard) = &self.held else {
+            unreachable!()
+        };
+        self.state = self.table.count(guard, self.state);
+        Answer::Counted
+    }
+
+    /// The size is asked.
+    fn ask_size(&mut self) -> Answer
+        requires phase { self.old.state.phase ≡ AskSize }
+        ensures { Steps E.Fn self.old result self.new }
+    {
+        let size = self.table.len() as u64;
+        self.state = step(self.state, Answer::Sized { size });
+        Answer::Sized { size }
+    }
+
+    /// Growth is looked at again.
+    fn check(&mut self) -> Answer
+        requires phase { self.old.state.phase ≡ Owned }
+        ensures { Steps E.Fn self.old result self.new }
+    {
+        let table: &'a LockFreeRawTable<T, A> = self.table;
+        match table.begin() {
+            Wanted::Unwanted => {
+                self.state = step(self.state, Answer::Unwanted);
+                Answer::Unwanted
+            }
+            Wanted::Failed => {
+                self.state = step(self.state, Answer::Failed);
+                Answer::Failed
+            }
+            Wanted::Begun(growth) => {
+                self.growth = Some(growth);
+                self.state = step(self.state, Answer::Begun);
+                Answer::Begun
+            }
+        }
+    }
+
+    /// One entry is copied, or what was built is shown.
+    fn build(&mut self) -> Answer
+        requires phase { self.old.state.phase ≡ Building }
+        requires callable { H.IsAlwaysCallable self.old.asking.hash_fn }
+        ensures { Steps E.Fn self.old result self.new }
+    {
+        let Some(mut growth) = self.growth.take() else {
+            unreachable!()
+        };
+        if growth.copy_next(&self.asking.hash_fn) {
+            self.growth = Some(growth);
+            self.state = step(self.state, Answer::Copied);
+            return Answer::Copied;
+        }
+        self.table.show(growth);
+        self.state = step(self.state, Answer::Shown);
+        Answer::Shown
+    }
+
+    /// All entries that are left are copied, each by a step. The call stands where it stood.
+    fn copy_rest(&mut self)
+        requires phase { self.old.state.phase ≡ Building }
+        requires callable { H.IsAlwaysCallable self.old.asking.hash_fn }
+        ensures { Stays self.old self.new }
+    {
+        let Some(mut growth) = self.growth.take() else {
+            unreachable!()
+        };
+        self.state = growth.copy_rest(self.state, &self.asking.hash_fn);
+        self.growth = Some(growth);
+    }
+
+    /// A lock is released.
+    fn leave(&mut self) -> Answer
+        requires phase { Leaves self.old.state.phase }
+        ensures { Steps E.Fn self.old result self.new }
+    {
+        let still_current = match self.state.phase {
+            Phase::LeaveFailed => self.table.is_current(self.state.walked),
+            _ => false,
+        };
+        let answer = released(self.state.phase, still_current);
+        self.held = Held::Nothing;
+        self.state = step_released(self.state, still_current);
+        answer
+    }
+
+    /// One step that takes no lock.
+    fn turn(&mut self) -> Answer
+        requires phase { Turns self.old.state.phase }
+        requires asks { Asks E.IsAlwaysCallable H.IsAlwaysCallable T.target E.Fn self.old.asking
+            self.old.carried }
+        ensures { Steps E.Fn self.old result self.new }
+    {
+        match self.state.phase {
+            Phase::Shared => self.load(),
+            Phase::Probe => self.read(),
+            Phase::AtEmpty => self.put(),
+            Phase::Placed => self.count(),
+            Phase::AskSize => self.ask_size(),
+            Phase::Owned => self.check(),
+            Phase::Building => self.build(),
+            Phase::LeaveOk
+            | Phase::LeaveGrow
+            | Phase::LeaveRefused
+            | Phase::LeaveOwned
+            | Phase::LeaveFailed => self.leave(),
+            _ => unreachable!(),
+        }
+    }
+
+    /// One step, for which a lock that is wanted is tried once. Nothing changes where others hold it, or after the end.
+    pub(crate) fn try_turn(&mut self) -> Option<Answer>
+        requires asks { Asks E.IsAlwaysCallable H.IsAlwaysCallable T.target E.Fn self.old.asking
+            self.old.carried }
+        ensures { TriesStep E.Fn self.old result self.new }
+    {
+        let table: &'a LockFreeRawTable<T, A> = self.table;
+        match self.state.phase {
+            Phase::Done => None,
+            Phase::WantShared => Some(self.take(Held::Shared(table.lock.try_read()?))),
+            Phase::WantOwned => Some(self.take(Held::Alone(table.lock.try_write()?))),
+            _ => Some(self.turn()),
+        }
+    }
+
+    /// One step, which waits for a lock that is wanted.
+    fn wait_turn<R: Wait>(&mut self, rt: &R) -> Answer
+        requires unfinished { self.old.state.phase ≢ Done }
+        requires asks { Asks E.IsAlwaysCallable H.IsAlwaysCallable T.target E.Fn self.old.asking
+            self.old.carried }
+        ensures { Steps E.Fn self.old result self.new }
+    {
+        let table: &'a LockFreeRawTable<T, A> = self.table;
+        match self.state.phase {
+            Phase::WantShared => self.take(Held::Shared(table.lock.read(rt))),
+            Phase::WantOwned => self.take(Held::Alone(table.lock.write(rt))),
+            _ => self.turn(),
+        }
+    }
+
+    /// The answer of a finished call.
+    pub(crate) fn finish(&mut self) -> Result<(&'a T::Target, Option<T>), T>
+        requires there { self.old.carried ≢ Carried.Gone }
+        requires over { self.old.state.phase ≡ Done }
+        requires asks { Asks E.IsAlwaysCallable H.IsAlwaysCallable T.target E.Fn self.old.asking
+            self.old.carried }
+        ensures { Ends E.Fn self.old result self.new }
+    {
+        mem::replace(&mut self.carried, Carried::Gone).into_answer()
+    }
+
+    /// Step by step to the end, from any phase but the last. Where a generation is built its entries are copied in a row.
+    pub(crate) fn go_on<R: Wait>(self, rt: &R) -> Result<(&'a T::Target, Option<T>), T>
+        requires unfinished { self.state.phase ≢ Done }
+        requires asks { Asks E.IsAlwaysCallable H.IsAlwaysCallable T.target E.Fn self.asking
+            self.carried }
+        ensures { Answers T.target
+            (FnReturnsAtPair E.Fn self.entry.asking.eq (T.target self.entry.asking.given.value))
+            self.entry.asking.given.value result }
+    {
+        let mut call = self;
+        for _ in rt.forever() {
+            if call.state.phase == Phase::Building {
+                call.copy_rest();
+            }
+            let _ = call.wait_turn(rt);
+            if call.state.phase == Phase::Done {
+                return call.finish();
+            }
+        }
+        unreachable!()
+    }
+}

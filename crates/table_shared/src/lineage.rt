@@ -1,0 +1,170 @@
+//! The generations of a shared table in their order.
+ghost use Rattle.std.specs.Prelude.{◌≡◌, ◌<◌, IfOk, IfSome, length, vec_capacity};
+ghost use Rattle.table_cell.specs.Contents.{vacant};
+ghost use Rattle.table_generations.specs.Generations.{GenerationView};
+ghost use Rattle.table_shared.specs.Lineages.{AreOfHome, AreRoomy, IsOpen, lineage_of};
+
+pub(crate) mod later;
+
+use crate::ending::{hand_out, rehome_all, rehome_shown};
+use crate::lineage::later::{Later, Slot, show_block};
+use std::alloc::{AllocError, Allocator};
+use std::marker::Model;
+use table_cell::{Closed, Home, Low, Word};
+use table_generations::atomic_value::AtomicValue;
+use table_generations::fixed::Generation;
+use table_values::IntoIter;
+
+/// The generations of a shared table: those that it had when it was shared, and the later ones, each shown once. The words
+/// for the later ones are made with the first of them.
+#[derive(Drop)]
+pub(crate) struct Lineage<T: AtomicValue, A: Allocator + Copy> {
+    earlier: Vec<Generation<T, A>, A>,
+    base: Generation<T, A>,
+    later: Word<Later<T, A>, A>,
+    alloc: A,
+}
+
+impl<T: AtomicValue, A: Allocator + Copy> Model for Lineage<T, A> {
+    ghost use Rattle.table_shared.specs.Lineages.{LineageView, lineage_of, IsLineage};
+
+    ghost Value = { LineageView A T };
+
+    ghost view = { λ l. lineage_of l.alloc l.earlier.items l.base };
+
+    ghost invariant = { λ l. IsLineage l.alloc l.earlier.items l.base l.later };
+}
+
+impl<T: AtomicValue, A: Allocator + Copy> Lineage<T, A> {
+    /// The generations of a table that is shared now. It takes no memory.
+    pub(crate) fn new(
+        alloc: A,
+        home: &Home,
+        earlier: Vec<Generation<T, A>, A>,
+        base: Generation<T, A>,
+    ) -> Self
+        requires { AreOfHome home.now.id earlier.items base }
+        ensures { result ≡ lineage_of alloc earlier.items base }
+    {
+        let later = Word::new(&alloc, home);
+        Lineage {
+            earlier,
+            base,
+            later,
+            alloc,
+        }
+    }
+
+    /// How many generations there were when the table was shared.
+    pub(crate) fn held(&self) -> usize {
+        if self.base.capacity() == 0 {
+            return 0;
+        }
+        self.earlier.len().saturating_add(1)
+    }
+
+    /// The words for the later generations, if there are any.
+    fn later<'a>(&'a self, home: &'a Home) -> Option<&'a Later<T, A>>
+        requires { self.now.home ≡ home.now.id }
+        ensures { IfSome result (λ l. AreRoomy home.now.id l.now.alloc l.now.words.items
+            l.now.room.items (vec_capacity l.now.room)) }
+    {
+        let mut note = self.later.note();
+        Some(self.later.name_if_set(&mut note)?.get(home))
+    }
+
+    /// The later generation of this index, if it is shown by now.
+    fn later_generation<'a>(&'a self, home: &'a Home, index: usize) -> Option<&'a Generation<T, A>>
+        requires { self.now.home ≡ home.now.id }
+        ensures { IfSome result (λ g. g.now.home ≡ home.now.id) }
+    {
+        self.later(home)?.slot(home, index)?.generation(home)
+    }
+
+    /// The generation of this number that the table had when it was shared.
+    fn held_generation(&self, number: usize) -> &Generation<T, A>
+        ensures { result.now.home ≡ self.now.home }
+    {
+        match self.earlier.get(number) {
+            Some(generation) => generation,
+            None => &self.base,
+        }
+    }
+
+    /// The generation of this number, if it is shown by now. Each has a bucket.
+    pub(crate) fn generation<'a>(
+        &'a self,
+        home: &'a Home,
+        number: usize,
+    ) -> Option<&'a Generation<T, A>>
+        requires { self.now.home ≡ home.now.id }
+        ensures home { IfSome result (λ g. g.now.home ≡ home.now.id) }
+        ensures room { IfSome result (λ g. 0 < length g.now.contents) }
+    {
+        let found = match number.checked_sub(self.held()) {
+            Some(index) => self.later_generation(home, index)?,
+            None => self.held_generation(number),
+        };
+        if found.capacity() == 0 {
+            return None;
+        }
+        Some(found)
+    }
+}
+
+impl<T: AtomicValue, A: Allocator + Copy> Lineage<T, A> {
+    /// Takes the generations apart, once their home has ended, and hands out each value that a bucket owns. It takes no
+    /// memory.
+    pub(crate) fn into_values(self, closed: &Closed) -> IntoIter<T, A>
+        requires { self.home ≡ closed.now.id }
+    {
+        let Lineage {
+            mut earlier,
+            base,
+            later,
+            alloc,
+        } = self;
+        let home = Home::new();
+        let base = base.rehomed(closed, &home);
+        rehome_all(&mut earlier, closed, &home, alloc);
+        let later = rehome_shown(later, closed, &home, alloc);
+        hand_out(home.close(), base, earlier, later, alloc)
+    }
+}
+
+impl<T: AtomicValue, A: Low + Copy> Lineage<T, A> {
+    /// The words for the later generations, made if there are none. A refusal leaves the lineage as it was.
+    fn opened<'a>(&'a self, home: &'a Home) -> Result<&'a Later<T, A>, AllocError>
+        requires { self.now.home ≡ home.now.id }
+        ensures { IfOk result (λ l. AreRoomy home.now.id l.now.alloc l.now.words.items
+            l.now.room.items (vec_capacity l.now.room)) }
+    {
+        if let Some(later) = self.later(home) {
+            return Ok(later);
+        }
+        let Ok(block) = Box::new(self.alloc, Later::new(self.alloc, home)?) else {
+            return Err(AllocError);
+        };
+        let _seen = show_block(&self.later, home, self.alloc, block);
+        self.later(home).ok_or(AllocError)
+    }
+
+    /// The word of the generation of this number, which isn't shown yet. Refused where memory is, or where there are
+    /// no more words.
+    pub(crate) fn slot<'a>(
+        &'a self,
+        home: &'a Home,
+        number: usize,
+    ) -> Result<Slot<'a, T, A>, AllocError>
+        requires { self.now.home ≡ home.now.id }
+        ensures { IfOk result (λ s. IsOpen home.now.id s.alloc s.word.now) }
+    {
+        let Some(index) = number.checked_sub(self.held()) else {
+            return Err(AllocError);
+        };
+        match self.opened(home)?.slot(home, index) {
+            Some(slot) => Ok(slot),
+            None => Err(AllocError),
+        }
+    }
+}

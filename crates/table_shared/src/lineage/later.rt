@@ -1,0 +1,93 @@
+//! Words for the generations that are made after a table was shared.
+ghost use Rattle.std.specs.Prelude.{◌≡◌, ◌≤◌, ◌<◌, IfOk, IfSome, IsSome, length, vec_capacity, []};
+ghost use Rattle.std.specs.Box.{box_allocator};
+ghost use Rattle.table_shared.specs.Lineages.{IsOpen, AreRoomy};
+
+use std::alloc::{AllocError, Allocator};
+use table_cell::{Home, Homed, LooseBlock, Low, Note, Word};
+use table_generations::atomic_value::AtomicValue;
+use table_generations::fixed::Generation;
+
+/// At most so many generations are made after a table was shared: each has twice the buckets of the one before, and the
+/// first has at least 16, so the 60th has at least 2^63.
+const LATER: usize = 60;
+
+/// A word for each later generation, and the room to take the generations out again.
+#[derive(Drop)]
+pub(crate) struct Later<T: AtomicValue, A: Allocator + Copy> {
+    pub(crate) alloc: A,
+    pub(crate) words: Vec<Word<Generation<T, A>, A>, A>,
+    pub(crate) room: Vec<Box<Generation<T, A>, A>, A>,
+}
+
+impl<T: AtomicValue, A: Allocator + Copy> Homed for Later<T, A> {
+    ghost fits = { λ l h. AreRoomy h l.alloc l.words.items l.room.items (vec_capacity l.room) };
+}
+
+/// The word of a later generation, and the allocator that the generation's block is of.
+#[derive(Drop)]
+pub(crate) struct Slot<'a, T: AtomicValue, A: Allocator + Copy> {
+    pub(crate) alloc: A,
+    pub(crate) word: &'a Word<Generation<T, A>, A>,
+}
+
+/// Shows a block by a word. If the word was set before, the block is given back. The note has seen what the word shows.
+pub(crate) fn show_block<X: Homed + Drop, A: Low + Copy>(
+    word: &Word<X, A>,
+    home: &Home,
+    alloc: A,
+    block: Box<X, A>,
+) -> Note<X>
+    requires open { IsOpen home.now.id alloc word.now }
+    requires from { box_allocator block ≡ alloc }
+    requires fits { X.fits block.value home.now.id }
+    ensures of { result.of ≡ word.now.id }
+    ensures seen { IsSome result.known }
+{
+    let mut note = word.note();
+    if let (_, Some(back)) = word.offer(home, LooseBlock::of(block), &mut note) {
+        drop(back.into_box(alloc));
+    }
+    note
+}
+
+impl<T: AtomicValue, A: Allocator + Copy> Later<T, A> {
+    /// Words of which none is set. It asks for memory twice.
+    pub(crate) fn new(alloc: A, home: &Home) -> Result<Self, AllocError>
+        ensures roomy { IfOk result (λ l. AreRoomy home.now.id alloc l.words.items l.room.items
+            (vec_capacity l.room)) }
+        ensures from { IfOk result (λ l. l.alloc ≡ alloc) }
+    {
+        let mut words = Vec::with_capacity(alloc, LATER)?;
+        let room = Vec::with_capacity(alloc, LATER)?;
+        for _made in 0..LATER {
+            words.push_reserved(Word::new(&alloc, home));
+        }
+        Ok(Later { alloc, words, room })
+    }
+
+    /// The word of the later generation of this index, if there are so many.
+    pub(crate) fn slot(&self, home: &Home, index: usize) -> Option<Slot<'_, T, A>>
+        requires { AreRoomy home.now.id self.now.alloc self.now.words.items self.now.room.items
+            (vec_capacity self.now.room) }
+        ensures { IfSome result (λ s. IsOpen home.now.id s.alloc s.word.now) }
+    {
+        let _home = home;
+        let word = self.words.get(index)?;
+        Some(Slot {
+            alloc: self.alloc,
+            word,
+        })
+    }
+}
+
+impl<'a, T: AtomicValue, A: Allocator + Copy> Slot<'a, T, A> {
+    /// The generation, if it is shown by now.
+    pub(crate) fn generation(self, home: &'a Home) -> Option<&'a Generation<T, A>>
+        requires { IsOpen home.now.id self.alloc self.word.now }
+        ensures { IfSome result (λ g. g.now.home ≡ home.now.id) }
+    {
+        let mut note = self.word.note();
+        Some(self.word.name_if_set(&mut note)?.get(home))
+    }
+}

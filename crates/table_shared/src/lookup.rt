@@ -1,0 +1,35 @@
+//! Look-ups: one probe of the current generation, step by step by the core.
+ghost use Rattle.std.specs.Prelude.{IfSome, true};
+ghost use Rattle.std.specs.Fn.{FnReturnsAt};
+
+pub(crate) mod steps;
+
+use crate::probe::{Read, Tested};
+use crate::table::LockFreeRawTable;
+use std::alloc::Allocator;
+use table_core::{CallState, Phase};
+use table_generations::atomic_value::AtomicValue;
+use table_turns::step_loaded;
+
+impl<T: AtomicValue, A: Allocator + Copy> LockFreeRawTable<T, A> {
+    /// The target of an entry that the test accepts, or None. Anyone may call it at any time: it takes no lock and no memory,
+    /// and returns.
+    pub fn lookup<F: Fn(&T::Target) -> bool>(&self, hash: u64, test: F) -> Option<&T::Target>
+        requires callable { F.IsAlwaysCallable test }
+        ensures accepted { IfSome result (λ found. FnReturnsAt F.Fn test found.now true) }
+    {
+        let current = self.current()?;
+        let capacity = current.generation.capacity() as u64;
+        let mut state = step_loaded(CallState::lookup(hash), current.number, capacity);
+        while state.phase != Phase::Done {
+            let generation = current.generation;
+            let mut note = generation.note_at(state.index as usize);
+            match self.read_bucket(generation, state, &Tested { test: &test }, &mut note) {
+                Read::Empty(_) => return None,
+                Read::Passed(next, _) => state = next,
+                Read::Met(_, target) => return Some(target),
+            }
+        }
+        None
+    }
+}

@@ -1,0 +1,88 @@
+//! How many entries a table counts, the steps at that number, and whether a generation is still the current one.
+ghost use Rattle.std.specs.Prelude.{◌≡◌, ◌⊎◌, true, nat_lt};
+ghost use Rattle.table_core.specs.Calls.{stands_at_bucket, to};
+ghost use Rattle.table_core.specs.declared.call.Outcome.TheVariants.{New};
+ghost use Rattle.table_core.specs.declared.call.Phase.TheVariants.{Placed, LeaveOk, AskSize, WantOwned, Done};
+ghost use Rattle.table_core.specs.declared.call.Answer.TheVariants.{Counted, Sized};
+ghost use Rattle.table_turns.specs.Steps.{Went};
+ghost use Rattle.table_shared.specs.Reads.{AsksSize};
+
+use crate::table::LockFreeRawTable;
+use std::alloc::Allocator;
+use std::sync::RwLockReadGuard;
+use std::sync::atomic::AtomicUsize;
+use std::sync::atomic::Ordering::SeqCst;
+use table_core::{Answer, CallState};
+use table_generations::atomic_value::AtomicValue;
+use table_turns::step;
+
+/// How many entries are counted: each once, after it was placed and while the lock is held. Nothing but an insert that has
+/// placed its value changes it.
+#[derive(Drop)]
+pub(crate) struct Size {
+    counted: AtomicUsize,
+}
+
+impl Size {
+    /// So many entries are counted.
+    pub(crate) fn new(entries: usize) -> Size {
+        Size {
+            counted: AtomicUsize::new(entries),
+        }
+    }
+
+    /// How many entries are counted by now.
+    pub(crate) fn get(&self) -> usize {
+        self.counted.load(SeqCst)
+    }
+
+    /// A value that was placed is counted, while the lock is still held: growth waits for whoever holds it.
+    #[inline(always)]
+    pub(crate) fn count(&self, _held: &RwLockReadGuard<'_, ()>, state: CallState) -> CallState
+        requires phase { state.phase ≡ Placed }
+        requires stands { stands_at_bucket state ≡ true }
+        ensures went { Went state result Counted }
+        ensures counted { result ≡ record state { phase = LeaveOk; outcome = New state.index } }
+    {
+        self.counted.fetch_add(1, SeqCst);
+        step(state, Answer::Counted)
+    }
+}
+
+impl<T: AtomicValue, A: Allocator + Copy> LockFreeRawTable<T, A> {
+    /// A value that was placed is counted, while this lock is still held.
+    #[inline(always)]
+    pub(crate) fn count(&self, held: &RwLockReadGuard<'_, ()>, state: CallState) -> CallState
+        requires phase { state.phase ≡ Placed }
+        requires stands { stands_at_bucket state ≡ true }
+        ensures went { Went state result Counted }
+        ensures counted { result ≡ record state { phase = LeaveOk; outcome = New state.index } }
+    {
+        self.size.count(held, state)
+    }
+
+    /// An insert that has an outcome asks whether its generation is half full.
+    #[inline(always)]
+    pub(crate) fn ask_size(&self, state: CallState) -> CallState
+        requires phase { state.phase ≡ AskSize }
+        requires wide { nat_lt 0 state.capacity ≡ true }
+        ensures went { AsksSize state result }
+        ensures ends { (result ≡ to Done state) ⊎ (result ≡ to WantOwned state) }
+    {
+        step(
+            state,
+            Answer::Sized {
+                size: self.len() as u64,
+            },
+        )
+    }
+
+    /// Whether the generation of this number is the current one, or there is none still.
+    pub(crate) fn is_current(&self, walked: Option<u64>) -> bool {
+        match (self.current(), walked) {
+            (None, None) => true,
+            (Some(current), Some(number)) => current.number == number,
+            _ => false,
+        }
+    }
+}

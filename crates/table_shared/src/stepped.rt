@@ -1,0 +1,209 @@
+//! Calls that take one step at a time, when they are told to.
+//!
+//! An [`InsertCall`] and a [`LookupCall`] take the very steps that [`LockFreeRawTable::insert`] and
+//! [`LockFreeRawTable::lookup`] take, so any schedule of calls can be run on a table by one thread.
+ghost use Rattle.std.specs.Prelude.{◌≡◌, ◌≢◌, None, true, IfSome};
+ghost use Rattle.std.specs.Fn.{FnReturnsAt, FnReturnsAtPair};
+ghost use Rattle.table_core.specs.Calls.{insert_start, lookup_start};
+ghost use Rattle.table_core.specs.declared.call.Phase.TheVariants.{Done};
+ghost use Rattle.table_turns.specs.Phases.{Other, reached_by};
+ghost use Rattle.table_shared.specs.Inserts.{Answers, told_by};
+ghost use Rattle.table_shared.specs.Stepped.{MayStep, Advances, MayBlock, IfMoved, IfBlocked, IfEnded, found_by, accepted_in};
+
+use crate::insert::between::{Held, Inserting};
+use crate::lookup::steps::Looking;
+use crate::table::LockFreeRawTable;
+use std::alloc::Allocator;
+use std::marker::Model;
+use table_cell::Low;
+use table_core::{CallState, Phase};
+use table_generations::atomic_value::AtomicValue;
+
+/// What a call came to that was told to take a step.
+#[derive(Drop)]
+pub enum Progress<R> {
+    /// It has taken one, and isn't at its end.
+    Moved,
+    /// It has taken none, and nothing has changed: others hold the lock that it wants, or it was at its end.
+    Blocked,
+    /// It has taken its last one, and this is its reply.
+    Done(R),
+}
+
+/// An insert that goes one step at a time. Between two steps it holds the lock that its phase says.
+///
+/// Dropped before its end it is given up: a value that is placed stays and is counted, a value that isn't is dropped, a
+/// generation that it was making is forgotten, and its lock is released.
+pub struct InsertCall<
+    'a,
+    T: AtomicValue,
+    A: Low + Copy,
+    E: Fn(&T::Target, &T::Target) -> bool,
+    H: Fn(&T::Target) -> u64,
+> {
+    call: Inserting<'a, T, A, E, H>,
+}
+
+impl<
+    'a,
+    T: AtomicValue,
+    A: Low + Copy,
+    E: Fn(&T::Target, &T::Target) -> bool,
+    H: Fn(&T::Target) -> u64,
+> Model for InsertCall<'a, T, A, E, H> {
+    ghost use Rattle.table_shared.specs.Carried.{met_in};
+    ghost use Rattle.table_shared.specs.Stepped.{InsertView};
+
+    ghost Value = { InsertView T T.Target E H };
+
+    ghost view = { λ c. record {
+      state = c.call.state;
+      given = c.call.asking.given.value;
+      eq = c.call.asking.eq;
+      hash_fn = c.call.asking.hash_fn;
+      met = met_in c.call.carried;
+    } };
+}
+
+impl<
+    'a,
+    T: AtomicValue,
+    A: Low + Copy,
+    E: Fn(&T::Target, &T::Target) -> bool,
+    H: Fn(&T::Target) -> u64,
+> InsertCall<'a, T, A, E, H> {
+    /// An insert that has taken no step. It takes no memory.
+    pub fn new(
+        table: &'a LockFreeRawTable<T, A>,
+        hash: u64,
+        value: T,
+        eq: E,
+        hash_fn: H,
+    ) -> InsertCall<'a, T, A, E, H>
+        requires eq_callable { E.IsAlwaysCallable eq }
+        requires hash_callable { H.IsAlwaysCallable hash_fn }
+        ensures starts { result.state ≡ insert_start hash }
+        ensures given { (result.given ≡ value) × (result.eq ≡ eq) × (result.hash_fn ≡ hash_fn) }
+        ensures met { result.met ≡ None }
+        ensures may_step { MayStep E.IsAlwaysCallable H.IsAlwaysCallable T.target E.Fn result }
+    {
+        InsertCall {
+            call: Inserting::new(table, hash, value, eq, hash_fn),
+        }
+    }
+
+    /// Where it stands.
+    pub fn state(&self) -> CallState
+        ensures { result ≡ self.now.state }
+    {
+        self.call.state
+    }
+
+    /// One step. A lock that it wants is tried once, so it never waits; memory is asked for only to place its value and
+    /// to begin a growth. A refusal of either is a step too.
+    pub fn advance(&mut self) -> Progress<Result<(&'a T::Target, Option<T>), T>>
+        requires may_step { MayStep E.IsAlwaysCallable H.IsAlwaysCallable T.target E.Fn self.old }
+        ensures moved { IfMoved result
+            (Advances self.old.state self.new.state × (self.new.state.phase ≢ Done)) }
+        ensures blocked { IfBlocked result (MayBlock self.old.state.phase) }
+        ensures unchanged { IfBlocked result (self.new ≡ self.old) }
+        ensures ended { IfEnded result
+            (λ reply. Advances self.old.state self.new.state × (self.new.state.phase ≡ Done)) }
+        ensures tells { IfEnded result (λ reply. told_by reply ≡ reached_by self.new.state.outcome) }
+        ensures answers { IfEnded result (λ reply. Answers T.target
+            (FnReturnsAtPair E.Fn self.old.eq (T.target self.old.given)) self.old.given reply) }
+        ensures names { IfEnded result
+            (λ reply. self.old.met ≢ None → accepted_in reply ≡ self.old.met) }
+        ensures met { IfMoved result (self.old.met ≢ None → self.new.met ≡ self.old.met) }
+        ensures existing { IfMoved result
+            (reached_by self.new.state.outcome ≡ Other → self.new.met ≢ None) }
+        ensures same { (self.new.given ≡ self.old.given) × (self.new.eq ≡ self.old.eq)
+            × (self.new.hash_fn ≡ self.old.hash_fn) }
+        ensures may_step { MayStep E.IsAlwaysCallable H.IsAlwaysCallable T.target E.Fn self.new }
+    {
+        match self.call.try_turn() {
+            None => Progress::Blocked,
+            Some(_) => {
+                if self.call.state.phase == Phase::Done {
+                    Progress::Done(self.call.finish())
+                } else {
+                    Progress::Moved
+                }
+            }
+        }
+    }
+}
+
+impl<
+    T: AtomicValue,
+    A: Low + Copy,
+    E: Fn(&T::Target, &T::Target) -> bool,
+    H: Fn(&T::Target) -> u64,
+> Drop for InsertCall<'_, T, A, E, H> {
+    /// A value that is placed and not counted yet is counted; what is built is given up; the lock is released.
+    fn drop(self) {
+        let InsertCall { call } = self;
+        if let (Phase::Placed, Held::Shared(guard)) = (call.state.phase, &call.held) {
+            let _counted = call.table.count(guard, call.state);
+        }
+    }
+}
+
+/// A look-up that goes one step at a time.
+#[derive(Drop)]
+pub struct LookupCall<'a, T: AtomicValue, A: Allocator + Copy, F> {
+    call: Looking<'a, T, A, F>,
+}
+
+impl<'a, T: AtomicValue, A: Allocator + Copy, F> Model for LookupCall<'a, T, A, F> {
+    ghost use Rattle.table_shared.specs.Stepped.{LookupView};
+
+    ghost Value = { LookupView F };
+
+    ghost view = { λ c. record { state = c.call.state; test = c.call.test } };
+}
+
+impl<'a, T: AtomicValue, A: Allocator + Copy, F: Fn(&T::Target) -> bool> LookupCall<'a, T, A, F> {
+    /// A look-up that has taken no step. It takes no memory.
+    pub fn new(table: &'a LockFreeRawTable<T, A>, hash: u64, test: F) -> LookupCall<'a, T, A, F>
+        ensures starts { result.state ≡ lookup_start hash }
+        ensures given { result.test ≡ test }
+    {
+        LookupCall {
+            call: Looking::new(table, hash, test),
+        }
+    }
+
+    /// Where it stands.
+    pub fn state(&self) -> CallState
+        ensures { result ≡ self.now.state }
+    {
+        self.call.state
+    }
+
+    /// One step. It takes no lock and no memory.
+    pub fn advance(&mut self) -> Progress<Option<&'a T::Target>>
+        requires callable { F.IsAlwaysCallable self.old.test }
+        ensures moved { IfMoved result
+            (Advances self.old.state self.new.state × (self.new.state.phase ≢ Done)) }
+        ensures blocked { IfBlocked result (self.old.state.phase ≡ Done) }
+        ensures unchanged { IfBlocked result (self.new ≡ self.old) }
+        ensures ended { IfEnded result
+            (λ reply. Advances self.old.state self.new.state × (self.new.state.phase ≡ Done)) }
+        ensures tells { IfEnded result
+            (λ reply. found_by reply ≡ reached_by self.new.state.outcome) }
+        ensures accepted { IfEnded result (λ reply. IfSome reply
+            (λ found. FnReturnsAt F.Fn self.old.test found.now true)) }
+        ensures same { self.new.test ≡ self.old.test }
+    {
+        if self.call.state.phase == Phase::Done {
+            return Progress::Blocked;
+        }
+        let (_, found) = self.call.turn();
+        if self.call.state.phase == Phase::Done {
+            Progress::Done(found)
+        } else {
+            Progress::Moved
+        }
+    }
+}

@@ -1,0 +1,170 @@
+//! The table that threads share.
+ghost use Rattle.std.specs.Prelude.{◌≡◌, ◌<◌, ◌↔◌, IfSome, IsTrue, [], ◌∷◌, length};
+ghost use Rattle.table_terms.specs.Capacities.{IsFirstCapacity};
+ghost use Rattle.table_shared.specs.Lineages.{AreOfHome, shown_in};
+
+use crate::lineage::Lineage;
+use crate::shown::ShownCount;
+use crate::size::Size;
+use std::alloc::{Allocator, Global};
+use std::marker::Model;
+use std::sync::RwLock;
+use table_cell::Home;
+use table_generations::atomic_value::AtomicValue;
+use table_generations::fixed::Generation;
+use table_terms::capacity::FIRST_CAPACITY;
+use table_values::IntoIter;
+
+/// An insertion-only set that threads share. A look-up takes no lock.
+///
+/// Its entries are counted by one number for the whole table: growth copies every entry while nothing is added, so the
+/// generation that is current has as many.
+pub struct LockFreeRawTable<T: AtomicValue, A: Allocator + Copy = Global> {
+    pub(crate) first_capacity: usize,
+    pub(crate) home: Home,
+    pub(crate) lineage: Lineage<T, A>,
+    pub(crate) shown: ShownCount,
+    pub(crate) size: Size,
+    /// Held shared while a value is placed and counted, and alone while a generation is made.
+    pub(crate) lock: RwLock<()>,
+    pub(crate) alloc: A,
+}
+
+impl<T: AtomicValue, A: Allocator + Copy> Model for LockFreeRawTable<T, A> {
+    ghost use Rattle.std.specs.Prelude.{◌≡◌};
+    ghost use Rattle.table_terms.specs.Capacities.{IsFirstCapacity};
+    ghost use Rattle.table_shared.specs.Tables.{SharedTable, table_of};
+
+    ghost Value = { SharedTable T };
+
+    ghost view = { λ t. table_of t.first_capacity t.lineage };
+
+    ghost invariant = { λ t. IsFirstCapacity t.first_capacity × (t.lineage.home ≡ t.home.id) };
+}
+
+/// A generation that was the current one, and its number: the first is 0.
+#[derive(Clone, Copy)]
+pub struct Current<'a, T: AtomicValue, A: Allocator + Copy> {
+    pub number: u64,
+    pub generation: &'a Generation<T, A>,
+}
+
+impl<T: AtomicValue, A: Allocator + Copy> LockFreeRawTable<T, A> {
+    /// The empty table, whose first generation will have 16 buckets. It takes no memory.
+    pub fn new(alloc: A) -> Self
+        ensures first { result.first_capacity ≡ 16 }
+        ensures empty { result.shared ≡ [] ∷ [] }
+    {
+        LockFreeRawTable::with_first_capacity(alloc, FIRST_CAPACITY)
+    }
+
+    /// The empty table, whose first generation will have `first_capacity` buckets. It takes no memory.
+    pub fn with_first_capacity(alloc: A, first_capacity: usize) -> Self
+        requires { IsFirstCapacity first_capacity }
+        ensures first { result.first_capacity ≡ first_capacity }
+        ensures empty { result.shared ≡ [] ∷ [] }
+    {
+        let home = Home::new();
+        let base = Generation::none(alloc, &home);
+        LockFreeRawTable::of_parts(first_capacity, home, Vec::new(alloc), base, alloc)
+    }
+
+    /// The empty table with this one's allocator and first capacity. It takes no memory.
+    pub fn new_like(&self) -> Self
+        ensures first { result.first_capacity ≡ self.now.first_capacity }
+        ensures empty { result.shared ≡ [] ∷ [] }
+    {
+        LockFreeRawTable::with_first_capacity(self.alloc, self.first_capacity)
+    }
+
+    /// The table of these generations, of which the last is the current one. It takes no memory.
+    pub fn of_parts(
+        first_capacity: usize,
+        home: Home,
+        earlier: Vec<Generation<T, A>, A>,
+        base: Generation<T, A>,
+        alloc: A,
+    ) -> Self
+        requires first { IsFirstCapacity first_capacity }
+        requires home { AreOfHome home.id earlier.items base }
+        ensures first { result.first_capacity ≡ first_capacity }
+        ensures home { result.home ≡ home.id }
+        ensures shared { result.shared ≡ shown_in earlier.items base }
+    {
+        let size = base.size();
+        let lineage = Lineage::new(alloc, &home, earlier, base);
+        let shown = lineage.held();
+        LockFreeRawTable {
+            first_capacity,
+            home,
+            lineage,
+            shown: ShownCount::new(shown),
+            size: Size::new(size),
+            lock: RwLock::new(()),
+            alloc,
+        }
+    }
+
+    /// The number of entries that are counted by now. It takes no lock.
+    pub fn len(&self) -> usize {
+        self.size.get()
+    }
+
+    /// Whether no entry is counted. It takes no lock.
+    pub fn is_empty(&self) -> bool {
+        self.len() == 0
+    }
+
+    /// What the table's blocks live in: with it a bucket of the table is read.
+    pub fn home(&self) -> &Home
+        ensures { result.now.id ≡ self.now.home }
+    {
+        &self.home
+    }
+
+    /// The generation that is current now, if there is one. It takes no lock and no memory.
+    pub fn current(&self) -> Option<Current<'_, T, A>>
+        ensures home { IfSome result (λ c. c.generation.now.home ≡ self.now.home) }
+        ensures room { IfSome result (λ c. 0 < length c.generation.now.contents) }
+    {
+        let number = self.shown.get().checked_sub(1)?;
+        let generation = self.lineage.generation(&self.home, number)?;
+        Some(Current {
+            number: number as u64,
+            generation,
+        })
+    }
+
+    /// Whether at least half of the buckets of this generation are counted as set.
+    pub(crate) fn wants_growth(&self, current: &Generation<T, A>) -> bool {
+        current.capacity() / 2 <= self.size.get()
+    }
+}
+
+impl<T: AtomicValue, A: Allocator + Copy> IntoIterator for LockFreeRawTable<T, A> {
+    type Item = T;
+
+    type IntoIter = IntoIter<T, A>;
+
+    /// Takes the table apart, and hands out each value that it holds. It takes no memory.
+    fn into_iter(self) -> IntoIter<T, A> {
+        let LockFreeRawTable {
+            first_capacity: _,
+            home,
+            lineage,
+            shown: _,
+            size: _,
+            lock: _,
+            alloc: _,
+        } = self;
+        let closed = home.close();
+        lineage.into_values(&closed)
+    }
+}
+
+impl<T: AtomicValue, A: Allocator + Copy> Drop for LockFreeRawTable<T, A> {
+    /// Drops each entry once, and frees its block.
+    fn drop(self) {
+        drop(self.into_iter());
+    }
+}

@@ -1,0 +1,172 @@
+//! The set that threads share.
+ghost use Rattle.std.specs.Prelude.{◌≡◌, ◌^◌, ◌<◌, [], ◌∷◌, true, IfSome};
+ghost use Rattle.table_terms.specs.Capacities.{IsFirstCapacity};
+ghost use Rattle.table_shared_sets.specs.Inserts.{ShowsSame};
+
+use lock_free_hashtable::raw::{IntoIter, Iter, LockFreeRawTable, Low};
+use std::alloc::{Allocator, Global};
+use std::marker::{Model, PhantomData};
+use std::sync::Wait;
+use table_sets::{AtomicValue, KeyLaw, SetLaw, Shown};
+
+/// Values that are compared and hashed by the law `L`. Threads share them.
+pub struct SharedSet<T: AtomicValue, L: SetLaw<T::Target>, A: Allocator + Copy = Global> {
+    table: LockFreeRawTable<T, A>,
+    law: PhantomData<L>,
+}
+
+impl<T: AtomicValue, L: SetLaw<T::Target>, A: Allocator + Copy> Model for SharedSet<T, L, A> {
+    ghost use Rattle.table_shared.specs.Tables.{SharedTable};
+
+    ghost Value = { SharedTable T };
+
+    ghost view = { λ s. s.table };
+}
+
+impl<T: AtomicValue, L: SetLaw<T::Target>, A: Allocator + Copy> SharedSet<T, L, A> {
+    /// The empty set. It takes no memory.
+    pub fn new(alloc: A) -> Self
+        ensures first { result.first_capacity ≡ 16 }
+        ensures empty { result.shared ≡ [] ∷ [] }
+    {
+        SharedSet::of_table(LockFreeRawTable::new(alloc))
+    }
+
+    /// The empty set, whose first generation will have `first_capacity` buckets: see `is_first_capacity`. It takes no memory.
+    pub fn with_first_capacity(alloc: A, first_capacity: usize) -> Self
+        requires { IsFirstCapacity first_capacity }
+        ensures first { result.first_capacity ≡ first_capacity }
+        ensures empty { result.shared ≡ [] ∷ [] }
+    {
+        SharedSet::of_table(LockFreeRawTable::with_first_capacity(alloc, first_capacity))
+    }
+
+    /// The set of the entries of this table, which have to lie in it by the hashes of the law.
+    pub(crate) fn of_table(table: LockFreeRawTable<T, A>) -> Self
+        ensures { result ≡ table }
+    {
+        SharedSet {
+            table,
+            law: PhantomData,
+        }
+    }
+
+    /// The target of an entry that is the same as this one, or None. Anyone may call it at any time: it takes no lock and no
+    /// memory, and returns.
+    pub fn get(&self, target: &T::Target) -> Option<&T::Target>
+        ensures { IfSome result (λ found. L.same target.now found.now ≡ true) }
+    {
+        self.get_by_hash(L::hash(target), target)
+    }
+
+    /// The same, where the hash of the target is at hand.
+    fn get_by_hash(&self, hash: u64, target: &T::Target) -> Option<&T::Target>
+        requires { hash ≡ L.hash_of target.now }
+        ensures { IfSome result (λ found. L.same target.now found.now ≡ true) }
+    {
+        self.table
+            .lookup(hash, |entry: &T::Target| L::is_same(target, entry))
+    }
+
+    /// The target of an entry that meets the key, or None. Anyone may call it at any time: it takes no lock and no memory,
+    /// and returns.
+    pub fn get_by_key<K>(&self, key: &K) -> Option<&T::Target>
+    where
+        L: KeyLaw<K, T::Target>,
+        ensures { IfSome result (λ found. L.meets key.now found.now ≡ true) }
+    {
+        self.table.lookup(L::hash_key(key), |entry: &T::Target| L::is_met(key, entry))
+    }
+
+    /// Whether an entry is the same as this target. Anyone may call it at any time: it takes no lock and no memory, and
+    /// returns.
+    pub fn contains(&self, target: &T::Target) -> bool {
+        self.get(target).is_some()
+    }
+
+    /// The number of entries that are counted by now. It takes no lock.
+    pub fn len(&self) -> usize {
+        self.table.len()
+    }
+
+    /// Whether no entry is counted. It takes no lock.
+    pub fn is_empty(&self) -> bool {
+        self.table.is_empty()
+    }
+
+    /// A walk over the targets of the entries. It takes no lock and no memory.
+    pub fn iter(&self) -> Iter<'_, T, A>
+        ensures fits { result.left < 2 ^ 64 }
+    {
+        self.table.iter()
+    }
+
+    /// The raw table of the set. It takes no memory.
+    pub fn into_table(self) -> LockFreeRawTable<T, A>
+        ensures { result ≡ self }
+    {
+        let SharedSet { table, law: _ } = self;
+        table
+    }
+}
+
+impl<T: AtomicValue, L: SetLaw<T::Target>, A: Low + Copy> SharedSet<T, L, A> {
+    /// Inserts the value, unless an entry is the same, and shows the target of the entry. It looks up first: a value that is
+    /// found takes no lock and no memory.
+    ///
+    /// Anyone may call it at any time; a value that isn't found may wait for the lock of the set. A growth that is refused
+    /// after the value was placed or found changes no answer.
+    pub fn insert<R: Wait>(&self, rt: &R, value: T) -> Shown<&T::Target, T>
+        ensures { ShowsSame T.target L.same value result }
+    {
+        let hash = L::hash(value.deref());
+        if let Some(entry) = self.get_by_hash(hash, value.deref()) {
+            return Shown::Found(entry, value);
+        }
+        self.insert_by_hash(rt, hash, value)
+    }
+
+    /// An insert of a value that was looked for.
+    fn insert_by_hash<R: Wait>(&self, rt: &R, hash: u64, value: T) -> Shown<&T::Target, T>
+        requires { hash ≡ L.hash_of (T.target value) }
+        ensures { ShowsSame T.target L.same value result }
+    {
+        let eq = |new: &T::Target, entry: &T::Target| L::is_same(new, entry);
+        let hash_fn = |entry: &T::Target| L::hash(entry);
+        match self.table.insert(rt, hash, value, eq, hash_fn) {
+            Ok((entry, None)) => Shown::Placed(entry),
+            Ok((entry, Some(value))) => Shown::Found(entry, value),
+            Err(value) => Shown::Refused(value),
+        }
+    }
+}
+
+impl<T: AtomicValue, L: SetLaw<T::Target>, A: Allocator + Copy> IntoIterator
+    for SharedSet<T, L, A> {
+    type Item = T;
+
+    type IntoIter = IntoIter<T, A>;
+
+    /// Takes the set apart, and hands out each value that it holds. It takes no memory.
+    fn into_iter(self) -> IntoIter<T, A> {
+        self.into_table().into_iter()
+    }
+}
+
+impl<'a, V: 'a, T: AtomicValue<Target = V>, L: SetLaw<V>, A: Allocator + Copy> IntoIterator
+    for &'a SharedSet<T, L, A> {
+    type Item = &'a V;
+
+    type IntoIter = Iter<'a, T, A>;
+
+    fn into_iter(self) -> Iter<'a, T, A> {
+        self.iter()
+    }
+}
+
+impl<T: AtomicValue, L: SetLaw<T::Target>, A: Allocator + Copy> Drop for SharedSet<T, L, A> {
+    /// Drops each value once, and frees its block.
+    fn drop(self) {
+        drop(self.into_table());
+    }
+}

@@ -1,0 +1,91 @@
+//! Laws that tables are used under.
+ghost use Rattle.std.specs.Prelude.{◌≡◌, ℕ, Bool};
+ghost use Rattle.table_terms.specs.Laws.{IsLaw, number_hash};
+
+use std::num::{NonZeroU32, NonZeroU64};
+
+/// What a caller means by equal targets, `same`, and by the hash of a target, `hash_of`. It is named in contracts alone.
+///
+/// Who implements it promises that `same` is an equivalence, and that same targets have the same hash, each below 2^64.
+pub trait Law<V> {
+    ghost same: { V → V → Bool };
+
+    ghost hash_of: { V → ℕ };
+
+    ghost lawful: { IsLaw same hash_of };
+}
+
+/// The hash of a number under `NumberLaw`: a multiple by an odd number, modulo 2^64.
+pub fn hash_number(number: u64) -> u64
+    ensures { result ≡ number_hash number }
+{
+    number.wrapping_mul(0x9E37_79B9_7F4A_7C15)
+}
+
+/// A number is the same as itself alone, and its hash is that of `hash_number`.
+pub struct NumberLaw;
+
+impl Law<u16> for NumberLaw {
+    ghost use Rattle.table_terms.specs.Laws.{same_by_number, hash_by_number, number_lawful};
+
+    ghost same = { same_by_number (λ n. n) };
+
+    ghost hash_of = { hash_by_number (λ n. n) };
+
+    ghost lawful = { number_lawful (λ n. n) };
+}
+
+impl Law<u32> for NumberLaw {
+    ghost use Rattle.table_terms.specs.Laws.{same_by_number, hash_by_number, number_lawful};
+
+    ghost same = { same_by_number (λ n. n) };
+
+    ghost hash_of = { hash_by_number (λ n. n) };
+
+    ghost lawful = { number_lawful (λ n. n) };
+}
+
+impl Law<u64> for NumberLaw {
+    ghost use Rattle.table_terms.specs.Laws.{same_by_number, hash_by_number, number_lawful};
+
+    ghost same = { same_by_number (λ n. n) };
+
+    ghost hash_of = { hash_by_number (λ n. n) };
+
+    ghost lawful = { number_lawful (λ n. n) };
+}
+
+impl Law<NonZeroU32> for NumberLaw {
+    ghost use Rattle.std.specs.Int.NonZero.{non_zero_u32_get};
+    ghost use Rattle.table_terms.specs.Laws.{same_by_number, hash_by_number, number_lawful};
+
+    ghost same = { same_by_number non_zero_u32_get };
+
+    ghost hash_of = { hash_by_number non_zero_u32_get };
+
+    ghost lawful = { number_lawful non_zero_u32_get };
+}
+
+impl Law<NonZeroU64> for NumberLaw {
+    ghost use Rattle.std.specs.Int.NonZero.{non_zero_u64_get};
+    ghost use Rattle.table_terms.specs.Laws.{same_by_number, hash_by_number, number_lawful};
+
+    ghost same = { same_by_number non_zero_u64_get };
+
+    ghost hash_of = { hash_by_number non_zero_u64_get };
+
+    ghost lawful = { number_lawful non_zero_u64_get };
+}
+
+/// Two pairs are the same if both parts are, and the hash of a pair is its first part.
+pub struct PairLaw;
+
+impl Law<(u64, u64)> for PairLaw {
+    ghost use Rattle.table_terms.specs.Laws.{same_pair, pair_hash, pair_lawful};
+
+    ghost same = { same_pair };
+
+    ghost hash_of = { pair_hash };
+
+    ghost lawful = { pair_lawful };
+}

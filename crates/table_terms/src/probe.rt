@@ -1,0 +1,47 @@
+//! Which buckets a probe looks at, and the bits of a hash that stand in a bucket.
+ghost use Rattle.std.specs.Prelude.{◌≡◌, ◌+◌, ◌<◌, ◌%◌, ℕ};
+ghost use Rattle.std.specs.Int.{IsPowerOfTwo};
+ghost use Rattle.table_terms.specs.Hashes.{bits_of};
+ghost use Rattle.table_terms.specs.Probes.{bucket_at};
+
+/// The eight bits of a hash that a bucket carries: bits 32 to 39.
+#[inline(always)]
+pub fn bits_of_hash(hash: u64) -> u8
+    ensures { result ≡ bits_of hash }
+{
+    (hash >> 32 & 0xff) as u8
+}
+
+/// The remainder of a hash by a count of buckets. Where the count is a power of two, as in every table, nothing is divided.
+#[inline(always)]
+pub fn remainder(hash: u64, count: u64) -> u64
+    requires { 0 < count }
+    ensures { result ≡ hash % count }
+{
+    if count.is_power_of_two() {
+        hash & (count - 1)
+    } else {
+        hash % count
+    }
+}
+
+/// The first bucket of a probe for this hash, of `capacity` many.
+#[inline(always)]
+pub fn first_bucket(hash: u64, capacity: usize) -> usize
+    requires { IsPowerOfTwo capacity }
+    ensures within { result < capacity }
+    ensures first { result ≡ bucket_at capacity hash 0 }
+{
+    hash as usize & (capacity - 1)
+}
+
+/// The bucket that a probe looks at after this one.
+#[inline(always)]
+pub fn next_bucket(bucket: usize, capacity: usize) -> usize
+    requires within { bucket < capacity }
+    requires power { IsPowerOfTwo capacity }
+    ensures within { result < capacity }
+    ensures next { (hash k : ℕ) → bucket ≡ bucket_at capacity hash k → result ≡ bucket_at capacity hash (k + 1) }
+{
+    (bucket + 1) & (capacity - 1)
+}

@@ -1,0 +1,202 @@
+//! Lists of calls on every kind of table, compared reply by reply.
+use super::makers::{eight_shards, four_shards, one_shard, sixteen_shards, two_shards};
+use lock_free_hashtable::alone::{AloneTable, Call, Reply, run_calls};
+use lock_free_hashtable::raw::HeldRawTable;
+use rand_core::{Rng, SeedableRng};
+use rand_xoshiro::SplitMix64;
+use std::alloc::{AllocError, Allocator, Global};
+use std::process::Abort;
+use std::test::Fail;
+use table_terms::law::{NumberLaw, hash_number};
+use testkit_plain_list::PlainList;
+
+/// A call with numbers.
+#[derive(Clone, Copy)]
+pub enum Step {
+    Insert(u64),
+    Lookup(u64),
+    Len,
+}
+
+/// What a call is told: numbers in place of boxes.
+#[derive(Clone, Copy, Debug, PartialEq, Eq)]
+pub enum Told {
+    Placed(u64),
+    Found(u64, u64),
+    Refused(u64),
+    Some(u64),
+    None,
+    Len(usize),
+}
+
+/// The calls of these steps, each with the hash of its number.
+pub fn calls<A: Allocator + Copy>(
+    alloc: A,
+    boxes: Global,
+    steps: &[Step],
+) -> Result<Vec<Call<Box<u64>, u64>, A>, AllocError> {
+    let mut calls = Vec::with_capacity(alloc, steps.len())?;
+    for step in steps {
+        let call = match *step {
+            Step::Insert(number) => Call::Insert {
+                hash: hash_number(number),
+                value: Box::new(boxes, number)?,
+            },
+            Step::Lookup(number) => Call::Lookup {
+                hash: hash_number(number),
+                key: number,
+            },
+            Step::Len => Call::Len,
+        };
+        calls.push(call)?;
+    }
+    Ok(calls)
+}
+
+fn told_by(reply: &Reply<Box<u64>>) -> Told {
+    match reply {
+        Reply::Placed(shown) => Told::Placed(*shown),
+        Reply::Found(shown, back) => Told::Found(*shown, **back),
+        Reply::Refused(back) => Told::Refused(**back),
+        Reply::Some(shown) => Told::Some(*shown),
+        Reply::None => Told::None,
+        Reply::Len(count) => Told::Len(*count),
+    }
+}
+
+/// What these replies tell.
+pub fn told_by_all(alloc: Global, replies: &[Reply<Box<u64>>]) -> Result<Vec<Told>, AllocError> {
+    let mut told = Vec::with_capacity(alloc, replies.len())?;
+    for reply in replies {
+        told.push(told_by(reply))?;
+    }
+    Ok(told)
+}
+
+/// Makes the calls, under the law of numbers.
+pub fn run_numbers<B: AloneTable<Box<u64>, NumberLaw>, A: Allocator + Copy>(
+    alloc: A,
+    table: &mut B,
+    calls: Vec<Call<Box<u64>, u64>, A>,
+) -> Result<Vec<Reply<Box<u64>>, A>, Vec<Call<Box<u64>, u64>, A>> {
+    run_calls::<Box<u64>, NumberLaw, u64, B, _, _, _, A>(
+        alloc,
+        table,
+        calls,
+        |new: &u64, entry: &u64| *new == *entry,
+        |entry: &u64| hash_number(*entry),
+        |key: &u64, entry: &u64| *key == *entry,
+    )
+}
+
+/// What the steps are told by this table.
+fn run<B: AloneTable<Box<u64>, NumberLaw>>(
+    alloc: Global,
+    table: &mut B,
+    steps: &[Step],
+) -> Result<Vec<Told>, AllocError> {
+    match run_numbers(alloc, table, calls(alloc, alloc, steps)?) {
+        Ok(replies) => told_by_all(alloc, replies.as_slice()),
+        Err(_) => Err(AllocError),
+    }
+}
+
+/// This table tells the steps this.
+fn assert_run<B: AloneTable<Box<u64>, NumberLaw>>(
+    rt: &impl Abort,
+    alloc: Global,
+    table: &mut B,
+    steps: &[Step],
+    expected: &[Told],
+) -> Result<(), AllocError> {
+    assert_eq!(rt; run(alloc, table, steps)?.as_slice(), expected);
+    Ok(())
+}
+
+/// New tables of every kind tell the steps this: the plain list, the raw table, and those over shards.
+fn assert_told(
+    rt: &impl Abort,
+    alloc: Global,
+    steps: &[Step],
+    expected: &[Told],
+) -> Result<(), AllocError> {
+    assert_run(rt, alloc, &mut PlainList::new(alloc), steps, expected)?;
+    assert_run(rt, alloc, &mut HeldRawTable::new(alloc), steps, expected)?;
+    assert_run(rt, alloc, &mut one_shard(alloc), steps, expected)?;
+    assert_run(rt, alloc, &mut two_shards(alloc), steps, expected)?;
+    assert_run(rt, alloc, &mut four_shards(alloc), steps, expected)?;
+    assert_run(rt, alloc, &mut eight_shards(alloc), steps, expected)?;
+    assert_run(rt, alloc, &mut sixteen_shards(alloc), steps, expected)
+}
+
+const STEPS: [Step; 7] = [
+    Step::Insert(1),
+    Step::Insert(1),
+    Step::Lookup(1),
+    Step::Len,
+    Step::Insert(2),
+    Step::Lookup(3),
+    Step::Len,
+];
+
+const TOLD: [Told; 7] = [
+    Told::Placed(1),
+    Told::Found(1, 1),
+    Told::Some(1),
+    Told::Len(1),
+    Told::Placed(2),
+    Told::None,
+    Told::Len(2),
+];
+
+#[test]
+fn calls_are_told_what_a_list_tells(rt: HostRuntime) -> Result<(), Fail> {
+    assert_told(&rt, rt.alloc(), STEPS.as_slice(), TOLD.as_slice())?;
+    Ok(())
+}
+
+/// What a list of numbers tells of the step, and the list after.
+pub fn list_tells(list: &mut Vec<u64>, step: Step) -> Result<Told, AllocError> {
+    match step {
+        Step::Insert(number) => {
+            if list.contains(&number) {
+                return Ok(Told::Found(number, number));
+            }
+            list.push(number)?;
+            Ok(Told::Placed(number))
+        }
+        Step::Lookup(number) => {
+            if list.contains(&number) {
+                Ok(Told::Some(number))
+            } else {
+                Ok(Told::None)
+            }
+        }
+        Step::Len => Ok(Told::Len(list.len())),
+    }
+}
+
+/// A step on one of 300 numbers.
+fn draw(numbers: &mut SplitMix64) -> Step {
+    let number = numbers.next_u64().checked_rem(300).unwrap_or(0);
+    match numbers.next_u64().checked_rem(4).unwrap_or(0) {
+        0 => Step::Lookup(number),
+        1 => Step::Len,
+        _ => Step::Insert(number),
+    }
+}
+
+#[test]
+fn generated_calls_are_told_what_a_list_tells(rt: HostRuntime) -> Result<(), Fail> {
+    let mut numbers = SplitMix64::seed_from_u64(7);
+    let mut list = Vec::new(rt.alloc());
+    let mut steps = Vec::new(rt.alloc());
+    let mut expected = Vec::new(rt.alloc());
+    for _ in 0..1000 {
+        let step = draw(&mut numbers);
+        steps.push(step)?;
+        expected.push(list_tells(&mut list, step)?)?;
+    }
+    assert_told(&rt, rt.alloc(), steps.as_slice(), expected.as_slice())?;
+    Ok(())
+}

@@ -1,0 +1,58 @@
+//! The long schedule runs.
+
+use std::alloc::Global;
+use std::process::Abort;
+use std::test::Fail;
+use table_core::event::Event;
+use table_core::reply::{Finished, Reply};
+use table_core::state::{State, run};
+use testkit_schedules::load::{Hashes, INSERTS, LOOKUPS, load_events};
+
+/// Each insert of a load places its number and each look-up finds it, in turn; then there are so many buckets.
+fn check_load(rt: &impl Abort, alloc: Global, hashes: Hashes) -> Result<(), Fail> {
+    let events = load_events(alloc, hashes)?;
+    // 8 an insert, 7 for the first generation, 4 for each of 14 more, which copy 8 + 16 + .. + 65,536, and 3 a look-up
+    assert_eq!(rt; events.len(), 1_006_127);
+    let replies = run(alloc, events.as_slice())?;
+    assert_eq!(rt; replies.len() as u64, INSERTS + LOOKUPS);
+    for (turn, finished) in replies.iter().enumerate() {
+        check_reply(rt, turn as u64, finished);
+    }
+    // 16 + 32 + .. + 262,144
+    assert_eq!(rt; buckets_after(alloc, events.as_slice())?, 524_272);
+    Ok(())
+}
+
+/// The call of a turn is told what becomes of its number.
+fn check_reply(rt: &impl Abort, turn: u64, finished: &Finished) {
+    assert_eq!(rt; finished.call, turn);
+    assert_eq!(rt; turn_of(&finished.reply), Some(turn));
+}
+
+/// The turn of the call that is told this.
+fn turn_of(reply: &Reply) -> Option<u64> {
+    match reply {
+        Reply::Placed(value) => Some(*value),
+        Reply::Some(value) => value.checked_add(LOOKUPS),
+        _ => None,
+    }
+}
+
+/// How many buckets all generations have after these events.
+fn buckets_after(alloc: Global, events: &[Event]) -> Result<u64, Fail> {
+    let mut state = State::new(alloc);
+    for event in events {
+        state.step(*event)?;
+    }
+    Ok(state.buckets())
+}
+
+#[test]
+fn many_calls_run_in_turn(rt: HostRuntime) -> Result<(), Fail> {
+    check_load(&rt, rt.alloc(), Hashes::Own)
+}
+
+#[test]
+fn many_copies_of_one_hash(rt: HostRuntime) -> Result<(), Fail> {
+    check_load(&rt, rt.alloc(), Hashes::OneForCopies)
+}

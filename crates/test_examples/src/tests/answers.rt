@@ -1,0 +1,49 @@
+//! What a memo answers, whatever it was asked before.
+use super::{ask, slow_fibonacci};
+use std::process::Abort;
+use tool_memo_table::memo::Memo;
+
+/// Every argument below is asked.
+const ARGUMENTS: u64 = 400;
+
+/// Great arguments and their answers, by powers of a matrix.
+const GREAT: [(u64, u64); 4] = [
+    (4_294_967_296, 14_555_514_507_530_727_995),
+    (1_000_000_000_000_000_000, 13_142_498_416_641_831_483),
+    (9_223_372_036_854_775_808, 1_601_625_493_303_856_581),
+    (18_446_744_073_709_551_615, 800_812_746_651_928_290),
+];
+
+fn assert_answers(rt: &impl Abort, memo: &mut Memo, argument: u64, answer: u64) {
+    assert_eq!(rt; ask(memo, argument), Some(answer), "at {argument}");
+}
+
+/// The argument that is asked in a turn, from the least on or from the greatest.
+fn argument_in(turn: u64, is_upward: bool) -> u64 {
+    if is_upward {
+        turn
+    } else {
+        ARGUMENTS.saturating_sub(turn)
+    }
+}
+
+/// Asks a memo for the great ones, and for each of the small ones.
+fn assert_all(rt: &impl Abort, memo: &mut Memo, is_upward: bool) {
+    for (argument, answer) in &GREAT {
+        assert_answers(rt, memo, *argument, *answer);
+    }
+    for turn in 0..ARGUMENTS {
+        let argument = argument_in(turn, is_upward);
+        assert_answers(rt, memo, argument, slow_fibonacci(argument));
+    }
+}
+
+#[test]
+fn answers_are_those_of_additions(rt: HostRuntime) {
+    let mut memo = Memo::new(rt.alloc());
+    assert_all(&rt, &mut memo, true);
+    // Again, where all are kept, and in the other order.
+    assert_all(&rt, &mut memo, true);
+    let mut other = Memo::new(rt.alloc());
+    assert_all(&rt, &mut other, false);
+}

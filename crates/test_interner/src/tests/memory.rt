@@ -1,0 +1,105 @@
+//! Memory that is refused.
+use super::{assert_named, intern, text_of};
+use interner::Interner;
+use std::alloc::{Allocator, Global};
+use std::process::Abort;
+use testkit_refusing::{Refusing, Rule};
+
+/// Enough texts for a second generation of the table and more room in the vector.
+const TEXTS: [&str; 9] = [
+    "one", "two", "three", "four", "five", "six", "seven", "eight", "nine",
+];
+
+/// More requests than these texts make.
+const ENOUGH: u64 = 100;
+
+/// The requests of the third text: room in the vector, its text and its name.
+const REQUESTS_OF_THIRD: u32 = 3;
+
+/// The interner knows the first `known` texts and nothing else.
+fn assert_knows<A: Allocator + Copy>(rt: &impl Abort, interner: &Interner<A>, known: u32) {
+    assert_eq!(rt; interner.len_alone(), known as usize);
+    for (place, text) in TEXTS.iter().enumerate() {
+        let number = place as u32 + 1;
+        assert_named(rt, interner, text, if number <= known { number } else { 0 });
+    }
+    assert_eq!(rt; text_of(interner, known.saturating_add(1)), None);
+}
+
+/// Interns all texts, and one that is refused again. Says which one was, counted from 1, or 0 where none was.
+fn intern_all<A: Allocator + Copy>(rt: &impl Abort, alloc: A) -> u32 {
+    let mut interner = Interner::new(alloc);
+    let mut refused = 0;
+    for (place, text) in TEXTS.iter().enumerate() {
+        let number = place as u32 + 1;
+        if intern(rt, &mut interner, text) == 0 {
+            assert_eq!(rt; refused, 0);
+            refused = number;
+            assert_knows(rt, &interner, place as u32);
+        }
+        assert_eq!(rt; intern(rt, &mut interner, text), number);
+    }
+    assert_knows(rt, &interner, TEXTS.len() as u32);
+    refused
+}
+
+/// Interns all texts while the request after so many is refused. Says which text was refused, as `intern_all` does, or
+/// None where no request was.
+fn refused_after(rt: &impl Abort, alloc: Global, granted: u64) -> Option<u32> {
+    let heap = Refusing::new(alloc, Rule::new(0, usize::MAX, granted, 1));
+    let refused = intern_all(rt, &heap);
+    if heap.refusals_left() == 0 {
+        return Some(refused);
+    }
+    assert_eq!(rt; refused, 0);
+    None
+}
+
+#[test]
+fn each_request_is_refused_in_turn(rt: HostRuntime) {
+    let mut third: u32 = 0;
+    let mut requests: u32 = 0;
+    for granted in 0..ENOUGH {
+        let Some(refused) = refused_after(&rt, rt.alloc(), granted) else {
+            break;
+        };
+        requests = requests.saturating_add(1);
+        if refused == 3 {
+            third = third.saturating_add(1);
+        }
+    }
+    assert_eq!(rt; third, REQUESTS_OF_THIRD);
+    assert!(rt; 20 < requests && requests < 50);
+}
+
+/// Interns all texts while every request after so many is refused. Says whether all were interned; then no call on known texts
+/// makes a request.
+fn is_known_with(rt: &impl Abort, alloc: Global, granted: u64) -> bool {
+    let heap = Refusing::new(alloc, Rule::new(0, usize::MAX, granted, u64::MAX));
+    let mut interner = Interner::new(&heap);
+    for text in TEXTS {
+        if intern(rt, &mut interner, text) == 0 {
+            return false;
+        }
+    }
+    let left = heap.refusals_left();
+    for (place, text) in TEXTS.iter().enumerate() {
+        assert_eq!(rt; intern(rt, &mut interner, text), place as u32 + 1);
+    }
+    assert_knows(rt, &interner, TEXTS.len() as u32);
+    assert_knows(rt, &Interner::new(&heap), 0);
+    assert_eq!(rt; heap.refusals_left(), left);
+    true
+}
+
+#[test]
+fn known_texts_need_no_memory(rt: HostRuntime) {
+    let mut is_known = false;
+    for granted in 0..ENOUGH {
+        is_known = is_known_with(&rt, rt.alloc(), granted);
+        if is_known {
+            break;
+        }
+    }
+    assert!(rt; is_known);
+}

@@ -1,0 +1,344 @@
+//! Readers and writers that fail, and replies that are there when the next line is asked for.
+use super::{assert_ended, run_on};
+use std::cell::Cell;
+use std::io;
+use std::io::{ErrorKind, Read, Write};
+use std::process::Abort;
+use std::sync::Wait;
+use std::test::Fail;
+use std::thread::Threads;
+use tool_commands::program::run_words;
+
+/// A reader over memory that gives so many bytes at a call, and fails at a later call.
+#[derive(Drop)]
+struct Failing<'a> {
+    rest: &'a [u8],
+    at_once: usize,
+    calls_left: u64,
+    /// How many calls are interrupted, one before each that gives bytes.
+    interruptions: u64,
+    is_interrupted: bool,
+}
+
+impl<'a> Failing<'a> {
+    /// A reader that gives so many bytes at each of so many calls.
+    fn new(rest: &'a [u8], at_once: usize, calls_left: u64) -> Failing<'a> {
+        Failing {
+            rest,
+            at_once,
+            calls_left,
+            interruptions: 0,
+            is_interrupted: false,
+        }
+    }
+}
+
+impl Read for Failing<'_> {
+    fn read(&mut self, buf: &mut [u8]) -> io::Result<usize> {
+        self.is_interrupted = !self.is_interrupted && self.interruptions > 0;
+        if self.is_interrupted {
+            self.interruptions -= 1;
+            return Err(io::Error::from(ErrorKind::Interrupted));
+        }
+        if self.calls_left == 0 {
+            return Err(io::Error::from(ErrorKind::Other));
+        }
+        self.calls_left -= 1;
+        let count = self.at_once.min(buf.len()).min(self.rest.len());
+        let (now, later) = self.rest.split_at(count);
+        buf[..count].copy_from_slice(now);
+        self.rest = later;
+        Ok(count)
+    }
+}
+
+const INPUT: &str = "i 0 1\ni 0 1\nl 0 1\nn\nw\n";
+
+const REPLIES: [&str; 5] = ["placed\n", "found\n", "some 1\n", "1\n", "[1]\n"];
+
+/// The replies to the lines that end within the first bytes of the input.
+fn replies_to(out: &mut String, bytes: usize) -> Result<(), Fail> {
+    let mut end = 0usize;
+    for (line, reply) in INPUT.split_inclusive('\n').zip(REPLIES.iter()) {
+        end = end.saturating_add(line.len());
+        if end <= bytes {
+            out.push_str(reply)?;
+        }
+    }
+    Ok(())
+}
+
+/// Asserts what is printed where so many reads are given and the next one fails, if it is made.
+fn assert_given<R: Threads + Wait + AllocGlobal + Abort + Sync>(
+    rt: &R,
+    at_once: usize,
+    given: usize,
+    fails: bool,
+) -> Result<(), Fail> {
+    let reader = Failing::new(INPUT.as_bytes(), at_once, given as u64);
+    let ended = run_on(rt, rt.alloc(), &[], reader)?;
+    let mut wanted = String::new(rt.alloc());
+    replies_to(&mut wanted, given.saturating_mul(at_once))?;
+    let at = format!(in rt.alloc(); "{given} reads of {at_once}")?;
+    let (messages, status) = if fails { ("read failed\n", 1) } else { ("", 0) };
+    assert_ended(rt, &ended, at.as_str(), wanted.as_str(), messages, status);
+    Ok(())
+}
+
+#[test]
+fn a_reader_that_fails_at_each_call(rt: HostRuntime) -> Result<(), Fail> {
+    for at_once in [1, 2, 7, 100] {
+        // The last call that is made finds the end.
+        let calls = INPUT.len().div_ceil(at_once) + 1;
+        for given in 0..=calls {
+            assert_given(&rt, at_once, given, given < calls)?;
+        }
+    }
+    Ok(())
+}
+
+/// Asserts that all replies are printed where each read is interrupted first.
+fn assert_interrupted<R: Threads + Wait + AllocGlobal + Abort + Sync>(
+    rt: &R,
+    at_once: usize,
+) -> Result<(), Fail> {
+    let mut wanted = String::new(rt.alloc());
+    replies_to(&mut wanted, INPUT.len())?;
+    let mut reader = Failing::new(INPUT.as_bytes(), at_once, u64::MAX);
+    reader.interruptions = u64::MAX;
+    let ended = run_on(rt, rt.alloc(), &[], reader)?;
+    assert_ended(rt, &ended, "an interrupted read", wanted.as_str(), "", 0);
+    Ok(())
+}
+
+#[test]
+fn an_interrupted_read_is_tried_again(rt: HostRuntime) -> Result<(), Fail> {
+    for at_once in [1, 7, 100] {
+        assert_interrupted(&rt, at_once)?;
+    }
+    Ok(())
+}
+
+/// Asserts how a run ends whose reader fails after so many thousand bytes of one line.
+fn assert_fails_in_a_line<R: Threads + Wait + AllocGlobal + Abort + Sync>(
+    rt: &R,
+    given: u64,
+) -> Result<(), Fail> {
+    let long = vec![in rt.alloc(); b'0'; 100_000]?;
+    let reader = Failing::new(long.as_slice(), 1000, given);
+    let ended = run_on(rt, rt.alloc(), &[], reader)?;
+    assert_ended(rt, &ended, "a long line", "", "read failed\n", 1);
+    Ok(())
+}
+
+#[test]
+fn a_reader_that_fails_in_a_long_line(rt: HostRuntime) -> Result<(), Fail> {
+    for given in [1, 2, 50] {
+        assert_fails_in_a_line(&rt, given)?;
+    }
+    Ok(())
+}
+
+/// A writer over memory that fails from some call on, and notes how many bytes it was given.
+#[derive(Drop)]
+struct Full<'a> {
+    kept: &'a mut Vec<u8>,
+    calls_left: u64,
+    count: &'a Cell<usize>,
+}
+
+impl<'a> Full<'a> {
+    /// A writer that fails after so many calls.
+    fn new(kept: &'a mut Vec<u8>, calls_left: u64, count: &'a Cell<usize>) -> Full<'a> {
+        Full {
+            kept,
+            calls_left,
+            count,
+        }
+    }
+}
+
+impl Write for Full<'_> {
+    fn write(&mut self, buf: &[u8]) -> io::Result<usize> {
+        if self.calls_left == 0 {
+            return Err(io::Error::from(ErrorKind::StorageFull));
+        }
+        self.calls_left -= 1;
+        self.kept.extend_from_slice(buf)?;
+        self.count.set(self.kept.len());
+        Ok(buf.len())
+    }
+
+    fn flush(&mut self) -> io::Result<()> {
+        Ok(())
+    }
+}
+
+/// Runs `calls` with a reader and writers of the caller's, and asserts the message and the status.
+fn assert_run<R: Threads + Wait + AllocGlobal + Abort + Sync, I: Read + Drop>(
+    rt: &R,
+    input: I,
+    writer: &mut Full<'_>,
+    message: &str,
+    status: u8,
+) {
+    let mut messages = Vec::new(rt.alloc());
+    let ended = run_words(rt, rt.alloc(), &["calls"], input, writer, &mut messages);
+    assert_eq!(rt; messages.as_slice(), message.as_bytes());
+    assert_eq!(rt; ended, status);
+}
+
+/// Asserts what is written where so many calls of the writer succeed.
+fn assert_writes<R: Threads + Wait + AllocGlobal + Abort + Sync>(
+    rt: &R,
+    given: usize,
+) -> Result<(), Fail> {
+    // One byte is read at a time, so each reply is written by a call of its own, before the next line is read.
+    let reader = Failing::new(INPUT.as_bytes(), 1, u64::MAX);
+    let mut output = Vec::new(rt.alloc());
+    let count = Cell::new(0);
+    let mut writer = Full::new(&mut output, given as u64, &count);
+    if given < REPLIES.len() {
+        assert_run(rt, reader, &mut writer, "write failed\n", 1);
+    } else {
+        assert_run(rt, reader, &mut writer, "", 0);
+    }
+    let mut wanted = Vec::new(rt.alloc());
+    for reply in REPLIES.iter().take(given) {
+        wanted.extend_from_slice(reply.as_bytes())?;
+    }
+    assert_eq!(rt; output.as_slice(), wanted.as_slice(), "{given} writes");
+    Ok(())
+}
+
+#[test]
+fn a_writer_that_fails_at_each_call(rt: HostRuntime) -> Result<(), Fail> {
+    for given in 0..=REPLIES.len() {
+        assert_writes(&rt, given)?;
+    }
+    Ok(())
+}
+
+#[test]
+fn the_first_failure_wins(rt: HostRuntime) {
+    // The reply before the bad line cannot be written.
+    let mut output = Vec::new(rt.alloc());
+    let count = Cell::new(0);
+    let mut writer = Full::new(&mut output, 0, &count);
+    let input = b"i 0 1\nx\n".as_slice();
+    assert_run(&rt, input, &mut writer, "write failed\n", 1);
+
+    // Nothing is written before a bad first line, so its message stands.
+    let input = b"x\n".as_slice();
+    assert_run(&rt, input, &mut writer, "bad line 1\n", 2);
+}
+
+/// Asserts the status of a run whose message is dropped.
+fn assert_dropped<R: Threads + Wait + AllocGlobal + Abort + Sync>(rt: &R, words: &[&str]) {
+    let mut output = Vec::new(rt.alloc());
+    let mut messages = Vec::new(rt.alloc());
+    let count = Cell::new(0);
+    let mut writer = Full::new(&mut messages, 0, &count);
+    let input = b"n\nx\n".as_slice();
+    let status = run_words(rt, rt.alloc(), words, input, &mut output, &mut writer);
+    assert_eq!(rt; status, 2);
+    assert_eq!(rt; messages.len(), 0);
+}
+
+#[test]
+fn a_message_that_cannot_be_written_is_dropped(rt: HostRuntime) {
+    assert_dropped(&rt, &["calls", "16"]);
+    assert_dropped(&rt, &["calls", "24"]);
+}
+
+/// A reader that gives a line at a call, and notes how many bytes were written by then.
+#[derive(Drop)]
+struct Asking<'a> {
+    lines: &'a [&'static str],
+    asked: usize,
+    written: &'a Cell<usize>,
+    seen: &'a mut Vec<usize>,
+}
+
+impl Read for Asking<'_> {
+    fn read(&mut self, buf: &mut [u8]) -> io::Result<usize> {
+        self.seen.push(self.written.get())?;
+        let Some(line) = self.lines.get(self.asked) else {
+            return Ok(0);
+        };
+        self.asked = self.asked.saturating_add(1);
+        let count = line.len().min(buf.len());
+        buf[..count].copy_from_slice(&line.as_bytes()[..count]);
+        Ok(count)
+    }
+}
+
+/// A writer that takes a byte at a call, and sends what it took when it is flushed.
+#[derive(Drop)]
+struct Keeping<'a> {
+    kept: Vec<u8>,
+    sent: &'a mut Vec<u8>,
+    count: &'a Cell<usize>,
+}
+
+impl Write for Keeping<'_> {
+    fn write(&mut self, buf: &[u8]) -> io::Result<usize> {
+        let Some(byte) = buf.first() else {
+            return Ok(0);
+        };
+        self.kept.push(*byte)?;
+        Ok(1)
+    }
+
+    fn flush(&mut self) -> io::Result<()> {
+        self.sent.extend_from_slice(self.kept.as_slice())?;
+        self.count.set(self.sent.len());
+        self.kept.clear();
+        Ok(())
+    }
+}
+
+/// Runs five lines, and looks each time that the next one is asked for how many bytes the writer has sent.
+fn assert_replies_before_reads<R: Threads + Wait + AllocGlobal + Abort + Sync, W: Write>(
+    rt: &R,
+    written: &Cell<usize>,
+    writer: &mut W,
+) {
+    let lines = ["i 0 1\n", "i 0 1\n", "l 0 1\n", "n\n", "w"];
+    let mut seen = Vec::new(rt.alloc());
+    let mut messages = Vec::new(rt.alloc());
+    let reader = Asking {
+        lines: &lines,
+        asked: 0,
+        written,
+        seen: &mut seen,
+    };
+    let status = run_words(rt, rt.alloc(), &["calls"], reader, writer, &mut messages);
+    assert_eq!(rt; status, 0);
+    // 0 bytes before the first line, then those of one reply more at each call; the last part is no line before the end.
+    assert_eq!(rt; seen.as_slice(), [0, 7, 13, 20, 22, 22].as_slice());
+}
+
+const SENT: &[u8] = b"placed\nfound\nsome 1\n1\n[1]\n";
+
+#[test]
+fn each_reply_is_there_when_the_next_line_is_asked_for(rt: HostRuntime) {
+    let count = Cell::new(0);
+    let mut sent = Vec::new(rt.alloc());
+    assert_replies_before_reads(&rt, &count, &mut Full::new(&mut sent, u64::MAX, &count));
+    assert_eq!(rt; sent.as_slice(), SENT);
+}
+
+#[test]
+fn a_writer_that_keeps_what_it_takes_is_flushed(rt: HostRuntime) {
+    let count = Cell::new(0);
+    let mut sent = Vec::new(rt.alloc());
+    let mut writer = Keeping {
+        kept: Vec::new(rt.alloc()),
+        sent: &mut sent,
+        count: &count,
+    };
+    assert_replies_before_reads(&rt, &count, &mut writer);
+    drop(writer);
+    assert_eq!(rt; sent.as_slice(), SENT);
+}

@@ -1,0 +1,210 @@
+//! Jobs of many threads on a table that they share, and what ends them.
+use super::gates::{ClosedFrom, ClosedTo};
+use super::{assert_ended, assert_prints, run_refusing};
+use lock_free_hashtable::raw::{LockFreeRawTable, Low};
+use std::process::Abort;
+use std::sync::Wait;
+use std::test::Fail;
+use std::thread::Threads;
+use testkit_refusing::{Refusing, Rule};
+use tool_call_texts::endings::Ending;
+use tool_call_texts::faults::Fault;
+use tool_call_texts::job::Job;
+use tool_call_texts::kinds::Kind;
+use tool_commands::gate::{Gate, Gates, MeetingGate, ProgramGates};
+use tool_commands::jobs::{Crew, run_job};
+use tool_commands::seats::WORKER_STACK;
+use tool_commands::stress::run_stress;
+use tool_commands::workers::{Values, Worker, insert_all, make_call};
+use tool_streams::faults::StreamFault;
+
+#[test]
+fn few_threads_run_many_jobs(rt: HostRuntime) -> Result<(), Fail> {
+    let printed = "insert_unique 2000\ninsert_same 10000\ninsert_lookup 2000\n";
+    assert_prints(&rt, &["stress", "2", "10"], "", printed)
+}
+
+#[test]
+fn many_threads_run_a_job(rt: HostRuntime) -> Result<(), Fail> {
+    let printed = "insert_unique 64000\ninsert_same 10000\ninsert_lookup 64000\n";
+    assert_prints(&rt, &["stress", "64", "1"], "", printed)
+}
+
+/// The first job of a kind.
+fn first_job(kind: Kind) -> Job {
+    Job::new(kind, 0)
+}
+
+/// How two workers end that run one after the other in this thread, under this gate: the one of this number first.
+fn run_in_turn<R: Wait + AllocGlobal, G: Gate>(rt: &R, gate: &G, first: usize) -> [Ending; 2] {
+    let table: Values<_> = LockFreeRawTable::new(rt.alloc());
+    let job = first_job(Kind::InsertUnique);
+    let first = Worker::new(job, first % 2);
+    let second = Worker::new(job, 1 - first.number);
+    [
+        insert_all(rt, rt.alloc(), gate, &table, first),
+        insert_all(rt, rt.alloc(), gate, &table, second),
+    ]
+}
+
+#[test]
+fn workers_one_after_the_other_are_stuck(rt: HostRuntime) {
+    for first in [0, 1] {
+        let gate = MeetingGate::new(1000);
+        let endings = run_in_turn(&rt, &gate, first);
+        assert_eq!(rt; endings, [Ending::Stuck, Ending::Stuck], "{first} first");
+    }
+}
+
+/// The gate of the program's own command, and none, tell the same workers apart.
+#[test]
+fn the_programs_gate_refuses_one_thread(rt: HostRuntime) {
+    let open = ClosedFrom(usize::MAX);
+    assert_eq!(rt; run_in_turn(&rt, &open, 0), [Ending::Well, Ending::Well]);
+    let own = ProgramGates.gate();
+    assert_eq!(rt; run_in_turn(&rt, &own, 0), [Ending::Stuck, Ending::Stuck]);
+}
+
+/// Calls of two workers in this thread, and how they end: each worker's first, and then each one's second.
+const IN_TURNS: [[(usize, usize, Ending); 3]; 2] = [
+    [
+        (0, 0, Ending::Stuck),
+        (1, 0, Ending::Well),
+        (1, 1, Ending::Stuck),
+    ],
+    [
+        (1, 0, Ending::Stuck),
+        (0, 0, Ending::Well),
+        (0, 1, Ending::Stuck),
+    ],
+];
+
+#[test]
+fn workers_call_by_call_are_stuck(rt: HostRuntime) {
+    for turns in IN_TURNS {
+        let table: Values<_> = LockFreeRawTable::new(rt.alloc());
+        let gate = MeetingGate::new(1000);
+        for (number, call, expected) in turns {
+            assert!(rt; number < 2 && call < 2);
+            let worker = Worker::new(first_job(Kind::InsertLookup), number);
+            let ending = make_call(&rt, rt.alloc(), &gate, &table, worker, call);
+            assert_eq!(rt; ending, expected, "worker {number}, call {call}");
+        }
+    }
+}
+
+/// Asserts how a run of two workers ends over one job a kind, under such gates, and what it prints before.
+fn assert_run<
+    R: Threads + Wait + AllocGlobal + Abort + Sync,
+    A: Low + Copy + Send + Sync,
+    G: Gates,
+>(rt: &R, alloc: A, stack: usize, gates: &G, ended: Result<(), Fault>, printed: &str) {
+    let mut output = Vec::new(rt.alloc());
+    let crew = Crew::new(2, stack);
+    let told = run_stress(rt, alloc, crew, 1, gates, &mut output);
+    assert_eq!(rt; told, ended);
+    assert_eq!(rt; output.as_slice(), printed.as_bytes());
+}
+
+const UNIQUE: &str = "insert_unique 2000\n";
+
+const ALL: &str = "insert_unique 2000\ninsert_same 10000\ninsert_lookup 2000\n";
+
+#[test]
+fn a_no_of_the_gate_ends_the_run(rt: HostRuntime) {
+    let stuck = Err(Fault::GateStuck);
+    for (call, printed) in [(0, ""), (1, ""), (999, ""), (1000, UNIQUE), (9999, UNIQUE)] {
+        assert_run(
+            &rt,
+            rt.alloc(),
+            WORKER_STACK,
+            &ClosedFrom(call),
+            stuck,
+            printed,
+        );
+    }
+    assert_run(&rt, rt.alloc(), WORKER_STACK, &ClosedTo(1), stuck, "");
+    assert_run(
+        &rt,
+        rt.alloc(),
+        WORKER_STACK,
+        &ClosedFrom(10_000),
+        Ok(()),
+        ALL,
+    );
+}
+
+/// More bytes than a process can have.
+const NO_STACK: usize = 1 << 60;
+
+#[test]
+fn a_thread_that_cannot_be_started_ends_the_run(rt: HostRuntime) {
+    let none = Err(Fault::NoThread);
+    assert_run(&rt, rt.alloc(), NO_STACK, &ProgramGates, none, "");
+    assert_run(&rt, rt.alloc(), NO_STACK, &ClosedFrom(0), none, "");
+}
+
+#[test]
+fn want_of_memory_is_told_before_a_gate_that_is_stuck(rt: HostRuntime) {
+    // The list of threads is granted. Then worker 0 asks for its first value.
+    let heap = Refusing::new(rt.alloc(), Rule::new(0, usize::MAX, 1, u64::MAX));
+    let refused = Err(Fault::Stream(StreamFault::NoMemory));
+    assert_run(&rt, &heap, WORKER_STACK, &ClosedTo(1), refused, "");
+}
+
+#[test]
+fn refused_memory_ends_the_run(rt: HostRuntime) -> Result<(), Fail> {
+    for granted in [0, 1, 2, 3, 4, 5, 6, 7, 8, 9, 10, 11, 12, 100, 1000] {
+        let rule = Rule::new(0, usize::MAX, granted, u64::MAX);
+        let (ended, _) = run_refusing(&rt, rule, &["stress", "2", "1"], b"")?;
+        assert_ended(&rt, &ended, "refused memory", "", "no memory\n", 1);
+    }
+    Ok(())
+}
+
+#[test]
+fn output_may_be_refused(rt: HostRuntime) {
+    let crew = Crew::new(2, WORKER_STACK);
+    for room in [0, 18, 19, 54] {
+        let mut bytes = [0u8; 64];
+        let open = ClosedFrom(usize::MAX);
+        let mut part = &mut bytes[..room];
+        let ended = run_stress(&rt, rt.alloc(), crew, 1, &open, &mut part);
+        assert_eq!(rt;
+            ended,
+            Err(Fault::Stream(StreamFault::WriteFailed)),
+            "at {room}"
+        );
+    }
+}
+
+/// What the jobs of a kind are told of that fail.
+const FAILED: [(Kind, u64, &str); 3] = [
+    (Kind::InsertUnique, 0, "insert_unique failed at job 0"),
+    (Kind::InsertSame, 7, "insert_same failed at job 7"),
+    (Kind::InsertLookup, 999, "insert_lookup failed at job 999"),
+];
+
+#[test]
+fn failed_jobs_are_named(rt: HostRuntime) -> Result<(), Fail> {
+    for (kind, job, text) in FAILED {
+        let message = format!(in rt.alloc(); "{}", Fault::JobFailed { kind, job })?;
+        assert_eq!(rt; message.as_str(), text);
+    }
+    Ok(())
+}
+
+#[test]
+fn each_kind_has_its_entries(rt: HostRuntime) {
+    let crew = Crew::new(3, WORKER_STACK);
+    let gate = ClosedFrom(usize::MAX);
+    for (kind, entries) in [
+        (Kind::InsertUnique, 3000),
+        (Kind::InsertSame, 10_000),
+        (Kind::InsertLookup, 3000),
+    ] {
+        let job = Job::new(kind, 999);
+        let shown = run_job(&rt, rt.alloc(), crew, &gate, job);
+        assert_eq!(rt; shown, Ok(entries));
+    }
+}

@@ -1,0 +1,89 @@
+//! Two calls that cut into each other.
+use std::alloc::Global;
+use std::process::Abort;
+use testkit_replay::course::{Course, run_course};
+use testkit_replay::fault::Fault;
+use testkit_replay::schedules::Ask;
+use testkit_replay::script::Manner;
+
+/// The hashes of the entries, and what two calls ask.
+type Start = (&'static [u64], (Ask, Ask));
+
+const STARTS: [Start; 5] = [
+    // Equal values, one of which is first at the bucket.
+    (&[1], (INSERT_OF_0, INSERT_OF_0)),
+    // Other values of one hash: one goes on to another bucket.
+    (&[1], (INSERT_OF_0, OTHER_OF_0)),
+    // No generation: one makes it.
+    (&[], (INSERT_OF_0, INSERT_OF_0)),
+    // Both want growth, or one is told of it by the other.
+    (&SEVEN, (INSERT_OF_7, INSERT_OF_8)),
+    // A look-up beside the insert of its value, and beside growth.
+    (&SEVEN, (INSERT_OF_7, LOOKUP_OF_7)),
+];
+
+const SEVEN: [u64; 7] = [0, 1, 2, 3, 4, 5, 6];
+
+const INSERT_OF_0: Ask = Ask::Insert {
+    class: 100,
+    hash: 0,
+};
+
+const OTHER_OF_0: Ask = Ask::Insert {
+    class: 101,
+    hash: 0,
+};
+
+const INSERT_OF_7: Ask = Ask::Insert {
+    class: 107,
+    hash: 7,
+};
+
+const INSERT_OF_8: Ask = Ask::Insert {
+    class: 108,
+    hash: 8,
+};
+
+const LOOKUP_OF_7: Ask = Ask::Lookup {
+    class: 107,
+    hash: 7,
+};
+
+/// Up to so many steps each call takes before the other.
+const AHEAD: u64 = 24;
+
+/// Both take so many steps at most.
+const MOST: u64 = 400;
+
+/// The calls of a start, with so many steps of the first and of the second ahead.
+fn cut(alloc: Global, start: &Start, steps: (u64, u64)) -> Result<(), Fault> {
+    let course = Course::Cut {
+        hashes: start.0,
+        asks: start.1,
+        steps,
+        most: MOST,
+    };
+    run_course(alloc, 16, Manner::Lawful, 0, course)
+}
+
+/// The calls of a start tell what the machine tells, however far the first is ahead.
+fn assert_cuts(rt: &impl Abort, alloc: Global, start: &Start, second: u64) {
+    for first in 0..AHEAD.wrapping_add(1) {
+        let steps = (first, second);
+        assert_eq!(rt; cut(alloc, start, steps), Ok(()), "{start:?} {steps:?}");
+    }
+}
+
+/// The calls of a start tell what the machine tells, however far each is ahead.
+fn assert_start(rt: &impl Abort, alloc: Global, start: &Start) {
+    for second in 0..AHEAD.wrapping_add(1) {
+        assert_cuts(rt, alloc, start, second);
+    }
+}
+
+#[test]
+fn two_calls_that_cut_into_each_other(rt: HostRuntime) {
+    for start in &STARTS {
+        assert_start(&rt, rt.alloc(), start);
+    }
+}

@@ -1,0 +1,58 @@
+//! Pairs and texts, and look-ups by a key.
+use super::{Texts, Told, answer_of, boxed_text};
+use std::alloc::{Allocator, Global};
+use std::process::Abort;
+use std::test::Fail;
+use table_sets::{HeldSet, InPlace, NumberLaw, PairsOf};
+
+/// Pairs of numbers in place.
+type Pairs = HeldSet<InPlace<(u64, u32)>, PairsOf<NumberLaw, NumberLaw>>;
+
+/// Pairs that are all different; some have one part in common.
+const PAIRS: [(u64, u32); 5] = [(1, 2), (2, 1), (1, 1), (2, 2), (0, 0)];
+
+/// Texts that are all different.
+const TEXTS: [&str; 6] = ["", "a", "b", "ab", "ba", "aa"];
+
+#[test]
+fn pairs_by_both_parts(rt: HostRuntime) {
+    let mut set: Pairs = HeldSet::new(rt.alloc());
+    for pair in PAIRS {
+        assert_eq!(rt; answer_of(set.insert(InPlace(pair))), Told::Placed);
+        assert_eq!(rt; answer_of(set.insert(InPlace(pair))), Told::Found);
+    }
+    assert_eq!(rt; set.len(), 5);
+    assert_eq!(rt; set.get(&(2, 1)).copied(), Some((2, 1)));
+    assert_eq!(rt; set.get(&(0, 1)), None);
+}
+
+/// The text that a look-up by a `&str` shows is that text.
+fn assert_text<A: Allocator + Copy>(rt: &impl Abort, set: &Texts<A>, text: &str) {
+    match set.get_by_key(&text) {
+        Some(shown) => assert_eq!(rt; shown.as_str(), text),
+        None => assert!(rt; false),
+    }
+}
+
+#[test]
+fn texts_by_their_bytes(rt: HostRuntime) -> Result<(), Fail> {
+    let mut set: Texts<Global> = HeldSet::new(rt.alloc());
+    for text in TEXTS {
+        assert_eq!(rt;
+            answer_of(set.insert(boxed_text(rt.alloc(), text)?)),
+            Told::Placed
+        );
+        assert_eq!(rt;
+            answer_of(set.insert(boxed_text(rt.alloc(), text)?)),
+            Told::Found
+        );
+    }
+    assert_eq!(rt; set.len(), 6);
+    for text in TEXTS {
+        assert_text(&rt, &set, text);
+    }
+    assert!(rt; set.get_by_key(&"bb").is_none());
+    let known = String::from_str(rt.alloc(), "ba")?;
+    assert!(rt; set.contains(&known));
+    Ok(())
+}

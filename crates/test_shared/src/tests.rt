@@ -1,0 +1,17 @@
+//! The table that threads share, run.
+mod alone;
+mod careless;
+mod countings;
+mod counts;
+mod ends;
+mod fates;
+mod growth;
+mod lost;
+mod numbers;
+mod racing;
+mod refusals;
+mod rounds;
+mod rules;
+mod share;
+mod values;
+mod waits;

@@ -1,0 +1,53 @@
+//! The account of a round sees what is wrong.
+use std::alloc::Global;
+use testkit_rounds::Fault;
+use testkit_rounds::fates::{Fate, Fates};
+
+/// Three values: which of them came back, which are handed out at the end, and the fault.
+const ACCOUNTS: [(&[u64], &[u64], Result<(), Fault>); 7] = [
+    (&[], &[2, 0, 1], Ok(())),
+    (&[1], &[2, 0], Ok(())),
+    (&[1], &[2], Err(Fault::Lost(0))),
+    (&[], &[], Err(Fault::Lost(0))),
+    (&[0, 1], &[2, 0], Err(Fault::Doubled(0))),
+    (&[0, 1], &[2, 2], Err(Fault::Doubled(2))),
+    (&[0, 1], &[3], Err(Fault::Unknown(3))),
+];
+
+/// The account of these values.
+fn account(alloc: Global, back: &[u64], entries: &[u64]) -> Result<(), Fault> {
+    let mut fates = Fates::new(alloc, 3)?;
+    fates.settle_all(back, Fate::Found)?;
+    fates.settle_all(entries, Fate::Entry)?;
+    fates.check_settled()
+}
+
+#[test]
+fn each_value_is_accounted_for(rt: HostRuntime) {
+    for (back, entries, expected) in ACCOUNTS {
+        assert_eq!(rt; account(rt.alloc(), back, entries), expected);
+    }
+}
+
+/// Values that a walk shows, those that are handed out, and the fault.
+const WALKS: [(&[u64], &[u64], Result<(), Fault>); 3] = [
+    (&[0, 2], &[2, 0], Ok(())),
+    (&[0], &[2, 0], Err(Fault::Walk(2))),
+    (&[0, 1, 2], &[2, 0], Err(Fault::Walk(1))),
+];
+
+/// Compares a walk with what is handed out.
+fn compare(alloc: Global, walked: &[u64], handed: &[u64]) -> Result<(), Fault> {
+    let mut shown = Fates::new(alloc, 3)?;
+    shown.settle_all(walked, Fate::Entry)?;
+    let mut fates = Fates::new(alloc, 3)?;
+    fates.settle_all(handed, Fate::Entry)?;
+    fates.check_same_entries(&shown)
+}
+
+#[test]
+fn a_walk_is_what_is_handed_out(rt: HostRuntime) {
+    for (walked, handed, expected) in WALKS {
+        assert_eq!(rt; compare(rt.alloc(), walked, handed), expected);
+    }
+}

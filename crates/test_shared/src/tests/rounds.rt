@@ -1,0 +1,126 @@
+//! Threads that give values at once: none is lost or there twice.
+use std::alloc::Global;
+use std::process::Abort;
+use std::sync::Wait;
+use std::thread::Threads;
+use testkit_rounds::{Account, Kind, Round, run_round};
+
+/// Rounds whose closures keep a law: what the threads do, how many they are, how many values each gives, the first
+/// capacity, and how many of the values differ.
+const LAWFUL: [(Kind, u64, u64, usize, u64); 9] = [
+    (Kind::Overlapping, 2, 6000, 16, 9000),
+    (Kind::Overlapping, 4, 3000, 128, 7500),
+    (Kind::Overlapping, 8, 2000, 64, 9000),
+    (Kind::Equal, 2, 5000, 16, 5000),
+    (Kind::Equal, 4, 3000, 32, 3000),
+    (Kind::Equal, 8, 1000, 16, 1000),
+    (Kind::Beside, 2, 4000, 1024, 6000),
+    (Kind::Beside, 4, 3000, 16, 7500),
+    (Kind::Beside, 8, 1000, 64, 4500),
+];
+
+/// Rounds of four threads whose closures keep none: how many values each gives, the first capacity, and the seed.
+const CARELESS: [(u64, usize, u64); 6] = [
+    (2000, 16, 1),
+    (2000, 32, 3),
+    (1000, 64, 5),
+    (400, 16, 2),
+    (400, 64, 4),
+    (300, 64, 6),
+];
+
+/// Rounds of four threads whose memory is refused at random: how many values each gives, the first capacity, and the seed.
+const REFUSED: [(u64, usize, u64); 5] = [
+    (3000, 16, 1),
+    (3000, 128, 2),
+    (2000, 64, 3),
+    (100, 32, 4),
+    (100, 16, 5),
+];
+
+/// Runs the round: no fault is found, and each value became one thing.
+fn assert_round<R: Abort + Threads + Wait + Sync>(rt: &R, alloc: Global, round: Round) -> Account {
+    match run_round(rt, alloc, round) {
+        Ok(account) => {
+            let back = account.found.wrapping_add(account.refused);
+            let all = account.placed.wrapping_add(back);
+            assert_eq!(rt; all, round.values(), "{round:?}");
+            account
+        }
+        Err(fault) => panic!(rt; "{round:?}: {fault}"),
+    }
+}
+
+#[test]
+fn lawful_closures(rt: HostRuntime) {
+    for (kind, threads, each, first_capacity, different) in LAWFUL {
+        let round = Round {
+            kind,
+            threads,
+            each,
+            first_capacity,
+            seed: each,
+        };
+        let account = assert_round(&rt, rt.alloc(), round);
+        assert_eq!(rt;
+            (account.placed, account.refused),
+            (different, 0),
+            "{round:?}"
+        );
+    }
+}
+
+#[test]
+fn one_thread_loses_no_exchange(rt: HostRuntime) {
+    let round = Round {
+        kind: Kind::Beside,
+        threads: 1,
+        each: 3000,
+        first_capacity: 16,
+        seed: 1,
+    };
+    let account = assert_round(&rt, rt.alloc(), round);
+    assert_eq!(rt; (account.placed, account.given_back), (3000, 0));
+}
+
+#[test]
+fn closures_that_lie(rt: HostRuntime) {
+    for (each, first_capacity, seed) in CARELESS {
+        let round = Round {
+            kind: Kind::Careless,
+            threads: 4,
+            each,
+            first_capacity,
+            seed,
+        };
+        let account = assert_round(&rt, rt.alloc(), round);
+        assert!(rt; account.placed > 0 && account.found > 0, "{round:?}");
+        assert_eq!(rt; account.refused, 0, "{round:?}");
+    }
+}
+
+#[test]
+fn memory_refused_at_random(rt: HostRuntime) {
+    for (each, first_capacity, seed) in REFUSED {
+        let round = Round {
+            kind: Kind::Refused,
+            threads: 4,
+            each,
+            first_capacity,
+            seed,
+        };
+        let account = assert_round(&rt, rt.alloc(), round);
+        assert!(rt; account.placed > 0 && account.refused > 0, "{round:?}");
+    }
+}
+
+/// How many rounds are drawn, and how many values the largest has.
+const DRAWN: (u64, u64) = (60, 4000);
+
+#[test]
+fn drawn_rounds(rt: HostRuntime) {
+    let (rounds, most) = DRAWN;
+    for seed in 0..rounds {
+        let _account = assert_round(&rt, rt.alloc(), Round::drawn(seed, most));
+    }
+}

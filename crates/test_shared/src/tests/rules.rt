@@ -1,0 +1,116 @@
+//! The allocator of these tests: requests that are refused by lot, that are refused from now on, and that wait for one another.
+use std::alloc::{AllocError, Allocator, Global};
+use std::process::Abort;
+use std::sync::atomic::{AtomicU64, Ordering};
+use std::thread;
+use testkit_refusing::{Refusing, Rule};
+
+/// How many requests a lot is asked about.
+const REQUESTS: u64 = 6000;
+
+/// Seeds, one request in how many is drawn, and how many are refused at least and at most.
+const LOTS: [(u64, u64, u64, u64); 5] = [
+    (1, 0, 6000, 6000),
+    (1, 1, 6000, 6000),
+    (1, 6, 900, 1100),
+    (2, 6, 900, 1100),
+    (3, 100, 30, 90),
+];
+
+/// How many requests meet another one.
+const PAIRS: u64 = 200;
+
+/// How often a request looks for its other one.
+const LOOKS: u64 = 1 << 27;
+
+/// Whether a request of so many bytes is granted. The block is given back.
+fn grants<A: Allocator + Copy>(alloc: A, bytes: usize) -> bool {
+    let block: Result<Vec<u8, A>, AllocError> = Vec::with_capacity(alloc, bytes);
+    block.is_ok()
+}
+
+/// How many of so many requests are refused.
+fn count_refused(heap: &Refusing<Global>, requests: u64) -> u64 {
+    let mut refused = 0u64;
+    for _request in 0..requests {
+        if !grants(heap, 8) {
+            refused = refused.wrapping_add(1);
+        }
+    }
+    refused
+}
+
+/// Requests of 8 bytes, one after the other, are answered so.
+fn assert_answers(rt: &impl Abort, heap: &Refusing<Global>, answers: &[bool]) {
+    for (number, &granted) in answers.iter().enumerate() {
+        assert_eq!(rt; grants(heap, 8), granted, "request {number}");
+    }
+}
+
+#[test]
+fn so_many_are_refused_by_lot(rt: HostRuntime) {
+    for (seed, one_in, least, most) in LOTS {
+        let rule = Rule::new(8, 8, 0, u64::MAX).drawn(seed, one_in);
+        let heap = Refusing::new(rt.alloc(), rule);
+        let refused = count_refused(&heap, REQUESTS);
+        assert!(rt; least <= refused && refused <= most, "{refused}");
+        assert_eq!(rt; heap.refusals_left(), u64::MAX.wrapping_sub(refused));
+        assert_eq!(rt; heap.granted(), REQUESTS.wrapping_sub(refused));
+        assert!(rt; grants(&heap, 16));
+    }
+}
+
+#[test]
+fn a_lot_refuses_no_more_than_the_rule(rt: HostRuntime) {
+    let rule = Rule::new(8, 8, 0, 7).drawn(1, 3);
+    let heap = Refusing::new(rt.alloc(), rule);
+    assert_eq!(rt; count_refused(&heap, REQUESTS), 7);
+    assert_eq!(rt; heap.refusals_left(), 0);
+}
+
+#[test]
+fn requests_are_refused_from_now_on(rt: HostRuntime) {
+    let heap = Refusing::new(rt.alloc(), Rule::new(8, 8, 0, 0));
+    assert_answers(&rt, &heap, [true, true].as_slice());
+    heap.refuse(1, 2);
+    assert_eq!(rt; heap.refusals_left(), 2);
+    assert_answers(&rt, &heap, [true, false, false, true].as_slice());
+    heap.refuse(0, 3);
+    assert_answers(&rt, &heap, [false, false].as_slice());
+    heap.refuse(0, 0);
+    assert_answers(&rt, &heap, [true, true].as_slice());
+}
+
+/// A thread asks in turn, and says so before. Whether each answer came once the other had said so as often.
+fn asks_in_pairs(heap: &Refusing<Global>, said: &AtomicU64, other: &AtomicU64) -> bool {
+    for asked in 1..PAIRS {
+        said.store(asked, Ordering::SeqCst);
+        if !grants(heap, 8) || other.load(Ordering::SeqCst) < asked {
+            return false;
+        }
+    }
+    true
+}
+
+#[test]
+fn neither_of_a_pair_is_answered_first(rt: HostRuntime) {
+    let heap = Refusing::new(rt.alloc(), Rule::new(8, 8, 0, 0).paired(PAIRS, LOOKS));
+    let one = AtomicU64::new(0);
+    let other = AtomicU64::new(0);
+    let met = thread::join(
+        &rt,
+        || asks_in_pairs(&heap, &one, &other),
+        || asks_in_pairs(&heap, &other, &one),
+    );
+    assert_eq!(rt; met, (true, true));
+    assert_eq!(rt; heap.went_alone(), 0);
+}
+
+#[test]
+fn the_first_of_a_pair_goes_on_alone(rt: HostRuntime) {
+    let heap = Refusing::new(rt.alloc(), Rule::new(8, 8, 0, 0).paired(2, 10));
+    for alone in [1u64, 1, 2, 2, 2, 2] {
+        assert!(rt; grants(&heap, 16) && grants(&heap, 8));
+        assert_eq!(rt; heap.went_alone(), alone);
+    }
+}

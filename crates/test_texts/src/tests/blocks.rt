@@ -1,0 +1,96 @@
+//! How often the system is asked: input is read, and output is written, a block at a time.
+use super::{DEDUP, EMPTY_SHELF, WORDS};
+use std::alloc::Global;
+use std::cell::Cell;
+use std::io;
+use std::io::{Read, Write};
+use std::process::Abort;
+use std::test::Fail;
+use tool_text_lines::program::run_over;
+
+/// The bytes that are asked of the input at once.
+const READ: usize = 65536;
+
+/// The bytes that are kept of the output.
+const WRITTEN: usize = 16384;
+
+/// How many lines the input has.
+const LINES: u64 = 1_500;
+
+/// A reader that counts its calls.
+#[derive(Drop)]
+struct CountedReads<'a> {
+    rest: &'a [u8],
+    calls: &'a Cell<usize>,
+}
+
+impl Read for CountedReads<'_> {
+    fn read(&mut self, buf: &mut [u8]) -> io::Result<usize> {
+        self.calls.set(self.calls.get().wrapping_add(1));
+        self.rest.read(buf)
+    }
+}
+
+/// A writer that counts its calls and the bytes that it takes.
+#[derive(Drop)]
+struct CountedWrites<'a> {
+    calls: &'a Cell<usize>,
+    bytes: &'a Cell<usize>,
+}
+
+impl Write for CountedWrites<'_> {
+    fn write(&mut self, bytes: &[u8]) -> io::Result<usize> {
+        self.calls.set(self.calls.get().wrapping_add(1));
+        self.bytes.set(self.bytes.get().wrapping_add(bytes.len()));
+        Ok(bytes.len())
+    }
+
+    fn flush(&mut self) -> io::Result<()> {
+        Ok(())
+    }
+}
+
+/// So many different lines of some hundred bytes, a number on each.
+fn many_lines(heap: Global) -> Result<String, Fail> {
+    let mut text = String::new(heap);
+    for n in 0..LINES {
+        let line = format!(in heap; "{n:-<100}\n")?;
+        text.push_str(line.as_str())?;
+    }
+    Ok(text)
+}
+
+/// Asserts that a tool asks at most once for each block of its input and its output, and once or twice for the ends.
+fn assert_by_blocks(rt: &impl Abort, heap: Global, tool: &str, text: &str) {
+    let (reads, writes, written) = (Cell::new(0), Cell::new(0), Cell::new(0));
+    let input = CountedReads {
+        rest: text.as_bytes(),
+        calls: &reads,
+    };
+    let mut output = CountedWrites {
+        calls: &writes,
+        bytes: &written,
+    };
+    let mut messages = Vec::new(heap);
+    let status = run_over(
+        &EMPTY_SHELF,
+        heap,
+        &[tool],
+        input,
+        &mut output,
+        &mut messages,
+    );
+    assert_eq!(rt; status, 0);
+    assert!(rt; written.get() >= text.len());
+    assert!(rt; reads.get() <= text.len() / READ + 3);
+    assert!(rt; writes.get() <= written.get() / WRITTEN + text.len() / READ + 3);
+}
+
+#[test]
+fn input_and_output_go_by_blocks(rt: HostRuntime) -> Result<(), Fail> {
+    let text = many_lines(rt.alloc())?;
+    for tool in [WORDS, DEDUP] {
+        assert_by_blocks(&rt, rt.alloc(), tool, text.as_str());
+    }
+    Ok(())
+}

@@ -1,0 +1,74 @@
+//! Words that others have made to collide under a simple hash.
+use super::{WORDS, run_on};
+use std::alloc::Global;
+use std::io;
+use std::process::Abort;
+use std::test::Fail;
+use std::time::{Clock, Duration, Instant};
+
+/// `Aa` and `BB` have one hash where a hash takes 31 times what came before, and so have all words of as many of them.
+const COLLIDING: [&str; 2] = ["Aa", "BB"];
+
+/// Parts of as many bytes whose words have different hashes.
+const PLAIN: [&str; 2] = ["Aa", "Ba"];
+
+/// How many parts a word has.
+const LENGTH: u32 = 14;
+
+/// How many words of two parts there are.
+const COUNT: u32 = 1 << LENGTH;
+
+/// How many times as long as plain words colliding ones may take. Where each is compared with those before, it is hundreds.
+const MOST: u32 = 20;
+
+/// How often the words are counted; the least time is taken, since other work on the machine only adds to it.
+const TRIES: u32 = 4;
+
+/// The word whose parts are the bits of a number, on a line.
+fn push_word(text: &mut String, parts: [&str; 2], bits: u32) -> Result<(), Fail> {
+    for place in 0..LENGTH {
+        text.push_str(parts[(bits >> place & 1) as usize])?;
+    }
+    text.push('\n')?;
+    Ok(())
+}
+
+/// All words of these parts, each on a line.
+fn all_words(heap: Global, parts: [&str; 2]) -> Result<String, Fail> {
+    let mut text = String::new(heap);
+    for bits in 0..COUNT {
+        push_word(&mut text, parts, bits)?;
+    }
+    Ok(text)
+}
+
+/// How long it takes to count these words, each of which is a line of its own.
+fn time_of<R: Clock + Abort>(rt: &R, heap: Global, text: &str) -> io::Result<Duration> {
+    let start = Instant::now(rt)?;
+    let ended = run_on(heap, WORDS, heap, text.as_bytes());
+    let end = Instant::now(rt)?;
+    let lines = ended.output.as_slice().iter();
+    let count = lines.filter(|byte| **byte == b'\n').count();
+    assert_eq!(rt; ended.status, 0);
+    assert_eq!(rt; count, COUNT as usize);
+    Ok(end.saturating_duration_since(start))
+}
+
+/// The least time of several tries.
+fn least_time_of<R: Clock + Abort>(rt: &R, heap: Global, text: &str) -> io::Result<Duration> {
+    let mut least = time_of(rt, heap, text)?;
+    for _again in 1..TRIES {
+        least = least.min(time_of(rt, heap, text)?);
+    }
+    Ok(least)
+}
+
+#[test]
+fn words_that_collide_under_a_simple_hash_cost_no_more(rt: HostRuntime) -> Result<(), Fail> {
+    let plain = all_words(rt.alloc(), PLAIN)?;
+    let colliding = all_words(rt.alloc(), COLLIDING)?;
+    let by_plain = least_time_of(&rt, rt.alloc(), plain.as_str())?;
+    let by_colliding = least_time_of(&rt, rt.alloc(), colliding.as_str())?;
+    assert!(rt; by_colliding.as_nanos() <= by_plain.as_nanos().saturating_mul(u128::from(MOST)));
+    Ok(())
+}

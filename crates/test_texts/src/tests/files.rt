@@ -1,0 +1,74 @@
+//! Texts of named files.
+use super::{Shelf, USAGE};
+use std::alloc::Global;
+use std::process::Abort;
+use tool_text_lines::program::run_over;
+
+/// Two files without a last line break, one that is no text, and one that is empty.
+const SHELF: Shelf = Shelf {
+    files: &[
+        ("one", b"b a\nb"),
+        ("two", b"b\nc"),
+        ("bad", b"a\nb \xff"),
+        ("none", b""),
+        ("--help", b"h\n"),
+    ],
+};
+
+/// Words, what they write over the input `b d` and a line break, what they say, and the status.
+type Row = (&'static [&'static str], &'static str, &'static str, u8);
+
+/// A file ends its last line: the lines of the next one are others.
+const RUNS: [Row; 15] = [
+    (&["words", "one"], "1 b 2\n2 a 1\n", "", 0),
+    (&["words", "one", "two"], "1 b 3\n2 a 1\n3 c 1\n", "", 0),
+    (&["dedup", "one", "two"], "b a\nb\nc\n", "", 0),
+    (&["dedup", "two", "-", "one"], "b\nc\nb d\nb a\n", "", 0),
+    // Standard input has nothing left where it is named again.
+    (&["words", "-", "-"], "1 b 1\n2 d 1\n", "", 0),
+    (&["words"], "1 b 1\n2 d 1\n", "", 0),
+    (&["words", "none"], "", "", 0),
+    (&["words", "--"], "1 b 1\n2 d 1\n", "", 0),
+    (&["dedup", "--", "--help"], "h\n", "", 0),
+    // The text that is to blame is named; `dedup` has written the lines before.
+    (
+        &["words", "one", "bad"],
+        "",
+        "words: bad: line 2 is not UTF-8\n",
+        2,
+    ),
+    (
+        &["dedup", "one", "gone"],
+        "b a\nb\n",
+        "dedup: gone: no such file\n",
+        1,
+    ),
+    (
+        &["words", "/root", "one"],
+        "",
+        "words: /root: can't be opened\n",
+        1,
+    ),
+    (&["--help"], USAGE, "", 0),
+    (&["words", "--help"], USAGE, "", 0),
+    (&["dedup", "--help"], USAGE, "", 0),
+];
+
+/// Asserts what a run over the files writes, says and ends with.
+fn assert_runs(rt: &impl Abort, heap: Global, row: &Row) {
+    let (words, written, said, status) = *row;
+    let mut output = Vec::new(heap);
+    let mut messages = Vec::new(heap);
+    let input: &[u8] = b"b d\n";
+    let ended = run_over(&SHELF, heap, words, input, &mut output, &mut messages);
+    assert_eq!(rt; output.as_slice(), written.as_bytes(), "at {words:?}");
+    assert_eq!(rt; messages.as_slice(), said.as_bytes(), "at {words:?}");
+    assert_eq!(rt; ended, status, "at {words:?}");
+}
+
+#[test]
+fn files_are_read_in_their_order(rt: HostRuntime) {
+    for row in &RUNS {
+        assert_runs(&rt, rt.alloc(), row);
+    }
+}

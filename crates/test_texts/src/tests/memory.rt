@@ -1,0 +1,80 @@
+//! Memory that is refused.
+use super::{DEDUP, WORDS, assert_ended, run_on};
+use std::alloc::Global;
+use std::process::Abort;
+use testkit_refusing::{Refusing, Rule};
+
+/// Lines and words enough for a second generation of a table.
+const TEXT: &[u8] = b"one\ntwo\nthree\nfour\none\nfive\nsix\nseven\neight\nnine\ntwo\n";
+
+const COUNTED: &[u8] =
+    b"1 one 2\n2 two 2\n3 three 1\n4 four 1\n5 five 1\n6 six 1\n7 seven 1\n8 eight 1\n9 nine 1\n";
+
+const DEDUPED: &[u8] = b"one\ntwo\nthree\nfour\nfive\nsix\nseven\neight\nnine\n";
+
+/// More requests than a run over the text makes.
+const ENOUGH: u64 = 200;
+
+/// Runs the tool while the request after so many is refused. Says whether one was. A run that ends well has written all; one that
+/// was refused memory has written a first part, and of `words` nothing.
+fn is_refused_after(rt: &impl Abort, heap: Global, tool: &str, all: &[u8], granted: u64) -> bool {
+    let memory = Refusing::new(heap, Rule::new(0, usize::MAX, granted, 1));
+    let ended = run_on(heap, tool, &memory, TEXT);
+    if ended.status == 0 {
+        assert_ended(rt, &ended, "memory was there", all, "", 0);
+    } else {
+        assert_eq!(rt; ended.status, 1);
+        assert!(rt; ended.messages.as_slice().ends_with(b": no memory\n"));
+        assert!(rt; all.starts_with(ended.output.as_slice()));
+        assert!(rt; tool == DEDUP || ended.output.is_empty());
+    }
+    memory.refusals_left() == 0
+}
+
+/// How many requests a run makes, each refused in turn.
+fn requests_of(rt: &impl Abort, heap: Global, tool: &str, all: &[u8]) -> u64 {
+    for granted in 0..ENOUGH {
+        if !is_refused_after(rt, heap, tool, all, granted) {
+            return granted;
+        }
+    }
+    ENOUGH
+}
+
+/// The different lines of the text.
+const DIFFERENT: usize = 9;
+
+/// Runs `dedup` while each request after so many is refused, and says how many lines it has written. They are the first ones, each
+/// whole, and all of them where the run ends well.
+fn lines_before(rt: &impl Abort, heap: Global, granted: u64) -> usize {
+    let memory = Refusing::new(heap, Rule::new(0, usize::MAX, granted, u64::MAX));
+    let ended = run_on(heap, DEDUP, &memory, TEXT);
+    let written = ended.output.as_slice();
+    assert!(rt; DEDUPED.starts_with(written));
+    assert!(rt; written.is_empty() || written.ends_with(b"\n"));
+    let lines = written.iter().filter(|byte| **byte == b'\n').count();
+    assert_eq!(rt; ended.status == 0, lines == DIFFERENT);
+    lines
+}
+
+#[test]
+fn each_line_before_the_one_without_memory_is_written(rt: HostRuntime) {
+    let mut most: usize = 0;
+    for granted in 0..ENOUGH {
+        let lines = lines_before(&rt, rt.alloc(), granted);
+        assert!(rt; lines == most || lines == most.saturating_add(1));
+        most = lines;
+        if most == DIFFERENT {
+            break;
+        }
+    }
+    assert_eq!(rt; most, DIFFERENT);
+}
+
+#[test]
+fn each_request_is_refused_in_turn(rt: HostRuntime) {
+    let of_words = requests_of(&rt, rt.alloc(), WORDS, COUNTED);
+    assert!(rt; 20 < of_words && of_words < 80);
+    let of_dedup = requests_of(&rt, rt.alloc(), DEDUP, DEDUPED);
+    assert!(rt; 20 < of_dedup && of_dedup < 80);
+}

@@ -1,0 +1,269 @@
+//! Readers and writers that fail, and lines that are there when more is asked for.
+use super::{DEDUP, EMPTY_SHELF, WORDS, assert_ended, run_on};
+use std::alloc::Global;
+use std::cell::RefCell;
+use std::fmt::Debug;
+use std::io;
+use std::io::{ErrorKind, Read, Write};
+use std::process::Abort;
+use std::test::Fail;
+use tool_text_lines::program::run_over;
+
+/// A reader over memory that gives so many bytes at a call, is interrupted before each, and fails at a later call.
+#[derive(Drop)]
+struct Failing<'a> {
+    rest: &'a [u8],
+    at_once: usize,
+    is_interrupted: bool,
+    calls_left: u64,
+}
+
+impl Read for Failing<'_> {
+    fn read(&mut self, buf: &mut [u8]) -> io::Result<usize> {
+        self.is_interrupted = !self.is_interrupted;
+        if self.is_interrupted {
+            return Err(io::Error::from(ErrorKind::Interrupted));
+        }
+        if self.calls_left == 0 {
+            return Err(io::Error::from(ErrorKind::Other));
+        }
+        self.calls_left -= 1;
+        let count = self.at_once.min(buf.len()).min(self.rest.len());
+        let (now, later) = self.rest.split_at(count);
+        buf[..count].copy_from_slice(now);
+        self.rest = later;
+        Ok(count)
+    }
+}
+
+const INPUT: &[u8] = b"one\ntwo\none\n\nthree\ntwo";
+
+/// What `dedup` writes of the first bytes of the input.
+fn deduped_of(bytes: usize) -> &'static [u8] {
+    match bytes {
+        0..=3 => b"",
+        4..=7 => b"one\n",
+        8..=12 => b"one\ntwo\n",
+        13..=18 => b"one\ntwo\n\n",
+        _ => b"one\ntwo\n\nthree\n",
+    }
+}
+
+/// Asserts what `dedup` writes where so many reads are given and the next one fails, if it is made.
+fn assert_given(rt: &impl Abort, heap: Global, at_once: usize, given: usize, fails: bool) {
+    let input = Failing {
+        rest: INPUT,
+        at_once,
+        is_interrupted: false,
+        calls_left: given as u64,
+    };
+    let ended = run_on(heap, DEDUP, heap, input);
+    let wanted = deduped_of(given.saturating_mul(at_once));
+    let (messages, status) = if fails {
+        ("dedup: read failed\n", 1)
+    } else {
+        ("", 0)
+    };
+    assert_ended(rt, &ended, "dedup", wanted, messages, status);
+}
+
+/// How many bytes a reader gives at a call, and how many calls are then made for the 22 bytes of the input. The last of them finds the
+/// end of the input, which is not asked for again.
+const CALLS: [(usize, usize); 4] = [(1, 23), (2, 12), (7, 5), (100, 2)];
+
+/// A reader that fails at each of so many calls, which give so many bytes at once.
+fn fail_at_each_call(rt: &impl Abort, heap: Global, at_once: usize, calls: usize) {
+    for given in 0..=calls {
+        assert_given(rt, heap, at_once, given, given < calls);
+    }
+}
+
+#[test]
+fn a_reader_that_fails_at_each_call(rt: HostRuntime) {
+    for (at_once, calls) in CALLS {
+        fail_at_each_call(&rt, rt.alloc(), at_once, calls);
+    }
+}
+
+#[test]
+fn words_of_a_reader_that_fails_are_not_written(rt: HostRuntime) {
+    for given in 0..5 {
+        let input = Failing {
+            rest: INPUT,
+            at_once: 7,
+            is_interrupted: false,
+            calls_left: given,
+        };
+        let ended = run_on(rt.alloc(), WORDS, rt.alloc(), input);
+        assert_ended(&rt, &ended, "words", b"", "words: read failed\n", 1);
+    }
+}
+
+/// A writer that takes so many bytes and then fails in this way.
+#[derive(Drop)]
+struct Full {
+    room: usize,
+    then: ErrorKind,
+}
+
+impl Write for Full {
+    fn write(&mut self, bytes: &[u8]) -> io::Result<usize> {
+        if self.room == 0 {
+            return Err(io::Error::from(self.then));
+        }
+        let count = bytes.len().min(self.room);
+        self.room -= count;
+        Ok(count)
+    }
+
+    fn flush(&mut self) -> io::Result<()> {
+        Ok(())
+    }
+}
+
+/// Asserts how a tool ends whose output takes so many bytes.
+fn assert_fills(rt: &impl Abort, heap: Global, tool: &str, room: usize, message: &str) {
+    let then = ErrorKind::StorageFull;
+    let mut output = Full { room, then };
+    let mut messages = Vec::new(heap);
+    let status = run_over(
+        &EMPTY_SHELF,
+        heap,
+        &[tool],
+        INPUT,
+        &mut output,
+        &mut messages,
+    );
+    assert_eq!(rt; messages.as_slice(), message.as_bytes());
+    assert_eq!(rt; status, if message.is_empty() { 0 } else { 1 });
+}
+
+#[test]
+fn a_writer_that_is_full(rt: HostRuntime) {
+    assert_fills(&rt, rt.alloc(), DEDUP, 0, "dedup: write failed\n");
+    assert_fills(&rt, rt.alloc(), DEDUP, 14, "dedup: write failed\n");
+    assert_fills(&rt, rt.alloc(), DEDUP, 15, "");
+    assert_fills(&rt, rt.alloc(), WORDS, 0, "words: write failed\n");
+    assert_fills(&rt, rt.alloc(), WORDS, 25, "words: write failed\n");
+    assert_fills(&rt, rt.alloc(), WORDS, 26, "");
+}
+
+#[test]
+fn where_the_reader_has_gone_there_is_no_message(rt: HostRuntime) {
+    for tool in [WORDS, DEDUP] {
+        let then = ErrorKind::BrokenPipe;
+        let mut output = Full { room: 3, then };
+        let mut messages = Vec::new(rt.alloc());
+        let status = run_over(
+            &EMPTY_SHELF,
+            rt.alloc(),
+            &[tool],
+            INPUT,
+            &mut output,
+            &mut messages,
+        );
+        assert!(rt; messages.is_empty());
+        assert_eq!(rt; status, 1);
+    }
+}
+
+/// A log that is in use.
+fn busy() -> io::Error {
+    io::Error::from(ErrorKind::ResourceBusy)
+}
+
+/// Asserts what stands in a log.
+fn assert_holds<T: PartialEq + Debug>(rt: &impl Abort, log: &RefCell<Vec<T>>, wanted: &[T]) {
+    match log.try_borrow() {
+        Ok(held) => assert_eq!(rt; held.as_slice(), wanted),
+        Err(_) => assert!(rt; false),
+    }
+}
+
+/// A reader that gives a piece at a call, and sees before each call what was written.
+#[derive(Drop)]
+struct Watching<'a> {
+    pieces: &'a [&'a [u8]],
+    written: &'a RefCell<Vec<u8>>,
+    seen: &'a RefCell<Vec<usize>>,
+}
+
+impl Read for Watching<'_> {
+    fn read(&mut self, buf: &mut [u8]) -> io::Result<usize> {
+        let count = self.written.try_borrow().map_err(|_used| busy())?.len();
+        self.seen
+            .try_borrow_mut()
+            .map_err(|_used| busy())?
+            .push(count)?;
+        let [piece, later @ ..] = self.pieces else {
+            return Ok(0);
+        };
+        let taken = piece.len().min(buf.len());
+        buf[..taken].copy_from_slice(&piece[..taken]);
+        self.pieces = later;
+        Ok(taken)
+    }
+}
+
+/// A writer whose bytes are seen by others.
+#[derive(Drop)]
+struct Shown<'a> {
+    written: &'a RefCell<Vec<u8>>,
+}
+
+impl Write for Shown<'_> {
+    fn write(&mut self, bytes: &[u8]) -> io::Result<usize> {
+        self.written
+            .try_borrow_mut()
+            .map_err(|_used| busy())?
+            .extend_from_slice(bytes)?;
+        Ok(bytes.len())
+    }
+
+    fn flush(&mut self) -> io::Result<()> {
+        Ok(())
+    }
+}
+
+/// The input, a line at a call, and what was written before each call.
+const BY_LINES: (&[&[u8]], &[usize]) = (
+    &[b"one\n", b"two\n", b"one\n", b"\n", b"three\n", b"two"],
+    &[0, 4, 8, 8, 9, 15, 15],
+);
+
+/// The input in pieces that end within a line: a whole line doesn't wait for the rest of the next one.
+const BY_HALVES: (&[&[u8]], &[usize]) = (
+    &[b"one\ntw", b"o\none\n\nth", b"ree\ntwo"],
+    &[0, 4, 9, 15],
+);
+
+/// Asserts what `dedup` has written before each call of a reader that gives these pieces.
+fn assert_written_before(rt: &impl Abort, heap: Global, pieces: &[&[u8]], before: &[usize]) {
+    let written = RefCell::new(Vec::new(heap));
+    let seen = RefCell::new(Vec::new(heap));
+    let input = Watching {
+        pieces,
+        written: &written,
+        seen: &seen,
+    };
+    let mut output = Shown { written: &written };
+    let mut messages = Vec::new(heap);
+    let status = run_over(
+        &EMPTY_SHELF,
+        heap,
+        &[DEDUP],
+        input,
+        &mut output,
+        &mut messages,
+    );
+    assert_eq!(rt; status, 0);
+    assert_holds(rt, &seen, before);
+    assert_holds(rt, &written, b"one\ntwo\n\nthree\n".as_slice());
+}
+
+#[test]
+fn a_line_is_there_when_the_next_is_asked_for(rt: HostRuntime) {
+    for (pieces, before) in [BY_LINES, BY_HALVES] {
+        assert_written_before(&rt, rt.alloc(), pieces, before);
+    }
+}

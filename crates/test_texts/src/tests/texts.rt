@@ -1,0 +1,107 @@
+//! Texts, and what is written of them.
+use super::{DEDUP, EMPTY_SHELF, USAGE, WORDS, assert_ended, run_on, text_of};
+use std::alloc::Global;
+use std::process::Abort;
+use std::test::Fail;
+use tool_text_lines::program::run_over;
+
+/// Texts, and what `words` writes.
+const TEXTS: [(&str, &str); 8] = [
+    ("", ""),
+    (" \t\n\r\u{c}\n", ""),
+    ("a", "1 a 1\n"),
+    ("a b a\n", "1 a 2\n2 b 1\n"),
+    ("b\r\na\tb\u{c}b a", "1 b 3\n2 a 2\n"),
+    ("Aa BB Aa", "1 Aa 2\n2 BB 1\n"),
+    (
+        "né 語 né \u{a0} \u{a0}x",
+        "1 né 2\n2 語 1\n3 \u{a0} 1\n4 \u{a0}x 1\n",
+    ),
+    ("a\u{0}b a\u{b}b", "1 a\u{0}b 1\n2 a\u{b}b 1\n"),
+];
+
+/// Inputs that are no text, and the line that is named.
+const NO_TEXT: [(&[u8], &str); 4] = [
+    (b"\xff", "words: line 1 is not UTF-8\n"),
+    (b"a b\nc \xc3\n", "words: line 2 is not UTF-8\n"),
+    (b"\xe8\xaa\n\x9e", "words: line 1 is not UTF-8\n"),
+    (b"a\n\n\nb \xed\xa0\x80 c", "words: line 4 is not UTF-8\n"),
+];
+
+/// Inputs, and what `dedup` writes.
+const LINES: [(&[u8], &[u8]); 8] = [
+    (b"", b""),
+    (b"\n", b"\n"),
+    (b"a", b"a\n"),
+    (b"a\nb\na\n", b"a\nb\n"),
+    (b"\n\na\n\na", b"\na\n"),
+    (b"a\r\na\n", b"a\r\na\n"),
+    (b"\xff\n\xfe\n\xff", b"\xff\n\xfe\n"),
+    (b"a\n\0\n\0\0\na\0\n\0", b"a\n\0\n\0\0\na\0\n"),
+];
+
+/// Asserts what the tool writes of an input in memory, and that it says nothing else.
+fn assert_writes(
+    rt: &impl Abort,
+    heap: Global,
+    tool: &str,
+    input: &[u8],
+    output: &[u8],
+) -> Result<(), Fail> {
+    let at = text_of(heap, input)?;
+    let ended = run_on(heap, tool, heap, input);
+    assert_ended(rt, &ended, at.as_str(), output, "", 0);
+    Ok(())
+}
+
+#[test]
+fn words_are_counted_in_the_order_of_first_appearance(rt: HostRuntime) -> Result<(), Fail> {
+    for (input, output) in TEXTS {
+        assert_writes(&rt, rt.alloc(), WORDS, input.as_bytes(), output.as_bytes())?;
+    }
+    Ok(())
+}
+
+#[test]
+fn each_different_line_is_written_once(rt: HostRuntime) -> Result<(), Fail> {
+    for (input, output) in LINES {
+        assert_writes(&rt, rt.alloc(), DEDUP, input, output)?;
+    }
+    Ok(())
+}
+
+#[test]
+fn a_line_that_is_no_text_is_named(rt: HostRuntime) {
+    for (input, message) in NO_TEXT {
+        let ended = run_on(rt.alloc(), WORDS, rt.alloc(), input);
+        assert_ended(&rt, &ended, message, b"", message, 2);
+    }
+}
+
+/// Words that name no tool.
+const NO_TOOL: [&[&str]; 6] = [
+    &[],
+    &[""],
+    &["word"],
+    &["Words"],
+    &["--help", "words"],
+    &["help"],
+];
+
+/// Asserts that nothing is read or written but the usage.
+fn assert_refused(rt: &impl Abort, heap: Global, words: &[&str]) {
+    let mut output = Vec::new(heap);
+    let mut messages = Vec::new(heap);
+    let input: &[u8] = b"a";
+    let status = run_over(&EMPTY_SHELF, heap, words, input, &mut output, &mut messages);
+    assert_eq!(rt; status, 2);
+    assert!(rt; output.is_empty());
+    assert_eq!(rt; messages.as_slice(), USAGE.as_bytes());
+}
+
+#[test]
+fn words_that_name_no_tool_are_refused(rt: HostRuntime) {
+    for words in NO_TOOL {
+        assert_refused(&rt, rt.alloc(), words);
+    }
+}

@@ -1,0 +1,112 @@
+//! Which measurement is asked for. Each line printed is the name, the measurement and nanoseconds of wall time an operation
+//! (`g_rss`: resident bytes an entry).
+use lock_free_hashtable::atomic_value::InPlace;
+use std::convert::AsStr;
+use std::fs::Files;
+use std::io;
+use std::rt::Clock;
+use std::sync::Wait;
+use std::thread::Threads;
+use testkit_measures::held::{check_held, measure_held};
+use testkit_measures::numbers::NumberSet;
+use testkit_measures::report::{Report, refuse_words};
+use testkit_measures::schedules::{check_schedules, measure_schedules};
+use testkit_measures::seats::{check_seats, measure_seats};
+use testkit_measures::sets::{HeldSetKeys, SharedSetKeys};
+use testkit_measures::sharded::{check_sharded, measure_sharded};
+use testkit_measures::shared::{SharedNumbers, check_shared, measure_shared};
+use testkit_measures::texts::{check_interner, measure_interner};
+
+const HELD: &str = "held";
+
+const HELD_IN_PLACE: &str = "held-in-place";
+
+const HELD_SET: &str = "held-set";
+
+const SHARED: &str = "shared";
+
+const SHARED_IN_PLACE: &str = "shared-in-place";
+
+const SHARED_SET: &str = "shared-set";
+
+const SHARDED: &str = "sharded";
+
+const SEATS: &str = "seats";
+
+const CORE: &str = "core";
+
+const INTERNER: &str = "interner";
+
+/// Each workload once, counted and not timed.
+pub fn check_all<R: Print + Threads + Wait + Sync + AllocGlobal>(rt: &R) -> io::Result<()> {
+    check_held::<NumberSet<Box<u64>>, R>(rt, HELD)?;
+    check_held::<NumberSet<InPlace<u64>>, R>(rt, HELD_IN_PLACE)?;
+    check_held::<HeldSetKeys<InPlace<u64>>, R>(rt, HELD_SET)?;
+    check_shared::<SharedNumbers<Box<u64>>, R>(rt, SHARED)?;
+    check_shared::<SharedNumbers<InPlace<u64>>, R>(rt, SHARED_IN_PLACE)?;
+    check_shared::<SharedSetKeys<InPlace<u64>>, R>(rt, SHARED_SET)?;
+    check_sharded(rt)?;
+    check_seats(rt)?;
+    check_schedules(rt)?;
+    check_interner(rt)
+}
+
+/// Runs the measurement that the words name: `list` prints the names; no word at all checks each workload without a clock; other
+/// words print the usage, and are an Err.
+pub fn run_bench<R: Print + Eprint + Clock + Files + Threads + Wait + Sync + AllocGlobal, S: AsStr>(
+    rt: &R,
+    words: &[S],
+) -> io::Result<()> {
+    match words {
+        [] => check_all(rt),
+        [word] if word.as_str() == "list" => println!(rt;
+            "{HELD}\n{HELD_IN_PLACE}\n{HELD_SET}\n{SHARED}\n{SHARED_IN_PLACE}\n{SHARED_SET}\n{SHARDED}\n{SEATS}\n{CORE}\n{INTERNER}"
+        ),
+        [name, group] => measure(rt, name.as_str(), group.as_str()),
+        [name, group, threads] => measure_threads(
+            rt,
+            name.as_str(),
+            group.as_str(),
+            Some(threads.as_str()),
+        ),
+        _ => refuse_words(rt),
+    }
+}
+
+/// Runs a group of measurements of what has this name.
+fn measure<R: Print + Eprint + Clock + Files + Threads + Wait + Sync + AllocGlobal>(
+    rt: &R,
+    name: &str,
+    group: &str,
+) -> io::Result<()> {
+    let report = Report { name };
+    match name {
+        HELD => measure_held::<NumberSet<Box<u64>>, R>(rt, &report, group),
+        HELD_IN_PLACE => measure_held::<NumberSet<InPlace<u64>>, R>(rt, &report, group),
+        HELD_SET => measure_held::<HeldSetKeys<InPlace<u64>>, R>(rt, &report, group),
+        SHARDED => measure_sharded(rt, &report, group),
+        SEATS => measure_seats(rt, &report, group),
+        CORE => measure_schedules(rt, &report, group),
+        INTERNER => measure_interner(rt, &report, group),
+        _ => measure_threads(rt, name, group, None),
+    }
+}
+
+/// Runs a group of measurements of the set of this name that threads share: those of several threads with so many, or with one
+/// to four in turn.
+fn measure_threads<R: Print + Eprint + Clock + Files + Threads + Wait + Sync + AllocGlobal>(
+    rt: &R,
+    name: &str,
+    group: &str,
+    threads: Option<&str>,
+) -> io::Result<()> {
+    let report = Report { name };
+    match name {
+        SHARED => measure_shared::<SharedNumbers<Box<u64>>, R>(rt, &report, group, threads),
+        SHARED_IN_PLACE => measure_shared::<SharedNumbers<InPlace<u64>>, R>(
+            rt, &report, group, threads,
+        ),
+        SHARED_SET => measure_shared::<SharedSetKeys<InPlace<u64>>, R>(rt, &report, group, threads),
+        _ => refuse_words(rt),
+    }
+}

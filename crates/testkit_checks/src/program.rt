@@ -1,0 +1,78 @@
+//! The program, over its words and streams.
+use crate::bench::{check_all, run_bench};
+use crate::check::{Check, parse_check};
+use std::alloc::Global;
+use std::convert::AsStr;
+use std::fs::Files;
+use std::io;
+use std::io::Write;
+use std::rt::{Clock, Env};
+use std::sync::Wait;
+use std::thread::Threads;
+use testkit_drawn_rounds::run_rounds;
+use testkit_replay::run_replays;
+use tool_streams::arguments::read_words;
+use tool_streams::messages::end_with;
+
+/// The status of checks without a fault.
+const WELL: u8 = 0;
+
+/// The status of a check with a fault, or of words that name none.
+const BAD: u8 = 1;
+
+const USAGE: &str = "usage: tool_checks [replays .. | stress .. | bench ..]";
+
+/// Runs the check that the words of the environment name, and answers the status. The first fault goes to `messages`.
+pub fn run_program<
+    R: Print + Eprint + Clock + Files + Threads + Wait + Sync + Env + AllocGlobal,
+    O: Write,
+    M: Write,
+>(rt: &R, output: &mut O, messages: &mut M) -> u8 {
+    let words = match read_words(rt) {
+        Ok(Some(words)) => words,
+        Ok(None) => return refuse(messages),
+        Err(fault) => return end_with(&fault, messages),
+    };
+    match parse_check(words.as_slice()) {
+        Some((check, rest)) => run_check(rt, check, rest, output, messages),
+        None => refuse(messages),
+    }
+}
+
+/// Says how the program is called.
+fn refuse<M: Write>(messages: &mut M) -> u8 {
+    let _ = writeln!(messages, "{USAGE}");
+    BAD
+}
+
+/// Runs the check with these words for it.
+fn run_check<
+    R: Print + Eprint + Clock + Files + Threads + Wait + Sync + AllocGlobal,
+    S: AsStr,
+    O: Write,
+    M: Write,
+>(rt: &R, check: Check, words: &[S], output: &mut O, messages: &mut M) -> u8 {
+    let alloc: Global = rt.alloc();
+    match check {
+        Check::All => {
+            let replayed = run_replays(alloc, words, output, messages);
+            let rounds = run_rounds(rt, alloc, words, output, messages);
+            let measured = status_of(check_all(rt), messages);
+            replayed.max(rounds).max(measured)
+        }
+        Check::Replays => run_replays(alloc, words, output, messages),
+        Check::Stress => run_rounds(rt, alloc, words, output, messages),
+        Check::Bench => status_of(run_bench(rt, words), messages),
+    }
+}
+
+/// The status of measurements that ended so.
+fn status_of<M: Write>(ended: io::Result<()>, messages: &mut M) -> u8 {
+    match ended {
+        Ok(()) => WELL,
+        Err(error) => {
+            let _ = writeln!(messages, "{error}");
+            BAD
+        }
+    }
+}

@@ -1,0 +1,87 @@
+//! A value that counts how often it is dropped.
+#![tactic(auto)]
+
+ghost use Rattle.std.specs.Prelude.{◌≡◌};
+
+use std::alloc::{AllocError, Global};
+use std::sync::Arc;
+use std::sync::atomic::{AtomicU64, Ordering};
+use table_terms::law::Law;
+
+/// A number, with the count of its drops.
+pub struct Counting {
+    pub number: u64,
+    drops: Arc<AtomicU64>,
+}
+
+impl Counting {
+    /// A value of this number, whose drop is counted here.
+    pub fn new(number: u64, drops: Arc<AtomicU64>) -> Counting
+        ensures { result.number ≡ number }
+    {
+        Counting { number, drops }
+    }
+}
+
+/// How often each of the first numbers was dropped.
+#[derive(Drop)]
+pub struct Drops {
+    each: Vec<Arc<AtomicU64>>,
+    alloc: Global,
+}
+
+impl Drops {
+    /// So many numbers, of which none was dropped.
+    pub fn new(alloc: Global, numbers: u64) -> Result<Drops, AllocError> {
+        let mut each = Vec::new(alloc);
+        for _number in 0..numbers {
+            each.push(counter(alloc)?)?;
+        }
+        Ok(Drops { each, alloc })
+    }
+
+    /// A value of this number, whose drop is counted, if the number is one of those.
+    pub fn counting(&self, number: u64) -> Result<Box<Counting>, AllocError> {
+        let drops = match self.each.get(number as usize) {
+            Some(drops) => drops.clone()?,
+            None => counter(self.alloc)?,
+        };
+        Ok(Box::new(self.alloc, Counting::new(number, drops))?)
+    }
+
+    /// How many of the numbers were dropped so often.
+    pub fn dropped(&self, times: u64) -> u64 {
+        let mut count = 0u64;
+        for drops in self.each.as_slice() {
+            if drops.load(Ordering::SeqCst) == times {
+                count = count.wrapping_add(1);
+            }
+        }
+        count
+    }
+}
+
+/// A count of drops.
+fn counter(alloc: Global) -> Result<Arc<AtomicU64>, AllocError> {
+    Ok(Arc::new(alloc, AtomicU64::new(0))?)
+}
+
+impl Drop for Counting {
+    fn drop(self) {
+        let Counting { number: _, drops } = self;
+        drops.fetch_add(1, Ordering::SeqCst);
+    }
+}
+
+/// Counting values are the same if their numbers are.
+pub struct CountingLaw {}
+
+impl Law<Counting> for CountingLaw {
+    ghost use Rattle.table_terms.specs.Laws.{same_by_number, hash_by_number, number_lawful};
+
+    ghost same = { same_by_number (λ value. value.number) };
+
+    ghost hash_of = { hash_by_number (λ value. value.number) };
+
+    ghost lawful = { number_lawful (λ value. value.number) };
+}

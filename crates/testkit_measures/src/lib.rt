@@ -1,0 +1,13 @@
+//! What is measured: the tables, the interner and the machine of all schedules, each workload also counted without a clock.
+#![tactic(auto)]
+
+pub mod held;
+pub mod numbers;
+pub mod report;
+pub mod schedules;
+pub mod seats;
+pub mod sets;
+pub mod sharded;
+pub mod shared;
+mod sizes;
+pub mod texts;

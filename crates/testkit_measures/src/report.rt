@@ -1,0 +1,43 @@
+//! How a measurement is printed.
+ghost use Rattle.std.specs.Prelude.{◌≡◌, OnOk};
+
+use std::io;
+use std::num::nearest_u64_to_f64;
+use std::rt::Clock;
+use std::time::Instant;
+
+/// Says how the program is called, and fails.
+pub fn refuse_words(rt: &impl Eprint) -> io::Result<()> {
+    eprintln!(rt;
+        "usage: tool_checks bench [list | held|held-in-place|held-set one|seq|1e4|1e5|1e7 | shared|shared-in-place|shared-set one|seq|same|ins|hit [THREADS] | sharded one|same|hit | seats one|seq|same|ins | core one | interner 1e4|1e5|1e6]"
+    )?;
+    Err(io::Error::from(io::ErrorKind::InvalidInput))
+}
+
+/// Who reports a measurement.
+#[derive(Clone, Copy)]
+pub struct Report<'a> {
+    pub name: &'a str,
+}
+
+impl Report<'_> {
+    /// Prints what one of so many operations took. A count that is wrong is reported in place of the time.
+    pub fn time(
+        &self,
+        rt: &(impl Print + Clock),
+        measurement: &str,
+        start: Instant,
+        done: u64,
+        wanted: u64,
+        operations: u64,
+    ) -> io::Result<()>
+        ensures { OnOk result (done ≡ wanted) }
+    {
+        if done != wanted {
+            return Err(io::Error::from(io::ErrorKind::InvalidData));
+        }
+        let nanos = start.elapsed(rt)?.as_secs_f64() * 1e9 / nearest_u64_to_f64(operations);
+        let name = self.name;
+        println!(rt; "{name} {measurement} {nanos:.2}")
+    }
+}

@@ -1,0 +1,83 @@
+//! Measurements of a set that one owner holds alone with fewer keys than a million, and with more.
+ghost use Rattle.std.specs.Prelude.{◌<◌};
+
+use crate::numbers::{KeySet, START, STRIDE, spread};
+use crate::report::Report;
+use std::alloc::Global;
+use std::io;
+use std::rt::Clock;
+use std::time::Instant;
+
+/// The keys that are missed lie so much further on.
+const FURTHER: u64 = 1 << 40;
+
+/// Spread keys, so many a table: inserts into so many tables, each of which is dropped, then hits and misses of one table, over
+/// all its keys as often.
+pub(crate) fn measure_size<S: KeySet + Drop, R: Print + Clock + AllocGlobal>(
+    rt: &R,
+    report: &Report<'_>,
+    keys: u64,
+    rounds: u64,
+    names: [&str; 3],
+) -> io::Result<()>
+    requires { 0 < keys }
+{
+    let operations = keys.wrapping_mul(rounds);
+
+    let start = Instant::now(rt)?;
+    let placed = fill_tables::<S>(rt.alloc(), keys, rounds);
+    report.time(rt, names[0], start, placed, operations, operations)?;
+
+    let mut set = S::empty(rt.alloc());
+    let _ = fill(&mut set, keys);
+
+    let start = Instant::now(rt)?;
+    let hits = look_rounds(&set, keys, rounds, 0);
+    report.time(rt, names[1], start, hits, operations, operations)?;
+
+    let start = Instant::now(rt)?;
+    let found = look_rounds(&set, keys, rounds, FURTHER);
+    report.time(rt, names[2], start, found, 0, operations)
+}
+
+/// How many keys were placed, of so many in each of so many tables, which are made and dropped one after the other.
+fn fill_tables<S: KeySet + Drop>(alloc: Global, keys: u64, rounds: u64) -> u64 {
+    let mut placed: u64 = 0;
+    for _round in 0..rounds {
+        let mut set = S::empty(alloc);
+        placed = placed.wrapping_add(fill(&mut set, keys));
+    }
+    placed
+}
+
+/// How many of so many keys were placed.
+fn fill<S: KeySet>(set: &mut S, keys: u64) -> u64 {
+    let mut placed: u64 = 0;
+    for index in 0..keys {
+        placed = placed.wrapping_add(u64::from(set.insert(spread(index))));
+    }
+    placed
+}
+
+/// How many look-ups of keys so much further on found an entry, in so many rounds over as many keys.
+fn look_rounds<S: KeySet>(set: &S, keys: u64, rounds: u64, further: u64) -> u64
+    requires { 0 < keys }
+{
+    let mut found: u64 = 0;
+    for _round in 0..rounds {
+        found = found.wrapping_add(look_all(set, keys, further));
+    }
+    found
+}
+
+/// How many look-ups of keys so much further on found an entry. They come in an order that jumps.
+fn look_all<S: KeySet>(set: &S, keys: u64, further: u64) -> u64
+    requires { 0 < keys }
+{
+    let mut found: u64 = 0;
+    for index in 0..keys {
+        let at = index.wrapping_mul(STRIDE).wrapping_add(START) % keys;
+        found = found.wrapping_add(u64::from(set.contains(spread(at.wrapping_add(further)))));
+    }
+    found
+}

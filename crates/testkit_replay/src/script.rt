@@ -1,0 +1,89 @@
+//! What the closures of calls answer.
+use std::cell::Cell;
+use table_terms::law::hash_number;
+
+/// How closures answer.
+#[derive(Clone, Copy)]
+pub enum Manner {
+    /// As they were told before the step.
+    Told,
+    /// By the classes and the hashes of the values.
+    Lawful,
+    /// By numbers drawn one after the other, whatever they are asked.
+    Careless,
+}
+
+/// What closures answer, and what they answered last.
+#[derive(Drop)]
+pub struct Script {
+    manner: Manner,
+    accepted: Cell<bool>,
+    hash: Cell<u64>,
+    /// The class that a look-up looks for.
+    sought: Cell<u64>,
+    drawn: Cell<u64>,
+}
+
+impl Script {
+    /// Closures that answer in this manner. A seed gives the same numbers again.
+    pub fn new(manner: Manner, seed: u64) -> Script {
+        Script {
+            manner,
+            accepted: Cell::new(false),
+            hash: Cell::new(0),
+            sought: Cell::new(0),
+            drawn: Cell::new(seed),
+        }
+    }
+
+    /// Before a step: what a closure is to answer where it is told, and the class that is looked for.
+    pub fn begin(&self, accepted: bool, hash: u64, sought: u64) {
+        self.accepted.set(accepted);
+        self.hash.set(hash);
+        self.sought.set(sought);
+    }
+
+    /// A number below `bound`, or 0 where that is 0.
+    pub fn draw(&self, bound: u64) -> u64 {
+        let drawn = hash_number(self.drawn.get().wrapping_add(1));
+        self.drawn.set(drawn ^ (drawn >> 29));
+        (drawn >> 11).checked_rem(bound).unwrap_or(0)
+    }
+
+    /// The answer of a closure that is asked whether a value of the class is an entry's equal.
+    pub fn says(&self, class: u64, entry: u64) -> bool {
+        let accepted = match self.manner {
+            Manner::Told => self.accepted.get(),
+            Manner::Lawful => class == entry,
+            Manner::Careless => self.draw(4) == 0,
+        };
+        self.accepted.set(accepted);
+        accepted
+    }
+
+    /// The answer of a closure that is asked whether an entry of the class is looked for.
+    pub fn seeks(&self, entry: u64) -> bool {
+        self.says(self.sought.get(), entry)
+    }
+
+    /// The answer of a closure that is asked for the hash of an entry.
+    pub fn rehashes(&self, own: u64) -> u64 {
+        let hash = match self.manner {
+            Manner::Told => self.hash.get(),
+            Manner::Lawful => own,
+            Manner::Careless => self.draw(64),
+        };
+        self.hash.set(hash);
+        hash
+    }
+
+    /// What was answered last of an entry, or was to be.
+    pub fn accepted(&self) -> bool {
+        self.accepted.get()
+    }
+
+    /// The hash that was answered last, or was to be.
+    pub fn hash(&self) -> u64 {
+        self.hash.get()
+    }
+}

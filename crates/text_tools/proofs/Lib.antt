@@ -1,5 +1,0 @@
-pub mod Pieces
-pub mod Firsts
-pub mod Counts
-pub mod HeldLines
-pub mod Written

@@ -1,6 +1,0 @@
-pub mod Faults
-pub mod Hashes
-pub mod Pieces
-pub mod Firsts
-pub mod Counts
-pub mod Seen

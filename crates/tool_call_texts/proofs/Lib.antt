@@ -1,0 +1,4 @@
+pub mod Spaces
+pub mod LetterCalls
+pub mod NumberLists
+pub mod EventPieces

@@ -1,0 +1,56 @@
+//! The kinds of jobs that `stress` runs.
+ghost use Rattle.std.specs.Prelude.{◌≡◌, ◌≤◌, Some};
+
+use std::fmt;
+
+/// A kind of job: what its workers insert, and when they look it up.
+#[derive(Clone, Copy, Debug, PartialEq, Eq)]
+pub enum Kind {
+    /// Each worker inserts values of its own, and once all have ended it looks them up.
+    InsertUnique,
+    /// All workers insert the same values, and once all have ended each looks all of them up.
+    InsertSame,
+    /// Each worker inserts values of its own, and after each insert it looks the one before up.
+    InsertLookup,
+}
+
+impl Kind {
+    ghost use Rattle.tool_call_texts.specs.Stress.{inserts_of, entries_of};
+
+    /// How many values each worker inserts.
+    pub fn inserts(self) -> usize
+        ensures { result ≡ inserts_of self }
+    {
+        match self {
+            Kind::InsertUnique => 1000,
+            Kind::InsertSame => 10_000,
+            Kind::InsertLookup => 1000,
+        }
+    }
+
+    /// How many different values so many workers insert together.
+    pub fn entries(self, threads: usize) -> usize
+        requires { threads ≤ 64 }
+        ensures { result ≡ entries_of self threads }
+    {
+        match self {
+            Kind::InsertUnique => 1000 * threads,
+            Kind::InsertSame => 10_000,
+            Kind::InsertLookup => 1000 * threads,
+        }
+    }
+}
+
+impl fmt::Display for Kind {
+    ghost use Rattle.tool_call_texts.specs.Stress.{kind_text};
+
+    ghost output = { λ k. Some (kind_text k) };
+
+    fn fmt<W: fmt::Write>(&self, f: &mut fmt::Formatter<W>) -> fmt::Result {
+        match self {
+            Kind::InsertUnique => write!(f, "insert_unique"),
+            Kind::InsertSame => write!(f, "insert_same"),
+            Kind::InsertLookup => write!(f, "insert_lookup"),
+        }
+    }
+}

@@ -1,0 +1,29 @@
+//! Checks and measures the tables.
+//!
+//!     tool_checks                                     a few schedules, a few rounds, and each workload without a clock
+//!     tool_checks replays [SCHEDULES [FIRST-SEED]]    replays drawn schedules on a table beside the machine of all schedules
+//!     tool_checks stress [MINUTES [FIRST-SEED]]       runs drawn rounds, in which threads give values to one table at once,
+//!                                                     and accounts for each value; it says each minute what they came to
+//!     tool_checks bench list                          the names of what is measured
+//!     tool_checks bench held GROUP                    the table held alone: one or seq, with a million keys, or 1e4, 1e5 or 1e7
+//!     tool_checks bench shared GROUP [THREADS]        the table that threads share: one or seq, and same, ins or hit with that
+//!                                                     many threads, of four at most, or with one to four in turn
+//!     tool_checks bench sharded GROUP                 tables over sixteen shards: one, held alone; same or hit, shared by one
+//!                                                     to four threads in turn
+//!     tool_checks bench seats GROUP                   the number table of seated threads: one, seq, same or ins
+//!     tool_checks bench core one                      the machine of all schedules
+//!     tool_checks bench interner N                    the interner with 1e4, 1e5 or 1e6 texts
+//!
+//! Without numbers a few schedules and small rounds run, from seed 0 on. A group of measurements runs once, in a fresh process. At
+//! the first fault the program says the seed or the round and what was wrong, and the status is 1, as it is for other words.
+#![tactic(auto)]
+
+use std::process::ExitCode;
+use testkit_checks::program::run_program;
+
+fn main(rt: HostRuntime) -> ExitCode {
+    let mut output = rt.stdout();
+    let mut messages = rt.stderr();
+    let status = run_program(&rt, &mut output, &mut messages);
+    ExitCode::from(status)
+}

@@ -1,0 +1,4 @@
+use Rattle.tool_commands.proofs.stores.RawPairsPairStore.find_pair.Goals as goal
+
+pub returns : goal.returns
+returns g c = λ ps holds. c.find.ensures ps (rw (← c.self.view_is) at holds)

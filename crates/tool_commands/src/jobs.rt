@@ -1,0 +1,152 @@
+//! A job of `stress`: workers that share a table at the same time.
+ghost use Rattle.std.specs.Prelude.{◌≡◌, ◌<◌, ◌≤◌, IfOk, IfErr};
+ghost use Rattle.tool_call_texts.specs.Faults.{IsStartFault, IsJobFault};
+ghost use Rattle.tool_call_texts.specs.Stress.{entries_of};
+
+use crate::gate::{Gate, no_thread};
+use crate::workers::{Values, Worker, insert_all, look_all};
+use lock_free_hashtable::raw::{LockFreeRawTable, Low};
+use std::sync::Wait;
+use std::thread;
+use std::thread::{Builder, Threads};
+use tool_call_texts::endings::Ending;
+use tool_call_texts::faults::Fault;
+use tool_call_texts::job::Job;
+use tool_call_texts::kinds::Kind;
+use tool_streams::faults::StreamFault;
+
+/// The workers that run at the same time.
+#[derive(Clone, Copy)]
+pub struct Crew {
+    /// How many there are.
+    pub threads: usize,
+    /// The bytes of the stack of each one's thread.
+    pub stack: usize,
+    ghost few: { threads ≤ 64 },
+}
+
+impl Crew {
+    /// So many workers, with stacks of so many bytes.
+    pub fn new(threads: usize, stack: usize) -> Crew
+        requires { threads ≤ 64 }
+        ensures { result.threads ≡ threads }
+    {
+        Crew { threads, stack }
+    }
+}
+
+/// A part of a job. All workers end the first before the second begins.
+#[derive(Clone, Copy)]
+pub enum Part {
+    /// Each worker makes its inserts.
+    Inserts,
+    /// Each worker looks up what it inserted.
+    Lookups,
+}
+
+/// Runs the job on a table of its own, under a gate of its own, and answers how many entries a walk
+/// over the table then shows: as many as different values were inserted.
+pub fn run_job<R: Threads + Wait + Sync, A: Low + Copy + Send + Sync, G: Gate + Sync>(
+    rt: &R,
+    alloc: A,
+    crew: Crew,
+    gate: &G,
+    job: Job,
+) -> Result<usize, Fault>
+    ensures entries { IfOk result (λ entries. entries ≡ entries_of job.kind crew.threads) }
+    ensures fault { IfErr result IsJobFault }
+{
+    let table: Values<A> = LockFreeRawTable::new(alloc);
+    run_part(rt, alloc, crew, gate, &table, job, Part::Inserts)?;
+    if job.kind != Kind::InsertLookup {
+        run_part(rt, alloc, crew, gate, &table, job, Part::Lookups)?;
+    }
+    let entries = table.iter().count();
+    if entries != job.kind.entries(crew.threads) {
+        return Err(Fault::JobFailed {
+            kind: job.kind,
+            job: job.number,
+        });
+    }
+    Ok(entries)
+}
+
+/// Runs a part of the job. Of the faults that hold the first is told, by this order: no thread, no memory, a gate that is
+/// stuck, a look-up that missed.
+fn run_part<R: Threads + Wait + Sync, A: Low + Copy + Send + Sync, G: Gate + Sync>(
+    rt: &R,
+    alloc: A,
+    crew: Crew,
+    gate: &G,
+    table: &Values<A>,
+    job: Job,
+    part: Part,
+) -> Result<(), Fault>
+    ensures fault { IfErr result IsJobFault }
+{
+    let ending = start_workers(rt, alloc, crew, gate, table, job, part)?;
+    match ending.fault(job) {
+        None => Ok(()),
+        Some(fault) => Err(fault),
+    }
+}
+
+/// Runs each worker in a thread of its own, and answers how they ended together once all have.
+fn start_workers<R: Threads + Wait + Sync, A: Low + Copy + Send + Sync, G: Gate + Sync>(
+    rt: &R,
+    alloc: A,
+    crew: Crew,
+    gate: &G,
+    table: &Values<A>,
+    job: Job,
+    part: Part,
+) -> Result<Ending, Fault>
+    ensures fault { IfErr result IsStartFault }
+{
+    let mut workers = Vec::with_capacity(alloc, crew.threads).map_err(
+        |_refused| StreamFault::NoMemory,
+    )?;
+    thread::scope(
+        thread::scope_env(),
+        rt,
+        move |scope| -> Result<Ending, Fault>
+            requires { crew.threads ≤ 64 }
+            ensures { IfErr result IsStartFault }
+        {
+            for number in 0..crew.threads {
+                let worker = Worker::new(job, number);
+                let started = Builder::new()
+                    .stack_size(crew.stack)
+                    .spawn_scoped(scope, move || -> Ending {
+                        work(rt, alloc, gate, table, worker, part)
+                    });
+                let Ok(handle) = started else {
+                    return Err(no_thread(gate));
+                };
+                workers
+                    .push(handle)
+                    .map_err(|_refused| StreamFault::NoMemory)?;
+            }
+            let mut all = Ending::Well;
+            for handle in workers {
+                all = all.and(handle.join(rt));
+            }
+            Ok(all)
+        },
+    )
+}
+
+/// What the worker does in this part of its job.
+fn work<R: Wait, A: Low + Copy, G: Gate>(
+    rt: &R,
+    alloc: A,
+    gate: &G,
+    table: &Values<A>,
+    worker: Worker,
+    part: Part,
+) -> Ending {
+    match part {
+        Part::Inserts => insert_all(rt, alloc, gate, table, worker),
+        Part::Lookups => look_all(table, worker),
+    }
+}

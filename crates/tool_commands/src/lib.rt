@@ -1,0 +1,13 @@
+//! The commands of the program, over its words and streams.
+#![tactic(auto)]
+
+pub mod calls;
+pub mod gate;
+pub mod jobs;
+pub mod pairs;
+pub mod program;
+pub mod seats;
+pub mod shards;
+pub mod stores;
+pub mod stress;
+pub mod workers;

@@ -1,0 +1,105 @@
+//! The program, over its words and streams.
+ghost use Rattle.std.specs.Prelude.{◌≡◌, ◌⊎◌, IfErr, map};
+ghost use Rattle.tool_call_texts.specs.Arguments.{NamesCommand, IsRunnable, IsFaultOf};
+ghost use Rattle.tool_call_texts.specs.Faults.{status_of};
+ghost use Rattle.tool_call_texts.specs.declared.arguments.Command.{Command as CommandOf};
+ghost use Rattle.tool_call_texts.specs.declared.faults.Fault.{Fault as FaultOf};
+
+use crate::calls::run_calls;
+use crate::gate::{Gates, ProgramGates};
+use crate::jobs::Crew;
+use crate::seats::{WORKER_STACK, run_seats};
+use crate::shards::run_shards;
+use crate::stress::run_stress;
+use lock_free_hashtable::raw::Low;
+use std::convert::AsStr;
+use std::io::{Read, Write};
+use std::rt::Env;
+use std::sync::Wait;
+use std::thread::Threads;
+use tool_call_texts::arguments::{Command, parse_command};
+use tool_call_texts::faults::Fault;
+use tool_call_texts::schedules::run_core;
+use tool_streams::arguments::read_words;
+use tool_streams::faults::StreamFault;
+use tool_streams::messages::end_with;
+use tool_streams::output::Output;
+use tool_streams::short_lines::ShortLines;
+
+/// Runs the command that the words of the environment stand for, and answers the status. `run_words` says what is written
+/// where. Words that are no text name no command.
+pub fn run_program<
+    R: Threads + Wait + Sync,
+    E: Env + Alloc,
+    A: Low + Copy + Send + Sync,
+    I: Read + Drop,
+    O: Write,
+    M: Write,
+>(rt: &R, env: &E, alloc: A, input: I, output: &mut O, messages: &mut M) -> u8 {
+    match read_words(env) {
+        Ok(Some(words)) => run_words(rt, alloc, words.as_slice(), input, output, messages),
+        Ok(None) => end_with(&Fault::Usage, messages),
+        Err(fault) => end_with(&fault, messages),
+    }
+}
+
+/// Runs the command that the words after the program's name stand for, and answers the status. Replies go to the output,
+/// the message of a fault goes to `messages`, each on a line of its own. A message that cannot be written is dropped. Where
+/// the words name no command nothing is read, and only the usage is written.
+pub fn run_words<
+    R: Threads + Wait + Sync,
+    A: Low + Copy + Send + Sync,
+    S: AsStr,
+    I: Read + Drop,
+    O: Write,
+    M: Write,
+>(rt: &R, alloc: A, words: &[S], input: I, output: &mut O, messages: &mut M) -> u8
+    ensures status { (result ≡ 0) ⊎ ((fault : FaultOf) × (result ≡ status_of fault)) }
+    ensures well { result ≡ 0 → messages.new ≡ messages.old }
+    ensures wrong { ((command : CommandOf) → ¬ NamesCommand (map S.text words.now) command)
+        → (result ≡ status_of Fault.Usage) × (output.new ≡ output.old) }
+{
+    let Some(command) = parse_command(words) else {
+        return end_with(&Fault::Usage, messages);
+    };
+    match run_command(rt, alloc, command, input, output) {
+        Ok(()) => 0,
+        Err(fault) => end_with(&fault, messages),
+    }
+}
+
+/// Runs the command. The replies of the lines before a fault are written.
+fn run_command<R: Threads + Wait + Sync, A: Low + Copy + Send + Sync, I: Read + Drop, O: Write>(
+    rt: &R,
+    alloc: A,
+    command: Command,
+    input: I,
+    output: &mut O,
+) -> Result<(), Fault>
+    requires { IsRunnable command }
+    ensures fault { IfErr result (IsFaultOf command) }
+{
+    let mut lines = ShortLines::new(input);
+    let mut output = Output::new(output);
+    let ended = match command {
+        Command::Calls { first } => {
+            run_calls(alloc, first, &mut lines, &mut output).map_err(Fault::from)
+        }
+        Command::Shards { shards, first } => {
+            run_shards(&alloc, shards, first, &mut lines, &mut output).map_err(Fault::from)
+        }
+        Command::Core { first } => {
+            run_core(alloc, first, &mut lines, &mut output).map_err(Fault::from)
+        }
+        Command::Stress { threads, jobs } => {
+            let crew = Crew::new(threads, WORKER_STACK);
+            run_stress(rt, alloc, crew, jobs, &ProgramGates, &mut output)
+        }
+        Command::Seats { threads } => {
+            let gate = ProgramGates.gate();
+            run_seats(rt, alloc, threads, WORKER_STACK, &gate, &mut output)
+        }
+    };
+    output.flush().map_err(|_error| StreamFault::WriteFailed)?;
+    ended
+}

@@ -1,0 +1,74 @@
+//! The command `shards`: the lines of `calls`, asked of a table over shards held alone.
+ghost use Rattle.std.specs.Prelude.{IfErr};
+ghost use Rattle.table_terms.specs.Capacities.{IsFirstCapacity};
+ghost use Rattle.tool_streams.specs.Faults.{IsCountedFromOne};
+
+use crate::pairs::PairTable;
+use crate::stores::ShardedPairs;
+use std::alloc::Allocator;
+use std::io::{Read, Write};
+use tool_call_texts::arguments::ShardCount;
+use tool_streams::faults::LineFault;
+use tool_streams::line_command::take_lines;
+use tool_streams::output::Output;
+use tool_streams::short_lines::ShortLines;
+
+/// Answers the lines of the input on a table over so many shards, of which each will have `first` buckets in its first
+/// generation. The memory is borrowed, since a table over shards must be seen to fit in memory, and the size of a borrow is
+/// known.
+pub fn run_shards<A: Allocator + Copy, I: Read, O: Write>(
+    alloc: &A,
+    shards: ShardCount,
+    first: usize,
+    lines: &mut ShortLines<I>,
+    output: &mut Output<O>,
+) -> Result<(), LineFault>
+    requires { IsFirstCapacity first }
+    ensures counted { IfErr result IsCountedFromOne }
+{
+    match shards {
+        ShardCount::One => run_over::<1, &A, I, O>(
+            alloc,
+            ShardedPairs::new(alloc, first),
+            lines,
+            output,
+        ),
+        ShardCount::Two => run_over::<2, &A, I, O>(
+            alloc,
+            ShardedPairs::new(alloc, first),
+            lines,
+            output,
+        ),
+        ShardCount::Four => run_over::<4, &A, I, O>(
+            alloc,
+            ShardedPairs::new(alloc, first),
+            lines,
+            output,
+        ),
+        ShardCount::Eight => run_over::<8, &A, I, O>(
+            alloc,
+            ShardedPairs::new(alloc, first),
+            lines,
+            output,
+        ),
+        ShardCount::Sixteen => run_over::<16, &A, I, O>(
+            alloc,
+            ShardedPairs::new(alloc, first),
+            lines,
+            output,
+        ),
+    }
+}
+
+/// Answers the lines of the input on this table.
+fn run_over<const SHARDS: usize, A: Allocator + Copy, I: Read, O: Write>(
+    alloc: A,
+    table: ShardedPairs<SHARDS, A>,
+    lines: &mut ShortLines<I>,
+    output: &mut Output<O>,
+) -> Result<(), LineFault>
+    ensures counted { IfErr result IsCountedFromOne }
+{
+    let mut table = PairTable::new(alloc, table);
+    take_lines(&mut table, lines, output)
+}

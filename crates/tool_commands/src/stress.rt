@@ -1,0 +1,65 @@
+//! The command `stress`: jobs of three kinds, each by many threads at once on a table that they share.
+ghost use Rattle.std.specs.Prelude.{◌≡◌, ◌<◌, ◌≤◌, OnOk, IfErr};
+ghost use Rattle.std.specs.Io.KnownBytes.{Appends};
+ghost use Rattle.tool_call_texts.specs.Faults.{IsStressFault};
+ghost use Rattle.tool_call_texts.specs.Stress.{kind_line, stress_text};
+
+use crate::gate::Gates;
+use crate::jobs::{Crew, run_job};
+use lock_free_hashtable::raw::Low;
+use std::io::Write;
+use std::sync::Wait;
+use std::thread::Threads;
+use tool_call_texts::faults::Fault;
+use tool_call_texts::job::Job;
+use tool_call_texts::kinds::Kind;
+use tool_streams::faults::StreamFault;
+
+/// Runs so many jobs of each kind, each by this crew on a table of its own and under a gate of its own. After the jobs of a
+/// kind it prints the kind, and how many entries the walk over the last one's table showed.
+///
+/// The first fault ends the run: where a thread can't be started, memory is refused, the gate tells a worker no, a
+/// look-up misses a value that was inserted, or a walk shows another number of entries than were inserted. The lines of
+/// the kinds before are printed then.
+pub fn run_stress<R: Threads + Wait + Sync, A: Low + Copy + Send + Sync, G: Gates, O: Write>(
+    rt: &R,
+    alloc: A,
+    crew: Crew,
+    jobs: u64,
+    gates: &G,
+    output: &mut O,
+) -> Result<(), Fault>
+    requires some { 0 < jobs }
+    requires few { jobs ≤ 1000 }
+    ensures fault { IfErr result IsStressFault }
+    ensures printed { OnOk result (Appends (O.contents output.old) (O.contents output.new) (stress_text crew.threads)) }
+{
+    run_kind(rt, alloc, crew, jobs, gates, Kind::InsertUnique, output)?;
+    run_kind(rt, alloc, crew, jobs, gates, Kind::InsertSame, output)?;
+    run_kind(rt, alloc, crew, jobs, gates, Kind::InsertLookup, output)
+}
+
+/// Runs so many jobs of the kind, and prints it.
+fn run_kind<R: Threads + Wait + Sync, A: Low + Copy + Send + Sync, G: Gates, O: Write>(
+    rt: &R,
+    alloc: A,
+    crew: Crew,
+    jobs: u64,
+    gates: &G,
+    kind: Kind,
+    output: &mut O,
+) -> Result<(), Fault>
+    requires some { 0 < jobs }
+    requires few { jobs ≤ 1000 }
+    ensures fault { IfErr result IsStressFault }
+    ensures printed { OnOk result (Appends (O.contents output.old) (O.contents output.new) (kind_line kind crew.threads)) }
+{
+    let mut entries = 0;
+    for number in 0..jobs {
+        entries = run_job(rt, alloc, crew, &gates.gate(), Job::new(kind, number))?;
+    }
+    match writeln!(output, "{kind} {entries}") {
+        Ok(()) => Ok(()),
+        Err(_) => Err(Fault::Stream(StreamFault::WriteFailed)),
+    }
+}

@@ -1,0 +1,139 @@
+//! What each worker of a job does on the table that they share.
+ghost use Rattle.std.specs.Prelude.{◌≡◌, ◌<◌, IfOk};
+ghost use Rattle.tool_call_texts.specs.Stress.{inserts_of, value_of, value_hash};
+
+use crate::gate::Gate;
+use lock_free_hashtable::raw::{LockFreeRawTable, Low};
+use std::alloc::{AllocError, Allocator};
+use std::sync::Wait;
+use tool_call_texts::endings::Ending;
+use tool_call_texts::job::Job;
+use tool_call_texts::kinds::Kind;
+
+/// The table of a job: boxed numbers.
+pub type Values<A> = LockFreeRawTable<Box<u32, A>, A>;
+
+/// The hash of a value is so many times the value, modulo 2^64.
+const SPREAD: u64 = 0x9E37_79B9_7F4A_7C15;
+
+/// A worker of a job.
+#[derive(Clone, Copy)]
+pub struct Worker {
+    pub job: Job,
+    /// Its number among the workers, from 0 on.
+    pub number: usize,
+    ghost few: { number < 64 },
+}
+
+impl Worker {
+    /// The worker of this number in the job.
+    pub fn new(job: Job, number: usize) -> Worker
+        requires { number < 64 }
+        ensures job { result.job ≡ job }
+        ensures number { result.number ≡ number }
+    {
+        Worker { job, number }
+    }
+
+    /// The value that it inserts by its call of this number.
+    pub fn value(self, call: usize) -> u32
+        requires { call < inserts_of self.job.kind }
+        ensures { result ≡ value_of self.job.kind self.job.number self.number call }
+    {
+        let own = match self.job.kind {
+            Kind::InsertUnique | Kind::InsertLookup => 1000 * self.number as u64,
+            Kind::InsertSame => 0,
+        };
+        (self.job.number + own + call as u64) as u32
+    }
+}
+
+/// The hash of a value.
+pub fn hash_of(value: u32) -> u64
+    ensures { result ≡ value_hash value }
+{
+    u64::from(value).wrapping_mul(SPREAD)
+}
+
+/// Inserts the value, and answers the entry that is shown: the value, or an equal one that was there. Err: memory was refused.
+pub fn insert<R: Wait, A: Low + Copy>(
+    rt: &R,
+    alloc: A,
+    table: &Values<A>,
+    value: u32,
+) -> Result<u32, AllocError>
+    ensures { IfOk result (λ entry. entry ≡ value) }
+{
+    let boxed = Box::new(alloc, value)?;
+    match table.insert(
+        rt,
+        hash_of(value),
+        boxed,
+        |new: &u32, entry: &u32| *new == *entry,
+        |entry: &u32| hash_of(*entry),
+    ) {
+        Ok((entry, _)) => Ok(*entry),
+        Err(_) => Err(AllocError),
+    }
+}
+
+/// Whether a look-up finds the value.
+fn finds<A: Allocator + Copy>(table: &Values<A>, value: u32) -> bool {
+    table
+        .lookup(hash_of(value), |entry: &u32| *entry == value)
+        .is_some()
+}
+
+/// Makes the worker's call of this number, if the gate lets it: an insert, and in a job of the kind `InsertLookup` a
+/// look-up of the value that it inserted before.
+pub fn make_call<R: Wait, A: Low + Copy, G: Gate>(
+    rt: &R,
+    alloc: A,
+    gate: &G,
+    table: &Values<A>,
+    worker: Worker,
+    call: usize,
+) -> Ending
+    requires { call < inserts_of worker.job.kind }
+{
+    if !gate.may_pass(worker.number, call) {
+        return Ending::Stuck;
+    }
+    let inserted = insert(rt, alloc, table, worker.value(call));
+    gate.answered(worker.number, call);
+    if inserted.is_err() {
+        return Ending::Refused;
+    }
+    if worker.job.kind == Kind::InsertLookup && call > 0 && !finds(table, worker.value(call - 1)) {
+        return Ending::Missed;
+    }
+    Ending::Well
+}
+
+/// Makes the worker's calls in order, until the gate says no or memory is refused.
+pub fn insert_all<R: Wait, A: Low + Copy, G: Gate>(
+    rt: &R,
+    alloc: A,
+    gate: &G,
+    table: &Values<A>,
+    worker: Worker,
+) -> Ending {
+    let mut ending = Ending::Well;
+    for call in 0..worker.job.kind.inserts() {
+        ending = ending.and(make_call(rt, alloc, gate, table, worker, call));
+        if matches!(ending, Ending::Stuck | Ending::Refused) {
+            return ending;
+        }
+    }
+    ending
+}
+
+/// Looks every value up that the worker inserted.
+pub fn look_all<A: Allocator + Copy>(table: &Values<A>, worker: Worker) -> Ending {
+    for call in 0..worker.job.kind.inserts() {
+        if !finds(table, worker.value(call)) {
+            return Ending::Missed;
+        }
+    }
+    Ending::Well
+}

@@ -1,0 +1,2 @@
+pub mod Fibonacci
+pub mod Memo

@@ -1,0 +1,81 @@
+//! What ends a run over streams before its input does.
+ghost use Rattle.std.specs.Prelude.{◌≡◌, ℕ, Some};
+ghost use Rattle.tool_streams.specs.Faults.{stream_message, line_message, line_status};
+ghost use Rattle.tool_streams.specs.declared.faults.LineFault.{LineFault as LineFaultOf};
+
+use std::fmt;
+
+/// Why a run of a program ended before its input did. It is printed as its message.
+pub trait RunFault: fmt::Display {
+    ghost status_of: { Self → ℕ };
+
+    /// The status that the program ends with.
+    fn status(&self) -> u8
+        ensures { result ≡ status_of self.now };
+}
+
+/// What the system refused.
+#[derive(Clone, Copy, Debug, PartialEq, Eq)]
+pub enum StreamFault {
+    ReadFailed,
+    WriteFailed,
+    NoMemory,
+}
+
+impl fmt::Display for StreamFault {
+    ghost output = { λ f. Some (stream_message f) };
+
+    fn fmt<W: fmt::Write>(&self, f: &mut fmt::Formatter<W>) -> fmt::Result {
+        match self {
+            StreamFault::ReadFailed => write!(f, "read failed"),
+            StreamFault::WriteFailed => write!(f, "write failed"),
+            StreamFault::NoMemory => write!(f, "no memory"),
+        }
+    }
+}
+
+impl RunFault for StreamFault {
+    ghost status_of = { λ f. 1 };
+
+    fn status(&self) -> u8 {
+        1
+    }
+}
+
+/// Why a run over an input of lines ended before the input did.
+#[derive(Clone, Copy, Debug, PartialEq, Eq)]
+pub enum LineFault {
+    /// This line, counted from 1, is spelled in no way that the command knows.
+    BadLine(u64),
+    Stream(StreamFault),
+}
+
+impl From<StreamFault> for LineFault {
+    ghost from_gives = { λ fault r. r ≡ LineFaultOf.Stream fault };
+
+    fn from(fault: StreamFault) -> LineFault {
+        LineFault::Stream(fault)
+    }
+}
+
+impl fmt::Display for LineFault {
+    ghost output = { λ f. Some (line_message f) };
+
+    fn fmt<W: fmt::Write>(&self, f: &mut fmt::Formatter<W>) -> fmt::Result {
+        match self {
+            LineFault::BadLine(line) => write!(f, "bad line {line}"),
+            LineFault::Stream(fault) => write!(f, "{fault}"),
+        }
+    }
+}
+
+impl RunFault for LineFault {
+    ghost status_of = { line_status };
+
+    fn status(&self) -> u8 {
+        match self {
+            LineFault::BadLine(_) => 2,
+            LineFault::Stream(fault) => fault.status(),
+        }
+    }
+}

@@ -1,0 +1,14 @@
+//! Input of lines and output in blocks, over readers and writers: what the programs over text share.
+//!
+//! Output is kept in a block, which is flushed before a read that may wait.
+#![tactic(auto)]
+
+pub mod arguments;
+pub mod blocks;
+pub mod faults;
+pub mod line_command;
+pub mod lines;
+pub mod messages;
+pub mod numbers;
+pub mod output;
+pub mod short_lines;

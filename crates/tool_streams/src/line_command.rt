@@ -1,0 +1,45 @@
+//! Commands whose input is lines, and the loop over their lines.
+ghost use Rattle.std.specs.Prelude.{◌≡◌, ◌≢◌, ◌≤◌, ℕ, IfErr};
+ghost use Rattle.tool_streams.specs.Faults.{IsCountedFromOne};
+
+use crate::faults::{LineFault, StreamFault};
+use crate::output::Output;
+use crate::short_lines::{Next, ShortLines};
+use std::io::{Read, Write};
+
+/// A command whose input is lines.
+pub trait LineCommand {
+    /// What a line asks.
+    type Line: Copy;
+
+    /// Reads a whole line, without its line break. `None` is a line that is spelled in no way that the command knows.
+    fn parse(text: &[u8]) -> Option<Self::Line>;
+
+    /// Does what the line asks, and writes its reply on a line of its own. It reads nothing.
+    fn take<W: Write>(&mut self, line: Self::Line, output: &mut W) -> Result<(), StreamFault>
+        ensures fault { IfErr result (λ fault. fault ≢ StreamFault.ReadFailed) };
+}
+
+/// Takes the lines of the input, one by one, until one is spelled in no way or the input ends. Every reply is sent before more
+/// input is read.
+pub fn take_lines<C: LineCommand, I: Read, O: Write>(
+    command: &mut C,
+    lines: &mut ShortLines<I>,
+    output: &mut Output<O>,
+) -> Result<(), LineFault>
+    ensures counted { IfErr result IsCountedFromOne }
+{
+    // Counted only so that the loop has an end, and to name a bad line.
+    for count in 0..u64::MAX {
+        let line = match lines.next_line(output)? {
+            Next::Line(text) => C::parse(text),
+            Next::TooLong => None,
+            Next::End => return Ok(()),
+        };
+        match line {
+            Some(line) => command.take(line, output)?,
+            None => return Err(LineFault::BadLine(count + 1)),
+        }
+    }
+    Err(LineFault::Stream(StreamFault::ReadFailed))
+}

@@ -1,0 +1,6 @@
+pub mod Pieces
+pub mod Firsts
+pub mod Counts
+pub mod HeldLines
+pub mod Written
+pub mod ReadTexts

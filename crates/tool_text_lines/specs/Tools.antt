@@ -1,0 +1,42 @@
+-- What the words after the program's name ask for.
+use Rattle.std.specs.Prelude.{◌≡◌, ◌⊎◌, ℕ, List, [], ◌∷◌, if◌then◌else◌, codes}
+use Rattle.std.specs.Str.{bytes_eq}
+use Rattle.tool_text_lines.specs.declared.tool.Tool.{Tool}
+use Rattle.tool_text_lines.specs.declared.tool.Tool.TheVariants.{Words, Dedup}
+use Rattle.tool_text_lines.specs.declared.tool.Request.{Request}
+use Rattle.tool_text_lines.specs.declared.tool.Request.TheVariants.{Help, Run}
+
+-- what a tool is called
+abbrev pub name_of : Tool → List ℕ
+name_of Words = codes "words"
+name_of Dedup = codes "dedup"
+
+-- how the program is called
+abbrev pub usage : List ℕ
+usage = codes "usage: tool_text words [FILE..] | tool_text dedup [FILE..] | tool_text --help"
+
+-- one word, which asks how the program is called
+abbrev pub IsHelp : List (List ℕ) → Type 0
+IsHelp [] = ⊥
+IsHelp (word ∷ []) = word ≡ codes "--help"
+IsHelp (word ∷ more ∷ words) = ⊥
+
+-- the names of texts among the words after a tool's name: all of them, but for a first `--`
+abbrev pub names_in : List (List ℕ) → List (List ℕ)
+names_in [] = []
+names_in (word ∷ words) = if bytes_eq word (codes "--") then words else word ∷ words
+
+-- a tool's name, and the names of the texts that it is to read
+abbrev pub AsksTool : List (List ℕ) → Tool → List (List ℕ) → Type 0
+AsksTool [] tool names = ⊥
+AsksTool (word ∷ words) tool names = (word ≡ name_of tool) × ¬ IsHelp words × (names ≡ names_in words)
+
+-- `--help` alone, or behind a tool's name
+abbrev pub AsksHelp : List (List ℕ) → Type 0
+AsksHelp [] = ⊥
+AsksHelp (word ∷ words) = IsHelp (word ∷ words) ⊎ ((tool : Tool) × (word ≡ name_of tool) × IsHelp words)
+
+-- the words ask for this
+abbrev pub Asks : {X : Type 0} → (List X → List (List ℕ)) → List (List ℕ) → Request X → Type 0
+Asks texts words Help = AsksHelp words
+Asks texts words (Run tool names) = AsksTool words tool (texts names.now)

@@ -1,0 +1,363 @@
+#!/usr/bin/env python3
+"""Tries the edits that must fail: all edits of a crate together, in as few checks as they need.
+
+    tools/edits.py [--all] [--jobs N] [CRATE..]
+    tools/edits.py --self-test
+
+An edit is a file crates/NAME/edits/WHAT.edit: a line `file: src/x.rt`, then pairs of lines `old: TEXT` and `new: TEXT`, each TEXT one line
+that stands once in the file. With --all those of crates/NAME/must-fail/, which `rt ci` tries one by one, are tried too. With no CRATE
+every crate's are. N (2 unless said) is how many jobs a check has.
+
+A crate is first checked as it is, in its own folder, which keeps what is proved in out/. Then a copy is edited in each function that has
+an edit, and checked once over that work, while the next crate is checked. A crate on which no other of them stands, and of which nothing
+is kept, isn't checked as it is. An edit is refused where a goal of its own function fails. Two edits of a function, and those whose
+function only calls one that isn't proved, wait for a later round. Whatever a round leaves open is tried alone, and judged then by the
+whole crate. An edit that is proved, or that the prover never judged, is told by name. The last line is `N passed, M failed`: N edits were
+refused. The status is 0 only where M is 0. With --self-test made edits of the crate `table_terms` are tried, some of which must be told.
+"""
+import argparse
+import concurrent.futures
+import dataclasses
+import os
+import pathlib
+import re
+import resource
+import shutil
+import signal
+import subprocess
+import sys
+import tempfile
+import threading
+import time
+
+sys.dont_write_bytecode = True
+from edit_files import edits_of, pairs_of
+
+TOP = pathlib.Path(__file__).resolve().parent.parent
+PARTS = ("src", "specs", "proofs")
+# A line of a check that says what is wrong at a place, and one that says whether a function is proved.
+PLACED = re.compile(r"(note: )?(?:\./)?((?:src|specs|proofs)/\S+?):(\d+):\d+: (.*)")
+VERDICT = re.compile(r"fn (\S+): (.*)")
+# An error that only follows from another one, and one by which a proof file names what the edit took away.
+FOLLOWS = re.compile(r"was not admitted|was rejected")
+NAMES = re.compile(r"is not in scope|has no ")
+# A source text that can't be read or typed. One that only makes a statement false reads well.
+UNREAD = re.compile(r"error\[|error: (?!`)|error: `[^`]*`: .*(is not in scope|has no field|is no name|operand is missing|expected the end)")
+
+
+@dataclasses.dataclass
+class Told:
+    """A line of a check about a place: a note or an error, the file and the line in it, and what is said."""
+
+    line: str
+    is_note: bool
+    file: str
+    at: int
+    said: str
+
+    def is_unread(self):
+        return not self.is_note and self.file.startswith(("src/", "specs/")) and bool(UNREAD.match(self.said))
+
+    def proves(self):
+        """The function whose proof file it is, by its path in the crate."""
+        return "::".join(self.file.split("/")[1:-1]) if self.file.startswith("proofs/") else None
+
+
+@dataclasses.dataclass
+class Checked:
+    """What a check said, and what it took."""
+
+    lines: list
+    seconds: float
+    wall: float
+
+    def __post_init__(self):
+        self.told = [Told(it[0], bool(it[1]), it[2], int(it[3]), it[4]) for it in map(PLACED.match, self.lines) if it]
+        self.verdicts = {it[1]: it[2] for it in map(VERDICT.fullmatch, self.lines) if it}
+
+    def is_proved(self):
+        return any(line.startswith("logic=proved ") for line in self.lines)
+
+    def is_judged(self):
+        return any(line.startswith("logic=") for line in self.lines)
+
+    def names_of(self, edit):
+        """The prover's names of the functions of an edit, and of their closures."""
+        return [name for name in self.verdicts if any(it.named.fullmatch(name) for it in edit.functions)]
+
+    def goals_of(self, names):
+        """The lines by which functions fail for themselves, and not only since another one isn't proved."""
+        files = {name.partition("::")[2] for name in names}
+        errors = [it for it in self.told if it.proves() in files and it.said.startswith("error:") and not FOLLOWS.search(it.said)]
+        answers = [it.line for it in sorted(errors, key=lambda it: bool(NAMES.search(it.said)))]
+        return [*answers, *(f"fn {name}: {self.verdicts[name]}" for name in names if "did not prove" in self.verdicts[name])]
+
+    def cost(self):
+        return f"{self.seconds:.0f} CPU s, {self.wall:.0f} s"
+
+
+# One check.
+
+RUNNING = set()
+STOPPED = threading.Event()
+
+
+def stop(*_):
+    """Ends the checks that run, and with them each lane, whose rooms go."""
+    STOPPED.set()
+    for ran in list(RUNNING):
+        ran.terminate()
+    sys.exit(1)
+
+
+def check(folder, jobs, verb="check"):
+    """Runs `rt check`, or another verb, in a crate's folder."""
+    began = time.time()
+    words = ["rt", verb, "--jobs", str(jobs)]
+    with tempfile.TemporaryFile("w+", errors="replace") as said:
+        ran = subprocess.Popen(words, cwd=folder, stdin=subprocess.DEVNULL, stdout=said, stderr=subprocess.STDOUT)
+        RUNNING.add(ran)
+        _, status, used = os.wait4(ran.pid, 0)
+        RUNNING.discard(ran)
+        ran.returncode = os.waitstatus_to_exitcode(status)
+        if STOPPED.is_set():
+            raise InterruptedError(f"stopped at {folder}")
+        said.seek(0)
+        return Checked(said.read().splitlines(), used.ru_utime + used.ru_stime, time.time() - began)
+
+
+def listed(top):
+    """The crates of crates.txt in its order, each with its line."""
+    lines = [line.partition("#")[0] for line in (top / "crates.txt").read_text().splitlines()]
+    return {line.split(":")[0].split()[0]: line for line in lines if ":" in line}
+
+
+def below(lines, crate):
+    """The crates that a crate stands on, and itself."""
+    names = lines[crate].partition(":")[2].split()
+    return {crate}.union(*(below(lines, name) for name in names if name in lines))
+
+
+def copy_of(top, crate, room):
+    """Copies a crate, those below it, and what is kept of them, to a room of its own, and returns the crate's folder there."""
+    lines = listed(top)
+    names = below(lines, crate)
+    (room / "crates.txt").write_text("".join(f"{line}\n" for name, line in lines.items() if name in names))
+    for name in names:
+        # of the crates below a check reads only what is built
+        for part in [*PARTS, "out/rlib"]:
+            if (top / "crates" / name / part).is_dir():
+                shutil.copytree(top / "crates" / name / part, room / "crates" / name / part)
+    if is_kept(top, crate):
+        shutil.copytree(top / "crates" / crate / "out/incremental", room / "kept")
+    return room / "crates" / crate
+
+
+def is_kept(top, crate):
+    """Whether proved work of a crate is kept in its folder."""
+    return (top / "crates" / crate / "out/incremental").is_dir()
+
+
+def renew(source, folder, kept, edits):
+    """Makes the crate's copy ready for a round: the sources with these edits alone, over what is proved of the crate as it is."""
+    shutil.rmtree(folder / "src", ignore_errors=True)
+    shutil.copytree(source / "src", folder / "src")
+    if kept.is_dir():
+        shutil.rmtree(folder / "out/incremental", ignore_errors=True)
+        # a check puts new files in the place of old ones, and writes into none
+        shutil.copytree(kept, folder / "out/incremental", copy_function=os.link)
+    changed = {place: text for edit in edits for place, text in edit.lines.items()}
+    for file in {file for file, _ in changed}:
+        lines = (folder / file).read_text().split("\n")
+        (folder / file).write_text("\n".join(changed.get((file, at), line) for at, line in enumerate(lines)))
+
+
+# What a check says of an edit.
+
+
+def is_inside(told, edit):
+    """Whether a line of a check is about a place in a function of the edit."""
+    return any(it.holds(told.file, told.at) for it in edit.functions)
+
+
+def own_goal(checked, edit):
+    """The first line by which a function of the edit fails for itself, and not only since another isn't proved, or None."""
+    notes = [it.line for it in checked.told if it.is_note and is_inside(it, edit) and it.said.startswith("it is not proved")]
+    return next(iter([*notes, *checked.goals_of(checked.names_of(edit))]), None)
+
+
+def judge_alone(checked, edit):
+    """Whether the prover refuses the crate with this edit alone, and what to say of it."""
+    if checked.is_proved():
+        return False, f"EDIT PROVED {edit.name}"
+    unread = [it.line for it in checked.told if it.is_unread()]
+    if unread or not checked.is_judged():
+        why = [*unread, *(it for it in checked.lines if it.startswith(("rattle", "rt: "))), *checked.lines[-1:], "it said nothing"]
+        return False, f"BAD EDIT {edit.name}: the prover did not judge it: {why[0][:300]}"
+    told = [it.line for it in checked.told if it.is_note or it.said.startswith("error")]
+    reason = own_goal(checked, edit) or next(iter(told), "the crate is not proved")
+    return True, f"refused: {edit.name}: {reason[:300]}"
+
+
+def judge_together(checked, edits):
+    """Those edits of a round that are surely refused, each with what to say. It marks those that are to be tried alone."""
+    unread = [edit for edit in edits if any(it.is_unread() and is_inside(it, edit) for it in checked.told)]
+    edited = {name for edit in edits for name in checked.names_of(edit)}
+    # where a function fails that has no edit, an edit reaches further than its own
+    reached = checked.goals_of([name for name in checked.verdicts if name not in edited])
+    if unread or reached or not checked.is_judged():
+        print("".join(f"a function without an edit fails: {line[:300]}\n" for line in reached[:1]), end="")
+        for edit in unread or edits:
+            edit.is_alone = True
+        return {}
+    reasons = {edit.name: own_goal(checked, edit) for edit in edits}
+    for edit in edits:
+        waits = any("it calls" in checked.verdicts[name] for name in checked.names_of(edit)) and any(reasons.values())
+        edit.is_alone = not reasons[edit.name] and not waits
+    return {name: (True, f"refused: {name}: {reason[:300]}") for name, reason in reasons.items() if reason}
+
+
+def one_round(edits):
+    """Edits that can be tried together: one of each function and of each line. One that must be alone is, and comes last."""
+    first, *_ = ordered = sorted(edits, key=lambda it: it.is_alone)
+    if first.is_alone:
+        return [first]
+    taken, chosen = set(), []
+    for edit in ordered:
+        places = {*edit.lines, *((it.file, it.first) for it in edit.functions)}
+        if not edit.is_alone and not places & taken:
+            chosen.append(edit)
+            taken |= places
+    return chosen
+
+
+# The crates in turn.
+
+
+def rounds_of(top, crate, edits, jobs):
+    """Tries the edits of a proved crate. It yields, of each round, the check, how many were tried, and those settled."""
+    with tempfile.TemporaryDirectory(prefix="edits-") as room:
+        folder = copy_of(top, crate, pathlib.Path(room))
+        while edits:
+            tried = one_round(edits)
+            renew(top / "crates" / crate, folder, pathlib.Path(room) / "kept", tried)
+            checked = check(folder, jobs)
+            settled = {tried[0].name: judge_alone(checked, tried[0])} if len(tried) == 1 else judge_together(checked, tried)
+            edits = [it for it in edits if it.name not in settled]
+            yield checked, len(tried), settled
+
+
+@dataclasses.dataclass
+class Trial:
+    """A crate with its edits, and what is known of each by its name: whether it is refused, with what is said of it."""
+
+    top: pathlib.Path
+    crate: str
+    edits: list
+    results: dict
+    jobs: int
+
+    def prove(self, is_needed):
+        """Checks the crate as it is; where no other crate needs it and nothing is kept, it only builds the crates below."""
+        is_checked = is_needed or is_kept(self.top, self.crate)
+        if not is_checked:
+            lines = listed(self.top)
+            for name in lines[self.crate].partition(":")[2].split():
+                if name in lines:
+                    check(self.top / "crates" / name, self.jobs, "lib")
+            return
+        whole = check(self.top / "crates" / self.crate, self.jobs)
+        print(f"{self.crate}: {len(self.edits)} edits; the crate as it is: {whole.cost()}", flush=True)
+        if not whole.is_proved():
+            print("\n".join(whole.lines[-5:]))
+            self.results |= {it.name: (False, f"NOT TRIED {it.name}: the crate isn't proved without it") for it in self.edits}
+            self.edits = []
+
+    def run(self):
+        """Tries the edits, and says of each what became of it."""
+        print("".join(f"{line}\n" for _, line in self.results.values()), end="", flush=True)
+        total, rounds = Checked([], 0, 0), 0
+        for checked, tried, settled in rounds_of(self.top, self.crate, self.edits, self.jobs):
+            rounds, total = rounds + 1, Checked([], total.seconds + checked.seconds, total.wall + checked.wall)
+            self.results |= settled
+            said = "".join(f"{line}\n" for _, line in settled.values())
+            print(f"{said}{self.crate}: round {rounds}: {tried} tried, {len(settled)} settled: {checked.cost()}", flush=True)
+        print(f"{self.crate}: {len(self.edits)} edits in {rounds} rounds: {total.cost()}", flush=True)
+        return self.results
+
+
+def trial_of(top, crate, parts, jobs):
+    edits, bad = edits_of(top / "crates" / crate, parts)
+    return Trial(top, crate, edits, {name: (False, f"BAD EDIT {name}: {why}") for name, why in bad.items()}, jobs)
+
+
+def try_all(trials):
+    """Tries the edits of crates, which come lowest first, and returns what became of each edit by its name."""
+    results = {}
+    # while the edits of a crate are tried, the next one is proved
+    with concurrent.futures.ThreadPoolExecutor(max_workers=1) as lane:
+        tried = []
+        for at, trial in enumerate(trials):
+            trial.prove(any(trial.crate in below(listed(trial.top), later.crate) for later in trials[at + 1:]))
+            tried.append(lane.submit(trial.run))
+        for one in tried:
+            results |= one.result()
+    return results
+
+
+def made_edits(texts):
+    """Of four edits of different functions one as it is, and one each that changes nothing, can't be typed and doesn't apply."""
+    pairs = [pairs_of(text)[0] for text in texts]
+    form = "file: {}\nold: {}\nnew: {}\n".format
+    return {
+        "meant": texts[0],
+        "same": form(pairs[1][0], pairs[1][1], f"/* the same */ {pairs[1][1]}"),
+        "untyped": form(pairs[2][0], pairs[2][1], f"{pairs[2][1]} + no_such_name"),
+        "unapplied": form(pairs[3][0], f"no such text {pairs[3][1]}", pairs[3][1]),
+    }
+
+
+def self_test(jobs):
+    """Tries made edits over a copy of the crate `table_terms`, and returns whether each is told as it must be."""
+    texts = [file.read_text() for part in ("edits", "must-fail") for file in sorted((TOP / "crates/table_terms" / part).glob("*.edit"))]
+    wanted = {"meant": "refused: ", "same": "EDIT PROVED ", "untyped": "BAD EDIT ", "unapplied": "BAD EDIT "}
+    with tempfile.TemporaryDirectory(prefix="edits-") as room:
+        top = pathlib.Path(room)
+        shutil.copytree(TOP / "crates/table_terms", top / "crates/table_terms", ignore=shutil.ignore_patterns("*.edit"))
+        (top / "crates.txt").write_text("table_terms:\n")
+        (top / "crates/table_terms/edits").mkdir(exist_ok=True)
+        for name, text in made_edits(texts).items():
+            (top / f"crates/table_terms/edits/{name}.edit").write_text(text)
+        results = try_all([trial_of(top, "table_terms", ("edits",), jobs)])
+    names = {name: results[f"table_terms/{name}.edit"] for name in wanted}
+    wrong = [name for name, (is_refused, line) in names.items() if not line.startswith(wanted[name]) or is_refused != (name == "meant")]
+    print(f"self-test FAILED: {' '.join(wrong)}" if wrong else "self-test ok", flush=True)
+    return not wrong
+
+
+def main():
+    parser = argparse.ArgumentParser(description=__doc__, formatter_class=argparse.RawDescriptionHelpFormatter)
+    parser.add_argument("crates", nargs="*", metavar="CRATE")
+    parser.add_argument("--all", action="store_true")
+    parser.add_argument("--jobs", type=int, default=2)
+    parser.add_argument("--self-test", action="store_true")
+    given = parser.parse_args()
+    signal.signal(signal.SIGTERM, stop)
+    if given.self_test:
+        return 0 if self_test(given.jobs) else 1
+    unknown = [name for name in given.crates if name not in listed(TOP)]
+    if unknown:
+        parser.error(f"crates.txt names no crate {unknown[0]}")
+    parts = ["edits", *["must-fail"] * given.all]
+    named = [crate for crate in listed(TOP) if not given.crates or crate in given.crates]
+    having = [crate for crate in named if any(any((TOP / "crates" / crate / part).glob("*.edit")) for part in parts)]
+    results = try_all([trial_of(TOP, crate, parts, given.jobs) for crate in having])
+    passed = sum(is_refused for is_refused, _ in results.values())
+    spent = resource.getrusage(resource.RUSAGE_CHILDREN)
+    print(f"edits: {(spent.ru_utime + spent.ru_stime) / 60:.1f} CPU minutes")
+    print(f"{passed} passed, {len(results) - passed} failed")
+    return 0 if passed == len(results) else 1
+
+
+if __name__ == "__main__":
+    sys.exit(main())
