@@ -1,23 +1,19 @@
 #!/usr/bin/env python3
 """Tries the edits that must fail: all edits of a crate together, in as few checks as they need.
 
-    tools/edits.py [--all] [--built] [--jobs N] [CRATE..]
+    tools/edits.py [--all] [--jobs N] [CRATE..]
     tools/edits.py --self-test
 
 An edit is a file crates/NAME/edits/WHAT.edit: a line `file: src/x.rt`, then pairs of lines `old: TEXT` and `new: TEXT`, each TEXT one line
 that stands once in the file. With --all those of crates/NAME/must-fail/, which `rt ci` tries one by one, are tried too. With no CRATE
 every crate's are. N (2 unless said) is how many jobs a check has.
 
-A copy of the crate is edited in each function that has an edit, and checked once. An edit is refused where a goal of its own function
-fails. Two edits of a function, and those whose function only calls one that isn't proved, wait for a later round, which is checked over
-what the first one proved. Whatever a round leaves open is tried alone, and judged then by the whole crate. An edit that is proved, or that
-the prover never judged, is told by name. The last line is `N passed, M failed`: N edits were refused. The status is 0 only where M is 0.
-
-With --built the libraries below are those that `rt ci` has just built of this very checkout, so nothing is proved but the edited copies,
-of several crates side by side. Otherwise a crate is first checked as it is, in its own folder, which keeps what is proved in out/, and the
-copies are checked over that. A crate on which no other of them stands, and of which nothing is kept, isn't checked as it is.
-
-With --self-test made edits of the crate `table_terms` are tried, some of which must be told.
+A crate is first checked as it is, in its own folder, which keeps what is proved in out/. Then a copy is edited in each function that has
+an edit, and checked once over that work, while the next crate is checked. A crate on which no other of them stands, and of which nothing
+is kept, isn't checked as it is. An edit is refused where a goal of its own function fails. Two edits of a function, and those whose
+function only calls one that isn't proved, wait for a later round. Whatever a round leaves open is tried alone, and judged then by the
+whole crate. An edit that is proved, or that the prover never judged, is told by name. The last line is `N passed, M failed`: N edits were
+refused. The status is 0 only where M is 0. With --self-test made edits of the crate `table_terms` are tried, some of which must be told.
 """
 import argparse
 import concurrent.futures
@@ -114,9 +110,10 @@ def stop(*_):
     sys.exit(1)
 
 
-def check(folder, words):
-    """Runs a check, or another command, in a crate's folder."""
+def check(folder, jobs, verb="check"):
+    """Runs `rt check`, or another verb, in a crate's folder."""
     began = time.time()
+    words = ["rt", verb, "--jobs", str(jobs)]
     with tempfile.TemporaryFile("w+", errors="replace") as said:
         ran = subprocess.Popen(words, cwd=folder, stdin=subprocess.DEVNULL, stdout=said, stderr=subprocess.STDOUT)
         RUNNING.add(ran)
@@ -141,31 +138,10 @@ def below(lines, crate):
     return {crate}.union(*(below(lines, name) for name in names if name in lines))
 
 
-def rlib_of(top, crate):
-    """Where the library of a crate lies once it is built."""
-    return top / "crates" / crate / "out/rlib" / f"{crate}.rlib"
-
-
-def over_libraries(top, crate, jobs):
-    """The prover's own command for a crate, over the libraries that `rt ci` has built in this checkout."""
-    kit = pathlib.Path(subprocess.run(["rt", "doc"], capture_output=True, text=True, check=True).stdout.strip()).parent
+def copy_of(top, crate, room):
+    """Copies a crate, those below it, and what is kept of them, to a room of its own, and returns the crate's folder there."""
     lines = listed(top)
-    named = ["std", *lines[crate].partition(":")[2].split()]
-    libraries = {name: rlib_of(top, name) if name in lines else kit / "rlibs" / f"{name}.rlib" for name in named}
-    inside = [kit / "rlibs", *(rlib_of(top, name).parent for name in sorted(below(lines, crate) - {crate}))]
-    return [
-        *(str(kit / "bin/rattle"), "check", "--crate-name", crate, "src/lib.rt"),
-        *(word for name, library in libraries.items() for word in ("--extern", f"{name}={library}")),
-        *(word for folder in inside for word in ("-L", f"dependency={folder}")),
-        *("--antt-project", str(kit / "rattle/logic/antt-project.json"), "--logic-built", str(kit / "logic_built")),
-        *("--links", f"{crate}=", "--jobs", str(jobs), "--incremental", "out/incremental"),
-    ]
-
-
-def copy_of(top, crate, room, is_built):
-    """Copies a crate and what is kept of it to a room of its own, with the crates below where no command names their libraries."""
-    lines = listed(top)
-    names = {crate} if is_built else below(lines, crate)
+    names = below(lines, crate)
     (room / "crates.txt").write_text("".join(f"{line}\n" for name, line in lines.items() if name in names))
     for name in names:
         # of the crates below a check reads only what is built
@@ -174,8 +150,6 @@ def copy_of(top, crate, room, is_built):
                 shutil.copytree(top / "crates" / name / part, room / "crates" / name / part)
     if is_kept(top, crate):
         shutil.copytree(top / "crates" / crate / "out/incremental", room / "kept")
-    elif is_built:
-        (room / "crates" / crate / "out/incremental").mkdir(parents=True)
     return room / "crates" / crate
 
 
@@ -260,14 +234,14 @@ def one_round(edits):
 # The crates in turn.
 
 
-def rounds_of(top, crate, edits, words):
+def rounds_of(top, crate, edits, jobs):
     """Tries the edits of a proved crate. It yields, of each round, the check, how many were tried, and those settled."""
     with tempfile.TemporaryDirectory(prefix="edits-") as room:
-        folder = copy_of(top, crate, pathlib.Path(room), words[0] != "rt")
+        folder = copy_of(top, crate, pathlib.Path(room))
         while edits:
             tried = one_round(edits)
             renew(top / "crates" / crate, folder, pathlib.Path(room) / "kept", tried)
-            checked = check(folder, words)
+            checked = check(folder, jobs)
             settled = {tried[0].name: judge_alone(checked, tried[0])} if len(tried) == 1 else judge_together(checked, tried)
             edits = [it for it in edits if it.name not in settled]
             yield checked, len(tried), settled
@@ -281,7 +255,7 @@ class Trial:
     crate: str
     edits: list
     results: dict
-    words: list
+    jobs: int
 
     def prove(self, is_needed):
         """Checks the crate as it is; where no other crate needs it and nothing is kept, it only builds the crates below."""
@@ -290,9 +264,9 @@ class Trial:
             lines = listed(self.top)
             for name in lines[self.crate].partition(":")[2].split():
                 if name in lines:
-                    check(self.top / "crates" / name, ["rt", "lib", *self.words[2:]])
+                    check(self.top / "crates" / name, self.jobs, "lib")
             return
-        whole = check(self.top / "crates" / self.crate, self.words)
+        whole = check(self.top / "crates" / self.crate, self.jobs)
         print(f"{self.crate}: {len(self.edits)} edits; the crate as it is: {whole.cost()}", flush=True)
         if not whole.is_proved():
             print("\n".join(whole.lines[-5:]))
@@ -303,7 +277,7 @@ class Trial:
         """Tries the edits, and says of each what became of it."""
         print("".join(f"{line}\n" for _, line in self.results.values()), end="", flush=True)
         total, rounds = Checked([], 0, 0), 0
-        for checked, tried, settled in rounds_of(self.top, self.crate, self.edits, self.words):
+        for checked, tried, settled in rounds_of(self.top, self.crate, self.edits, self.jobs):
             rounds, total = rounds + 1, Checked([], total.seconds + checked.seconds, total.wall + checked.wall)
             self.results |= settled
             said = "".join(f"{line}\n" for _, line in settled.values())
@@ -312,17 +286,9 @@ class Trial:
         return self.results
 
 
-def trial_of(top, crate, parts, words):
+def trial_of(top, crate, parts, jobs):
     edits, bad = edits_of(top / "crates" / crate, parts)
-    return Trial(top, crate, edits, {name: (False, f"BAD EDIT {name}: {why}") for name, why in bad.items()}, words)
-
-
-def try_built(trials, lanes):
-    """Tries the edits of crates below which all is built, several crates side by side, those with the most proofs first."""
-    size = lambda trial: sum(file.stat().st_size for file in (trial.top / "crates" / trial.crate).rglob("*.antt"))
-    with concurrent.futures.ThreadPoolExecutor(max_workers=lanes) as pool:
-        found = list(pool.map(Trial.run, sorted(trials, key=size, reverse=True)))
-    return {name: result for one in found for name, result in one.items()}
+    return Trial(top, crate, edits, {name: (False, f"BAD EDIT {name}: {why}") for name, why in bad.items()}, jobs)
 
 
 def try_all(trials):
@@ -351,10 +317,6 @@ def made_edits(texts):
     }
 
 
-def by_rt(jobs):
-    return ["rt", "check", "--jobs", str(jobs)]
-
-
 def self_test(jobs):
     """Tries made edits over a copy of the crate `table_terms`, and returns whether each is told as it must be."""
     texts = [file.read_text() for part in ("edits", "must-fail") for file in sorted((TOP / "crates/table_terms" / part).glob("*.edit"))]
@@ -366,7 +328,7 @@ def self_test(jobs):
         (top / "crates/table_terms/edits").mkdir(exist_ok=True)
         for name, text in made_edits(texts).items():
             (top / f"crates/table_terms/edits/{name}.edit").write_text(text)
-        results = try_all([trial_of(top, "table_terms", ("edits",), by_rt(jobs))])
+        results = try_all([trial_of(top, "table_terms", ("edits",), jobs)])
     names = {name: results[f"table_terms/{name}.edit"] for name in wanted}
     wrong = [name for name, (is_refused, line) in names.items() if not line.startswith(wanted[name]) or is_refused != (name == "meant")]
     print(f"self-test FAILED: {' '.join(wrong)}" if wrong else "self-test ok", flush=True)
@@ -377,7 +339,6 @@ def main():
     parser = argparse.ArgumentParser(description=__doc__, formatter_class=argparse.RawDescriptionHelpFormatter)
     parser.add_argument("crates", nargs="*", metavar="CRATE")
     parser.add_argument("--all", action="store_true")
-    parser.add_argument("--built", action="store_true")
     parser.add_argument("--jobs", type=int, default=2)
     parser.add_argument("--self-test", action="store_true")
     given = parser.parse_args()
@@ -390,11 +351,7 @@ def main():
     parts = ["edits", *["must-fail"] * given.all]
     named = [crate for crate in listed(TOP) if not given.crates or crate in given.crates]
     having = [crate for crate in named if any(any((TOP / "crates" / crate / part).glob("*.edit")) for part in parts)]
-    if given.built:
-        trials = [trial_of(TOP, crate, parts, over_libraries(TOP, crate, given.jobs)) for crate in having]
-        results = try_built(trials, max(len(os.sched_getaffinity(0)) // given.jobs, 1))
-    else:
-        results = try_all([trial_of(TOP, crate, parts, by_rt(given.jobs)) for crate in having])
+    results = try_all([trial_of(TOP, crate, parts, given.jobs) for crate in having])
     passed = sum(is_refused for is_refused, _ in results.values())
     spent = resource.getrusage(resource.RUSAGE_CHILDREN)
     print(f"edits: {(spent.ru_utime + spent.ru_stime) / 60:.1f} CPU minutes")

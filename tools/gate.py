@@ -13,15 +13,15 @@ import time
 
 TICKS = os.sysconf("SC_CLK_TCK")
 GATE = os.path.join(os.path.dirname(os.path.abspath(__file__)), "..", ".ci", "run")
-KINDS = ("proof", "tests", "must-fail", "edits", "programs")
+KINDS = ("proof", "tests", "edits", "kept", "programs")
 
 
 def kind_of(words, folder):
-    """What a run of the prover is for: `must-fail` are the edits that `rt ci` tries, `edits` those of `tools/edits.py`."""
-    if os.path.basename(folder).startswith("rt-edit-"):
-        return "must-fail"
-    if "/edits-" in folder:
+    """What a run of the prover is for: `kept` is what `tools/edits.py` has proved before it tries the edits of a crate."""
+    if os.path.basename(folder).startswith("rt-edit-") or "/edits-" in folder:
         return "edits"
+    if "--incremental" in words:
+        return "kept"
     if "--test" in words:
         return "tests"
     return "programs" if "--backend" in words else "proof"
