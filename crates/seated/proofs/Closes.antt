@@ -8,7 +8,7 @@ use mathlib.Core.Logic.{dite}
 use mathlib.Core.Option.{some}
 use native.Mathlib.Decide.{ℕ_discrete}
 use Rattle.seated.specs.declared.seat.View.{View}
-use Rattle.seated.specs.Numbers.{StandIn}
+use Rattle.seated.specs.Numbers.{StandIn, KnowsEachBucket}
 use Rattle.seated.specs.Rule.{Fits}
 use Rattle.seated.proofs.Counts.{get_or_at, times_in}
 
@@ -33,3 +33,9 @@ module _ (n : ℕ) (words : List ℕ) (v : View) (count : length words ≡ n) (f
       let pair = fits.own x (times_in v.own x (k, inside, get_or_default v.own k x d inside)) in
       let f = fits.known pair.0 x pair.1 in
       (pair.0, omega (arith, f.0), get_or_default words pair.0 x 0 (omega (arith, f.0)) ∙ f.2)
+
+-- for callers: a seat that was told Full, or was joined to one, knows that every word was set
+pub every_word_set : (pairs : List (ℕ × ℕ)) (words : List ℕ) → KnowsEachBucket (length words) pairs → StandIn pairs words → All (λ x. 0 < x) words
+every_word_set pairs words each stands k d inside = let known = each k inside in
+    let here : get_or words k d ≡ known.0 = get_or_default words k d 0 inside ∙ (stands k known.0 known.2).1 in
+    subst (λ (z : ℕ). 0 < z) (sym here) known.1

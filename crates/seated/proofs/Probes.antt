@@ -10,6 +10,7 @@ use Rattle.seated.specs.declared.seat.View.{View}
 use Rattle.seated.specs.Views.{with_pair}
 use Rattle.table_terms.specs.Probes.{bucket_at}
 use Rattle.seated.specs.Rule.{IsLaidOut, Fits}
+use Rattle.seated.specs.Numbers.{KnowsEachBucket}
 use Rattle.seated.specs.Steps.{HasPassed, IsNext}
 
 -- a probe gets to each bucket
@@ -47,9 +48,10 @@ absent n ws v x k laid fits real passed empty p inside is =
 pub unknown : (n : ℕ) (ws : List ℕ) (v : View) (x : ℕ) → Fits n ws v → ((p : ℕ) → p < n → get_or ws p 0 ≢ x) → (p : ℕ) → Contains v.known (p, x) → ⊥
 unknown n ws v x fits none p c = let f = fits.known p x c in none p f.0 f.2
 
--- after a whole turn past other numbers, a pair is known for each bucket, and none has the number
-pub all_known : (n x : ℕ) (known : List (ℕ × ℕ)) → HasPassed n x known n → (p : ℕ) → p < n → (y : ℕ) × Contains known (p, y)
-all_known n x known passed p h = let w = probe_reaches n x p h in let r = passed w.0 w.1 in (r.0, subst (λ (z : ℕ). Contains known (z, r.0)) w.2 r.2)
+-- after a whole turn past other numbers, each bucket is known to hold a number, and none holds the one sought
+pub all_known : (n : ℕ) (ws : List ℕ) (v : View) (x : ℕ) → Fits n ws v → HasPassed n x v.known n → KnowsEachBucket n v.known
+all_known n ws v x fits passed p h = let w = probe_reaches n x p h in let r = passed w.0 w.1 in
+    let there : Contains v.known (p, r.0) = subst (λ (z : ℕ). Contains v.known (z, r.0)) w.2 r.2 in (r.0, (fits.known p r.0 there).1, there)
 
 pub none_known : (n : ℕ) (ws : List ℕ) (v : View) (x : ℕ) → Fits n ws v → HasPassed n x v.known n → (p : ℕ) → Contains v.known (p, x) → ⊥
 none_known n ws v x fits passed p c = let f = fits.known p x c in let w = probe_reaches n x p f.0 in let r = passed w.0 w.1 in

@@ -75,7 +75,7 @@ module _ (n x k : ℕ) (v w : View) (walked : Walked n x k v w) where
   -- the probe has made a whole turn
   pub goes_round : 0 < n → k ≡ n → KnowsEachBucket n w.known × (¬ Knows w.known x)
   goes_round some_places whole = let passed : HasPassed n x w.known n = subst (HasPassed n x w.known) whole walked.passed in let sound = walked.sound (omega arith) in
-      (all_known n x w.known passed, (λ known. none_known n sound.0 w x sound.2 passed known.0 known.1))
+      (all_known n sound.0 w x sound.2 passed, (λ known. none_known n sound.0 w x sound.2 passed known.0 known.1))
 
 -- what a read adds to what is known
 pub reads_more : (g : View → View) (slots p r : ℕ) (me me' : SeatState) → ((v : View) → (g v).known ≡ v.known) → Reads g (step slots p 0 0 none) me r me' → Within me.0.known me'.0.known

@@ -20,9 +20,9 @@ Knows pairs x = (p : ℕ) × Contains pairs (p, x)
 unfoldable pub KnowsEach : List (ℕ × ℕ) → List ℕ → Type 0
 KnowsEach pairs numbers = All (Knows pairs) numbers
 
--- a pair is known for each of the n buckets
+-- of each of the n buckets it is known that it holds a number, which isn't 0
 abbrev pub KnowsEachBucket : ℕ → List (ℕ × ℕ) → Type 0
-KnowsEachBucket n pairs = (p : ℕ) → p < n → (x : ℕ) × Contains pairs (p, x)
+KnowsEachBucket n pairs = (p : ℕ) → p < n → (x : ℕ) × (0 < x) × Contains pairs (p, x)
 
 -- each pair of the first is in the second
 abbrev pub Within : List (ℕ × ℕ) → List (ℕ × ℕ) → Type 0
