@@ -15,10 +15,10 @@ pub mod laws;
 pub mod place;
 pub mod shared;
 
-pub use into_iter::IntoIter;
+pub use into_iter::IntoIter as HeldIntoIter;
 pub use iter::HeldIter;
 pub use place::ShardPlace;
-pub use shared::ShardedLockFreeRawTable;
+pub use shared::{IntoIter, Iter, ShardedLockFreeRawTable};
 use std::alloc::{Allocator, Global};
 use std::array;
 use std::marker::Model;
