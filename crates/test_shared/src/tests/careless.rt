@@ -1,5 +1,5 @@
 //! Closures that keep no law, in rows whose end is known.
-use super::numbers::{Numbers, Tally, Told, sum};
+use super::numbers::{Numbers, Tally, Told, assert_counted, assert_tally, sum};
 use lock_free_hashtable::raw::LockFreeRawTable;
 use std::alloc::{AllocError, Global};
 use std::process::Abort;
@@ -58,6 +58,55 @@ fn give<R: Wait, E: Fn(&u64, &u64) -> bool, H: Fn(&u64) -> u64>(
     Ok(tally)
 }
 
+/// Threads insert all numbers at once, each under the bits of it that the mask names as its hash: what they are told.
+fn give_all<R: Threads + Wait + Sync, E: Fn(&u64, &u64) -> bool + Sync, H: Fn(&u64) -> u64 + Sync>(
+    rt: &R,
+    table: &Numbers<Global>,
+    alloc: Global,
+    mask: u64,
+    eq: &E,
+    hash_fn: &H,
+) -> Result<Tally, AllocError>
+    requires eq_callable { E.IsAlwaysCallable eq.now }
+    requires hash_callable { H.IsAlwaysCallable hash_fn.now }
+{
+    let told = thread::map_indices(
+        rt,
+        alloc,
+        THREADS as usize,
+        &|thread: usize| -> Result<Tally, AllocError>
+            requires { E.IsAlwaysCallable eq.now × H.IsAlwaysCallable hash_fn.now }
+        { give(rt, table, alloc, thread as u64, mask, eq, hash_fn) },
+    )?;
+    sum(told.as_slice())
+}
+
+/// The table hands out so many of the numbers, each once.
+fn assert_handed<R: Abort>(
+    rt: &R,
+    table: Numbers<Global>,
+    alloc: Global,
+    placed: u64,
+) -> Result<(), AllocError> {
+    let mut numbers = Vec::new(alloc);
+    for number in table {
+        numbers.push(*number)?;
+    }
+    numbers.sort_unstable();
+    let mut rising = 0u64;
+    let mut least = 0u64;
+    for number in numbers.as_slice() {
+        rising = rising.wrapping_add(u64::from(least <= *number && *number < THREADS * NUMBERS));
+        least = number.wrapping_add(1);
+    }
+    assert_counted(
+        rt,
+        [numbers.len() as u64, rising].as_slice(),
+        [placed, placed].as_slice(),
+    );
+    Ok(())
+}
+
 /// Threads insert all numbers at once, each under the bits of it that the mask names as its hash. So many are placed, all
 /// others come back, and what the table hands out are as many of the numbers, each once.
 fn assert_kept<
@@ -69,29 +118,10 @@ fn assert_kept<
     requires hash_callable { H.IsAlwaysCallable hash_fn.now }
 {
     let table: Numbers<Global> = LockFreeRawTable::new(alloc);
-    let told = thread::map_indices(
-        rt,
-        alloc,
-        THREADS as usize,
-        &|thread: usize| -> Result<Tally, AllocError>
-            requires { E.IsAlwaysCallable eq.now × H.IsAlwaysCallable hash_fn.now }
-        { give(rt, &table, alloc, thread as u64, mask, eq, hash_fn) },
-    )?;
-    let found = (THREADS * NUMBERS).wrapping_sub(placed);
-    let sum = sum(told.as_slice())?;
-    assert_eq!(rt; (sum.placed, sum.found, sum.other), (placed, found, 0));
-    assert_eq!(rt; table.len() as u64, placed);
-    let mut numbers = Vec::new(alloc);
-    for number in table {
-        assert!(rt; *number < THREADS * NUMBERS);
-        numbers.push(*number)?;
-    }
-    numbers.sort_unstable();
-    assert_eq!(rt; numbers.len() as u64, placed);
-    for pair in numbers.as_slice().windows(2) {
-        assert!(rt; pair.first() < pair.last());
-    }
-    Ok(())
+    let told = give_all(rt, &table, alloc, mask, eq, hash_fn)?;
+    assert_tally(rt, told, placed, (THREADS * NUMBERS).wrapping_sub(placed));
+    assert_counted(rt, [table.len() as u64].as_slice(), [placed].as_slice());
+    assert_handed(rt, table, alloc, placed)
 }
 
 #[test]

@@ -1,10 +1,10 @@
 //! Counting values in a shared table whose memory keeps a rule.
 use super::numbers::{Tally, Told};
+use lock_free_hashtable::raw::{LockFreeRawTable, is_first_capacity};
 use std::alloc::{AllocError, Global};
 use std::ops::Range;
 use std::process::Abort;
 use std::sync::Wait;
-use table_shared::LockFreeRawTable;
 use table_terms::law::hash_number;
 use testkit_counting::{Counting, Drops};
 use testkit_refusing::{Refusing, Rule};
@@ -16,7 +16,7 @@ const BLOCK: usize = 16;
 const LOOKS: u64 = 1 << 27;
 
 /// A first capacity at which a round needs no growth.
-pub(crate) const CAPACITY: usize = 1024;
+const CAPACITY: usize = 1024;
 
 /// A shared table of boxed counting values.
 pub(crate) type Countings<'m> = LockFreeRawTable<Box<Counting>, &'m Refusing<Global>>;
@@ -54,18 +54,19 @@ pub(crate) fn insert<R: Wait>(
     }
 }
 
-/// Gives the empty table its first generation: the block of the entry is refused.
-pub(crate) fn open<R: Abort + Wait>(
+/// A table that has its first generation and no entry: the block of this value was refused.
+pub(crate) fn opened<'m, R: Abort + Wait>(
     rt: &R,
-    table: &Countings<'_>,
+    heap: &'m Refusing<Global>,
     drops: &Drops,
     number: u64,
-) -> Result<(), AllocError> {
-    let told = insert(rt, table, 0, drops.counting(number)?);
-    assert_eq!(rt; told, Told::Refused);
-    assert_eq!(rt; table.len(), 0);
-    assert!(rt; table.current().is_some());
-    Ok(())
+) -> Result<Countings<'m>, AllocError> {
+    assert!(rt; is_first_capacity(CAPACITY));
+    let table: Countings<'m> = LockFreeRawTable::with_first_capacity(heap, CAPACITY);
+    let told = insert(rt, &table, 0, drops.counting(number)?);
+    let is_open = told == Told::Refused && table.is_empty() && table.current().is_some();
+    assert!(rt; is_open, "{told:?}");
+    Ok(table)
 }
 
 /// What threads share that fill a table.

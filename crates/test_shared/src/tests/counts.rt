@@ -1,7 +1,8 @@
 //! What the count of a table says while threads insert, and what they are told where a generation is full.
 use super::growth::capacity;
 use super::numbers::{
-    Numbers, Tally, Told, assert_entries, assert_entries_by, contains, insert, insert_by,
+    Numbers, Tally, Told, assert_counted, assert_entries, assert_entries_by, assert_tally,
+    assert_told, contains, insert, insert_by,
 };
 use lock_free_hashtable::raw::LockFreeRawTable;
 use std::alloc::{AllocError, Allocator, Global};
@@ -101,6 +102,23 @@ const FOUND_BY_THE_LOSER: Meeting = Meeting {
     buckets: 32,
 };
 
+/// Both numbers are offered at once: what the two inserts are told.
+fn offer<R: Threads + Wait + Sync>(
+    rt: &R,
+    table: &Numbers<&Memory<'_>>,
+    alloc: Global,
+    ways: Ways,
+    pair: (u64, u64),
+) -> Result<Tally, AllocError> {
+    let (first, second) = (Box::new(alloc, pair.0)?, Box::new(alloc, pair.1)?);
+    let (first, second) = thread::join(
+        rt,
+        || insert_by(rt, table, first, |number: u64| ways.hash(number)),
+        || insert_by(rt, table, second, |number: u64| ways.hash(number)),
+    );
+    Ok(Tally::NONE.with(first).with(second))
+}
+
 /// Both numbers of each pair are offered at once.
 fn assert_meets<R: Abort + Threads + Wait + Sync>(
     rt: &R,
@@ -111,22 +129,29 @@ fn assert_meets<R: Abort + Threads + Wait + Sync>(
     let growth = Refusing::new(alloc, Rule::new(BLOCK + 1, usize::MAX, 0, 0));
     let heap = Refusing::new(&growth, Rule::new(BLOCK, BLOCK, 0, 1).paired(pairs, LOOKS));
     let table: Numbers<&Memory<'_>> = LockFreeRawTable::new(&heap);
-    assert_eq!(rt; insert(rt, &table, Box::new(alloc, 0u64)?), Told::Refused);
+    assert_told(rt, &table, alloc, 0, Told::Refused)?;
     assert!(rt; table.current().is_some() && table.is_empty());
     growth.refuse(0, meeting.refused);
     let mut tally = Tally::NONE;
-    for &(first, second) in meeting.pairs {
-        let (first, second) = (Box::new(alloc, first)?, Box::new(alloc, second)?);
-        let (first, second) = thread::join(
-            rt,
-            || insert_by(rt, &table, first, |number: u64| meeting.ways.hash(number)),
-            || insert_by(rt, &table, second, |number: u64| meeting.ways.hash(number)),
-        );
-        tally = tally.with(first).with(second);
+    for &pair in meeting.pairs {
+        tally = tally.and(offer(rt, &table, alloc, meeting.ways, pair)?);
     }
-    assert_eq!(rt; (heap.went_alone(), growth.refusals_left()), (0, 0));
-    assert_eq!(rt; (tally.placed, tally.other), (meeting.placed, 0));
-    assert_eq!(rt; capacity(&table), meeting.buckets);
+    assert_tally(
+        rt,
+        tally,
+        meeting.placed,
+        (2 * pairs).wrapping_sub(meeting.placed),
+    );
+    assert_counted(
+        rt,
+        [
+            heap.went_alone(),
+            growth.refusals_left(),
+            capacity(&table) as u64,
+        ]
+        .as_slice(),
+        [0, 0, meeting.buckets as u64].as_slice(),
+    );
     assert_entries_by(
         rt,
         &table,
@@ -153,34 +178,41 @@ fn growth_comes_after_what_a_loser_found(rt: HostRuntime) -> Result<(), Fail> {
     Ok(())
 }
 
-/// Inserts the number, which is told so.
-fn assert_told<R: Abort + Wait, A: table_cell::Low + Copy>(
+/// Fills the first generation of the empty table, whose growth is refused from the second number on.
+fn fill_first<R: Abort + Wait>(
     rt: &R,
-    table: &Numbers<A>,
+    table: &Numbers<&Refusing<Global>>,
     alloc: Global,
-    number: u64,
-    told: Told,
+    heap: &Refusing<Global>,
 ) -> Result<(), AllocError> {
-    let value = Box::new(alloc, number)?;
-    assert_eq!(rt; insert(rt, table, value), told, "{number}");
+    assert_told(rt, table, alloc, 0, Told::Placed)?;
+    heap.refuse(0, u64::MAX);
+    for number in 1..16 {
+        assert_told(rt, table, alloc, number, Told::Placed)?;
+    }
     Ok(())
+}
+
+/// So many entries, in a current generation of so many buckets.
+fn assert_size<R: Abort>(rt: &R, table: &Numbers<&Refusing<Global>>, entries: u64, buckets: u64) {
+    assert_counted(
+        rt,
+        [table.len() as u64, capacity(table) as u64].as_slice(),
+        [entries, buckets].as_slice(),
+    );
 }
 
 #[test]
 fn a_full_generation_grows_once_there_is_memory(rt: HostRuntime) -> Result<(), Fail> {
     let heap = Refusing::new(rt.alloc(), Rule::new(BLOCK + 1, usize::MAX, 0, 0));
     let table: Numbers<&Refusing<Global>> = LockFreeRawTable::new(&heap);
-    assert_told(&rt, &table, rt.alloc(), 0, Told::Placed)?;
-    heap.refuse(0, u64::MAX);
-    for number in 1..16 {
-        assert_told(&rt, &table, rt.alloc(), number, Told::Placed)?;
-    }
+    fill_first(&rt, &table, rt.alloc(), &heap)?;
     assert_told(&rt, &table, rt.alloc(), 16, Told::Refused)?;
     assert_told(&rt, &table, rt.alloc(), 4, Told::Found)?;
-    assert_eq!(rt; (table.len(), capacity(&table)), (16, 16));
+    assert_size(&rt, &table, 16, 16);
     heap.refuse(0, 0);
     assert_told(&rt, &table, rt.alloc(), 4, Told::Found)?;
-    assert_eq!(rt; (table.len(), capacity(&table)), (16, 32));
+    assert_size(&rt, &table, 16, 32);
     Ok(())
 }
 
@@ -188,15 +220,11 @@ fn a_full_generation_grows_once_there_is_memory(rt: HostRuntime) -> Result<(), F
 fn a_full_generation_grows_for_a_new_number(rt: HostRuntime) -> Result<(), Fail> {
     let heap = Refusing::new(rt.alloc(), Rule::new(BLOCK + 1, usize::MAX, 0, 0));
     let table: Numbers<&Refusing<Global>> = LockFreeRawTable::new(&heap);
-    assert_told(&rt, &table, rt.alloc(), 0, Told::Placed)?;
-    heap.refuse(0, u64::MAX);
-    for number in 1..16 {
-        assert_told(&rt, &table, rt.alloc(), number, Told::Placed)?;
-    }
+    fill_first(&rt, &table, rt.alloc(), &heap)?;
     heap.refuse(0, 0);
     assert_told(&rt, &table, rt.alloc(), 16, Told::Placed)?;
     assert_entries(&rt, &table, 17);
-    assert_eq!(rt; capacity(&table), 64);
+    assert_size(&rt, &table, 17, 64);
     Ok(())
 }
 

@@ -1,7 +1,7 @@
 //! Each value is dropped once: those that came back, those that are taken out at the end, and the rest.
-use super::countings::{CAPACITY, Countings, Filling, fill, open, paired};
-use super::numbers::{Tally, sum};
-use lock_free_hashtable::raw::{LockFreeRawTable, is_first_capacity};
+use super::countings::{Countings, Filling, fill, opened, paired};
+use super::numbers::{Tally, assert_counted, assert_tally, sum};
+use lock_free_hashtable::raw::LockFreeRawTable;
 use std::alloc::{AllocError, Global};
 use std::process::Abort;
 use std::sync::Wait;
@@ -30,24 +30,25 @@ fn assert_ends(
     gone: u64,
 ) -> Result<(), AllocError> {
     let entries = table.len() as u64;
-    assert_eq!(rt; drops.dropped(1), gone);
+    let before = drops.dropped(1);
     let mut rest = table.into_iter();
-    assert_eq!(rt; rest.len() as u64, entries);
+    let length = rest.len() as u64;
     let mut kept = Vec::new(alloc);
     for _value in 0..taken {
         if let Some(value) = rest.next() {
             kept.push(value)?;
         }
     }
-    assert_eq!(rt; kept.len() as u64, taken);
-    assert_eq!(rt; drops.dropped(1), gone);
+    let (count, with_all) = (kept.len() as u64, drops.dropped(1));
     drop(rest);
-    assert_eq!(rt;
-        drops.dropped(1),
-        gone.wrapping_add(entries).wrapping_sub(taken)
-    );
+    let with_kept = drops.dropped(1);
     drop(kept);
-    assert_eq!(rt; drops.dropped(1), gone.wrapping_add(entries));
+    let all = gone.wrapping_add(entries);
+    assert_counted(
+        rt,
+        [length, count, before, with_all, with_kept, drops.dropped(1)].as_slice(),
+        [entries, taken, gone, gone, all.wrapping_sub(taken), all].as_slice(),
+    );
     Ok(())
 }
 
@@ -83,10 +84,13 @@ fn assert_grown<R: Abort + Threads + Wait + Sync>(
     };
     let told = fill_at_once(rt, alloc, &filling, CLASSES, 4)?;
     let found = 3 * CLASSES;
-    assert_eq!(rt; (told.placed, told.found, told.other), (CLASSES, found, 0));
+    assert_tally(rt, told, CLASSES, found);
     assert_ends(rt, table, alloc, &drops, taken, found)?;
-    assert_eq!(rt; drops.dropped(1), 4 * CLASSES);
-    assert_eq!(rt; heap.given_back(), heap.granted());
+    assert_counted(
+        rt,
+        [drops.dropped(1), heap.given_back()].as_slice(),
+        [4 * CLASSES, heap.granted()].as_slice(),
+    );
     Ok(())
 }
 
@@ -99,25 +103,34 @@ fn assert_lost<R: Abort + Threads + Wait + Sync>(
 ) -> Result<(), AllocError> {
     let heap = paired(alloc, LOST);
     let drops = Drops::new(alloc, 4 * CLASSES)?;
-    assert!(rt; is_first_capacity(CAPACITY));
-    let table: Countings<'_> = LockFreeRawTable::with_first_capacity(&heap, CAPACITY);
-    open(rt, &table, &drops, 3)?;
+    let table = opened(rt, &heap, &drops, 3)?;
     let before = heap.granted();
     let filling = Filling {
         table: &table,
         drops: &drops,
     };
     let told = fill_at_once(rt, alloc, &filling, LOST, 2)?;
-    assert_eq!(rt; (told.placed, told.found, told.other), (LOST, LOST, 0));
-    assert_eq!(rt; heap.went_alone(), 0);
-    assert_eq!(rt; heap.granted().wrapping_sub(before), 2 * LOST);
-    assert_eq!(rt; heap.given_back(), LOST);
-    assert_eq!(rt; table.len() as u64, LOST);
+    assert_tally(rt, told, LOST, LOST);
+    let asked = heap.granted().wrapping_sub(before);
+    assert_counted(
+        rt,
+        [
+            heap.went_alone(),
+            asked,
+            heap.given_back(),
+            table.len() as u64,
+        ]
+        .as_slice(),
+        [0, 2 * LOST, LOST, LOST].as_slice(),
+    );
     let told = fill(rt, &filling, LOST..CLASSES, 0)?;
-    assert_eq!(rt; told.placed, CLASSES - LOST);
+    assert_tally(rt, told, CLASSES - LOST, 0);
     assert_ends(rt, table, alloc, &drops, taken, LOST + 1)?;
-    assert_eq!(rt; drops.dropped(1), CLASSES + LOST + 1);
-    assert_eq!(rt; heap.given_back(), heap.granted());
+    assert_counted(
+        rt,
+        [drops.dropped(1), heap.given_back()].as_slice(),
+        [CLASSES + LOST + 1, heap.granted()].as_slice(),
+    );
     Ok(())
 }
 

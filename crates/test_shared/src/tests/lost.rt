@@ -1,15 +1,14 @@
 //! Exchanges that are lost for sure: two threads ask for the block of an entry, each for the same empty bucket, and neither is
 //! answered before the other has asked.
-use super::countings::{CAPACITY, Countings, insert, open, paired};
-use super::numbers::Tally;
-use lock_free_hashtable::raw::{LockFreeRawTable, is_first_capacity};
+use super::countings::{Countings, insert, opened, paired};
+use super::numbers::{Tally, assert_counted, assert_tally};
 use std::alloc::{AllocError, Global};
 use std::process::Abort;
 use std::sync::Wait;
 use std::test::Fail;
 use std::thread;
 use std::thread::Threads;
-use testkit_counting::Drops;
+use testkit_counting::{Counting, Drops};
 
 /// The hash of the first of two values, whose number is 0.
 const HASH: u64 = 5;
@@ -26,6 +25,22 @@ const MEETINGS: [(u64, u64, u64, u64); 5] = [
     (1, HASH + (1 << 32), 2, 3),
 ];
 
+/// Two values are offered at once, each under its hash: what the two inserts are told.
+fn offer<R: Threads + Wait + Sync>(
+    rt: &R,
+    table: &Countings<'_>,
+    first: Box<Counting>,
+    hash: u64,
+    second: Box<Counting>,
+) -> Tally {
+    let (first, second) = thread::join(
+        rt,
+        || insert(rt, table, HASH, first),
+        || insert(rt, table, hash, second),
+    );
+    Tally::NONE.with(first).with(second)
+}
+
 /// The number 0 and another one are offered to one empty bucket.
 fn assert_met<R: Abort + Threads + Wait + Sync>(
     rt: &R,
@@ -35,31 +50,35 @@ fn assert_met<R: Abort + Threads + Wait + Sync>(
     let (number, hash, placed, blocks) = meeting;
     let drops = Drops::new(alloc, 8)?;
     let heap = paired(alloc, 1);
-    assert!(rt; is_first_capacity(CAPACITY));
-    let table: Countings<'_> = LockFreeRawTable::with_first_capacity(&heap, CAPACITY);
-    open(rt, &table, &drops, 7)?;
+    let table = opened(rt, &heap, &drops, 7)?;
     let before = heap.granted();
-    let first = drops.counting(0)?;
-    let second = drops.counting(number)?;
-    let (first, second) = thread::join(
+    let tally = offer(
         rt,
-        || insert(rt, &table, HASH, first),
-        || insert(rt, &table, hash, second),
+        &table,
+        drops.counting(0)?,
+        hash,
+        drops.counting(number)?,
     );
-    let tally = Tally::NONE.with(first).with(second);
-    assert_eq!(rt; heap.went_alone(), 0);
-    assert_eq!(rt; heap.granted().wrapping_sub(before), blocks);
-    assert_eq!(rt; heap.given_back(), 1);
-    assert_eq!(rt;
-        (tally.placed, tally.found, tally.other),
-        (placed, 2u64.wrapping_sub(placed), 0)
+    let found = 2u64.wrapping_sub(placed);
+    assert_tally(rt, tally, placed, found);
+    let asked = heap.granted().wrapping_sub(before);
+    let shown = table.iter().count() as u64;
+    assert_counted(
+        rt,
+        [heap.went_alone(), asked, heap.given_back()].as_slice(),
+        [0, blocks, 1].as_slice(),
     );
-    assert_eq!(rt; table.len() as u64, placed);
-    assert_eq!(rt; table.iter().count() as u64, placed);
-    assert_eq!(rt; drops.dropped(1), 3u64.wrapping_sub(placed));
+    assert_counted(
+        rt,
+        [table.len() as u64, shown, drops.dropped(1)].as_slice(),
+        [placed, placed, found.wrapping_add(1)].as_slice(),
+    );
     drop(table);
-    assert_eq!(rt; (drops.dropped(0), drops.dropped(1)), (5, 3));
-    assert_eq!(rt; heap.given_back(), heap.granted());
+    assert_counted(
+        rt,
+        [drops.dropped(0), drops.dropped(1), heap.given_back()].as_slice(),
+        [5, 3, heap.granted()].as_slice(),
+    );
     Ok(())
 }
 

@@ -24,7 +24,7 @@ pub(crate) enum Told {
 }
 
 /// How many inserts were told what.
-#[derive(Clone, Copy, Debug, PartialEq, Eq)]
+#[derive(Clone, Copy)]
 pub(crate) struct Tally {
     pub placed: u64,
     pub found: u64,
@@ -84,6 +84,42 @@ pub(crate) fn sum(tallies: &[Result<Tally, AllocError>]) -> Result<Tally, AllocE
         }
     }
     Ok(sum)
+}
+
+/// These counts are seen.
+pub(crate) fn assert_counted<R: Abort>(rt: &R, seen: &[u64], expected: &[u64]) {
+    assert_eq!(rt; seen, expected);
+}
+
+/// So many inserts were told Placed, so many Found, and none anything else.
+pub(crate) fn assert_tally<R: Abort>(rt: &R, told: Tally, placed: u64, found: u64) {
+    assert_counted(
+        rt,
+        [told.placed, told.found, told.other].as_slice(),
+        [placed, found, 0].as_slice(),
+    );
+}
+
+/// What an insert of the number is told, for which there is memory.
+pub(crate) fn insert_number<R: Wait, A: Low + Copy>(
+    rt: &R,
+    table: &Numbers<A>,
+    alloc: Global,
+    number: u64,
+) -> Result<Told, AllocError> {
+    Ok(insert(rt, table, Box::new(alloc, number)?))
+}
+
+/// Inserts the number, which is told so.
+pub(crate) fn assert_told<R: Abort + Wait, A: Low + Copy>(
+    rt: &R,
+    table: &Numbers<A>,
+    alloc: Global,
+    number: u64,
+    told: Told,
+) -> Result<(), AllocError> {
+    assert_eq!(rt; insert_number(rt, table, alloc, number)?, told, "{number}");
+    Ok(())
 }
 
 /// What an insert of the value is told.
@@ -147,19 +183,53 @@ pub(crate) fn assert_entries_by<R: Abort, A: Allocator + Copy, H: Fn(u64) -> u64
 )
     requires { H.IsAlwaysCallable hash_of }
 {
-    for number in 0..count {
-        assert!(rt; contains_at(table, number, hash_of(number)), "{number}");
+    let missed = first_missed(table, count, &hash_of);
+    assert_counted(
+        rt,
+        [missed, table.len() as u64].as_slice(),
+        [count, count].as_slice(),
+    );
+    let Walked { shown, below, sum } = walk(table, count);
+    assert_counted(
+        rt,
+        [shown, below, sum].as_slice(),
+        [count, count, sum_below(count)].as_slice(),
+    );
+}
+
+/// The first number that no look-up finds, of those up to `count`.
+fn first_missed<A: Allocator + Copy, H: Fn(u64) -> u64>(
+    table: &Numbers<A>,
+    count: u64,
+    hash_of: &H,
+) -> u64
+    requires { H.IsAlwaysCallable hash_of.now }
+{
+    let beyond = count.wrapping_add(1);
+    for number in 0..beyond {
+        if !contains_at(table, number, hash_of(number)) {
+            return number;
+        }
     }
-    assert!(rt; !contains_at(table, count, hash_of(count)));
-    assert_eq!(rt; table.len() as u64, count);
-    let (mut walked, mut sum) = (0u64, 0u64);
+    beyond
+}
+
+/// The numbers that a walk shows: how many there are, how many of them below a bound, and their sum.
+struct Walked {
+    shown: u64,
+    below: u64,
+    sum: u64,
+}
+
+/// Walks the table, whose numbers are to be below this one.
+fn walk<A: Allocator + Copy>(table: &Numbers<A>, bound: u64) -> Walked {
+    let (mut shown, mut below, mut sum) = (0u64, 0u64, 0u64);
     for number in table.iter() {
-        assert!(rt; *number < count);
-        walked = walked.wrapping_add(1);
+        shown = shown.wrapping_add(1);
+        below = below.wrapping_add(u64::from(*number < bound));
         sum = sum.wrapping_add(*number);
     }
-    assert_eq!(rt; walked, count);
-    assert_eq!(rt; sum, sum_below(count));
+    Walked { shown, below, sum }
 }
 
 /// The sum of the numbers below `count`.
