@@ -64,7 +64,7 @@ pub(crate) fn opened<'m, R: Abort + Wait>(
     assert!(rt; is_first_capacity(CAPACITY));
     let table: Countings<'m> = LockFreeRawTable::with_first_capacity(heap, CAPACITY);
     let told = insert(rt, &table, 0, drops.counting(number)?);
-    let is_open = told == Told::Refused && table.is_empty() && table.current().is_some();
+    let is_open = told == Told::Refused && table.len() == 0 && table.current().is_some();
     assert!(rt; is_open, "{told:?}");
     Ok(table)
 }
