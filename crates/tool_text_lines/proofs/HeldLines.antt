@@ -9,7 +9,8 @@ use Rattle.std.proofs.Math.ListN.{get_or-map}
 use Rattle.table_held.specs.Table.{HeldTable, Place, entries, entry_at}
 use Rattle.table_held.specs.Held.{ShowsAt, IsLawfulInsert, PlacesAsList, InsertReplies, equal, LooksUpAsList, LookupReplies, IsLawfulLookup}
 use Rattle.table_terms.specs.ListObject.{ListReply, Placed, Found, Insert, Lookup, Answers}
-use Rattle.tool_text_lines.specs.Hashes.{line_hash, same_by_bytes, hash_by_bytes}
+use Rattle.interner.specs.Hashes.{mixed_hash}
+use Rattle.tool_text_lines.specs.Hashes.{same_by_bytes, hash_by_bytes}
 use Rattle.std.specs.Io.KnownBytes.{Appends}
 use Rattle.std.proofs.KnownBytes.{Appends-trans}
 use Rattle.tool_text_lines.specs.Firsts.{firsts, deduped, with_break}
@@ -45,10 +46,10 @@ module _ {T V : Type 0} (target : T → V) (bytes : V → List ℕ) where
   has x v = bytes_eq (bytes v) x
 
   lawful_lookup : (t : HeldTable T) (answers : V → Bool → Type 0) (x : List ℕ) → ((v : V) (answer : Bool) → answers v answer → answer ≡ has x v) → IsLineTable target bytes t
-      → IsLawfulLookup target (same_by_bytes bytes) (hash_by_bytes bytes) answers (IsLineTable target bytes t) (entries t) (line_hash x) (has x)
+      → IsLawfulLookup target (same_by_bytes bytes) (hash_by_bytes bytes) answers (IsLineTable target bytes t) (entries t) (mixed_hash x) (has x)
   lawful_lookup t answers x test_is lawful = record {
     test_is = λ e answer among h. test_is _ answer h;
-    hash_is = λ e among h. ap line_hash ((bytes_eq-Decides (bytes_of e) x).0 h);
+    hash_is = λ e among h. ap mixed_hash ((bytes_eq-Decides (bytes_of e) x).0 h);
     table_is = lawful;
   }
 
@@ -66,11 +67,11 @@ module _ {T V : Type 0} (target : T → V) (bytes : V → List ℕ) where
       (λ yes. rw same at (has_bytes M e told.0.0), λ among. refl)
 
   pub looks_up : (answers : V → Bool → Type 0) (t : HeldTable T) (x : List ℕ) (hash : ℕ) (shown : Option V) → IsLineTable target bytes t
-      → ((v : V) (answer : Bool) → answers v answer → answer ≡ has x v) → hash ≡ line_hash x
+      → ((v : V) (answer : Bool) → answers v answer → answer ≡ has x v) → hash ≡ mixed_hash x
       → LooksUpAsList target (same_by_bytes bytes) (hash_by_bytes bytes) answers t hash shown
       → (lines : List (List ℕ)) → HoldsLines target bytes t lines → IsTrue (is_some shown) ↔ Contains lines x
   looks_up answers t x hash shown lawful test_is hash_is as_list lines (M, stands, is) =
-      let at_hash : LooksUpAsList target (same_by_bytes bytes) (hash_by_bytes bytes) answers t (line_hash x) shown = rw hash_is at as_list in
+      let at_hash : LooksUpAsList target (same_by_bytes bytes) (hash_by_bytes bytes) answers t (mixed_hash x) shown = rw hash_is at as_list in
       let told = at_hash (has x) (lawful_lookup t answers x test_is lawful) M stands in
       let among : IsTrue (is_some shown) ↔ Contains (firsts lines) x = rw is at (shown_among M x told.0 shown told.1 told.2) in
       (λ yes. Contains_from_firsts lines x (among.0 yes), λ known. among.1 (Contains_in_firsts lines x known))
@@ -104,13 +105,13 @@ module _ {T V : Type 0} (target : T → V) (bytes : V → List ℕ) where
   lawful_insert : (eq : V → V → Bool → Type 0) (rehash : V → ℕ → Type 0) (old : HeldTable T) (hash : ℕ) (value : T) (x : List ℕ) → IsLineTable target bytes old
       → ((a b : V) (answer : Bool) → eq a b answer → answer ≡ same_by_bytes bytes a b)
       → ((a : V) (h : ℕ) → rehash a h → h ≡ hash_by_bytes bytes a)
-      → hash ≡ line_hash x → bytes_of value ≡ x
+      → hash ≡ mixed_hash x → bytes_of value ≡ x
       → IsLawfulInsert target (same_by_bytes bytes) (hash_by_bytes bytes) eq rehash (IsLineTable target bytes old) (entries old) hash value
   lawful_insert eq rehash old hash value x lawful eq_is rehash_is hash_is value_is = record {
     eq_is = λ e answer among h. eq_is _ _ answer h;
     rehash_is = λ e h among r. rehash_is _ h r;
     rehash_value_is = λ h r. rehash_is _ h r;
-    hash_is = hash_is ∙ ap line_hash (sym value_is);
+    hash_is = hash_is ∙ ap mixed_hash (sym value_is);
     table_is = lawful;
   }
 
@@ -118,7 +119,7 @@ module _ {T V : Type 0} (target : T → V) (bytes : V → List ℕ) where
   pub keeps : (eq : V → V → Bool → Type 0) (rehash : V → ℕ → Type 0) (old new : HeldTable T) (hash : ℕ) (value : T) (x : List ℕ) (p : Place) (back : Option T) → IsLineTable target bytes old
       → ((a b : V) (answer : Bool) → eq a b answer → answer ≡ same_by_bytes bytes a b)
       → ((a : V) (h : ℕ) → rehash a h → h ≡ hash_by_bytes bytes a)
-      → hash ≡ line_hash x → bytes_of value ≡ x
+      → hash ≡ mixed_hash x → bytes_of value ≡ x
       → PlacesAsList target (same_by_bytes bytes) (hash_by_bytes bytes) eq rehash old hash value (Ok (p, back)) new
       → (lines : List (List ℕ)) → HoldsLines target bytes old lines → HoldsLines target bytes new (lines ++ x ∷ [])
   keeps eq rehash old new hash value x p back lawful eq_is rehash_is hash_is value_is as_list lines (M, stands, is) =

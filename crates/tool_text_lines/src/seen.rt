@@ -1,8 +1,9 @@
 //! The different lines of a text.
 ghost use Rattle.std.specs.Prelude.{◌≡◌, ◌↔◌, ◌++◌, ◌∷◌, [], IfOk, OnOk, OnErr, IsTrue, List, ℕ, Contains};
-ghost use Rattle.tool_text_lines.specs.Hashes.{line_hash};
+ghost use Rattle.interner.specs.Hashes.{mixed_hash};
 ghost use Rattle.tool_text_lines.specs.Seen.{HoldsLines, SeesLine, RefusesLine};
 
+use interner::{Mixed, TextHash};
 use std::alloc::{AllocError, Allocator, Global};
 use std::marker::Model;
 use table_generations::atomic_value::Law;
@@ -47,7 +48,7 @@ impl<A: Allocator + Copy> Seen<A> {
         ensures sees { IfOk result (λ seen. SeesLine (λ b. b.value) (λ v. v.items) self.old line.now seen self.new) }
         ensures refused { OnErr result (RefusesLine (λ b. b.value) (λ v. v.items) self.old line.now self.new) }
     {
-        let hash = hash_line(line);
+        let hash = Mixed::hash(line);
         if self.knows(hash, line) {
             return Ok(true);
         }
@@ -57,7 +58,7 @@ impl<A: Allocator + Copy> Seen<A> {
 
     /// Whether the line, whose hash this is, was seen.
     fn knows(&self, hash: u64, line: &[u8]) -> bool
-        requires { hash ≡ line_hash line.now }
+        requires { hash ≡ mixed_hash line.now }
         ensures { (lines : List (List ℕ)) → HoldsLines (λ b. b.value) (λ v. v.items) self.now lines → IsTrue result ↔ Contains lines line.now }
     {
         match self
@@ -71,7 +72,7 @@ impl<A: Allocator + Copy> Seen<A> {
 
     /// Keeps a line that was not seen. An Err is refused memory, and the lines are those before.
     fn keep(&mut self, hash: u64, line: &[u8]) -> Result<(), AllocError>
-        requires hash { hash ≡ line_hash line.now }
+        requires hash { hash ≡ mixed_hash line.now }
         ensures kept { OnOk result ((lines : List (List ℕ)) → HoldsLines (λ b. b.value) (λ v. v.items) self.old lines → HoldsLines (λ b. b.value) (λ v. v.items) self.new (lines ++ line.now ∷ [])) }
         ensures refused { OnErr result ((lines : List (List ℕ)) → HoldsLines (λ b. b.value) (λ v. v.items) self.old lines → HoldsLines (λ b. b.value) (λ v. v.items) self.new lines) }
     {
@@ -80,7 +81,7 @@ impl<A: Allocator + Copy> Seen<A> {
             hash,
             kept,
             &|new: &Vec<u8, A>, entry: &Vec<u8, A>| new.as_slice() == entry.as_slice(),
-            &|entry: &Vec<u8, A>| hash_line(entry.as_slice()),
+            &|entry: &Vec<u8, A>| Mixed::hash(entry.as_slice()),
         ) {
             Ok(_) => Ok(()),
             Err(_) => Err(AllocError),
@@ -97,7 +98,7 @@ fn copy_of<A: Allocator + Copy>(alloc: A, line: &[u8]) -> Result<Vec<u8, A>, All
     Ok(copy)
 }
 
-/// Lines are the same if their bytes are, and the hash of a line is that of its bytes.
+/// Lines are the same if their bytes are, and the hash of a line is the mixed hash of its bytes.
 pub struct LineLaw;
 
 impl<A: Allocator> Law<Vec<u8, A>> for LineLaw {
@@ -108,17 +109,4 @@ impl<A: Allocator> Law<Vec<u8, A>> for LineLaw {
     ghost hash_of = { hash_by_bytes (λ line. line.items) };
 
     ghost lawful = { bytes_lawful (λ line. line.items) };
-}
-
-/// The hash of a line.
-pub fn hash_line(line: &[u8]) -> u64
-    ensures { result ≡ line_hash line.now }
-{
-    let mut hash = 0u64;
-    for byte in line {
-        hash = hash
-            .wrapping_add(u64::from(*byte))
-            .wrapping_mul(0x9E37_79B9_7F4A_7C15);
-    }
-    hash
 }
