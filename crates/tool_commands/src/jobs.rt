@@ -4,8 +4,8 @@ ghost use Rattle.tool_call_texts.specs.Faults.{IsStartFault, IsJobFault};
 ghost use Rattle.tool_call_texts.specs.Stress.{entries_of};
 
 use crate::gate::{Gate, no_thread};
-use crate::workers::{Values, Worker, insert_all, look_all};
-use lock_free_hashtable::raw::{LockFreeRawTable, Low};
+use crate::workers::{ValueTable, Worker, insert_all, look_all};
+use std::alloc::Allocator;
 use std::sync::Wait;
 use std::thread;
 use std::thread::{Builder, Threads};
@@ -44,24 +44,22 @@ pub enum Part {
     Lookups,
 }
 
-/// Runs the job on a table of its own, under a gate of its own, and answers how many entries a walk
-/// over the table then shows: as many as different values were inserted.
-pub fn run_job<R: Threads + Wait + Sync, A: Low + Copy + Send + Sync, G: Gate + Sync>(
-    rt: &R,
-    alloc: A,
-    crew: Crew,
-    gate: &G,
-    job: Job,
-) -> Result<usize, Fault>
+/// Runs the job on a table of its own, which is empty, under a gate of its own, and answers how many entries a walk over the
+/// table then shows: as many as different values were inserted.
+pub fn run_job<
+    R: Threads + Wait + Sync,
+    A: Allocator + Copy + Send + Sync,
+    G: Gate + Sync,
+    T: ValueTable<A> + Sync,
+>(rt: &R, alloc: A, crew: Crew, gate: &G, table: &T, job: Job) -> Result<usize, Fault>
     ensures entries { IfOk result (λ entries. entries ≡ entries_of job.kind crew.threads) }
     ensures fault { IfErr result IsJobFault }
 {
-    let table: Values<A> = LockFreeRawTable::new(alloc);
-    run_part(rt, alloc, crew, gate, &table, job, Part::Inserts)?;
+    run_part(rt, alloc, crew, gate, table, job, Part::Inserts)?;
     if job.kind != Kind::InsertLookup {
-        run_part(rt, alloc, crew, gate, &table, job, Part::Lookups)?;
+        run_part(rt, alloc, crew, gate, table, job, Part::Lookups)?;
     }
-    let entries = table.iter().count();
+    let entries = table.walked_entries();
     if entries != job.kind.entries(crew.threads) {
         return Err(Fault::JobFailed {
             kind: job.kind,
@@ -73,15 +71,12 @@ pub fn run_job<R: Threads + Wait + Sync, A: Low + Copy + Send + Sync, G: Gate + 
 
 /// Runs a part of the job. Of the faults that hold the first is told, by this order: no thread, no memory, a gate that is
 /// stuck, a look-up that missed.
-fn run_part<R: Threads + Wait + Sync, A: Low + Copy + Send + Sync, G: Gate + Sync>(
-    rt: &R,
-    alloc: A,
-    crew: Crew,
-    gate: &G,
-    table: &Values<A>,
-    job: Job,
-    part: Part,
-) -> Result<(), Fault>
+fn run_part<
+    R: Threads + Wait + Sync,
+    A: Allocator + Copy + Send + Sync,
+    G: Gate + Sync,
+    T: ValueTable<A> + Sync,
+>(rt: &R, alloc: A, crew: Crew, gate: &G, table: &T, job: Job, part: Part) -> Result<(), Fault>
     ensures fault { IfErr result IsJobFault }
 {
     let ending = start_workers(rt, alloc, crew, gate, table, job, part)?;
@@ -92,15 +87,12 @@ fn run_part<R: Threads + Wait + Sync, A: Low + Copy + Send + Sync, G: Gate + Syn
 }
 
 /// Runs each worker in a thread of its own, and answers how they ended together once all have.
-fn start_workers<R: Threads + Wait + Sync, A: Low + Copy + Send + Sync, G: Gate + Sync>(
-    rt: &R,
-    alloc: A,
-    crew: Crew,
-    gate: &G,
-    table: &Values<A>,
-    job: Job,
-    part: Part,
-) -> Result<Ending, Fault>
+fn start_workers<
+    R: Threads + Wait + Sync,
+    A: Allocator + Copy + Send + Sync,
+    G: Gate + Sync,
+    T: ValueTable<A> + Sync,
+>(rt: &R, alloc: A, crew: Crew, gate: &G, table: &T, job: Job, part: Part) -> Result<Ending, Fault>
     ensures fault { IfErr result IsStartFault }
 {
     let mut workers = Vec::with_capacity(alloc, crew.threads).map_err(
@@ -137,11 +129,11 @@ fn start_workers<R: Threads + Wait + Sync, A: Low + Copy + Send + Sync, G: Gate 
 }
 
 /// What the worker does in this part of its job.
-fn work<R: Wait, A: Low + Copy, G: Gate>(
+fn work<R: Wait, A: Allocator + Copy, G: Gate, T: ValueTable<A>>(
     rt: &R,
     alloc: A,
     gate: &G,
-    table: &Values<A>,
+    table: &T,
     worker: Worker,
     part: Part,
 ) -> Ending {

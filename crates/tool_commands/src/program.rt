@@ -59,23 +59,41 @@ pub fn run_words<
     ensures wrong { ((command : CommandOf) → ¬ NamesCommand (map S.text words.now) command)
         → (result ≡ status_of Fault.Usage) × (output.new ≡ output.old) }
 {
+    run_words_under(rt, alloc, &ProgramGates, words, input, output, messages)
+}
+
+/// Does what `run_words` does, with these gates in place of the program's own.
+pub fn run_words_under<
+    R: Threads + Wait + Sync,
+    A: Low + Copy + Send + Sync,
+    G: Gates,
+    S: AsStr,
+    I: Read + Drop,
+    O: Write,
+    M: Write,
+>(rt: &R, alloc: A, gates: &G, words: &[S], input: I, output: &mut O, messages: &mut M) -> u8
+    ensures status { (result ≡ 0) ⊎ ((fault : FaultOf) × (result ≡ status_of fault)) }
+    ensures well { result ≡ 0 → messages.new ≡ messages.old }
+    ensures wrong { ((command : CommandOf) → ¬ NamesCommand (map S.text words.now) command)
+        → (result ≡ status_of Fault.Usage) × (output.new ≡ output.old) }
+{
     let Some(command) = parse_command(words) else {
         return end_with(&Fault::Usage, messages);
     };
-    match run_command(rt, alloc, command, input, output) {
+    match run_command(rt, alloc, gates, command, input, output) {
         Ok(()) => 0,
         Err(fault) => end_with(&fault, messages),
     }
 }
 
-/// Runs the command. The replies of the lines before a fault are written.
-fn run_command<R: Threads + Wait + Sync, A: Low + Copy + Send + Sync, I: Read + Drop, O: Write>(
-    rt: &R,
-    alloc: A,
-    command: Command,
-    input: I,
-    output: &mut O,
-) -> Result<(), Fault>
+/// Runs the command, under these gates. The replies of the lines before a fault are written.
+fn run_command<
+    R: Threads + Wait + Sync,
+    A: Low + Copy + Send + Sync,
+    G: Gates,
+    I: Read + Drop,
+    O: Write,
+>(rt: &R, alloc: A, gates: &G, command: Command, input: I, output: &mut O) -> Result<(), Fault>
     requires { IsRunnable command }
     ensures fault { IfErr result (IsFaultOf command) }
 {
@@ -93,10 +111,10 @@ fn run_command<R: Threads + Wait + Sync, A: Low + Copy + Send + Sync, I: Read + 
         }
         Command::Stress { threads, jobs } => {
             let crew = Crew::new(threads, WORKER_STACK);
-            run_stress(rt, alloc, crew, jobs, &ProgramGates, &mut output)
+            run_stress(rt, alloc, crew, jobs, gates, &mut output)
         }
         Command::Seats { threads } => {
-            let gate = ProgramGates.gate();
+            let gate = gates.gate();
             run_seats(rt, alloc, threads, WORKER_STACK, &gate, &mut output)
         }
     };

@@ -6,7 +6,8 @@ ghost use Rattle.tool_call_texts.specs.Stress.{kind_line, stress_text};
 
 use crate::gate::Gates;
 use crate::jobs::{Crew, run_job};
-use lock_free_hashtable::raw::Low;
+use crate::workers::Values;
+use lock_free_hashtable::raw::{LockFreeRawTable, Low};
 use std::io::Write;
 use std::sync::Wait;
 use std::thread::Threads;
@@ -56,7 +57,9 @@ fn run_kind<R: Threads + Wait + Sync, A: Low + Copy + Send + Sync, G: Gates, O: 
 {
     let mut entries = 0;
     for number in 0..jobs {
-        entries = run_job(rt, alloc, crew, &gates.gate(), Job::new(kind, number))?;
+        let table: Values<A> = LockFreeRawTable::new(alloc);
+        let job = Job::new(kind, number);
+        entries = run_job(rt, alloc, crew, &gates.gate(), &table, job)?;
     }
     match writeln!(output, "{kind} {entries}") {
         Ok(()) => Ok(()),

@@ -10,7 +10,21 @@ use tool_call_texts::endings::Ending;
 use tool_call_texts::job::Job;
 use tool_call_texts::kinds::Kind;
 
-/// The table of a job: boxed numbers.
+/// A table of values that the workers of a job share.
+pub trait ValueTable<A: Allocator + Copy> {
+    /// Inserts the value, and answers the entry that is shown: the value, or an equal one that was there. Err: memory was
+    /// refused.
+    fn insert_value<R: Wait>(&self, rt: &R, alloc: A, value: u32) -> Result<u32, AllocError>
+        ensures { IfOk result (λ entry. entry ≡ value) };
+
+    /// Whether a look-up finds the value.
+    fn finds_value(&self, value: u32) -> bool;
+
+    /// How many entries a walk shows.
+    fn walked_entries(&self) -> usize;
+}
+
+/// The program's own: boxed numbers.
 pub type Values<A> = LockFreeRawTable<Box<u32, A>, A>;
 
 /// The hash of a value is so many times the value, modulo 2^64.
@@ -55,42 +69,38 @@ pub fn hash_of(value: u32) -> u64
     u64::from(value).wrapping_mul(SPREAD)
 }
 
-/// Inserts the value, and answers the entry that is shown: the value, or an equal one that was there. Err: memory was refused.
-pub fn insert<R: Wait, A: Low + Copy>(
-    rt: &R,
-    alloc: A,
-    table: &Values<A>,
-    value: u32,
-) -> Result<u32, AllocError>
-    ensures { IfOk result (λ entry. entry ≡ value) }
-{
-    let boxed = Box::new(alloc, value)?;
-    match table.insert(
-        rt,
-        hash_of(value),
-        boxed,
-        |new: &u32, entry: &u32| *new == *entry,
-        |entry: &u32| hash_of(*entry),
-    ) {
-        Ok((entry, _)) => Ok(*entry),
-        Err(_) => Err(AllocError),
+impl<A: Low + Copy> ValueTable<A> for LockFreeRawTable<Box<u32, A>, A> {
+    fn insert_value<R: Wait>(&self, rt: &R, alloc: A, value: u32) -> Result<u32, AllocError> {
+        let boxed = Box::new(alloc, value)?;
+        match self.insert(
+            rt,
+            hash_of(value),
+            boxed,
+            |new: &u32, entry: &u32| *new == *entry,
+            |entry: &u32| hash_of(*entry),
+        ) {
+            Ok((entry, _)) => Ok(*entry),
+            Err(_) => Err(AllocError),
+        }
     }
-}
 
-/// Whether a look-up finds the value.
-fn finds<A: Allocator + Copy>(table: &Values<A>, value: u32) -> bool {
-    table
-        .lookup(hash_of(value), |entry: &u32| *entry == value)
-        .is_some()
+    fn finds_value(&self, value: u32) -> bool {
+        self.lookup(hash_of(value), |entry: &u32| *entry == value)
+            .is_some()
+    }
+
+    fn walked_entries(&self) -> usize {
+        self.iter().count()
+    }
 }
 
 /// Makes the worker's call of this number, if the gate lets it: an insert, and in a job of the kind `InsertLookup` a
 /// look-up of the value that it inserted before.
-pub fn make_call<R: Wait, A: Low + Copy, G: Gate>(
+pub fn make_call<R: Wait, A: Allocator + Copy, G: Gate, T: ValueTable<A>>(
     rt: &R,
     alloc: A,
     gate: &G,
-    table: &Values<A>,
+    table: &T,
     worker: Worker,
     call: usize,
 ) -> Ending
@@ -99,23 +109,26 @@ pub fn make_call<R: Wait, A: Low + Copy, G: Gate>(
     if !gate.may_pass(worker.number, call) {
         return Ending::Stuck;
     }
-    let inserted = insert(rt, alloc, table, worker.value(call));
+    let inserted = table.insert_value(rt, alloc, worker.value(call));
     gate.answered(worker.number, call);
     if inserted.is_err() {
         return Ending::Refused;
     }
-    if worker.job.kind == Kind::InsertLookup && call > 0 && !finds(table, worker.value(call - 1)) {
+    if worker.job.kind == Kind::InsertLookup
+        && call > 0
+        && !table.finds_value(worker.value(call - 1))
+    {
         return Ending::Missed;
     }
     Ending::Well
 }
 
 /// Makes the worker's calls in order, until the gate says no or memory is refused.
-pub fn insert_all<R: Wait, A: Low + Copy, G: Gate>(
+pub fn insert_all<R: Wait, A: Allocator + Copy, G: Gate, T: ValueTable<A>>(
     rt: &R,
     alloc: A,
     gate: &G,
-    table: &Values<A>,
+    table: &T,
     worker: Worker,
 ) -> Ending {
     let mut ending = Ending::Well;
@@ -129,9 +142,9 @@ pub fn insert_all<R: Wait, A: Low + Copy, G: Gate>(
 }
 
 /// Looks every value up that the worker inserted.
-pub fn look_all<A: Allocator + Copy>(table: &Values<A>, worker: Worker) -> Ending {
+pub fn look_all<A: Allocator + Copy, T: ValueTable<A>>(table: &T, worker: Worker) -> Ending {
     for call in 0..worker.job.kind.inserts() {
-        if !finds(table, worker.value(call)) {
+        if !table.finds_value(worker.value(call)) {
             return Ending::Missed;
         }
     }

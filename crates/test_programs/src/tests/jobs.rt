@@ -1,7 +1,7 @@
 //! What the workers of a job notice, and what they ask of their gates.
 use super::gates::{ClosedFrom, ClosedTo};
-use lock_free_hashtable::raw::LockFreeRawTable;
-use std::alloc::Global;
+use lock_free_hashtable::raw::{InsertCall, LockFreeRawTable};
+use std::alloc::{AllocError, Allocator, Global};
 use std::cell::Cell;
 use std::sync::Wait;
 use std::test::Fail;
@@ -10,33 +10,89 @@ use tool_call_texts::faults::Fault;
 use tool_call_texts::job::Job;
 use tool_call_texts::kinds::Kind;
 use tool_commands::gate::{Gate, Gates};
-use tool_commands::jobs::Crew;
+use tool_commands::jobs::{Crew, run_job};
 use tool_commands::seats::{WORKER_STACK, run_seats};
 use tool_commands::stress::run_stress;
-use tool_commands::workers::{Values, Worker, hash_of, insert, look_all, make_call};
+use tool_commands::workers::{ValueTable, Values, Worker, hash_of, make_call};
 
 /// The first worker of the first job of a kind: it inserts the numbers from 0 on.
 fn first_worker(kind: Kind) -> Worker {
     Worker::new(Job::new(kind, 0), 0)
 }
 
-/// How the look-ups of a worker end whose thousand values are all in the table but this one.
-fn look_without<R: Wait + AllocGlobal>(rt: &R, absent: u32) -> Result<Ending, Fail> {
-    let table: Values<Global> = LockFreeRawTable::new(rt.alloc());
-    for value in 0..1000 {
-        if value != absent {
-            insert(rt, rt.alloc(), &table, value)?;
-        }
-    }
-    Ok(look_all(&table, first_worker(Kind::InsertUnique)))
+/// A table that says that it has so many entries, and whose look-ups find each value but one.
+#[derive(Clone, Copy)]
+struct Faulty {
+    entries: usize,
+    missed: u32,
 }
 
-#[test]
-fn a_value_that_is_lost_is_missed(rt: HostRuntime) -> Result<(), Fail> {
-    for absent in [0, 1, 500, 999] {
-        assert_eq!(rt; look_without(&rt, absent)?, Ending::Missed, "{absent}");
+impl<A: Allocator + Copy> ValueTable<A> for Faulty {
+    fn insert_value<R: Wait>(&self, _rt: &R, _alloc: A, value: u32) -> Result<u32, AllocError> {
+        Ok(value)
     }
-    assert_eq!(rt; look_without(&rt, 1000)?, Ending::Well);
+
+    fn finds_value(&self, value: u32) -> bool {
+        value != self.missed
+    }
+
+    fn walked_entries(&self) -> usize {
+        self.entries
+    }
+}
+
+/// A kind, how many entries a table of two workers says, a value that it misses, and whether their job 3 goes well.
+type Row = (Kind, usize, u32, bool);
+
+/// A worker of `insert_lookup` doesn't look for its last value: 1002 and 2002.
+const FAULTY: [Row; 15] = [
+    (Kind::InsertUnique, 2000, 2, true),
+    (Kind::InsertUnique, 2000, 3, false),
+    (Kind::InsertUnique, 2000, 1002, false),
+    (Kind::InsertUnique, 2000, 2002, false),
+    (Kind::InsertUnique, 2001, 2, false),
+    (Kind::InsertSame, 10_000, 2, true),
+    (Kind::InsertSame, 10_000, 3, false),
+    (Kind::InsertSame, 10_000, 10_002, false),
+    (Kind::InsertSame, 9999, 2, false),
+    (Kind::InsertLookup, 2000, 1002, true),
+    (Kind::InsertLookup, 2000, 2002, true),
+    (Kind::InsertLookup, 2000, 3, false),
+    (Kind::InsertLookup, 2000, 1001, false),
+    (Kind::InsertLookup, 2000, 2001, false),
+    (Kind::InsertLookup, 1999, 2, false),
+];
+
+#[test]
+fn a_table_that_is_faulty_fails_its_job(rt: HostRuntime) {
+    let crew = Crew::new(2, WORKER_STACK);
+    let open = ClosedFrom(usize::MAX);
+    for (kind, entries, missed, is_well) in FAULTY {
+        let faulty = Faulty { entries, missed };
+        let told = run_job(&rt, rt.alloc(), crew, &open, &faulty, Job::new(kind, 3));
+        let failed = Err(Fault::JobFailed { kind, job: 3 });
+        let wanted = if is_well { Ok(entries) } else { failed };
+        assert_eq!(rt; told, wanted, "{kind}, {entries}, {missed}");
+    }
+}
+
+/// Takes the lock, makes the first generation and places its value there, in eleven steps.
+const STEPS_TO_PLACE: u64 = 11;
+
+#[test]
+fn a_walk_shows_what_is_not_counted_yet(rt: HostRuntime) -> Result<(), Fail> {
+    let table: Values<Global> = LockFreeRawTable::new(rt.alloc());
+    let mut call = InsertCall::new(
+        &table,
+        hash_of(5),
+        Box::new(rt.alloc(), 5u32)?,
+        |new: &u32, entry: &u32| *new == *entry,
+        |entry: &u32| hash_of(*entry),
+    );
+    for _step in 0..STEPS_TO_PLACE {
+        call.advance();
+    }
+    assert_eq!(rt; (table.len(), table.walked_entries()), (0, 1));
     Ok(())
 }
 

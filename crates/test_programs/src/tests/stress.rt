@@ -1,6 +1,6 @@
 //! Jobs of many threads on a table that they share, and what ends them.
 use super::gates::{ClosedFrom, ClosedTo};
-use super::{assert_ended, assert_prints, run_refusing};
+use super::{assert_ended, assert_prints, run_on, run_refusing};
 use lock_free_hashtable::raw::{LockFreeRawTable, Low};
 use std::process::Abort;
 use std::sync::Wait;
@@ -13,6 +13,7 @@ use tool_call_texts::job::Job;
 use tool_call_texts::kinds::Kind;
 use tool_commands::gate::{Gate, Gates, MeetingGate, ProgramGates};
 use tool_commands::jobs::{Crew, run_job};
+use tool_commands::program::run_words_under;
 use tool_commands::seats::WORKER_STACK;
 use tool_commands::stress::run_stress;
 use tool_commands::workers::{Values, Worker, insert_all, make_call};
@@ -203,8 +204,42 @@ fn each_kind_has_its_entries(rt: HostRuntime) {
         (Kind::InsertSame, 10_000),
         (Kind::InsertLookup, 3000),
     ] {
+        let table: Values<_> = LockFreeRawTable::new(rt.alloc());
         let job = Job::new(kind, 999);
-        let shown = run_job(&rt, rt.alloc(), crew, &gate, job);
+        let shown = run_job(&rt, rt.alloc(), crew, &gate, &table, job);
         assert_eq!(rt; shown, Ok(entries));
+    }
+}
+
+/// How often the memory of an insert looks for the next one that asks.
+const LOOKS: u64 = 10_000_000;
+
+/// Memory for values is granted in pairs: the first of a pair once the second is asked for. The first here is the test's
+/// own. So the second worker's first insert waits for the third of all, which the program's gate keeps back until it ends.
+#[test]
+fn the_program_runs_its_jobs_under_its_gate(rt: HostRuntime) -> Result<(), Fail> {
+    let rule = Rule::new(4, 4, u64::MAX, 0).paired(2, LOOKS);
+    let heap = Refusing::new(rt.alloc(), rule);
+    let own: Box<u32, _> = Box::new(&heap, 0)?;
+    assert_eq!(rt; heap.went_alone(), 1);
+    let ended = run_on(&rt, &heap, &["stress", "2", "1"], b"".as_slice())?;
+    assert_ended(&rt, &ended, "paired memory", ALL, "", 0);
+    assert_eq!(rt; heap.went_alone(), 2);
+    drop(own);
+    Ok(())
+}
+
+#[test]
+fn the_words_are_run_under_the_gates_given(rt: HostRuntime) {
+    for words in [&["stress", "2", "1"].as_slice(), &["seats", "2"].as_slice()] {
+        let mut output = Vec::new(rt.alloc());
+        let mut messages = Vec::new(rt.alloc());
+        let (input, closed) = (b"".as_slice(), ClosedFrom(0));
+        let status = run_words_under(
+            &rt, rt.alloc(), &closed, words, input, &mut output, &mut messages,
+        );
+        assert_eq!(rt; status, 1);
+        assert_eq!(rt; messages.as_slice(), b"gate stuck\n".as_slice());
+        assert!(rt; output.is_empty());
     }
 }
