@@ -236,7 +236,13 @@ fn the_words_are_run_under_the_gates_given(rt: HostRuntime) {
         let mut messages = Vec::new(rt.alloc());
         let (input, closed) = (b"".as_slice(), ClosedFrom(0));
         let status = run_words_under(
-            &rt, rt.alloc(), &closed, words, input, &mut output, &mut messages,
+            &rt,
+            rt.alloc(),
+            &closed,
+            words,
+            input,
+            &mut output,
+            &mut messages,
         );
         assert_eq!(rt; status, 1);
         assert_eq!(rt; messages.as_slice(), b"gate stuck\n".as_slice());
