@@ -1,6 +1,8 @@
 //! What the workers of a job notice, and what they ask of their gates.
+ghost use Rattle.table_shared.specs.Stepped.{MayStep};
+
 use super::gates::{ClosedFrom, ClosedTo};
-use lock_free_hashtable::raw::{InsertCall, LockFreeRawTable};
+use lock_free_hashtable::raw::{InsertCall, LockFreeRawTable, Low};
 use std::alloc::{AllocError, Allocator, Global};
 use std::cell::Cell;
 use std::sync::Wait;
@@ -79,6 +81,18 @@ fn a_table_that_is_faulty_fails_its_job(rt: HostRuntime) {
 /// Takes the lock, makes the first generation and places its value there, in eleven steps.
 const STEPS_TO_PLACE: u64 = 11;
 
+/// Takes so many steps of an insert.
+fn advance_times<A: Low + Copy, E: Fn(&u32, &u32) -> bool, H: Fn(&u32) -> u64>(
+    call: &mut InsertCall<'_, Box<u32, A>, A, E, H>,
+    times: u64,
+)
+    requires may_step { MayStep E.IsAlwaysCallable H.IsAlwaysCallable (λ b. b.value) E.Fn call.old }
+{
+    for _ in 0..times {
+        call.advance();
+    }
+}
+
 #[test]
 fn a_walk_shows_what_is_not_counted_yet(rt: HostRuntime) -> Result<(), Fail> {
     let table: Values<Global> = LockFreeRawTable::new(rt.alloc());
@@ -89,9 +103,7 @@ fn a_walk_shows_what_is_not_counted_yet(rt: HostRuntime) -> Result<(), Fail> {
         |new: &u32, entry: &u32| *new == *entry,
         |entry: &u32| hash_of(*entry),
     );
-    for _step in 0..STEPS_TO_PLACE {
-        call.advance();
-    }
+    advance_times(&mut call, STEPS_TO_PLACE);
     assert_eq!(rt; (table.len(), table.walked_entries()), (0, 1));
     Ok(())
 }
