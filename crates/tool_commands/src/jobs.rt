@@ -44,8 +44,8 @@ pub enum Part {
     Lookups,
 }
 
-/// Runs the job on a table of its own, which is empty, under a gate of its own, and answers how many entries a walk over the
-/// table then shows: as many as different values were inserted.
+/// Runs the job on this table, which is empty and no other job's, under a gate of its own, and answers how many entries a walk
+/// over the table then shows: as many as different values were inserted.
 pub fn run_job<
     R: Threads + Wait + Sync,
     A: Allocator + Copy + Send + Sync,
