@@ -2,4 +2,5 @@
 mod cuts;
 mod drawn;
 mod drops;
+mod whole;
 mod worked;

@@ -23,6 +23,12 @@ pub enum Fault {
         call: u64,
     },
     Unfinished,
+    /// A closure of this call was asked about another entry, more often, or less often, than by its steps.
+    Asked {
+        call: u64,
+    },
+    /// A look at the table from inside a closure showed something else.
+    Sight,
 }
 
 impl From<AllocError> for Fault {

@@ -12,5 +12,6 @@ mod replay;
 mod running;
 pub mod schedules;
 pub mod script;
+pub mod whole_calls;
 
 pub use crate::program::run_replays;

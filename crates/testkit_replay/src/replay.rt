@@ -95,6 +95,7 @@ impl<
             call,
             value: Some(value),
             class: item.class,
+            said: None,
             steps: Steps::Insert(begun),
         })?;
         Ok(())
@@ -115,17 +116,23 @@ impl<
             call,
             value: None,
             class,
+            said: None,
             steps: Steps::Lookup(begun),
         })?;
         Ok(())
     }
 
     /// The phase of the call at this place.
-    fn phase_at(&self, index: usize) -> Phase {
+    pub fn phase_at(&self, index: usize) -> Phase {
         match self.calls.get(index) {
             Some(running) => running.state().phase,
             None => Phase::Done,
         }
+    }
+
+    /// What the call at this place was told at its end.
+    pub fn said_at(&self, index: usize) -> Option<Said> {
+        self.calls.get(index)?.said
     }
 
     /// Whether all calls have ended.
@@ -151,19 +158,30 @@ impl<
         requires ready { IsReady E.IsAlwaysCallable H.IsAlwaysCallable F.IsAlwaysCallable E.Fn self.old }
         ensures ready { IsReady E.IsAlwaysCallable H.IsAlwaysCallable F.IsAlwaysCallable E.Fn self.new }
     {
+        let refusals = if refused_after.is_some() { 1 } else { 0 };
+        self.ground.memory.refuse(refused_after.unwrap_or(0), refusals);
+        // Where no closure is asked, the machine is told of a yes: it would take it from an entry that is to be asked about.
+        let took = self.drive_told(index, true, 0);
+        self.ground.memory.refuse(0, 0);
+        took
+    }
+
+    /// One step of the call at this place, and then on the machine the event that it was. This is what its closures are told to
+    /// answer; of its memory what stands to be refused is.
+    pub fn drive_told(&mut self, index: usize, accepted: bool, hash: u64) -> Result<Took, Fault>
+        requires ready { IsReady E.IsAlwaysCallable H.IsAlwaysCallable F.IsAlwaysCallable E.Fn self.old }
+        ensures ready { IsReady E.IsAlwaysCallable H.IsAlwaysCallable F.IsAlwaysCallable E.Fn self.new }
+    {
         let Some(running) = self.calls.get(index) else {
             return Ok(Took::Blocked);
         };
         let (call, class) = (running.call, running.class);
         let before = self.phase_at(index);
         let Ground { memory, script, .. } = self.ground;
-        // Where no closure is asked, the machine is told of a yes: it would take it from an entry that is to be asked about.
-        script.begin(true, 0, class);
-        let refusals = if refused_after.is_some() { 1 } else { 0 };
-        memory.refuse(refused_after.unwrap_or(0), refusals);
+        script.begin(accepted, hash, class);
+        let refusals = memory.refusals_left();
         let took = self.advance_at(index);
         let granted = memory.refusals_left() == refusals;
-        memory.refuse(0, 0);
         let after = self.phase_at(index);
         let Some(event) = event_taken(call, before, after, script, granted) else {
             return Ok(took);
@@ -274,13 +292,21 @@ impl<
         requires ready { IsReady E.IsAlwaysCallable H.IsAlwaysCallable F.IsAlwaysCallable E.Fn self.old }
         ensures ready { IsReady E.IsAlwaysCallable H.IsAlwaysCallable F.IsAlwaysCallable E.Fn self.new }
     {
+        self.compare_walk()?;
+        self.compare_buckets()
+    }
+
+    /// The table and the machine count as many entries, and show them in one order.
+    pub fn compare_walk(&mut self) -> Result<(), Fault>
+        requires ready { IsReady E.IsAlwaysCallable H.IsAlwaysCallable F.IsAlwaysCallable E.Fn self.old }
+        ensures ready { IsReady E.IsAlwaysCallable H.IsAlwaysCallable F.IsAlwaysCallable E.Fn self.new }
+    {
         self.compare_length()?;
         let walked = self.machine.walk()?;
         if walked.is_none() {
             return Err(Fault::Walk);
         }
-        compare_whole(self.ground.table, &walked)?;
-        self.compare_buckets()
+        compare_whole(self.ground.table, &walked)
     }
 
     /// The table and the machine count as many entries now.
@@ -324,7 +350,7 @@ impl<
 }
 
 /// How many buckets all generations of a table have: each has twice as many as the one before.
-fn buckets(table: &Table<'_>, first: u64) -> u64 {
+pub fn buckets(table: &Table<'_>, first: u64) -> u64 {
     match table.current() {
         Some(current) => (current.generation.capacity() as u64)
             .saturating_mul(2)

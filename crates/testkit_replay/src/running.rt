@@ -1,6 +1,6 @@
 //! A call of a schedule on a running table.
 ghost use Rattle.std.specs.Prelude.{◌≡◌};
-ghost use Rattle.testkit_replay.specs.Running.{MayRun};
+ghost use Rattle.testkit_replay.specs.Running.{MayGo, MayRun};
 
 use crate::item::{Item, Said};
 use std::alloc::Global;
@@ -28,12 +28,14 @@ pub enum Steps<'a, 'm, E: Fn(&Item, &Item) -> bool, H: Fn(&Item) -> u64, F: Fn(&
     Lookup(LookupCall<'a, Box<Item>, &'m Refusing<Global>, F>),
 }
 
-/// A call of a schedule: its number, the number and the class of its value or of what it looks for, and its steps.
+/// A call of a schedule: its number, the number and the class of its value or of what it looks for, what it was told at its
+/// end, and its steps.
 pub struct Running<'a, 'm, E: Fn(&Item, &Item) -> bool, H: Fn(&Item) -> u64, F: Fn(&Item) -> bool> {
     pub call: u64,
     /// The number of an insert's value.
     pub value: Option<u64>,
     pub class: u64,
+    pub said: Option<Said>,
     pub steps: Steps<'a, 'm, E, H, F>,
 }
 
@@ -57,7 +59,27 @@ impl<'a, 'm, E: Fn(&Item, &Item) -> bool, H: Fn(&Item) -> u64, F: Fn(&Item) -> b
         requires may_run { MayRun E.IsAlwaysCallable H.IsAlwaysCallable F.IsAlwaysCallable E.Fn self.old }
         ensures may_run { MayRun E.IsAlwaysCallable H.IsAlwaysCallable F.IsAlwaysCallable E.Fn self.new }
     {
-        match &mut self.steps {
+        let took = self.steps.advance();
+        if let Took::Told(said) = took {
+            self.said = Some(said);
+        }
+        took
+    }
+}
+
+impl<'a, 'm, E: Fn(&Item, &Item) -> bool, H: Fn(&Item) -> u64, F: Fn(&Item) -> bool> Steps<
+    'a,
+    'm,
+    E,
+    H,
+    F,
+> {
+    /// One step.
+    fn advance(&mut self) -> Took
+        requires may_go { MayGo E.IsAlwaysCallable H.IsAlwaysCallable F.IsAlwaysCallable E.Fn self.old }
+        ensures may_go { MayGo E.IsAlwaysCallable H.IsAlwaysCallable F.IsAlwaysCallable E.Fn self.new }
+    {
+        match self {
             Steps::Insert(call) => match call.advance() {
                 Progress::Moved => Took::Moved,
                 Progress::Blocked => Took::Blocked,
@@ -89,6 +111,7 @@ impl<E: Fn(&Item, &Item) -> bool, H: Fn(&Item) -> u64, F: Fn(&Item) -> bool> Dro
             call: _,
             value: _,
             class: _,
+            said: _,
             steps: _steps,
         } = self;
     }

@@ -141,6 +141,6 @@ impl<
 }
 
 /// The hash of a class. Some classes share a bucket, and some of those the eight bits.
-fn hash_of(class: u64) -> u64 {
+pub fn hash_of(class: u64) -> u64 {
     (class % 24) | ((class & 3) << 32)
 }

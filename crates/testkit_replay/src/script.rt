@@ -22,6 +22,8 @@ pub struct Script {
     /// The class that a look-up looks for.
     sought: Cell<u64>,
     drawn: Cell<u64>,
+    /// The entry of which a closure was asked.
+    met: Cell<Option<u64>>,
 }
 
 impl Script {
@@ -33,6 +35,7 @@ impl Script {
             hash: Cell::new(0),
             sought: Cell::new(0),
             drawn: Cell::new(seed),
+            met: Cell::new(None),
         }
     }
 
@@ -75,6 +78,23 @@ impl Script {
         };
         self.hash.set(hash);
         hash
+    }
+
+    /// The answer that was told before, to a closure that is asked about the entry of this number.
+    pub fn meets(&self, entry: u64) -> bool {
+        self.met.set(Some(entry));
+        self.accepted.get()
+    }
+
+    /// The hash that was told before, to a closure that is asked for that of the entry of this number.
+    pub fn rehashes_met(&self, entry: u64) -> u64 {
+        self.met.set(Some(entry));
+        self.hash.get()
+    }
+
+    /// The entry of which a closure was asked since the last time.
+    pub fn take_met(&self) -> Option<u64> {
+        self.met.replace(None)
     }
 
     /// What was answered last of an entry, or was to be.

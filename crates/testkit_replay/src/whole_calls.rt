@@ -1,0 +1,108 @@
+//! Whole inserts and look-ups on a running table, cut where they ask a closure. Inside the closure other whole calls run.
+//!
+//! What happens is noted in its order, and then followed step by step on a table beside the machine: each closure has to be
+//! asked about the same entry at the same step, and each call told the same.
+ghost use Rattle.table_terms.specs.Capacities.{IsFirstCapacity};
+
+mod retrace;
+pub mod trace;
+mod whole;
+
+use crate::fault::Fault;
+use crate::item::{Item, Said};
+use crate::replay::{Ground, Replay};
+use crate::running::Table;
+use crate::schedules::Ask;
+use crate::script::{Manner, Script};
+use crate::whole_calls::trace::{Mark, Trace};
+use crate::whole_calls::whole::{Cuts, Whole};
+use std::alloc::Global;
+use std::sync::Wait;
+use table_shared::LockFreeRawTable;
+use testkit_refusing::{Refusing, Rule};
+
+/// A whole call that no other call runs inside of. Of its requests for memory the first few are granted, and so many of the
+/// next are refused.
+#[derive(Clone, Copy, Debug)]
+pub struct Top {
+    pub ask: Ask,
+    pub passing: u64,
+    pub refused: u64,
+}
+
+/// What runs on a table without a generation.
+#[derive(Clone, Copy)]
+pub enum Plan<'c> {
+    /// So many calls that are drawn, and calls inside of their closures that are drawn.
+    Drawn { tops: u64, refuses: bool },
+    /// These calls. Inside of the first closure that the last of them asks, others run.
+    Worked {
+        tops: &'c [Top],
+        inside: &'c [Ask],
+    },
+}
+
+/// Runs whole calls, and compares what they do with the machine. What each call is told, in the order in which they end.
+pub fn run_whole<R: Wait>(
+    rt: &R,
+    alloc: Global,
+    first: u64,
+    manner: Manner,
+    seed: u64,
+    plan: Plan<'_>,
+) -> Result<Vec<(u64, Said)>, Fault>
+    requires { IsFirstCapacity first }
+{
+    let memory = Refusing::new(alloc, Rule::new(0, usize::MAX, 0, 0));
+    let table: Table<'_> = LockFreeRawTable::with_first_capacity(&memory, first as usize);
+    let (script, trace) = (Script::new(manner, seed), Trace::new(alloc));
+    let whole = Whole {
+        rt,
+        alloc,
+        first,
+        memory: &memory,
+        table: &table,
+        script: &script,
+        trace: &trace,
+        cuts: Cuts::new(plan),
+    };
+    whole.run(plan)?;
+    drop(whole);
+    let marks = trace.into_marks()?;
+    follow(alloc, first, marks.as_slice())?;
+    told_in(alloc, marks.as_slice())
+}
+
+/// Follows what happened on a table beside the machine.
+fn follow(alloc: Global, first: u64, marks: &[Mark]) -> Result<(), Fault>
+    requires { IsFirstCapacity first }
+{
+    let memory = Refusing::new(alloc, Rule::new(0, usize::MAX, 0, 0));
+    let table: Table<'_> = LockFreeRawTable::with_first_capacity(&memory, first as usize);
+    let script = Script::new(Manner::Told, 0);
+    let ground = Ground {
+        alloc,
+        first,
+        memory: &memory,
+        table: &table,
+        script: &script,
+    };
+    let mut replay = Replay::new(
+        ground,
+        |_new: &Item, entry: &Item| script.meets(entry.number),
+        |entry: &Item| script.rehashes_met(entry.number),
+        |entry: &Item| script.meets(entry.number),
+    );
+    replay.retrace(marks)
+}
+
+/// What the calls were told, in the order in which they ended.
+fn told_in(alloc: Global, marks: &[Mark]) -> Result<Vec<(u64, Said)>, Fault> {
+    let mut told = Vec::new(alloc);
+    for mark in marks {
+        if let Mark::Told(call, said) = mark {
+            told.push((*call, *said))?;
+        }
+    }
+    Ok(told)
+}
