@@ -159,7 +159,9 @@ impl<
         ensures ready { IsReady E.IsAlwaysCallable H.IsAlwaysCallable F.IsAlwaysCallable E.Fn self.new }
     {
         let refusals = if refused_after.is_some() { 1 } else { 0 };
-        self.ground.memory.refuse(refused_after.unwrap_or(0), refusals);
+        self.ground
+            .memory
+            .refuse(refused_after.unwrap_or(0), refusals);
         // Where no closure is asked, the machine is told of a yes: it would take it from an entry that is to be asked about.
         let took = self.drive_told(index, true, 0);
         self.ground.memory.refuse(0, 0);

@@ -36,10 +36,7 @@ pub enum Plan<'c> {
     /// So many calls that are drawn, and calls inside of their closures that are drawn.
     Drawn { tops: u64, refuses: bool },
     /// These calls. Inside of the first closure that the last of them asks, others run.
-    Worked {
-        tops: &'c [Top],
-        inside: &'c [Ask],
-    },
+    Worked { tops: &'c [Top], inside: &'c [Ask] },
 }
 
 /// Runs whole calls, and compares what they do with the machine. What each call is told, in the order in which they end.

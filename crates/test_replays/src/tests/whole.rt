@@ -49,30 +49,78 @@ const LOOKUP_8_AT_0: Ask = Ask::Lookup { class: 8, hash: 0 };
 const LOOKUP_9: Ask = Ask::Lookup { class: 9, hash: 9 };
 
 // To these no memory is refused.
-const TOP_INSERT_0: Top = Top { ask: INSERT_0, passing: 0, refused: 0 };
+const TOP_INSERT_0: Top = Top {
+    ask: INSERT_0,
+    passing: 0,
+    refused: 0,
+};
 
-const TOP_INSERT_1: Top = Top { ask: INSERT_1, passing: 0, refused: 0 };
+const TOP_INSERT_1: Top = Top {
+    ask: INSERT_1,
+    passing: 0,
+    refused: 0,
+};
 
-const TOP_INSERT_1_AT_0: Top = Top { ask: INSERT_1_AT_0, passing: 0, refused: 0 };
+const TOP_INSERT_1_AT_0: Top = Top {
+    ask: INSERT_1_AT_0,
+    passing: 0,
+    refused: 0,
+};
 
-const TOP_INSERT_2: Top = Top { ask: INSERT_2, passing: 0, refused: 0 };
+const TOP_INSERT_2: Top = Top {
+    ask: INSERT_2,
+    passing: 0,
+    refused: 0,
+};
 
-const TOP_INSERT_3: Top = Top { ask: INSERT_3, passing: 0, refused: 0 };
+const TOP_INSERT_3: Top = Top {
+    ask: INSERT_3,
+    passing: 0,
+    refused: 0,
+};
 
-const TOP_INSERT_4: Top = Top { ask: INSERT_4, passing: 0, refused: 0 };
+const TOP_INSERT_4: Top = Top {
+    ask: INSERT_4,
+    passing: 0,
+    refused: 0,
+};
 
-const TOP_INSERT_5: Top = Top { ask: INSERT_5, passing: 0, refused: 0 };
+const TOP_INSERT_5: Top = Top {
+    ask: INSERT_5,
+    passing: 0,
+    refused: 0,
+};
 
-const TOP_INSERT_6: Top = Top { ask: INSERT_6, passing: 0, refused: 0 };
+const TOP_INSERT_6: Top = Top {
+    ask: INSERT_6,
+    passing: 0,
+    refused: 0,
+};
 
-const TOP_INSERT_7: Top = Top { ask: INSERT_7, passing: 0, refused: 0 };
+const TOP_INSERT_7: Top = Top {
+    ask: INSERT_7,
+    passing: 0,
+    refused: 0,
+};
 
-const TOP_LOOKUP_1_AT_0: Top = Top { ask: LOOKUP_1_AT_0, passing: 0, refused: 0 };
+const TOP_LOOKUP_1_AT_0: Top = Top {
+    ask: LOOKUP_1_AT_0,
+    passing: 0,
+    refused: 0,
+};
 
-const TOP_LOOKUP_8_AT_0: Top = Top { ask: LOOKUP_8_AT_0, passing: 0, refused: 0 };
+const TOP_LOOKUP_8_AT_0: Top = Top {
+    ask: LOOKUP_8_AT_0,
+    passing: 0,
+    refused: 0,
+};
 
 /// An insert whose own block is granted, and whose growth is refused.
-const STARVED_7: Top = Top { ask: INSERT_7, passing: 1, refused: 1 };
+const STARVED_7: Top = Top {
+    ask: INSERT_7,
+    passing: 1,
+    refused: 1,
+};
 
 /// Calls on a table, those that run inside the first closure that the last of them asks, and what each is told, in the order
 /// in which they end. The first generation has 16 buckets.
@@ -213,7 +261,14 @@ const ROWS: [Row; 6] = [
 fn assert_row<R: Abort + Wait>(rt: &R, alloc: Global, row: &Row) {
     let (tops, inside, expected) = *row;
     assert!(rt; is_first_capacity(16));
-    match run_whole(rt, alloc, 16, Manner::Lawful, 0, Plan::Worked { tops, inside }) {
+    match run_whole(
+        rt,
+        alloc,
+        16,
+        Manner::Lawful,
+        0,
+        Plan::Worked { tops, inside },
+    ) {
         Ok(told) => assert_eq!(rt; told.as_slice(), expected),
         Err(fault) => assert!(rt; false, "{fault:?} {tops:?}"),
     }

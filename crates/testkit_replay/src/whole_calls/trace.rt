@@ -19,7 +19,10 @@ impl Sight {
     pub fn of(table: &Table<'_>, first: u64) -> Sight {
         let mut entries = 0u64;
         for entry in table.iter() {
-            entries = entries.wrapping_mul(1_000_003).wrapping_add(entry.number).wrapping_add(1);
+            entries = entries
+                .wrapping_mul(1_000_003)
+                .wrapping_add(entry.number)
+                .wrapping_add(1);
         }
         Sight {
             length: table.len() as u64,

@@ -60,6 +60,8 @@ pub(crate) enum Lock {
     Free,
     /// That of an insert, which is shared.
     Shared,
+    /// That of an insert inside of another one.
+    SharedTwice,
     /// That of a growth.
     Alone,
 }
@@ -68,8 +70,9 @@ impl Lock {
     /// The lock that is held inside an insert that asks for an equal.
     fn inside_insert(self) -> Lock {
         match self {
+            Lock::Free => Lock::Shared,
+            Lock::Shared | Lock::SharedTwice => Lock::SharedTwice,
             Lock::Alone => Lock::Alone,
-            _ => Lock::Shared,
         }
     }
 }
@@ -99,7 +102,14 @@ impl<'w, 'm, R: Wait> Whole<'w, 'm, R> {
         requires { I.IsAlwaysCallable inside.now }
     {
         let number = self.trace.begin(Ask::Insert { class, hash });
-        let value = Box::new(self.alloc, Item { number, class, hash })?;
+        let value = Box::new(
+            self.alloc,
+            Item {
+                number,
+                class,
+                hash,
+            },
+        )?;
         let reply = self.table.insert(
             self.rt,
             hash,
@@ -151,11 +161,12 @@ impl<'w, 'm, R: Wait> Whole<'w, 'm, R> {
 
     /// Looks at the table.
     fn look(&self) {
-        self.trace.note(Mark::Saw(Sight::of(self.table, self.first)));
+        self.trace
+            .note(Mark::Saw(Sight::of(self.table, self.first)));
     }
 
     /// Whether an insert that is begun now would end, while this lock is held: it would wait for ever for the lock of its own
-    /// growth.
+    /// growth, or one around it would.
     fn may_insert(&self, lock: Lock) -> bool {
         let capacity = match self.table.current() {
             Some(current) => current.generation.capacity(),
@@ -164,7 +175,7 @@ impl<'w, 'm, R: Wait> Whole<'w, 'm, R> {
         match lock {
             Lock::Free => true,
             Lock::Shared => self.table.len().saturating_add(1) < capacity / 2,
-            Lock::Alone => false,
+            Lock::SharedTwice | Lock::Alone => false,
         }
     }
 
@@ -226,7 +237,11 @@ impl<'w, 'm, R: Wait> Whole<'w, 'm, R> {
 
     /// A call that is drawn, and what is refused to it.
     fn draw_top(&self, refuses: bool) -> Top {
-        let refused = if refuses && self.script.draw(3) == 0 { self.script.draw(3) } else { 0 };
+        let refused = if refuses && self.script.draw(3) == 0 {
+            self.script.draw(3)
+        } else {
+            0
+        };
         Top {
             ask: self.ask_drawn(Lock::Free),
             passing: self.script.draw(4),
