@@ -47,7 +47,8 @@ const LOOKS_TO_YIELD: u64 = 64;
 /// So a thread that runs the workers one after the other, or in turns, is told no.
 #[derive(Drop)]
 pub struct MeetingGate {
-    turns: u64,
+    /// It looks at most so often within one question.
+    pub turns: u64,
     is_given_up: AtomicBool,
     first: Progress,
     second: Progress,
@@ -67,14 +68,18 @@ pub struct ProgramGates;
 impl Gates for ProgramGates {
     type Gate = MeetingGate;
 
-    fn gate(&self) -> MeetingGate {
+    fn gate(&self) -> MeetingGate
+        ensures turns { result.turns ≡ 100000000 }
+    {
         MeetingGate::new(GATE_TURNS)
     }
 }
 
 impl MeetingGate {
     /// A gate for one run of the workers, which looks at most so often within one question.
-    pub fn new(turns: u64) -> MeetingGate {
+    pub fn new(turns: u64) -> MeetingGate
+        ensures turns { result.turns ≡ turns }
+    {
         MeetingGate {
             turns,
             is_given_up: AtomicBool::new(false),
