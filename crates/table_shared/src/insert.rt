@@ -10,7 +10,7 @@ pub(crate) mod between;
 mod steps;
 
 use crate::insert::between::{Asking, Carried, Held, Inserting};
-use crate::probe::{Matched, Put, Read};
+use crate::probe::{Caller, Matched, Put, Putting, Read, Reading};
 use crate::table::LockFreeRawTable;
 use std::snapshot::Snapshot;
 use std::sync::{RwLockReadGuard, Wait};
@@ -58,11 +58,13 @@ impl<T: AtomicValue, A: Low + Copy> LockFreeRawTable<T, A> {
                 value: &value,
                 eq: &asking.eq,
             };
-            match self.read_bucket(generation, state, &probing, &mut note) {
+            match self.read_bucket::<Reading, _>(generation, state, &probing, &mut note) {
                 Read::Empty(next) => return self.place(rt, next, generation, value, guard, asking),
                 Read::Met(next, target) => {
                     let carried = Carried::Met(target, value);
-                    return self.settle(rt, next, generation, carried, guard, asking);
+                    return self.settle::<Reading, R, E, H>(
+                        rt, next, generation, carried, guard, asking,
+                    );
                 }
                 Read::Passed(next, _) => {
                     if next.phase != Phase::Probe {
@@ -97,12 +99,15 @@ impl<T: AtomicValue, A: Low + Copy> LockFreeRawTable<T, A> {
             (FnReturnsAtPair E.Fn asking.eq (T.target asking.given.value)) asking.given.value result }
     {
         let mut note = generation.note_at(state.index as usize);
-        let (next, carried) = match self.put_value(
+        let (next, carried) = match self.put_value::<Putting, E>(
             generation, state, value, &asking.eq, &mut note,
         ) {
             Put::Won(next, target) => {
                 let next = self.count(&guard, next);
-                return self.settle(rt, next, generation, Carried::Own(target), guard, asking);
+                let carried = Carried::Own(target);
+                return self.settle::<Putting, R, E, H>(
+                    rt, next, generation, carried, guard, asking,
+                );
             }
             Put::Refused(next, value) => (next, Carried::Value(value)),
             Put::Passed(next, _, value) => (next, Carried::Value(value)),
@@ -114,7 +119,13 @@ impl<T: AtomicValue, A: Low + Copy> LockFreeRawTable<T, A> {
 
     /// An insert that has an outcome releases the lock, and grows the table if half of its generation is set.
     #[inline(always)]
-    fn settle<'a, R: Wait, E: Fn(&T::Target, &T::Target) -> bool, H: Fn(&T::Target) -> u64>(
+    fn settle<
+        'a,
+        C: Caller,
+        R: Wait,
+        E: Fn(&T::Target, &T::Target) -> bool,
+        H: Fn(&T::Target) -> u64,
+    >(
         &'a self,
         rt: &R,
         state: CallState,

@@ -1,15 +1,29 @@
 //! Look-ups: one probe of the current generation, step by step by the core.
-ghost use Rattle.std.specs.Prelude.{IfSome, true};
+ghost use Rattle.std.specs.Prelude.{◌≡◌, IfSome, true};
 ghost use Rattle.std.specs.Fn.{FnReturnsAt};
+ghost use Rattle.table_core.specs.declared.call.Phase.TheVariants.{LookProbe};
 
 pub(crate) mod steps;
 
-use crate::probe::{Read, Tested};
+use crate::probe::{Read, Reading, Tested};
 use crate::table::LockFreeRawTable;
 use std::alloc::Allocator;
 use table_core::{CallState, Phase};
 use table_generations::atomic_value::AtomicValue;
 use table_turns::step_loaded;
+
+/// A look-up that goes on to its next bucket, as it is. Its phase is spelt out, so that the compiler takes the steps of other
+/// phases out of the loop.
+#[inline(always)]
+fn probing_on(state: CallState) -> CallState
+    requires phase { state.phase ≡ LookProbe }
+    ensures same { result ≡ state }
+{
+    CallState {
+        phase: Phase::LookProbe,
+        ..state
+    }
+}
 
 impl<T: AtomicValue, A: Allocator + Copy> LockFreeRawTable<T, A> {
     /// The target of an entry that the test accepts, or None. Anyone may call it at any time: it takes no lock and no memory,
@@ -24,9 +38,19 @@ impl<T: AtomicValue, A: Allocator + Copy> LockFreeRawTable<T, A> {
         while state.phase != Phase::Done {
             let generation = current.generation;
             let mut note = generation.note_at(state.index as usize);
-            match self.read_bucket(generation, state, &Tested { test: &test }, &mut note) {
+            match self.read_bucket::<Reading, _>(
+                generation,
+                state,
+                &Tested { test: &test },
+                &mut note,
+            ) {
                 Read::Empty(_) => return None,
-                Read::Passed(next, _) => state = next,
+                Read::Passed(next, _) => {
+                    if next.phase != Phase::LookProbe {
+                        return None;
+                    }
+                    state = probing_on(next);
+                }
                 Read::Met(_, target) => return Some(target),
             }
         }

@@ -73,6 +73,25 @@ impl<T: AtomicValue, E: Fn(&T::Target, &T::Target) -> bool> Probing<T::Target>
     }
 }
 
+/// Who calls a step. It has no value: each caller has a copy of the step of its own, which the compiler puts in line. A copy
+/// that several share stays out of line, and copies the whole state of the call in and out.
+pub(crate) trait Caller {}
+
+/// A running call, as it reads a bucket.
+pub(crate) enum Reading {}
+
+/// A running insert, as it puts its value.
+pub(crate) enum Putting {}
+
+/// A call that goes step by step.
+pub(crate) enum Stepping {}
+
+impl Caller for Reading {}
+
+impl Caller for Putting {}
+
+impl Caller for Stepping {}
+
 /// What a read of a bucket came to, with the state after it.
 #[derive(Drop)]
 pub(crate) enum Read<R> {
@@ -121,7 +140,11 @@ fn alike_entry<T: AtomicValue>(entry: &Entry<T>, hash: u64) -> Option<&T::Target
 
 /// A call meets an entry in its bucket, and asks about its target if the entry has the bits of its hash.
 #[inline(always)]
-fn meet<'a, X, P: Probing<X>>(state: CallState, alike: Option<&'a X>, probing: &P) -> Read<&'a X>
+fn meet<'a, C: Caller, T: AtomicValue, P: Probing<T::Target>>(
+    state: CallState,
+    alike: Option<&'a T::Target>,
+    probing: &P,
+) -> Read<&'a T::Target>
     requires meets { MeetsEntry state.phase }
     requires stands { stands_at_bucket state ≡ true }
     requires callable { P.callable probing.now }
@@ -154,7 +177,7 @@ fn meet_first<'a, T: AtomicValue, E: Fn(&T::Target, &T::Target) -> bool>(
         (bits_of state.hash) result first.now }
 {
     let target = alike_entry(first, state.hash);
-    match meet(state, target, &Matched { value: &value, eq }) {
+    match meet::<Putting, T, _>(state, target, &Matched { value: &value, eq }) {
         Read::Empty(_) => unreachable!(),
         Read::Passed(next, asked) => Put::Passed(next, asked, value),
         Read::Met(next, target) => Put::Met(next, target, value),
@@ -184,7 +207,7 @@ impl<T: AtomicValue, A: Allocator + Copy> LockFreeRawTable<T, A> {
 
     /// A call reads its bucket.
     #[inline(always)]
-    pub(crate) fn read_bucket<'a, P: Probing<T::Target>>(
+    pub(crate) fn read_bucket<'a, C: Caller, P: Probing<T::Target>>(
         &'a self,
         generation: &'a Generation<T, A>,
         state: CallState,
@@ -207,14 +230,14 @@ impl<T: AtomicValue, A: Allocator + Copy> LockFreeRawTable<T, A> {
         if matches!(look, Look::Vacant) {
             return Read::Empty(step(state, Answer::Empty));
         }
-        meet(state, alike::<T>(look), probing)
+        meet::<C, T, P>(state, alike::<T>(look), probing)
     }
 }
 
 impl<T: AtomicValue, A: Low + Copy> LockFreeRawTable<T, A> {
     /// An insert offers its value to its bucket, by one exchange. Who loses it meets the entry that came first.
     #[inline(always)]
-    pub(crate) fn put_value<'a, E: Fn(&T::Target, &T::Target) -> bool>(
+    pub(crate) fn put_value<'a, C: Caller, E: Fn(&T::Target, &T::Target) -> bool>(
         &'a self,
         generation: &'a Generation<T, A>,
         state: CallState,

@@ -14,7 +14,7 @@ ghost use Rattle.table_shared.specs.Steps.{Steps, Stays, Ends, TriesStep};
 
 use crate::growth::begin::Wanted;
 use crate::insert::between::{Carried, Held, Inserting};
-use crate::probe::{Matched, Put, Read};
+use crate::probe::{Matched, Put, Read, Stepping};
 use crate::table::LockFreeRawTable;
 use std::mem;
 use std::sync::Wait;
@@ -115,7 +115,7 @@ impl<
             value,
             eq: &self.asking.eq,
         };
-        match table.read_bucket(generation, self.state, &probing, &mut note) {
+        match table.read_bucket::<Stepping, _>(generation, self.state, &probing, &mut note) {
             Read::Empty(next) => {
                 self.state = next;
                 Answer::Empty
@@ -143,7 +143,13 @@ impl<
             unreachable!()
         };
         let mut note = generation.note_at(self.state.index as usize);
-        match table.put_value(generation, self.state, value, &self.asking.eq, &mut note) {
+        match table.put_value::<Stepping, E>(
+            generation,
+            self.state,
+            value,
+            &self.asking.eq,
+            &mut note,
+        ) {
             Put::Won(next, target) => {
                 self.carried = Carried::Own(target);
                 self.state = next;

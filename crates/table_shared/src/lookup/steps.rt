@@ -11,7 +11,7 @@ ghost use Rattle.table_shared.specs.Between.{IsLooking};
 ghost use Rattle.table_shared.specs.Reads.{AtAlone, StepTells};
 ghost use Rattle.table_shared.specs.Stepped.{found_by};
 
-use crate::probe::{Read, Tested};
+use crate::probe::{Read, Stepping, Tested};
 use crate::table::LockFreeRawTable;
 use std::alloc::Allocator;
 use table_core::{Answer, CallState, Phase};
@@ -84,7 +84,7 @@ impl<'a, T: AtomicValue, A: Allocator + Copy, F: Fn(&T::Target) -> bool> Looking
         };
         let mut note = generation.note_at(self.state.index as usize);
         let probing = Tested { test: &self.test };
-        match table.read_bucket(generation, self.state, &probing, &mut note) {
+        match table.read_bucket::<Stepping, _>(generation, self.state, &probing, &mut note) {
             Read::Empty(next) => {
                 self.state = next;
                 (Answer::Empty, None)

@@ -1,6 +1,8 @@
-use Rattle.std.proofs.Common.{◌≡◌, ◌∙◌, ap, inr, rules, sym}
+use Rattle.std.proofs.Common.{◌≡◌, ◌∙◌, Bool, ap, inr, rules, sym}
 use Rattle.table_core.specs.declared.call.CallState.{CallState}
 use Rattle.table_core.specs.declared.call.Phase.TheVariants.{LookLoad, LookProbe}
+use Rattle.table_turns.specs.Steps.{passed}
+use Rattle.table_shared.specs.Reads.{Takes}
 use Rattle.table_shared.proofs.LooksOn.{look_passes, look_starts}
 use Rattle.table_shared.proofs.Takes.{looks_past_entry}
 use Rattle.table_shared.proofs.table.LockFreeRawTable.lookup.Goals as goal
@@ -21,16 +23,22 @@ loop-current-init g c =
           (rw c.capacity-capacity.ensures at c.step_loaded-state.ensures.starting) c.in_ok-current.ensures.home;
     }
 
+-- the next state, with its phase spelt out, is where the step came to
+spelt : (s next here : CallState) (asked : Bool) → here ≡ next → Takes s next (passed asked) → Takes s here (passed asked)
+spelt s next here asked is takes = rw is takes
+
 pub loop-current-preserved : goal.loop-current-preserved
 loop-current-preserved g c =
     let at : c.loop-current.state.phase ≡ LookProbe = search rules in
     let b = c.loop-current.invariant.between in
+    let reads = spelt c.loop-current.state c.in-Passed.next c.probing_on-state.result c.in-Passed.field-1 c.probing_on-state.ensures.same c.in-Passed.ensures.reads in
     record {
-      loaded = (looks_past_entry c.loop-current.state c.in-Passed.next c.in-Passed.field-1 at (b.stands at) c.in-Passed.ensures.reads).started;
-      between = look_passes b c.in-Passed.next c.in-Passed.field-1 at c.in-Passed.ensures.reads;
+      loaded = (looks_past_entry c.loop-current.state c.probing_on-state.result c.in-Passed.field-1 at (b.stands at) reads).started;
+      between = look_passes b c.probing_on-state.result c.in-Passed.field-1 at reads;
     }
 
 pub loop-current-smaller : goal.loop-current-smaller
 loop-current-smaller g c =
     let at : c.loop-current.state.phase ≡ LookProbe = search rules in
-    (looks_past_entry c.loop-current.state c.in-Passed.next c.in-Passed.field-1 at (c.loop-current.invariant.between.stands at) c.in-Passed.ensures.reads).less
+    let reads = spelt c.loop-current.state c.in-Passed.next c.probing_on-state.result c.in-Passed.field-1 c.probing_on-state.ensures.same c.in-Passed.ensures.reads in
+    (looks_past_entry c.loop-current.state c.probing_on-state.result c.in-Passed.field-1 at (c.loop-current.invariant.between.stands at) reads).less
