@@ -1,0 +1,5 @@
+pub mod Blocks
+pub mod Books
+pub mod Borrowed
+pub mod Sent
+pub mod Steps
