@@ -6,10 +6,12 @@
 
 pub mod hash;
 pub mod interner;
+pub mod interner_of;
 pub mod laws;
-mod name;
+mod numbered;
 pub mod refused;
 
 pub use hash::{Mixed, TextHash, Times31};
 pub use interner::Interner;
+pub use interner_of::InternerOf;
 pub use refused::Refused;

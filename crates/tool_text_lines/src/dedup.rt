@@ -9,6 +9,7 @@ ghost use Rattle.tool_text_lines.specs.Seen.{TakesLine, TakesText};
 use crate::faults::Fault;
 use crate::seen::Seen;
 use crate::texts::Texts;
+use bumpalo::Bump;
 use std::alloc::Allocator;
 use std::io::{Read, Write};
 use tool_streams::faults::StreamFault;
@@ -24,7 +25,8 @@ pub fn run_dedup<A: Allocator + Copy, T: Texts, O: Write>(
     ensures { OnOk result (IfSome (T.left texts.old) (λ all.
         Appends (O.contents output.old) (O.contents output.new) (deduped (flat_map lines_of all)))) }
 {
-    let mut seen = Seen::new(alloc);
+    let arena = Bump::new(alloc);
+    let mut seen = Seen::new(&arena);
     // Counted only so that the loop has an end.
     for _text in 0..u64::MAX {
         let Some(text) = texts.next_text()? else {
@@ -38,11 +40,11 @@ pub fn run_dedup<A: Allocator + Copy, T: Texts, O: Write>(
 /// Writes each line of the text that is not equal to one before it.
 fn take_text<A: Allocator + Copy, I: Read + Drop, W: Write>(
     alloc: A,
-    seen: &mut Seen<A>,
+    seen: &mut Seen<'_, A>,
     text: I,
     output: &mut W,
 ) -> Result<(), Fault>
-    ensures { OnOk result (TakesText (λ b. b.value) (λ v. v.items) (I.remaining text) seen.old seen.new
+    ensures { OnOk result (TakesText (λ v. v.0) (λ line. line.now) (I.remaining text) seen.old seen.new
         (W.contents output.old) (W.contents output.new)) }
 {
     let mut lines = Lines::new(alloc, text)?;
@@ -58,11 +60,11 @@ fn take_text<A: Allocator + Copy, I: Read + Drop, W: Write>(
 
 /// Writes the line, unless it is equal to one before it.
 pub fn take_line<A: Allocator + Copy, W: Write>(
-    seen: &mut Seen<A>,
+    seen: &mut Seen<'_, A>,
     line: &[u8],
     output: &mut W,
 ) -> Result<(), Fault>
-    ensures { OnOk result (TakesLine (λ b. b.value) (λ v. v.items) seen.old line.now seen.new
+    ensures { OnOk result (TakesLine (λ v. v.0) (λ line. line.now) seen.old line.now seen.new
         (W.contents output.old) (W.contents output.new)) }
 {
     match seen.seen_before(line) {

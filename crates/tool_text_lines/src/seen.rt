@@ -3,41 +3,42 @@ ghost use Rattle.std.specs.Prelude.{◌≡◌, ◌↔◌, ◌++◌, ◌∷◌, [
 ghost use Rattle.interner.specs.Hashes.{mixed_hash};
 ghost use Rattle.tool_text_lines.specs.Seen.{HoldsLines, SeesLine, RefusesLine};
 
+use bumpalo::Bump;
 use interner::{Mixed, TextHash};
 use std::alloc::{AllocError, Allocator, Global};
 use std::marker::Model;
-use table_generations::atomic_value::Law;
+use table_generations::atomic_value::{InPlace, Law};
 use table_held::raw::HeldRawTable;
 
-/// Lines, each kept once.
+/// Lines, each kept once, in an arena: no line has a block of the heap to itself.
 #[derive(Drop)]
-pub struct Seen<A: Allocator + Copy = Global> {
-    lines: HeldRawTable<Box<Vec<u8, A>, A>, A>,
-    alloc: A,
+pub struct Seen<'a, A: Allocator + Copy = Global> {
+    lines: HeldRawTable<InPlace<&'a [u8]>, &'a Bump<A>>,
+    arena: &'a Bump<A>,
 }
 
-impl<A: Allocator + Copy> Model for Seen<A> {
-    ghost use Rattle.std.specs.Prelude.{ℕ};
-    ghost use Rattle.std.specs.declared.boxed.Box.{Box};
-    ghost use Rattle.std.specs.declared.vec.Vec.{Vec};
+impl<'a, A: Allocator + Copy> Model for Seen<'a, A> {
+    ghost use Rattle.std.specs.Prelude.{ℕ, List};
+    ghost use Rattle.std.specs.Borrow.{Bor};
+    ghost use Rattle.table_generations.specs.declared.atomic_value.InPlace.{InPlace};
     ghost use Rattle.table_held.specs.Table.{HeldTable};
     ghost use Rattle.tool_text_lines.specs.Seen.{IsLineTable};
 
-    ghost Value = { HeldTable (Box (Vec ℕ A) A) };
+    ghost Value = { HeldTable (InPlace (Bor (List ℕ))) };
 
     ghost view = { λ t. t.lines };
 
-    ghost invariant = { λ t. IsLineTable (λ b. b.value) (λ v. v.items) t.lines };
+    ghost invariant = { λ t. IsLineTable (λ v. v.0) (λ line. line.now) t.lines };
 }
 
-impl<A: Allocator + Copy> Seen<A> {
+impl<'a, A: Allocator + Copy> Seen<'a, A> {
     /// No line was seen yet. It takes no memory.
-    pub fn new(alloc: A) -> Self
-        ensures { HoldsLines (λ b. b.value) (λ v. v.items) result [] }
+    pub fn new(arena: &'a Bump<A>) -> Self
+        ensures { HoldsLines (λ v. v.0) (λ line. line.now) result [] }
     {
         Seen {
-            lines: HeldRawTable::new(alloc),
-            alloc,
+            lines: HeldRawTable::new(arena),
+            arena,
         }
     }
 
@@ -45,8 +46,8 @@ impl<A: Allocator + Copy> Seen<A> {
     ///
     /// An Err: the line is new, and memory was refused. The lines are those before.
     pub fn seen_before(&mut self, line: &[u8]) -> Result<bool, AllocError>
-        ensures sees { IfOk result (λ seen. SeesLine (λ b. b.value) (λ v. v.items) self.old line.now seen self.new) }
-        ensures refused { OnErr result (RefusesLine (λ b. b.value) (λ v. v.items) self.old line.now self.new) }
+        ensures sees { IfOk result (λ seen. SeesLine (λ v. v.0) (λ line. line.now) self.old line.now seen self.new) }
+        ensures refused { OnErr result (RefusesLine (λ v. v.0) (λ line. line.now) self.old line.now self.new) }
     {
         let hash = Mixed::hash(line);
         if self.knows(hash, line) {
@@ -59,11 +60,11 @@ impl<A: Allocator + Copy> Seen<A> {
     /// Whether the line, whose hash this is, was seen.
     fn knows(&self, hash: u64, line: &[u8]) -> bool
         requires { hash ≡ mixed_hash line.now }
-        ensures { (lines : List (List ℕ)) → HoldsLines (λ b. b.value) (λ v. v.items) self.now lines → IsTrue result ↔ Contains lines line.now }
+        ensures { (lines : List (List ℕ)) → HoldsLines (λ v. v.0) (λ line. line.now) self.now lines → IsTrue result ↔ Contains lines line.now }
     {
         match self
             .lines
-            .lookup_alone::<LineLaw, _>(hash, |seen: &Vec<u8, A>| seen.as_slice() == line)
+            .lookup_alone::<LineLaw, _>(hash, |seen: &&[u8]| *seen == line)
         {
             Some(_) => true,
             None => false,
@@ -73,40 +74,39 @@ impl<A: Allocator + Copy> Seen<A> {
     /// Keeps a line that was not seen. An Err is refused memory, and the lines are those before.
     fn keep(&mut self, hash: u64, line: &[u8]) -> Result<(), AllocError>
         requires hash { hash ≡ mixed_hash line.now }
-        ensures kept { OnOk result ((lines : List (List ℕ)) → HoldsLines (λ b. b.value) (λ v. v.items) self.old lines → HoldsLines (λ b. b.value) (λ v. v.items) self.new (lines ++ line.now ∷ [])) }
-        ensures refused { OnErr result ((lines : List (List ℕ)) → HoldsLines (λ b. b.value) (λ v. v.items) self.old lines → HoldsLines (λ b. b.value) (λ v. v.items) self.new lines) }
+        ensures kept { OnOk result ((lines : List (List ℕ)) → HoldsLines (λ v. v.0) (λ line. line.now) self.old lines → HoldsLines (λ v. v.0) (λ line. line.now) self.new (lines ++ line.now ∷ [])) }
+        ensures refused { OnErr result ((lines : List (List ℕ)) → HoldsLines (λ v. v.0) (λ line. line.now) self.old lines → HoldsLines (λ v. v.0) (λ line. line.now) self.new lines) }
     {
-        let kept = Box::new(self.alloc, copy_of(self.alloc, line)?)?;
-        match self.lines.place_alone::<LineLaw, _, _>(
+        let kept = kept_in(self.arena, line)?;
+        let Ok(_) = self.lines.place_alone::<LineLaw, _, _>(
             hash,
-            kept,
-            &|new: &Vec<u8, A>, entry: &Vec<u8, A>| new.as_slice() == entry.as_slice(),
-            &|entry: &Vec<u8, A>| Mixed::hash(entry.as_slice()),
-        ) {
-            Ok(_) => Ok(()),
-            Err(_) => Err(AllocError),
-        }
+            InPlace(kept),
+            &|new: &&[u8], entry: &&[u8]| *new == *entry,
+            &|entry: &&[u8]| Mixed::hash(entry),
+        )
+        else {
+            return Err(AllocError);
+        };
+        Ok(())
     }
 }
 
-/// A copy of the bytes.
-fn copy_of<A: Allocator + Copy>(alloc: A, line: &[u8]) -> Result<Vec<u8, A>, AllocError>
-    ensures { IfOk result (λ copy. copy.items ≡ line.now) }
+/// A copy of the line in the arena.
+fn kept_in<'a, A: Allocator>(arena: &'a Bump<A>, line: &[u8]) -> Result<&'a [u8], AllocError>
+    ensures { IfOk result (λ kept. kept.now ≡ line.now) }
 {
-    let mut copy = Vec::with_capacity(alloc, line.len())?;
-    copy.extend_from_slice(line)?;
-    Ok(copy)
+    Ok(arena.try_alloc_slice_copy(line)?)
 }
 
 /// Lines are the same if their bytes are, and the hash of a line is the mixed hash of its bytes.
 pub struct LineLaw;
 
-impl<A: Allocator> Law<Vec<u8, A>> for LineLaw {
+impl<'a> Law<&'a [u8]> for LineLaw {
     ghost use Rattle.tool_text_lines.specs.Hashes.{same_by_bytes, hash_by_bytes, bytes_lawful};
 
-    ghost same = { same_by_bytes (λ line. line.items) };
+    ghost same = { same_by_bytes (λ line. line.now) };
 
-    ghost hash_of = { hash_by_bytes (λ line. line.items) };
+    ghost hash_of = { hash_by_bytes (λ line. line.now) };
 
-    ghost lawful = { bytes_lawful (λ line. line.items) };
+    ghost lawful = { bytes_lawful (λ line. line.now) };
 }

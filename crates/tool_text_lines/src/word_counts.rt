@@ -6,29 +6,32 @@ ghost use Rattle.interner.specs.Texts.{greatest_number};
 ghost use Rattle.tool_text_lines.specs.Counts.{Counts, word_line, word_lines};
 
 use crate::faults::Fault;
-use interner::{Interner, Mixed, Refused};
+use bumpalo::Bump;
+use interner::{InternerOf, Mixed, Refused};
 use std::alloc::{Allocator, Global};
 use std::io::Write;
 use std::num::NonZeroU32;
 use tool_streams::faults::StreamFault;
 
 /// Different words, numbered from 1 on in the order of first appearance, each with how often it stood. They are hashed by `Mixed`,
-/// since others write them.
+/// since others write them. The words lie in an arena: none has a block of the heap to itself.
 #[derive(Drop)]
-pub struct WordCounts<A: Allocator + Copy = Global> {
-    interner: Interner<A, Mixed>,
+pub struct WordCounts<'a, A: Allocator + Copy = Global> {
+    interner: InternerOf<&'a str, Mixed, A, &'a Bump<A>>,
     counts: Vec<u64, A>,
+    arena: &'a Bump<A>,
     ghost each_counted: { vec_len counts ≡ length interner },
 }
 
-impl<A: Allocator + Copy> WordCounts<A> {
+impl<'a, A: Allocator + Copy> WordCounts<'a, A> {
     /// No word is counted yet. It takes no memory.
-    pub fn new(alloc: A) -> Self
+    pub fn new(alloc: A, arena: &'a Bump<A>) -> Self
         ensures { Counts [] result.interner result.counts.items }
     {
         WordCounts {
-            interner: Interner::with_hash(alloc),
+            interner: InternerOf::new(alloc, arena),
             counts: Vec::new(alloc),
+            arena,
         }
     }
 
@@ -75,7 +78,10 @@ impl<A: Allocator + Copy> WordCounts<A> {
         if self.counts.reserve(1).is_err() {
             return Err(Fault::Stream(StreamFault::NoMemory));
         }
-        match self.interner.intern_alone(word) {
+        let Ok(kept) = self.arena.try_alloc_str(word) else {
+            return Err(Fault::Stream(StreamFault::NoMemory));
+        };
+        match self.interner.add_alone(kept) {
             Ok(_) => {}
             Err(Refused::Numbers) => return Err(Fault::TooManyWords),
             Err(Refused::NoMemory) => return Err(Fault::Stream(StreamFault::NoMemory)),

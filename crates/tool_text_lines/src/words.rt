@@ -10,6 +10,7 @@ ghost use Rattle.tool_text_lines.specs.Counts.{Counts, CountsText, counted};
 use crate::faults::Fault;
 use crate::texts::Texts;
 use crate::word_counts::WordCounts;
+use bumpalo::Bump;
 use std::alloc::Allocator;
 use std::io::{Read, Write};
 use tool_streams::faults::StreamFault;
@@ -25,7 +26,8 @@ pub fn run_words<A: Allocator + Copy, T: Texts, O: Write>(
     ensures { OnOk result (IfSome (T.left texts.old) (λ all.
         Appends (O.contents output.old) (O.contents output.new) (counted (flat_map words_of all)))) }
 {
-    let mut words = WordCounts::new(alloc);
+    let arena = Bump::new(alloc);
+    let mut words = WordCounts::new(alloc, &arena);
     // Counted only so that the loop has an end.
     for _text in 0..u64::MAX {
         let Some(text) = texts.next_text()? else {
@@ -39,7 +41,7 @@ pub fn run_words<A: Allocator + Copy, T: Texts, O: Write>(
 /// Counts the words of a text. It writes nothing, but flushes the output before a read that may wait.
 fn count_text<A: Allocator + Copy, I: Read + Drop, O: Write>(
     alloc: A,
-    words: &mut WordCounts<A>,
+    words: &mut WordCounts<'_, A>,
     text: I,
     output: &mut O,
 ) -> Result<(), Fault>
@@ -60,7 +62,7 @@ fn count_text<A: Allocator + Copy, I: Read + Drop, O: Write>(
 
 /// Counts the words of a line, the one of this number. A word is a longest run of bytes that are no ASCII whitespace.
 fn count_words<A: Allocator + Copy>(
-    words: &mut WordCounts<A>,
+    words: &mut WordCounts<'_, A>,
     line: &[u8],
     number: u64,
 ) -> Result<(), Fault>

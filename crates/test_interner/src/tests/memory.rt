@@ -1,8 +1,9 @@
 //! Memory that is refused.
 use super::{assert_named, intern, text_of};
 use interner::Interner;
-use std::alloc::{Allocator, Global};
+use std::alloc::{AllocError, Allocator, Global};
 use std::process::Abort;
+use std::test::Fail;
 use testkit_refusing::{Refusing, Rule};
 
 /// Enough texts for a second generation of the table and more room in the vector.
@@ -13,8 +14,8 @@ const TEXTS: [&str; 9] = [
 /// More requests than these texts make.
 const ENOUGH: u64 = 100;
 
-/// The requests of the third text: room in the vector, its text and its name.
-const REQUESTS_OF_THIRD: u32 = 3;
+/// The requests of the third text: its bytes, and the table's block for its number.
+const REQUESTS_OF_THIRD: usize = 2;
 
 /// The interner knows the first `known` texts and nothing else.
 fn assert_knows<A: Allocator + Copy>(rt: &impl Abort, interner: &Interner<A>, known: u32) {
@@ -55,21 +56,20 @@ fn refused_after(rt: &impl Abort, alloc: Global, granted: u64) -> Option<u32> {
     None
 }
 
+/// Which text was refused, with each request refused in turn.
+fn refused_in_turn(rt: &impl Abort, alloc: Global) -> Result<Vec<u32>, AllocError> {
+    (0..ENOUGH)
+        .map_while(|granted: u64| refused_after(rt, alloc, granted))
+        .collect(alloc)
+}
+
 #[test]
-fn each_request_is_refused_in_turn(rt: HostRuntime) {
-    let mut third: u32 = 0;
-    let mut requests: u32 = 0;
-    for granted in 0..ENOUGH {
-        let Some(refused) = refused_after(&rt, rt.alloc(), granted) else {
-            break;
-        };
-        requests = requests.saturating_add(1);
-        if refused == 3 {
-            third = third.saturating_add(1);
-        }
-    }
+fn each_request_is_refused_in_turn(rt: HostRuntime) -> Result<(), Fail> {
+    let refused = refused_in_turn(&rt, rt.alloc())?;
+    let third = refused.iter().filter(|text: &&u32| **text == 3).count();
     assert_eq!(rt; third, REQUESTS_OF_THIRD);
-    assert!(rt; 20 < requests && requests < 50);
+    assert!(rt; 20 < refused.len() && refused.len() < 50);
+    Ok(())
 }
 
 /// Interns all texts while every request after so many is refused. Says whether all were interned; then no call on known texts
@@ -94,12 +94,5 @@ fn is_known_with(rt: &impl Abort, alloc: Global, granted: u64) -> bool {
 
 #[test]
 fn known_texts_need_no_memory(rt: HostRuntime) {
-    let mut is_known = false;
-    for granted in 0..ENOUGH {
-        is_known = is_known_with(&rt, rt.alloc(), granted);
-        if is_known {
-            break;
-        }
-    }
-    assert!(rt; is_known);
+    assert!(rt; (0..ENOUGH).any(|granted: u64| is_known_with(&rt, rt.alloc(), granted)));
 }

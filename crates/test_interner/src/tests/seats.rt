@@ -26,16 +26,11 @@ fn numbers_of_texts(
     Ok(numbers)
 }
 
-/// A table of so many words and its first seat.
-fn table_of(
-    rt: &impl Abort,
-    alloc: Global,
-    count: usize,
-) -> Result<(NumberTable<Global>, Seat), AllocError>
+/// A table of eight words and its first seat.
+fn table_of_eight(alloc: Global) -> Result<(NumberTable<Global>, Seat), AllocError>
     ensures { IfOk result (λ r. IsSeatOf r.0 r.1) }
 {
-    assert!(rt; count.is_power_of_two());
-    NumberTable::new(alloc, count)
+    NumberTable::new(alloc, 8)
 }
 
 /// Inserts the numbers through the seat, and counts those placed.
@@ -78,7 +73,7 @@ fn assert_words_name_texts(rt: &impl Abort, interner: &Interner, words: &[u64]) 
 fn threads_share_the_numbers_of_texts(rt: HostRuntime) -> Result<(), Fail> {
     let mut interner = Interner::new(rt.alloc());
     let numbers = numbers_of_texts(&rt, rt.alloc(), &mut interner)?;
-    let (table, seat) = table_of(&rt, rt.alloc(), 8)?;
+    let (table, seat) = table_of_eight(rt.alloc())?;
     let Ok((first, second)) = table.split(seat) else {
         unreachable!()
     };

@@ -17,6 +17,12 @@ const WRITTEN: usize = 16384;
 /// How many lines the input has.
 const LINES: u64 = 1_500;
 
+/// Adds to a number that a test reads afterwards.
+fn add_to(sum: &Cell<usize>, more: usize) {
+    let before = sum.replace(0);
+    sum.set(before.wrapping_add(more));
+}
+
 /// A reader that counts its calls.
 #[derive(Drop)]
 struct CountedReads<'a> {
@@ -26,7 +32,7 @@ struct CountedReads<'a> {
 
 impl Read for CountedReads<'_> {
     fn read(&mut self, buf: &mut [u8]) -> io::Result<usize> {
-        self.calls.set(self.calls.get().wrapping_add(1));
+        add_to(self.calls, 1);
         self.rest.read(buf)
     }
 }
@@ -40,8 +46,8 @@ struct CountedWrites<'a> {
 
 impl Write for CountedWrites<'_> {
     fn write(&mut self, bytes: &[u8]) -> io::Result<usize> {
-        self.calls.set(self.calls.get().wrapping_add(1));
-        self.bytes.set(self.bytes.get().wrapping_add(bytes.len()));
+        add_to(self.calls, 1);
+        add_to(self.bytes, bytes.len());
         Ok(bytes.len())
     }
 

@@ -1,19 +1,20 @@
 //! The words that the program was called with.
 use super::{Shelf, USAGE};
-use std::alloc::Global;
+use std::alloc::{Allocator, Global};
 use std::env::FillError;
 use std::process::Abort;
 use std::rt::Env;
+use testkit_refusing::{Refusing, Rule};
 use tool_text_lines::program::run_program;
 
-/// An environment whose arguments are these, the program's name first.
+/// The arguments that the tools are called with, the program's name first, and the memory that they are put into.
 #[derive(Clone, Copy)]
-struct Called {
+struct Called<A> {
     arguments: &'static [&'static [u8]],
-    alloc: Global,
+    alloc: A,
 }
 
-impl Env for Called {
+impl<A> Env for Called<A> {
     fn arg(&self, i: usize, buf: &mut [u8]) -> Result<usize, FillError> {
         let Some(argument) = self.arguments.get(i) else {
             return Err(FillError::NotPresent);
@@ -35,10 +36,10 @@ impl Env for Called {
     }
 }
 
-impl Alloc for Called {
-    type A = Global;
+impl<A: Allocator + Copy> Alloc for Called<A> {
+    type A = A;
 
-    fn alloc(&self) -> Global {
+    fn alloc(&self) -> A {
         self.alloc
     }
 }
@@ -86,4 +87,41 @@ fn arguments_are_the_words(rt: HostRuntime) {
     for row in &ROWS {
         assert_row(&rt, rt.alloc(), row);
     }
+}
+
+const CALLED: &[&[u8]] = &[b"tool_text", b"words", b"file"];
+
+/// Runs a tool while one request for the memory of its words is refused, the one after so many. How often it was told so, and
+/// nothing was written; where it isn't, that memory was not needed.
+fn told_after(rt: &impl Abort, heap: Global, granted: u64) -> u64 {
+    let memory = Refusing::new(heap, Rule::new(0, usize::MAX, granted, 1));
+    let called = Called {
+        arguments: CALLED,
+        alloc: &memory,
+    };
+    let (mut output, mut messages) = (Vec::new(heap), Vec::new(heap));
+    let input = b"".as_slice();
+    let ended = run_program(&called, &SHELF, heap, input, &mut output, &mut messages);
+    if ended == 0 {
+        assert_eq!(rt; output.as_slice(), b"1 of 1\n".as_slice());
+        assert!(rt; messages.is_empty());
+        return 0;
+    }
+    assert_eq!(rt; messages.as_slice(), b"no memory\n".as_slice());
+    assert!(rt; output.is_empty());
+    assert_eq!(rt; ended, 1);
+    1
+}
+
+/// More requests than the words take.
+const ENOUGH: u64 = 20;
+
+#[test]
+fn want_of_memory_for_the_arguments_is_told(rt: HostRuntime) {
+    let mut told = 0u64;
+    for granted in 0..ENOUGH {
+        told = told.saturating_add(told_after(&rt, rt.alloc(), granted));
+    }
+    // Three words and their list.
+    assert!(rt; 4 <= told && told < ENOUGH, "{told}");
 }

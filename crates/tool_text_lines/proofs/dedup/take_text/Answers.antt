@@ -22,6 +22,6 @@ loop-line-preserved g c = (
   one_line_more _ _ _ c.line.result.now c.loop-line.invariant.0 c.loop-line.invariant.1 (rw (c.if-not-branch.false, ← c.line.ensures) at c.in_ok-read_line.ensures.reads),
   λ lines start held grown.
       let told = c.loop-line.invariant.2 lines start held grown in
-      takes_more (λ b. b.value) (λ v. v.items) _ lines c.loop-line.invariant.0 (c.line.result.now ∷ []) start _
+      takes_more (λ v. v.0) (λ line. line.now) _ lines c.loop-line.invariant.0 (c.line.result.now ∷ []) start _
       (c.in_ok-take_line.ensures (lines ++ c.loop-line.invariant.0) start told.0 (Keeps_after_Appends _ _ _ _ told.1 c.in_ok-read_line.ensures.output)),
 )

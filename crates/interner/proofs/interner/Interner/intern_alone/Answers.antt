@@ -1,5 +1,9 @@
 use Rattle.interner.proofs.Numbers.{different_push}
 use Rattle.interner.proofs.interner.Interner.intern_alone.Goals as goal
+use Rattle.interner.proofs.interner.Interner.intern_alone.Goals.{in-Ok-add, in-Err}
 
-pub returns-in-Ok-clause-different : goal.returns-in-Ok-clause-different
-returns-in-Ok-clause-different g c = rw c.in-Ok.ensures.added (different_push c.args.self.now c.args.text.now c.number_by_hash.ensures.different c.in_default.ensures.finds)
+pub returns-clause-different : goal.returns-clause-different
+returns-clause-different g c = elim c.match-add.branch [
+    | in-Ok-add w ↦ rw w.in-Ok-add.ensures.added (different_push c.self.inside.texts _ c.number_by_hash.ensures.different (rw c.in-Ok.ensures.ok c.in_default.ensures.finds))
+    | in-Err w ↦ rw w.in-Err.ensures.unchanged c.number_by_hash.ensures.different
+  ]

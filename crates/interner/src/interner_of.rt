@@ -1,0 +1,189 @@
+//! The interner of texts that its caller keeps.
+ghost use Rattle.std.specs.Prelude.{◌≡◌, ◌+◌, ◌-◌, ◌<◌, ◌≤◌, ◌++◌, [], ◌∷◌, length, map, OnOk, OnErr, Contains};
+ghost use Rattle.std.specs.Prelude.{option_copied, option_map, slice_get};
+ghost use Rattle.std.specs.Int.NonZero.{non_zero_u32_get};
+ghost use Rattle.interner.specs.Texts.{greatest_number, AllDifferent, FindsNumber};
+ghost use Rattle.interner.specs.Interns.{Interns, GivesNext};
+ghost use Rattle.interner.specs.Kept.{TellsText, HashesText};
+
+use crate::hash::{TextHash, Times31};
+use crate::numbered::{Numbered, TextLaw};
+use crate::refused::Refused;
+use std::alloc::{AllocError, Allocator, Global};
+use std::convert::AsStr;
+use std::marker::{Model, PhantomData};
+use std::num::NonZeroU32;
+use std::snapshot::Snapshot;
+use table_held::{HeldRawTable, InPlace};
+
+/// Different texts of type `S`, numbered from 1 on in the order of first appearance. One owner holds them alone. They are hashed by
+/// `H`: by `Mixed` where others choose them. The texts lie in one vector, whose room comes from an `A`; the table has a block for
+/// each number, which comes from a `B`.
+///
+/// A contract sees the list of the texts, each as its bytes.
+#[derive(Drop)]
+pub struct InternerOf<
+    S: AsStr + Drop,
+    H: TextHash = Times31,
+    A: Allocator + Copy = Global,
+    B: Allocator + Copy = A,
+> {
+    by_text: HeldRawTable<InPlace<Numbered<S>>, B>,
+    by_number: Vec<S, A>,
+    hash: PhantomData<H>,
+}
+
+impl<S: AsStr + Drop, H: TextHash, A: Allocator + Copy, B: Allocator + Copy> Model
+    for InternerOf<S, H, A, B> {
+    ghost use Rattle.std.specs.Prelude.{ℕ, List, map};
+    ghost use Rattle.std.specs.Int.NonZero.{non_zero_u32_get};
+    ghost use Rattle.interner.specs.Kept.{IsKept};
+
+    ghost Value = { List (List ℕ) };
+
+    ghost view = { λ t. map S.text t.by_number.items };
+
+    ghost invariant = { λ t. IsKept (λ v. v.0) (λ n. S.text n.text.value) (λ n. non_zero_u32_get n.number) H.hash_of
+        (map S.text t.by_number.items) t.by_text };
+}
+
+impl<S: AsStr + Drop, H: TextHash, A: Allocator + Copy, B: Allocator + Copy> InternerOf<
+    S,
+    H,
+    A,
+    B,
+> {
+    /// No text has a number yet. It takes no memory.
+    pub fn new(alloc: A, blocks: B) -> Self
+        ensures { result ≡ [] }
+    {
+        InternerOf {
+            by_text: HeldRawTable::new(blocks),
+            by_number: Vec::new(alloc),
+            hash: PhantomData,
+        }
+    }
+
+    /// The number of the text, or None where it has none. It takes no memory and changes nothing.
+    pub fn number_alone(&self, text: &str) -> Option<NonZeroU32>
+        ensures finds { FindsNumber self.now text.now result }
+        ensures different { AllDifferent self.now }
+    {
+        self.number_by_hash(H::hash(text.as_bytes()), text)
+    }
+
+    /// The text of the number, or None where the number is not given. It takes no memory and changes nothing.
+    pub fn text_alone(&self, number: NonZeroU32) -> Option<&str>
+        ensures { option_copied result ≡ slice_get self.now (non_zero_u32_get number - 1) }
+    {
+        let text = self.by_number.get(number.get() as usize - 1)?;
+        Some(text.as_str())
+    }
+
+    /// How many texts have a number.
+    pub fn len_alone(&self) -> usize
+        ensures length { result ≡ length self.now }
+        ensures few { result ≤ greatest_number }
+        ensures different { AllDifferent self.now }
+    {
+        self.by_number.len()
+    }
+
+    /// Gives the text, which has no number, the next one, and keeps it.
+    ///
+    /// `Refused::Numbers`: all 2^32 - 1 numbers are given; no memory was asked for. `Refused::NoMemory`: memory was refused. A refused
+    /// call changes nothing, and drops the text.
+    pub fn add_alone(&mut self, text: S) -> Result<NonZeroU32, Refused>
+        requires new { ¬ Contains self.old (S.text text) }
+        ensures interns { Interns self.old (S.text text) result self.new }
+        ensures different { AllDifferent self.new }
+    {
+        let number = self.next_number()?;
+        let hash = H::hash(text.as_str().as_bytes());
+        match self.add(hash, text, number) {
+            Ok(()) => Ok(number),
+            Err(_) => Err(Refused::NoMemory),
+        }
+    }
+
+    /// The number of the text, whose hash this is.
+    pub(crate) fn number_by_hash(&self, hash: u64, text: &str) -> Option<NonZeroU32>
+        requires { hash ≡ H.hash_of text.now }
+        ensures finds { FindsNumber self.now text.now result }
+        ensures different { AllDifferent self.now }
+    {
+        let texts = self.by_number.as_slice();
+        let found = self
+            .by_text
+            .lookup_alone::<TextLaw<H>, _>(hash, |entry: &Numbered<S>| {
+                is_text_of(texts, entry.number, text)
+            })?;
+        Some(found.number)
+    }
+
+    /// The number that a new text gets.
+    pub(crate) fn next_number(&self) -> Result<NonZeroU32, Refused>
+        ensures next { GivesNext self.now result }
+        ensures different { AllDifferent self.now }
+    {
+        let given = self.len_alone();
+        if given == u32::MAX as usize {
+            return Err(Refused::Numbers);
+        }
+        match NonZeroU32::new(given as u32 + 1) {
+            Some(number) => Ok(number),
+            None => unreachable!(),
+        }
+    }
+
+    /// Gives the text, which has none, this number, the next one. An Err changes nothing.
+    pub(crate) fn add(&mut self, hash: u64, text: S, number: NonZeroU32) -> Result<(), AllocError>
+        requires hash { hash ≡ H.hash_of (S.text text) }
+        requires new { ¬ Contains self.old (S.text text) }
+        requires few { length self.old < greatest_number }
+        requires next { non_zero_u32_get number ≡ length self.old + 1 }
+        ensures added { OnOk result (self.new ≡ self.old ++ S.text text ∷ []) }
+        ensures unchanged { OnErr result (self.new ≡ self.old) }
+    {
+        self.by_number.reserve(1)?;
+        let entry = InPlace(Numbered {
+            number,
+            text: Snapshot::of(&text),
+        });
+        let (texts, new) = (self.by_number.as_slice(), text.as_str());
+        match self.by_text.place_alone::<TextLaw<H>, _, _>(
+            hash,
+            entry,
+            &|_new: &Numbered<S>, entry: &Numbered<S>| is_text_of(texts, entry.number, new),
+            &|entry: &Numbered<S>| hash_in::<S, H>(texts, entry.number, hash),
+        ) {
+            Ok((_, None)) => {}
+            Ok((_, Some(_))) => unreachable!(),
+            Err(_) => return Err(AllocError),
+        }
+        match self.by_number.push(text) {
+            Ok(()) => Ok(()),
+            Err(_) => unreachable!(),
+        }
+    }
+}
+
+/// Whether the text of the number is this one. No text has a number that isn't given.
+fn is_text_of<S: AsStr>(texts: &[S], number: NonZeroU32, text: &str) -> bool
+    ensures { TellsText (map S.text texts.now) (non_zero_u32_get number) text.now result }
+{
+    match texts.get(number.get() as usize - 1) {
+        Some(kept) => kept.as_str() == text,
+        None => false,
+    }
+}
+
+/// The hash of the text of the number, or `new` where the number isn't given yet.
+fn hash_in<S: AsStr, H: TextHash>(texts: &[S], number: NonZeroU32, new: u64) -> u64
+    ensures { HashesText H.hash_of (map S.text texts.now) (non_zero_u32_get number) new result }
+{
+    match texts.get(number.get() as usize - 1) {
+        Some(kept) => H::hash(kept.as_str().as_bytes()),
+        None => new,
+    }
+}
