@@ -2,5 +2,6 @@
 mod cuts;
 mod drawn;
 mod drops;
+mod meetings;
 mod whole;
 mod worked;

@@ -29,6 +29,8 @@ pub enum Fault {
     },
     /// A look at the table from inside a closure showed something else.
     Sight,
+    /// Of two calls that were to meet one went on without the other.
+    Alone,
 }
 
 impl From<AllocError> for Fault {

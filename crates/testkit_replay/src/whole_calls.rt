@@ -4,6 +4,7 @@
 //! asked about the same entry at the same step, and each call told the same.
 ghost use Rattle.table_terms.specs.Capacities.{IsFirstCapacity};
 
+pub mod meeting;
 mod retrace;
 pub mod trace;
 mod whole;
@@ -50,7 +51,7 @@ pub fn run_whole<R: Wait>(
 ) -> Result<Vec<(u64, Said)>, Fault>
     requires { IsFirstCapacity first }
 {
-    let memory = Refusing::new(alloc, Rule::new(0, usize::MAX, 0, 0));
+    let memory = Refusing::new(alloc, any_request());
     let table: Table<'_> = LockFreeRawTable::with_first_capacity(&memory, first as usize);
     let (script, trace) = (Script::new(manner, seed), Trace::new(alloc));
     let whole = Whole {
@@ -66,15 +67,20 @@ pub fn run_whole<R: Wait>(
     whole.run(plan)?;
     drop(whole);
     let marks = trace.into_marks()?;
-    follow(alloc, first, marks.as_slice())?;
+    follow(alloc, first, any_request(), marks.as_slice())?;
     told_in(alloc, marks.as_slice())
 }
 
-/// Follows what happened on a table beside the machine.
-fn follow(alloc: Global, first: u64, marks: &[Mark]) -> Result<(), Fault>
+/// Each request for memory may be refused.
+fn any_request() -> Rule {
+    Rule::new(0, usize::MAX, 0, 0)
+}
+
+/// Follows what happened on a table beside the machine, whose memory has the same rule.
+fn follow(alloc: Global, first: u64, rule: Rule, marks: &[Mark]) -> Result<(), Fault>
     requires { IsFirstCapacity first }
 {
-    let memory = Refusing::new(alloc, Rule::new(0, usize::MAX, 0, 0));
+    let memory = Refusing::new(alloc, rule);
     let table: Table<'_> = LockFreeRawTable::with_first_capacity(&memory, first as usize);
     let script = Script::new(Manner::Told, 0);
     let ground = Ground {

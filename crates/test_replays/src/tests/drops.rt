@@ -14,9 +14,12 @@ use testkit_refusing::{Refusing, Rule};
 
 type Table<'a> = LockFreeRawTable<Box<Counting>, &'a Refusing<Global>>;
 
-/// An insert into a table of the numbers below `entries`, of which it is the next: the bucket of its hash is vacant.
+/// An insert of a number into a table of the numbers below `entries`, each its own hash, in 16 buckets.
 struct Course {
     entries: u64,
+    number: u64,
+    /// What another insert places once this one has come to an empty bucket, by its third step.
+    meanwhile: Option<u64>,
     /// So many of its requests for memory are granted before those that are refused.
     passing: u64,
     /// So many are refused.
@@ -30,10 +33,18 @@ struct Course {
 /// A step that isn't taken.
 const NEVER: u64 = u64::MAX;
 
-const COURSES: [Course; 6] = [
+/// The number from which on an insert into a table of all before it asks for growth.
+const GROWS: u64 = 7;
+
+/// The steps by which an insert comes to an empty bucket, the first on its way.
+const TO_EMPTY: u64 = 3;
+
+const COURSES: [Course; 10] = [
     // It makes the first generation: seven steps, and seven more to place its value there.
     Course {
         entries: 0,
+        number: 0,
+        meanwhile: None,
         passing: 0,
         refused: 0,
         placed_at: 11,
@@ -42,6 +53,8 @@ const COURSES: [Course; 6] = [
     // It places its value, and there is no growth.
     Course {
         entries: 1,
+        number: 1,
+        meanwhile: None,
         passing: 0,
         refused: 0,
         placed_at: 4,
@@ -50,6 +63,8 @@ const COURSES: [Course; 6] = [
     // It places its value, and copies eight entries.
     Course {
         entries: 7,
+        number: 7,
+        meanwhile: None,
         passing: 0,
         refused: 0,
         placed_at: 4,
@@ -58,6 +73,8 @@ const COURSES: [Course; 6] = [
     // The first generation is refused.
     Course {
         entries: 0,
+        number: 0,
+        meanwhile: None,
         passing: 0,
         refused: 1,
         placed_at: NEVER,
@@ -66,6 +83,8 @@ const COURSES: [Course; 6] = [
     // The block of its value is refused.
     Course {
         entries: 1,
+        number: 1,
+        meanwhile: None,
         passing: 0,
         refused: 1,
         placed_at: NEVER,
@@ -74,10 +93,52 @@ const COURSES: [Course; 6] = [
     // It places its value, and growth is refused.
     Course {
         entries: 7,
+        number: 7,
+        meanwhile: None,
         passing: 1,
         refused: 1,
         placed_at: 4,
         ended_at: 10,
+    },
+    // It meets its equal, which is an entry.
+    Course {
+        entries: 1,
+        number: 0,
+        meanwhile: None,
+        passing: 0,
+        refused: 0,
+        placed_at: NEVER,
+        ended_at: 5,
+    },
+    // It loses its exchange to its equal.
+    Course {
+        entries: 1,
+        number: 1,
+        meanwhile: Some(1),
+        passing: 0,
+        refused: 0,
+        placed_at: NEVER,
+        ended_at: 6,
+    },
+    // It loses its exchange to another number of its bucket, and is placed in the next one.
+    Course {
+        entries: 1,
+        number: 1,
+        meanwhile: Some(17),
+        passing: 0,
+        refused: 0,
+        placed_at: 6,
+        ended_at: 9,
+    },
+    // Each bucket is set. It copies 16 entries, is placed, and copies 17.
+    Course {
+        entries: 16,
+        number: 16,
+        meanwhile: None,
+        passing: 0,
+        refused: 0,
+        placed_at: 43,
+        ended_at: 67,
     },
 ];
 
@@ -90,6 +151,7 @@ fn advance_times<
     H: Fn(&T::Target) -> u64,
 >(call: &mut InsertCall<'a, T, A, E, H>, times: u64) -> bool
     requires may_step { MayStep E.IsAlwaysCallable H.IsAlwaysCallable T.target E.Fn call.old }
+    ensures may_step { MayStep E.IsAlwaysCallable H.IsAlwaysCallable T.target E.Fn call.new }
 {
     let mut ended = false;
     for _ in 0..times {
@@ -120,38 +182,81 @@ fn contains(table: &Table<'_>, number: u64) -> bool {
         .is_some()
 }
 
-/// Places the numbers below `entries`.
+/// Places the numbers below `entries`. No growth is granted for that.
 fn fill<R: Wait + Abort>(
     rt: &R,
     alloc: Global,
     table: &Table<'_>,
+    memory: &Refusing<Global>,
     entries: u64,
     drops: &Arc<AtomicU64>,
 ) -> Result<(), AllocError> {
     for number in 0..entries {
+        if GROWS <= number {
+            memory.refuse(1, 1);
+        }
         let value = Box::new(alloc, Counting::new(number, drops.clone()?))?;
         assert!(rt; places(rt, table, value));
     }
+    memory.refuse(0, 0);
     Ok(())
 }
 
-/// Takes so many steps of the course's insert, and drops it.
-fn give_up_after(
-    rt: &impl Abort,
+/// Takes so many steps of the course's insert, and drops it. Between them the other number is placed, if there is one.
+fn give_up_after<R: Wait + Abort>(
+    rt: &R,
     table: &Table<'_>,
     value: Box<Counting>,
+    other: Option<Box<Counting>>,
     course: &Course,
     steps: u64,
 ) {
     let mut call = InsertCall::new(
         table,
-        course.entries,
+        course.number,
         value,
         |a: &Counting, b: &Counting| a.number == b.number,
         |a: &Counting| a.number,
     );
-    let ended = advance_times(&mut call, steps);
+    let before = steps.min(TO_EMPTY);
+    let mut ended = advance_times(&mut call, before);
+    if let Some(other) = other {
+        assert!(rt; places(rt, table, other));
+    }
+    if before < steps {
+        ended = advance_times(&mut call, steps.wrapping_sub(before));
+    }
     assert_eq!(rt; ended, steps == course.ended_at, "{steps}");
+}
+
+/// The number that is placed meanwhile, in a box, if the insert comes so far.
+fn other_of(
+    alloc: Global,
+    course: &Course,
+    steps: u64,
+    drops: &Arc<AtomicU64>,
+) -> Result<Option<Box<Counting>>, AllocError> {
+    match course.meanwhile {
+        Some(number) if TO_EMPTY <= steps => Ok(Some(Box::new(
+            alloc,
+            Counting::new(number, drops.clone()?),
+        )?)),
+        _ => Ok(None),
+    }
+}
+
+/// What the table has after an insert was given up: its entries and the next one.
+fn assert_goes_on<R: Wait + Abort>(
+    rt: &R,
+    table: &Table<'_>,
+    value: Box<Counting>,
+    entries: u64,
+    steps: u64,
+) {
+    let next = value.number;
+    assert!(rt; places(rt, table, value), "{steps}");
+    assert!(rt; contains(table, next), "{steps}");
+    assert_eq!(rt; table.len() as u64, entries.wrapping_add(1), "{steps}");
 }
 
 /// An insert that is dropped after so many steps: its value is an entry or was dropped once, and the next insert finishes.
@@ -165,27 +270,29 @@ fn assert_given_up<R: Wait + Abort>(
     let drops = Arc::new(alloc, AtomicU64::new(0))?;
     let others = Arc::new(alloc, AtomicU64::new(0))?;
     let table: Table<'_> = LockFreeRawTable::new(&memory);
-    fill(rt, alloc, &table, course.entries, &others)?;
+    fill(rt, alloc, &table, &memory, course.entries, &others)?;
     memory.refuse(course.passing, course.refused);
-    let value = Box::new(alloc, Counting::new(course.entries, drops.clone()?))?;
-    give_up_after(rt, &table, value, course, steps);
+    let other = other_of(alloc, course, steps, &others)?;
+    let there = course.entries.wrapping_add(other.is_some() as u64);
+    let known = course.number < course.entries
+        || (other.is_some() && course.meanwhile == Some(course.number));
+    let value = Box::new(alloc, Counting::new(course.number, drops.clone()?))?;
+    give_up_after(rt, &table, value, other, course, steps);
     memory.refuse(0, 0);
     let placed = course.placed_at <= steps;
-    assert_eq!(rt;
-        drops.load(Ordering::SeqCst),
-        if placed { 0 } else { 1 },
-        "{steps}"
-    );
-    assert_eq!(rt; contains(&table, course.entries), placed, "{steps}");
+    let dropped = drops.load(Ordering::SeqCst);
+    assert_eq!(rt; dropped, if placed { 0 } else { 1 }, "{steps}");
+    assert_eq!(rt; contains(&table, course.number), placed || known, "{steps}");
     let next = course.entries.wrapping_add(1);
     let value = Box::new(alloc, Counting::new(next, others.clone()?))?;
-    assert!(rt; places(rt, &table, value), "{steps}");
-    assert!(rt; contains(&table, next), "{steps}");
-    let entries = if placed { next.wrapping_add(1) } else { next };
-    assert_eq!(rt; table.len() as u64, entries, "{steps}");
+    assert_goes_on(rt, &table, value, there.wrapping_add(placed as u64), steps);
     drop(table);
     assert_eq!(rt; drops.load(Ordering::SeqCst), 1, "{steps}");
-    assert_eq!(rt; others.load(Ordering::SeqCst), next, "{steps}");
+    assert_eq!(rt;
+        others.load(Ordering::SeqCst),
+        there.wrapping_add(1),
+        "{steps}"
+    );
     assert_eq!(rt; memory.given_back(), memory.granted(), "{steps}");
     Ok(())
 }

@@ -18,13 +18,13 @@ const INSERT_0: Ask = Ask::Insert { class: 0, hash: 0 };
 
 const INSERT_1: Ask = Ask::Insert { class: 1, hash: 1 };
 
-const INSERT_1_AT_0: Ask = Ask::Insert { class: 1, hash: 0 };
+pub(crate) const INSERT_1_AT_0: Ask = Ask::Insert { class: 1, hash: 0 };
 
 const INSERT_2: Ask = Ask::Insert { class: 2, hash: 2 };
 
-const INSERT_2_AT_0: Ask = Ask::Insert { class: 2, hash: 0 };
+pub(crate) const INSERT_2_AT_0: Ask = Ask::Insert { class: 2, hash: 0 };
 
-const INSERT_3: Ask = Ask::Insert { class: 3, hash: 3 };
+pub(crate) const INSERT_3: Ask = Ask::Insert { class: 3, hash: 3 };
 
 const INSERT_4: Ask = Ask::Insert { class: 4, hash: 4 };
 
@@ -32,9 +32,9 @@ const INSERT_5: Ask = Ask::Insert { class: 5, hash: 5 };
 
 const INSERT_6: Ask = Ask::Insert { class: 6, hash: 6 };
 
-const INSERT_7: Ask = Ask::Insert { class: 7, hash: 7 };
+pub(crate) const INSERT_7: Ask = Ask::Insert { class: 7, hash: 7 };
 
-const INSERT_8_AT_0: Ask = Ask::Insert { class: 8, hash: 0 };
+pub(crate) const INSERT_8_AT_0: Ask = Ask::Insert { class: 8, hash: 0 };
 
 const LOOKUP_0: Ask = Ask::Lookup { class: 0, hash: 0 };
 
@@ -49,13 +49,13 @@ const LOOKUP_8_AT_0: Ask = Ask::Lookup { class: 8, hash: 0 };
 const LOOKUP_9: Ask = Ask::Lookup { class: 9, hash: 9 };
 
 // To these no memory is refused.
-const TOP_INSERT_0: Top = Top {
+pub(crate) const TOP_INSERT_0: Top = Top {
     ask: INSERT_0,
     passing: 0,
     refused: 0,
 };
 
-const TOP_INSERT_1: Top = Top {
+pub(crate) const TOP_INSERT_1: Top = Top {
     ask: INSERT_1,
     passing: 0,
     refused: 0,
@@ -67,31 +67,31 @@ const TOP_INSERT_1_AT_0: Top = Top {
     refused: 0,
 };
 
-const TOP_INSERT_2: Top = Top {
+pub(crate) const TOP_INSERT_2: Top = Top {
     ask: INSERT_2,
     passing: 0,
     refused: 0,
 };
 
-const TOP_INSERT_3: Top = Top {
+pub(crate) const TOP_INSERT_3: Top = Top {
     ask: INSERT_3,
     passing: 0,
     refused: 0,
 };
 
-const TOP_INSERT_4: Top = Top {
+pub(crate) const TOP_INSERT_4: Top = Top {
     ask: INSERT_4,
     passing: 0,
     refused: 0,
 };
 
-const TOP_INSERT_5: Top = Top {
+pub(crate) const TOP_INSERT_5: Top = Top {
     ask: INSERT_5,
     passing: 0,
     refused: 0,
 };
 
-const TOP_INSERT_6: Top = Top {
+pub(crate) const TOP_INSERT_6: Top = Top {
     ask: INSERT_6,
     passing: 0,
     refused: 0,

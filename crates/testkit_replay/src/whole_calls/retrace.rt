@@ -41,6 +41,8 @@ impl<
             Mark::Began(ask) => self.begin(ask),
             Mark::Asked(call, entry, accepted) => self.drive_to(call, entry, accepted, 0),
             Mark::Hashed(call, entry, hash) => self.drive_to(call, entry, true, hash),
+            Mark::AtEmpty(call) => self.drive_to_empty(call),
+            Mark::Waits(call) => self.drive_to_wait(call),
             Mark::Saw(sight) => self.compare_sight(sight),
             Mark::Told(call, said) => self.drive_to_end(call, said),
         }
@@ -60,6 +62,35 @@ impl<
             }
         }
         Err(Fault::Unfinished)
+    }
+
+    /// Takes steps of the call, at none of which it asks a closure, until it is about to offer its value at an empty bucket.
+    fn drive_to_empty(&mut self, call: u64) -> Result<(), Fault>
+        requires ready { IsReady E.IsAlwaysCallable H.IsAlwaysCallable F.IsAlwaysCallable E.Fn self.old }
+        ensures ready { IsReady E.IsAlwaysCallable H.IsAlwaysCallable F.IsAlwaysCallable E.Fn self.new }
+    {
+        let index = call as usize;
+        for _step in 0..STEPS {
+            if self.phase_at(index) == Phase::AtEmpty {
+                return Ok(());
+            }
+            let took = self.drive_told(index, true, 0)?;
+            if took != Took::Moved || self.ground.script.take_met().is_some() {
+                return Err(Fault::Asked { call });
+            }
+        }
+        Err(Fault::Unfinished)
+    }
+
+    /// The call can't take its next step, since another one has the lock.
+    fn drive_to_wait(&mut self, call: u64) -> Result<(), Fault>
+        requires ready { IsReady E.IsAlwaysCallable H.IsAlwaysCallable F.IsAlwaysCallable E.Fn self.old }
+        ensures ready { IsReady E.IsAlwaysCallable H.IsAlwaysCallable F.IsAlwaysCallable E.Fn self.new }
+    {
+        if self.drive_told(call as usize, true, 0)? == Took::Blocked {
+            return Ok(());
+        }
+        Err(Fault::Step { call })
     }
 
     /// Takes steps of the call to its end, at none of which it asks a closure. It has to be told this.

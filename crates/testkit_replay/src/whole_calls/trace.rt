@@ -43,6 +43,10 @@ pub enum Mark {
     Asked(u64, u64, bool),
     /// A call asks for the hash of an entry, and is told it.
     Hashed(u64, u64, u64),
+    /// A call has come to an empty bucket, and is about to offer its value there.
+    AtEmpty(u64),
+    /// A call waits for the lock.
+    Waits(u64),
     /// A look at the table.
     Saw(Sight),
     /// A call is told this.
@@ -61,9 +65,14 @@ pub struct Trace {
 impl Trace {
     /// Nothing yet.
     pub fn new(alloc: Global) -> Trace {
+        Trace::from_call(alloc, 0)
+    }
+
+    /// Nothing yet, where so many calls have begun elsewhere.
+    pub fn from_call(alloc: Global, begun: u64) -> Trace {
         Trace {
             marks: RefCell::new(Vec::new(alloc)),
-            begun: Cell::new(0),
+            begun: Cell::new(begun),
             fault: Cell::new(None),
         }
     }

@@ -42,15 +42,15 @@ impl Drop for Cuts<'_> {
 }
 
 /// A table, its memory, and what notes the calls on it.
-pub(crate) struct Whole<'w, 'm, R: Wait> {
+pub(crate) struct Whole<'w, 'n, 'm, R: Wait> {
     pub(crate) rt: &'w R,
     pub(crate) alloc: Global,
     pub(crate) first: u64,
     pub(crate) memory: &'m Refusing<Global>,
     pub(crate) table: &'w Table<'m>,
-    pub(crate) script: &'w Script,
-    pub(crate) trace: &'w Trace,
-    pub(crate) cuts: Cuts<'w>,
+    pub(crate) script: &'n Script,
+    pub(crate) trace: &'n Trace,
+    pub(crate) cuts: Cuts<'n>,
 }
 
 /// Which lock is held where a closure is asked.
@@ -77,9 +77,9 @@ impl Lock {
     }
 }
 
-impl<'w, 'm, R: Wait> Whole<'w, 'm, R> {
+impl<'w, 'n, 'm, R: Wait> Whole<'w, 'n, 'm, R> {
     /// A whole call, inside whose closures `inside` runs with the lock that is held.
-    fn call<I: Fn(Lock)>(&self, ask: Ask, lock: Lock, inside: &I) -> Result<(), Fault>
+    pub(crate) fn call<I: Fn(Lock)>(&self, ask: Ask, lock: Lock, inside: &I) -> Result<(), Fault>
         requires { I.IsAlwaysCallable inside.now }
     {
         match ask {
@@ -276,7 +276,7 @@ impl<'w, 'm, R: Wait> Whole<'w, 'm, R> {
     }
 }
 
-impl<R: Wait> Drop for Whole<'_, '_, R> {
+impl<R: Wait> Drop for Whole<'_, '_, '_, R> {
     fn drop(self) {
         let Whole {
             rt: _,

@@ -1,0 +1,301 @@
+//! Two whole calls at once, each on a thread of its own: two inserts lose an exchange to one another, or the second call waits
+//! for the lock while the first one's growth copies.
+//!
+//! Each thread notes what its own call does. Which of two inserts lost is seen by the order of their values in the table, so
+//! that what happened is known, and is followed beside the machine.
+ghost use Rattle.table_terms.specs.Capacities.{IsFirstCapacity};
+
+use crate::fault::Fault;
+use crate::item::{Item, Said};
+use crate::running::Table;
+use crate::schedules::Ask;
+use crate::script::{Manner, Script};
+use crate::whole_calls::trace::{Mark, Sight, Trace};
+use crate::whole_calls::whole::{Cuts, Lock, Whole};
+use crate::whole_calls::{Plan, Top, follow, told_in};
+use std::alloc::Global;
+use std::sync::Wait;
+use std::sync::atomic::{AtomicU64, Ordering};
+use std::thread;
+use std::thread::Threads;
+use table_shared::LockFreeRawTable;
+use testkit_refusing::{Refusing, Rule};
+
+/// How many bytes the block of an entry has. No request for a generation is that small.
+const BLOCK: usize = 16;
+
+/// How often a thread looks for the other one, and how often the growth looks in vain, so that the other one comes to the lock.
+const LOOKS: u64 = 1 << 27;
+
+const QUIET_LOOKS: u64 = 20_000;
+
+/// Where two calls meet.
+#[derive(Clone, Copy, Debug, PartialEq)]
+pub enum Meeting {
+    /// Two inserts at one empty bucket, the first on the way of both. Neither is granted its block before the other has asked
+    /// for one. So both have seen the bucket empty, and one of them loses the exchange.
+    Bucket,
+    /// At the lock: the second call begins while the growth of the first asks for hashes.
+    Lock,
+}
+
+impl Meeting {
+    /// Which requests for memory can be refused, or meet another one.
+    fn rule(self) -> Rule {
+        match self {
+            Meeting::Bucket => Rule::new(BLOCK, BLOCK, 0, 0),
+            Meeting::Lock => Rule::new(0, usize::MAX, 0, 0),
+        }
+    }
+
+    /// How many requests meet another one, in pairs.
+    fn pairs(self) -> u64 {
+        match self {
+            Meeting::Bucket => 1,
+            Meeting::Lock => 0,
+        }
+    }
+}
+
+/// What two threads tell one another: that a growth asks for hashes, and that the second call begins.
+#[derive(Drop)]
+struct Signs {
+    copies: AtomicU64,
+    begins: AtomicU64,
+}
+
+impl Signs {
+    /// Neither is told yet.
+    fn new() -> Signs {
+        Signs {
+            copies: AtomicU64::new(0),
+            begins: AtomicU64::new(0),
+        }
+    }
+
+    /// Where the growth first asks for a hash: it goes on once the second call has begun, and had time to come to the lock.
+    fn hand_over(&self) {
+        if self.copies.swap(1, Ordering::SeqCst) == 0 {
+            look_for(&self.begins);
+            for _look in 0..QUIET_LOOKS {
+                let _begun = self.begins.load(Ordering::SeqCst);
+            }
+        }
+    }
+
+    /// Before the second call begins.
+    fn take_over(&self) {
+        look_for(&self.copies);
+        self.begins.store(1, Ordering::SeqCst);
+    }
+}
+
+/// Looks until the sign is there.
+fn look_for(sign: &AtomicU64) {
+    for _look in 0..LOOKS {
+        if sign.load(Ordering::SeqCst) == 1 {
+            break;
+        }
+    }
+}
+
+/// A table, and what two threads tell one another that call it.
+#[derive(Clone, Copy)]
+struct Place<'w, 'm> {
+    alloc: Global,
+    first: u64,
+    memory: &'m Refusing<Global>,
+    table: &'w Table<'m>,
+    signs: &'w Signs,
+}
+
+impl<'w, 'm> Place<'w, 'm> {
+    /// These calls, one after the other: what they do.
+    fn run_before<R: Wait>(&self, rt: &'w R, tops: &[Top]) -> Result<Vec<Mark>, Fault> {
+        let (script, trace) = (Script::new(Manner::Lawful, 0), Trace::new(self.alloc));
+        let plan = Plan::Worked { tops, inside: &[] };
+        let whole = Whole {
+            rt,
+            alloc: self.alloc,
+            first: self.first,
+            memory: self.memory,
+            table: self.table,
+            script: &script,
+            trace: &trace,
+            cuts: Cuts::new(plan),
+        };
+        whole.run(plan)?;
+        drop(whole);
+        trace.into_marks()
+    }
+
+    /// The call of this number, inside of whose growth the other one takes over: what it does.
+    fn run_call<R: Wait>(&self, rt: &'w R, number: u64, ask: Ask) -> Result<Vec<Mark>, Fault> {
+        let script = Script::new(Manner::Lawful, 0);
+        let trace = Trace::from_call(self.alloc, number);
+        let whole = Whole {
+            rt,
+            alloc: self.alloc,
+            first: self.first,
+            memory: self.memory,
+            table: self.table,
+            script: &script,
+            trace: &trace,
+            cuts: Cuts::Drawn,
+        };
+        whole.call(
+            ask,
+            Lock::Free,
+            &|lock: Lock| if lock == Lock::Alone {
+                self.signs.hand_over()
+            },
+        )?;
+        drop(whole);
+        trace.into_marks()
+    }
+
+    /// The call of this number, which takes over if the two meet at the lock: what it does.
+    fn run_second<R: Wait>(
+        &self,
+        rt: &'w R,
+        number: u64,
+        ask: Ask,
+        meeting: Meeting,
+    ) -> Result<Vec<Mark>, Fault> {
+        if meeting == Meeting::Lock {
+            self.signs.take_over();
+        }
+        self.run_call(rt, number, ask)
+    }
+
+    /// Two calls at once, of these numbers: what each does. Fails where one request went on without the other.
+    fn run_both<R: Threads + Wait + Sync>(
+        &self,
+        rt: &'w R,
+        numbers: (u64, u64),
+        meeting: Meeting,
+        asks: (Ask, Ask),
+    ) -> Result<(Vec<Mark>, Vec<Mark>), Fault> {
+        let (one, other) = thread::join(
+            rt,
+            || self.run_call(rt, numbers.0, asks.0),
+            || self.run_second(rt, numbers.1, asks.1, meeting),
+        );
+        if self.memory.went_alone() != 0 {
+            return Err(Fault::Alone);
+        }
+        Ok((one?, other?))
+    }
+
+    /// Whether the value of the one call lies before that of the other.
+    fn is_before(&self, one: u64, other: u64) -> bool {
+        for entry in self.table.iter() {
+            if entry.number == one || entry.number == other {
+                return entry.number == one;
+            }
+        }
+        true
+    }
+}
+
+/// Runs these calls one after the other, and then the two at once: what each call is told, in an order in which they may have
+/// ended. Fails where that isn't what they do beside the machine, or where the two didn't meet.
+pub fn run_meeting<R: Threads + Wait + Sync>(
+    rt: &R,
+    alloc: Global,
+    first: u64,
+    tops: &[Top],
+    meeting: Meeting,
+    asks: (Ask, Ask),
+) -> Result<Vec<(u64, Said)>, Fault>
+    requires { IsFirstCapacity first }
+{
+    let memory = Refusing::new(alloc, meeting.rule().paired(meeting.pairs(), LOOKS));
+    let table: Table<'_> = LockFreeRawTable::with_first_capacity(&memory, first as usize);
+    let signs = Signs::new();
+    let place = Place {
+        alloc,
+        first,
+        memory: &memory,
+        table: &table,
+        signs: &signs,
+    };
+    let mut marks = place.run_before(rt, tops)?;
+    let calls = tops.len() as u64;
+    let numbers = (calls, calls.saturating_add(1));
+    let (one, other) = place.run_both(rt, numbers, meeting, asks)?;
+    match meeting {
+        Meeting::Lock => weave_at_lock(&mut marks, numbers, one.as_slice(), other.as_slice())?,
+        Meeting::Bucket => {
+            let first_wins = place.is_before(numbers.0, numbers.1);
+            weave_at_bucket(
+                &mut marks,
+                numbers,
+                first_wins,
+                one.as_slice(),
+                other.as_slice(),
+            )?
+        }
+    }
+    marks.push(Mark::Saw(Sight::of(&table, first)))?;
+    follow(alloc, first, meeting.rule(), marks.as_slice())?;
+    told_in(alloc, marks.as_slice())
+}
+
+/// Adds what two inserts did that met at an empty bucket: both come to it, the one offers its value, and then the other.
+fn weave_at_bucket(
+    marks: &mut Vec<Mark>,
+    numbers: (u64, u64),
+    first_wins: bool,
+    one: &[Mark],
+    other: &[Mark],
+) -> Result<(), Fault> {
+    let (Some((one, one_after)), Some((other, other_after))) = (
+        one.split_first(),
+        other.split_first(),
+    ) else {
+        return Err(Fault::Unfinished);
+    };
+    marks.push(*one)?;
+    marks.push(*other)?;
+    marks.push(Mark::AtEmpty(numbers.0))?;
+    marks.push(Mark::AtEmpty(numbers.1))?;
+    let (winner, loser) = if first_wins {
+        (one_after, other_after)
+    } else {
+        (other_after, one_after)
+    };
+    add_all(marks, winner)?;
+    add_all(marks, loser)
+}
+
+/// Adds what two calls did of which the second began where the first one's growth asked for its first hash: it waits there, and
+/// goes on once the first has ended.
+fn weave_at_lock(
+    marks: &mut Vec<Mark>,
+    numbers: (u64, u64),
+    one: &[Mark],
+    other: &[Mark],
+) -> Result<(), Fault> {
+    let Some((began, after)) = other.split_first() else {
+        return Err(Fault::Unfinished);
+    };
+    let mut waits = false;
+    for mark in one {
+        marks.push(*mark)?;
+        if !waits && matches!(mark, Mark::Hashed(_, _, _)) {
+            marks.push(*began)?;
+            marks.push(Mark::Waits(numbers.1))?;
+            waits = true;
+        }
+    }
+    add_all(marks, after)
+}
+
+/// Adds these marks.
+fn add_all(marks: &mut Vec<Mark>, more: &[Mark]) -> Result<(), Fault> {
+    for mark in more {
+        marks.push(*mark)?;
+    }
+    Ok(())
+}
