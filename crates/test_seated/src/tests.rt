@@ -44,11 +44,14 @@ fn bit(n: u32) -> u128 {
 }
 
 /// A table and its first seat.
+type First<A> = (NumberTable<A>, Seat);
+
+/// A table of so many words.
 fn table_of<A: Allocator + Copy>(
     rt: &impl Abort,
     alloc: A,
     count: usize,
-) -> Result<(NumberTable<A>, Seat), AllocError>
+) -> Result<First<A>, AllocError>
     ensures { IfOk result (λ r. IsSeatOf r.0 r.1) }
 {
     assert!(rt; count.is_power_of_two());
@@ -147,6 +150,17 @@ fn found_to(table: &NumberTable<Global>, seat: &mut Seat, last: u32) -> u128
     found
 }
 
+/// The seat and a new one.
+fn two_of<A: Allocator + Copy>(table: &NumberTable<A>, seat: Seat) -> (Seat, Seat)
+    requires { IsSeatOf table.now seat }
+    ensures { IsSeatOf table.now result.0 × IsSeatOf table.now result.1 }
+{
+    let Ok(seats) = table.split(seat) else {
+        unreachable!()
+    };
+    seats
+}
+
 /// A seat for each of so many threads.
 fn seats_for(
     alloc: Global,
@@ -160,9 +174,7 @@ fn seats_for(
     let mut seats = Vec::new(alloc);
     let mut last = seat;
     for _made in 1..threads {
-        let Ok((old, new)) = table.split(last) else {
-            unreachable!()
-        };
+        let (old, new) = two_of(table, last);
         seats.push(new)?;
         last = old;
     }
@@ -203,9 +215,7 @@ fn assert_placed_once(rt: &impl Abort, all: &[Told], last: u32) {
 #[test]
 fn four_threads_place_each_number_once(rt: HostRuntime) -> Result<(), Fail> {
     let (table, seat) = table_of(&rt, rt.alloc(), 8)?;
-    let Ok((seat, first)) = table.split(seat) else {
-        unreachable!()
-    };
+    let (seat, first) = two_of(&table, seat);
     let seats = seats_for(rt.alloc(), &table, first, 4)?;
     let all = insert_in_threads(&rt, &table, seats, 8)?;
     assert_placed_once(&rt, all.as_slice(), 8);
@@ -214,9 +224,7 @@ fn four_threads_place_each_number_once(rt: HostRuntime) -> Result<(), Fail> {
         (told.placed, told.found, told.full),
         (0, numbers_to(8), bit(9))
     );
-    let Ok((_, mut newcomer)) = table.split(seat) else {
-        unreachable!()
-    };
+    let (_, mut newcomer) = two_of(&table, seat);
     assert_eq!(rt; found_to(&table, &mut newcomer, 9), numbers_to(8));
     Ok(())
 }
@@ -224,9 +232,7 @@ fn four_threads_place_each_number_once(rt: HostRuntime) -> Result<(), Fail> {
 #[test]
 fn two_threads_meet(rt: HostRuntime) -> Result<(), Fail> {
     let (table, seat) = table_of(&rt, rt.alloc(), 8)?;
-    let Ok((first, second)) = table.split(seat) else {
-        unreachable!()
-    };
+    let (first, second) = two_of(&table, seat);
     let shared = &table;
     let ((mut first, one), (mut second, two)) = thread::join(
         &rt,
@@ -273,16 +279,12 @@ fn a_probe_goes_round_the_end(rt: HostRuntime) -> Result<(), Fail> {
 #[test]
 fn every_word_was_handed_in(rt: HostRuntime) -> Result<(), Fail> {
     let (table, seat) = table_of(&rt, rt.alloc(), 16)?;
-    let Ok((first, second)) = table.split(seat) else {
-        unreachable!()
-    };
+    let (first, second) = two_of(&table, seat);
     let mut first = insert_each(&rt, &table, first, [3, 19, 40].as_slice());
     let mut second = insert_each(&rt, &table, second, [5, 21, 1000].as_slice());
     assert!(rt; table.meet(&mut first, &mut second).is_ok());
     let joined = table.join(first, second);
-    let Ok((last, _newcomer)) = table.split(joined) else {
-        unreachable!()
-    };
+    let (last, _newcomer) = two_of(&table, joined);
     assert_eq!(rt; table.close(last).as_slice(), HANDED_IN.as_slice());
     Ok(())
 }
