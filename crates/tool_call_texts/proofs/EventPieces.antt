@@ -1,10 +1,10 @@
 -- A line is cut at its first space in one way, so it spells at most what its word begins.
 use Rattle.std.proofs.Common.{◌≡◌, ◌≢◌, ℕ, Bool, List, [], ◌∷◌, ◌++◌, ◌+◌, ◌*◌, arith, ap, refl, sym, ◌∙◌}
-use Rattle.std.specs.Prelude.{Option, Some, None, IfNone, codes}
+use Rattle.std.specs.Prelude.{Option, Some, None, IfSome, IfNone, codes}
 use Rattle.tool_streams.specs.Numbers.{SpellsNumber}
 use Rattle.tool_call_texts.specs.Spelling.{SpellsPair, HasNoSpace}
-use Rattle.tool_call_texts.specs.Events.{Piece, Letters, Number, answer, grant, pieces_of, SpellsPieces, SpellsAfter, SpellsEvent}
-use Rattle.tool_call_texts.proofs.Spaces.{HasNoSpace-tail, cut_once, numbers_have_none}
+use Rattle.tool_call_texts.specs.Events.{Piece, Letters, Number, answer, grant, pieces_of, SpellsPiece, IsCut, SpellsPieces, SpellsAfter, SpellsBehind, SpellsEvent}
+use Rattle.tool_call_texts.proofs.Spaces.{HasNoSpace-tail, cut_once, numbers_have_none, number_once}
 use Rattle.table_core.specs.declared.event.Event.{Event}
 use Rattle.table_core.specs.declared.event.Event.TheVariants.{Insert, Lookup, Len, Walk, Share, Own, Free, Load, Read, Put, Add, Size, Check, Copy, Show}
 
@@ -51,42 +51,125 @@ pieces-pair text a b p = (p.before, p.after, record { parts = p.parts; first = n
 pub pair-pieces : (text : List ℕ) (a b : ℕ) → SpellsPieces text (Number a ∷ Number b ∷ []) → SpellsPair text a b
 pair-pieces text a b (before, after, cut, first, rest) = record { before = before; after = after; parts = cut.parts; first_is = first; second_is = rest }
 
--- What may follow each word
+-- What follows the word
+
+-- the pieces of an event begin with its word and its call's number
+record HasCall (e : Event) : Type 0 where
+  word : List ℕ
+  call : ℕ
+  others : List Piece
+  is : pieces_of e ≡ Letters word ∷ Number call ∷ others
+
+has_call : (e : Event) → HasCall e
+has_call (Insert c v h) = record { word = codes "insert"; call = c; others = Number v ∷ Number h ∷ []; is = refl }
+has_call (Lookup c h) = record { word = codes "lookup"; call = c; others = Number h ∷ []; is = refl }
+has_call (Len c) = record { word = codes "len"; call = c; others = []; is = refl }
+has_call (Walk c) = record { word = codes "walk"; call = c; others = []; is = refl }
+has_call (Share c) = record { word = codes "share"; call = c; others = []; is = refl }
+has_call (Own c) = record { word = codes "own"; call = c; others = []; is = refl }
+has_call (Free c) = record { word = codes "free"; call = c; others = []; is = refl }
+has_call (Load c) = record { word = codes "load"; call = c; others = []; is = refl }
+has_call (Read c y) = record { word = codes "read"; call = c; others = answer y ∷ []; is = refl }
+has_call (Put c y m) = record { word = codes "put"; call = c; others = answer y ∷ grant m ∷ []; is = refl }
+has_call (Add c) = record { word = codes "add"; call = c; others = []; is = refl }
+has_call (Size c) = record { word = codes "size"; call = c; others = []; is = refl }
+has_call (Check c m) = record { word = codes "check"; call = c; others = grant m ∷ []; is = refl }
+has_call (Copy c k) = record { word = codes "copy"; call = c; others = Number k ∷ []; is = refl }
+has_call (Show c) = record { word = codes "show"; call = c; others = []; is = refl }
+
+-- a text that follows the word of an event begins with the number of a call
+record HasNumber (word text : List ℕ) (e : Event) : Type 0 where
+  call : ℕ
+  others : List Piece
+  is : pieces_of e ≡ Letters word ∷ Number call ∷ others
+  spelled : SpellsPieces text (Number call ∷ others)
+
+has_number : (word text : List ℕ) (e : Event) → SpellsAfter word text (pieces_of e) → HasNumber word text e
+has_number word text e s =
+    let h : HasCall e = has_call e in
+    let told : SpellsAfter word text (Letters h.word ∷ Number h.call ∷ h.others) = rw h.is at s in
+    record { call = h.call; others = h.others; is = rw told.0 h.is; spelled = told.1 }
+
+-- without a space it is the number alone
+number_alone : (text : List ℕ) (c : ℕ) (ps : List Piece) → HasNoSpace text → SpellsPieces text (Number c ∷ ps) → (ps ≡ []) × SpellsNumber text c
+number_alone text c [] none s = (refl, s)
+number_alone text c (p ∷ ps) none s = absurd (no_pieces text (Number c ∷ p ∷ ps) tt none s)
+
+-- cut at its first space it is the number, and the other pieces
+number_cut : (text first more : List ℕ) (c : ℕ) (ps : List Piece) → text ≡ first ++ codes " " ++ more → HasNoSpace first
+    → SpellsPieces text (Number c ∷ ps) → SpellsNumber first c × SpellsPieces more ps
+number_cut text first more c [] is none s = absurd (has_space first more (rw is at (numbers_have_none text c s)))
+number_cut text first more c (p ∷ ps) is none s = cut_pieces text first more (Number c ∷ p ∷ ps) tt is none s
+
+module _ (word text : List ℕ) (none : HasNoSpace text) (e : Event) (s : SpellsAfter word text (pieces_of e)) where
+  alone : (h : HasNumber word text e) → (h.others ≡ []) × SpellsNumber text h.call
+  alone h = number_alone text h.call h.others none h.spelled
+
+  pub no_number : ((c : ℕ) → ¬ SpellsNumber text c) → ⊥
+  no_number never = let h = has_number word text e s in never h.call (alone h).1
+
+  pub no_call : (call : ℕ) → SpellsNumber text call → ((f : Event) → pieces_of f ≢ Letters word ∷ Number call ∷ []) → ⊥
+  no_call call spelled never =
+      let h = has_number word text e s in
+      let told = alone h in
+      let same : h.call ≡ call = number_once text h.call call told.1 spelled in
+      let is : pieces_of e ≡ Letters word ∷ Number call ∷ [] = rw (← same, ← told.0) h.is in
+      never e is
+
+module _ (word text first more : List ℕ) (is : text ≡ first ++ codes " " ++ more) (none : HasNoSpace first) (e : Event) (s : SpellsAfter word text (pieces_of e)) where
+  cut : (h : HasNumber word text e) → SpellsNumber first h.call × SpellsPieces more h.others
+  cut h = number_cut text first more h.call h.others is none h.spelled
+
+  pub no_number_before : ((c : ℕ) → ¬ SpellsNumber first c) → ⊥
+  no_number_before never = let h = has_number word text e s in never h.call (cut h).0
+
+  pub none_behind : (call : ℕ) → SpellsNumber first call → ((f : Event) → ¬ SpellsBehind word call more (pieces_of f)) → ⊥
+  none_behind call spelled never =
+      let h = has_number word text e s in
+      let told = cut h in
+      let same : Number h.call ≡ Number call = ap Number (number_once first h.call call told.0 spelled) in
+      let behind : SpellsBehind word call more (pieces_of e) = rw h.is (refl, same, told.1) in
+      never e behind
+
+-- what stands behind the call's number stands after the word with it
+pub behind_after : (word text first more : List ℕ) (call : ℕ) (ps : List Piece) → IsCut text first more → SpellsNumber first call
+    → SpellsBehind word call more ps → SpellsAfter word text ps
+behind_after word text first more call [] cut spelled s = absurd s
+behind_after word text first more call (p ∷ []) cut spelled s = absurd s
+behind_after word text first more call (p ∷ q ∷ []) cut spelled (is, same, rest) = absurd rest
+behind_after word text first more call (p ∷ q ∷ r ∷ ps) cut spelled (is, same, rest) = (is, (first, more, cut, rw same spelled, rest))
+
+-- What stands behind each word and the call's number
 
 -- the letters of a word as one number, by which words are told apart
 abbrev pub word_number : List ℕ → ℕ
 word_number [] = 0
 word_number (c ∷ cs) = c + 256 * word_number cs
 
-pub after_insert : (text : List ℕ) → ((c v h : ℕ) → ¬ SpellsPieces text (Number c ∷ Number v ∷ Number h ∷ [])) → (e : Event)
-    → ¬ SpellsAfter (codes "insert") text (pieces_of e)
-after_insert text none (Insert c v h) s = none c v h s.1
-after_insert text none _ s = absurd (omega (arith, ap word_number s.0))
+module _ (call : ℕ) (text : List ℕ) where
+  pub behind_insert : ((v h : ℕ) → ¬ SpellsPieces text (Number v ∷ Number h ∷ [])) → (e : Event) → ¬ SpellsBehind (codes "insert") call text (pieces_of e)
+  behind_insert none (Insert c v h) (is, same, rest) = none v h rest
+  behind_insert none _ s = absurd (omega (arith, ap word_number s.0))
 
-pub after_lookup : (text : List ℕ) → ((c h : ℕ) → ¬ SpellsPieces text (Number c ∷ Number h ∷ [])) → (e : Event)
-    → ¬ SpellsAfter (codes "lookup") text (pieces_of e)
-after_lookup text none (Lookup c h) s = none c h s.1
-after_lookup text none _ s = absurd (omega (arith, ap word_number s.0))
+  pub behind_lookup : ((h : ℕ) → ¬ SpellsNumber text h) → (e : Event) → ¬ SpellsBehind (codes "lookup") call text (pieces_of e)
+  behind_lookup none (Lookup c h) (is, same, rest) = none h rest
+  behind_lookup none _ s = absurd (omega (arith, ap word_number s.0))
 
-pub after_copy : (text : List ℕ) → ((c k : ℕ) → ¬ SpellsPieces text (Number c ∷ Number k ∷ [])) → (e : Event)
-    → ¬ SpellsAfter (codes "copy") text (pieces_of e)
-after_copy text none (Copy c k) s = none c k s.1
-after_copy text none _ s = absurd (omega (arith, ap word_number s.0))
+  pub behind_copy : ((k : ℕ) → ¬ SpellsNumber text k) → (e : Event) → ¬ SpellsBehind (codes "copy") call text (pieces_of e)
+  behind_copy none (Copy c k) (is, same, rest) = none k rest
+  behind_copy none _ s = absurd (omega (arith, ap word_number s.0))
 
-pub after_read : (text : List ℕ) → ((c : ℕ) (y : Bool) → ¬ SpellsPieces text (Number c ∷ answer y ∷ [])) → (e : Event)
-    → ¬ SpellsAfter (codes "read") text (pieces_of e)
-after_read text none (Read c y) s = none c y s.1
-after_read text none _ s = absurd (omega (arith, ap word_number s.0))
+  pub behind_read : ((y : Bool) → ¬ SpellsPiece text (answer y)) → (e : Event) → ¬ SpellsBehind (codes "read") call text (pieces_of e)
+  behind_read none (Read c y) (is, same, rest) = none y rest
+  behind_read none _ s = absurd (omega (arith, ap word_number s.0))
 
-pub after_put : (text : List ℕ) → ((c : ℕ) (y m : Bool) → ¬ SpellsPieces text (Number c ∷ answer y ∷ grant m ∷ [])) → (e : Event)
-    → ¬ SpellsAfter (codes "put") text (pieces_of e)
-after_put text none (Put c y m) s = none c y m s.1
-after_put text none _ s = absurd (omega (arith, ap word_number s.0))
+  pub behind_check : ((m : Bool) → ¬ SpellsPiece text (grant m)) → (e : Event) → ¬ SpellsBehind (codes "check") call text (pieces_of e)
+  behind_check none (Check c m) (is, same, rest) = none m rest
+  behind_check none _ s = absurd (omega (arith, ap word_number s.0))
 
-pub after_check : (text : List ℕ) → ((c : ℕ) (m : Bool) → ¬ SpellsPieces text (Number c ∷ grant m ∷ [])) → (e : Event)
-    → ¬ SpellsAfter (codes "check") text (pieces_of e)
-after_check text none (Check c m) s = none c m s.1
-after_check text none _ s = absurd (omega (arith, ap word_number s.0))
+  pub behind_put : ((y m : Bool) → ¬ SpellsPieces text (answer y ∷ grant m ∷ [])) → (e : Event) → ¬ SpellsBehind (codes "put") call text (pieces_of e)
+  behind_put none (Put c y m) (is, same, rest) = none y m rest
+  behind_put none _ s = absurd (omega (arith, ap word_number s.0))
 
 -- none of the words that more than a number follows
 pub record IsOther (word : List ℕ) : Type 0 where
@@ -97,42 +180,19 @@ pub record IsOther (word : List ℕ) : Type 0 where
   pub check : word ≢ codes "check"
   pub copy : word ≢ codes "copy"
 
--- no number follows
-pub after_other : (word text : List ℕ) → IsOther word → ((c : ℕ) → ¬ SpellsNumber text c) → (e : Event) → ¬ SpellsAfter word text (pieces_of e)
-after_other word text other none (Insert c v h) s = other.insert s.0
-after_other word text other none (Lookup c h) s = other.lookup s.0
-after_other word text other none (Read c y) s = other.read s.0
-after_other word text other none (Put c y m) s = other.put s.0
-after_other word text other none (Check c m) s = other.check s.0
-after_other word text other none (Copy c k) s = other.copy s.0
-after_other word text other none (Len c) s = none c s.1
-after_other word text other none (Walk c) s = none c s.1
-after_other word text other none (Share c) s = none c s.1
-after_other word text other none (Own c) s = none c s.1
-after_other word text other none (Free c) s = none c s.1
-after_other word text other none (Load c) s = none c s.1
-after_other word text other none (Add c) s = none c s.1
-after_other word text other none (Size c) s = none c s.1
-after_other word text other none (Show c) s = none c s.1
+-- nothing stands behind another word and a number
+pub behind_other : (word : List ℕ) (call : ℕ) (text : List ℕ) → IsOther word → (e : Event) → ¬ SpellsBehind word call text (pieces_of e)
+behind_other word call text other (Insert c v h) s = other.insert s.0
+behind_other word call text other (Lookup c h) s = other.lookup s.0
+behind_other word call text other (Read c y) s = other.read s.0
+behind_other word call text other (Put c y m) s = other.put s.0
+behind_other word call text other (Check c m) s = other.check s.0
+behind_other word call text other (Copy c k) s = other.copy s.0
+behind_other word call text other _ (is, same, rest) = rest
 
--- no event has this word and a number
-pub after_unknown : (word text : List ℕ) (n : ℕ) → IsOther word → ((e : Event) → pieces_of e ≢ Letters word ∷ Number n ∷ []) → (e : Event)
-    → ¬ SpellsAfter word text (pieces_of e)
-after_unknown word text n other none (Insert c v h) s = other.insert s.0
-after_unknown word text n other none (Lookup c h) s = other.lookup s.0
-after_unknown word text n other none (Read c y) s = other.read s.0
-after_unknown word text n other none (Put c y m) s = other.put s.0
-after_unknown word text n other none (Check c m) s = other.check s.0
-after_unknown word text n other none (Copy c k) s = other.copy s.0
-after_unknown word text n other none (Len c) s = none (Len n) (rw s.0 refl)
-after_unknown word text n other none (Walk c) s = none (Walk n) (rw s.0 refl)
-after_unknown word text n other none (Share c) s = none (Share n) (rw s.0 refl)
-after_unknown word text n other none (Own c) s = none (Own n) (rw s.0 refl)
-after_unknown word text n other none (Free c) s = none (Free n) (rw s.0 refl)
-after_unknown word text n other none (Load c) s = none (Load n) (rw s.0 refl)
-after_unknown word text n other none (Add c) s = none (Add n) (rw s.0 refl)
-after_unknown word text n other none (Size c) s = none (Size n) (rw s.0 refl)
-after_unknown word text n other none (Show c) s = none (Show n) (rw s.0 refl)
+pub IfSome-implies : {A : Type 0} {P Q : A → Type 0} (o : Option A) → ((a : A) → P a → Q a) → IfSome o P → IfSome o Q
+IfSome-implies None f h = h
+IfSome-implies (Some a) f h = f a h
 
 pub IfNone-implies : {A P Q : Type 0} (o : Option A) → (P → Q) → IfNone o P → IfNone o Q
 IfNone-implies None f h = f h

@@ -1,8 +1,8 @@
 -- Numbers have no space, so a pair of them is cut at its first one.
-use Rattle.std.proofs.Common.{◌≡◌, ◌≢◌, ℕ, zero, suc, ◌≤◌, List, [], ◌∷◌, ◌++◌, arith, refl, sym, ◌∙◌, inl, inr}
+use Rattle.std.proofs.Common.{◌≡◌, ◌≢◌, ℕ, zero, suc, ◌≤◌, List, [], ◌∷◌, ◌++◌, arith, refl, sym, ◌∙◌, ap, inl, inr}
 use Rattle.std.specs.Prelude.{codes}
 use Rattle.std.specs.Char.{digit_value}
-use Rattle.std.specs.Str.Parse.{AllDigits}
+use Rattle.std.specs.Str.Parse.{AllDigits, digits_value}
 use Rattle.tool_streams.specs.Numbers.{SpellsNumber}
 use Rattle.tool_call_texts.specs.Spelling.{SpellsPair, HasNoSpace}
 
@@ -42,3 +42,16 @@ pub pair_parts : (text before after : List ℕ) (first second : ℕ) → text �
 pair_parts text before after first second e none p =
     let same : (before ≡ p.before) × (after ≡ p.after) = cut_once before after p.before p.after none (numbers_have_none p.before first p.first_is) (sym e ∙ p.parts) in
     (rw same.0 p.first_is, rw same.1 p.second_is)
+
+-- 0x begins no decimal digits
+not_decimal : (digits : List ℕ) → ¬ AllDigits 10 (48 ∷ 120 ∷ digits)
+not_decimal digits all = let letter : digit_value 120 ≡ 33 = refl in omega (arith, letter, all.1.0)
+
+-- a text spells one number at most
+pub number_once : (text : List ℕ) (n m : ℕ) → SpellsNumber text n → SpellsNumber text m → n ≡ m
+number_once text n m (inl a) (inl b) = a.value ∙ sym b.value
+number_once text n m (inl a) (inr (ds, is, b)) = absurd (not_decimal ds (rw is at a.numeral.1))
+number_once text n m (inr (ds, is, a)) (inl b) = absurd (not_decimal ds (rw is at b.numeral.1))
+number_once text n m (inr (ds, is, a)) (inr (es, at, b)) =
+    let same : ds ≡ es = cc in
+    a.value ∙ ap (digits_value 16) same ∙ sym b.value

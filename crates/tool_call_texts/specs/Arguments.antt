@@ -32,11 +32,15 @@ NamesShards (word ∷ words) n f = Writes 10 20 word (number_of n) × NamesFirst
 abbrev pub IsThreadCount : ℕ → Type 0
 IsThreadCount n = (2 ≤ n) × (n ≤ 64)
 
+-- these words are one word alone, which writes the number in decimal digits
+abbrev pub NamesNumber : List (List ℕ) → ℕ → Type 0
+NamesNumber [] n = ⊥
+NamesNumber (word ∷ []) n = Writes 10 20 word n
+NamesNumber (word ∷ more ∷ words) n = ⊥
+
 -- the words after a command's name say how many threads it runs
 abbrev pub NamesThreads : List (List ℕ) → ℕ → Type 0
-NamesThreads [] n = ⊥
-NamesThreads (word ∷ []) n = Writes 10 20 word n × IsThreadCount n
-NamesThreads (word ∷ more ∷ words) n = ⊥
+NamesThreads words n = NamesNumber words n × IsThreadCount n
 
 -- as many jobs as `stress` runs of each kind
 abbrev pub IsJobCount : ℕ → Type 0
@@ -44,9 +48,7 @@ IsJobCount n = (1 ≤ n) × (n ≤ 1000)
 
 -- the words after the number of threads say how many jobs of each kind it runs
 abbrev pub NamesJobs : List (List ℕ) → ℕ → Type 0
-NamesJobs [] n = ⊥
-NamesJobs (word ∷ []) n = Writes 10 20 word n × IsJobCount n
-NamesJobs (word ∷ more ∷ words) n = ⊥
+NamesJobs words n = NamesNumber words n × IsJobCount n
 
 -- the words after `stress` say how many threads it runs, and how many jobs of each kind
 abbrev pub NamesStress : List (List ℕ) → ℕ → ℕ → Type 0

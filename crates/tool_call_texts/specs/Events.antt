@@ -62,6 +62,13 @@ abbrev pub SpellsAfter : List ℕ → List ℕ → List Piece → Type 0
 SpellsAfter word text [] = ⊥
 SpellsAfter word text (p ∷ ps) = SpellsPiece word p × SpellsPieces text ps
 
+-- this word is the first piece, this number the second, and the text spells the others
+abbrev pub SpellsBehind : List ℕ → ℕ → List ℕ → List Piece → Type 0
+SpellsBehind word call text [] = ⊥
+SpellsBehind word call text (p ∷ []) = ⊥
+SpellsBehind word call text (p ∷ q ∷ ps) =
+    SpellsPiece word p × (q ≡ Number call) × SpellsPieces text ps
+
 -- this text spells the event
 abbrev pub SpellsEvent : List ℕ → Event → Type 0
 SpellsEvent text e = SpellsPieces text (pieces_of e)

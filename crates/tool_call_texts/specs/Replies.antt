@@ -1,7 +1,7 @@
 -- The text of each reply.
 use Rattle.std.specs.Prelude.{ℕ, List, [], ◌∷◌, ◌++◌, Option, Some, None, codes, decimal}
 use Rattle.tool_call_texts.specs.declared.replies.Reply.{Reply}
-use Rattle.tool_call_texts.specs.declared.replies.Reply.TheVariants.{Placed, Found, Refused, Shown, Absent, Count, Numbers}
+use Rattle.tool_call_texts.specs.declared.replies.Reply.TheVariants.{Inserted, LookedUp, Count, Numbers}
 use Rattle.table_terms.specs.declared.insertion.Insertion.{Insertion}
 use Rattle.table_terms.specs.declared.insertion.Insertion.TheVariants as insertion
 
@@ -15,16 +15,6 @@ abbrev pub number_list : List ℕ → List ℕ
 number_list [] = codes "[]"
 number_list (n ∷ ns) = codes "[" ++ decimal n ++ further_numbers ns ++ codes "]"
 
--- what a reply prints
-abbrev pub reply_text : Reply → List ℕ
-reply_text Placed = codes "placed"
-reply_text Found = codes "found"
-reply_text Refused = codes "refused"
-reply_text (Shown n) = codes "some " ++ decimal n
-reply_text Absent = codes "none"
-reply_text (Count n) = decimal n
-reply_text (Numbers ns) = number_list ns.now
-
 -- what is told of an insert
 abbrev pub insertion_text : Insertion → List ℕ
 insertion_text insertion.Placed = codes "placed"
@@ -35,3 +25,10 @@ insertion_text insertion.Refused = codes "refused"
 abbrev pub lookup_text : Option ℕ → List ℕ
 lookup_text (Some n) = codes "some " ++ decimal n
 lookup_text None = codes "none"
+
+-- what a reply prints
+abbrev pub reply_text : Reply → List ℕ
+reply_text (Inserted how) = insertion_text how
+reply_text (LookedUp found) = lookup_text found
+reply_text (Count n) = decimal n
+reply_text (Numbers ns) = number_list ns.now

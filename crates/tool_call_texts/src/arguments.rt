@@ -1,7 +1,7 @@
 //! The command that the program's words name.
-ghost use Rattle.std.specs.Prelude.{map, IfSome, IfNone, ℕ};
+ghost use Rattle.std.specs.Prelude.{◌≤◌, map, IfSome, IfNone, ℕ};
 ghost use Rattle.tool_streams.specs.Numbers.{Writes};
-ghost use Rattle.tool_call_texts.specs.Arguments.{NamesFirst, NamesShards, NamesStress, NamesJobs, NamesThreads, NamesCommand};
+ghost use Rattle.tool_call_texts.specs.Arguments.{NamesFirst, NamesShards, NamesStress, NamesThreads, NamesCommand};
 ghost use Rattle.tool_call_texts.specs.Arguments.{IsRunnable, IsThreadCount, IsJobCount, number_of};
 ghost use Rattle.table_terms.specs.Capacities.{IsFirstCapacity};
 ghost use Rattle.tool_call_texts.specs.declared.arguments.Command.{Command as CommandOf};
@@ -51,13 +51,13 @@ pub fn parse_command<S: AsStr>(words: &[S]) -> Option<Command>
                 let first = parse_first(rest)?;
                 Some(Command::Calls { first })
             }
-            b"shards" => {
-                let (shards, first) = parse_shards(rest)?;
-                Some(Command::Shards { shards, first })
-            }
             b"core" => {
                 let first = parse_first(rest)?;
                 Some(Command::Core { first })
+            }
+            b"shards" => {
+                let (shards, first) = parse_shards(rest)?;
+                Some(Command::Shards { shards, first })
             }
             b"stress" => {
                 let (threads, jobs) = parse_stress(rest)?;
@@ -130,29 +130,12 @@ fn parse_stress<S: AsStr>(words: &[S]) -> Option<(usize, u64)>
     ensures jobs { IfSome result (λ named. IsJobCount named.1) }
     ensures wrong { IfNone result ((threads jobs : ℕ) → ¬ NamesStress (map S.text words.now) threads jobs) }
 {
-    match words {
-        [] => None,
-        [word, rest @ ..] => {
-            let threads = parse_thread_count(word.as_str().as_bytes())?;
-            let jobs = parse_jobs(rest)?;
-            Some((threads, jobs))
-        }
-    }
-}
-
-/// Reads the words after the number of threads: a number of jobs, from 1 to 1000.
-fn parse_jobs<S: AsStr>(words: &[S]) -> Option<u64>
-    ensures named { IfSome result (NamesJobs (map S.text words.now)) }
-    ensures count { IfSome result IsJobCount }
-    ensures wrong { IfNone result ((jobs : ℕ) → ¬ NamesJobs (map S.text words.now) jobs) }
-{
-    match words {
-        [word] => match parse_decimal(word.as_str().as_bytes())? {
-            jobs @ 1..=1000 => Some(jobs),
-            _ => None,
-        },
-        _ => None,
-    }
+    let [threads, jobs] = words else {
+        return None;
+    };
+    let threads = parse_thread_count(threads.as_str().as_bytes())?;
+    let jobs = parse_count(jobs.as_str().as_bytes(), 1, 1000)?;
+    Some((threads, jobs))
 }
 
 /// Reads the words after `seats`: a number of threads, from 2 to 64.
@@ -172,8 +155,20 @@ fn parse_thread_count(text: &[u8]) -> Option<usize>
     ensures named { IfSome result (λ threads. Writes 10 20 text.now threads × IsThreadCount threads) }
     ensures wrong { IfNone result ((threads : ℕ) → ¬ (Writes 10 20 text.now threads × IsThreadCount threads)) }
 {
-    match parse_decimal(text)? {
-        threads @ 2..=64 => Some(threads as usize),
-        _ => None,
+    let threads = parse_count(text, 2, 64)?;
+    Some(threads as usize)
+}
+
+/// Reads a number in decimal digits, from `least` to `most`.
+fn parse_count(text: &[u8], least: u64, most: u64) -> Option<u64>
+    ensures written { IfSome result (Writes 10 20 text.now) }
+    ensures inside { IfSome result (λ n. (least ≤ n) × (n ≤ most)) }
+    ensures wrong { IfNone result ((n : ℕ) → ¬ (Writes 10 20 text.now n × ((least ≤ n) × (n ≤ most)))) }
+{
+    let count = parse_decimal(text)?;
+    if least <= count && count <= most {
+        Some(count)
+    } else {
+        None
     }
 }

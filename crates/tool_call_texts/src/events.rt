@@ -1,6 +1,7 @@
 //! How the lines of `core` are spelled.
-ghost use Rattle.std.specs.Prelude.{◌≡◌, ◌≢◌, ◌∷◌, [], Bool, IfSome, IfNone, codes};
-ghost use Rattle.tool_call_texts.specs.Events.{Letters, Number, answer, grant, pieces_of, SpellsPiece, SpellsAfter, SpellsEvent, SpellsScheduleLine};
+ghost use Rattle.std.specs.Prelude.{◌≡◌, ◌≢◌, ◌∷◌, [], Bool, IfSome, IfNone};
+ghost use Rattle.tool_call_texts.specs.Events.{Letters, Number, answer, grant, pieces_of, SpellsPiece, SpellsPieces};
+ghost use Rattle.tool_call_texts.specs.Events.{SpellsAfter, SpellsBehind, SpellsEvent, SpellsScheduleLine};
 ghost use Rattle.tool_call_texts.specs.declared.events.ScheduleLine.{ScheduleLine as LineOf};
 ghost use Rattle.table_core.specs.declared.event.Event.{Event as EventOf};
 
@@ -40,27 +41,19 @@ fn parse_event(text: &[u8]) -> Option<Event>
     parse_after(word, rest)
 }
 
-/// Reads what follows the word of an event.
+/// Reads what follows the word of an event: the call's number, and behind a space what else the event has.
 fn parse_after(word: &[u8], rest: &[u8]) -> Option<Event>
     ensures spelled { IfSome result (λ event. SpellsAfter word.now rest.now (pieces_of event)) }
     ensures bad { IfNone result ((event : EventOf) → ¬ SpellsAfter word.now rest.now (pieces_of event)) }
 {
-    match word {
-        b"insert" => parse_insert(rest),
-        b"lookup" => {
-            let (call, hash) = parse_pair(rest)?;
-            Some(Event::Lookup { call, hash })
-        }
-        b"read" => parse_read(rest),
-        b"put" => parse_put(rest),
-        b"check" => parse_check(rest),
-        b"copy" => {
-            let (call, hash) = parse_pair(rest)?;
-            Some(Event::Copy { call, hash })
-        }
-        _ => {
+    match split_at_space(rest) {
+        None => {
             let call = parse_number(rest)?;
             event_of_call(word, call)
+        }
+        Some((first, more)) => {
+            let call = parse_number(first)?;
+            parse_behind(word, call, more)
         }
     }
 }
@@ -84,54 +77,53 @@ fn event_of_call(word: &[u8], call: u64) -> Option<Event>
     }
 }
 
-/// Reads what follows `insert`.
-fn parse_insert(text: &[u8]) -> Option<Event>
-    ensures spelled { IfSome result (λ event. SpellsAfter (codes "insert") text.now (pieces_of event)) }
-    ensures bad { IfNone result ((event : EventOf) → ¬ SpellsAfter (codes "insert") text.now (pieces_of event)) }
+/// Reads what follows the call's number, for the events that have more.
+fn parse_behind(word: &[u8], call: u64, text: &[u8]) -> Option<Event>
+    ensures spelled { IfSome result (λ event. SpellsBehind word.now call text.now (pieces_of event)) }
+    ensures bad { IfNone result ((event : EventOf) → ¬ SpellsBehind word.now call text.now (pieces_of event)) }
 {
-    let (first, rest) = split_at_space(text)?;
-    let call = parse_number(first)?;
-    let (value, hash) = parse_pair(rest)?;
-    Some(Event::Insert { call, value, hash })
+    match word {
+        b"lookup" => {
+            let hash = parse_number(text)?;
+            Some(Event::Lookup { call, hash })
+        }
+        b"copy" => {
+            let hash = parse_number(text)?;
+            Some(Event::Copy { call, hash })
+        }
+        b"insert" => {
+            let (value, hash) = parse_pair(text)?;
+            Some(Event::Insert { call, value, hash })
+        }
+        b"read" => {
+            let accepted = parse_answer(text)?;
+            Some(Event::Read { call, accepted })
+        }
+        b"put" => {
+            let (accepted, granted) = parse_put(text)?;
+            Some(Event::Put {
+                call,
+                accepted,
+                granted,
+            })
+        }
+        b"check" => {
+            let granted = parse_grant(text)?;
+            Some(Event::Check { call, granted })
+        }
+        _ => None,
+    }
 }
 
-/// Reads what follows `read`.
-fn parse_read(text: &[u8]) -> Option<Event>
-    ensures spelled { IfSome result (λ event. SpellsAfter (codes "read") text.now (pieces_of event)) }
-    ensures bad { IfNone result ((event : EventOf) → ¬ SpellsAfter (codes "read") text.now (pieces_of event)) }
+/// Reads a closure's answer, and behind a space whether memory was granted.
+fn parse_put(text: &[u8]) -> Option<(bool, bool)>
+    ensures spelled { IfSome result (λ put. SpellsPieces text.now (answer put.0 ∷ grant put.1 ∷ [])) }
+    ensures bad { IfNone result ((y m : Bool) → ¬ SpellsPieces text.now (answer y ∷ grant m ∷ [])) }
 {
     let (first, rest) = split_at_space(text)?;
-    let call = parse_number(first)?;
-    let accepted = parse_answer(rest)?;
-    Some(Event::Read { call, accepted })
-}
-
-/// Reads what follows `put`.
-fn parse_put(text: &[u8]) -> Option<Event>
-    ensures spelled { IfSome result (λ event. SpellsAfter (codes "put") text.now (pieces_of event)) }
-    ensures bad { IfNone result ((event : EventOf) → ¬ SpellsAfter (codes "put") text.now (pieces_of event)) }
-{
-    let (first, rest) = split_at_space(text)?;
-    let call = parse_number(first)?;
-    let (answer, grant) = split_at_space(rest)?;
-    let accepted = parse_answer(answer)?;
-    let granted = parse_grant(grant)?;
-    Some(Event::Put {
-        call,
-        accepted,
-        granted,
-    })
-}
-
-/// Reads what follows `check`.
-fn parse_check(text: &[u8]) -> Option<Event>
-    ensures spelled { IfSome result (λ event. SpellsAfter (codes "check") text.now (pieces_of event)) }
-    ensures bad { IfNone result ((event : EventOf) → ¬ SpellsAfter (codes "check") text.now (pieces_of event)) }
-{
-    let (first, rest) = split_at_space(text)?;
-    let call = parse_number(first)?;
+    let accepted = parse_answer(first)?;
     let granted = parse_grant(rest)?;
-    Some(Event::Check { call, granted })
+    Some((accepted, granted))
 }
 
 /// Reads a closure's answer.

@@ -1,5 +1,5 @@
 //! One job of `stress`.
-ghost use Rattle.std.specs.Prelude.{◌≡◌, ◌<◌};
+ghost use Rattle.std.specs.Prelude.{◌<◌};
 
 use crate::kinds::Kind;
 
@@ -10,15 +10,4 @@ pub struct Job {
     /// Its number among those of its kind, from 0 on.
     pub number: u64,
     ghost few: { number < 1000 },
-}
-
-impl Job {
-    /// The job of this kind and number.
-    pub fn new(kind: Kind, number: u64) -> Job
-        requires { number < 1000 }
-        ensures kind { result.kind ≡ kind }
-        ensures number { result.number ≡ number }
-    {
-        Job { kind, number }
-    }
 }

@@ -1,6 +1,7 @@
 //! The kinds of jobs that `stress` runs.
-ghost use Rattle.std.specs.Prelude.{◌≡◌, ◌≤◌, Some};
+ghost use Rattle.std.specs.Prelude.{◌≡◌, ◌<◌, ◌≤◌, Some};
 
+use crate::job::Job;
 use std::fmt;
 
 /// A kind of job: what its workers insert, and when they look it up.
@@ -15,7 +16,7 @@ pub enum Kind {
 }
 
 impl Kind {
-    ghost use Rattle.tool_call_texts.specs.Stress.{inserts_of, entries_of};
+    ghost use Rattle.tool_call_texts.specs.Stress.{inserts_of, entries_of, kind_text};
 
     /// How many values each worker inserts.
     pub fn inserts(self) -> usize
@@ -39,6 +40,26 @@ impl Kind {
             Kind::InsertLookup => 1000 * threads,
         }
     }
+
+    /// The job of this kind and number.
+    pub fn job(self, number: u64) -> Job
+        requires { number < 1000 }
+        ensures kind { result.kind ≡ self }
+        ensures number { result.number ≡ number }
+    {
+        Job { kind: self, number }
+    }
+
+    /// Its name.
+    fn name(self) -> &'static str
+        ensures { result.now ≡ kind_text self }
+    {
+        match self {
+            Kind::InsertUnique => "insert_unique",
+            Kind::InsertSame => "insert_same",
+            Kind::InsertLookup => "insert_lookup",
+        }
+    }
 }
 
 impl fmt::Display for Kind {
@@ -47,10 +68,6 @@ impl fmt::Display for Kind {
     ghost output = { λ k. Some (kind_text k) };
 
     fn fmt<W: fmt::Write>(&self, f: &mut fmt::Formatter<W>) -> fmt::Result {
-        match self {
-            Kind::InsertUnique => write!(f, "insert_unique"),
-            Kind::InsertSame => write!(f, "insert_same"),
-            Kind::InsertLookup => write!(f, "insert_lookup"),
-        }
+        write!(f, "{}", self.name())
     }
 }

@@ -1,51 +1,23 @@
 //! What the program replies to a line.
-ghost use Rattle.std.specs.Prelude.{◌≡◌, Some};
+ghost use Rattle.std.specs.Prelude.{◌≡◌, ◌++◌, OnOk, OnErr, IfSome, Some, codes};
+ghost use Rattle.std.specs.Io.KnownBytes.{Appends};
 
 use std::fmt;
+use std::io::Write;
 use table_terms::insertion::Insertion;
+use tool_streams::faults::StreamFault;
 
 /// The reply to one line.
 #[derive(Clone, Copy)]
 pub enum Reply<'a> {
-    /// The pair is an entry now.
-    Placed,
-    /// An equal entry was there.
-    Found,
-    /// There was no memory for the pair, and no equal entry.
-    Refused,
-    /// The number of the entry that a look-up found.
-    Shown(u64),
-    /// A look-up found no entry.
-    Absent,
+    /// How an insert ended. It is `Refused` where there was no memory for the pair, and no equal entry.
+    Inserted(Insertion),
+    /// The number of the entry that a look-up found, if it found one.
+    LookedUp(Option<u64>),
     /// A length, a capacity or a number of buckets.
     Count(usize),
     /// The numbers of all entries.
     Numbers(&'a [u64]),
-}
-
-impl Reply<'_> {
-    ghost use Rattle.tool_call_texts.specs.Replies.{reply_text, insertion_text, lookup_text};
-
-    /// The reply to an insert.
-    pub fn of_insertion(how: Insertion) -> Self
-        ensures { reply_text result ≡ insertion_text how }
-    {
-        match how {
-            Insertion::Placed => Reply::Placed,
-            Insertion::Found => Reply::Found,
-            Insertion::Refused => Reply::Refused,
-        }
-    }
-
-    /// The reply to a look-up.
-    pub fn of_lookup(found: Option<u64>) -> Self
-        ensures { reply_text result ≡ lookup_text found }
-    {
-        match found {
-            Some(number) => Reply::Shown(number),
-            None => Reply::Absent,
-        }
-    }
 }
 
 impl fmt::Display for Reply<'_> {
@@ -55,13 +27,25 @@ impl fmt::Display for Reply<'_> {
 
     fn fmt<W: fmt::Write>(&self, f: &mut fmt::Formatter<W>) -> fmt::Result {
         match self {
-            Reply::Placed => write!(f, "placed"),
-            Reply::Found => write!(f, "found"),
-            Reply::Refused => write!(f, "refused"),
-            Reply::Shown(number) => write!(f, "some {number}"),
-            Reply::Absent => write!(f, "none"),
+            Reply::Inserted(Insertion::Placed) => write!(f, "placed"),
+            Reply::Inserted(Insertion::Found) => write!(f, "found"),
+            Reply::Inserted(Insertion::Refused) => write!(f, "refused"),
+            Reply::LookedUp(Some(number)) => write!(f, "some {number}"),
+            Reply::LookedUp(None) => write!(f, "none"),
             Reply::Count(count) => write!(f, "{count}"),
             Reply::Numbers(numbers) => write!(f, "{numbers:?}"),
         }
+    }
+}
+
+/// Writes the reply on a line of its own.
+pub fn write_reply<D: fmt::Display, W: Write>(output: &mut W, reply: &D) -> Result<(), StreamFault>
+    ensures written { OnOk result (IfSome (D.output reply.now) (λ text.
+        Appends (W.contents output.old) (W.contents output.new) (text ++ codes "\n"))) }
+    ensures fault { OnErr result (result ≡ Err StreamFault.WriteFailed) }
+{
+    match writeln!(output, "{reply}") {
+        Ok(()) => Ok(()),
+        Err(_) => Err(StreamFault::WriteFailed),
     }
 }

@@ -12,7 +12,6 @@ use std::io::Write;
 use std::sync::Wait;
 use std::thread::Threads;
 use tool_call_texts::faults::Fault;
-use tool_call_texts::job::Job;
 use tool_call_texts::kinds::Kind;
 use tool_streams::faults::StreamFault;
 
@@ -58,8 +57,7 @@ fn run_kind<R: Threads + Wait + Sync, A: Low + Copy + Send + Sync, G: Gates, O: 
     let mut entries = 0;
     for number in 0..jobs {
         let table: Values<A> = LockFreeRawTable::new(alloc);
-        let job = Job::new(kind, number);
-        entries = run_job(rt, alloc, crew, &gates.gate(), &table, job)?;
+        entries = run_job(rt, alloc, crew, &gates.gate(), &table, kind.job(number))?;
     }
     match writeln!(output, "{kind} {entries}") {
         Ok(()) => Ok(()),

@@ -26,11 +26,12 @@ impl fmt::Display for StreamFault {
     ghost output = { λ f. Some (stream_message f) };
 
     fn fmt<W: fmt::Write>(&self, f: &mut fmt::Formatter<W>) -> fmt::Result {
-        match self {
-            StreamFault::ReadFailed => write!(f, "read failed"),
-            StreamFault::WriteFailed => write!(f, "write failed"),
-            StreamFault::NoMemory => write!(f, "no memory"),
-        }
+        let message = match self {
+            StreamFault::ReadFailed => "read failed",
+            StreamFault::WriteFailed => "write failed",
+            StreamFault::NoMemory => "no memory",
+        };
+        write!(f, "{message}")
     }
 }
 

@@ -19,7 +19,7 @@ use tool_commands::workers::{ValueTable, Values, Worker, hash_of, make_call};
 
 /// The first worker of the first job of a kind: it inserts the numbers from 0 on.
 fn first_worker(kind: Kind) -> Worker {
-    Worker::new(Job::new(kind, 0), 0)
+    Worker::new(kind.job(0), 0)
 }
 
 /// A table that says that it has so many entries, and whose look-ups find each value but one.
@@ -71,7 +71,7 @@ fn a_table_that_is_faulty_fails_its_job(rt: HostRuntime) {
     let open = ClosedFrom(usize::MAX);
     for (kind, entries, missed, is_well) in FAULTY {
         let faulty = Faulty { entries, missed };
-        let told = run_job(&rt, rt.alloc(), crew, &open, &faulty, Job::new(kind, 3));
+        let told = run_job(&rt, rt.alloc(), crew, &open, &faulty, kind.job(3));
         let failed = Err(Fault::JobFailed { kind, job: 3 });
         let wanted = if is_well { Ok(entries) } else { failed };
         assert_eq!(rt; told, wanted, "{kind}, {entries}, {missed}");

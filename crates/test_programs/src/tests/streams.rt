@@ -233,6 +233,50 @@ fn the_first_failure_wins(rt: HostRuntime) {
     assert_run(&rt, input, &mut writer, "bad line 1\n", 2);
 }
 
+/// A writer that fails at its first call, and takes all bytes of later ones.
+#[derive(Drop)]
+struct FailsOnce<'a> {
+    has_failed: bool,
+    taken: &'a mut Vec<u8>,
+}
+
+impl Write for FailsOnce<'_> {
+    fn write(&mut self, bytes: &[u8]) -> io::Result<usize> {
+        if !self.has_failed {
+            self.has_failed = true;
+            return Err(io::Error::from(ErrorKind::Other));
+        }
+        self.taken.extend_from_slice(bytes)?;
+        Ok(bytes.len())
+    }
+
+    fn flush(&mut self) -> io::Result<()> {
+        Ok(())
+    }
+}
+
+#[test]
+fn what_could_not_be_written_is_not_sent_again(rt: HostRuntime) {
+    let (mut taken, mut messages) = (Vec::new(rt.alloc()), Vec::new(rt.alloc()));
+    let mut output = FailsOnce {
+        has_failed: false,
+        taken: &mut taken,
+    };
+    let input = b"i 0 1\nn\n".as_slice();
+    let status = run_words(
+        &rt,
+        rt.alloc(),
+        &["calls"],
+        input,
+        &mut output,
+        &mut messages,
+    );
+    drop(output);
+    assert_eq!(rt; taken.len(), 0);
+    assert_eq!(rt; messages.as_slice(), b"write failed\n".as_slice());
+    assert_eq!(rt; status, 1);
+}
+
 /// Asserts the status of a run whose message is dropped.
 fn assert_dropped<R: Threads + Wait + AllocGlobal + Abort + Sync>(rt: &R, words: &[&str]) {
     let mut output = Vec::new(rt.alloc());

@@ -33,7 +33,7 @@ fn many_threads_run_a_job(rt: HostRuntime) -> Result<(), Fail> {
 
 /// The first job of a kind.
 fn first_job(kind: Kind) -> Job {
-    Job::new(kind, 0)
+    kind.job(0)
 }
 
 /// How two workers end that run one after the other in this thread, under this gate: the one of this number first.
@@ -205,7 +205,7 @@ fn each_kind_has_its_entries(rt: HostRuntime) {
         (Kind::InsertLookup, 3000),
     ] {
         let table: Values<_> = LockFreeRawTable::new(rt.alloc());
-        let job = Job::new(kind, 999);
+        let job = kind.job(999);
         let shown = run_job(&rt, rt.alloc(), crew, &gate, &table, job);
         assert_eq!(rt; shown, Ok(entries));
     }

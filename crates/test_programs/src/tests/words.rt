@@ -1,22 +1,23 @@
 //! The words that the program was called with.
 use super::text_of;
-use std::alloc::Global;
+use std::alloc::Allocator;
 use std::env::FillError;
 use std::process::Abort;
 use std::rt::Env;
 use std::sync::Wait;
 use std::test::Fail;
 use std::thread::Threads;
+use testkit_refusing::{Refusing, Rule};
 use tool_commands::program::run_program;
 
-/// An environment whose arguments are these, the program's name first.
+/// An environment whose arguments are these, the program's name first, and the memory for them.
 #[derive(Clone, Copy)]
-struct Called {
+struct Called<A> {
     arguments: &'static [&'static [u8]],
-    alloc: Global,
+    alloc: A,
 }
 
-impl Env for Called {
+impl<A> Env for Called<A> {
     fn arg(&self, i: usize, buf: &mut [u8]) -> Result<usize, FillError> {
         let Some(argument) = self.arguments.get(i) else {
             return Err(FillError::NotPresent);
@@ -38,10 +39,10 @@ impl Env for Called {
     }
 }
 
-impl Alloc for Called {
-    type A = Global;
+impl<A: Allocator + Copy> Alloc for Called<A> {
+    type A = A;
 
-    fn alloc(&self) -> Global {
+    fn alloc(&self) -> A {
         self.alloc
     }
 }
@@ -100,4 +101,42 @@ fn words_are_the_command(rt: HostRuntime) -> Result<(), Fail> {
         assert_row(&rt, row)?;
     }
     Ok(())
+}
+
+const CALLED: &[&[u8]] = &[b"tablerun", b"calls", b"32"];
+
+/// Runs the program while one request for the memory of its words is refused, the one after so many. How often it was told so:
+/// nothing is read or written then. A run that is not told has gone on without that memory.
+fn told_after<R: Threads + Wait + AllocGlobal + Abort + Sync>(rt: &R, granted: u64) -> u64 {
+    let memory = Refusing::new(rt.alloc(), Rule::new(0, usize::MAX, granted, 1));
+    let called = Called {
+        arguments: CALLED,
+        alloc: &memory,
+    };
+    let mut output = Vec::new(rt.alloc());
+    let mut messages = Vec::new(rt.alloc());
+    let input = b"c\n".as_slice();
+    let ended = run_program(rt, &called, rt.alloc(), input, &mut output, &mut messages);
+    if ended == 0 {
+        assert_eq!(rt; output.as_slice(), b"0\n".as_slice());
+        assert_eq!(rt; messages.len(), 0);
+        return 0;
+    }
+    assert_eq!(rt; messages.as_slice(), b"no memory\n".as_slice());
+    assert_eq!(rt; output.len(), 0);
+    assert_eq!(rt; ended, 1);
+    1
+}
+
+/// More requests than the words take.
+const ENOUGH: u64 = 20;
+
+#[test]
+fn want_of_memory_for_the_words_is_no_wrong_word(rt: HostRuntime) {
+    let mut told = 0u64;
+    for granted in 0..ENOUGH {
+        told = told.saturating_add(told_after(&rt, granted));
+    }
+    // Each of the three words takes memory, and so does the list of them.
+    assert!(rt; 4 <= told && told < ENOUGH, "{told}");
 }
