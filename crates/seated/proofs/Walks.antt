@@ -136,6 +136,17 @@ within_right ps qs rs a p x c = a p x (Contains-append_right ps qs (p, x) c)
 pub within_trans : (ps qs rs : List (ℕ × ℕ)) → Within ps qs → Within qs rs → Within ps rs
 within_trans ps qs rs a b p x c = b p x (a p x c)
 
+-- two seats with the views a and b have met, and have u and w: the second knows what both knew, and they own nothing in common
+pub both_meet : (a b u w : View) (me me' you you' : SeatState) (slots r s : ℕ)
+    → me.0 ≡ join_of a (note_of b) → Reads with_next_turn (step slots 0 0 0 none) me r me' → Learns me'.0 u
+    → you.0 ≡ join_of b (gift_of u) → Reads without_gift (step slots 0 0 0 none) you s you' → Learns you'.0 w
+    → Within (a.known ++ b.known) w.known × Disjoint u.own w.own
+both_meet a b u w me me' you you' slots r s is told so is_too told_too so_too =
+    let first = first_meets a b u me me' slots r is told so in
+    let turn = first.2 in
+    let second = second_meets b u w you you' slots s is_too told_too so_too (omega arith) in
+    (within_trans (a.known ++ b.known) u.known w.known first.0 (within_right b.known u.known w.known second.0), second.2)
+
 -- an answer of true, and one of false
 pub affirmed : (P : Type 0) → P → IsTrue true ↔ P
 affirmed P p = ((λ _. p), (λ _. refl))

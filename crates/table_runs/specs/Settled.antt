@@ -67,31 +67,29 @@ module _ {T U : Type 0} (target : T → U) where
   RunMeetsFew same meets M calls replies =
       (N : List T) (run : IsRepliedAsList target same meets M calls replies N) → EachMeetsFew meets M calls run.told
 
--- lawful calls on two tables without entries, of whatever kinds, have the same replies and leave the
--- same entries, if no reply is Refused and each look-up's key is met by at most one entry of the list
--- that it comes to; so it is where all that meets a key is the same
 module _ {X Y T U P Q : Type 0} (target : T → U) (same : U → U → Bool) (hash_of : U → ℕ)
-    (s : Shows X T P) (r : Shows Y T Q) where
-  abbrev pub NewTablesAgree : {K : Type 0} → (U → U → Bool → Type 0) → (U → ℕ → Type 0)
-      → (K → U → Bool → Type 0) → Type 0
-  NewTablesAgree {K} eq rehash test =
+    (s : Shows X T P) (r : Shows Y T Q) {K : Type 0} where
+  -- lawful calls on two tables without entries, of whatever kinds, have the same replies and leave
+  -- the same entries, if no reply is Refused and this holds of what meets a key, of the calls and of
+  -- their replies
+  abbrev pub NewTablesAgreeIf : ((K → U → Bool) → List (Call T K) → List (Reply T U) → Type 0)
+      → (U → U → Bool → Type 0) → (U → ℕ → Type 0) → (K → U → Bool → Type 0) → Type 0
+  NewTablesAgreeIf holds eq rehash test =
       (meets : K → U → Bool) (calls : List (Call T K)) (replies others : List (Reply T U))
       (x new_x : X) (y new_y : Y) →
       Stands s x [] → Stands r y [] →
       AreLawful target same hash_of eq rehash test meets (flat_map given calls) calls →
       RunAnswers target same hash_of s eq rehash test x calls replies new_x →
       RunAnswers target same hash_of r eq rehash test y calls others new_y →
-      NoneRefuses replies → NoneRefuses others → RunMeetsFew target same meets [] calls replies →
+      NoneRefuses replies → NoneRefuses others → holds meets calls replies →
       (replies ≡ others) × IsPermutation (entries_of s new_x) (entries_of r new_y)
 
-  abbrev pub NewTablesAgreeByClass : {K : Type 0} → (U → U → Bool → Type 0) → (U → ℕ → Type 0)
+  -- so it is where each look-up's key is met by at most one entry of the list that it comes to
+  abbrev pub NewTablesAgree : (U → U → Bool → Type 0) → (U → ℕ → Type 0)
       → (K → U → Bool → Type 0) → Type 0
-  NewTablesAgreeByClass {K} eq rehash test =
-      (meets : K → U → Bool) (calls : List (Call T K)) (replies others : List (Reply T U))
-      (x new_x : X) (y new_y : Y) →
-      Stands s x [] → Stands r y [] →
-      AreLawful target same hash_of eq rehash test meets (flat_map given calls) calls →
-      RunAnswers target same hash_of s eq rehash test x calls replies new_x →
-      RunAnswers target same hash_of r eq rehash test y calls others new_y →
-      NoneRefuses replies → NoneRefuses others → MeetsOneClass same meets →
-      (replies ≡ others) × IsPermutation (entries_of s new_x) (entries_of r new_y)
+  NewTablesAgree = NewTablesAgreeIf (λ meets. RunMeetsFew target same meets [])
+
+  -- and so it is where all that meets a key is the same
+  abbrev pub NewTablesAgreeByClass : (U → U → Bool → Type 0) → (U → ℕ → Type 0)
+      → (K → U → Bool → Type 0) → Type 0
+  NewTablesAgreeByClass = NewTablesAgreeIf (λ meets calls replies. MeetsOneClass same meets)

@@ -44,6 +44,10 @@ where
     Len(usize),
 }
 
+/// What an insert of a value of type `T` is told, on a table whose entries live at places of type `P`: `AloneTable::place_alone`
+/// says what each answer means.
+pub type Told<P, T> = Result<(P, Option<T>), T>;
+
 /// A table that one owner holds alone, under the law `L`. Contracts see it by what it shows. Who implements it promises
 /// besides that a table without entries is lawful.
 pub trait AloneTable<T: AtomicValue, L: Law<T::Target>> {
@@ -62,13 +66,16 @@ pub trait AloneTable<T: AtomicValue, L: Law<T::Target>> {
     ///
     /// Ok with None: the value is an entry now. Ok with a value: that value was handed in, and the entry at the place was
     /// accepted as its equal. Err: the insert was refused; the value comes back, and the entries are as they were.
-    fn place_alone<E: Fn(&T::Target, &T::Target) -> bool, H: Fn(&T::Target) -> u64>(
+    fn place_alone<E, H>(
         &mut self,
         hash: u64,
         value: T,
         eq: &E,
         hash_fn: &H,
-    ) -> Result<(Self::Place, Option<T>), T>
+    ) -> Told<Self::Place, T>
+    where
+        E: Fn(&T::Target, &T::Target) -> bool,
+        H: Fn(&T::Target) -> u64,
         requires eq_callable { E.IsAlwaysCallable eq.now }
         requires hash_callable { H.IsAlwaysCallable hash_fn.now }
 

@@ -3,7 +3,8 @@
 ghost use Rattle.std.specs.Prelude.{◌≡◌};
 ghost use Rattle.table_cell.specs.Contents.{Lies};
 
-use std::alloc::Allocator;
+use std::alloc::{Allocator, Global};
+use std::process::Abort;
 use table_cell::{Bucket, Home, Low, Missed, Refusal};
 use testkit_refusing::{Refusing, Rule};
 
@@ -88,22 +89,28 @@ fn refusing_after<B: Allocator>(inner: B, passing: u64) -> Refusing<B> {
     Refusing::new(inner, Rule::new(16, 16, passing, 1))
 }
 
+/// Where so many requests are granted before one is refused, the values fare so, whoever offers them.
+fn assert_fares(
+    rt: &impl Abort,
+    memory: Global,
+    passing: u64,
+    expected: ([Fared; 3], Option<u64>),
+) {
+    let first = refusing_after(memory, passing);
+    let second = refusing_after(memory, passing);
+    let third = refusing_after(memory, passing);
+    assert_eq!(rt;
+        [alone(&first), shared(&second), shared_after_alone(&third)],
+        [expected; 3]
+    );
+}
+
 #[test]
 fn a_block_is_asked_for_before_the_bucket_is_looked_at(rt: HostRuntime) {
-    let second = refusing_after(rt.alloc(), 1);
-    assert_eq!(rt; alone(&second), SECOND_REFUSED);
-    let second = refusing_after(rt.alloc(), 1);
-    assert_eq!(rt; shared(&second), SECOND_REFUSED);
-    let second = refusing_after(rt.alloc(), 1);
-    assert_eq!(rt; shared_after_alone(&second), SECOND_REFUSED);
+    assert_fares(&rt, rt.alloc(), 1, SECOND_REFUSED);
 }
 
 #[test]
 fn a_refused_block_leaves_the_bucket_vacant(rt: HostRuntime) {
-    let first = refusing_after(rt.alloc(), 0);
-    assert_eq!(rt; alone(&first), FIRST_REFUSED);
-    let first = refusing_after(rt.alloc(), 0);
-    assert_eq!(rt; shared(&first), FIRST_REFUSED);
-    let first = refusing_after(rt.alloc(), 0);
-    assert_eq!(rt; shared_after_alone(&first), FIRST_REFUSED);
+    assert_fares(&rt, rt.alloc(), 0, FIRST_REFUSED);
 }

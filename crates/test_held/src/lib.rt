@@ -1,7 +1,6 @@
 //! Tests of the hash tables, over several of their modules at once.
 #![tactic(auto)]
 
-pub mod counting;
 pub mod slow_list;
 #[cfg(test)]
 mod tests;

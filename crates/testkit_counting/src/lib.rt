@@ -1,7 +1,9 @@
-//! A value that counts how often it is dropped.
+//! What tests put into tables: values that count how often they are dropped, and numbers.
 #![tactic(auto)]
 
 ghost use Rattle.std.specs.Prelude.{◌≡◌};
+
+pub mod numbers;
 
 use std::alloc::{AllocError, Global};
 use std::sync::Arc;
@@ -41,12 +43,17 @@ impl Drops {
     }
 
     /// A value of this number, whose drop is counted, if the number is one of those.
-    pub fn counting(&self, number: u64) -> Result<Box<Counting>, AllocError> {
+    pub fn value(&self, number: u64) -> Result<Counting, AllocError> {
         let drops = match self.each.get(number as usize) {
             Some(drops) => drops.clone()?,
             None => counter(self.alloc)?,
         };
-        Ok(Box::new(self.alloc, Counting::new(number, drops))?)
+        Ok(Counting::new(number, drops))
+    }
+
+    /// The same in a box.
+    pub fn counting(&self, number: u64) -> Result<Box<Counting>, AllocError> {
+        Ok(Box::new(self.alloc, self.value(number)?)?)
     }
 
     /// How many of the numbers were dropped so often.
@@ -58,6 +65,20 @@ impl Drops {
             }
         }
         count
+    }
+
+    /// How many of the numbers were never dropped, and how many once.
+    pub fn never_and_once(&self) -> (u64, u64) {
+        (self.dropped(0), self.dropped(1))
+    }
+
+    /// Those counts while both are there, then without the first, and in the end without either.
+    pub fn as_dropped<F: Drop, L: Drop>(&self, first: F, last: L) -> [(u64, u64); 3] {
+        let with_both = self.never_and_once();
+        drop(first);
+        let with_last = self.never_and_once();
+        drop(last);
+        [with_both, with_last, self.never_and_once()]
     }
 }
 

@@ -1,6 +1,6 @@
 //! A raw table held alone is a table held alone.
 
-use crate::alone::AloneTable;
+use crate::alone::{AloneTable, Told};
 use std::alloc::Allocator;
 use table_generations::atomic_value::{AtomicValue, Law};
 use table_held::place::Place;
@@ -17,13 +17,11 @@ impl<T: AtomicValue, A: Allocator + Copy, L: Law<T::Target>> AloneTable<T, L>
 
     ghost no_entries_is_lawful = { held_without_entries T.target };
 
-    fn place_alone<E: Fn(&T::Target, &T::Target) -> bool, H: Fn(&T::Target) -> u64>(
-        &mut self,
-        hash: u64,
-        value: T,
-        eq: &E,
-        hash_fn: &H,
-    ) -> Result<(Place, Option<T>), T> {
+    fn place_alone<E, H>(&mut self, hash: u64, value: T, eq: &E, hash_fn: &H) -> Told<Place, T>
+    where
+        E: Fn(&T::Target, &T::Target) -> bool,
+        H: Fn(&T::Target) -> u64,
+    {
         self.place_alone::<L, E, H>(hash, value, eq, hash_fn)
     }
 

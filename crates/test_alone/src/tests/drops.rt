@@ -31,34 +31,22 @@ fn filled(
     Ok(table)
 }
 
-/// So many values weren't dropped, and so many once.
-fn assert_dropped(rt: &impl Abort, drops: &Drops, never: u64, once: u64) {
-    assert_eq!(rt; (drops.dropped(0), drops.dropped(1)), (never, once));
-}
-
 #[test]
 fn an_owning_walk_that_ends_early_drops_the_rest(rt: HostRuntime) -> Result<(), Fail> {
     let drops = Drops::new(rt.alloc(), 10)?;
     let mut rest = filled(&rt, rt.alloc(), &drops, 10)?.into_iter();
-    let kept = (rest.next(), rest.next(), rest.next());
-    assert!(rt; kept.0.is_some() && kept.1.is_some() && kept.2.is_some());
-    assert_dropped(&rt, &drops, 10, 0);
-    drop(rest);
-    assert_dropped(&rt, &drops, 3, 7);
-    drop(kept);
-    assert_dropped(&rt, &drops, 0, 10);
+    let kept = [rest.next(), rest.next(), rest.next()];
+    assert!(rt; kept.iter().all(|value| value.is_some()));
+    assert_eq!(rt; drops.as_dropped(rest, kept), [(10, 0), (3, 7), (0, 10)]);
     Ok(())
 }
 
 #[test]
-fn the_end_of_a_table_drops_each_value(rt: HostRuntime) -> Result<(), Fail> {
+fn a_walk_drops_nothing_and_the_end_of_a_table_each_value(rt: HostRuntime) -> Result<(), Fail> {
     let drops = Drops::new(rt.alloc(), 40)?;
     let table = filled(&rt, rt.alloc(), &drops, 40)?;
-    let mut walk = table.iter_alone();
-    assert!(rt; walk.next().is_some());
-    drop(walk);
-    assert_dropped(&rt, &drops, 40, 0);
-    drop(table);
-    assert_dropped(&rt, &drops, 0, 40);
+    let first = table.iter_alone().next();
+    assert!(rt; first.is_some());
+    assert_eq!(rt; drops.as_dropped((), table), [(40, 0), (40, 0), (0, 40)]);
     Ok(())
 }

@@ -24,15 +24,33 @@ fn assert_all_placed(rt: &impl Abort, alloc: Global, passing: u64) -> Result<boo
     Ok(heap.refusals_left() == 0)
 }
 
-#[test]
-fn each_request_of_two_shards_refused(rt: HostRuntime) -> Result<(), Fail> {
+/// How many requests of a run were refused in turn, each in a run of its own: the first run in which none was ends it. The run
+/// is told how many requests pass, and says whether one was refused; a hundred requests are too many.
+pub(super) fn refused_in_turn<F: Fn(u64) -> Result<bool, AllocError>>(
+    run: F,
+) -> Result<Option<u64>, AllocError>
+    requires { F.IsAlwaysCallable run }
+{
     for passing in 0..100 {
-        if !assert_all_placed(&rt, rt.alloc(), passing)? {
-            assert!(rt; 17 < passing, "{passing} requests were made");
-            return Ok(());
+        if !run(passing)? {
+            return Ok(Some(passing));
         }
     }
-    assert!(rt; false, "a hundred requests and more");
+    Ok(None)
+}
+
+/// More than seventeen requests were made, and fewer than a hundred.
+pub(super) fn assert_requests(rt: &impl Abort, requests: Option<u64>) {
+    assert!(rt;
+        matches!(requests, Some(made) if 17 < made),
+        "{requests:?} requests were made"
+    );
+}
+
+#[test]
+fn each_request_of_two_shards_refused(rt: HostRuntime) -> Result<(), Fail> {
+    let requests = refused_in_turn(|passing: u64| assert_all_placed(&rt, rt.alloc(), passing))?;
+    assert_requests(&rt, requests);
     Ok(())
 }
 
@@ -118,12 +136,7 @@ fn assert_run_refused(rt: &impl Abort, alloc: Global, passing: u64) -> Result<bo
 
 #[test]
 fn each_request_of_a_list_of_calls_refused(rt: HostRuntime) -> Result<(), Fail> {
-    for passing in 0..100 {
-        if !assert_run_refused(&rt, rt.alloc(), passing)? {
-            assert!(rt; 17 < passing, "{passing} requests were made");
-            return Ok(());
-        }
-    }
-    assert!(rt; false, "a hundred requests and more");
+    let requests = refused_in_turn(|passing: u64| assert_run_refused(&rt, rt.alloc(), passing))?;
+    assert_requests(&rt, requests);
     Ok(())
 }

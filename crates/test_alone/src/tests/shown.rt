@@ -1,6 +1,7 @@
 //! What an insert into shards shows at once, and what it leaves, beside `place_alone` of the same numbers.
 use super::makers::{eight_shards, one_shard, two_shards, two_shards_of};
 use super::numbers::{Numbers, insert};
+use super::refusals::{assert_requests, refused_in_turn};
 use super::walks::walked;
 use std::alloc::{AllocError, Allocator, Global};
 use std::process::Abort;
@@ -137,13 +138,8 @@ fn assert_all_shown(rt: &impl Abort, alloc: Global, passing: u64) -> Result<bool
 
 #[test]
 fn each_request_of_an_insert_that_shows_refused(rt: HostRuntime) -> Result<(), Fail> {
-    for passing in 0..100 {
-        if !assert_all_shown(&rt, rt.alloc(), passing)? {
-            assert!(rt; 17 < passing, "{passing} requests were made");
-            return Ok(());
-        }
-    }
-    assert!(rt; false, "a hundred requests and more");
+    let requests = refused_in_turn(|passing: u64| assert_all_shown(&rt, rt.alloc(), passing))?;
+    assert_requests(&rt, requests);
     Ok(())
 }
 

@@ -2,6 +2,7 @@
 use super::{ask, slow_fibonacci};
 use std::alloc::Global;
 use std::process::Abort;
+use std::test::Fail;
 use testkit_refusing::{Refusing, Rule};
 use tool_memo_table::memo::Memo;
 
@@ -31,18 +32,17 @@ fn is_refused_after(rt: &impl Abort, alloc: Global, granted: u64) -> Option<bool
 }
 
 #[test]
-fn each_request_is_refused_in_turn(rt: HostRuntime) {
-    let mut refused: u64 = 0;
-    let mut requests: u64 = 0;
-    for granted in 0..ENOUGH {
-        let Some(is_refused) = is_refused_after(&rt, rt.alloc(), granted) else {
-            break;
-        };
-        requests = requests.saturating_add(1);
-        refused = refused.saturating_add(u64::from(is_refused));
-    }
+fn each_request_is_refused_in_turn(rt: HostRuntime) -> Result<(), Fail> {
+    let answers: Vec<bool> = (0..ENOUGH)
+        .map_while(|granted: u64| is_refused_after(&rt, rt.alloc(), granted))
+        .collect(rt.alloc())?;
+    let refused = answers
+        .iter()
+        .filter(|is_refused: &&bool| **is_refused)
+        .count();
     // A refused growth after an answer was placed keeps the answer.
-    assert!(rt; 20 < refused && refused <= requests && requests < 60);
+    assert!(rt; 20 < refused && answers.len() < 60);
+    Ok(())
 }
 
 /// Asks while all requests after so many are refused. Says whether the first call was answered; then it is again, and another
@@ -60,14 +60,7 @@ fn is_answered_with(rt: &impl Abort, alloc: Global, granted: u64) -> bool {
 
 #[test]
 fn a_kept_answer_needs_no_memory(rt: HostRuntime) {
-    let mut answered = false;
-    for granted in 0..ENOUGH {
-        answered = is_answered_with(&rt, rt.alloc(), granted);
-        if answered {
-            break;
-        }
-    }
-    assert!(rt; answered);
+    assert!(rt; (0..ENOUGH).any(|granted: u64| is_answered_with(&rt, rt.alloc(), granted)));
 }
 
 #[test]

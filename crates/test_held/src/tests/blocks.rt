@@ -1,5 +1,5 @@
 //! Each block that a table asks for is given back once.
-use super::pairs::{Pairs, assert_placed, insert};
+use super::pairs::{End, Pairs, assert_end, insert};
 use std::alloc::{AllocError, Allocator, Global};
 use std::process::Abort;
 use std::test::Fail;
@@ -36,7 +36,7 @@ fn table_of<A: Allocator + Copy>(
 ) -> Result<Pairs<A>, AllocError> {
     let mut table = HeldRawTable::new(below);
     for number in 0..entries {
-        assert_placed(rt, &mut table, alloc, number)?;
+        assert_end(rt, &mut table, alloc, number, End::Placed)?;
     }
     Ok(table)
 }
@@ -52,29 +52,21 @@ fn assert_none_out<A: Allocator>(rt: &impl Abort, heap: &Refusing<A>) {
     assert_eq!(rt; heap.given_back(), heap.granted());
 }
 
-/// The end of a table of so many entries, which holds at least so many blocks.
-fn assert_dropped(
-    rt: &impl Abort,
-    alloc: Global,
-    entries: u64,
-    blocks: u64,
-) -> Result<(), AllocError> {
-    let heap = Refusing::new(alloc, Rule::new(0, 0, 0, 0));
-    let table = table_of(rt, &heap, alloc, entries)?;
-    assert_out(rt, &heap, blocks);
-    drop(table);
-    assert_none_out(rt, &heap);
-    Ok(())
+/// A heap that refuses nothing.
+fn ample(alloc: Global) -> Refusing<Global> {
+    Refusing::new(alloc, Rule::new(0, 0, 0, 0))
 }
 
-/// So many values are taken out of a table of so many entries, and the rest is dropped.
-fn assert_taken(
-    rt: &impl Abort,
-    alloc: Global,
-    entries: u64,
-    taken: u64,
-) -> Result<(), AllocError> {
-    let heap = Refusing::new(alloc, Rule::new(0, 0, 0, 0));
+/// What is dropped here holds at least so many blocks, and gives back all.
+fn assert_gives_back<T: Drop>(rt: &impl Abort, heap: &Refusing<Global>, owner: T, least: u64) {
+    assert_out(rt, heap, least);
+    drop(owner);
+    assert_none_out(rt, heap);
+}
+
+/// So many values are taken out of a table of so many entries, each with a block, and the rest is dropped.
+fn assert_taken(rt: &impl Abort, alloc: Global, entries: u64, taken: u64) -> Result<(), Fail> {
+    let heap = ample(alloc);
     let mut values = table_of(rt, &heap, alloc, entries)?.into_iter();
     assert_out(rt, &heap, entries);
     let before = heap.given_back();
@@ -82,9 +74,7 @@ fn assert_taken(
         assert!(rt; values.next().is_some());
     }
     assert!(rt; heap.given_back().saturating_sub(before) >= taken);
-    assert_out(rt, &heap, entries.saturating_sub(taken));
-    drop(values);
-    assert_none_out(rt, &heap);
+    assert_gives_back(rt, &heap, values, entries.saturating_sub(taken));
     Ok(())
 }
 
@@ -96,16 +86,16 @@ fn assert_refused_once(rt: &impl Abort, alloc: Global, rule: Rule) -> Result<(),
         insert(&mut table, alloc, (number, number))?;
     }
     assert_eq!(rt; heap.refusals_left(), 0);
-    assert_out(rt, &heap, 19);
-    drop(table);
-    assert_none_out(rt, &heap);
+    assert_gives_back(rt, &heap, table, 19);
     Ok(())
 }
 
 #[test]
 fn the_end_of_a_table(rt: HostRuntime) -> Result<(), Fail> {
     for (entries, blocks) in TABLES {
-        assert_dropped(&rt, rt.alloc(), entries, blocks)?;
+        let heap = ample(rt.alloc());
+        let table = table_of(&rt, &heap, rt.alloc(), entries)?;
+        assert_gives_back(&rt, &heap, table, blocks);
     }
     Ok(())
 }

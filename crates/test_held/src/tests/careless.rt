@@ -28,34 +28,41 @@ fn places<E: Fn(&(u64, u64), &(u64, u64)) -> bool, H: Fn(&(u64, u64)) -> u64>(
     alloc: Global,
     given: u64,
     pair: (u64, u64),
-    eq: E,
-    hash_fn: H,
+    eq: &E,
+    hash_fn: &H,
 ) -> Result<bool, AllocError>
-    requires eq_callable { E.IsAlwaysCallable eq }
-    requires hash_callable { H.IsAlwaysCallable hash_fn }
+    requires eq_callable { E.IsAlwaysCallable eq.now }
+    requires hash_callable { H.IsAlwaysCallable hash_fn.now }
 {
     let value = Box::new(alloc, pair)?;
-    match table.insert_alone::<PairLaw, E, H>(given, value, eq, hash_fn) {
+    match table.insert_alone::<PairLaw, _, _>(
+        given,
+        value,
+        |a: &(u64, u64), b: &(u64, u64)| eq(a, b),
+        |a: &(u64, u64)| hash_fn(a),
+    ) {
         Ok((_, back)) => Ok(back.is_none()),
         Err(_) => Err(AllocError),
     }
 }
 
-/// The pair of the number and itself is placed under that number as its hash.
-fn assert_places<E: Fn(&(u64, u64), &(u64, u64)) -> bool, H: Fn(&(u64, u64)) -> u64>(
+/// A table in which the pair of each number and itself was placed, under that number as its hash.
+fn filled<E: Fn(&(u64, u64), &(u64, u64)) -> bool, H: Fn(&(u64, u64)) -> u64>(
     rt: &impl Abort,
-    table: &mut Pairs,
     alloc: Global,
-    number: u64,
-    eq: E,
-    hash_fn: H,
-) -> Result<(), AllocError>
-    requires eq_callable { E.IsAlwaysCallable eq }
-    requires hash_callable { H.IsAlwaysCallable hash_fn }
+    numbers: Range<u64>,
+    eq: &E,
+    hash_fn: &H,
+) -> Result<Pairs, AllocError>
+    requires eq_callable { E.IsAlwaysCallable eq.now }
+    requires hash_callable { H.IsAlwaysCallable hash_fn.now }
 {
-    let placed = places(table, alloc, number, (number, number), eq, hash_fn)?;
-    assert!(rt; placed, "at {number}");
-    Ok(())
+    let mut table = HeldRawTable::new(alloc);
+    for number in numbers {
+        let placed = places(&mut table, alloc, number, (number, number), eq, hash_fn)?;
+        assert!(rt; placed, "at {number}");
+    }
+    Ok(table)
 }
 
 /// The second parts of the pairs that a table gives back, in ascending order, are these.
@@ -115,11 +122,11 @@ fn asks_of_insert(
         alloc,
         pair.0,
         pair,
-        |a: &(u64, u64), b: &(u64, u64)| {
+        &|a: &(u64, u64), b: &(u64, u64)| {
             asked.set(asked.get().wrapping_add(1));
             a == b
         },
-        hash,
+        &hash,
     )?;
     Ok((placed, asked.get()))
 }
@@ -136,17 +143,7 @@ fn asks_of_lookup(table: &Pairs, given: u64) -> (bool, u64) {
 
 #[test]
 fn one_place_for_all_in_growth(rt: HostRuntime) -> Result<(), Fail> {
-    let mut table = HeldRawTable::new(rt.alloc());
-    for number in 1..=8 {
-        assert_places(
-            &rt,
-            &mut table,
-            rt.alloc(),
-            number,
-            same,
-            |_: &(u64, u64)| 0,
-        )?;
-    }
+    let table = filled(&rt, rt.alloc(), 1..9, &same, &|_: &(u64, u64)| 0)?;
     assert_size(&rt, &table, 8, 32);
     assert_numbers(&rt, table, rt.alloc(), 1..9)?;
     Ok(())
@@ -154,15 +151,12 @@ fn one_place_for_all_in_growth(rt: HostRuntime) -> Result<(), Fail> {
 
 #[test]
 fn another_place_at_each_call(rt: HostRuntime) -> Result<(), Fail> {
-    let mut table = HeldRawTable::new(rt.alloc());
     let calls = Cell::new(0u64);
-    for number in 0..40 {
-        let counting = |_: &(u64, u64)| {
-            calls.set(calls.get().wrapping_add(1));
-            calls.get()
-        };
-        assert_places(&rt, &mut table, rt.alloc(), number, same, counting)?;
-    }
+    let counting = |_: &(u64, u64)| {
+        calls.set(calls.get().wrapping_add(1));
+        calls.get()
+    };
+    let table = filled(&rt, rt.alloc(), 0..40, &same, &counting)?;
     assert!(rt; calls.get() > 0);
     assert_numbers(&rt, table, rt.alloc(), 0..40)?;
     Ok(())
@@ -170,17 +164,9 @@ fn another_place_at_each_call(rt: HostRuntime) -> Result<(), Fail> {
 
 #[test]
 fn an_equality_that_is_never_met(rt: HostRuntime) -> Result<(), Fail> {
-    let mut table = HeldRawTable::new(rt.alloc());
-    for _twice in 0..2 {
-        assert_places(
-            &rt,
-            &mut table,
-            rt.alloc(),
-            1,
-            |_: &(u64, u64), _: &(u64, u64)| false,
-            hash,
-        )?;
-    }
+    let never = |_: &(u64, u64), _: &(u64, u64)| false;
+    let mut table = filled(&rt, rt.alloc(), 1..2, &never, &hash)?;
+    assert!(rt; places(&mut table, rt.alloc(), 1, (1, 1), &never, &hash)?);
     assert_size(&rt, &table, 2, 16);
     Ok(())
 }
@@ -197,26 +183,17 @@ fn an_equality_that_is_always_met(rt: HostRuntime) -> Result<(), Fail> {
 
 #[test]
 fn a_hash_fn_that_disagrees_with_the_hash_given(rt: HostRuntime) -> Result<(), Fail> {
-    let mut table = HeldRawTable::new(rt.alloc());
-    assert_places(&rt, &mut table, rt.alloc(), 3, same, |_: &(u64, u64)| 9)?;
-    assert_eq!(rt; shown_at(&table, 3, 3), Some(3));
-    assert_eq!(rt; shown_at(&table, 4, 3), None);
+    let table = filled(&rt, rt.alloc(), 3..4, &same, &|_: &(u64, u64)| 9)?;
+    assert_eq!(rt;
+        (shown_at(&table, 3, 3), shown_at(&table, 4, 3)),
+        (Some(3), None)
+    );
     Ok(())
 }
 
 #[test]
 fn growth_keeps_the_bits_of_the_hash_given(rt: HostRuntime) -> Result<(), Fail> {
-    let mut table = HeldRawTable::new(rt.alloc());
-    for number in 0..8 {
-        assert_places(
-            &rt,
-            &mut table,
-            rt.alloc(),
-            number,
-            same,
-            |_: &(u64, u64)| 1 << 32,
-        )?;
-    }
+    let table = filled(&rt, rt.alloc(), 0..8, &same, &|_: &(u64, u64)| 1 << 32)?;
     assert_size(&rt, &table, 8, 32);
     for number in 0..8 {
         assert_eq!(rt; shown_at(&table, 0, number), Some(number));

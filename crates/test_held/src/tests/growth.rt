@@ -1,21 +1,20 @@
 //! When growth comes if memory is ample, and how often it asks for hashes.
-use super::pairs::{Pairs, assert_placed, assert_size, same};
+use super::pairs::{End, Pairs, assert_end, assert_size, same};
 use std::alloc::{AllocError, Global};
 use std::cell::Cell;
+use std::ops::Range;
 use std::process::Abort;
 use std::test::Fail;
 use table_held::raw::HeldRawTable;
 use table_terms::law::PairLaw;
 
-/// So many entries, and the buckets of the current generation and of all together, where each growth was granted.
-const SIZES: [(u64, usize, usize); 7] = [
-    (1, 16, 16),
-    (7, 16, 16),
-    (8, 32, 48),
-    (15, 32, 48),
-    (16, 64, 112),
-    (31, 64, 112),
-    (32, 128, 240),
+/// From so many entries to so many: the buckets of the current generation and of all together, where each growth was
+/// granted.
+const SIZES: [(u64, u64, usize, usize); 4] = [
+    (1, 7, 16, 16),
+    (8, 15, 32, 48),
+    (16, 31, 64, 112),
+    (32, 63, 128, 240),
 ];
 
 /// The insert of the number is told this value's place, and asks `hash_fn` so often.
@@ -37,39 +36,29 @@ fn assert_asks(
     Ok(())
 }
 
-/// The numbers from `made` to `entries` are placed, and then the table has these buckets.
+/// The numbers up to this many entries are placed, and from the first of them on the table has these buckets.
 fn assert_grows(
     rt: &impl Abort,
     table: &mut Pairs,
     alloc: Global,
-    made: u64,
-    entries: u64,
+    numbers: Range<u64>,
     capacity: usize,
     buckets: usize,
 ) -> Result<(), AllocError> {
-    for number in made..entries {
-        assert_placed(rt, table, alloc, number)?;
+    for number in numbers {
+        assert_end(rt, table, alloc, number, End::Placed)?;
+        assert_size(rt, table, (number as usize).saturating_add(1), capacity);
+        assert_eq!(rt; table.buckets_alone(), buckets);
     }
-    assert_size(rt, table, entries as usize, capacity);
-    assert_eq!(rt; table.buckets_alone(), buckets);
     Ok(())
 }
 
 #[test]
 fn capacities_and_buckets(rt: HostRuntime) -> Result<(), Fail> {
     let mut table: Pairs = HeldRawTable::new(rt.alloc());
-    let mut made = 0;
-    for (entries, capacity, buckets) in SIZES {
-        assert_grows(
-            &rt,
-            &mut table,
-            rt.alloc(),
-            made,
-            entries,
-            capacity,
-            buckets,
-        )?;
-        made = entries;
+    for (first, last, capacity, buckets) in SIZES {
+        let numbers = first.saturating_sub(1)..last;
+        assert_grows(&rt, &mut table, rt.alloc(), numbers, capacity, buckets)?;
     }
     Ok(())
 }

@@ -1,5 +1,5 @@
 //! Memory that is refused: what is told, what the table keeps, and when growth comes after all.
-use super::pairs::{Pairs, assert_found, assert_placed, assert_refused, assert_shown, assert_size};
+use super::pairs::{End, Pairs, assert_end, assert_shown, assert_size};
 use std::alloc::{AllocError, Allocator, Global};
 use std::ops::Range;
 use std::process::Abort;
@@ -21,6 +21,78 @@ fn blocks(passing: u64, refused: u64) -> Rule {
     Rule::new(0, BLOCK - 1, passing, refused)
 }
 
+/// What is done with a table whose memory is refused, and what must hold of it.
+#[derive(Clone, Copy)]
+enum Step {
+    /// The numbers from the first to before the second are placed, and the capacity is this after each.
+    Places(u64, u64, usize),
+    /// The insert of the number ends so.
+    Ends(u64, End),
+    /// There are so many entries, in a current generation of so many buckets, and no request is going to be refused.
+    Has(usize, usize),
+    /// The numbers from the first to before the second are entries, or aren't.
+    Shows(u64, u64, bool),
+}
+
+/// What growth is granted and refused, and the steps then.
+type Course = (u64, u64, &'static [Step]);
+
+const COURSES: [Course; 5] = [
+    (0, 1, NO_FIRST_GENERATION),
+    (2, 11, NO_SECOND_GENERATION),
+    (5, 18, NO_THIRD_GENERATION),
+    (2, 1, AFTER_THE_NEXT_VALUE),
+    (2, 1, AFTER_A_FOUND_VALUE),
+];
+
+const NO_FIRST_GENERATION: &[Step] = &[
+    Step::Ends(1, End::Refused),
+    Step::Has(0, 0),
+    Step::Ends(1, End::Placed),
+    Step::Has(1, 16),
+];
+
+/// Growth is wanted by the eighth to the sixteenth insert, the seventeenth and a found value, once each.
+const NO_SECOND_GENERATION: &[Step] = &[
+    Step::Places(0, 16, 16),
+    Step::Ends(16, End::Refused),
+    Step::Ends(4, End::Found),
+    Step::Has(16, 16),
+    Step::Shows(0, 16, true),
+    Step::Ends(16, End::Placed),
+    Step::Has(17, 64),
+];
+
+/// Growth is wanted by the sixteenth to the thirty-second insert and by the next, once each.
+const NO_THIRD_GENERATION: &[Step] = &[
+    Step::Places(0, 7, 16),
+    Step::Places(7, 32, 32),
+    Step::Ends(32, End::Refused),
+    Step::Has(32, 32),
+    Step::Ends(32, End::Placed),
+    Step::Has(33, 128),
+];
+
+const AFTER_THE_NEXT_VALUE: &[Step] = &[Step::Places(0, 8, 16), Step::Places(8, 15, 32)];
+
+const AFTER_A_FOUND_VALUE: &[Step] = &[
+    Step::Places(0, 8, 16),
+    Step::Ends(3, End::Found),
+    Step::Has(8, 32),
+];
+
+/// Growth would be granted at the refused block, and is not asked for: it comes after the next value.
+const NO_BLOCK: &[Step] = &[
+    Step::Places(0, 8, 16),
+    Step::Ends(8, End::Refused),
+    Step::Has(8, 16),
+    Step::Shows(8, 9, false),
+    Step::Ends(0, End::Found),
+    Step::Has(8, 32),
+    Step::Ends(8, End::Placed),
+    Step::Has(9, 32),
+];
+
 /// These numbers are placed, and the capacity is the same after each.
 fn assert_placed_within<A: Allocator + Copy>(
     rt: &impl Abort,
@@ -30,94 +102,77 @@ fn assert_placed_within<A: Allocator + Copy>(
     capacity: usize,
 ) -> Result<(), AllocError> {
     for number in numbers {
-        assert_placed(rt, table, alloc, number)?;
+        assert_end(rt, table, alloc, number, End::Placed)?;
         assert_size(rt, table, (number as usize).saturating_add(1), capacity);
     }
     Ok(())
 }
 
-/// The rule has refused all that it was going to.
-fn assert_all_refused<A: Allocator>(rt: &impl Abort, heap: &Refusing<A>) {
-    assert_eq!(rt; heap.refusals_left(), 0);
-}
-
-#[test]
-fn no_first_generation(rt: HostRuntime) -> Result<(), Fail> {
-    let heap = Refusing::new(rt.alloc(), growth(0, 1));
-    let mut table: Pairs<&Refusing<Global>> = HeldRawTable::new(&heap);
-    assert_refused(&rt, &mut table, rt.alloc(), 1)?;
-    assert_size(&rt, &table, 0, 0);
-    assert_placed(&rt, &mut table, rt.alloc(), 1)?;
-    assert_size(&rt, &table, 1, 16);
-    Ok(())
-}
-
-/// Growth is wanted by the eighth to the sixteenth insert, the seventeenth and a found value, once each.
-#[test]
-fn no_second_generation(rt: HostRuntime) -> Result<(), Fail> {
-    let heap = Refusing::new(rt.alloc(), growth(2, 11));
-    let mut table: Pairs<&Refusing<Global>> = HeldRawTable::new(&heap);
-    assert_placed_within(&rt, &mut table, rt.alloc(), 0..16, 16)?;
-    assert_refused(&rt, &mut table, rt.alloc(), 16)?;
-    assert_found(&rt, &mut table, rt.alloc(), 4)?;
-    assert_all_refused(&rt, &heap);
-    assert_size(&rt, &table, 16, 16);
-    for number in 0..16 {
-        assert_shown(&rt, &table, (number, number), true);
+/// The pairs of these numbers and themselves are entries, or aren't.
+fn assert_all_shown<A: Allocator + Copy>(
+    rt: &impl Abort,
+    table: &Pairs<A>,
+    numbers: Range<u64>,
+    is_entry: bool,
+) {
+    for number in numbers {
+        assert_shown(rt, table, (number, number), is_entry);
     }
-    assert_placed(&rt, &mut table, rt.alloc(), 16)?;
-    assert_size(&rt, &table, 17, 64);
+}
+
+/// Takes the step.
+fn take<A: Allocator>(
+    rt: &impl Abort,
+    heap: &Refusing<A>,
+    table: &mut Pairs<&Refusing<A>>,
+    alloc: Global,
+    step: Step,
+) -> Result<(), AllocError> {
+    match step {
+        Step::Places(first, end, capacity) => assert_placed_within(
+            rt,
+            table,
+            alloc,
+            first..end,
+            capacity,
+        )?,
+        Step::Ends(number, end) => assert_end(rt, table, alloc, number, end)?,
+        Step::Has(entries, capacity) => {
+            assert_eq!(rt; heap.refusals_left(), 0);
+            assert_size(rt, table, entries, capacity);
+        }
+        Step::Shows(first, end, is_entry) => assert_all_shown(rt, table, first..end, is_entry),
+    }
     Ok(())
 }
 
-/// Growth is wanted by the sixteenth to the thirty-second insert and by the next, once each.
+/// Takes the steps with a new table of this memory.
+fn take_all<A: Allocator>(
+    rt: &impl Abort,
+    heap: &Refusing<A>,
+    alloc: Global,
+    steps: &[Step],
+) -> Result<(), AllocError> {
+    let mut table: Pairs<&Refusing<A>> = HeldRawTable::new(heap);
+    for step in steps {
+        take(rt, heap, &mut table, alloc, *step)?;
+    }
+    Ok(())
+}
+
 #[test]
-fn no_third_generation(rt: HostRuntime) -> Result<(), Fail> {
-    let heap = Refusing::new(rt.alloc(), growth(5, 18));
-    let mut table: Pairs<&Refusing<Global>> = HeldRawTable::new(&heap);
-    assert_placed_within(&rt, &mut table, rt.alloc(), 0..7, 16)?;
-    assert_placed_within(&rt, &mut table, rt.alloc(), 7..32, 32)?;
-    assert_refused(&rt, &mut table, rt.alloc(), 32)?;
-    assert_all_refused(&rt, &heap);
-    assert_size(&rt, &table, 32, 32);
-    assert_placed(&rt, &mut table, rt.alloc(), 32)?;
-    assert_size(&rt, &table, 33, 128);
+fn growth_that_is_refused_comes_later(rt: HostRuntime) -> Result<(), Fail> {
+    for (granted, refused, steps) in COURSES {
+        let heap = Refusing::new(rt.alloc(), growth(granted, refused));
+        take_all(&rt, &heap, rt.alloc(), steps)?;
+    }
     Ok(())
 }
 
-#[test]
-fn growth_comes_after_the_next_value(rt: HostRuntime) -> Result<(), Fail> {
-    let heap = Refusing::new(rt.alloc(), growth(2, 1));
-    let mut table: Pairs<&Refusing<Global>> = HeldRawTable::new(&heap);
-    assert_placed_within(&rt, &mut table, rt.alloc(), 0..8, 16)?;
-    assert_placed_within(&rt, &mut table, rt.alloc(), 8..15, 32)?;
-    Ok(())
-}
-
-#[test]
-fn growth_comes_after_a_found_value(rt: HostRuntime) -> Result<(), Fail> {
-    let heap = Refusing::new(rt.alloc(), growth(2, 1));
-    let mut table: Pairs<&Refusing<Global>> = HeldRawTable::new(&heap);
-    assert_placed_within(&rt, &mut table, rt.alloc(), 0..8, 16)?;
-    assert_found(&rt, &mut table, rt.alloc(), 3)?;
-    assert_size(&rt, &table, 8, 32);
-    Ok(())
-}
-
-/// Growth would be granted at the refused block, and is not asked for: it comes after the next value.
 #[test]
 fn no_block(rt: HostRuntime) -> Result<(), Fail> {
     let below = Refusing::new(rt.alloc(), growth(2, 1));
     let heap = Refusing::new(&below, blocks(8, 1));
-    let mut table: Pairs<&Refusing<&Refusing<Global>>> = HeldRawTable::new(&heap);
-    assert_placed_within(&rt, &mut table, rt.alloc(), 0..8, 16)?;
-    assert_refused(&rt, &mut table, rt.alloc(), 8)?;
-    assert_all_refused(&rt, &heap);
-    assert_size(&rt, &table, 8, 16);
-    assert_shown(&rt, &table, (8, 8), false);
-    assert_found(&rt, &mut table, rt.alloc(), 0)?;
-    assert_size(&rt, &table, 8, 32);
-    assert_placed(&rt, &mut table, rt.alloc(), 8)?;
-    assert_size(&rt, &table, 9, 32);
+    take_all(&rt, &heap, rt.alloc(), NO_BLOCK)?;
     Ok(())
 }

@@ -15,6 +15,14 @@ pub enum Told {
     Refused((u64, u64)),
 }
 
+/// How an insert ended.
+#[derive(Clone, Copy)]
+pub enum End {
+    Placed,
+    Found,
+    Refused,
+}
+
 /// Equal pairs.
 pub fn same(a: &(u64, u64), b: &(u64, u64)) -> bool {
     a == b
@@ -61,37 +69,21 @@ pub fn assert_told<A: Allocator + Copy>(
     Ok(())
 }
 
-/// The pair of the number and itself is placed.
-pub fn assert_placed<A: Allocator + Copy>(
+/// The insert of the pair of the number and itself ends so, and shows or gives back that pair.
+pub fn assert_end<A: Allocator + Copy>(
     rt: &impl Abort,
     table: &mut Pairs<A>,
     alloc: Global,
     number: u64,
+    end: End,
 ) -> Result<(), AllocError> {
     let pair = (number, number);
-    assert_told(rt, table, alloc, pair, Told::Placed(pair))
-}
-
-/// The pair of the number and itself is an entry already.
-pub fn assert_found<A: Allocator + Copy>(
-    rt: &impl Abort,
-    table: &mut Pairs<A>,
-    alloc: Global,
-    number: u64,
-) -> Result<(), AllocError> {
-    let pair = (number, number);
-    assert_told(rt, table, alloc, pair, Told::Found(pair, pair))
-}
-
-/// The pair of the number and itself comes back, for want of memory.
-pub fn assert_refused<A: Allocator + Copy>(
-    rt: &impl Abort,
-    table: &mut Pairs<A>,
-    alloc: Global,
-    number: u64,
-) -> Result<(), AllocError> {
-    let pair = (number, number);
-    assert_told(rt, table, alloc, pair, Told::Refused(pair))
+    let told = match end {
+        End::Placed => Told::Placed(pair),
+        End::Found => Told::Found(pair, pair),
+        End::Refused => Told::Refused(pair),
+    };
+    assert_told(rt, table, alloc, pair, told)
 }
 
 /// So many entries, in a current generation of so many buckets.

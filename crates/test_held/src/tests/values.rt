@@ -6,102 +6,78 @@ use std::sync::Arc;
 use std::test::Fail;
 use table_held::raw::{HeldRawTable, is_first_capacity};
 use table_held::{AtomicValue, InPlace};
-use table_terms::law::{NumberLaw, hash_number};
+use table_terms::law::{Law, NumberLaw, hash_number};
 
 /// The target of a value, known by its bounds alone.
 fn target_of<V: AtomicValue>(value: &V) -> &V::Target {
     value.deref()
 }
 
-/// Inserts a boxed number. Whether it was placed and is shown.
-fn places_short(
-    table: &mut HeldRawTable<Box<u16>>,
-    alloc: Global,
-    number: u16,
-) -> Result<bool, AllocError> {
-    let value = Box::new(alloc, number)?;
-    let told = table.insert_alone::<NumberLaw, _, _>(
-        hash_number(u64::from(number)),
+/// Inserts a value whose target has a number. The number shown, and whether it was placed; None where it was refused.
+fn insert<L: Law<V::Target>, V: AtomicValue, N: Fn(&V::Target) -> u64>(
+    table: &mut HeldRawTable<V>,
+    value: V,
+    number: N,
+) -> Option<(u64, bool)>
+    requires { N.IsAlwaysCallable number }
+{
+    let hash = hash_number(number(value.deref()));
+    match table.insert_alone::<L, _, _>(
+        hash,
         value,
-        |a: &u16, b: &u16| a == b,
-        |a: &u16| hash_number(u64::from(*a)),
-    );
-    Ok(matches!(&told, Ok((shown, None)) if **shown == number))
-}
-
-/// Inserts a shared number. Whether it was placed.
-fn places_shared(
-    table: &mut HeldRawTable<Arc<u16>>,
-    alloc: Global,
-    number: u16,
-) -> Result<bool, AllocError> {
-    let value = Arc::new(alloc, number)?;
-    let told = table.insert_alone::<NumberLaw, _, _>(
-        hash_number(u64::from(number)),
-        value,
-        |a: &u16, b: &u16| a == b,
-        |a: &u16| hash_number(u64::from(*a)),
-    );
-    Ok(matches!(&told, Ok((_, None))))
-}
-
-/// Inserts a number that stands in the bucket itself. Whether it was placed.
-fn places_narrow(table: &mut HeldRawTable<NonZeroU32>, value: NonZeroU32) -> bool {
-    let told = table.insert_alone::<NumberLaw, _, _>(
-        hash_number(u64::from(value.get())),
-        value,
-        |a: &NonZeroU32, b: &NonZeroU32| a == b,
-        |a: &NonZeroU32| hash_number(u64::from(a.get())),
-    );
-    matches!(&told, Ok((_, None)))
-}
-
-/// Whether the number is an entry.
-fn holds_narrow(table: &HeldRawTable<NonZeroU32>, number: u32) -> bool {
-    table
-        .lookup_alone::<NumberLaw, _>(hash_number(u64::from(number)), |a: &NonZeroU32| {
-            a.get() == number
-        })
-        .is_some()
-}
-
-/// Inserts a number that lies in the table's block. Whether it was placed.
-fn places_long(table: &mut HeldRawTable<InPlace<u32>>, number: u32) -> bool {
-    let told = table.insert_alone::<NumberLaw, _, _>(
-        hash_number(u64::from(number)),
-        InPlace(number),
-        |a: &u32, b: &u32| a == b,
-        |a: &u32| hash_number(u64::from(*a)),
-    );
-    matches!(&told, Ok((_, None)))
-}
-
-/// The number that a look-up shows.
-fn shown_long(table: &HeldRawTable<InPlace<u32>>, number: u32) -> Option<u32> {
-    table
-        .lookup_alone::<NumberLaw, _>(hash_number(u64::from(number)), |a: &u32| *a == number)
-        .copied()
-}
-
-/// Inserts the number. The number shown, and whether it was placed; None where it was refused.
-fn insert_wide(
-    table: &mut HeldRawTable<NonZeroU64>,
-    value: NonZeroU64,
-) -> Option<(NonZeroU64, bool)> {
-    match table.insert_alone::<NumberLaw, _, _>(
-        hash_number(value.get()),
-        value,
-        |a: &NonZeroU64, b: &NonZeroU64| a == b,
-        |a: &NonZeroU64| hash_number(a.get()),
+        |a: &V::Target, b: &V::Target| number(a) == number(b),
+        |a: &V::Target| hash_number(number(a)),
     ) {
-        Ok((shown, back)) => Some((*shown, back.is_none())),
+        Ok((shown, back)) => Some((number(shown), back.is_none())),
         Err(_) => None,
     }
 }
 
-/// It holds for this number.
-fn assert_at(rt: &impl Abort, number: u32, holds: bool) {
-    assert!(rt; holds, "at {number}");
+/// The number that a look-up for it shows.
+fn shown<L: Law<V::Target>, V: AtomicValue, N: Fn(&V::Target) -> u64>(
+    table: &HeldRawTable<V>,
+    asked: u64,
+    number: N,
+) -> Option<u64>
+    requires { N.IsAlwaysCallable number }
+{
+    let found = table.lookup_alone::<L, _>(hash_number(asked), |a: &V::Target| number(a) == asked);
+    found.map(|a: &V::Target| number(a))
+}
+
+/// The number of a short value.
+fn short(value: &u16) -> u64 {
+    u64::from(*value)
+}
+
+/// The number of a value that stands in the bucket itself.
+fn narrow(value: &NonZeroU32) -> u64 {
+    u64::from(value.get())
+}
+
+/// The number of another value that stands there.
+fn wide(value: &NonZeroU64) -> u64 {
+    value.get()
+}
+
+/// The number of a value that lies in the table's block.
+fn long(value: &u32) -> u64 {
+    u64::from(*value)
+}
+
+/// The insert placed the number, and shows it.
+fn assert_placed(rt: &impl Abort, told: Option<(u64, bool)>, number: u64) {
+    assert_eq!(rt; told, Some((number, true)));
+}
+
+/// How many values a table of numbers below 32 hands out, and their bits.
+fn bits_of(table: HeldRawTable<Arc<u16>>) -> (u32, u32) {
+    let (mut values, mut bits) = (0u32, 0u32);
+    for value in table {
+        values = values.wrapping_add(1);
+        bits |= 1u32.wrapping_shl(u32::from(*value));
+    }
+    (values, bits)
 }
 
 #[test]
@@ -116,39 +92,36 @@ fn values_show_their_targets(rt: HostRuntime) -> Result<(), Fail> {
     Ok(())
 }
 
+/// A table of so many of the first numbers, each as the value that is made of it.
+fn filled<V: AtomicValue<Target = u16>, M: Fn(u16) -> Result<V, AllocError>>(
+    rt: &impl Abort,
+    alloc: Global,
+    numbers: u16,
+    make: M,
+) -> Result<HeldRawTable<V>, AllocError>
+    requires { M.IsAlwaysCallable make }
+{
+    let mut table = HeldRawTable::new(alloc);
+    for number in 0..numbers {
+        let told = insert::<NumberLaw, _, _>(&mut table, make(number)?, short);
+        assert_placed(rt, told, u64::from(number));
+    }
+    Ok(table)
+}
+
 #[test]
 fn a_hundred_boxes(rt: HostRuntime) -> Result<(), Fail> {
-    let mut table: HeldRawTable<Box<u16>> = HeldRawTable::new(rt.alloc());
-    for number in 0..100u16 {
-        assert_at(
-            &rt,
-            u32::from(number),
-            places_short(&mut table, rt.alloc(), number)?,
-        );
-    }
+    let alloc = rt.alloc();
+    let table = filled(&rt, alloc, 100, |number: u16| Ok(Box::new(alloc, number)?))?;
     assert_eq!(rt; table.len_alone(), 100);
     Ok(())
 }
 
 #[test]
-fn ten_shared_values_sorted(rt: HostRuntime) -> Result<(), Fail> {
-    let mut table: HeldRawTable<Arc<u16>> = HeldRawTable::new(rt.alloc());
-    for number in 0..10u16 {
-        assert_at(
-            &rt,
-            u32::from(number),
-            places_shared(&mut table, rt.alloc(), number)?,
-        );
-    }
-    let mut numbers = vec![in rt.alloc()]?;
-    for value in table {
-        numbers.push(*value)?;
-    }
-    numbers.sort_unstable();
-    assert_eq!(rt;
-        numbers.as_slice(),
-        [0u16, 1, 2, 3, 4, 5, 6, 7, 8, 9].as_slice()
-    );
+fn ten_shared_values_handed_out(rt: HostRuntime) -> Result<(), Fail> {
+    let alloc = rt.alloc();
+    let table = filled(&rt, alloc, 10, |number: u16| Ok(Arc::new(alloc, number)?))?;
+    assert_eq!(rt; bits_of(table), (10, 0b11_1111_1111));
     Ok(())
 }
 
@@ -157,10 +130,14 @@ fn narrow_numbers_are_found(rt: HostRuntime) -> Result<(), Fail> {
     let mut table: HeldRawTable<NonZeroU32> = HeldRawTable::new(rt.alloc());
     for number in 1..10_000u32 {
         let value = NonZeroU32::new(number).ok_or("zero")?;
-        assert_at(&rt, number, places_narrow(&mut table, value));
+        let told = insert::<NumberLaw, _, _>(&mut table, value, narrow);
+        assert_placed(&rt, told, u64::from(number));
     }
-    for number in 1..10_000u32 {
-        assert_at(&rt, number, holds_narrow(&table, number));
+    for number in 1..10_000u64 {
+        assert_eq!(rt;
+            shown::<NumberLaw, _, _>(&table, number, narrow),
+            Some(number)
+        );
     }
     Ok(())
 }
@@ -169,10 +146,14 @@ fn narrow_numbers_are_found(rt: HostRuntime) -> Result<(), Fail> {
 fn a_million_numbers(rt: HostRuntime) -> Result<(), Fail> {
     let mut table: HeldRawTable<InPlace<u32>> = HeldRawTable::new(rt.alloc());
     for number in 0..1_000_000u32 {
-        assert_at(&rt, number, places_long(&mut table, number));
+        let told = insert::<NumberLaw, _, _>(&mut table, InPlace(number), long);
+        assert_placed(&rt, told, u64::from(number));
     }
-    for number in 0..1_000_000u32 {
-        assert_at(&rt, number, shown_long(&table, number) == Some(number));
+    for number in 0..1_000_000u64 {
+        assert_eq!(rt;
+            shown::<NumberLaw, _, _>(&table, number, long),
+            Some(number)
+        );
     }
     assert_eq!(rt; table.iter_alone().count(), 1_000_000);
     assert_eq!(rt; table.capacity_alone(), 1 << 21);
@@ -183,13 +164,13 @@ fn a_million_numbers(rt: HostRuntime) -> Result<(), Fail> {
 fn wide_numbers_come_back(rt: HostRuntime) -> Result<(), Fail> {
     assert!(rt; is_first_capacity(64) && !is_first_capacity(48));
     let mut table: HeldRawTable<NonZeroU64> = HeldRawTable::with_first_capacity(rt.alloc(), 64);
-    let value = NonZeroU64::MAX;
     for placed in [true, false] {
-        assert_eq!(rt; insert_wide(&mut table, value), Some((value, placed)));
+        let told = insert::<NumberLaw, _, _>(&mut table, NonZeroU64::MAX, wide);
+        assert_eq!(rt; told, Some((u64::MAX, placed)));
     }
     assert_eq!(rt; (table.capacity_alone(), table.buckets_alone()), (64, 64));
     for shown in &table {
-        assert_eq!(rt; *shown, value);
+        assert_eq!(rt; *shown, NonZeroU64::MAX);
     }
     assert_eq!(rt; table.into_iter().count(), 1);
     Ok(())

@@ -5,22 +5,11 @@ use std::process::Abort;
 use std::sync::Wait;
 use table_cell::Low;
 use table_terms::law::hash_number;
+pub(crate) use testkit_counting::numbers::Told;
+use testkit_counting::numbers::{hash, same, told_of};
 
 /// A table of boxed numbers over so many shards.
 pub(crate) type Numbers<const SHARDS: usize, A> = ShardedLockFreeRawTable<Box<u64>, SHARDS, A>;
-
-/// What an insert of a number is told.
-#[derive(Clone, Copy, Debug, PartialEq, Eq)]
-pub(crate) enum Told {
-    /// It is an entry now.
-    Placed,
-    /// It was one before, and its value came back.
-    Found,
-    /// It came back, and isn't an entry.
-    Refused,
-    /// Another number was shown, or came back.
-    Wrong,
-}
 
 /// What an insert of the value is told.
 pub(crate) fn insert<R: Wait, const SHARDS: usize, A: Low + Copy>(
@@ -29,18 +18,10 @@ pub(crate) fn insert<R: Wait, const SHARDS: usize, A: Low + Copy>(
     value: Box<u64>,
 ) -> Told {
     let number = *value;
-    match table.insert(
-        rt,
-        hash_number(number),
-        value,
-        |a: &u64, b: &u64| *a == *b,
-        |a: &u64| hash_number(*a),
-    ) {
-        Ok((shown, None)) if *shown == number => Told::Placed,
-        Ok((shown, Some(back))) if *shown == number && *back == number => Told::Found,
-        Err(back) if *back == number => Told::Refused,
-        _ => Told::Wrong,
-    }
+    told_of(
+        table.insert(rt, hash_number(number), value, same, hash),
+        number,
+    )
 }
 
 /// Whether a look-up finds the number.
@@ -61,40 +42,62 @@ pub(crate) fn assert_entries<R: Abort, const SHARDS: usize, A: Allocator + Copy>
     alloc: Global,
     count: u64,
 ) -> Result<(), AllocError> {
-    for number in 0..count {
-        assert!(rt; contains(table, number), "{number}");
-    }
-    assert!(rt; !contains(table, count));
-    assert_eq!(rt; table.len() as u64, count);
+    assert_eq!(rt; entries_seen(table, alloc, count)?, [count; 4]);
     assert_eq!(rt; table.is_empty(), count == 0);
-    assert_first(rt, walked(table, alloc)?, count)
+    Ok(())
 }
 
-/// The numbers that a walk shows, as it shows them.
-fn walked<const SHARDS: usize, A: Allocator + Copy>(
+/// Whether the entries are the numbers below `count`.
+pub(crate) fn has_below<const SHARDS: usize, A: Allocator + Copy>(
     table: &Numbers<SHARDS, A>,
     alloc: Global,
-) -> Result<Vec<u64>, AllocError> {
+    count: u64,
+) -> Result<bool, AllocError> {
+    let is_empty = table.is_empty();
+    Ok(entries_seen(table, alloc, count)? == [count; 4] && is_empty == (count == 0))
+}
+
+/// The first number that no look-up finds, the table's length, how many numbers a walk shows, and how many of the first
+/// numbers are among them, each once.
+fn entries_seen<const SHARDS: usize, A: Allocator + Copy>(
+    table: &Numbers<SHARDS, A>,
+    alloc: Global,
+    count: u64,
+) -> Result<[u64; 4], AllocError> {
     let mut walked = Vec::new(alloc);
     for number in table.iter() {
         walked.push(*number)?;
     }
-    Ok(walked)
+    let shown = walked.len() as u64;
+    Ok([
+        first_missed(table, count),
+        table.len() as u64,
+        shown,
+        first_of(walked),
+    ])
 }
 
-/// Asserts that these are the numbers below `count`, each once.
-pub(crate) fn assert_first(
-    rt: &impl Abort,
-    numbers: Vec<u64>,
+/// The first number that no look-up finds, of those up to `count`.
+fn first_missed<const SHARDS: usize, A: Allocator + Copy>(
+    table: &Numbers<SHARDS, A>,
     count: u64,
-) -> Result<(), AllocError> {
-    let mut numbers = numbers;
-    assert_eq!(rt; numbers.len() as u64, count);
-    numbers.sort_unstable();
-    for (expected, number) in (0u64..).zip(numbers.as_slice()) {
-        assert_eq!(rt; *number, expected);
+) -> u64 {
+    let beyond = count.wrapping_add(1);
+    for number in 0..beyond {
+        if !contains(table, number) {
+            return number;
+        }
     }
-    Ok(())
+    beyond
+}
+
+/// How many of the first numbers these are, each once.
+fn first_of(mut numbers: Vec<u64>) -> u64 {
+    numbers.sort_unstable();
+    let in_place = (0u64..)
+        .zip(numbers.as_slice())
+        .filter(|(expected, number)| *expected == **number);
+    in_place.count() as u64
 }
 
 /// Asserts that the table hands out the numbers below `count`, each once, and nothing after.
@@ -110,5 +113,6 @@ pub(crate) fn assert_handed(
         handed.push(*value)?;
     }
     assert!(rt; values.next().is_none());
-    assert_first(rt, handed, count)
+    assert_eq!(rt; (handed.len() as u64, first_of(handed)), (count, count));
+    Ok(())
 }

@@ -42,12 +42,14 @@ fn an_iterator_that_ends_early_drops_the_rest(rt: HostRuntime) -> Result<(), Fai
         for _ in 0..taken {
             kept.push(values.next().ok_or("too few values")?)?;
         }
-        assert_eq!(&rt; drops.dropped(0), VALUES);
-        drop(values);
-        assert_eq!(&rt; drops.dropped(0), taken);
-        assert_eq!(&rt; drops.dropped(1), VALUES.saturating_sub(taken));
-        drop(kept);
-        assert_eq!(&rt; drops.dropped(1), VALUES);
+        assert_eq!(&rt;
+            drops.as_dropped(values, kept),
+            [
+                (VALUES, 0),
+                (taken, VALUES.saturating_sub(taken)),
+                (0, VALUES)
+            ]
+        );
     }
     Ok(())
 }
@@ -57,8 +59,9 @@ fn the_end_of_a_table_drops_each_value_once(rt: HostRuntime) -> Result<(), Fail>
     let drops = Drops::new(rt.alloc(), VALUES)?;
     let table = eight(rt.alloc());
     fill(&rt, &table, &drops)?;
-    assert_eq!(&rt; drops.dropped(0), VALUES);
-    drop(table);
-    assert_eq!(&rt; drops.dropped(1), VALUES);
+    assert_eq!(&rt;
+        drops.as_dropped((), table),
+        [(VALUES, 0), (VALUES, 0), (0, VALUES)]
+    );
     Ok(())
 }

@@ -58,36 +58,16 @@ fn give<R: Wait, E: Fn(&u64, &u64) -> bool, H: Fn(&u64) -> u64>(
     Ok(tally)
 }
 
-/// Threads insert all numbers at once, each under the bits of it that the mask names as its hash: what they are told.
-fn give_all<R: Threads + Wait + Sync, E: Fn(&u64, &u64) -> bool + Sync, H: Fn(&u64) -> u64 + Sync>(
-    rt: &R,
-    table: &Numbers<Global>,
-    alloc: Global,
-    mask: u64,
-    eq: &E,
-    hash_fn: &H,
-) -> Result<Tally, AllocError>
-    requires eq_callable { E.IsAlwaysCallable eq.now }
-    requires hash_callable { H.IsAlwaysCallable hash_fn.now }
-{
-    let told = thread::map_indices(
-        rt,
-        alloc,
-        THREADS as usize,
-        &|thread: usize| -> Result<Tally, AllocError>
-            requires { E.IsAlwaysCallable eq.now × H.IsAlwaysCallable hash_fn.now }
-        { give(rt, table, alloc, thread as u64, mask, eq, hash_fn) },
-    )?;
-    sum(told.as_slice())
-}
-
-/// The table hands out so many of the numbers, each once.
+/// So many inserts were told Placed and all others Found, and the table hands out as many of the numbers, each once.
 fn assert_handed<R: Abort>(
     rt: &R,
     table: Numbers<Global>,
     alloc: Global,
+    told: Tally,
     placed: u64,
 ) -> Result<(), AllocError> {
+    assert_tally(rt, told, placed, (THREADS * NUMBERS).wrapping_sub(placed));
+    let counted = table.len() as u64;
     let mut numbers = Vec::new(alloc);
     for number in table {
         numbers.push(*number)?;
@@ -101,8 +81,8 @@ fn assert_handed<R: Abort>(
     }
     assert_counted(
         rt,
-        [numbers.len() as u64, rising].as_slice(),
-        [placed, placed].as_slice(),
+        [counted, numbers.len() as u64, rising].as_slice(),
+        [placed, placed, placed].as_slice(),
     );
     Ok(())
 }
@@ -118,10 +98,15 @@ fn assert_kept<
     requires hash_callable { H.IsAlwaysCallable hash_fn.now }
 {
     let table: Numbers<Global> = LockFreeRawTable::new(alloc);
-    let told = give_all(rt, &table, alloc, mask, eq, hash_fn)?;
-    assert_tally(rt, told, placed, (THREADS * NUMBERS).wrapping_sub(placed));
-    assert_counted(rt, [table.len() as u64].as_slice(), [placed].as_slice());
-    assert_handed(rt, table, alloc, placed)
+    let told = thread::map_indices(
+        rt,
+        alloc,
+        THREADS as usize,
+        &|thread: usize| -> Result<Tally, AllocError>
+            requires { E.IsAlwaysCallable eq.now × H.IsAlwaysCallable hash_fn.now }
+        { give(rt, &table, alloc, thread as u64, mask, eq, hash_fn) },
+    )?;
+    assert_handed(rt, table, alloc, sum(told.as_slice())?, placed)
 }
 
 #[test]

@@ -12,29 +12,17 @@ use std::thread::Threads;
 use std::{ptr, thread};
 use table_terms::law::{NumberLaw, hash_number};
 
-/// So many entries, and the buckets of the current generation, where each growth was granted.
-const SIZES: [(u64, usize); 9] = [
-    (1, 16),
-    (7, 16),
-    (8, 32),
-    (15, 32),
-    (16, 64),
-    (31, 64),
-    (32, 128),
-    (255, 512),
-    (256, 1024),
-];
+/// How many numbers are placed one by one.
+const PLACED: u64 = 256;
 
-/// First capacities, entries of a table before it is shared, and after that.
-const SHARED: [(usize, u64, u64); 8] = [
-    (16, 0, 100),
-    (16, 1, 100),
-    (16, 7, 8),
-    (16, 8, 1000),
-    (16, 500, 3000),
-    (32, 15, 2000),
-    (64, 31, 33),
-    (1024, 3, 3000),
+/// A first capacity; and the entries of each table of it before it is shared, and after that.
+type Tables = (usize, &'static [(u64, u64)]);
+
+const SHARED: [Tables; 4] = [
+    (16, &[(0, 100), (1, 100), (7, 8), (8, 1000), (500, 3000)]),
+    (32, &[(15, 2000)]),
+    (64, &[(31, 33)]),
+    (1024, &[(3, 3000)]),
 ];
 
 /// How many targets are kept.
@@ -48,42 +36,43 @@ pub(crate) fn capacity<A: Allocator + Copy>(table: &Numbers<A>) -> usize {
     }
 }
 
-/// The number is placed, and then the count of the table is that of the entries that its current generation shows.
+/// The buckets of a current generation with so many entries, where each growth was granted: the least power of two, from 16 on,
+/// of which fewer than half are set.
+fn buckets_for(entries: u64) -> usize {
+    let buckets = entries
+        .wrapping_mul(2)
+        .wrapping_add(1)
+        .checked_next_power_of_two();
+    buckets.unwrap_or(0).max(16) as usize
+}
+
+/// The number is placed, and then the count of the table is that of the entries that its current generation shows, in as many
+/// buckets as it must have.
 fn assert_placed<R: Abort + Wait>(
     rt: &R,
     table: &Numbers<Global>,
     alloc: Global,
     number: u64,
 ) -> Result<(), AllocError> {
-    let value = Box::new(alloc, number)?;
-    assert_eq!(rt; insert(rt, table, value), Told::Placed, "{number}");
-    assert_eq!(rt; table.len(), table.iter().count(), "{number}");
-    Ok(())
-}
-
-/// The numbers from `made` to `entries` are placed, and then the current generation has these buckets.
-fn assert_grows<R: Abort + Wait>(
-    rt: &R,
-    table: &Numbers<Global>,
-    alloc: Global,
-    made: u64,
-    entries: u64,
-    buckets: usize,
-) -> Result<(), AllocError> {
-    for number in made..entries {
-        assert_placed(rt, table, alloc, number)?;
-    }
-    assert_eq!(rt; (table.len() as u64, capacity(table)), (entries, buckets));
+    let told = insert(rt, table, Box::new(alloc, number)?);
+    let entries = number.wrapping_add(1);
+    let seen = (
+        table.len() as u64,
+        table.iter().count() as u64,
+        capacity(table),
+    );
+    assert_eq!(rt;
+        (told, seen),
+        (Told::Placed, (entries, entries, buckets_for(entries)))
+    );
     Ok(())
 }
 
 #[test]
 fn one_count_serves_every_generation(rt: HostRuntime) -> Result<(), Fail> {
     let table: Numbers<Global> = LockFreeRawTable::new(rt.alloc());
-    let mut made = 0u64;
-    for (entries, buckets) in SIZES {
-        assert_grows(&rt, &table, rt.alloc(), made, entries, buckets)?;
-        made = entries;
+    for number in 0..PLACED {
+        assert_placed(&rt, &table, rt.alloc(), number)?;
     }
     Ok(())
 }
@@ -126,6 +115,21 @@ fn fill<R: Wait>(
     Ok(placed)
 }
 
+/// Tables held alone with each of these entries are filled on, each up to its others.
+fn assert_all_filled_on<R: Abort + Threads + Wait + Sync>(
+    rt: &R,
+    alloc: Global,
+    first_capacity: usize,
+    entries: &[(u64, u64)],
+) -> Result<(), AllocError>
+    requires { IsFirstCapacity first_capacity }
+{
+    for (before, after) in entries {
+        assert_filled_on(rt, alloc, first_capacity, *before, *after)?;
+    }
+    Ok(())
+}
+
 /// A table held alone with so many entries is shared, and two threads fill it on: it then has what a table has that was
 /// held alone for as many.
 fn assert_filled_on<R: Abort + Threads + Wait + Sync>(
@@ -134,8 +138,9 @@ fn assert_filled_on<R: Abort + Threads + Wait + Sync>(
     first_capacity: usize,
     before: u64,
     after: u64,
-) -> Result<(), AllocError> {
-    assert!(rt; is_first_capacity(first_capacity));
+) -> Result<(), AllocError>
+    requires { IsFirstCapacity first_capacity }
+{
     let table = held(rt, alloc, first_capacity, before)?.share();
     let expected = held(rt, alloc, first_capacity, after)?;
     assert_eq!(rt; table.len() as u64, before);
@@ -152,8 +157,9 @@ fn assert_filled_on<R: Abort + Threads + Wait + Sync>(
 
 #[test]
 fn a_table_held_alone_is_filled_on(rt: HostRuntime) -> Result<(), Fail> {
-    for (first_capacity, before, after) in SHARED {
-        assert_filled_on(&rt, rt.alloc(), first_capacity, before, after)?;
+    for (first_capacity, entries) in SHARED {
+        assert!(rt; is_first_capacity(first_capacity));
+        assert_all_filled_on(&rt, rt.alloc(), first_capacity, entries)?;
     }
     Ok(())
 }

@@ -6,22 +6,11 @@ use table_cell::Low;
 use table_generations::atomic_value::AtomicValue;
 use table_shared::LockFreeRawTable;
 use table_terms::law::hash_number;
+pub(crate) use testkit_counting::numbers::Told;
+use testkit_counting::numbers::{same, told_of};
 
 /// A shared table of boxed numbers.
 pub(crate) type Numbers<A> = LockFreeRawTable<Box<u64>, A>;
-
-/// What an insert of a number is told.
-#[derive(Clone, Copy, Debug, PartialEq, Eq)]
-pub(crate) enum Told {
-    /// It is an entry now.
-    Placed,
-    /// It was one before, and its value came back.
-    Found,
-    /// It came back, and isn't an entry.
-    Refused,
-    /// Another number was shown, or came back.
-    Wrong,
-}
 
 /// How many inserts were told what.
 #[derive(Clone, Copy)]
@@ -137,19 +126,8 @@ pub(crate) fn insert_by<R: Wait, A: Low + Copy, H: Fn(u64) -> u64>(
     requires { H.IsAlwaysCallable hash_of }
 {
     let number = *value;
-    let hash = hash_of(number);
-    match table.insert(
-        rt,
-        hash,
-        value,
-        |a: &u64, b: &u64| *a == *b,
-        |a: &u64| hash_of(*a),
-    ) {
-        Ok((shown, None)) if *shown == number => Told::Placed,
-        Ok((shown, Some(back))) if *shown == number && *back == number => Told::Found,
-        Err(back) if *back == number => Told::Refused,
-        _ => Told::Wrong,
-    }
+    let told = table.insert(rt, hash_of(number), value, same, |a: &u64| hash_of(*a));
+    told_of(told, number)
 }
 
 /// Whether a look-up finds the number.
@@ -183,18 +161,36 @@ pub(crate) fn assert_entries_by<R: Abort, A: Allocator + Copy, H: Fn(u64) -> u64
 )
     requires { H.IsAlwaysCallable hash_of }
 {
-    let missed = first_missed(table, count, &hash_of);
     assert_counted(
         rt,
-        [missed, table.len() as u64].as_slice(),
-        [count, count].as_slice(),
+        entries_seen(table, count, &hash_of).as_slice(),
+        [count, count, count, count, sum_below(count)].as_slice(),
     );
-    let Walked { shown, below, sum } = walk(table, count);
-    assert_counted(
-        rt,
-        [shown, below, sum].as_slice(),
-        [count, count, sum_below(count)].as_slice(),
-    );
+}
+
+/// Whether the entries are the numbers below `count`, each once.
+pub(crate) fn has_below<A: Allocator + Copy>(table: &Numbers<A>, count: u64) -> bool {
+    let seen = entries_seen(table, count, &hash_number);
+    seen == [count, count, count, count, sum_below(count)]
+}
+
+/// The first number that no look-up finds, the table's length, and of the numbers that a walk shows how many there are, how
+/// many of them are below `count`, and their sum.
+fn entries_seen<A: Allocator + Copy, H: Fn(u64) -> u64>(
+    table: &Numbers<A>,
+    count: u64,
+    hash_of: &H,
+) -> [u64; 5]
+    requires { H.IsAlwaysCallable hash_of.now }
+{
+    let missed = first_missed(table, count, hash_of);
+    let (mut shown, mut below, mut sum) = (0u64, 0u64, 0u64);
+    for number in table.iter() {
+        shown = shown.wrapping_add(1);
+        below = below.wrapping_add(u64::from(*number < count));
+        sum = sum.wrapping_add(*number);
+    }
+    [missed, table.len() as u64, shown, below, sum]
 }
 
 /// The first number that no look-up finds, of those up to `count`.
@@ -212,24 +208,6 @@ fn first_missed<A: Allocator + Copy, H: Fn(u64) -> u64>(
         }
     }
     beyond
-}
-
-/// The numbers that a walk shows: how many there are, how many of them below a bound, and their sum.
-struct Walked {
-    shown: u64,
-    below: u64,
-    sum: u64,
-}
-
-/// Walks the table, whose numbers are to be below this one.
-fn walk<A: Allocator + Copy>(table: &Numbers<A>, bound: u64) -> Walked {
-    let (mut shown, mut below, mut sum) = (0u64, 0u64, 0u64);
-    for number in table.iter() {
-        shown = shown.wrapping_add(1);
-        below = below.wrapping_add(u64::from(*number < bound));
-        sum = sum.wrapping_add(*number);
-    }
-    Walked { shown, below, sum }
 }
 
 /// The sum of the numbers below `count`.

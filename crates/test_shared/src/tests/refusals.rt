@@ -1,10 +1,10 @@
 //! Each request for memory refused in turn.
-use super::numbers::{Numbers, Told, assert_entries, insert};
-use std::alloc::Global;
-use std::process::Abort;
+use super::numbers::{Numbers, has_below, insert_number};
+use std::alloc::{AllocError, Global};
 use std::sync::Wait;
 use std::test::Fail;
 use table_shared::LockFreeRawTable;
+use testkit_counting::numbers::{counted_in_turn, refused_inserts};
 use testkit_refusing::{Refusing, Rule};
 
 /// How many numbers are inserted: a growth from 16 buckets to 32 lies among them.
@@ -15,30 +15,20 @@ const NUMBERS: u64 = 17;
 /// no answer, since the number was placed.
 const TOLD: u64 = NUMBERS + 6;
 
-/// Inserts the numbers, each again after a refusal, where one request after `passing` many is refused: how many inserts
-/// were refused.
-fn refused_inserts<R: Wait + Abort>(rt: &R, alloc: Global, passing: u64) -> Result<u64, Fail> {
+/// How many of the inserts were refused, where one request after `passing` many is refused.
+fn refused<R: Wait>(rt: &R, alloc: Global, passing: u64) -> Result<Option<u64>, AllocError> {
     let memory = Refusing::new(alloc, Rule::new(0, usize::MAX, passing, 1));
     let table: Numbers<&Refusing<Global>> = LockFreeRawTable::new(&memory);
-    let mut refused = 0u64;
-    for number in 0..NUMBERS {
-        if insert(rt, &table, Box::new(alloc, number)?) == Told::Refused {
-            refused = refused.wrapping_add(1);
-            assert_entries(rt, &table, number);
-            assert_eq!(rt; insert(rt, &table, Box::new(alloc, number)?), Told::Placed);
-        }
-    }
-    assert_entries(rt, &table, NUMBERS);
-    assert_eq!(rt; insert(rt, &table, Box::new(alloc, 4)?), Told::Found);
-    Ok(refused)
+    refused_inserts(
+        NUMBERS,
+        |number: u64| insert_number(rt, &table, alloc, number),
+        |count: u64| Ok(has_below(&table, count)),
+    )
 }
 
 #[test]
 fn each_request_refused_in_turn(rt: HostRuntime) -> Result<(), Fail> {
-    let mut refused = 0u64;
-    for passing in 0..40u64 {
-        refused = refused.wrapping_add(refused_inserts(&rt, rt.alloc(), passing)?);
-    }
-    assert_eq!(rt; refused, TOLD);
+    let told = counted_in_turn(40, |passing: u64| refused(&rt, rt.alloc(), passing))?;
+    assert_eq!(rt; told, Some(TOLD));
     Ok(())
 }

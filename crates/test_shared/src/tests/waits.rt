@@ -9,6 +9,7 @@ use std::test::Fail;
 use std::thread;
 use std::thread::Threads;
 use table_terms::law::hash_number;
+use testkit_counting::numbers::{same, told_of};
 
 /// The first number by which a table grows that has all below it.
 const GROWS: u64 = 7;
@@ -88,16 +89,11 @@ fn assert_waits<R: Abort + Threads + Wait + Sync>(rt: &R, alloc: Global) -> Resu
 /// Inserts the value, whose growth waits for the other thread.
 fn insert_late<R: Wait>(rt: &R, table: &Numbers<Global>, signs: &Signs, value: Box<u64>) -> Told {
     let number = *value;
-    match table.insert(
-        rt,
-        hash_number(number),
-        value,
-        |a: &u64, b: &u64| *a == *b,
-        |a: &u64| hash_late(signs, *a),
-    ) {
-        Ok((shown, None)) if *shown == number => Told::Placed,
-        _ => Told::Wrong,
-    }
+    let hash_fn = |a: &u64| hash_late(signs, *a);
+    told_of(
+        table.insert(rt, hash_number(number), value, same, hash_fn),
+        number,
+    )
 }
 
 #[test]

@@ -1,10 +1,10 @@
-use Rattle.std.proofs.Common.{rules, arith, sym, ap, ap₂, ◌∙◌, subst, ◌++◌}
+use Rattle.std.proofs.Common.{rules, sym, ap, ap₂, ◌∙◌, subst, ◌++◌}
 use Rattle.seated.specs.Numbers.{Within, Disjoint}
 use Rattle.seated.specs.Views.{join_of, with_next_turn, without_gift}
 use Rattle.seated.specs.declared.seat.View.{View}
 use Rattle.seated.specs.Steps.{SeatState}
 use Rattle.seated.proofs.Keeps.{cuts_note, cuts_gift, joins, reads, raise_mild, forget_mild}
-use Rattle.seated.proofs.Walks.{first_meets, second_meets, within_left, within_right, within_trans, still_known}
+use Rattle.seated.proofs.Walks.{first_meets, both_meet, within_left, within_right, still_known}
 use Rattle.seated.proofs.table.NumberTable.meet.Goals as goal
 
 pub split_seat-note-requires : goal.split_seat-note-requires
@@ -43,24 +43,14 @@ returns-clause-first _ c =
 pub returns-clause-second : goal.returns-clause-second
 returns-clause-second _ c =
     let a : View = c.args.first.now.inner.me.0 in let b : View = c.args.second.now.inner.me.0 in
-    let u : View = c.read_rest.new.seat.inner.me.0 in
-    let first = first_meets a b u c.join_seat.new.seat.me c.load.new.seat.me 0 c.load.result
-    (ap (λ (m : SeatState). m.0) c.join_seat.ensures.2 ∙ ap (λ (m : SeatState). join_of a m.0) c.split_seat-note.ensures.4) c.load.ensures.2 c.read_rest.ensures.view in
-    let turn = first.2 in
-    let second = second_meets b u c.read_rest-2.new.seat.inner.me.0 c.join_seat-2.new.seat.me c.load-2.new.seat.me 0 c.load-2.result
-    (ap (λ (m : SeatState). m.0) c.join_seat-2.ensures.2 ∙ ap₂ (λ (m k : SeatState). join_of m.0 k.0) c.split_seat-note.ensures.2 c.split_seat-gift.ensures.4) c.load-2.ensures.2 c.read_rest-2.ensures.view (omega arith) in
-    within_trans (a.known ++ b.known) u.known c.read_rest-2.new.seat.inner.me.0.known first.0 (within_right b.known u.known c.read_rest-2.new.seat.inner.me.0.known second.0)
+    let met = both_meet a b c.read_rest.new.seat.inner.me.0 c.read_rest-2.new.seat.inner.me.0 c.join_seat.new.seat.me c.load.new.seat.me c.join_seat-2.new.seat.me c.load-2.new.seat.me 0 c.load.result c.load-2.result (ap (λ (m : SeatState). m.0) c.join_seat.ensures.2 ∙ ap (λ (m : SeatState). join_of a m.0) c.split_seat-note.ensures.4) c.load.ensures.2 c.read_rest.ensures.view (ap (λ (m : SeatState). m.0) c.join_seat-2.ensures.2 ∙ ap₂ (λ (m k : SeatState). join_of m.0 k.0) c.split_seat-note.ensures.2 c.split_seat-gift.ensures.4) c.load-2.ensures.2 c.read_rest-2.ensures.view in
+    met.0
 
 pub returns-clause-apart : goal.returns-clause-apart
 returns-clause-apart _ c =
     let a : View = c.args.first.now.inner.me.0 in let b : View = c.args.second.now.inner.me.0 in
-    let u : View = c.read_rest.new.seat.inner.me.0 in
-    let first = first_meets a b u c.join_seat.new.seat.me c.load.new.seat.me 0 c.load.result
-    (ap (λ (m : SeatState). m.0) c.join_seat.ensures.2 ∙ ap (λ (m : SeatState). join_of a m.0) c.split_seat-note.ensures.4) c.load.ensures.2 c.read_rest.ensures.view in
-    let turn = first.2 in
-    let second = second_meets b u c.read_rest-2.new.seat.inner.me.0 c.join_seat-2.new.seat.me c.load-2.new.seat.me 0 c.load-2.result
-    (ap (λ (m : SeatState). m.0) c.join_seat-2.ensures.2 ∙ ap₂ (λ (m k : SeatState). join_of m.0 k.0) c.split_seat-note.ensures.2 c.split_seat-gift.ensures.4) c.load-2.ensures.2 c.read_rest-2.ensures.view (omega arith) in
-    subst (λ (m : SeatState). Disjoint m.0.own c.read_rest-2.new.seat.inner.me.0.own) (sym c.split_seat-gift.ensures.2) second.2
+    let met = both_meet a b c.read_rest.new.seat.inner.me.0 c.read_rest-2.new.seat.inner.me.0 c.join_seat.new.seat.me c.load.new.seat.me c.join_seat-2.new.seat.me c.load-2.new.seat.me 0 c.load.result c.load-2.result (ap (λ (m : SeatState). m.0) c.join_seat.ensures.2 ∙ ap (λ (m : SeatState). join_of a m.0) c.split_seat-note.ensures.4) c.load.ensures.2 c.read_rest.ensures.view (ap (λ (m : SeatState). m.0) c.join_seat-2.ensures.2 ∙ ap₂ (λ (m k : SeatState). join_of m.0 k.0) c.split_seat-note.ensures.2 c.split_seat-gift.ensures.4) c.load-2.ensures.2 c.read_rest-2.ensures.view in
+    subst (λ (m : SeatState). Disjoint m.0.own c.read_rest-2.new.seat.inner.me.0.own) (sym c.split_seat-gift.ensures.2) met.1
 
 pub returns-clause-seats : goal.returns-clause-seats
 returns-clause-seats g c = (
