@@ -1,13 +1,15 @@
 #!/usr/bin/python3
-"""Draws what docs/speed/shared.txt has: docs/speed/threads.svg and docs/speed/keys.svg.
+"""Draws docs/speed/all.svg, the picture at the top of docs/SPEED.md, and prints the table above it, of what docs/speed/all.txt has.
 
-    tools/plots.py
+    tools/plots.py [FOLDER]
 
-It needs matplotlib (Debian: python3-matplotlib, for the system's python3). Each point is the middle of all rounds.
+It needs matplotlib (Debian: python3-matplotlib, for the system's python3). Each point is the middle of all rounds; the table has the
+best round and the middle one, as ratios to dashmap. With a FOLDER it reads all.txt there and writes all.svg there.
 """
 import collections
 import pathlib
 import statistics
+import sys
 
 import matplotlib
 
@@ -15,76 +17,130 @@ matplotlib.use("svg")
 import matplotlib.pyplot as plt
 
 SPEED = pathlib.Path(__file__).resolve().parent.parent / "docs" / "speed"
-# A table's line: the same colour and mark in each picture.
+BASE = "dashmap"
+# Each table's words in the table and the legend, and its line: a hue for a kind of table, dashes for boxes.
 TABLES = {
-    "shared-in-place": ("LockFreeRawTable, InPlace", "#1f77b4", "o-"),
-    "shared": ("LockFreeRawTable, Box", "#1f77b4", "o--"),
-    "shared-set": ("SharedSet, InPlace", "#17becf", "^-"),
-    "sharded": ("16 shards of it, Box", "#9467bd", "s--"),
     "held-in-place": ("HeldRawTable, InPlace", "#2ca02c", "v-"),
     "held": ("HeldRawTable, Box", "#2ca02c", "v--"),
-    "held-set": ("HeldSet, InPlace", "#17becf", "^--"),
+    "held-set": ("HeldSet, InPlace", "#8c564b", "^-"),
+    "shared-in-place": ("LockFreeRawTable, InPlace", "#1f77b4", "o-"),
+    "shared": ("LockFreeRawTable, Box", "#1f77b4", "o--"),
+    "shared-set": ("SharedSet, InPlace", "#9467bd", "s-"),
     "dashmap": ("dashmap, Box", "#d62728", "x-"),
-    "rwlock-HashSet": ("RwLock<HashSet>, Box", "#7f7f7f", "+-"),
-    "std-HashSet": ("HashSet, Box", "#bcbd22", "d-"),
+    "rwlock-HashSet": ("RwLock of a HashSet, Box", "#7f7f7f", "+-"),
+    "std-HashSet": ("std HashSet, Box", "#bcbd22", "d-"),
+    "tbb-unordered_set": ("TBB unordered_set", "#ff7f0e", "*-"),
+    "libcuckoo": ("libcuckoo", "#e377c2", "p-"),
+    "urcu-lfht-presized": ("liburcu, buckets made ahead", "#17becf", "h-"),
 }
-WORKS = [("e_ins", "inserts of new keys"), ("d_same", "inserts of keys that are there"), ("f_hit", "look-ups that find")]
-LOOKS = [("ins", "a_ins1", "inserts"), ("hit", "b_hit1", "look-ups that find"), ("miss", "c_miss1", "look-ups that don't")]
 COUNTS = [1, 2, 3, 4]
 SIZES = {10**4: "1e4", 10**5: "1e5", 10**6: None, 10**7: "1e7"}
+WORKS = [("e_ins", "inserts of new keys"), ("d_same", "inserts of keys that are there"), ("f_hit", "look-ups that find")]
+LOOKS = [("ins", "a_ins1", "inserts"), ("hit", "b_hit1", "look-ups that find"), ("miss", "c_miss1", "look-ups that don't")]
+COLUMNS = [("a_ins1", "insert"), ("b_hit1", "hit"), ("c_miss1", "miss"), ("seq_ins1", "insert in order"), ("seq_hit1", "hit in order"),
+           ("e_ins4", "insert, 4 threads"), ("d_same4", "insert of what is there, 4"), ("f_hit4", "hit, 4 threads")]
 
 
-def middles():
-    """The middle number of each table's measurements."""
+def numbers(folder):
+    """The numbers of all rounds, by table and measurement."""
     found = collections.defaultdict(lambda: collections.defaultdict(list))
-    for line in (SPEED / "shared.txt").read_text(encoding="ascii").splitlines():
-        name, measurement, number = line.split()
-        found[name][measurement].append(float(number))
-    return {name: {it: statistics.median(numbers) for it, numbers in of.items()} for name, of in found.items()}
+    for line in (folder / "all.txt").read_text(encoding="ascii").splitlines():
+        if not line.startswith("#"):
+            name, measurement, number = line.split()
+            found[name][measurement].append(float(number))
+    return found
 
 
-def draw(panels, points_of, x_label, is_log, file):
-    """One panel a work, one line a table. Where no table has a point nothing is drawn."""
-    figure, axes = plt.subplots(1, len(panels), figsize=(12, 4.6))
+def by_threads(of, work):
+    named = {count: f"{work[0]}{count}" for count in COUNTS}
+    return [(count, statistics.median(of[it])) for count, it in named.items() if it in of]
+
+
+def by_keys(of, look):
+    named = {keys: f"{look[0]}_{size}" if size else look[1] for keys, size in SIZES.items()}
+    return [(keys, statistics.median(of[it])) for keys, it in named.items() if it in of]
+
+
+def draw_lines(axis, found, panel, points_of, drawn):
+    """One line a table."""
+    for name, (words, colour, style) in TABLES.items():
+        points = points_of(found[name], panel) if name in found else []
+        if points:
+            (drawn[words],) = axis.plot(*zip(*points), style, color=colour, markersize=6)
+    axis.set_yscale("log")
+    low, high = axis.get_ylim()
+    axis.set_ylim(min(low, high / 5), high)
+    axis.yaxis.set_major_locator(matplotlib.ticker.LogLocator(subs=(1, 2, 5)))
+    axis.yaxis.set_major_formatter(matplotlib.ticker.FormatStrFormatter("%g"))
+    axis.yaxis.set_minor_formatter(matplotlib.ticker.NullFormatter())
+    axis.set_ylabel("ns an operation")
+    axis.grid(True, which="major", alpha=0.3)
+
+
+def draw_bars(axis, found, look):
+    """One bar a table, of a million keys: hatched where values are boxes."""
+    shown = [name for name in TABLES if look[1] in found.get(name, {})]
+    middles = [statistics.median(found[name][look[1]]) for name in shown]
+    colours = [TABLES[name][1] for name in shown]
+    for at, (name, middle, colour) in enumerate(zip(shown, middles, colours)):
+        hatch = "" if "InPlace" in TABLES[name][0] else "///"
+        axis.barh(at, middle, color=colour, alpha=0.75, hatch=hatch, edgecolor="white")
+        axis.text(middle, at, f" {middle:.0f}", va="center", fontsize=8)
+    axis.set_yticks(range(len(shown)), [TABLES[name][0] for name in shown], fontsize=8)
+    axis.invert_yaxis()
+    axis.set_xlim(0, max(middles) * 1.15)
+    axis.set_xlabel("ns an operation, one thread, 10^6 keys")
+
+
+def draw(found, file):
+    """Above a million keys by one thread to four; below one thread, on ten thousand keys to ten million where those were measured."""
+    has_keys = any(len(by_keys(of, look)) > 1 for of in found.values() for look in LOOKS)
+    figure, axes = plt.subplots(2, 3, figsize=(13, 9))
     drawn = {}
-    for axis, panel in zip(axes, panels):
-        for name, (words, colour, style) in TABLES.items():
-            points = points_of(name, panel)
-            if points:
-                (drawn[words],) = axis.plot(*zip(*points), style, color=colour)
-        axis.set_title(panel[-1])
-        axis.set_xlabel(x_label)
-        axis.set_ylabel("nanoseconds an operation")
-        axis.set_yscale("log")
-        axis.grid(True, which="both", alpha=0.25)
-        if is_log:
+    for axis, work in zip(axes[0], WORKS):
+        draw_lines(axis, found, work, by_threads, drawn)
+        axis.set_title(work[-1])
+        axis.set_xticks(COUNTS)
+        axis.set_xlabel("threads at once, " + ("10^4 keys" if work[0] == "d_same" else "10^6 keys"))
+    for axis, look in zip(axes[1], LOOKS):
+        axis.set_title(look[-1])
+        if has_keys:
+            draw_lines(axis, found, look, by_keys, drawn)
             axis.set_xscale("log")
+            axis.set_xlabel("keys, one thread")
         else:
-            axis.set_xticks(COUNTS)
-    if not drawn:
-        plt.close(figure)
-        return
-    figure.legend(drawn.values(), drawn.keys(), loc="lower center", ncol=4)
-    figure.tight_layout(rect=(0, 0.13, 1, 1))
-    figure.savefig(SPEED / file)
+            draw_bars(axis, found, look)
+    figure.suptitle("Nanoseconds an operation, all threads together: less is better")
+    figure.legend(drawn.values(), drawn.keys(), loc="lower center", ncol=4, frameon=False, handlelength=4)
+    figure.tight_layout(rect=(0, 0.03 + 0.025 * ((len(drawn) + 3) // 4), 1, 1))
+    figure.savefig(file, metadata={"Date": None})
+
+
+def ratio(of, base, measurement):
+    if measurement not in of or measurement not in base:
+        return ""
+    return ", ".join(f"{least(of[measurement]) / least(base[measurement]):.2f}" for least in (min, statistics.median))
+
+
+def table(found):
+    """The table of ratios to the base, of the best rounds and of the middle ones, with the bytes of an entry."""
+    rows = [f"| ratio to {BASE} | " + " | ".join(words for _, words in COLUMNS) + " | bytes an entry |", "|---" * (len(COLUMNS) + 2) + "|"]
+    for name, (words, _, _) in TABLES.items():
+        if name in found:
+            of = found[name]
+            bytes_each = f"{min(of['g_rss']):.0f}" if "g_rss" in of else ""
+            cells = [ratio(of, found[BASE], it) for it, _ in COLUMNS]
+            rows.append(f"| {words} | " + " | ".join(cells) + f" | {bytes_each} |")
+    return "\n".join(rows)
 
 
 def main():
+    folder = pathlib.Path(sys.argv[1]) if len(sys.argv) > 1 else SPEED
     matplotlib.rcParams["svg.hashsalt"] = "tables"
-    found = middles()
-
-    def by_threads(name, work):
-        of = found.get(name, {})
-        return [(count, of[f"{work[0]}{count}"]) for count in COUNTS if f"{work[0]}{count}" in of]
-
-    def by_keys(name, look):
-        of = found.get(name, {})
-        named = {keys: f"{look[0]}_{size}" if size else look[1] for keys, size in SIZES.items()}
-        points = [(keys, of[it]) for keys, it in named.items() if it in of]
-        return points if len(points) > 1 else []
-
-    draw(WORKS, by_threads, "threads", False, "threads.svg")
-    draw(LOOKS, by_keys, "keys", True, "keys.svg")
+    matplotlib.rcParams["svg.fonttype"] = "path"
+    found = numbers(folder)
+    draw(found, folder / "all.svg")
+    print(table(found))
 
 
 if __name__ == "__main__":
