@@ -4,6 +4,6 @@ use Rattle.interner.proofs.interner.Interner.intern_alone.Goals.{in-Ok-add, in-E
 
 pub returns-clause-different : goal.returns-clause-different
 returns-clause-different g c = elim c.match-add.branch [
-    | in-Ok-add w ↦ rw w.in-Ok-add.ensures.added (different_push c.self.inside.texts _ c.number_by_hash.ensures.different (rw c.in-Ok.ensures.ok c.in_default.ensures.finds))
-    | in-Err w ↦ rw w.in-Err.ensures.unchanged c.number_by_hash.ensures.different
-  ]
+  | in-Ok-add w ↦ rw w.in-Ok-add.ensures.added (different_push c.self.inside.texts _ c.number_by_hash.ensures.different (rw c.in-Ok.ensures.ok c.in_default.ensures.finds))
+  | in-Err w ↦ rw w.in-Err.ensures.unchanged c.number_by_hash.ensures.different
+]
