@@ -2,6 +2,7 @@
 use Rattle.std.specs.Prelude.{ℕ, ◌+◌, ◌/◌, ◌%◌, ◌==◌, ◌&&◌, ◌||◌, nat_lt, if◌then◌else◌, Bool}
 use Rattle.std.specs.Prelude.{true, false, Option, Some, None, List, [], ◌∷◌}
 use Rattle.std.specs.List.{find, list_any}
+use Rattle.std.specs.Option.{option_map}
 use Rattle.table_core.specs.declared.call.Phase.{Phase}
 use Rattle.table_core.specs.declared.call.Phase.TheVariants.{WantShared, Shared, Probe, AtEmpty}
 use Rattle.table_core.specs.declared.call.Phase.TheVariants.{Placed, LeaveOk, LeaveGrow}
@@ -83,6 +84,10 @@ is_used_value v calls = list_any (λ c. is_value v c.value) calls
 -- the call of this number
 abbrev pub call_numbered : ℕ → List Call → Option Call
 call_numbered n calls = find (λ c. c.number == n) calls
+
+-- where the call of this number stands
+abbrev pub state_of : ℕ → List Call → Option CallState
+state_of n calls = option_map (λ c. c.state) (call_numbered n calls)
 
 -- the calls, with this one in the place of the one of its number
 abbrev pub replaced : Call → List Call → List Call

@@ -2,7 +2,7 @@
 ghost use Rattle.std.specs.Prelude.{◌≡◌, ℕ, nat_eq, ◌||◌, ◌≤◌, ◌<◌, ◌+◌, ◌^◌, ◌++◌, ◌∷◌, [], Option, Some, None, false, length, slice_set, vec_len, OnOk, OnErr};
 ghost use Rattle.std.specs.HashSet as set;
 ghost use Rattle.std.specs.List.{slice_get};
-ghost use Rattle.table_core.specs.Calls.{new_call, is_used, is_value, is_used_value, is_owned, is_locked, holds_shared, holds_owned, Call as SpecCall};
+ghost use Rattle.table_core.specs.Calls.{new_call, state_of, is_used, is_value, is_used_value, is_owned, is_locked, holds_shared, holds_owned, Call as SpecCall};
 ghost use Rattle.table_core.specs.Steps.{IsNewValue};
 ghost use Rattle.table_core.specs.Bound.{position_of, one_if};
 
@@ -195,11 +195,21 @@ impl<A: Allocator + Copy> Calls<A> {
         }
     }
 
-    /// Where the call of a number stands.
+    /// The place of the call of a number.
     pub fn position(&self, number: u64) -> Option<usize>
         ensures { result ≡ position_of number self.now }
     {
         self.positions.get(&number).copied()
+    }
+
+    /// Where the call of a number stands, if there is one.
+    pub fn state_of(&self, number: u64) -> Option<CallState>
+        ensures { result ≡ state_of number self.now }
+    {
+        match self.position(number) {
+            Some(at) => Some(self.get(at).state()),
+            None => None,
+        }
     }
 
     /// Whether a call has this number.

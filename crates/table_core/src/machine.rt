@@ -6,7 +6,7 @@ ghost use Rattle.table_core.specs.Replies.{ReplyWalk, reply_of};
 ghost use Rattle.table_terms.specs.Capacities.{IsFirstCapacity};
 ghost use Rattle.table_core.specs.Generations.{next_copied};
 ghost use Rattle.table_core.specs.History.{buckets};
-ghost use Rattle.table_core.specs.Calls.{Call as SpecCall, decide as after_answer, new_call, fits, holds_shared, holds_owned};
+ghost use Rattle.table_core.specs.Calls.{Call as SpecCall, decide as after_answer, new_call, state_of, fits, holds_shared, holds_owned};
 ghost use Rattle.table_core.specs.Machine.{empty, happens, finishes, finds, takes_unless, holds, read, read_unasked, exchanged, sized, finds_copy, finds_show, released_after_failure};
 ghost use Rattle.table_core.specs.Machine.{walked_gen, walked_entry, with_entry, takes_memory, finding_takes_memory, AsksMemory, kept_list, call_after, bucket_of as bucket_stood_at, place, changed};
 ghost use Rattle.table_core.specs.Machine.{refused, by_outcome, by_failure, lookup_reply, last_reply, reply_at_end, reply};
@@ -275,6 +275,13 @@ impl<A: Allocator + Copy> Machine<A> {
         ensures { result ≡ buckets self.now.table }
     {
         self.table.buckets()
+    }
+
+    /// Where the call of a number stands, if there is one.
+    pub fn state_of(&self, call: u64) -> Option<CallState>
+        ensures { result ≡ state_of call self.now.calls }
+    {
+        self.calls.state_of(call)
     }
 
     /// What an event of a call finds; nothing where it has no place in the call's phase, or has to

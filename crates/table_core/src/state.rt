@@ -1,9 +1,11 @@
 //! The machine as its users see it, and whole schedules.
 ghost use Rattle.std.specs.Prelude.{◌≡◌, ◌++◌, option_to_list, OnOk, OnErr, IfOk};
 ghost use Rattle.table_terms.specs.Capacities.{IsFirstCapacity};
+ghost use Rattle.table_core.specs.Calls.{state_of};
 ghost use Rattle.table_core.specs.History.{replies, buckets};
 ghost use Rattle.table_core.specs.Machine.{empty, happens, finishes, AsksMemory};
 
+use crate::call::CallState;
 use crate::event::Event;
 use crate::machine::Machine;
 use crate::reply::Finished;
@@ -73,6 +75,13 @@ impl<A: Allocator + Copy> State<A> {
     {
         let finished = self.machine.step(event)?;
         Ok(finished)
+    }
+
+    /// Where the call of a number stands, if one has begun. It changes nothing.
+    pub fn state_of(&self, call: u64) -> Option<CallState>
+        ensures { result ≡ state_of call self.now.calls }
+    {
+        self.machine.state_of(call)
     }
 
     /// How many buckets all generations have together, the one being built included.

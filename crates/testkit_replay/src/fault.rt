@@ -14,6 +14,10 @@ pub enum Fault {
         table: Option<Said>,
         machine: Option<Said>,
     },
+    /// This call stands elsewhere in the table than in the machine: in another phase, at another bucket, or still blocked.
+    Stands {
+        call: u64,
+    },
     /// The lengths, the walks or the numbers of buckets aren't the same.
     Length,
     Walk,

@@ -4,6 +4,7 @@ ghost use Rattle.table_terms.specs.Capacities.{IsFirstCapacity};
 use crate::fault::Fault;
 use crate::item::Said;
 use std::alloc::Global;
+use table_core::call::CallState;
 use table_core::event::Event;
 use table_core::reply::{Finished, Reply};
 use table_core::state::State;
@@ -36,6 +37,11 @@ impl Machine {
     /// Takes one event: the call that finishes by it.
     pub fn take(&mut self, event: Event) -> Result<Option<Finished>, Fault> {
         Ok(self.state.step(event)?)
+    }
+
+    /// Where the call of this number stands, if it has begun.
+    pub fn state_of(&self, call: u64) -> Option<CallState> {
+        self.state.state_of(call)
     }
 
     /// How many buckets all generations have.

@@ -190,6 +190,7 @@ impl<
         };
         let finished = self.machine.take(event)?;
         compare(call, took, &finished)?;
+        self.compare_state(index)?;
         self.compare_length()?;
         Ok(took)
     }
@@ -273,7 +274,8 @@ impl<
         };
         let before = self.phase_at(index);
         if !takes(before, event) {
-            return compare(call, Took::Blocked, &finished);
+            compare(call, Took::Blocked, &finished)?;
+            return self.compare_state(index);
         }
         let answers = answers_of(event);
         script.begin(answers.accepted, answers.hash, 0);
@@ -281,12 +283,25 @@ impl<
         let took = self.advance_at(index);
         memory.refuse(0, 0);
         compare(call, took, &finished)?;
+        self.compare_state(index)?;
         let copied = self.phase_at(index) == Phase::Building;
         match event {
             Event::Copy { .. } if !copied => Err(Fault::Step { call }),
             Event::Show { .. } if copied => Err(Fault::Step { call }),
             _ => Ok(()),
         }
+    }
+
+    /// The call at this place stands where the machine's call of its number does.
+    fn compare_state(&self, index: usize) -> Result<(), Fault> {
+        let Some(running) = self.calls.get(index) else {
+            return Ok(());
+        };
+        let call = running.call;
+        if self.machine.state_of(call) == Some(running.state()) {
+            return Ok(());
+        }
+        Err(Fault::Stands { call })
     }
 
     /// The table and the machine count as many entries, show them in one order, and have as many buckets.
