@@ -27,8 +27,12 @@ pub enum Course<'c> {
         steps: (u64, u64),
         most: u64,
     },
-    /// These events one after the other. Where there is none, the numbers of buckets are compared.
-    Events(&'c [Option<Event>]),
+    /// These events one after the other. Where there is none, the numbers of buckets are compared. Of a call that is named here
+    /// the class of its value, or of what it looks for, is this one; else it is the number of its value, or 0.
+    Events {
+        events: &'c [Option<Event>],
+        classes: &'c [(u64, u64)],
+    },
 }
 
 /// Runs a course on a table and on the machine, whose first generations have `first` buckets. Closures answer in this manner, and
@@ -83,20 +87,27 @@ impl<
                 self.fill(hashes)?;
                 self.cut(asks, steps, most)
             }
-            Course::Events(events) => self.follow_all(events),
+            Course::Events { events, classes } => self.follow_all(events, classes),
         }
     }
 
-    /// Follows these events one after the other. Where there is none, the numbers of buckets are compared.
-    fn follow_all(&mut self, events: &[Option<Event>]) -> Result<(), Fault>
+    /// Follows these events one after the other, by calls of these classes. Where there is none, the numbers of buckets are
+    /// compared.
+    fn follow_all(&mut self, events: &[Option<Event>], classes: &[(u64, u64)]) -> Result<(), Fault>
         requires ready { IsReady E.IsAlwaysCallable H.IsAlwaysCallable F.IsAlwaysCallable E.Fn self.old }
     {
         for event in events {
             match event {
-                Some(event) => self.follow(*event)?,
+                Some(event) => self.follow(*event, class_of(classes, event.call()))?,
                 None => self.compare_buckets()?,
             }
         }
         self.compare_all()
     }
+}
+
+/// The class that is given to a call.
+fn class_of(classes: &[(u64, u64)], call: u64) -> Option<u64> {
+    let (_call, class) = classes.iter().find(|given: &&(u64, u64)| given.0 == call)?;
+    Some(*class)
 }

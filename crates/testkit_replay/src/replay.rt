@@ -130,6 +130,14 @@ impl<
         }
     }
 
+    /// The class of the value of the call at this place, or of what it looks for.
+    fn class_at(&self, index: usize) -> u64 {
+        match self.calls.get(index) {
+            Some(running) => running.class,
+            None => 0,
+        }
+    }
+
     /// What the call at this place was told at its end.
     pub fn said_at(&self, index: usize) -> Option<Said> {
         self.calls.get(index)?.said
@@ -227,8 +235,9 @@ impl<
         Err(Fault::Unfinished)
     }
 
-    /// One event of a schedule, on the machine and on the table.
-    pub fn follow(&mut self, event: Event) -> Result<(), Fault>
+    /// One event of a schedule, on the machine and on the table. A call that it begins is of this class: if none is given, of that
+    /// of its value's number, or of 0.
+    pub fn follow(&mut self, event: Event, class: Option<u64>) -> Result<(), Fault>
         requires ready { IsReady E.IsAlwaysCallable H.IsAlwaysCallable F.IsAlwaysCallable E.Fn self.old }
         ensures ready { IsReady E.IsAlwaysCallable H.IsAlwaysCallable F.IsAlwaysCallable E.Fn self.new }
     {
@@ -237,11 +246,11 @@ impl<
                 call,
                 Item {
                     number: value,
-                    class: value,
+                    class: class.unwrap_or(value),
                     hash,
                 },
             ),
-            Event::Lookup { call, hash } => self.lookup(call, 0, hash),
+            Event::Lookup { call, hash } => self.lookup(call, class.unwrap_or(0), hash),
             Event::Len { call } | Event::Walk { call } => {
                 self.machine.take(event)?;
                 self.numbers.push(call)?;
@@ -278,7 +287,7 @@ impl<
             return self.compare_state(index);
         }
         let answers = answers_of(event);
-        script.begin(answers.accepted, answers.hash, 0);
+        script.begin(answers.accepted, answers.hash, self.class_at(index));
         memory.refuse(0, if answers.granted { 0 } else { 1 });
         let took = self.advance_at(index);
         memory.refuse(0, 0);

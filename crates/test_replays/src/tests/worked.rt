@@ -25,14 +25,50 @@ fn events_of(alloc: Global, lines: &str) -> Result<Vec<Option<Event>>, Fail> {
     Ok(events)
 }
 
-/// A worked schedule tells the same on a table and on the machine.
-fn assert_followed(rt: &impl Abort, alloc: Global, row: &Row) -> Result<(), Fail> {
+/// Of each worked schedule the calls whose value is equal to another one, or that look for one, with its class: that is the
+/// number of the first of its values. All other values are different.
+const CLASSES: [&[(u64, u64)]; 21] = [
+    &[(2, 10)],
+    &[(2, 10)],
+    &[(2, 10), (4, 10)],
+    &[],
+    &[],
+    &[(20, 18), (21, 18)],
+    // It looks for what it would find under another hash: nobody asks.
+    &[(2, 10)],
+    &[],
+    &[(2, 10)],
+    &[],
+    &[],
+    &[],
+    &[],
+    &[],
+    &[],
+    &[],
+    &[(21, 10)],
+    &[],
+    &[],
+    &[],
+    &[],
+];
+
+/// A worked schedule tells the same on a table and on the machine, with closures that answer in this manner.
+fn assert_followed(
+    rt: &impl Abort,
+    alloc: Global,
+    row: &Row,
+    manner: Manner,
+    classes: &[(u64, u64)],
+) -> Result<(), Fail> {
     let (first, parts, _printed) = *row;
     assert!(rt; is_first_capacity(first));
     let lines = lines_of(alloc, parts)?;
     let events = events_of(alloc, lines.as_str())?;
-    let course = Course::Events(events.as_slice());
-    let followed = run_course(alloc, first, Manner::Told, 0, course);
+    let course = Course::Events {
+        events: events.as_slice(),
+        classes,
+    };
+    let followed = run_course(alloc, first, manner, 0, course);
     assert_eq!(rt; followed, Ok(()), "{parts:?}");
     Ok(())
 }
@@ -40,7 +76,15 @@ fn assert_followed(rt: &impl Abort, alloc: Global, row: &Row) -> Result<(), Fail
 #[test]
 fn worked_schedules_on_a_table(rt: HostRuntime) -> Result<(), Fail> {
     for row in &SCHEDULES {
-        assert_followed(&rt, rt.alloc(), row)?;
+        assert_followed(&rt, rt.alloc(), row, Manner::Told, &[])?;
+    }
+    Ok(())
+}
+
+#[test]
+fn worked_schedules_of_values_in_classes(rt: HostRuntime) -> Result<(), Fail> {
+    for (row, classes) in SCHEDULES.iter().zip(CLASSES) {
+        assert_followed(&rt, rt.alloc(), row, Manner::Lawful, classes)?;
     }
     Ok(())
 }
