@@ -1,5 +1,7 @@
 //! Output that is kept in a block until it is sent.
-ghost use Rattle.std.specs.Prelude.{◌≡◌, ◌≤◌};
+ghost use Rattle.std.specs.Prelude.{◌≡◌, ◌≤◌, None, IfErr};
+ghost use Rattle.std.specs.Io.KnownBytes.{Keeps, WriteAppends};
+ghost use Rattle.std.specs.Io.{WritesAtMost};
 ghost use Rattle.tool_streams.specs.declared.blocks.TheConstants.{BLOCK};
 
 use crate::blocks::{BLOCK, empty_block};
@@ -18,8 +20,12 @@ pub struct Output<W> {
 }
 
 impl<W: Write> Output<W> {
+    ghost use Rattle.tool_streams.specs.Output.{KeepsNothing};
+
     /// Output to this writer, with nothing kept yet.
-    pub fn new(writer: W) -> Output<W> {
+    pub fn new(writer: W) -> Output<W>
+        ensures { KeepsNothing result }
+    {
         Output {
             writer,
             block: empty_block(),
@@ -35,8 +41,10 @@ impl<W: Write> Output<W> {
         self.reader_gone
     }
 
-    /// Writes what is kept. After a failure some of it may have been written.
-    fn send(&mut self) -> io::Result<()> {
+    /// Writes what is kept, and keeps nothing then, whatever the writer answers. After a failure some of it may have been written.
+    fn send(&mut self) -> io::Result<()>
+        ensures kept { KeepsNothing self.new }
+    {
         let kept = self.kept;
         self.kept = 0;
         let sent = self.writer.write_all(&self.block[..kept]);
@@ -55,7 +63,14 @@ impl<W: Write> Output<W> {
 }
 
 impl<W: Write> Write for Output<W> {
-    fn write(&mut self, bytes: &[u8]) -> io::Result<usize> {
+    ghost use Rattle.tool_streams.specs.Output.{KeepsNothing};
+
+    /// Keeps as many of the bytes as the block has room for, and sends a full block first. Where that fails, nothing is kept.
+    fn write(&mut self, bytes: &[u8]) -> io::Result<usize>
+        ensures bound { WritesAtMost result bytes.now }
+        ensures bytes { WriteAppends None None result bytes.now }
+        ensures kept { IfErr result (λ _. KeepsNothing self.new) }
+    {
         if self.kept == BLOCK {
             self.send()?;
         }
@@ -66,8 +81,11 @@ impl<W: Write> Write for Output<W> {
         Ok(taken)
     }
 
-    /// Sends what is kept on, and makes no call where nothing is.
-    fn flush(&mut self) -> io::Result<()> {
+    /// Sends what is kept on, and makes no call where nothing is. Nothing is kept then, whatever the writer answers.
+    fn flush(&mut self) -> io::Result<()>
+        ensures bytes { Keeps None None }
+        ensures kept { KeepsNothing self.new }
+    {
         if self.kept == 0 {
             return Ok(());
         }
