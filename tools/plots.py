@@ -1,10 +1,13 @@
 #!/usr/bin/python3
-"""Draws docs/speed/all.svg, the picture at the top of docs/SPEED.md, and prints the table above it, of what docs/speed/all.txt has.
+"""Draws two pictures of what docs/speed/all.txt has, and prints the table at the top of docs/SPEED.md.
 
     tools/plots.py [FOLDER]
 
+docs/speed/all.svg, below that table, shows a million keys: by one thread to four, and by one alone. docs/speed/sizes.svg shows ten
+thousand keys to ten million by one thread, a line a table; it is drawn where a table was measured with several numbers of keys.
+
 It needs matplotlib (Debian: python3-matplotlib, for the system's python3). Each point is the middle of all rounds; the table has the
-best round and the middle one, as ratios to dashmap. With a FOLDER it reads all.txt there and writes all.svg there.
+best round and the middle one, as ratios to dashmap. With a FOLDER it reads all.txt there and draws there.
 """
 import collections
 import pathlib
@@ -88,13 +91,12 @@ def draw_bars(axis, found, look):
         axis.text(middle, at, f" {middle:.0f}", va="center", fontsize=8)
     axis.set_yticks(range(len(shown)), [TABLES[name][0] for name in shown], fontsize=8)
     axis.invert_yaxis()
-    axis.set_xlim(0, max(middles) * 1.15)
+    axis.set_xlim(0, max(middles, default=1) * 1.15)
     axis.set_xlabel("ns an operation, one thread, 10^6 keys")
 
 
-def draw(found, file):
-    """Above a million keys by one thread to four; below one thread, on ten thousand keys to ten million where those were measured."""
-    has_keys = any(len(by_keys(of, look)) > 1 for of in found.values() for look in LOOKS)
+def draw_threads(found, file):
+    """A million keys: above by one thread to four, below by one."""
     figure, axes = plt.subplots(2, 3, figsize=(13, 9))
     drawn = {}
     for axis, work in zip(axes[0], WORKS):
@@ -104,15 +106,30 @@ def draw(found, file):
         axis.set_xlabel("threads at once, " + ("10^4 keys" if work[0] == "d_same" else "10^6 keys"))
     for axis, look in zip(axes[1], LOOKS):
         axis.set_title(look[-1])
-        if has_keys:
-            draw_lines(axis, found, look, by_keys, drawn)
-            axis.set_xscale("log")
-            axis.set_xlabel("keys, one thread")
-        else:
-            draw_bars(axis, found, look)
-    figure.suptitle("Nanoseconds an operation, all threads together: less is better")
+        draw_bars(axis, found, look)
+    finish(figure, drawn, "Nanoseconds an operation, all threads together: less is better", file)
+
+
+def draw_sizes(found, file):
+    """One thread, ten thousand keys to ten million."""
+    figure, axes = plt.subplots(1, 3, figsize=(13, 6))
+    drawn = {}
+    for axis, look in zip(axes, LOOKS):
+        draw_lines(axis, found, look, by_keys, drawn)
+        axis.set_title(look[-1])
+        axis.set_xscale("log")
+        axis.set_xlim(min(SIZES) / 2, max(SIZES) * 2)
+        axis.set_xticks(list(SIZES))
+        axis.set_xlabel("keys")
+    finish(figure, drawn, "Nanoseconds an operation, one thread: less is better", file)
+
+
+def finish(figure, drawn, title, file):
+    """Writes the picture, with a legend of what was drawn below it."""
+    figure.suptitle(title)
     figure.legend(drawn.values(), drawn.keys(), loc="lower center", ncol=4, frameon=False, handlelength=4)
-    figure.tight_layout(rect=(0, 0.03 + 0.025 * ((len(drawn) + 3) // 4), 1, 1))
+    inches = 0.27 + 0.225 * ((len(drawn) + 3) // 4)
+    figure.tight_layout(rect=(0, inches / figure.get_figheight(), 1, 1))
     figure.savefig(file, metadata={"Date": None})
 
 
@@ -139,7 +156,9 @@ def main():
     matplotlib.rcParams["svg.hashsalt"] = "tables"
     matplotlib.rcParams["svg.fonttype"] = "path"
     found = numbers(folder)
-    draw(found, folder / "all.svg")
+    draw_threads(found, folder / "all.svg")
+    if any(len(by_keys(of, look)) > 1 for of in found.values() for look in LOOKS):
+        draw_sizes(found, folder / "sizes.svg")
     print(table(found))
 
 
