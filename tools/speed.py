@@ -9,7 +9,7 @@
                                             held, seats, core or interner (of raw.txt, as plain-rust, plain-atomics, core,
                                             plain-interner)
 
-`tools/plots.py` prints the table at the top of docs/SPEED.md and draws its picture, of what docs/speed/all.txt has.
+`tools/plots.py` prints the table at the top of docs/SPEED.md and draws pictures, of what docs/speed/all.txt has.
 
 A PROGRAM answers `PROGRAM list` with the names of its tables, one a line, and `PROGRAM NAME GROUP` with lines
 `NAME MEASUREMENT NUMBER`; it may be several words in quotes, as "tool_checks bench". Each group runs in a process of its own; every
@@ -31,8 +31,9 @@ LARGE = "1e7"
 LARGE_ROUNDS = 2
 # The groups of each table in `all`: those that its program knows.
 GROUPS_OF_ALL = {name: ["one", "seq", *SIZES] for name in ("held", "held-in-place", "held-set", "std-HashSet")}
-GROUPS_OF_ALL |= {name: ["one", "seq", *THREADED] for name in ("shared", "shared-in-place", "shared-set")}
-GROUPS_OF_ALL |= {name: ["one", "seq", *THREADED, *SIZES] for name in ("dashmap", "rwlock-HashSet")}
+GROUPS_OF_ALL |= {
+    name: ["one", "seq", *THREADED, *SIZES] for name in ("shared", "shared-in-place", "shared-set", "dashmap", "rwlock-HashSet")
+}
 GROUPS_OF_ALL |= {name: ["one", "seq", "same", "ins"] for name in ("model-direct", "tbb-unordered_set", "libcuckoo", "urcu-lfht-presized")}
 GROUPS_OF_ALL["sharded"] = ["one", "same", "hit"]
 # The kind of each table in `run`, and its groups.

@@ -2,8 +2,9 @@
 ghost use Rattle.std.specs.Prelude.{◌≤◌, ◌^◌};
 
 use crate::numbers::{COUNT, KeySet, spread, turn};
-use crate::report::{Report, refuse_words};
-use crate::sizes::measure_size;
+use crate::report::Report;
+use crate::sizes::measure_sizes;
+use std::alloc::Global;
 use std::num::nearest_u64_to_f64;
 use std::rt::{Clock, Files};
 use std::time::Instant;
@@ -13,24 +14,14 @@ use std::{fs, io};
 const PAGE: u64 = 4096;
 
 /// Runs a group of measurements of a set that one owner holds alone. A group that is not known is refused.
-pub fn measure_held<S: KeySet + Drop, R: Print + Eprint + Clock + Files + AllocGlobal>(
-    rt: &R,
-    report: &Report<'_>,
-    group: &str,
-) -> io::Result<()> {
+pub fn measure_held<
+    S: KeySet<Means = Global> + Drop,
+    R: Print + Eprint + Clock + Files + AllocGlobal,
+>(rt: &R, report: &Report<'_>, group: &str) -> io::Result<()> {
     match group {
         "one" => measure_one(rt, report, S::empty(rt.alloc())),
         "seq" => measure_seq::<S, R>(rt, report),
-        "1e4" => measure_size::<S, R>(rt, report, 10_000, 100, ["ins_1e4", "hit_1e4", "miss_1e4"]),
-        "1e5" => measure_size::<S, R>(rt, report, 100_000, 10, ["ins_1e5", "hit_1e5", "miss_1e5"]),
-        "1e7" => measure_size::<S, R>(
-            rt,
-            report,
-            10_000_000,
-            1,
-            ["ins_1e7", "hit_1e7", "miss_1e7"],
-        ),
-        _ => refuse_words(rt),
+        _ => measure_sizes::<S, R>(rt, report, group, rt.alloc()),
     }
 }
 
@@ -61,7 +52,7 @@ pub(crate) fn measure_one<R: Print + Clock + Files + AllocGlobal, S: KeySet + Dr
 }
 
 /// The keys 0, 1, 2, ..: inserts and hits.
-fn measure_seq<S: KeySet + Drop, R: Print + Clock + AllocGlobal>(
+fn measure_seq<S: KeySet<Means = Global> + Drop, R: Print + Clock + AllocGlobal>(
     rt: &R,
     report: &Report<'_>,
 ) -> io::Result<()> {
@@ -77,7 +68,10 @@ fn measure_seq<S: KeySet + Drop, R: Print + Clock + AllocGlobal>(
 }
 
 /// Each workload once on a set that one owner holds alone, counted and not timed.
-pub fn check_held<S: KeySet + Drop, R: Print + AllocGlobal>(rt: &R, name: &str) -> io::Result<()> {
+pub fn check_held<S: KeySet<Means = Global> + Drop, R: Print + AllocGlobal>(
+    rt: &R,
+    name: &str,
+) -> io::Result<()> {
     let mut set = S::empty(rt.alloc());
     let placed = insert_spread(&mut set);
     let hits = count_spread(&set, 0);

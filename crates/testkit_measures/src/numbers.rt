@@ -40,8 +40,11 @@ pub fn total(counts: &[u64]) -> u64 {
 
 /// A set of numbers that one owner holds alone.
 pub trait KeySet {
+    /// What a set is made with, and works with.
+    type Means: Copy;
+
     /// The empty set.
-    fn empty(alloc: Global) -> Self;
+    fn empty(means: Self::Means) -> Self;
 
     /// Whether the number was placed: it is new, and memory was there.
     fn insert(&mut self, number: u64) -> bool;
@@ -76,6 +79,8 @@ pub struct NumberSet<V: NumberValue> {
 }
 
 impl<V: NumberValue> KeySet for NumberSet<V> {
+    type Means = Global;
+
     fn empty(alloc: Global) -> Self {
         NumberSet {
             table: HeldRawTable::new(alloc),

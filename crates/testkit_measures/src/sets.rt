@@ -15,6 +15,8 @@ pub struct HeldSetKeys<V: NumberValue> {
 }
 
 impl<V: NumberValue> KeySet for HeldSetKeys<V> {
+    type Means = Global;
+
     fn empty(alloc: Global) -> Self {
         HeldSetKeys {
             set: HeldSet::new(alloc),

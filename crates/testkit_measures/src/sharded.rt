@@ -25,6 +25,8 @@ struct ShardSet {
 }
 
 impl KeySet for ShardSet {
+    type Means = Global;
+
     fn empty(alloc: Global) -> Self {
         ShardSet {
             table: HeldShardedTable::new(alloc),

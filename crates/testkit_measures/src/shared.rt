@@ -1,8 +1,9 @@
 //! Measurements of the table that threads share, with one thread to four.
 
 use crate::held::resident_bytes;
-use crate::numbers::{COUNT, NumberValue, spread, total, turn};
+use crate::numbers::{COUNT, KeySet, NumberValue, spread, total, turn};
 use crate::report::{Report, refuse_words};
+use crate::sizes::measure_sizes;
 use std::alloc::{AllocError, Global};
 use std::num::nearest_u64_to_f64;
 use std::rt::{Clock, Files};
@@ -86,8 +87,34 @@ impl<V: NumberValue + Send + Sync> SharedKeys for SharedNumbers<V> {
     }
 }
 
+/// A set that threads may share, held by one of them.
+#[derive(Drop)]
+struct ByOneThread<'a, S: SharedKeys, R> {
+    set: S,
+    rt: &'a R,
+}
+
+impl<'a, S: SharedKeys, R: Wait + AllocGlobal> KeySet for ByOneThread<'a, S, R> {
+    type Means = &'a R;
+
+    fn empty(rt: &'a R) -> Self {
+        ByOneThread {
+            set: S::empty(rt.alloc()),
+            rt,
+        }
+    }
+
+    fn insert(&mut self, number: u64) -> bool {
+        self.set.insert(self.rt, number)
+    }
+
+    fn contains(&self, number: u64) -> bool {
+        self.set.contains(number)
+    }
+}
+
 /// Runs a group of measurements of a set that threads share: those of several threads with so many, or with one to four in
-/// turn. A group that is not known is refused, and so is another number of threads.
+/// turn. A group that is not known is refused, and so is another number of threads, or any with a group of one thread.
 pub fn measure_shared<
     S: SharedKeys + Sync + Drop,
     R: Print + Eprint + Clock + Files + Threads + Wait + Sync + AllocGlobal,
@@ -98,6 +125,7 @@ pub fn measure_shared<
         ("same", _) => measure_work::<R, S>(rt, report, Work::Same, threads),
         ("ins", _) => measure_work::<R, S>(rt, report, Work::Inserts, threads),
         ("hit", _) => measure_work::<R, S>(rt, report, Work::Hits, threads),
+        (_, None) => measure_sizes::<ByOneThread<'_, S, R>, R>(rt, report, group, rt),
         _ => refuse_words(rt),
     }
 }

@@ -1,9 +1,8 @@
-//! Measurements of a set that one owner holds alone with fewer keys than a million, and with more.
+//! Measurements of a set by one thread with fewer keys than a million, and with more.
 ghost use Rattle.std.specs.Prelude.{◌<◌};
 
 use crate::numbers::{KeySet, START, STRIDE, spread};
-use crate::report::Report;
-use std::alloc::Global;
+use crate::report::{Report, refuse_words};
 use std::io;
 use std::rt::Clock;
 use std::time::Instant;
@@ -11,24 +10,61 @@ use std::time::Instant;
 /// The keys that are missed lie so much further on.
 const FURTHER: u64 = 1 << 40;
 
+/// Runs a group of measurements: so many keys. A group that is not known is refused.
+pub(crate) fn measure_sizes<S: KeySet + Drop, R: Print + Eprint + Clock>(
+    rt: &R,
+    report: &Report<'_>,
+    group: &str,
+    means: S::Means,
+) -> io::Result<()> {
+    match group {
+        "1e4" => measure_size::<S, R>(
+            rt,
+            report,
+            10_000,
+            100,
+            ["ins_1e4", "hit_1e4", "miss_1e4"],
+            means,
+        ),
+        "1e5" => measure_size::<S, R>(
+            rt,
+            report,
+            100_000,
+            10,
+            ["ins_1e5", "hit_1e5", "miss_1e5"],
+            means,
+        ),
+        "1e7" => measure_size::<S, R>(
+            rt,
+            report,
+            10_000_000,
+            1,
+            ["ins_1e7", "hit_1e7", "miss_1e7"],
+            means,
+        ),
+        _ => refuse_words(rt),
+    }
+}
+
 /// Spread keys, so many a table: inserts into so many tables, each of which is dropped, then hits and misses of one table, over
 /// all its keys as often.
-pub(crate) fn measure_size<S: KeySet + Drop, R: Print + Clock + AllocGlobal>(
+fn measure_size<S: KeySet + Drop, R: Print + Clock>(
     rt: &R,
     report: &Report<'_>,
     keys: u64,
     rounds: u64,
     names: [&str; 3],
+    means: S::Means,
 ) -> io::Result<()>
     requires { 0 < keys }
 {
     let operations = keys.wrapping_mul(rounds);
 
     let start = Instant::now(rt)?;
-    let placed = fill_tables::<S>(rt.alloc(), keys, rounds);
+    let placed = fill_tables::<S>(means, keys, rounds);
     report.time(rt, names[0], start, placed, operations, operations)?;
 
-    let mut set = S::empty(rt.alloc());
+    let mut set = S::empty(means);
     let _ = fill(&mut set, keys);
 
     let start = Instant::now(rt)?;
@@ -41,10 +77,10 @@ pub(crate) fn measure_size<S: KeySet + Drop, R: Print + Clock + AllocGlobal>(
 }
 
 /// How many keys were placed, of so many in each of so many tables, which are made and dropped one after the other.
-fn fill_tables<S: KeySet + Drop>(alloc: Global, keys: u64, rounds: u64) -> u64 {
+fn fill_tables<S: KeySet + Drop>(means: S::Means, keys: u64, rounds: u64) -> u64 {
     let mut placed: u64 = 0;
     for _round in 0..rounds {
-        let mut set = S::empty(alloc);
+        let mut set = S::empty(means);
         placed = placed.wrapping_add(fill(&mut set, keys));
     }
     placed

@@ -6,8 +6,9 @@
 //!                                                     and accounts for each value; it says each minute what they came to
 //!     tool_checks bench list                          the names of what is measured
 //!     tool_checks bench held GROUP                    the table held alone: one or seq, with a million keys, or 1e4, 1e5 or 1e7
-//!     tool_checks bench shared GROUP [THREADS]        the table that threads share: one or seq, and same, ins or hit with that
-//!                                                     many threads, of four at most, or with one to four in turn
+//!     tool_checks bench shared GROUP                  the table that threads share, by one thread: as the table held alone
+//!     tool_checks bench shared GROUP [THREADS]        by that many threads, of four at most, or by one to four in turn: same,
+//!                                                     ins or hit
 //!     tool_checks bench sharded GROUP                 tables over sixteen shards: one, held alone; same or hit, shared by one
 //!                                                     to four threads in turn
 //!     tool_checks bench seats GROUP                   the number table of seated threads: one, seq, same or ins
