@@ -106,9 +106,10 @@ impl<A: Allocator + Copy> NumberTable<A> {
         NumberAnswer::Full
     }
 
-    /// Whether `v` is in the table. Where the answer is false it was not there at the call's last step.
+    /// Whether `v` is in the table: true exactly where the seat then knows it, and so wherever it knew it before.
     ///
-    /// It reads each bucket of the table at most once.
+    /// Of numbers that other seats placed no clause says when the seat finds them: false promises nothing of these. That a seat
+    /// which was told nothing finds what others placed before is only tested. By the code each bucket is read at most once.
     pub fn contains(&self, seat: &mut Seat, v: NonZeroU64) -> bool
         requires { IsSeatOf self.now seat.old }
         ensures seat { IsSeatOf self.now seat.new }

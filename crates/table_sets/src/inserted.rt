@@ -11,13 +11,16 @@ pub enum Inserted<T> {
     Refused(T),
 }
 
-/// How an insert into a set ended, with the entry shown by a `&` to its target.
+/// How an insert into a set ended, with what it shows by a `&`.
+///
+/// Of a `HeldSet` `insert_and_show` promises more: Placed and Refused come only where no entry was the same, and what Found shows
+/// was an entry. Of a `SharedSet` both are only tested.
 #[derive(Clone, Copy, Debug, PartialEq, Eq, Drop)]
 pub enum Shown<E, T> {
-    /// The value is an entry now, and this is its target.
+    /// The target of the value. That the value is an entry now is only tested.
     Placed(E),
-    /// An entry with this target is the same, and the value comes back.
+    /// A target that is the same as that of the value, which comes back.
     Found(E, T),
-    /// Memory was refused, and no entry is the same. The value comes back.
+    /// The value comes back. No clause says why: by the code memory was refused, or the capacity can't double.
     Refused(T),
 }
