@@ -1,0 +1,99 @@
+-- A set's words, what a thread knows of the set, and what its calls answer.
+use Rattle.std.specs.Prelude.{◌≡◌, ℕ, ◌<◌, ◌++◌, Bool, true, List, [], ◌∷◌, length, slice_index_or, Contains, Option, Some, None}
+use Rattle.std.specs.Int.{IsPowerOfTwo}
+use Rattle.std.specs.Borrow.{Bor}
+use mathlib.Core.List.{IsPrefix}
+use Rattle.logbook.specs.Pages.{Book}
+use Rattle.table_tied.specs.Tied.{TiedView}
+use Rattle.table_terms.specs.Probes.{bucket_at}
+use Rattle.table_bounded.specs.declared.event.Event.{Event}
+use Rattle.table_bounded.specs.declared.placing.Claim.{Claim}
+use Rattle.table_bounded.specs.declared.placing.Claim.TheVariants as claim
+use Rattle.table_bounded.specs.declared.placing.Placing.{Placing}
+use Rattle.table_bounded.specs.declared.placing.Placing.TheVariants as placing
+use Rattle.table_bounded.specs.History.{event, Stands, HasSize, size_of, NonePasses, Passes, HasPassed, IsReached, Adds}
+
+-- which set it is, and how many buckets it has
+pub record SetView : Type 0 where
+  pub book : Book
+  pub size : ℕ
+
+abbrev pub set_view : Book → ℕ → SetView
+set_view b n = record { book = b; size = n }
+
+-- of which set a thread knows, and the history that it has seen
+pub record KnownView (V : Type 0) : Type 0 where
+  pub of : SetView
+  pub history : List (Event V)
+
+abbrev pub known_view : {V : Type 0} → Book → List (Event V) → KnownView V
+known_view b log = record { of = set_view b (size_of log); history = log }
+
+-- from one to the other nothing is forgotten
+abbrev pub KnowsMore : {V : Type 0} → KnownView V → KnownView V → Type 0
+KnowsMore old new = (new.of ≡ old.of) × IsPrefix old.history new.history
+
+-- the word with the key k of this allocator, this home and this book
+abbrev pub IsWord : {A : Type 0} → A → ℕ → Book → ℕ → TiedView A → Type 0
+IsWord a h b k w = (w.from ≡ a) × (w.home ≡ h) × (w.book ≡ b) × (w.key ≡ k) × (w.owning ≡ true)
+
+-- each word has its place as its key
+abbrev pub AreWords : {A : Type 0} → A → ℕ → Book → List (TiedView A) → Type 0
+AreWords {A} a h b ws =
+    (k : ℕ) (d : TiedView A) → k < length ws → IsWord a h b k (slice_index_or ws k d)
+
+-- a word that may be taken apart, of a book that has reached this history
+abbrev pub IsOpen : {A V : Type 0} → A → ℕ → Book → List (Event V) → TiedView A → Type 0
+IsOpen a h b log w = IsWord a h b w.key w × ((n : ℕ) × HasSize n log × (w.key < n))
+
+-- each entry of the history is among the values
+abbrev pub HasAll : {V : Type 0} → List (Event V) → List V → Type 0
+HasAll {V} log values = (p : ℕ) (v : V) → Stands log p v → Contains values v
+
+module _ {V : Type 0} (same : V → V → Bool) (hash : V → ℕ) where
+  -- a history of this set, that was reached
+  abbrev pub IsOf : SetView → Book → List (Event V) → Type 0
+  IsOf t b log = (b ≡ t.book) × HasSize t.size log × IsReached same hash log
+
+  -- a set between two calls
+  pub record IsLaid {A : Type 0} (a : A) (h : ℕ) (b : Book) (log : List (Event V)) (ws : List (TiedView A)) : Type 0 where
+    pub words : AreWords a h b ws
+    pub power : IsPowerOfTwo (length ws)
+    pub of : IsOf (set_view b (length ws)) b log
+
+  -- the value is placed in the bucket p; or it comes back beside the one that is there; or memory was
+  -- refused, and the bucket was empty
+  abbrev pub Claims : ℕ → V → List (Event V) → List (Event V) → Claim V → Type 0
+  Claims p v old new (claim.Placed e) = (e.now ≡ v) × Adds same hash v p old new
+  Claims p v old new (claim.Met e back) = (back ≡ v) × Stands new p e.now
+  Claims p v old new (claim.NoMemory back) =
+      (back ≡ v) × ((w : V) → Stands new p w → ⊥)
+
+module _ {V : Type 0} (same : V → V → Bool) where
+  -- the value is placed behind all that was known, and nothing before it is the same
+  pub record IsPlaced (v : V) (old new : List (Event V)) : Type 0 where
+    pub place : ℕ
+    pub before : List (Event V)
+    pub known : IsPrefix old before
+    pub none : NonePasses (same v) before
+    pub then : new ≡ before ++ event place (Some v) ∷ []
+
+  -- what an insert answers, by the histories that its caller knew before and knows after
+  abbrev pub Inserts : V → List (Event V) → List (Event V) → Placing V → Type 0
+  Inserts v old new (placing.Placed e) = (e.now ≡ v) × IsPlaced v old new
+  Inserts v old new (placing.Found e back) = (back ≡ v) × Passes (same v) new e.now
+  Inserts v old new (placing.Full back) = (back ≡ v) × NonePasses (same v) new
+  Inserts v old new (placing.NoMemory back) = (back ≡ v) × NonePasses (same v) new
+
+module _ {V : Type 0} (test : V → Bool) where
+  -- what a look-up shows, by the history that its caller knows after
+  abbrev pub Finds : List (Event V) → Option (Bor V) → Type 0
+  Finds log (Some e) = Passes test log e.now
+  Finds log None = NonePasses test log
+
+  -- a probe for this hash that began at the history `old` has passed this many buckets
+  pub record Goes (t : SetView) (h : ℕ) (old : List (Event V)) (index tried : ℕ) (log : List (Event V)) : Type 0 where
+    pub longer : IsPrefix old log
+    pub inside : index < t.size
+    pub at : bucket_at t.size h tried ≡ index
+    pub passed : HasPassed t.size log test h tried

@@ -1,0 +1,25 @@
+//! How an insert ends.
+
+/// How an insert ended.
+#[derive(Drop)]
+pub enum Placing<'a, V> {
+    /// The value is an entry now, which is shown.
+    Placed(&'a V),
+    /// This entry is the same, and the value comes back.
+    Found(&'a V, V),
+    /// Each bucket has an entry, none of which is the same, and the value comes back.
+    Full(V),
+    /// Memory was refused, no entry was the same, and the value comes back.
+    NoMemory(V),
+}
+
+/// What a probe for a place does in one bucket.
+#[derive(Drop)]
+pub(crate) enum Claim<'a, V> {
+    /// The value was placed there.
+    Placed(&'a V),
+    /// The bucket has this entry, and the value comes back.
+    Met(&'a V, V),
+    /// The bucket was empty, memory was refused, and the value comes back.
+    NoMemory(V),
+}

@@ -1,0 +1,46 @@
+//! Sets of numbers in memory that counts.
+use std::alloc::Global;
+use table_bounded::{BoundedSet, Known, Placing};
+use table_sets::NumberLaw;
+use testkit_refusing::{Refusing, Rule};
+
+pub type Heap = Refusing<Global>;
+
+pub type Numbers<'a> = BoundedSet<u64, NumberLaw, &'a Heap>;
+
+pub type Knows = Known<u64, NumberLaw>;
+
+/// How an insert ended, by the numbers that it showed and gave back.
+#[derive(PartialEq, Eq, Debug, Clone, Copy, Drop)]
+pub enum Fared {
+    Placed(u64),
+    Found(u64, u64),
+    Full(u64),
+    NoMemory(u64),
+}
+
+impl Fared {
+    /// How it ended.
+    pub fn of(placing: Placing<'_, u64>) -> Fared {
+        match placing {
+            Placing::Placed(entry) => Fared::Placed(*entry),
+            Placing::Found(entry, back) => Fared::Found(*entry, back),
+            Placing::Full(back) => Fared::Full(back),
+            Placing::NoMemory(back) => Fared::NoMemory(back),
+        }
+    }
+}
+
+/// Memory that grants all that is asked of it, and counts.
+pub fn counted(alloc: Global) -> Heap {
+    Refusing::new(alloc, Rule::new(0, usize::MAX, 0, 0))
+}
+
+/// A set of so many buckets. None: that is no power of two, or memory was refused.
+pub fn made(heap: &Heap, buckets: usize) -> Option<Numbers<'_>> {
+    if buckets.is_power_of_two() {
+        BoundedSet::new(heap, buckets).ok()
+    } else {
+        None
+    }
+}
