@@ -96,7 +96,7 @@ def public_types(names):
     """The names of the types and traits that a crate's users can name."""
     types = set()
     for file, only in names.items():
-        defined = set(re.findall(r"^pub (?:struct|enum|trait) (\w+)", file.read_text(), re.M))
+        defined = set(re.findall(r"^pub (?:struct|enum|trait|type) (\w+)", file.read_text(), re.M))
         types |= defined if only is None else defined & only
     return types
 

@@ -3,22 +3,25 @@ ghost use Rattle.std.specs.Prelude.{◌≡◌, ◌^◌, ◌<◌, [], ◌∷◌, 
 ghost use Rattle.table_terms.specs.Capacities.{IsFirstCapacity};
 ghost use Rattle.table_shared_sets.specs.Inserts.{ShowsSame};
 
-use lock_free_hashtable::raw::{IntoIter, Iter, LockFreeRawTable, Low};
+use crate::table::{InsertTable, SetTable, WalkTable};
+use lock_free_hashtable::raw::{Iter, LockFreeRawTable};
 use std::alloc::{Allocator, Global};
 use std::marker::{Model, PhantomData};
 use std::sync::Wait;
 use table_sets::{AtomicValue, KeyLaw, SetLaw, Shown};
 
-/// Values that are compared and hashed by the law `L`. Threads share them.
-pub struct SharedSet<T: AtomicValue, L: SetLaw<T::Target>, A: Allocator + Copy = Global> {
-    table: LockFreeRawTable<T, A>,
-    law: PhantomData<L>,
+/// Values in a table `B` that are compared and hashed by the law `L`. Threads share them. It is a
+/// [`SharedSet`] over one raw table, and a `ShardedSet` over several shards.
+pub struct SetOver<T: AtomicValue, L: SetLaw<T::Target>, B> {
+    table: B,
+    law: PhantomData<(T, L)>,
 }
 
-impl<T: AtomicValue, L: SetLaw<T::Target>, A: Allocator + Copy> Model for SharedSet<T, L, A> {
-    ghost use Rattle.table_shared.specs.Tables.{SharedTable};
+/// Values that are compared and hashed by the law `L`. Threads share them.
+pub type SharedSet<T, L, A = Global> = SetOver<T, L, LockFreeRawTable<T, A>>;
 
-    ghost Value = { SharedTable T };
+impl<T: AtomicValue, L: SetLaw<T::Target>, B> Model for SetOver<T, L, B> {
+    ghost Value = { B };
 
     ghost view = { λ s. s.table };
 }
@@ -41,16 +44,44 @@ impl<T: AtomicValue, L: SetLaw<T::Target>, A: Allocator + Copy> SharedSet<T, L, 
         SharedSet::of_table(LockFreeRawTable::with_first_capacity(alloc, first_capacity))
     }
 
+    /// A walk over the targets of the entries. It takes no lock and no memory.
+    pub fn iter(&self) -> Iter<'_, T, A>
+        ensures fits { result.left < 2 ^ 64 }
+    {
+        self.walk()
+    }
+}
+
+impl<T: AtomicValue, L: SetLaw<T::Target>, B> SetOver<T, L, B> {
     /// The set of the entries of this table, which have to lie in it by the hashes of the law.
-    pub(crate) fn of_table(table: LockFreeRawTable<T, A>) -> Self
+    pub(crate) fn of_table(table: B) -> Self
         ensures { result ≡ table }
     {
-        SharedSet {
+        SetOver {
             table,
             law: PhantomData,
         }
     }
 
+    /// The table of the set. It takes no memory.
+    pub fn into_table(self) -> B
+        ensures { result ≡ self }
+    {
+        let SetOver { table, law: _ } = self;
+        table
+    }
+
+    /// A walk over the table.
+    pub(crate) fn walk<'a>(&'a self) -> B::Walk
+    where
+        B: WalkTable<'a, T>,
+        ensures { B.begins self.now result }
+    {
+        self.table.walk()
+    }
+}
+
+impl<T: AtomicValue, L: SetLaw<T::Target>, B: SetTable<T>> SetOver<T, L, B> {
     /// The target of an entry that is the same as this one, or None. Anyone may call it at any time: it takes no lock and no
     /// memory, and returns.
     pub fn get(&self, target: &T::Target) -> Option<&T::Target>
@@ -93,29 +124,14 @@ impl<T: AtomicValue, L: SetLaw<T::Target>, A: Allocator + Copy> SharedSet<T, L, 
     pub fn is_empty(&self) -> bool {
         self.table.is_empty()
     }
-
-    /// A walk over the targets of the entries. It takes no lock and no memory.
-    pub fn iter(&self) -> Iter<'_, T, A>
-        ensures fits { result.left < 2 ^ 64 }
-    {
-        self.table.iter()
-    }
-
-    /// The raw table of the set. It takes no memory.
-    pub fn into_table(self) -> LockFreeRawTable<T, A>
-        ensures { result ≡ self }
-    {
-        let SharedSet { table, law: _ } = self;
-        table
-    }
 }
 
-impl<T: AtomicValue, L: SetLaw<T::Target>, A: Low + Copy> SharedSet<T, L, A> {
+impl<T: AtomicValue, L: SetLaw<T::Target>, B: InsertTable<T>> SetOver<T, L, B> {
     /// Inserts the value, unless an entry is the same, and shows the target of the entry. It looks up first: a value that is
     /// found takes no lock and no memory.
     ///
-    /// Anyone may call it at any time; a value that isn't found may wait for the lock of the set. A growth that is refused
-    /// after the value was placed or found changes no answer.
+    /// Anyone may call it at any time; a value that isn't found may wait for the lock of the set, or of the shard of its hash.
+    /// A growth that is refused after the value was placed or found changes no answer.
     pub fn insert<R: Wait>(&self, rt: &R, value: T) -> Shown<&T::Target, T>
         ensures { ShowsSame T.target L.same value result }
     {
@@ -141,14 +157,14 @@ impl<T: AtomicValue, L: SetLaw<T::Target>, A: Low + Copy> SharedSet<T, L, A> {
     }
 }
 
-impl<T: AtomicValue, L: SetLaw<T::Target>, A: Allocator + Copy> IntoIterator
-    for SharedSet<T, L, A> {
+impl<T: AtomicValue, L: SetLaw<T::Target>, B: IntoIterator<Item = T>> IntoIterator
+    for SetOver<T, L, B> {
     type Item = T;
 
-    type IntoIter = IntoIter<T, A>;
+    type IntoIter = B::IntoIter;
 
     /// Takes the set apart, and hands out each value that it holds. It takes no memory.
-    fn into_iter(self) -> IntoIter<T, A> {
+    fn into_iter(self) -> B::IntoIter {
         self.into_table().into_iter()
     }
 }
@@ -164,7 +180,7 @@ impl<'a, V: 'a, T: AtomicValue<Target = V>, L: SetLaw<V>, A: Allocator + Copy> I
     }
 }
 
-impl<T: AtomicValue, L: SetLaw<T::Target>, A: Allocator + Copy> Drop for SharedSet<T, L, A> {
+impl<T: AtomicValue, L: SetLaw<T::Target>, B: Drop> Drop for SetOver<T, L, B> {
     /// Drops each value once, and frees its block.
     fn drop(self) {
         drop(self.into_table());

@@ -3,6 +3,7 @@ mod held;
 mod keys;
 mod laws;
 mod memory;
+mod sharded;
 mod shared;
 
 use std::alloc::{AllocError, Allocator};

@@ -1,11 +1,14 @@
 //! The set that threads share.
 use super::{Told, answer_of, boxed_text, shown_answer};
-use std::alloc::Global;
+use std::alloc::{AllocError, Global};
 use std::process::Abort;
 use std::sync::Wait;
 use std::test::Fail;
 use std::thread;
-use table_shared_sets::{HeldSet, InPlace, NumberLaw, ShareSet, SharedSet, Shown, TextLaw};
+use table_shared_sets::table::InsertTable;
+use table_shared_sets::{
+    HeldSet, InPlace, NumberLaw, SetOver, ShareSet, SharedSet, Shown, TextLaw,
+};
 use testkit_refusing::{Refusing, Rule};
 
 /// Numbers in place.
@@ -100,7 +103,10 @@ fn a_set_that_becomes_shared(rt: HostRuntime) {
 }
 
 /// Inserts the numbers below a thousand: how many of them this call placed.
-fn placed_by<R: Wait>(rt: &R, set: &InPlaces) -> u64 {
+pub(super) fn placed_by<R: Wait, B: InsertTable<InPlace<u64>>>(
+    rt: &R,
+    set: &SetOver<InPlace<u64>, NumberLaw, B>,
+) -> u64 {
     let mut placed = 0u64;
     for number in 0..1000 {
         if shown_answer(set.insert(rt, InPlace(number))).0 == Told::Placed {
@@ -136,11 +142,12 @@ const NUMBERS: u64 = 17;
 /// block, the words for the later ones, the room to take those out, and the block of both.
 const TOLD: u64 = NUMBERS + 6;
 
-/// Inserts the numbers, each again after a refusal, where one request after `passing` many is refused: how many inserts
-/// were refused.
-fn refused_inserts<R: Wait + Abort>(rt: &R, alloc: Global, passing: u64) -> Result<u64, Fail> {
-    let memory = Refusing::new(alloc, Rule::new(0, usize::MAX, passing, 1));
-    let set: Boxes<'_> = SharedSet::new(&memory);
+/// Inserts the numbers, each again after a refusal: how many inserts were refused.
+pub(super) fn refused_by<R: Wait + Abort, B: InsertTable<Box<u64>>>(
+    rt: &R,
+    alloc: Global,
+    set: &SetOver<Box<u64>, NumberLaw, B>,
+) -> Result<u64, AllocError> {
     let mut refused = 0u64;
     for number in 0..NUMBERS {
         if shown_answer(set.insert(rt, Box::new(alloc, number)?)).0 == Told::Refused {
@@ -158,7 +165,9 @@ fn refused_inserts<R: Wait + Abort>(rt: &R, alloc: Global, passing: u64) -> Resu
 fn each_request_refused_in_turn(rt: HostRuntime) -> Result<(), Fail> {
     let mut refused = 0u64;
     for passing in 0..40u64 {
-        refused = refused.wrapping_add(refused_inserts(&rt, rt.alloc(), passing)?);
+        let memory = Refusing::new(rt.alloc(), Rule::new(0, usize::MAX, passing, 1));
+        let set: Boxes<'_> = SharedSet::new(&memory);
+        refused = refused.wrapping_add(refused_by(&rt, rt.alloc(), &set)?);
     }
     assert_eq!(rt; refused, TOLD);
     Ok(())

@@ -1,0 +1,47 @@
+//! One raw table below a set.
+
+use crate::table::{InsertTable, SetTable, WalkTable};
+use lock_free_hashtable::raw::{Iter, LockFreeRawTable, Low};
+use std::alloc::Allocator;
+use std::sync::Wait;
+use table_sets::AtomicValue;
+
+impl<T: AtomicValue, A: Allocator + Copy> SetTable<T> for LockFreeRawTable<T, A> {
+    fn lookup<F: Fn(&T::Target) -> bool>(&self, hash: u64, test: F) -> Option<&T::Target> {
+        self.lookup(hash, test)
+    }
+
+    fn len(&self) -> usize {
+        self.len()
+    }
+
+    fn is_empty(&self) -> bool {
+        self.is_empty()
+    }
+}
+
+impl<T: AtomicValue, A: Low + Copy> InsertTable<T> for LockFreeRawTable<T, A> {
+    fn insert<R: Wait, E: Fn(&T::Target, &T::Target) -> bool, H: Fn(&T::Target) -> u64>(
+        &self,
+        rt: &R,
+        hash: u64,
+        value: T,
+        eq: E,
+        hash_fn: H,
+    ) -> Result<(&T::Target, Option<T>), T> {
+        self.insert(rt, hash, value, eq, hash_fn)
+    }
+}
+
+impl<'a, T: AtomicValue + 'a, A: Allocator + Copy + 'a> WalkTable<'a, T>
+    for LockFreeRawTable<T, A> {
+    ghost use Rattle.std.specs.Prelude.{◌^◌, ◌<◌};
+
+    type Walk = Iter<'a, T, A>;
+
+    ghost begins = { λ _ walk. walk.left < 2 ^ 64 };
+
+    fn walk(&'a self) -> Iter<'a, T, A> {
+        self.iter()
+    }
+}

@@ -1,0 +1,166 @@
+//! The set over four shards that threads share.
+ghost use Rattle.table_terms.specs.Capacities.{IsFirstCapacity};
+
+use super::shared::{placed_by, refused_by};
+use super::{Told, boxed_text, shown_answer};
+use std::alloc::{AllocError, Global};
+use std::process::Abort;
+use std::sync::Wait;
+use std::test::Fail;
+use std::thread;
+use table_shared_sets::{InPlace, NumberLaw, ShardedSet, Shown, TextLaw};
+use table_terms::law::hash_number;
+use testkit_refusing::{Refusing, Rule};
+
+/// Numbers in place.
+type InPlaces = ShardedSet<InPlace<u64>, NumberLaw, 4>;
+
+/// Boxed texts.
+type Texts = ShardedSet<Box<String>, TextLaw, 4>;
+
+/// Boxed numbers, in memory that may be refused.
+type Boxes<'a> = ShardedSet<Box<u64>, NumberLaw, 4, &'a Refusing<Global>>;
+
+/// The empty set of numbers.
+fn in_places(alloc: Global) -> InPlaces {
+    ShardedSet::new(alloc)
+}
+
+/// The empty set of numbers, each shard with this many buckets at first.
+fn in_places_of(alloc: Global, first_capacity: usize) -> InPlaces
+    requires { IsFirstCapacity first_capacity }
+{
+    ShardedSet::with_first_capacity(alloc, first_capacity)
+}
+
+/// The empty set of texts.
+fn texts(alloc: Global) -> Texts {
+    ShardedSet::new(alloc)
+}
+
+/// The empty set of boxes.
+fn boxes(alloc: &Refusing<Global>) -> Boxes<'_> {
+    ShardedSet::new(alloc)
+}
+
+#[test]
+fn no_entries(rt: HostRuntime) {
+    let set = in_places(rt.alloc());
+    assert_eq!(rt; (set.len(), set.is_empty()), (0, true));
+    assert_eq!(rt; set.get(&7), None);
+    assert!(rt; !set.contains(&7));
+    assert_eq!(rt; set.iter().count(), 0);
+    assert_eq!(rt; set.into_iter().count(), 0);
+}
+
+/// Of five hundred numbers some shard has a hundred and more, so it grows.
+#[test]
+fn numbers_over_growth(rt: HostRuntime) {
+    let set = in_places(rt.alloc());
+    for number in 0..500 {
+        let shown = shown_answer(set.insert(&rt, InPlace(number)));
+        assert_eq!(rt; shown, (Told::Placed, Some(number)));
+    }
+    for number in 0..500 {
+        let shown = shown_answer(set.insert(&rt, InPlace(number)));
+        assert_eq!(rt; shown, (Told::Found, Some(number)));
+        assert_eq!(rt; set.get(&number).copied(), Some(number));
+    }
+    assert!(rt; set.contains(&499) && !set.contains(&500));
+    assert_eq!(rt; (set.len(), set.is_empty()), (500, false));
+}
+
+/// A number lies in the shard of its hash, and the first generation of that shard has the buckets that were named.
+#[test]
+fn the_first_capacity_of_a_shard(rt: HostRuntime) -> Result<(), Fail> {
+    let set = in_places_of(rt.alloc(), 64);
+    assert_eq!(rt;
+        shown_answer(set.insert(&rt, InPlace(5))),
+        (Told::Placed, Some(5))
+    );
+    let table = set.into_table();
+    let shard = table.shard(hash_number(5));
+    assert_eq!(rt; (shard.len(), table.len()), (1, 1));
+    let made = shard.current().ok_or("no generation")?;
+    assert_eq!(rt; made.generation.capacity(), 64);
+    Ok(())
+}
+
+/// The numbers from 1 to 20 have the sum 210, by each way of walking over them.
+#[test]
+fn walks(rt: HostRuntime) {
+    let set = in_places(rt.alloc());
+    for number in 1..21 {
+        let told = shown_answer(set.insert(&rt, InPlace(number))).0;
+        assert_eq!(rt; told, Told::Placed);
+    }
+    let mut by_iter = 0u64;
+    for entry in set.iter() {
+        by_iter = by_iter.wrapping_add(*entry);
+    }
+    let mut by_loop = 0u64;
+    for entry in &set {
+        by_loop = by_loop.wrapping_add(*entry);
+    }
+    let mut by_value = 0u64;
+    for value in set {
+        by_value = by_value.wrapping_add(value.0);
+    }
+    assert_eq!(rt; (by_iter, by_loop, by_value), (210, 210, 210));
+}
+
+#[test]
+fn texts_by_keys(rt: HostRuntime) -> Result<(), Fail> {
+    let set = texts(rt.alloc());
+    match set.insert(&rt, boxed_text(rt.alloc(), "ab")?) {
+        Shown::Placed(entry) => assert_eq!(rt; entry.as_str(), "ab"),
+        Shown::Found(_, _) | Shown::Refused(_) => assert!(rt; false),
+    }
+    assert!(rt; set.get_by_key(&"ab").is_some());
+    assert!(rt; set.get_by_key(&"ba").is_none());
+    Ok(())
+}
+
+/// Two threads insert the same numbers: each is placed by one of them.
+#[test]
+fn two_threads(rt: HostRuntime) -> Result<(), Fail> {
+    let set = in_places(rt.alloc());
+    let shared = &set;
+    let placed = thread::scope(
+        thread::scope_env(),
+        &rt,
+        move |scope| -> Result<u64, Fail> {
+            let other = scope.spawn(move || placed_by(&rt, shared))?;
+            let here = placed_by(&rt, shared);
+            let there = other.join(&rt);
+            Ok(here.wrapping_add(there))
+        },
+    )?;
+    assert_eq!(rt; (placed, set.len()), (1000, 1000));
+    Ok(())
+}
+
+/// The requests whose refusal an insert is told: one block for each of 17 numbers, which lie in all four shards, and six for
+/// the first generation of each shard, as of a set of one.
+const TOLD: u64 = 17 + 4 * 6;
+
+/// How many of the inserts were refused, where one request after `passing` many is refused. In the end each block was given
+/// back.
+fn refused<R: Wait + Abort>(rt: &R, alloc: Global, passing: u64) -> Result<u64, AllocError> {
+    let memory = Refusing::new(alloc, Rule::new(0, usize::MAX, passing, 1));
+    let set = boxes(&memory);
+    let told = refused_by(rt, alloc, &set)?;
+    drop(set);
+    assert_eq!(rt; memory.given_back(), memory.granted());
+    Ok(told)
+}
+
+#[test]
+fn each_request_refused_in_turn(rt: HostRuntime) -> Result<(), Fail> {
+    let mut told = 0u64;
+    for passing in 0..80u64 {
+        told = told.wrapping_add(refused(&rt, rt.alloc(), passing)?);
+    }
+    assert_eq!(rt; told, TOLD);
+    Ok(())
+}
