@@ -1,3 +1,4 @@
 pub mod Lookups
 pub mod Meetings
 pub mod Runs
+pub mod Asks

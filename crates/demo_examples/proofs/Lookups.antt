@@ -9,7 +9,7 @@ use Rattle.demo_examples.specs.Words.{same_word, word_hash}
 own_hash : (word : ℕ) → word < 2 ^ 64 → word ≡ word_hash word
 own_hash word small = grind (arith, common_steps)
 
-same_words : (a b : ℕ) → same_word a b ≡ true → b ≡ a
+pub same_words : (a b : ℕ) → same_word a b ≡ true → b ≡ a
 same_words a b is = grind (arith, common_steps)
 
 module _ {T : Type 0} (target : T → ℕ) where

@@ -1,4 +1,5 @@
 //! The examples, run.
+mod alike;
 mod answers;
 mod lines;
 mod meetings;

@@ -1,0 +1,81 @@
+//! The same calls on one table and on four shards.
+
+use demo_examples::alike::{Ask, Both, ask_both};
+use lock_free_hashtable::InPlace;
+use lock_free_hashtable::alone::Reply;
+use std::process::Abort;
+use std::test::Fail;
+
+/// In the shards 0, 1, 2 and 3 of four.
+const LOW: u64 = 7;
+
+const SECOND: u64 = 1 << 62;
+
+const THIRD: u64 = 1 << 63;
+
+const HIGH: u64 = u64::MAX;
+
+const ASKS: [Ask; 10] = [
+    Ask::Count,
+    Ask::Find(LOW),
+    Ask::Insert(LOW),
+    Ask::Insert(HIGH),
+    Ask::Insert(LOW),
+    Ask::Find(LOW),
+    Ask::Insert(SECOND),
+    Ask::Insert(THIRD),
+    Ask::Find(HIGH),
+    Ask::Count,
+];
+
+/// What a call is told, with the word in place of a value that comes back.
+#[derive(Clone, Copy, Debug, PartialEq, Eq)]
+enum Told {
+    Placed(u64),
+    Found(u64, u64),
+    Refused(u64),
+    Some(u64),
+    None,
+    Len(usize),
+}
+
+const TOLD: [Told; 10] = [
+    Told::Len(0),
+    Told::None,
+    Told::Placed(LOW),
+    Told::Placed(HIGH),
+    Told::Found(LOW, LOW),
+    Told::Some(LOW),
+    Told::Placed(SECOND),
+    Told::Placed(THIRD),
+    Told::Some(HIGH),
+    Told::Len(4),
+];
+
+fn told_by(reply: &Reply<InPlace<u64>>) -> Told {
+    match reply {
+        Reply::Placed(shown) => Told::Placed(*shown),
+        Reply::Found(shown, back) => Told::Found(*shown, back.0),
+        Reply::Refused(back) => Told::Refused(back.0),
+        Reply::Some(shown) => Told::Some(*shown),
+        Reply::None => Told::None,
+        Reply::Len(count) => Told::Len(*count),
+    }
+}
+
+fn assert_told(rt: &impl Abort, replies: &[Reply<InPlace<u64>>]) {
+    assert_eq!(rt; replies.len(), TOLD.len());
+    for (reply, told) in replies.iter().zip(TOLD) {
+        assert_eq!(rt; told_by(reply), told);
+    }
+}
+
+#[test]
+fn four_shards_tell_what_one_table_tells(rt: HostRuntime) -> Result<(), Fail> {
+    let both: Both = ask_both(rt.alloc(), ASKS.as_slice())?;
+    assert_told(&rt, both.told.one.as_slice());
+    assert_told(&rt, both.told.other.as_slice());
+    assert_eq!(rt; both.raw.len_alone(), 4);
+    assert_eq!(rt; both.shards.len_alone(), 4);
+    Ok(())
+}
