@@ -50,6 +50,10 @@ IsOpen a h b log w = IsWord a h b w.key w × ((n : ℕ) × HasSize n log × (w.k
 abbrev pub HasAll : {V : Type 0} → List (Event V) → List V → Type 0
 HasAll {V} log values = (p : ℕ) (v : V) → Stands log p v → Contains values v
 
+-- each of the values was placed
+abbrev pub WerePlaced : {V : Type 0} → List (Event V) → List V → Type 0
+WerePlaced {V} log values = (v : V) → Contains values v → (p : ℕ) × Stands log p v
+
 module _ {V : Type 0} (same : V → V → Bool) (hash : V → ℕ) where
   -- a history of this set, that was reached
   abbrev pub IsOf : SetView → Book → List (Event V) → Type 0

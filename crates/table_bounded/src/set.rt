@@ -4,7 +4,7 @@ ghost use Rattle.std.specs.Int.{IsPowerOfTwo};
 ghost use mathlib.Core.List.{IsPrefix};
 ghost use Rattle.table_terms.specs.Laws.{AllApart};
 ghost use Rattle.table_bounded.specs.History.{Stands, IsFree, Reaches};
-ghost use Rattle.table_bounded.specs.Sets.{KnowsMore, HasAll, IsOf, Claims, Inserts, Finds};
+ghost use Rattle.table_bounded.specs.Sets.{KnowsMore, HasAll, WerePlaced, IsOf, Claims, Inserts, Finds};
 
 use crate::known::Known;
 use crate::placing::{Claim, Placing};
@@ -214,12 +214,12 @@ impl<V: Drop, L: SetLaw<V>, A: Low + Copy> BoundedSet<V, L, A> {
         Placing::Full(value)
     }
 
-    /// Places the value, unless an entry is the same or no bucket is left. Any thread may call it, and it waits for none. It asks
-    /// for memory only at an empty bucket, and gives the block back where another thread came first.
+    /// Places the value, unless an entry is the same or no bucket is left. Any thread may call it, and it waits for none. It
+    /// asks for memory only at an empty bucket, and gives the block back where another thread came first.
     ///
     /// `Placed`: nothing that was placed before it is the same. `Found`: the entry that is shown is the same. `Full` and
-    /// `NoMemory`: nothing that `known` then knows is the same, so that none of it is of this call. What isn't placed comes back,
-    /// and `known` has learned what the call met.
+    /// `NoMemory`: nothing that `known` then knows is the same, so that none of it is of this call. What isn't placed comes
+    /// back, and `known` has learned what the call met.
     pub fn insert(&self, known: &mut Known<V, L>, value: V) -> Placing<'_, V>
         requires of { known.old.of ≡ self.now }
         ensures known { KnowsMore known.old known.new }
@@ -228,11 +228,13 @@ impl<V: Drop, L: SetLaw<V>, A: Low + Copy> BoundedSet<V, L, A> {
         self.place(&mut known.seen, value)
     }
 
-    /// Takes the set apart, and hands out each of its values once, out of its block, which is freed: all that `known` knows are
-    /// among them. It takes one block of memory. Where that is refused, the set comes back as it was.
-    pub fn into_values(self, known: &Known<V, L>) -> Result<Vec<V, A>, Self>
-        requires of { known.now.of ≡ self }
-        ensures all { IfOk result (λ values. HasAll known.now.history values.items) }
+    /// Takes the set apart, and hands out its values, each once, out of its block, which is freed: all that `known` knew are
+    /// among them, and it knows of each. It takes one block of memory. Where that is refused, the set comes back as it was.
+    pub fn into_values(self, known: &mut Known<V, L>) -> Result<Vec<V, A>, Self>
+        requires of { known.old.of ≡ self }
+        ensures known { KnowsMore known.old known.new }
+        ensures placed { IfOk result (λ values. WerePlaced known.new.history values.items) }
+        ensures all { IfOk result (λ values. HasAll known.old.history values.items) }
         ensures apart { IfOk result (λ values. AllApart L.same values.items) }
         ensures refused { IfErr result (λ set. set ≡ self) }
     {
@@ -246,7 +248,7 @@ impl<V: Drop, L: SetLaw<V>, A: Low + Copy> BoundedSet<V, L, A> {
             start: _,
         } = self;
         let closed = home.close();
-        Ok(take_values(words, &closed, alloc, known.seen.again(), room))
+        Ok(take_values(words, &closed, alloc, &mut known.seen, room))
     }
 }
 

@@ -2,8 +2,8 @@
 ghost use Rattle.std.specs.Prelude.{◌≡◌, ◌≤◌, length, vec_capacity, [], MatchOption};
 ghost use mathlib.Core.List.{IsPrefix};
 ghost use Rattle.table_terms.specs.Laws.{AllApart};
-ghost use Rattle.table_bounded.specs.History.{Stands, IsFree, IsReached};
-ghost use Rattle.table_bounded.specs.Sets.{IsOpen, IsLaid, HasAll};
+ghost use Rattle.table_bounded.specs.History.{Stands, IsFree, HasSize, IsReached};
+ghost use Rattle.table_bounded.specs.Sets.{IsOpen, IsLaid, HasAll, WerePlaced};
 
 use crate::rule::{SetRule, Token, Word, settle};
 use table_cell::{Closed, Low};
@@ -33,18 +33,22 @@ pub(crate) fn take_values<V: Drop, L: SetLaw<V>, A: Low + Copy>(
     words: Vec<Word<V, L, A>, A>,
     closed: &Closed,
     alloc: A,
-    seen: Token<V, L>,
+    seen: &mut Token<V, L>,
     room: Vec<V, A>,
 ) -> Vec<V, A>
-    requires laid { IsLaid L.same L.hash_of alloc closed.now.id seen.book seen.log words.items }
+    requires laid { IsLaid L.same L.hash_of alloc closed.now.id seen.old.book seen.old.log words.items }
     requires room { (room.items ≡ []) × (length words.items ≤ vec_capacity room) }
-    ensures all { HasAll seen.log result.items }
+    ensures book { seen.new.book ≡ seen.old.book }
+    ensures size { HasSize (length words.items) seen.new.log }
+    ensures longer { IsPrefix seen.old.log seen.new.log }
+    ensures reached { IsReached L.same L.hash_of seen.new.log }
+    ensures placed { WerePlaced seen.new.log result.items }
+    ensures all { HasAll seen.old.log result.items }
     ensures apart { AllApart L.same result.items }
 {
-    let mut seen = seen;
     let mut room = room;
     for word in words {
-        if let Some(value) = take_value(word, closed, alloc, &mut seen) {
+        if let Some(value) = take_value(word, closed, alloc, seen) {
             room.push_reserved(value);
         }
     }

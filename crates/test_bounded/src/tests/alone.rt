@@ -50,8 +50,8 @@ fn the_values_are_handed_out_at_the_end(rt: HostRuntime) {
         );
     }
     heap.refuse(0, 1);
-    let set = set.into_values(&known).err().expect(&rt, "the set");
-    let values = set.into_values(&known).ok().expect(&rt, "the values");
+    let set = set.into_values(&mut known).err().expect(&rt, "the set");
+    let values = set.into_values(&mut known).ok().expect(&rt, "the values");
     assert_eq!(rt; values.len(), 5);
     for number in 0u64..5 {
         assert!(rt; values.contains(&number));
