@@ -71,8 +71,9 @@ def owner_of(lines, number):
     names = [re.findall(r"\w+", part) for part in re.split(r"\bwhere\b|\{", header)[0].split(" for ")]
     if "trait" in names[0]:
         return names[0][names[0].index("trait") + 1]
-    # an impl of a trait has the names of the type, of what it is of, and of the trait in one
-    return names[0][-1] if len(names) == 1 else rf"\w*{names[1][-1]}\w*{names[0][-1]}\w*"
+    # an impl of an alias has the names of its parameters behind it; one of a trait has those of the type, of what it is of, and of
+    # the trait in one
+    return rf"{names[0][-1]}(?:\+\w+)*" if len(names) == 1 else rf"\w*{names[1][-1]}\w*{names[0][-1]}\w*"
 
 
 def module_of(file):
