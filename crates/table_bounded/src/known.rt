@@ -5,9 +5,7 @@ ghost use Rattle.table_terms.specs.Laws.{AllApart};
 ghost use Rattle.table_bounded.specs.History.{entries};
 ghost use Rattle.table_bounded.specs.Sets.{KnowsMore};
 
-use crate::event::Event;
-use crate::rule::SetRule;
-use logbook::Seen;
+use crate::rule::Token;
 use std::marker::Model;
 use table_sets::SetLaw;
 
@@ -16,7 +14,7 @@ use table_sets::SetLaw;
 /// A contract sees which set it is of, and the history. Dropping it forgets what was known.
 #[derive(Drop)]
 pub struct Known<V, L: SetLaw<V>> {
-    pub(crate) seen: Seen<Event<V>, u64, SetRule<V, L>>,
+    pub(crate) seen: Token<V, L>,
 }
 
 impl<V, L: SetLaw<V>> Model for Known<V, L> {

@@ -5,14 +5,19 @@
 //! given one, and its clauses say what the thread learned: of its own call, and of what others had done by then.
 #![tactic(auto)]
 
+mod carrying;
 mod event;
+mod generation;
 mod known;
 mod placing;
 mod rule;
 mod set;
+mod sought;
 mod words;
 
-pub use event::Event;
+pub use event::{Event, Stored};
+pub use generation::Generation;
 pub use known::Known;
 pub use placing::Placing;
+pub use rule::{SetRule, Token};
 pub use set::BoundedSet;

@@ -1,15 +1,15 @@
 //! How an insert ends.
 
 /// How an insert ended.
-#[derive(Drop)]
+#[derive(Debug, PartialEq, Eq, Drop)]
 pub enum Placing<'a, V> {
     /// The value is an entry now, which is shown.
     Placed(&'a V),
     /// This entry is the same, and the value comes back.
     Found(&'a V, V),
-    /// Each bucket has an entry, none of which is the same, and the value comes back.
+    /// No bucket is left for the value, no entry that is known then is the same, and the value comes back.
     Full(V),
-    /// Memory was refused, no entry was the same, and the value comes back.
+    /// Memory was refused, no entry that is known then is the same, and the value comes back.
     NoMemory(V),
 }
 
@@ -20,6 +20,8 @@ pub(crate) enum Claim<'a, V> {
     Placed(&'a V),
     /// The bucket has this entry, and the value comes back.
     Met(&'a V, V),
+    /// The bucket is closed, and the value comes back.
+    Closed(V),
     /// The bucket was empty, memory was refused, and the value comes back.
     NoMemory(V),
 }

@@ -1,26 +1,26 @@
-//! The rule of a set's book, and what its steps tell.
+//! The rule of a generation's book, and what its steps tell.
 ghost use Rattle.std.specs.Prelude.{◌≡◌};
 ghost use mathlib.Core.List.{IsPrefix};
 ghost use Rattle.table_bounded.specs.History.{IsReached};
 
-use crate::event::Event;
+use crate::event::{Event, Stored};
 use logbook::{Opening, Rule, Seen};
 use std::marker::PhantomData;
 use table_sets::SetLaw;
 use table_tied::{Learns, Stands, TiedWord};
 
-/// The rule of the book of a set.
+/// The rule of the book of a generation.
 pub struct SetRule<V, L> {
     of: PhantomData<(V, L)>,
 }
 
-/// That a set's history has come so far.
-pub(crate) type Token<V, L> = Seen<Event<V>, u64, SetRule<V, L>>;
+/// That a generation's history has come so far.
+pub type Token<V, L> = Seen<Event<Stored<V>>, u64, SetRule<V, L>>;
 
-/// A bucket: null, or the address of the block of its value.
-pub(crate) type Word<V, L, A> = TiedWord<Stored<V>, A, Event<V>, SetRule<V, L>>;
+/// A bucket: null, or the address of the block of what was stored there.
+pub(crate) type Word<V, L, A> = TiedWord<Stored<V>, A, Event<Stored<V>>, SetRule<V, L>>;
 
-impl<V, L: SetLaw<V>> Rule<Event<V>, u64> for SetRule<V, L> {
+impl<V, L: SetLaw<V>> Rule<Event<Stored<V>>, u64> for SetRule<V, L> {
     ghost use Rattle.std.specs.Prelude.{[]};
     ghost use base.Fml.{ftrue};
     ghost use Rattle.table_bounded.specs.History.{IsKept};
@@ -38,29 +38,23 @@ impl<V, L: SetLaw<V>> Rule<Event<V>, u64> for SetRule<V, L> {
     ghost moves = { λ ask old new answer. Unit {0} };
 }
 
-impl<V, L: SetLaw<V>> Opening<(), Event<V>> for SetRule<V, L> {
+impl<V, L: SetLaw<V>> Opening<(), Event<Stored<V>>> for SetRule<V, L> {
     ghost use Rattle.std.specs.Prelude.{[], ◌∷◌, None};
     ghost use Rattle.table_bounded.specs.History.{event};
 
     ghost log = { λ count about. event count None ∷ [] };
 }
 
-/// What lies in a block.
-#[derive(Drop)]
-pub struct Stored<V> {
-    pub value: V,
+impl<V> Stands<Event<Stored<V>>> for Stored<V> {
+    ghost use Rattle.table_bounded.specs.History.{Has};
+
+    ghost stands = { λ s place log. Has log place s };
 }
 
-impl<V> Stands<Event<V>> for Stored<V> {
-    ghost use Rattle.table_bounded.specs.History.{Stands};
-
-    ghost stands = { λ s place log. Stands log place s.value };
-}
-
-impl<V, L: SetLaw<V>> Learns<Stored<V>, Event<V>> for SetRule<V, L> {
+impl<V, L: SetLaw<V>> Learns<Stored<V>, Event<Stored<V>>> for SetRule<V, L> {
     ghost use Rattle.table_bounded.specs.History.{Adds, Lacks};
 
-    ghost set = { λ s place old new. Adds L.same L.hash_of s.value place old new };
+    ghost set = { λ s place old new. Adds L.same L.hash_of s place old new };
 
     ghost null = { λ place old new. Lacks L.same L.hash_of place new };
 }

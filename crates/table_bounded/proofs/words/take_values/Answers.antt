@@ -1,62 +1,75 @@
-use Rattle.std.proofs.Common.{◌≡◌, ◌∷◌, [], ℕ, suc, length, refl, ap, sym, ◌∙◌, subst, arith, length-append}
+use Rattle.std.proofs.Common.{◌≡◌, ◌∷◌, ◌+◌, ◌++◌, ◌∙◌, [], ℕ, List, length, refl, ap, sym, subst, arith, length-append, append_assoc}
 use Rattle.std.specs.Vec.Iter.{into_iter_items}
+use Rattle.std.proofs.lemmas.List.{append-nil}
 use Rattle.table_bounded.specs.History.{Stands, IsFree}
-use Rattle.table_bounded.proofs.Endings.{left_first, left_open, left_key, left_next, taken_first, taken_none, taken_some, taken_all}
+use Rattle.table_bounded.proofs.Endings.{left_first, left_open, left_key, left_next, taken_first, taken_none, taken_some, taken_out}
 use Rattle.table_bounded.proofs.words.take_values.Goals as goal
+use Rattle.table_bounded.proofs.words.take_values.Goals.{then-index-count, else-index-count}
 
 pub loop-word-init : goal.loop-word-init
 loop-word-init g c = let same = g.L.Law.same in let hash = g.L.Law.hash_of in let gives = c.into_iter-word-iterator.ensures.into_iter_gives.0 in (
-  0,
+  [],
   record {
-    left = rw gives (left_first same hash c.args.alloc c.args.closed.now.id (length c.args.words.items) c.args.seen.now.book c.args.words.items c.args.seen.now.log refl c.requires.laid.words c.requires.laid.of.1 c.requires.laid.of.2);
-    taken = taken_first same hash c.args.seen.now.log c.args.room.items c.requires.room.0;
-    room = omega (arith, ap length c.requires.room.0, ap length gives, c.requires.room.1);
+    left = rw gives (left_first same hash c.args.alloc c.args.closed.now.id (length c.args.words.items) c.args.seen.now.book c.args.lent.items c.args.words.items c.args.seen.now.log refl c.requires.laid.words c.requires.laid.own c.requires.laid.of.1 c.requires.laid.of.2);
+    taken = taken_first same hash c.args.lent.items c.args.seen.now.log;
+    behind = sym (append-nil c.args.room.items);
+    room = omega (arith, ap length gives);
+    capacity = refl;
     whole = c.into_iter-word-iterator.ensures.into_iter_gives.1 ∙ (c.args.words.ok.0 ∙ ap length (sym gives));
   },
 )
 
-pub take_value-requires : goal.take_value-requires
-take_value-requires g c =
-    let next : into_iter_items c.loop-word.word-iterator ≡ c.in-Some.word ∷ into_iter_items c.next.new.self = c.in-Some.ensures.steps.0 in let inv = c.loop-word.invariant in
-    left_open g.L.Law.same g.L.Law.hash_of c.args.alloc c.args.closed.now.id (length c.args.words.items) c.args.seen.now.book inv.0 c.in-Some.word (into_iter_items c.loop-word.word-iterator) (into_iter_items c.next.new.self)
-    c.loop-word.seen.book c.loop-word.seen.log next inv.1.left
+pub take_own-requires : goal.take_own-requires
+take_own-requires g c = λ mine.
+    let next : into_iter_items c.loop-word.word-iterator ≡ c.in-Some.word ∷ into_iter_items c.next.new.self = c.in-Some.ensures.steps.0 in
+    left_open g.L.Law.same g.L.Law.hash_of c.args.alloc c.args.closed.now.id (length c.args.words.items) c.args.seen.now.book c.args.lent.items c.loop-word.index c.in-Some.word (into_iter_items c.loop-word.word-iterator) (into_iter_items c.next.new.self)
+    c.loop-word.seen.book c.loop-word.seen.log next (sym c.lends-theirs.ensures ∙ mine) c.loop-word.invariant.1.left
 
-pub loop-word-preserved-in-Some-take_value : goal.loop-word-preserved-in-Some-take_value
-loop-word-preserved-in-Some-take_value g c =
-    let next : into_iter_items c.loop-word.word-iterator ≡ c.in-Some.word ∷ into_iter_items c.next.new.self = c.in-Some.ensures.steps.0 in let inv = c.loop-word.invariant in
-    let same = g.L.Law.same in let hash = g.L.Law.hash_of in let told = c.in-Some-take_value.ensures in
-    let key : c.in-Some.word.key ≡ inv.0 = left_key same hash c.args.alloc c.args.closed.now.id (length c.args.words.items) c.args.seen.now.book inv.0 c.in-Some.word (into_iter_items c.loop-word.word-iterator) (into_iter_items c.next.new.self)
-    c.loop-word.seen.book c.loop-word.seen.log next inv.1.left in (
-      suc inv.0,
+pub loop-word-preserved-in-Some-take_own : goal.loop-word-preserved-in-Some-take_own
+loop-word-preserved-in-Some-take_own g c =
+    let same = g.L.Law.same in let hash = g.L.Law.hash_of in let told = c.in-Some-take_own.ensures in let inv = c.loop-word.invariant in let i = c.loop-word.index in let lent = c.args.lent.items in
+    let next : into_iter_items c.loop-word.word-iterator ≡ c.in-Some.word ∷ into_iter_items c.next.new.self = c.in-Some.ensures.steps.0 in let n = length c.args.words.items in
+    let step : c.if-index-count.index ≡ i + 1 = elim c.if-index-count.branch [ then-index-count w ↦ w.index-is | else-index-count w ↦ absurd (let h = w.if-index-count.false in omega (arith, h, inv.1.left.count, ap length next, c.len-count.ensures)) ] in
+    let key : c.in-Some.word.key ≡ i = left_key same hash c.args.alloc c.args.closed.now.id n c.args.seen.now.book lent i c.in-Some.word (into_iter_items c.loop-word.word-iterator) (into_iter_items c.next.new.self)
+    c.loop-word.seen.book c.loop-word.seen.log next inv.1.left in
+    let left = left_next same hash c.args.alloc c.args.closed.now.id n c.args.seen.now.book lent i c.in-Some.word (into_iter_items c.loop-word.word-iterator) (into_iter_items c.next.new.self)
+    c.loop-word.seen.book c.take_own.new.seen.book c.loop-word.seen.log c.take_own.new.seen.log next inv.1.left told.book told.longer told.reached in (
+      inv.0 ++ c.in-Some-take_own.value ∷ [],
       record {
-        left = left_next same hash c.args.alloc c.args.closed.now.id (length c.args.words.items) c.args.seen.now.book inv.0 c.in-Some.word (into_iter_items c.loop-word.word-iterator) (into_iter_items c.next.new.self)
-            c.loop-word.seen.book c.take_value.new.seen.book c.loop-word.seen.log c.take_value.new.seen.log next inv.1.left told.book told.longer told.reached;
-        taken = rw c.push_reserved.ensures.items (taken_some same hash g.L.Law.lawful c.args.seen.now.log c.loop-word.seen.log c.take_value.new.seen.log inv.0 c.loop-word.room.items c.in-Some-take_value.value told.longer told.reached
-            (subst (λ (i : ℕ). Stands c.take_value.new.seen.log i c.in-Some-take_value.value) key told.told) inv.1.taken);
-        room = omega (arith, inv.1.room, ap length next, ap length c.push_reserved.ensures.items, length-append c.loop-word.room.items (c.in-Some-take_value.value ∷ []), c.push_reserved.ensures.capacity);
+        left = rw step left;
+        taken = rw step (taken_some same hash lent g.L.Law.lawful c.args.seen.now.log c.loop-word.seen.log c.take_own.new.seen.log i inv.0 c.in-Some-take_own.value told.longer told.reached
+            (sym c.lends-theirs.ensures ∙ told.told.0) (subst (λ (k : ℕ). Stands c.take_own.new.seen.log k c.in-Some-take_own.value) key told.told.1) inv.1.taken);
+        behind = c.push_reserved.ensures.items ∙ (ap (λ (vs : List g.row.V.Denot). vs ++ c.in-Some-take_own.value ∷ []) inv.1.behind ∙ append_assoc c.args.room.items inv.0 (c.in-Some-take_own.value ∷ []));
+        room = omega (arith, inv.1.room, ap length next, ap length c.push_reserved.ensures.items, length-append c.loop-word.room.items (c.in-Some-take_own.value ∷ []));
+        capacity = c.push_reserved.ensures.capacity ∙ inv.1.capacity;
         whole = omega (arith, inv.1.whole, ap length next, c.in-Some.ensures.steps.1);
       },
     )
 
 pub loop-word-preserved : goal.loop-word-preserved
 loop-word-preserved g c =
-    let next : into_iter_items c.loop-word.word-iterator ≡ c.in-Some.word ∷ into_iter_items c.next.new.self = c.in-Some.ensures.steps.0 in let inv = c.loop-word.invariant in
-    let same = g.L.Law.same in let hash = g.L.Law.hash_of in let told = c.in_default.ensures in
-    let key : c.in-Some.word.key ≡ inv.0 = left_key same hash c.args.alloc c.args.closed.now.id (length c.args.words.items) c.args.seen.now.book inv.0 c.in-Some.word (into_iter_items c.loop-word.word-iterator) (into_iter_items c.next.new.self)
-    c.loop-word.seen.book c.loop-word.seen.log next inv.1.left in (
-      suc inv.0,
+    let same = g.L.Law.same in let hash = g.L.Law.hash_of in let told = c.in_default.ensures in let inv = c.loop-word.invariant in let i = c.loop-word.index in let lent = c.args.lent.items in
+    let next : into_iter_items c.loop-word.word-iterator ≡ c.in-Some.word ∷ into_iter_items c.next.new.self = c.in-Some.ensures.steps.0 in let n = length c.args.words.items in
+    let step : c.if-index-count.index ≡ i + 1 = elim c.if-index-count.branch [ then-index-count w ↦ w.index-is | else-index-count w ↦ absurd (let h = w.if-index-count.false in omega (arith, h, inv.1.left.count, ap length next, c.len-count.ensures)) ] in
+    let key : c.in-Some.word.key ≡ i = left_key same hash c.args.alloc c.args.closed.now.id n c.args.seen.now.book lent i c.in-Some.word (into_iter_items c.loop-word.word-iterator) (into_iter_items c.next.new.self)
+    c.loop-word.seen.book c.loop-word.seen.log next inv.1.left in
+    let left = left_next same hash c.args.alloc c.args.closed.now.id n c.args.seen.now.book lent i c.in-Some.word (into_iter_items c.loop-word.word-iterator) (into_iter_items c.next.new.self)
+    c.loop-word.seen.book c.take_own.new.seen.book c.loop-word.seen.log c.take_own.new.seen.log next inv.1.left told.book told.longer told.reached in (
+      inv.0,
       record {
-        left = left_next same hash c.args.alloc c.args.closed.now.id (length c.args.words.items) c.args.seen.now.book inv.0 c.in-Some.word (into_iter_items c.loop-word.word-iterator) (into_iter_items c.next.new.self)
-            c.loop-word.seen.book c.take_value.new.seen.book c.loop-word.seen.log c.take_value.new.seen.log next inv.1.left told.book told.longer told.reached;
-        taken = taken_none same hash c.args.seen.now.log c.loop-word.seen.log c.take_value.new.seen.log inv.0 c.loop-word.room.items told.longer (subst (IsFree c.take_value.new.seen.log) key told.told) inv.1.taken;
+        left = rw step left;
+        taken = rw step (taken_none same hash lent c.args.seen.now.log c.loop-word.seen.log c.take_own.new.seen.log i inv.0 told.longer (λ mine. subst (IsFree c.take_own.new.seen.log) key (told.told (c.lends-theirs.ensures ∙ mine))) inv.1.taken);
+        behind = inv.1.behind;
         room = omega (arith, inv.1.room, ap length next);
+        capacity = inv.1.capacity;
         whole = omega (arith, inv.1.whole, ap length next, c.in-Some.ensures.steps.1);
       },
     )
 
-pub returns-clause-all : goal.returns-clause-all
-returns-clause-all g c = let inv = c.loop-word.invariant in
-    taken_all g.L.Law.same g.L.Law.hash_of c.args.seen.now.log c.loop-word.seen.log (length c.args.words.items) inv.0 c.loop-word.room.items (omega (arith, inv.1.left.count, inv.1.whole, c.in-None.ensures.steps.0)) c.requires.laid.of.1 c.requires.laid.of.2 inv.1.taken
+pub returns-clause-takes : goal.returns-clause-takes
+returns-clause-takes g c = let inv = c.loop-word.invariant in
+    taken_out g.L.Law.same g.L.Law.hash_of c.args.lent.items c.args.seen.now.log c.loop-word.seen.log (length c.args.words.items) c.loop-word.index c.args.room.items c.loop-word.room.items inv.0
+    (omega (arith, inv.1.left.count, inv.1.whole, c.in-None.ensures.steps.0)) c.requires.laid.of.1 c.requires.laid.of.2 inv.1.behind inv.1.taken
 
 pub returns-clause-book : goal.returns-clause-book
 returns-clause-book g c = c.loop-word.invariant.1.left.book
@@ -69,6 +82,3 @@ returns-clause-longer g c = c.loop-word.invariant.1.taken.on
 
 pub returns-clause-reached : goal.returns-clause-reached
 returns-clause-reached g c = c.loop-word.invariant.1.left.reached
-
-pub returns-clause-placed : goal.returns-clause-placed
-returns-clause-placed g c = λ v among. let s = c.loop-word.invariant.1.taken.stood v among in (s.0, s.2)
