@@ -1,0 +1,4 @@
+//! Two threads tell each other of what they placed while a set grows, and who was told of it finds it: proved.
+#![tactic(auto)]
+
+pub mod tell;

@@ -1,0 +1,5 @@
+pub mod Chains
+pub mod Carried
+pub mod Heirs
+pub mod Endings
+pub mod Ends

@@ -1,0 +1,93 @@
+//! Inserts into a set that grows.
+ghost use Rattle.std.specs.Prelude.{◌≡◌};
+ghost use Rattle.table_bounded.specs.History.{size_of, IsCarried};
+ghost use Rattle.table_bounded.specs.Sets.{IsFullBy};
+ghost use Rattle.table_growing.specs.Known.{KnowsMore, IsAt, Inserts};
+
+use crate::chain::GENERATIONS;
+use crate::cursor::Cursor;
+use crate::known::Known;
+use crate::set::GrowingSet;
+use std::sync::Wait;
+use std::sync::atomic::Ordering::SeqCst;
+use table_bounded::Placing;
+use table_cell::Low;
+use table_sets::SetLaw;
+
+impl<V: Drop, L: SetLaw<V>, A: Low + Copy> GrowingSet<V, L, A> {
+    /// Places the value in the newest generation, if a bucket is left for it there.
+    fn place_in_newest(&self, cursor: &mut Cursor<V, L, A>, value: V) -> Placing<'_, V>
+        requires at { IsAt L.same L.hash_of self.now cursor.old.number cursor.old.chain.book
+            cursor.old.chain.log cursor.old.entries.book cursor.old.entries.log }
+        ensures at { IsAt L.same L.hash_of self.now cursor.new.number cursor.new.chain.book
+            cursor.new.chain.log cursor.new.entries.book cursor.new.entries.log }
+        ensures carried { IsCarried cursor.old.entries.log cursor.new.entries.log }
+        ensures told { Inserts L.same value cursor.old.entries.log cursor.new.entries.log result }
+        ensures full { IsFullBy L.same L.hash_of (size_of cursor.new.entries.log) value
+            cursor.new.entries.log result }
+    {
+        let generation = self.newest(cursor).generation();
+        generation.place(&self.home, &mut cursor.entries, value)
+    }
+
+    /// Counts a value that was placed, and grows the set if its generation is half full then and no other thread grows it.
+    fn count(&self, cursor: &Cursor<V, L, A>)
+        requires { IsAt L.same L.hash_of self.now cursor.now.number cursor.now.chain.book
+            cursor.now.chain.log cursor.now.entries.book cursor.now.entries.log }
+    {
+        let mut mine = cursor.again();
+        let buckets = self.slot_of(&mut mine).generation().buckets();
+        if self.placed.fetch_add(1, SeqCst) >= buckets / 2 {
+            self.grow_if_free(mine);
+        }
+    }
+
+    /// The insert of `insert`.
+    fn insert_at<R: Wait>(&self, rt: &R, cursor: &mut Cursor<V, L, A>, value: V) -> Placing<'_, V>
+        requires at { IsAt L.same L.hash_of self.now cursor.old.number cursor.old.chain.book
+            cursor.old.chain.log cursor.old.entries.book cursor.old.entries.log }
+        ensures at { IsAt L.same L.hash_of self.now cursor.new.number cursor.new.chain.book
+            cursor.new.chain.log cursor.new.entries.book cursor.new.entries.log }
+        ensures carried { IsCarried cursor.old.entries.log cursor.new.entries.log }
+        ensures told { Inserts L.same value cursor.old.entries.log cursor.new.entries.log result }
+        ensures full { IsFullBy L.same L.hash_of (size_of cursor.new.entries.log) value
+            cursor.new.entries.log result }
+    {
+        let mut value = value;
+        for _tried in 0..GENERATIONS {
+            match self.place_in_newest(cursor, value) {
+                Placing::Placed(entry) => {
+                    self.count(cursor);
+                    return Placing::Placed(entry);
+                }
+                Placing::Found(entry, back) => return Placing::Found(entry, back),
+                Placing::NoMemory(back) => return Placing::NoMemory(back),
+                Placing::Full(back) => value = back,
+            }
+            if self.grow(rt, cursor.again()).is_err() {
+                return Placing::Full(value);
+            }
+        }
+        Placing::Full(value)
+    }
+
+    /// Places the value, unless an entry is the same. Any thread may call it. It waits for another thread only where that grows
+    /// the set and no bucket is left for the value, or a closed one alone. Who places a value in a generation that is half full
+    /// grows it, and hashes its entries meanwhile: so no hash or comparison of the law may insert into the same set.
+    ///
+    /// `Placed`: nothing that was placed before it is the same, and nothing that was known. `Found`: the entry that is shown is
+    /// the same. `Full` and `NoMemory`: nothing that `known` then knows is the same, so that none of it is of this call. `Full`
+    /// comes only where no bucket is left for the value: the set couldn't grow, for want of memory, or since it has 40
+    /// generations. What isn't placed comes back, and `known` has learned what the call met. A growth that is refused after the
+    /// value was placed changes no answer; where it was refused as it closed buckets, a new value that needs one of these finds
+    /// the set full until it has grown.
+    pub fn insert<R: Wait>(&self, rt: &R, known: &mut Known<V, L, A>, value: V) -> Placing<'_, V>
+        requires of { known.old.of ≡ self.now }
+        ensures known { KnowsMore known.old known.new }
+        ensures told { Inserts L.same value known.old.history known.new.history result }
+        ensures full { IsFullBy L.same L.hash_of (size_of known.new.history) value
+            known.new.history result }
+    {
+        self.insert_at(rt, &mut known.cursor, value)
+    }
+}
