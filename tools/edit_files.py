@@ -48,10 +48,10 @@ def end_of(lines, first):
 
 
 def item_around(lines, at, kinds):
-    """The number of the line at which the innermost item of these kinds begins that holds line `at`, or None."""
-    for number in range(at - 1, -1, -1):
+    """The number of the line at which the innermost item of these kinds begins that holds line `at`, its header too, or None."""
+    for number in range(at, -1, -1):
         found = ITEM.match(lines[number])
-        if found and found[1] in kinds and indent(lines[number]) < indent(lines[at]) and end_of(lines, number) >= at:
+        if found and found[1] in kinds and indent(lines[number]) <= indent(lines[at]) and end_of(lines, number) >= at:
             return number
     return None
 
@@ -67,13 +67,18 @@ def without_brackets(text):
 def owner_of(lines, number):
     """How the prover names the impl or the trait that begins at a line, as a pattern."""
     last = next(at for at in range(number, len(lines)) if lines[at].endswith("{"))
-    header = without_brackets(" ".join(lines[number : last + 1]))
-    names = [re.findall(r"\w+", part) for part in re.split(r"\bwhere\b|\{", header)[0].split(" for ")]
+    whole = " ".join(lines[number : last + 1])
+    parts = re.split(r"\bwhere\b|\{", without_brackets(whole))[0].split(" for ")
+    names = [re.findall(r"\w+", part) for part in parts]
     if "trait" in names[0]:
         return names[0][names[0].index("trait") + 1]
     # an impl of an alias has the names of its parameters behind it; one of a trait has those of the type, of what it is of, and of
-    # the trait in one
-    return rf"{names[0][-1]}(?:\+\w+)*" if len(names) == 1 else rf"\w*{names[1][-1]}\w*{names[0][-1]}\w*"
+    # the trait in one, and behind them that of the type that the trait is for
+    if len(names) == 1:
+        return rf"{names[0][-1]}(?:\+\w+)*"
+    of = re.match(r"\s*impl \w+<(\w+)> for", whole)
+    named = rf"{names[1][-1]}\w*{names[0][-1]}" + (of[1][0].upper() + of[1][1:] if of else r"\w*")
+    return {"&": r"Ref\w*", "[": r"\w*", "(": r"\w*"}.get(parts[1].strip()[0], "") + named
 
 
 def module_of(file):

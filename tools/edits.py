@@ -1,23 +1,28 @@
 #!/usr/bin/env python3
 """Tries the edits that must fail: all edits of a crate together, in as few checks as they need.
 
-    tools/edits.py [--all] [--jobs N] [CRATE..]
+    tools/edits.py [--all] [--built] [--jobs N] [CRATE..]
     tools/edits.py --self-test
 
 An edit is a file crates/NAME/edits/WHAT.edit: a line `file: src/x.rt`, then pairs of lines `old: TEXT` and `new: TEXT`, each TEXT one line
 that stands once in the file. With --all those of crates/NAME/must-fail/, which `rt ci` tries one by one, are tried too. With no CRATE
-every crate's are. N (2 unless said) is how many jobs a check has.
+every crate's are. N (1 unless said) is how many jobs a check has; several crates are tried side by side.
 
-A crate is first checked as it is, in its own folder, which keeps what is proved in out/. Then a copy is edited in each function that has
-an edit, and checked once over that work, while the next crate is checked. A crate on which no other of them stands, and of which nothing
-is kept, isn't checked as it is. An edit is refused where a goal of its own function fails. Two edits of a function, and those whose
-function only calls one that isn't proved, wait for a later round. Whatever a round leaves open is tried alone, and judged then by the
-whole crate. An edit that is proved, or that the prover never judged, is told by name. The last line is `N passed, M failed`: N edits were
-refused. The status is 0 only where M is 0. With --self-test made edits of the crate `table_terms` are tried, some of which must be told.
+A copy of the crate is edited in each function that has an edit, and these functions are checked once, with those that they call. An edit is
+refused where a goal of its own function fails. Two edits of a function, and those whose function only calls one that isn't proved, wait for
+a later round, over what the rounds before it have proved. Whatever a round leaves open is tried alone, and judged then by the whole crate.
+An edit that is proved, or that the prover never judged, is told by name. The last line is `N passed, M failed`: N edits were refused. The
+status is 0 only where M is 0.
+
+With --built the libraries are those that `rt ci` has just proved and built of this very checkout, and nothing is proved but the copies.
+Otherwise each crate is proved and built first, in its own folder, which keeps what is proved in out/, and its rounds begin with that.
+
+With --self-test made edits of the crate `table_terms` are tried, some of which must be told.
 """
 import argparse
 import concurrent.futures
 import dataclasses
+import json
 import os
 import pathlib
 import re
@@ -79,7 +84,7 @@ class Checked:
         return any(line.startswith("logic=proved ") for line in self.lines)
 
     def is_judged(self):
-        return any(line.startswith("logic=") for line in self.lines)
+        return any(line.startswith(("logic=", "only=")) for line in self.lines)
 
     def names_of(self, edit):
         """The prover's names of the functions of an edit, and of their closures."""
@@ -110,10 +115,9 @@ def stop(*_):
     sys.exit(1)
 
 
-def check(folder, jobs, verb="check"):
-    """Runs `rt check`, or another verb, in a crate's folder."""
+def check(folder, words):
+    """Runs a check, or another command, in a crate's folder."""
     began = time.time()
-    words = ["rt", verb, "--jobs", str(jobs)]
     with tempfile.TemporaryFile("w+", errors="replace") as said:
         ran = subprocess.Popen(words, cwd=folder, stdin=subprocess.DEVNULL, stdout=said, stderr=subprocess.STDOUT)
         RUNNING.add(ran)
@@ -138,28 +142,49 @@ def below(lines, crate):
     return {crate}.union(*(below(lines, name) for name in names if name in lines))
 
 
-def copy_of(top, crate, room):
-    """Copies a crate, those below it, and what is kept of them, to a room of its own, and returns the crate's folder there."""
+def rlib_of(top, crate):
+    """Where the library of a crate lies once it is built."""
+    return top / "crates" / crate / "out/rlib" / f"{crate}.rlib"
+
+
+def functions_of(top, crate):
+    """The prover's names of the functions of a crate that is built."""
+    with open(rlib_of(top, crate) / "toolchain/mir.json") as file:
+        return [name for name, _ in json.load(file) if "+" not in name.partition("::")[2] and "::fn::" not in name]
+
+
+def words_of(top, crate, jobs):
+    """The prover's own command for a crate, over the libraries that are built in this checkout."""
+    kit = pathlib.Path(subprocess.run(["rt", "doc"], capture_output=True, text=True, check=True).stdout.strip()).parent
     lines = listed(top)
-    names = below(lines, crate)
-    (room / "crates.txt").write_text("".join(f"{line}\n" for name, line in lines.items() if name in names))
-    for name in names:
-        # of the crates below a check reads only what is built
-        for part in [*PARTS, "out/rlib"]:
-            if (top / "crates" / name / part).is_dir():
-                shutil.copytree(top / "crates" / name / part, room / "crates" / name / part)
-    if is_kept(top, crate):
-        shutil.copytree(top / "crates" / crate / "out/incremental", room / "kept")
-    return room / "crates" / crate
+    named = ["std", *lines[crate].partition(":")[2].split()]
+    libraries = {name: rlib_of(top, name) if name in lines else kit / "rlibs" / f"{name}.rlib" for name in named}
+    inside = [kit / "rlibs", *(rlib_of(top, name).parent for name in sorted(below(lines, crate) - {crate}))]
+    return [
+        *(str(kit / "bin/rattle"), "check", "--crate-name", crate, "src/lib.rt"),
+        *(word for name, library in libraries.items() for word in ("--extern", f"{name}={library}")),
+        *(word for folder in inside for word in ("-L", f"dependency={folder}")),
+        *("--antt-project", str(kit / "rattle/logic/antt-project.json"), "--logic-built", str(kit / "logic_built")),
+        *("--links", f"{crate}=", "--jobs", str(jobs), "--incremental", "out/incremental"),
+    ]
 
 
-def is_kept(top, crate):
-    """Whether proved work of a crate is kept in its folder."""
-    return (top / "crates" / crate / "out/incremental").is_dir()
+def copy_of(top, crate, room):
+    """Copies a crate, with what is kept of it, to a room of its own, and returns the crate's folder there."""
+    folder = room / "crates" / crate
+    for part in PARTS:
+        if (top / "crates" / crate / part).is_dir():
+            shutil.copytree(top / "crates" / crate / part, folder / part)
+    kept = top / "crates" / crate / "out/incremental"
+    if kept.is_dir():
+        shutil.copytree(kept, room / "kept")
+    else:
+        (folder / "out/incremental").mkdir(parents=True)
+    return folder
 
 
 def renew(source, folder, kept, edits):
-    """Makes the crate's copy ready for a round: the sources with these edits alone, over what is proved of the crate as it is."""
+    """Makes the crate's copy ready for a round: the sources with these edits alone, over what is proved of the crate."""
     shutil.rmtree(folder / "src", ignore_errors=True)
     shutil.copytree(source / "src", folder / "src")
     if kept.is_dir():
@@ -170,6 +195,12 @@ def renew(source, folder, kept, edits):
     for file in {file for file, _ in changed}:
         lines = (folder / file).read_text().split("\n")
         (folder / file).write_text("\n".join(changed.get((file, at), line) for at, line in enumerate(lines)))
+
+
+def asked_for(edits, functions):
+    """The flags that ask for the functions of these edits, and none where an edit is tried alone: then the whole crate is judged."""
+    names = [name for name in functions if any(it.named.fullmatch(name) for edit in edits for it in edit.functions)]
+    return [] if edits[0].is_alone else [word for name in names for word in ("--only", name)]
 
 
 # What a check says of an edit.
@@ -195,8 +226,13 @@ def judge_alone(checked, edit):
         why = [*unread, *(it for it in checked.lines if it.startswith(("rattle", "rt: "))), *checked.lines[-1:], "it said nothing"]
         return False, f"BAD EDIT {edit.name}: the prover did not judge it: {why[0][:300]}"
     told = [it.line for it in checked.told if it.is_note or it.said.startswith("error")]
-    reason = own_goal(checked, edit) or next(iter(told), "the crate is not proved")
-    return True, f"refused: {edit.name}: {reason[:300]}"
+    reasons = [own_goal(checked, edit), *told]
+    verdicts = [checked.verdicts[name] for name in checked.names_of(edit)]
+    # what has no proof, and names no goal that fails, wasn't judged
+    unproved = [it for it in verdicts if it.startswith("no proof") and "did not prove" not in it]
+    if unproved or not any(reasons):
+        return False, f"BAD EDIT {edit.name}: no goal fails: {next(iter(unproved), checked.lines[-1])[:300]}"
+    return True, f"refused: {edit.name}: {next(filter(None, reasons))[:300]}"
 
 
 def judge_together(checked, edits):
@@ -218,13 +254,13 @@ def judge_together(checked, edits):
 
 
 def one_round(edits):
-    """Edits that can be tried together: one of each function and of each line. One that must be alone is, and comes last."""
+    """Edits that can be tried together: one of each function's name and of each line. One that must be alone is, and comes last."""
     first, *_ = ordered = sorted(edits, key=lambda it: it.is_alone)
     if first.is_alone:
         return [first]
     taken, chosen = set(), []
     for edit in ordered:
-        places = {*edit.lines, *((it.file, it.first) for it in edit.functions)}
+        places = {*edit.lines, *(it.named.pattern for it in edit.functions)}
         if not edit.is_alone and not places & taken:
             chosen.append(edit)
             taken |= places
@@ -236,13 +272,14 @@ def one_round(edits):
 
 def rounds_of(top, crate, edits, jobs):
     """Tries the edits of a proved crate. It yields, of each round, the check, how many were tried, and those settled."""
+    words, functions = words_of(top, crate, jobs), functions_of(top, crate)
     with tempfile.TemporaryDirectory(prefix="edits-") as room:
         folder = copy_of(top, crate, pathlib.Path(room))
         while edits:
             tried = one_round(edits)
             renew(top / "crates" / crate, folder, pathlib.Path(room) / "kept", tried)
-            checked = check(folder, jobs)
-            settled = {tried[0].name: judge_alone(checked, tried[0])} if len(tried) == 1 else judge_together(checked, tried)
+            checked = check(folder, [*words, *asked_for(tried, functions)])
+            settled = {tried[0].name: judge_alone(checked, tried[0])} if tried[0].is_alone else judge_together(checked, tried)
             edits = [it for it in edits if it.name not in settled]
             yield checked, len(tried), settled
 
@@ -257,18 +294,11 @@ class Trial:
     results: dict
     jobs: int
 
-    def prove(self, is_needed):
-        """Checks the crate as it is; where no other crate needs it and nothing is kept, it only builds the crates below."""
-        is_checked = is_needed or is_kept(self.top, self.crate)
-        if not is_checked:
-            lines = listed(self.top)
-            for name in lines[self.crate].partition(":")[2].split():
-                if name in lines:
-                    check(self.top / "crates" / name, self.jobs, "lib")
-            return
-        whole = check(self.top / "crates" / self.crate, self.jobs)
-        print(f"{self.crate}: {len(self.edits)} edits; the crate as it is: {whole.cost()}", flush=True)
-        if not whole.is_proved():
+    def prove(self):
+        """Proves and builds the crate as it is, and those below it. Where it isn't proved no edit is tried."""
+        whole = check(self.top / "crates" / self.crate, ["rt", "lib", "--jobs", str(self.jobs)])
+        print(f"{self.crate}: the crate as it is: {whole.cost()}", flush=True)
+        if not rlib_of(self.top, self.crate).is_dir():
             print("\n".join(whole.lines[-5:]))
             self.results |= {it.name: (False, f"NOT TRIED {it.name}: the crate isn't proved without it") for it in self.edits}
             self.edits = []
@@ -291,18 +321,16 @@ def trial_of(top, crate, parts, jobs):
     return Trial(top, crate, edits, {name: (False, f"BAD EDIT {name}: {why}") for name, why in bad.items()}, jobs)
 
 
-def try_all(trials):
+def try_all(trials, is_built):
     """Tries the edits of crates, which come lowest first, and returns what became of each edit by its name."""
-    results = {}
-    # while the edits of a crate are tried, the next one is proved
-    with concurrent.futures.ThreadPoolExecutor(max_workers=1) as lane:
-        tried = []
-        for at, trial in enumerate(trials):
-            trial.prove(any(trial.crate in below(listed(trial.top), later.crate) for later in trials[at + 1:]))
-            tried.append(lane.submit(trial.run))
-        for one in tried:
-            results |= one.result()
-    return results
+    if not is_built:
+        for trial in trials:
+            trial.prove()
+    size = lambda trial: sum(file.stat().st_size for file in (trial.top / "crates" / trial.crate).glob("**/*.antt"))
+    # several crates side by side, those with the most proofs first
+    with concurrent.futures.ThreadPoolExecutor(max_workers=len(os.sched_getaffinity(0))) as pool:
+        found = list(pool.map(Trial.run, sorted(trials, key=size, reverse=True)))
+    return {name: result for one in found for name, result in one.items()}
 
 
 def made_edits(texts):
@@ -328,7 +356,7 @@ def self_test(jobs):
         (top / "crates/table_terms/edits").mkdir(exist_ok=True)
         for name, text in made_edits(texts).items():
             (top / f"crates/table_terms/edits/{name}.edit").write_text(text)
-        results = try_all([trial_of(top, "table_terms", ("edits",), jobs)])
+        results = try_all([trial_of(top, "table_terms", ("edits",), jobs)], False)
     names = {name: results[f"table_terms/{name}.edit"] for name in wanted}
     wrong = [name for name, (is_refused, line) in names.items() if not line.startswith(wanted[name]) or is_refused != (name == "meant")]
     print(f"self-test FAILED: {' '.join(wrong)}" if wrong else "self-test ok", flush=True)
@@ -339,7 +367,8 @@ def main():
     parser = argparse.ArgumentParser(description=__doc__, formatter_class=argparse.RawDescriptionHelpFormatter)
     parser.add_argument("crates", nargs="*", metavar="CRATE")
     parser.add_argument("--all", action="store_true")
-    parser.add_argument("--jobs", type=int, default=2)
+    parser.add_argument("--built", action="store_true")
+    parser.add_argument("--jobs", type=int, default=1)
     parser.add_argument("--self-test", action="store_true")
     given = parser.parse_args()
     signal.signal(signal.SIGTERM, stop)
@@ -351,7 +380,7 @@ def main():
     parts = ["edits", *["must-fail"] * given.all]
     named = [crate for crate in listed(TOP) if not given.crates or crate in given.crates]
     having = [crate for crate in named if any(any((TOP / "crates" / crate / part).glob("*.edit")) for part in parts)]
-    results = try_all([trial_of(TOP, crate, parts, given.jobs) for crate in having])
+    results = try_all([trial_of(TOP, crate, parts, given.jobs) for crate in having], given.built)
     passed = sum(is_refused for is_refused, _ in results.values())
     spent = resource.getrusage(resource.RUSAGE_CHILDREN)
     print(f"edits: {(spent.ru_utime + spent.ru_stime) / 60:.1f} CPU minutes")

@@ -3,10 +3,12 @@
 
     tools/gate.py [LOG]
 
-The gate's own lines go to LOG (default: gate.log). Linux only: the minutes are read off /proc, twice a second.
+The gate's own lines go to LOG (default: gate.log). Linux only: a crate's minutes are read off /proc, twice a second, and are those of
+the prover alone. The last line has all that the gate took, linkers and tests too.
 """
 import collections
 import os
+import resource
 import subprocess
 import sys
 import time
@@ -61,7 +63,9 @@ def main():
     for crate in crates:
         row = [sums[crate, kind] for kind in KINDS]
         print(f"| `{crate}` | " + " | ".join(f"{it:.1f}" for it in row) + f" | {sum(row):.1f} |")
-    print(f"all: {sum(sums.values()):.1f} CPU minutes in {(time.time() - began) / 60:.1f} minutes, status {gate.returncode}")
+    print("| all | " + " | ".join(f"{sum(sums[crate, kind] for crate in crates):.1f}" for kind in KINDS) + f" | {sum(sums.values()):.1f} |")
+    used, minutes = resource.getrusage(resource.RUSAGE_CHILDREN), (time.time() - began) / 60
+    print(f"all: {(used.ru_utime + used.ru_stime) / 60:.1f} CPU minutes in {minutes:.1f} minutes, status {gate.returncode}")
     return gate.returncode
 
 
