@@ -15,7 +15,7 @@ use Rattle.table_tied.specs.Tied.{TiedView, tied_view}
 use Rattle.table_bounded.specs.declared.event.Stored.TheVariants.{Entry}
 use Rattle.table_bounded.specs.History.{History, Stands, IsFree, IsFull, HasSize, Reaches, IsReached}
 use Rattle.table_bounded.specs.Sets.{IsWord}
-use Rattle.table_bounded.specs.Carrying.{IsRight, right_at, CameFrom, Carries, IsUnderWay}
+use Rattle.table_bounded.specs.Carrying.{IsRight, right_at, CameFrom, IsUnderWay}
 use Rattle.table_bounded.proofs.Histories.{false_unless, stands_on, size_on, same_value, full_says, one_bucket}
 use Rattle.table_bounded.proofs.Rights.{AreRights, some_right, still_gone}
 
@@ -99,10 +99,3 @@ module _ {V : Type 0} (same : V → V → Bool) (hash : V → ℕ) where
           let m = t.made (bucket_at n (hash v) j) (tied_view a h true 0 b) (mod_below (hash v + j) n (omega arith)) gone in let c = m.1 in
           (c.0, c.1, false_unless (λ like. let one : done ≡ c.2.0 = one_bucket same hash law old done c.2.0 v c.0 whole stood c.2.2 like in absurd (omega (arith, one, c.2.1)))),
     )
-
-  -- what was carried of a history that got longer since it was full was carried of the full one
-  pub carries_before : (m : ℕ) (old more new : History V) (lent : List Bool) → IsFull m old → HasSize m old → IsPrefix old more → IsReached same hash more → Carries more new lent → Carries old new lent
-  carries_before m old more new lent full size on reached t = record {
-    forth = λ p v at. t.forth p v (stands_on old more p v on at);
-    back = λ q yes. let r = t.back q yes in (r.0, r.1, (r.2.0, full_says same hash m r.2.0 (Entry r.0) old more full size on reached r.2.1));
-  }

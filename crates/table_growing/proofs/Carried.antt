@@ -67,14 +67,6 @@ module _ {V : Type 0} (same : V → V → Bool) (hash : V → ℕ) where
     one_generation j other_b other is at other_at = let one : at.slot ≡ other_at.slot = at.reached.1.row.once j at.slot other_at.slot (subst (λ (n : ℕ). Has chain n at.slot) is at.shown) other_at.shown in
         at.of.0 ∙ (ap (λ (s : SlotView V). s.of.of.book) one ∙ sym other_at.of.0)
 
-    -- who holds a `Known` of this set has a cursor of it
-    pub at_of_known : (k : KnownView V) → known_view cb chain log ≡ k → k.of ≡ g → IsAt same hash (growing_view cb (size_of chain)) i cb chain b log → IsAt same hash g i cb chain b log
-    at_of_known k is of at = subst (λ (x : GrowingView). IsAt same hash x i cb chain b log) (ap (λ (v : KnownView V). v.of) is ∙ of) at
-
-    -- a cursor that has gone on, as a `Known`
-    pub known_by_cursor : IsAt same hash g i cb chain b log → IsAt same hash (growing_view cb (size_of chain)) i cb chain b log
-    known_by_cursor at = subst (λ (x : GrowingView). IsAt same hash x i cb chain b log) (at_known at) at
-
     pub knows_more : (k : KnownView V) (old_cb : Book) (old_chain : Chain V) (old new : History V) → known_view old_cb old_chain old ≡ k → k.of ≡ g → IsAt same hash g i cb chain b log → IsCarried old new → KnowsMore k (known_view cb chain new)
     knows_more k old_cb old_chain old new is of at carried = (sym (at_known at) ∙ sym of, subst (λ (h : History V). IsCarried h new) (ap (λ (v : KnownView V). v.history) is) carried)
 

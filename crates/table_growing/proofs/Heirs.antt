@@ -4,10 +4,9 @@ use Rattle.std.proofs.lemmas.Bool.{false≢true}
 use Rattle.std.specs.Prelude.{replicate}
 use Rattle.std.specs.Int.{IsPowerOfTwo}
 use Rattle.table_bounded.specs.declared.event.Stored.TheVariants.{Entry}
-use Rattle.table_bounded.specs.History.{History, event, HasSize, size_of, IsFull, IsReached}
+use Rattle.table_bounded.specs.History.{History, event}
 use Rattle.table_bounded.specs.Sets.{is_lent}
-use Rattle.table_bounded.specs.Carrying.{Carries}
-use Rattle.table_bounded.proofs.Histories.{size_is, nothing_first}
+use Rattle.table_bounded.proofs.Histories.{nothing_first}
 use Rattle.table_bounded.proofs.Steps.{kept_first}
 use Rattle.table_growing.specs.Chain.{IsHeir}
 
@@ -23,14 +22,6 @@ module _ {V : Type 0} (same : V → V → Bool) (hash : V → ℕ) where
       back = λ q is. absurd (false≢true (subst (λ (l : List Bool). is_lent l q ≡ true) none is));
     };
   })
-
-  pub heir_of_full : (n : ℕ) (before start : History V) (lent : List Bool) → HasSize n before → IsFull n before → IsReached same hash before → Carries before start lent → IsHeir same hash before start lent
-  heir_of_full n before start lent size full reached carries = let is : size_of before ≡ n = size_is n before size in record {
-    size = subst (λ (m : ℕ). HasSize m before) (sym is) size;
-    full = subst (λ (m : ℕ). IsFull m before) (sym is) full;
-    reached = reached;
-    carries = carries;
-  }
 
 pub doubled_power : (n : ℕ) → IsPowerOfTwo n → IsPowerOfTwo (n * 2)
 doubled_power n (k, is) = (suc k, omega (arith, is))
