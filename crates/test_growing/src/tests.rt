@@ -4,5 +4,8 @@ mod drops;
 mod ends;
 mod memory;
 mod runs;
+mod shard_calls;
+mod shards;
+mod share;
 mod texts;
 mod threads;

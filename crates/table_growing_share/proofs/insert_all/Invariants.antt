@@ -1,0 +1,14 @@
+use Rattle.std.proofs.Common.{length}
+use Rattle.table_growing.specs.Known.{KnowsMore}
+use Rattle.table_growing_share.specs.Taken.{TakesIn}
+use Rattle.table_growing_share.proofs.insert_all.Given as goal
+
+-- what was taken is known
+abbrev pub invariant-loop-value : goal.invariant-loop-value
+invariant-loop-value g l = record {
+  more : KnowsMore l.fn.known l.known;
+  taken : TakesIn g.L.Law.same l.known.history l.fn.values.items l.values.items;
+}
+
+abbrev pub decreases-loop-value : goal.decreases-loop-value
+decreases-loop-value g l = length l.values.items
