@@ -13,21 +13,39 @@ mod stress;
 mod words;
 
 use lock_free_hashtable::raw::Low;
-use std::alloc::{AllocError, Allocator};
-use std::io::Read;
+use std::io::{Read, Write};
 use std::process::Abort;
+use std::str;
 use std::sync::Wait;
-use std::test::Fail;
 use std::thread::Threads;
 use testkit_refusing::{Refusing, Rule};
+use tool_call_texts::faults::Fault;
 use tool_commands::program::run_words;
 
 /// What a run printed, and its status.
 #[derive(Drop)]
 struct Ended {
     status: u8,
-    output: String,
-    messages: String,
+    output: Vec<u8>,
+    messages: Vec<u8>,
+}
+
+impl Ended {
+    /// What was printed. The program prints ASCII alone.
+    fn text(&self) -> &str {
+        str::from_utf8(self.output.as_slice()).unwrap_or("no text")
+    }
+}
+
+/// Runs the program's words over an input, on memory of an allocator, into these writers, and answers the status.
+fn run_into<
+    R: Threads + Wait + Sync,
+    A: Low + Copy + Send + Sync,
+    I: Read + Drop,
+    O: Write,
+    M: Write,
+>(rt: &R, alloc: A, words: &[&str], input: I, output: &mut O, messages: &mut M) -> u8 {
+    run_words(rt, alloc, words, input, output, messages)
 }
 
 /// Runs the program's words over an input, on memory of an allocator.
@@ -36,23 +54,19 @@ fn run_on<R: Threads + Wait + AllocGlobal + Sync, A: Low + Copy + Send + Sync, I
     alloc: A,
     words: &[&str],
     input: I,
-) -> Result<Ended, AllocError> {
+) -> Ended {
     let mut output = Vec::new(rt.alloc());
     let mut messages = Vec::new(rt.alloc());
-    let status = run_words(rt, alloc, words, input, &mut output, &mut messages);
-    Ok(Ended {
+    let status = run_into(rt, alloc, words, input, &mut output, &mut messages);
+    Ended {
         status,
-        output: text_of(rt.alloc(), output.as_slice())?,
-        messages: text_of(rt.alloc(), messages.as_slice())?,
-    })
+        output,
+        messages,
+    }
 }
 
 /// Runs the program's words over an input in memory.
-fn run<R: Threads + Wait + AllocGlobal + Sync>(
-    rt: &R,
-    words: &[&str],
-    input: &[u8],
-) -> Result<Ended, AllocError> {
+fn run<R: Threads + Wait + AllocGlobal + Sync>(rt: &R, words: &[&str], input: &[u8]) -> Ended {
     run_on(rt, rt.alloc(), words, input)
 }
 
@@ -62,30 +76,40 @@ fn run_refusing<R: Threads + Wait + AllocGlobal + Sync>(
     rule: Rule,
     words: &[&str],
     input: &[u8],
-) -> Result<(Ended, u64), AllocError> {
+) -> (Ended, u64) {
     let memory = Refusing::new(rt.alloc(), rule);
-    let ended = run_on(rt, &memory, words, input)?;
+    let ended = run_on(rt, &memory, words, input);
     let left = memory.refusals_left();
-    Ok((ended, left))
+    (ended, left)
 }
 
-/// Printed bytes as text. The program prints ASCII alone, so nothing is replaced.
-fn text_of<A: Allocator + Copy>(alloc: A, bytes: &[u8]) -> Result<String<A>, AllocError> {
-    String::from_utf8_lossy(alloc, bytes)
+/// Asserts what bytes were written.
+fn assert_bytes(rt: &impl Abort, at: &str, got: &[u8], expected: &[u8]) {
+    assert_eq!(rt; got, expected, "at {at:?}");
+}
+
+/// Asserts that two numbers are the same.
+fn assert_same(rt: &impl Abort, got: u64, expected: u64) {
+    assert_eq!(rt; got, expected);
+}
+
+/// Asserts how a run ended.
+fn assert_told(rt: &impl Abort, got: Result<(), Fault>, expected: Result<(), Fault>) {
+    assert!(rt; got == expected);
 }
 
 /// Asserts what a run printed, and its status.
-fn assert_ended<R: Abort>(
-    rt: &R,
+fn assert_ended(
+    rt: &impl Abort,
     ended: &Ended,
     at: &str,
     output: &str,
     messages: &str,
     status: u8,
 ) {
-    assert_eq!(rt; ended.output.as_str(), output, "at {at:?}");
-    assert_eq!(rt; ended.messages.as_str(), messages, "at {at:?}");
-    assert_eq!(rt; ended.status, status, "at {at:?}");
+    assert_bytes(rt, at, ended.output.as_slice(), output.as_bytes());
+    assert_bytes(rt, at, ended.messages.as_slice(), messages.as_bytes());
+    assert_same(rt, u64::from(ended.status), u64::from(status));
 }
 
 /// Asserts what the words print over an input.
@@ -94,8 +118,6 @@ fn assert_prints<R: Threads + Wait + AllocGlobal + Abort + Sync>(
     words: &[&str],
     input: &str,
     output: &str,
-) -> Result<(), Fail> {
-    let ended = run(rt, words, input.as_bytes())?;
-    assert_ended(rt, &ended, input, output, "", 0);
-    Ok(())
+) {
+    assert_ended(rt, &run(rt, words, input.as_bytes()), input, output, "", 0);
 }

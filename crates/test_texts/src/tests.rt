@@ -7,9 +7,9 @@ mod program;
 mod streams;
 mod texts;
 
-use std::alloc::{AllocError, Allocator, Global};
+use std::alloc::{Allocator, Global};
 use std::io;
-use std::io::{ErrorKind, Read};
+use std::io::{ErrorKind, Read, Write};
 use std::process::Abort;
 use tool_text_lines::program::run_over;
 use tool_text_lines::texts::TextFiles;
@@ -57,6 +57,41 @@ impl TextFiles for Shelf {
     }
 }
 
+/// Runs the tools as these words ask, over files and an input, on memory of an allocator, and answers the status.
+fn run_into<A: Allocator + Copy, I: Read + Drop, O: Write>(
+    shelf: &Shelf,
+    alloc: A,
+    words: &[&str],
+    input: I,
+    output: &mut O,
+    messages: &mut Vec<u8>,
+) -> u8 {
+    run_over(shelf, alloc, words, input, output, messages)
+}
+
+/// Runs the tool of this name over an input, into a writer of the caller's.
+fn run_writing<I: Read + Drop, O: Write>(
+    heap: Global,
+    tool: &str,
+    input: I,
+    output: &mut O,
+) -> (u8, Vec<u8>) {
+    let mut messages = Vec::new(heap);
+    let status = run_into(&EMPTY_SHELF, heap, &[tool], input, output, &mut messages);
+    (status, messages)
+}
+
+/// Runs the tools as these words ask, over files and an input in memory.
+fn run_files(heap: Global, shelf: &Shelf, words: &[&str], input: &[u8]) -> Ended {
+    let (mut output, mut messages) = (Vec::new(heap), Vec::new(heap));
+    let status = run_into(shelf, heap, words, input, &mut output, &mut messages);
+    Ended {
+        status,
+        output,
+        messages,
+    }
+}
+
 /// Runs the tool of this name over an input, on memory of an allocator.
 fn run_on<A: Allocator + Copy, I: Read + Drop>(
     heap: Global,
@@ -64,9 +99,8 @@ fn run_on<A: Allocator + Copy, I: Read + Drop>(
     alloc: A,
     input: I,
 ) -> Ended {
-    let mut output = Vec::new(heap);
-    let mut messages = Vec::new(heap);
-    let status = run_over(
+    let (mut output, mut messages) = (Vec::new(heap), Vec::new(heap));
+    let status = run_into(
         &EMPTY_SHELF,
         alloc,
         &[tool],
@@ -81,21 +115,19 @@ fn run_on<A: Allocator + Copy, I: Read + Drop>(
     }
 }
 
-/// Printed bytes as text, where what is not UTF-8 is replaced.
-fn text_of(heap: Global, bytes: &[u8]) -> Result<String, AllocError> {
-    String::from_utf8_lossy(heap, bytes)
+/// Asserts what bytes were written.
+fn assert_bytes(rt: &impl Abort, got: &[u8], expected: &[u8]) {
+    assert_eq!(rt; got, expected);
 }
 
 /// Asserts what a run printed, and its status.
-fn assert_ended(
-    rt: &impl Abort,
-    ended: &Ended,
-    at: &str,
-    output: &[u8],
-    messages: &str,
-    status: u8,
-) {
-    assert_eq!(rt; ended.output.as_slice(), output, "at {at:?}");
-    assert_eq!(rt; ended.messages.as_slice(), messages.as_bytes(), "at {at:?}");
-    assert_eq!(rt; ended.status, status, "at {at:?}");
+fn assert_ended(rt: &impl Abort, ended: &Ended, output: &[u8], messages: &str, status: u8) {
+    assert_bytes(rt, ended.output.as_slice(), output);
+    assert_bytes(rt, ended.messages.as_slice(), messages.as_bytes());
+    assert_status(rt, ended.status, status);
+}
+
+/// Asserts with what status a run ended.
+fn assert_status(rt: &impl Abort, got: u8, expected: u8) {
+    assert_eq!(rt; got, expected);
 }

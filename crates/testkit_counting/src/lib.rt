@@ -3,7 +3,9 @@
 
 ghost use Rattle.std.specs.Prelude.{◌≡◌};
 
+pub mod asked;
 pub mod numbers;
+pub mod tally;
 
 use std::alloc::{AllocError, Global};
 use std::sync::Arc;

@@ -1,8 +1,11 @@
-//! Boxed numbers in tables, and what their inserts are told.
-use std::alloc::AllocError;
-use table_terms::law::hash_number;
+//! Tables of numbers that threads share.
+use crate::tally::{Tally, Work, at_once};
+use std::alloc::{AllocError, Global};
+use std::ops::Range;
+use std::sync::Wait;
+use std::thread::Threads;
 
-/// What an insert of a number is told.
+/// What an insert is told.
 #[derive(Clone, Copy, Debug, PartialEq, Eq)]
 pub enum Told {
     /// It is an entry now.
@@ -11,66 +14,129 @@ pub enum Told {
     Found,
     /// It came back, and isn't an entry.
     Refused,
-    /// Another number was shown, or came back.
+    /// Another value was shown, or came back, or there was no memory for the value.
     Wrong,
 }
 
-/// What this answer to an insert of the number tells.
-pub fn told_of(answer: Result<(&u64, Option<Box<u64>>), Box<u64>>, number: u64) -> Told {
-    match answer {
-        Ok((shown, None)) if *shown == number => Told::Placed,
-        Ok((shown, Some(back))) if *shown == number && *back == number => Told::Found,
-        Err(back) if *back == number => Told::Refused,
-        _ => Told::Wrong,
+/// A table of numbers.
+pub trait Numbers {
+    /// What an insert of the number is told.
+    fn insert<R: Wait>(&self, rt: &R, number: u64) -> Told;
+
+    /// Whether a look-up shows the number.
+    fn contains(&self, number: u64) -> bool;
+
+    /// How many entries it counts, and whether it says that it is empty.
+    fn length(&self) -> (u64, bool);
+
+    /// The numbers that a walk shows.
+    fn walked(&self) -> Result<Vec<u64>, AllocError>;
+}
+
+/// What inserts of the numbers are told, one after the other.
+pub fn fill<R: Wait, T: Numbers>(rt: &R, table: &T, numbers: Range<u64>) -> Tally {
+    let mut tally = Tally::NONE;
+    for number in numbers {
+        tally = tally.with(table.insert(rt, number));
+    }
+    tally
+}
+
+/// Threads that fill a table, each with the numbers from one on up to another.
+#[derive(Drop)]
+struct Filling<'a, T> {
+    table: &'a T,
+    parts: &'a [(u64, u64)],
+}
+
+impl<'a, T: Numbers> Work for Filling<'a, T> {
+    fn work<R: Wait>(&self, rt: &R, thread: u64) -> Tally {
+        match self.parts.get(thread as usize) {
+            Some((from, to)) => fill(rt, self.table, *from..*to),
+            None => Tally::NONE,
+        }
     }
 }
 
-/// Equal numbers.
-pub fn same(new: &u64, entry: &u64) -> bool {
-    *new == *entry
+/// A thread for each part inserts its numbers, from one on up to another: what all are told together.
+pub fn fill_at_once<R: Threads + Wait + Sync, T: Numbers + Sync>(
+    rt: &R,
+    table: &T,
+    alloc: Global,
+    parts: &[(u64, u64)],
+) -> Tally {
+    at_once(rt, alloc, parts.len(), &Filling { table, parts })
 }
 
-/// The hash of a number.
-pub fn hash(number: &u64) -> u64 {
-    hash_number(*number)
+/// What `seen` sees where the entries are the numbers below `count`, each once.
+pub fn those_below(count: u64) -> [u64; 5] {
+    [count, count, u64::from(count == 0), count, count]
 }
 
-/// Inserts the numbers below `count`, each again if it was refused, and then the fifth once more: how many were refused. None:
-/// a second try wasn't told Placed, the last insert wasn't told Found, or after a refusal or in the end the entries weren't
-/// those that were told Placed.
-pub fn refused_inserts<
-    I: Fn(u64) -> Result<Told, AllocError>,
-    H: Fn(u64) -> Result<bool, AllocError>,
->(count: u64, insert: I, has_below: H) -> Result<Option<u64>, AllocError>
-    requires insert_callable { I.IsAlwaysCallable insert }
-    requires has_callable { H.IsAlwaysCallable has_below }
-{
+/// The first number that no look-up finds, of those up to `count`, the table's length, whether it says that it is empty, how many
+/// numbers a walk shows, and how many of the first numbers are among them.
+pub fn seen<T: Numbers>(table: &T, count: u64) -> [u64; 5] {
+    let Ok(walked) = table.walked() else {
+        return [u64::MAX; 5];
+    };
+    let (length, is_empty) = table.length();
+    let (shown, first) = count_first(walked);
+    [
+        first_missed(table, count),
+        length,
+        u64::from(is_empty),
+        shown,
+        first,
+    ]
+}
+
+/// Whether the entries are the numbers below `count`, each once.
+fn has_below<T: Numbers>(table: &T, count: u64) -> bool {
+    seen(table, count) == those_below(count)
+}
+
+/// The first number that no look-up finds, of those up to `count`.
+fn first_missed<T: Numbers>(table: &T, count: u64) -> u64 {
+    let beyond = count.wrapping_add(1);
+    for number in 0..beyond {
+        if !table.contains(number) {
+            return number;
+        }
+    }
+    beyond
+}
+
+/// How many numbers these are, and how many of the first numbers are among them: as many, where these are the first numbers, each
+/// once.
+pub fn count_first(mut numbers: Vec<u64>) -> (u64, u64) {
+    numbers.sort_unstable();
+    let mut first = 0u64;
+    for number in numbers.as_slice() {
+        if *number == first {
+            first = first.wrapping_add(1);
+        }
+    }
+    (numbers.len() as u64, first)
+}
+
+/// Inserts the numbers below `count`, each again if it was refused, and then the fifth once more: how many were refused. None: a
+/// first try was told something else than Placed, a second one wasn't told Placed, the last insert wasn't told Found, or after
+/// a refusal or in the end the entries weren't those that were told Placed.
+pub fn refused_inserts<R: Wait, T: Numbers>(rt: &R, table: &T, count: u64) -> Option<u64> {
     let mut refused = 0u64;
     for number in 0..count {
-        if insert(number)? == Told::Refused {
-            refused = refused.wrapping_add(1);
-            if !has_below(number)? || insert(number)? != Told::Placed {
-                return Ok(None);
-            }
-        }
+        refused = refused.wrapping_add(refused_before(rt, table, number)?);
     }
-    let is_right = has_below(count)? && insert(4)? == Told::Found;
-    Ok(if is_right { Some(refused) } else { None })
+    let is_right = has_below(table, count) && table.insert(rt, 4) == Told::Found;
+    if is_right { Some(refused) } else { None }
 }
 
-/// The sum of what the runs count, of which each lets one request more pass than the one before; None where one counts nothing.
-pub fn counted_in_turn<F: Fn(u64) -> Result<Option<u64>, AllocError>>(
-    runs: u64,
-    run: F,
-) -> Result<Option<u64>, AllocError>
-    requires { F.IsAlwaysCallable run }
-{
-    let mut sum = 0u64;
-    for passing in 0..runs {
-        match run(passing)? {
-            Some(counted) => sum = sum.wrapping_add(counted),
-            None => return Ok(None),
-        }
+/// Inserts the number, which isn't there and is placed by the second try at the latest: how often it was refused before.
+fn refused_before<R: Wait, T: Numbers>(rt: &R, table: &T, number: u64) -> Option<u64> {
+    match table.insert(rt, number) {
+        Told::Placed => Some(0),
+        Told::Refused if has_below(table, number) && table.insert(rt, number) == Told::Placed =>
+            Some(1),
+        _ => None,
     }
-    Ok(Some(sum))
 }

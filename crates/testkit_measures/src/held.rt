@@ -1,7 +1,6 @@
-//! Measurements of the table held alone.
-ghost use Rattle.std.specs.Prelude.{◌≤◌, ◌^◌};
+//! Measurements of a set by one thread.
 
-use crate::numbers::{COUNT, KeySet, spread, turn};
+use crate::numbers::{ABSENT, COUNT, KeySet, spread, turn};
 use crate::report::Report;
 use crate::sizes::measure_sizes;
 use std::alloc::Global;
@@ -19,22 +18,22 @@ pub fn measure_held<
     R: Print + Eprint + Clock + Files + AllocGlobal,
 >(rt: &R, report: &Report<'_>, group: &str) -> io::Result<()> {
     match group {
-        "one" => measure_one(rt, report, S::empty(rt.alloc())),
-        "seq" => measure_seq::<S, R>(rt, report),
+        "one" => measure_one(rt, report, &mut S::empty(rt.alloc())),
+        "seq" => measure_seq(rt, report, &mut S::empty(rt.alloc())),
         _ => measure_sizes::<S, R>(rt, report, group, rt.alloc()),
     }
 }
 
 /// Spread keys in an empty set: inserts, resident bytes, hits and misses.
-pub(crate) fn measure_one<R: Print + Clock + Files + AllocGlobal, S: KeySet + Drop>(
+pub(crate) fn measure_one<R: Print + Clock + Files + AllocGlobal, S: KeySet>(
     rt: &R,
     report: &Report<'_>,
-    mut set: S,
+    set: &mut S,
 ) -> io::Result<()> {
     let before = resident_bytes(rt)?;
 
     let start = Instant::now(rt)?;
-    let placed = insert_spread(&mut set);
+    let placed = insert_spread(set, COUNT);
     report.time(rt, "a_ins1", start, placed, COUNT, COUNT)?;
 
     let name = report.name;
@@ -43,27 +42,26 @@ pub(crate) fn measure_one<R: Print + Clock + Files + AllocGlobal, S: KeySet + Dr
     println!(rt; "{name} g_rss {bytes:.2}")?;
 
     let start = Instant::now(rt)?;
-    let hits = count_spread(&set, 0);
+    let hits = count_spread(set, 0);
     report.time(rt, "b_hit1", start, hits, COUNT, COUNT)?;
 
     let start = Instant::now(rt)?;
-    let misses = COUNT - count_spread(&set, 1 << 40);
-    report.time(rt, "c_miss1", start, misses, COUNT, COUNT)
+    let found = count_spread(set, ABSENT);
+    report.time(rt, "c_miss1", start, found, 0, COUNT)
 }
 
-/// The keys 0, 1, 2, ..: inserts and hits.
-fn measure_seq<S: KeySet<Means = Global> + Drop, R: Print + Clock + AllocGlobal>(
+/// The keys 0, 1, 2, .. in an empty set: inserts and hits.
+pub(crate) fn measure_seq<R: Print + Clock, S: KeySet>(
     rt: &R,
     report: &Report<'_>,
+    set: &mut S,
 ) -> io::Result<()> {
-    let mut set = S::empty(rt.alloc());
-
     let start = Instant::now(rt)?;
-    let placed = insert_in_order(&mut set);
+    let placed = insert_in_order(set);
     report.time(rt, "seq_ins1", start, placed, COUNT, COUNT)?;
 
     let start = Instant::now(rt)?;
-    let hits = count_in_order(&set);
+    let hits = count_in_order(set);
     report.time(rt, "seq_hit1", start, hits, COUNT, COUNT)
 }
 
@@ -72,10 +70,8 @@ pub fn check_held<S: KeySet<Means = Global> + Drop, R: Print + AllocGlobal>(
     rt: &R,
     name: &str,
 ) -> io::Result<()> {
-    let mut set = S::empty(rt.alloc());
-    let placed = insert_spread(&mut set);
-    let hits = count_spread(&set, 0);
-    let misses = COUNT - count_spread(&set, 1 << 40);
+    let (placed, hits, found) = count_once(&mut S::empty(rt.alloc()));
+    let misses = COUNT.saturating_sub(found);
     println!(rt; "{name} spread: {placed} placed, {hits} hits, {misses} misses")?;
 
     let mut set = S::empty(rt.alloc());
@@ -84,61 +80,51 @@ pub fn check_held<S: KeySet<Means = Global> + Drop, R: Print + AllocGlobal>(
     println!(rt; "{name} in order: {placed} placed, {hits} hits")
 }
 
-/// How many of the spread keys were placed.
-pub(crate) fn insert_spread<S: KeySet>(set: &mut S) -> u64
-    ensures { result ≤ COUNT }
-{
-    let mut placed = 0;
-    for index in 0..COUNT {
-        if set.insert(spread(index)) {
-            placed += 1;
-        }
+/// How many of the spread keys were placed in an empty set, how many of them are entries then, and how many absent ones.
+pub(crate) fn count_once<S: KeySet>(set: &mut S) -> (u64, u64, u64) {
+    let placed = insert_spread(set, COUNT);
+    (placed, count_spread(set, 0), count_spread(set, ABSENT))
+}
+
+/// How many of so many spread keys were placed.
+pub(crate) fn insert_spread<S: KeySet>(set: &mut S, keys: u64) -> u64 {
+    let mut placed = 0u64;
+    for index in 0..keys {
+        placed = placed.wrapping_add(u64::from(set.insert(spread(index))));
     }
     placed
 }
 
 /// How many of the keys 0, 1, 2, .. were placed.
-fn insert_in_order<S: KeySet>(set: &mut S) -> u64
-    ensures { result ≤ COUNT }
-{
-    let mut placed = 0;
+fn insert_in_order<S: KeySet>(set: &mut S) -> u64 {
+    let mut placed = 0u64;
     for index in 0..COUNT {
-        if set.insert(index) {
-            placed += 1;
-        }
+        placed = placed.wrapping_add(u64::from(set.insert(index)));
     }
     placed
 }
 
 /// How many of the spread keys, taken in another order and so much further on, are entries.
-pub(crate) fn count_spread<S: KeySet>(set: &S, further: u64) -> u64
-    requires { further ≤ 2 ^ 40 }
-    ensures { result ≤ COUNT }
-{
-    let mut found = 0;
+fn count_spread<S: KeySet>(set: &S, further: u64) -> u64 {
+    let mut found = 0u64;
     for index in 0..COUNT {
-        if set.contains(spread(turn(index) + further)) {
-            found += 1;
-        }
+        let key = spread(turn(index).wrapping_add(further));
+        found = found.wrapping_add(u64::from(set.contains(key)));
     }
     found
 }
 
 /// How many of the keys 0, 1, 2, .., taken in another order, are entries.
-fn count_in_order<S: KeySet>(set: &S) -> u64
-    ensures { result ≤ COUNT }
-{
-    let mut found = 0;
+fn count_in_order<S: KeySet>(set: &S) -> u64 {
+    let mut found = 0u64;
     for index in 0..COUNT {
-        if set.contains(turn(index)) {
-            found += 1;
-        }
+        found = found.wrapping_add(u64::from(set.contains(turn(index))));
     }
     found
 }
 
 /// The resident bytes of this process, as Linux counts them.
-pub(crate) fn resident_bytes<R: Files + AllocGlobal>(rt: &R) -> io::Result<u64> {
+fn resident_bytes<R: Files + AllocGlobal>(rt: &R) -> io::Result<u64> {
     let text = fs::read_to_string(rt, "/proc/self/statm")?;
     let pages = match text.split_whitespace().nth(1) {
         Some(pages) => pages.parse::<u64>().unwrap_or(0),

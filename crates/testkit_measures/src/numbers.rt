@@ -16,6 +16,9 @@ pub const START: u64 = 12_345;
 /// How far on the next one is, each time, modulo `COUNT`.
 pub const STRIDE: u64 = 618_033;
 
+/// How far on the keys lie that are absent.
+pub(crate) const ABSENT: u64 = 1 << 40;
+
 /// Spreads 0, 1, 2, .. over all of `u64`, one to one (splitmix64).
 pub fn spread(index: u64) -> u64 {
     let z = index.wrapping_add(0x9E37_79B9_7F4A_7C15);

@@ -1,7 +1,6 @@
 //! Measurements of the machine of all schedules: many calls, one after another.
 
 use crate::report::{Report, refuse_words};
-use std::alloc::Allocator;
 use std::io;
 use std::rt::Clock;
 use std::time::Instant;
@@ -42,7 +41,7 @@ pub fn check_schedules<R: Print + AllocGlobal>(rt: &R) -> io::Result<()> {
 }
 
 /// How many calls end by these events.
-fn take_all<A: Allocator + Copy>(state: &mut State<A>, events: &[Event]) -> io::Result<u64> {
+fn take_all(state: &mut State, events: &[Event]) -> io::Result<u64> {
     let mut replies = 0u64;
     for event in events {
         match state.step(*event) {

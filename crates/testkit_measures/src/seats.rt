@@ -3,10 +3,10 @@ ghost use Rattle.std.specs.Prelude.{◌≡◌, ◌+◌, ◌*◌, ◌++◌, [], �
 ghost use Rattle.seated.specs.Tables.{IsSeatOf};
 ghost use Rattle.seated.specs.Numbers.{known_pairs, own_numbers, Knows};
 
-use crate::numbers::{COUNT, START, STRIDE, spread, total, turn};
+use crate::numbers::{ABSENT, COUNT, START, STRIDE, spread, total, turn};
 use crate::report::{Report, refuse_words};
 use seated::{NumberAnswer, NumberTable, Seat};
-use std::alloc::{AllocError, Allocator, Global};
+use std::alloc::{AllocError, Global};
 use std::num::NonZeroU64;
 use std::rt::Clock;
 use std::thread::Threads;
@@ -24,6 +24,28 @@ const ROUNDS: u64 = 25;
 /// Those keys.
 const SAME: u64 = 10_000;
 
+/// What four threads do at once.
+#[derive(Clone, Copy)]
+enum Work {
+    /// Each inserts the same keys, again and again.
+    Same,
+    /// Each inserts a quarter of the spread keys.
+    Inserts,
+    /// Each looks up all of the spread keys, in an order that begins elsewhere for each.
+    Hits,
+}
+
+impl Work {
+    /// Its name, how many keys are placed or found, and by how many calls.
+    fn terms(self) -> (&'static str, u64, u64) {
+        match self {
+            Work::Same => ("d_same4", SAME, ROUNDS * SAME * THREADS),
+            Work::Inserts => ("e_ins4", COUNT, COUNT),
+            Work::Hits => ("f_hit4", COUNT * THREADS, COUNT * THREADS),
+        }
+    }
+}
+
 /// Runs a group of measurements. A group that is not known is refused.
 pub fn measure_seats<R: Print + Eprint + Clock + Threads + Sync + AllocGlobal>(
     rt: &R,
@@ -34,8 +56,8 @@ pub fn measure_seats<R: Print + Eprint + Clock + Threads + Sync + AllocGlobal>(
     match group {
         "one" => measure_one(rt, report, &table, seat),
         "seq" => measure_seq(rt, report, &table, seat),
-        "same" => measure_same(rt, report, &table, seat),
-        "ins" => measure_inserts(rt, report, &table, seat),
+        "same" => measure_work(rt, report, &table, seat, Work::Same),
+        "ins" => measure_work(rt, report, &table, seat, Work::Inserts),
         _ => refuse_words(rt),
     }
 }
@@ -58,46 +80,10 @@ fn measure_one<R: Print + Clock + Threads + Sync + AllocGlobal>(
     report.time(rt, "b_hit1", start, hits, COUNT, COUNT)?;
 
     let start = Instant::now(rt)?;
-    let hits = count_spread(table, &mut seat, START, 1 << 40);
-    report.time(rt, "c_miss1", start, hits, 0, COUNT)?;
+    let found = count_spread(table, &mut seat, START, ABSENT);
+    report.time(rt, "c_miss1", start, found, 0, COUNT)?;
 
-    measure_hits(rt, report, table, seat)
-}
-
-/// Four threads look up all of the spread keys each, in an order that begins elsewhere for each.
-fn measure_hits<R: Print + Clock + Threads + Sync + AllocGlobal>(
-    rt: &R,
-    report: &Report<'_>,
-    table: &NumberTable<Global>,
-    seat: Seat,
-) -> io::Result<()>
-    requires { IsSeatOf table.now seat }
-{
-    let parts = parts_for(rt.alloc(), table, seat)?;
-    let start = Instant::now(rt)?;
-    let hits = thread::map_vec(
-        rt,
-        parts,
-        &|part: Part| -> u64
-            requires { (part.worker < 4) × IsSeatOf table.now part.seat }
-        {
-            let Part { worker, mut seat } = part;
-            count_spread(
-                table,
-                &mut seat,
-                START + worker * (COUNT / THREADS) * STRIDE,
-                0,
-            )
-        },
-    )?;
-    report.time(
-        rt,
-        "f_hit4",
-        start,
-        total(hits.as_slice()),
-        COUNT * THREADS,
-        COUNT * THREADS,
-    )
+    measure_work(rt, report, table, seat, Work::Hits)
 }
 
 /// The keys 1, 2, 3, .. in one thread.
@@ -118,67 +104,41 @@ fn measure_seq<R: Print + Clock>(
     report.time(rt, "seq_hit1", start, hits, COUNT, COUNT)
 }
 
-/// Four threads insert the same keys, again and again.
-fn measure_same<R: Print + Clock + Threads + Sync + AllocGlobal>(
+/// The time of the work of four threads.
+fn measure_work<R: Print + Clock + Threads + Sync + AllocGlobal>(
     rt: &R,
     report: &Report<'_>,
     table: &NumberTable<Global>,
     seat: Seat,
+    work: Work,
 ) -> io::Result<()>
     requires { IsSeatOf table.now seat }
 {
+    let (name, wanted, operations) = work.terms();
     let parts = parts_for(rt.alloc(), table, seat)?;
     let start = Instant::now(rt)?;
-    let placed = thread::map_vec(
+    let counts = thread::map_vec(
         rt,
         parts,
         &|part: Part| -> u64
             requires { (part.worker < 4) × IsSeatOf table.now part.seat }
-        {
-            let Part {
-                worker: _,
-                mut seat,
-            } = part;
-            insert_same(table, &mut seat)
-        },
+        { count_part(table, part, work) },
     )?;
-    report.time(
-        rt,
-        "d_same4",
-        start,
-        total(placed.as_slice()),
-        SAME,
-        ROUNDS * SAME * THREADS,
-    )
+    let done = total(counts.as_slice());
+    report.time(rt, name, start, done, wanted, operations)
 }
 
-/// Four threads insert a quarter of the spread keys each.
-fn measure_inserts<R: Print + Clock + Threads + Sync + AllocGlobal>(
-    rt: &R,
-    report: &Report<'_>,
-    table: &NumberTable<Global>,
-    seat: Seat,
-) -> io::Result<()>
-    requires { IsSeatOf table.now seat }
+/// How many keys one thread places or finds.
+fn count_part(table: &NumberTable<Global>, part: Part, work: Work) -> u64
+    requires { (part.worker < 4) × IsSeatOf table.now part.seat }
 {
-    let parts = parts_for(rt.alloc(), table, seat)?;
-    let start = Instant::now(rt)?;
-    let placed = thread::map_vec(
-        rt,
-        parts,
-        &|part: Part| -> u64
-            requires { (part.worker < 4) × IsSeatOf table.now part.seat }
-        {
-            let Part { worker, mut seat } = part;
-            insert_spread(
-                table,
-                &mut seat,
-                worker * (COUNT / THREADS),
-                COUNT / THREADS,
-            )
-        },
-    )?;
-    report.time(rt, "e_ins4", start, total(placed.as_slice()), COUNT, COUNT)
+    let Part { worker, mut seat } = part;
+    let from = worker * (COUNT / THREADS);
+    match work {
+        Work::Same => insert_same(table, &mut seat),
+        Work::Inserts => insert_spread(table, &mut seat, from, COUNT / THREADS),
+        Work::Hits => count_spread(table, &mut seat, START + from * STRIDE, 0),
+    }
 }
 
 /// Each workload once, counted and not timed.
@@ -186,7 +146,7 @@ pub fn check_seats<R: Print + Threads + Sync + AllocGlobal>(rt: &R) -> io::Resul
     let (table, mut seat) = NumberTable::new(rt.alloc(), WORDS)?;
     let placed = insert_spread(&table, &mut seat, 0, COUNT);
     let hits = count_spread(&table, &mut seat, START, 0);
-    let found = count_spread(&table, &mut seat, START, 1 << 40);
+    let found = count_spread(&table, &mut seat, START, ABSENT);
     println!(rt; "seats spread: {placed} placed, {hits} hits, {found} of the absent found")
 }
 
@@ -220,12 +180,7 @@ fn parts_for(
 }
 
 /// How many of so many spread keys, from this one on, were placed.
-fn insert_spread<A: Allocator + Copy>(
-    table: &NumberTable<A>,
-    seat: &mut Seat,
-    from: u64,
-    count: u64,
-) -> u64
+fn insert_spread(table: &NumberTable<Global>, seat: &mut Seat, from: u64, count: u64) -> u64
     requires { (from + count ≤ COUNT) × IsSeatOf table.now seat.old }
     ensures seat { IsSeatOf table.now seat.new }
     ensures placed { length (own_numbers seat.new) ≡ length (own_numbers seat.old) + result }
@@ -241,7 +196,7 @@ fn insert_spread<A: Allocator + Copy>(
 }
 
 /// How many of the keys 1, 2, 3, .. were placed.
-fn insert_in_order<A: Allocator + Copy>(table: &NumberTable<A>, seat: &mut Seat) -> u64
+fn insert_in_order(table: &NumberTable<Global>, seat: &mut Seat) -> u64
     requires { IsSeatOf table.now seat.old }
     ensures seat { IsSeatOf table.now seat.new }
     ensures placed { length (own_numbers seat.new) ≡ length (own_numbers seat.old) + result }
@@ -256,7 +211,7 @@ fn insert_in_order<A: Allocator + Copy>(table: &NumberTable<A>, seat: &mut Seat)
 }
 
 /// How many of the same keys were placed, in all rounds.
-fn insert_same<A: Allocator + Copy>(table: &NumberTable<A>, seat: &mut Seat) -> u64
+fn insert_same(table: &NumberTable<Global>, seat: &mut Seat) -> u64
     requires { IsSeatOf table.now seat.old }
     ensures seat { IsSeatOf table.now seat.new }
     ensures placed { length (own_numbers seat.new) ≡ length (own_numbers seat.old) + result }
@@ -269,44 +224,34 @@ fn insert_same<A: Allocator + Copy>(table: &NumberTable<A>, seat: &mut Seat) -> 
 }
 
 /// How many of the spread keys, from so much further on, are found in an order that begins at `start`.
-fn count_spread<A: Allocator + Copy>(
-    table: &NumberTable<A>,
-    seat: &mut Seat,
-    start: u64,
-    further: u64,
-) -> u64
-    requires { (start ≤ 2 ^ 40) × (further ≤ 2 ^ 40) × IsSeatOf table.now seat.old }
-    ensures { IsSeatOf table.now seat.new }
-{
-    let mut found = 0u64;
-    for index in 0..COUNT {
-        if contains_key(
-            table,
-            seat,
-            spread((index * STRIDE + start) % COUNT + further),
-        ) {
-            found += 1;
-        }
-    }
-    found
-}
-
-/// How many of the keys 1, 2, 3, .. are found, in another order.
-fn count_in_order<A: Allocator + Copy>(table: &NumberTable<A>, seat: &mut Seat) -> u64
+fn count_spread(table: &NumberTable<Global>, seat: &mut Seat, start: u64, further: u64) -> u64
     requires { IsSeatOf table.now seat.old }
     ensures { IsSeatOf table.now seat.new }
 {
     let mut found = 0u64;
     for index in 0..COUNT {
-        if contains_key(table, seat, turn(index) + 1) {
-            found += 1;
-        }
+        let turn = (index * STRIDE).wrapping_add(start) % COUNT;
+        let key = spread(turn.wrapping_add(further));
+        found = found.wrapping_add(u64::from(contains_key(table, seat, key)));
+    }
+    found
+}
+
+/// How many of the keys 1, 2, 3, .. are found, in another order.
+fn count_in_order(table: &NumberTable<Global>, seat: &mut Seat) -> u64
+    requires { IsSeatOf table.now seat.old }
+    ensures { IsSeatOf table.now seat.new }
+{
+    let mut found = 0u64;
+    for index in 0..COUNT {
+        let key = turn(index) + 1;
+        found = found.wrapping_add(u64::from(contains_key(table, seat, key)));
     }
     found
 }
 
 /// Whether the key was placed. 0 is no key.
-fn insert_key<A: Allocator + Copy>(table: &NumberTable<A>, seat: &mut Seat, key: u64) -> bool
+fn insert_key(table: &NumberTable<Global>, seat: &mut Seat, key: u64) -> bool
     requires { IsSeatOf table.now seat.old }
     ensures seat { IsSeatOf table.now seat.new }
     ensures placed { IsTrue result → own_numbers seat.new ≡ own_numbers seat.old ++ key ∷ [] }
@@ -319,7 +264,7 @@ fn insert_key<A: Allocator + Copy>(table: &NumberTable<A>, seat: &mut Seat, key:
 }
 
 /// Whether the key is in the table. 0 is no key.
-fn contains_key<A: Allocator + Copy>(table: &NumberTable<A>, seat: &mut Seat, key: u64) -> bool
+fn contains_key(table: &NumberTable<Global>, seat: &mut Seat, key: u64) -> bool
     requires { IsSeatOf table.now seat.old }
     ensures seat { IsSeatOf table.now seat.new }
     ensures found { IsTrue result → Knows (known_pairs seat.new) key }

@@ -1,11 +1,9 @@
 //! Measurements of tables over sixteen shards: one that is held alone, and one that threads share.
 
-use crate::held::{count_spread, insert_spread, measure_one};
+use crate::held::{count_once, measure_one};
 use crate::numbers::{COUNT, KeySet};
 use crate::report::{Report, refuse_words};
-use crate::shared::{
-    MOST, SharedKeys, Work, hits_of, insert_spread as insert_shared, measure_work,
-};
+use crate::shared::{MOST, SharedKeys, Work, count_work, insert_spread, measure_work};
 use lock_free_hashtable::sharded::{HeldShardedTable, ShardedLockFreeRawTable};
 use std::alloc::Global;
 use std::io;
@@ -101,7 +99,7 @@ pub fn measure_sharded<R: Print + Eprint + Clock + Files + Threads + Wait + Sync
     group: &str,
 ) -> io::Result<()> {
     match group {
-        "one" => measure_one(rt, report, ShardSet::empty(rt.alloc())),
+        "one" => measure_one(rt, report, &mut ShardSet::empty(rt.alloc())),
         "same" => measure_work::<R, SharedShards>(rt, report, Work::Same, None),
         "hit" => measure_work::<R, SharedShards>(rt, report, Work::Hits, None),
         _ => refuse_words(rt),
@@ -110,14 +108,12 @@ pub fn measure_sharded<R: Print + Eprint + Clock + Files + Threads + Wait + Sync
 
 /// Spread keys once, counted and not timed.
 pub fn check_sharded<R: Print + Threads + Wait + Sync + AllocGlobal>(rt: &R) -> io::Result<()> {
-    let mut set = ShardSet::empty(rt.alloc());
-    let placed = insert_spread(&mut set);
-    let hits = count_spread(&set, 0);
-    let misses = COUNT - count_spread(&set, 1 << 40);
+    let (placed, hits, found) = count_once(&mut ShardSet::empty(rt.alloc()));
+    let misses = COUNT.saturating_sub(found);
     println!(rt; "sharded spread: {placed} placed, {hits} hits, {misses} misses")?;
 
     let set = SharedShards::empty(rt.alloc());
-    let placed = insert_shared(rt, &set, 0, COUNT);
-    let hits = hits_of(rt, rt.alloc(), &set, MOST)?;
+    let placed = insert_spread(rt, &set, 0, COUNT);
+    let hits = count_work(rt, rt.alloc(), &set, Work::Hits, MOST)?;
     println!(rt; "sharded by four: {placed} placed, {hits} hits")
 }

@@ -1,11 +1,10 @@
 //! Measurements of the table that threads share, with one thread to four.
 
-use crate::held::resident_bytes;
+use crate::held::{count_once, measure_one, measure_seq};
 use crate::numbers::{COUNT, KeySet, NumberValue, spread, total, turn};
 use crate::report::{Report, refuse_words};
 use crate::sizes::measure_sizes;
 use std::alloc::{AllocError, Global};
-use std::num::nearest_u64_to_f64;
 use std::rt::{Clock, Files};
 use std::sync::Wait;
 use std::thread::Threads;
@@ -20,9 +19,6 @@ const ROUNDS: u64 = 25;
 /// Those keys.
 const SAME: u64 = 10_000;
 
-/// How far on the keys lie that are absent.
-const ABSENT: u64 = 1 << 40;
-
 /// The most threads that are measured.
 pub(crate) const MOST: u64 = 4;
 
@@ -33,8 +29,34 @@ pub(crate) enum Work {
     Same,
     /// Each inserts a part of the keys.
     Inserts,
-    /// Each looks all keys up.
+    /// Each looks all keys up, in an order that begins elsewhere for each.
     Hits,
+}
+
+impl Work {
+    /// What it is named beside the number of threads.
+    fn name(self) -> &'static str {
+        match self {
+            Work::Same => "d_same",
+            Work::Inserts => "e_ins",
+            Work::Hits => "f_hit",
+        }
+    }
+
+    /// How many keys so many threads place or find, and by how many calls.
+    fn wanted(self, threads: u64) -> (u64, u64) {
+        let all = match self {
+            Work::Same => return (SAME, (ROUNDS * SAME).wrapping_mul(threads)),
+            Work::Inserts => part_for(threads).wrapping_mul(threads),
+            Work::Hits => COUNT.wrapping_mul(threads),
+        };
+        (all, all)
+    }
+}
+
+/// How many keys each of so many threads begins after the one before it.
+fn part_for(threads: u64) -> u64 {
+    COUNT.checked_div(threads).unwrap_or(COUNT)
 }
 
 /// A set of numbers that threads share.
@@ -120,58 +142,18 @@ pub fn measure_shared<
     R: Print + Eprint + Clock + Files + Threads + Wait + Sync + AllocGlobal,
 >(rt: &R, report: &Report<'_>, group: &str, threads: Option<&str>) -> io::Result<()> {
     match (group, threads) {
-        ("one", None) => measure_one::<S, R>(rt, report),
-        ("seq", None) => measure_seq::<S, R>(rt, report),
+        ("one", None) => {
+            let mut keys = ByOneThread::<'_, S, R>::empty(rt);
+            measure_one(rt, report, &mut keys)?;
+            time_work(rt, report, &keys.set, Work::Hits, MOST)
+        }
+        ("seq", None) => measure_seq(rt, report, &mut ByOneThread::<'_, S, R>::empty(rt)),
         ("same", _) => measure_work::<R, S>(rt, report, Work::Same, threads),
         ("ins", _) => measure_work::<R, S>(rt, report, Work::Inserts, threads),
         ("hit", _) => measure_work::<R, S>(rt, report, Work::Hits, threads),
         (_, None) => measure_sizes::<ByOneThread<'_, S, R>, R>(rt, report, group, rt),
         _ => refuse_words(rt),
     }
-}
-
-/// Spread keys in one thread: inserts, resident bytes, hits and misses; and then hits in four.
-fn measure_one<
-    S: SharedKeys + Sync + Drop,
-    R: Print + Clock + Files + Threads + Wait + Sync + AllocGlobal,
->(rt: &R, report: &Report<'_>) -> io::Result<()> {
-    let before = resident_bytes(rt)?;
-    let set = S::empty(rt.alloc());
-
-    let start = Instant::now(rt)?;
-    let placed = insert_spread(rt, &set, 0, COUNT);
-    report.time(rt, "a_ins1", start, placed, COUNT, COUNT)?;
-
-    let name = report.name;
-    let bytes = nearest_u64_to_f64(resident_bytes(rt)?.saturating_sub(before))
-        / nearest_u64_to_f64(COUNT);
-    println!(rt; "{name} g_rss {bytes:.2}")?;
-
-    let start = Instant::now(rt)?;
-    let hits = count_spread(&set, 0, 0);
-    report.time(rt, "b_hit1", start, hits, COUNT, COUNT)?;
-
-    let start = Instant::now(rt)?;
-    let hits = count_spread(&set, 0, ABSENT);
-    report.time(rt, "c_miss1", start, hits, 0, COUNT)?;
-
-    time_hits(rt, report, &set, MOST)
-}
-
-/// The keys 0, 1, 2, .. in one thread: inserts and hits.
-fn measure_seq<S: SharedKeys + Sync + Drop, R: Print + Clock + Wait + AllocGlobal>(
-    rt: &R,
-    report: &Report<'_>,
-) -> io::Result<()> {
-    let set = S::empty(rt.alloc());
-
-    let start = Instant::now(rt)?;
-    let placed = insert_in_order(rt, &set);
-    report.time(rt, "seq_ins1", start, placed, COUNT, COUNT)?;
-
-    let start = Instant::now(rt)?;
-    let hits = count_in_order(&set);
-    report.time(rt, "seq_hit1", start, hits, COUNT, COUNT)
 }
 
 /// The work with so many threads, or with one to four in turn, each time in a new set.
@@ -199,91 +181,53 @@ fn measure_team<
     S: SharedKeys + Sync + Drop,
 >(rt: &R, report: &Report<'_>, work: Work, threads: u64) -> io::Result<()> {
     let set = S::empty(rt.alloc());
-    match work {
-        Work::Same => time_same(rt, report, &set, threads),
-        Work::Inserts => time_inserts(rt, report, &set, threads),
-        Work::Hits => {
-            insert_spread(rt, &set, 0, COUNT);
-            time_hits(rt, report, &set, threads)
-        }
+    if let Work::Hits = work {
+        insert_spread(rt, &set, 0, COUNT);
     }
+    time_work(rt, report, &set, work, threads)
 }
 
-/// So many threads insert the same keys, again and again.
-fn time_same<R: Print + Clock + Threads + Wait + Sync + AllocGlobal, S: SharedKeys + Sync>(
+/// The time of the work of so many threads.
+fn time_work<R: Print + Clock + Threads + Wait + Sync + AllocGlobal, S: SharedKeys + Sync>(
     rt: &R,
     report: &Report<'_>,
     set: &S,
+    work: Work,
     threads: u64,
 ) -> io::Result<()> {
-    let name = format!(in rt.alloc(); "d_same{threads}")?;
+    let name = work.name();
+    let name = format!(in rt.alloc(); "{name}{threads}")?;
+    let (wanted, operations) = work.wanted(threads);
     let start = Instant::now(rt)?;
-    let placed = thread::map_indices(
-        rt,
-        rt.alloc(),
-        threads as usize,
-        &|_worker: usize| insert_same(rt, set),
-    )?;
-    let operations = (ROUNDS * SAME).wrapping_mul(threads);
-    report.time(
-        rt,
-        name.as_str(),
-        start,
-        total(placed.as_slice()),
-        SAME,
-        operations,
-    )
+    let done = count_work(rt, rt.alloc(), set, work, threads)?;
+    report.time(rt, name.as_str(), start, done, wanted, operations)
 }
 
-/// So many threads insert a part of the spread keys each.
-fn time_inserts<R: Print + Clock + Threads + Wait + Sync + AllocGlobal, S: SharedKeys + Sync>(
-    rt: &R,
-    report: &Report<'_>,
-    set: &S,
-    threads: u64,
-) -> io::Result<()> {
-    let name = format!(in rt.alloc(); "e_ins{threads}")?;
-    let part = COUNT.checked_div(threads).unwrap_or(COUNT);
-    let start = Instant::now(rt)?;
-    let placed = thread::map_indices(
-        rt,
-        rt.alloc(),
-        threads as usize,
-        &|worker: usize| insert_spread(rt, set, part.wrapping_mul(worker as u64), part),
-    )?;
-    let all = part.wrapping_mul(threads);
-    report.time(rt, name.as_str(), start, total(placed.as_slice()), all, all)
-}
-
-/// So many threads look up all of the spread keys each, in an order that begins elsewhere for each.
-fn time_hits<R: Print + Clock + Threads + Sync + AllocGlobal, S: SharedKeys + Sync>(
-    rt: &R,
-    report: &Report<'_>,
-    set: &S,
-    threads: u64,
-) -> io::Result<()> {
-    let name = format!(in rt.alloc(); "f_hit{threads}")?;
-    let start = Instant::now(rt)?;
-    let hits = hits_of(rt, rt.alloc(), set, threads)?;
-    let all = COUNT.wrapping_mul(threads);
-    report.time(rt, name.as_str(), start, hits, all, all)
-}
-
-/// How many hits so many threads have.
-pub(crate) fn hits_of<R: Threads + Sync, S: SharedKeys + Sync>(
+/// How many keys so many threads place or find.
+pub(crate) fn count_work<R: Threads + Wait + Sync, S: SharedKeys + Sync>(
     rt: &R,
     alloc: Global,
     set: &S,
+    work: Work,
     threads: u64,
 ) -> Result<u64, AllocError> {
-    let part = COUNT.checked_div(threads).unwrap_or(COUNT);
-    let hits = thread::map_indices(
+    let part = part_for(threads);
+    let counts = thread::map_indices(
         rt,
         alloc,
         threads as usize,
-        &|worker: usize| count_spread(set, part.wrapping_mul(worker as u64), 0),
+        &|worker: usize| count_part(rt, set, work, part, part.wrapping_mul(worker as u64)),
     )?;
-    Ok(total(hits.as_slice()))
+    Ok(total(counts.as_slice()))
+}
+
+/// How many keys one thread places or finds, whose part begins here.
+fn count_part<R: Wait, S: SharedKeys>(rt: &R, set: &S, work: Work, part: u64, from: u64) -> u64 {
+    match work {
+        Work::Same => insert_same(rt, set),
+        Work::Inserts => insert_spread(rt, set, from, part),
+        Work::Hits => count_spread(set, from),
+    }
 }
 
 /// Each workload once on a set that threads share, counted and not timed.
@@ -291,23 +235,14 @@ pub fn check_shared<S: SharedKeys + Sync + Drop, R: Print + Threads + Wait + Syn
     rt: &R,
     name: &str,
 ) -> io::Result<()> {
-    let set = S::empty(rt.alloc());
-    let placed = insert_spread(rt, &set, 0, COUNT);
-    let hits = count_spread(&set, 0, 0);
-    let found = count_spread(&set, 0, ABSENT);
+    let mut keys = ByOneThread::<'_, S, R>::empty(rt);
+    let (placed, hits, found) = count_once(&mut keys);
     println!(rt; "{name} spread: {placed} placed, {hits} hits, {found} of the absent found")?;
 
-    let hits = hits_of(rt, rt.alloc(), &set, MOST)?;
+    let hits = count_work(rt, rt.alloc(), &keys.set, Work::Hits, MOST)?;
     println!(rt; "{name} by four: {hits} hits")?;
 
-    let set = S::empty(rt.alloc());
-    let placed = thread::map_indices(
-        rt,
-        rt.alloc(),
-        MOST as usize,
-        &|_worker: usize| insert_same(rt, &set),
-    )?;
-    let placed = total(placed.as_slice());
+    let placed = count_work(rt, rt.alloc(), &S::empty(rt.alloc()), Work::Same, MOST)?;
     println!(rt; "{name} by four: {placed} placed")
 }
 
@@ -315,20 +250,8 @@ pub fn check_shared<S: SharedKeys + Sync + Drop, R: Print + Threads + Wait + Syn
 pub(crate) fn insert_spread<R: Wait, S: SharedKeys>(rt: &R, set: &S, from: u64, count: u64) -> u64 {
     let mut placed = 0u64;
     for index in 0..count {
-        if set.insert(rt, spread(from.wrapping_add(index))) {
-            placed = placed.wrapping_add(1);
-        }
-    }
-    placed
-}
-
-/// How many of the keys 0, 1, 2, .. were placed.
-fn insert_in_order<R: Wait, S: SharedKeys>(rt: &R, set: &S) -> u64 {
-    let mut placed = 0u64;
-    for index in 0..COUNT {
-        if set.insert(rt, index) {
-            placed = placed.wrapping_add(1);
-        }
+        let key = spread(from.wrapping_add(index));
+        placed = placed.wrapping_add(u64::from(set.insert(rt, key)));
     }
     placed
 }
@@ -342,25 +265,12 @@ fn insert_same<R: Wait, S: SharedKeys>(rt: &R, set: &S) -> u64 {
     placed
 }
 
-/// How many of the spread keys, taken in another order from its turn `start` on and so much further on, are entries.
-fn count_spread<S: SharedKeys>(set: &S, start: u64, further: u64) -> u64 {
+/// How many of the spread keys, taken in another order from its turn `start` on, are entries.
+fn count_spread<S: SharedKeys>(set: &S, start: u64) -> u64 {
     let mut found = 0u64;
     for index in 0..COUNT {
-        let key = turn(index.wrapping_add(start) % COUNT);
-        if set.contains(spread(key.wrapping_add(further))) {
-            found = found.wrapping_add(1);
-        }
-    }
-    found
-}
-
-/// How many of the keys 0, 1, 2, .., taken in another order, are entries.
-fn count_in_order<S: SharedKeys>(set: &S) -> u64 {
-    let mut found = 0u64;
-    for index in 0..COUNT {
-        if set.contains(turn(index)) {
-            found = found.wrapping_add(1);
-        }
+        let key = spread(turn(index.wrapping_add(start) % COUNT));
+        found = found.wrapping_add(u64::from(set.contains(key)));
     }
     found
 }

@@ -1,4 +1,4 @@
--- When the calls of a replay can take a step.
+-- When the calls of a schedule can take a step.
 use Rattle.std.specs.Prelude.{Bool, All}
 use Rattle.std.specs.Borrow.{Bor}
 use Rattle.std.specs.Fn.{Shared as SharedFn}
@@ -6,8 +6,7 @@ use Rattle.table_shared.specs.Stepped.{MayStep}
 use Rattle.testkit_replay.specs.declared.item.Item.{Item}
 use Rattle.testkit_replay.specs.declared.running.Steps.{Steps}
 use Rattle.testkit_replay.specs.declared.running.Steps.TheVariants.{Insert, Lookup}
-use Rattle.testkit_replay.specs.declared.running.Running.{Running}
-use Rattle.testkit_replay.specs.declared.replay.Replay.{Replay}
+use Rattle.testkit_replay.specs.declared.running.Calls.{Calls}
 
 module _ {E H F : Type 0} (CallE : E → Type 0) (CallH : H → Type 0) (CallF : F → Type 0)
     (says : SharedFn E (Bor Item × (Bor Item × Unit {0})) Bool) where
@@ -16,10 +15,6 @@ module _ {E H F : Type 0} (CallE : E → Type 0) (CallH : H → Type 0) (CallF :
   MayGo (Insert call) = MayStep CallE CallH (λ b. b.value) says call
   MayGo (Lookup call) = CallF call.test
 
-  -- the closures of this call can be called
-  abbrev pub MayRun : Running E H F → Type 0
-  MayRun running = MayGo running.steps
-
-  -- the closures of a replay and of its calls can be called
-  abbrev pub IsReady : Replay E H F → Type 0
-  IsReady replay = CallE replay.eq × CallH replay.hash_fn × CallF replay.test × All MayRun replay.calls.items
+  -- the closures of these calls can be called
+  abbrev pub IsReady : Calls E H F → Type 0
+  IsReady calls = CallE calls.eq × CallH calls.hash_fn × CallF calls.test × All MayGo calls.begun.items

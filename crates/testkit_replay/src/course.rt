@@ -1,26 +1,25 @@
 //! What is run on a table beside the machine.
 ghost use Rattle.table_terms.specs.Capacities.{IsFirstCapacity};
-ghost use Rattle.testkit_replay.specs.Running.{IsReady};
 
+use crate::events::{answers_of, takes};
 use crate::fault::Fault;
 use crate::item::Item;
-use crate::replay::{Ground, Replay};
-use crate::running::Table;
-use crate::schedules::Ask;
+use crate::replay::{Replay, Turn, any_request, run_schedule};
+use crate::running::{Schedule, Stepped};
+use crate::schedules::{Ask, Cut, Drawn};
 use crate::script::{Manner, Script};
 use std::alloc::Global;
+use table_core::call::Phase;
 use table_core::event::Event;
-use table_shared::LockFreeRawTable;
-use testkit_refusing::{Refusing, Rule};
 
 /// What a replay runs, from a table without a generation on.
 #[derive(Clone, Copy)]
 pub enum Course<'c> {
-    /// A schedule that is drawn: see `Replay::run_drawn`.
+    /// A schedule that is drawn: see `Drawn`.
     Drawn {
         refuses: bool,
     },
-    /// Inserts of values of these hashes, and then two calls that cut into each other: see `Replay::cut`.
+    /// Inserts of values of these hashes, and then two calls that cut into each other: see `Cut`.
     Cut {
         hashes: &'c [u64],
         asks: (Ask, Ask),
@@ -46,68 +45,121 @@ pub fn run_course(
 ) -> Result<(), Fault>
     requires { IsFirstCapacity first }
 {
-    let memory = Refusing::new(alloc, Rule::new(0, usize::MAX, 0, 0));
-    let table: Table<'_> = LockFreeRawTable::with_first_capacity(&memory, first as usize);
     let script = Script::new(manner, seed);
-    let ground = Ground {
-        alloc,
-        first,
-        memory: &memory,
-        table: &table,
-        script: &script,
+    match course {
+        Course::Drawn { refuses } => {
+            let mut drawn = Drawn::new(&script, refuses);
+            run_schedule(alloc, first, any_request(), &script, &mut drawn)
+        }
+        Course::Cut {
+            hashes,
+            asks,
+            steps,
+            most,
+        } => {
+            let mut cut = Cut::new(hashes, asks, steps, most);
+            run_schedule(alloc, first, any_request(), &script, &mut cut)
+        }
+        Course::Events { events, classes } => {
+            let mut events = Events {
+                left: events,
+                classes,
+                event: None,
+            };
+            run_schedule(alloc, first, any_request(), &script, &mut events)
+        }
+    }
+}
+
+/// Events one after the other, by calls of these classes.
+#[derive(Drop)]
+struct Events<'c> {
+    left: &'c [Option<Event>],
+    classes: &'c [(u64, u64)],
+    /// The event of this turn.
+    event: Option<Event>,
+}
+
+impl Events<'_> {
+    /// The class that is given to a call.
+    fn class_of(&self, call: u64) -> Option<u64> {
+        for (named, class) in self.classes {
+            if *named == call {
+                return Some(*class);
+            }
+        }
+        None
+    }
+
+    /// One event of a schedule. A call that it begins is of its class: if none is given, of that of its value's number, or of 0.
+    fn follow(&mut self, replay: &mut Replay<'_, '_>, event: Event) -> Result<Turn, Fault> {
+        match event {
+            Event::Insert { call, value, hash } => {
+                let class = self.class_of(call).unwrap_or(value);
+                replay.insert(
+                    call,
+                    Item {
+                        number: value,
+                        class,
+                        hash,
+                    },
+                )
+            }
+            Event::Lookup { call, hash } => replay.lookup(
+                call,
+                self.class_of(call).unwrap_or(0),
+                hash,
+            ),
+            Event::Len { .. } | Event::Walk { .. } => replay.begin_whole(event),
+            _ => follow_step(replay, event),
+        }
+    }
+}
+
+/// One event of a call that has begun.
+fn follow_step(replay: &mut Replay<'_, '_>, event: Event) -> Result<Turn, Fault> {
+    let Some(index) = replay.place_of(event.call()) else {
+        replay.take(event)?;
+        return Ok(Turn::Nothing);
     };
-    let mut replay = Replay::new(
-        ground,
-        |new: &Item, entry: &Item| script.says(new.class, entry.class),
-        |entry: &Item| script.rehashes(entry.hash),
-        |entry: &Item| script.seeks(entry.class),
-    );
-    replay.run(course)
+    if !takes(replay.phase_at(index), event) {
+        return replay.follow_blocked(index, event);
+    }
+    let answers = answers_of(event);
+    replay
+        .ground
+        .memory
+        .refuse(0, if answers.granted { 0 } else { 1 });
+    Ok(replay.step(index, answers.accepted, answers.hash))
 }
 
-impl<
-    'a,
-    'm,
-    E: Fn(&Item, &Item) -> bool + Copy,
-    H: Fn(&Item) -> u64 + Copy,
-    F: Fn(&Item) -> bool + Copy,
-> Replay<'a, 'm, E, H, F> {
-    /// Runs a course.
-    fn run(&mut self, course: Course<'_>) -> Result<(), Fault>
-        requires ready { IsReady E.IsAlwaysCallable H.IsAlwaysCallable F.IsAlwaysCallable E.Fn self.old }
-    {
-        match course {
-            Course::Drawn { refuses } => self.run_drawn(refuses),
-            Course::Cut {
-                hashes,
-                asks,
-                steps,
-                most,
-            } => {
-                self.fill(hashes)?;
-                self.cut(asks, steps, most)
+impl Schedule for Events<'_> {
+    fn next(&mut self, replay: &mut Replay<'_, '_>) -> Result<Turn, Fault> {
+        let Some((event, left)) = self.left.split_first() else {
+            return replay.end();
+        };
+        self.left = left;
+        self.event = *event;
+        match *event {
+            Some(event) => self.follow(replay, event),
+            None => {
+                replay.compare_buckets()?;
+                Ok(Turn::Nothing)
             }
-            Course::Events { events, classes } => self.follow_all(events, classes),
         }
     }
 
-    /// Follows these events one after the other, by calls of these classes. Where there is none, the numbers of buckets are
-    /// compared.
-    fn follow_all(&mut self, events: &[Option<Event>], classes: &[(u64, u64)]) -> Result<(), Fault>
-        requires ready { IsReady E.IsAlwaysCallable H.IsAlwaysCallable F.IsAlwaysCallable E.Fn self.old }
-    {
-        for event in events {
-            match event {
-                Some(event) => self.follow(*event, class_of(classes, event.call()))?,
-                None => self.compare_buckets()?,
-            }
+    fn hear(&mut self, replay: &mut Replay<'_, '_>, stepped: Stepped) -> Result<(), Fault> {
+        let Some(event) = self.event else {
+            return Ok(());
+        };
+        replay.follow_by(event, stepped)?;
+        let call = event.call();
+        let copied = stepped.state.phase == Phase::Building;
+        match event {
+            Event::Copy { .. } if !copied => Err(Fault::Step { call }),
+            Event::Show { .. } if copied => Err(Fault::Step { call }),
+            _ => Ok(()),
         }
-        self.compare_all()
     }
-}
-
-/// The class that is given to a call.
-fn class_of(classes: &[(u64, u64)], call: u64) -> Option<u64> {
-    let (_call, class) = classes.iter().find(|given: &&(u64, u64)| given.0 == call)?;
-    Some(*class)
 }

@@ -1,14 +1,12 @@
 //! Why a replay ends early.
 use crate::item::Said;
-use std::alloc::{AllocError, AllocFailed};
-use table_core::state::NoMemory;
 
 /// What a replay met that it doesn't go on from.
-#[derive(Clone, Copy, Debug, PartialEq, Eq)]
+#[derive(Clone, Copy, Debug)]
 pub enum Fault {
-    /// Memory was refused to the replay itself.
+    /// The replay itself was refused memory.
     NoMemory,
-    /// The table told this call something else than the machine told it.
+    /// This call was told something else by the table than by the machine.
     Told {
         call: u64,
         table: Option<Said>,
@@ -18,39 +16,30 @@ pub enum Fault {
     Stands {
         call: u64,
     },
-    /// The lengths, the walks or the numbers of buckets aren't the same.
-    Length,
-    Walk,
-    Buckets,
-    /// A call took a step that its event doesn't name, or not all calls ended.
+    /// This call took a step that its event doesn't name.
     Step {
         call: u64,
     },
-    Unfinished,
     /// A closure of this call was asked about another entry, more often, or less often, than by its steps.
     Asked {
         call: u64,
     },
+    /// Not all calls ended.
+    Unfinished,
+    /// The table counts more or fewer entries than the machine, shows them in another order, or has other buckets.
+    Length,
+    Walk,
+    Buckets,
     /// A look at the table from inside a closure showed something else.
     Sight,
     /// Of two calls that were to meet one went on without the other.
     Alone,
 }
 
-impl From<AllocError> for Fault {
-    fn from(_refused: AllocError) -> Fault {
-        Fault::NoMemory
-    }
-}
-
-impl<T: Drop> From<AllocFailed<T>> for Fault {
-    fn from(_refused: AllocFailed<T>) -> Fault {
-        Fault::NoMemory
-    }
-}
-
-impl From<NoMemory> for Fault {
-    fn from(_refused: NoMemory) -> Fault {
-        Fault::NoMemory
+/// What the replay itself asked of memory.
+pub(crate) fn granted<T, E: Drop>(asked: Result<T, E>) -> Result<T, Fault> {
+    match asked {
+        Ok(there) => Ok(there),
+        Err(_refused) => Err(Fault::NoMemory),
     }
 }

@@ -1,7 +1,7 @@
 //! What the machine tells of a schedule.
 ghost use Rattle.table_terms.specs.Capacities.{IsFirstCapacity};
 
-use crate::fault::Fault;
+use crate::fault::{Fault, granted};
 use crate::item::Said;
 use std::alloc::Global;
 use table_core::call::CallState;
@@ -36,7 +36,7 @@ impl Machine {
 
     /// Takes one event: the call that finishes by it.
     pub fn take(&mut self, event: Event) -> Result<Option<Finished>, Fault> {
-        Ok(self.state.step(event)?)
+        granted(self.state.step(event))
     }
 
     /// Where the call of this number stands, if it has begun.
@@ -58,22 +58,22 @@ impl Machine {
     /// How many entries it counts now, by a call of its own.
     pub fn length(&mut self) -> Result<Option<u64>, Fault> {
         let call = self.own_call();
-        self.state.step(Event::Len { call })?;
-        let loaded = self.state.step(Event::Load { call })?;
-        let sized = self.state.step(Event::Size { call })?;
+        self.take(Event::Len { call })?;
+        let loaded = self.take(Event::Load { call })?;
+        let sized = self.take(Event::Size { call })?;
         Ok(length_of(&loaded).or(length_of(&sized)))
     }
 
     /// Its entries in the order of their buckets, by a call of its own.
     pub fn walk(&mut self) -> Result<Option<Finished>, Fault> {
         let call = self.own_call();
-        self.state.step(Event::Walk { call })?;
-        let mut told = self.state.step(Event::Load { call })?;
+        self.take(Event::Walk { call })?;
+        let mut told = self.take(Event::Load { call })?;
         for _read in 0..READS {
             if told.is_some() {
                 break;
             }
-            told = self.state.step(Event::Read {
+            told = self.take(Event::Read {
                 call,
                 accepted: false,
             })?;

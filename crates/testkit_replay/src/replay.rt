@@ -1,332 +1,336 @@
-//! Calls on a running table, step by step, and each step on the machine.
+//! What a schedule does on a table and on the machine: what the table tells is what the machine tells.
 ghost use Rattle.table_terms.specs.Capacities.{IsFirstCapacity};
-ghost use Rattle.testkit_replay.specs.Running.{IsReady};
 
-use crate::events::{answers_of, event_taken, takes};
-use crate::fault::Fault;
+use crate::events::event_taken;
+use crate::fault::{Fault, granted};
 use crate::item::{Item, Said};
 use crate::machine::{Machine, said_to};
-use crate::running::{Running, Steps, Table, Took};
+use crate::running::{Calls, Schedule, Stepped, Table, Took};
+use crate::schedules::Ask;
 use crate::script::Script;
 use std::alloc::Global;
-use table_core::call::Phase;
+use table_core::call::{CallState, Phase};
 use table_core::event::Event;
 use table_core::reply::{Finished, Reply};
-use table_shared::{InsertCall, LookupCall};
-use testkit_refusing::Refusing;
+use table_shared::LockFreeRawTable;
+use testkit_refusing::{Refusing, Rule};
 
-/// What a replay stands on: a table, the memory that it asks, and what the closures of its calls answer.
+/// A table without a generation, whose first one will have `first` buckets.
+pub(crate) fn new_table(memory: &Refusing<Global>, first: u64) -> Table<'_>
+    requires { IsFirstCapacity first }
+{
+    LockFreeRawTable::with_first_capacity(memory, first as usize)
+}
+
+/// Each request for memory may be refused.
+pub(crate) fn any_request() -> Rule {
+    Rule::new(0, usize::MAX, 0, 0)
+}
+
+/// Runs a schedule on a table whose memory has this rule, and on the machine.
+pub(crate) fn run_schedule<S: Schedule>(
+    alloc: Global,
+    first: u64,
+    rule: Rule,
+    script: &Script,
+    schedule: &mut S,
+) -> Result<(), Fault>
+    requires { IsFirstCapacity first }
+{
+    let memory = Refusing::new(alloc, rule);
+    let table = new_table(&memory, first);
+    let ground = Ground {
+        alloc,
+        first,
+        memory: &memory,
+        table: &table,
+    };
+    let mut replay = Replay::new(ground, script);
+    let mut calls = Calls::new(
+        alloc,
+        &table,
+        |new: &Item, entry: &Item| script.says(new.class, entry),
+        |entry: &Item| script.rehashes(entry),
+        |entry: &Item| script.seeks(entry),
+    );
+    calls.run(&mut replay, schedule)
+}
+
+/// A table, the memory that it asks, and the capacity of its first generation.
 #[derive(Clone, Copy)]
-pub struct Ground<'a, 'm> {
-    pub alloc: Global,
-    /// The capacity of the table's first generation.
-    pub first: u64,
-    pub memory: &'m Refusing<Global>,
-    pub table: &'a Table<'m>,
-    pub script: &'a Script,
+pub(crate) struct Ground<'a, 'm> {
+    pub(crate) alloc: Global,
+    pub(crate) first: u64,
+    pub(crate) memory: &'m Refusing<Global>,
+    pub(crate) table: &'a Table<'m>,
 }
 
-/// A schedule on a table and on the machine, as far as it has come.
-pub struct Replay<
-    'a,
-    'm,
-    E: Fn(&Item, &Item) -> bool + Copy,
-    H: Fn(&Item) -> u64 + Copy,
-    F: Fn(&Item) -> bool + Copy,
-> {
-    pub ground: Ground<'a, 'm>,
-    pub machine: Machine,
-    pub calls: Vec<Running<'a, 'm, E, H, F>>,
+/// What a table is to do next.
+#[derive(Drop)]
+pub enum Turn {
+    /// An insert of this value begins.
+    Insert(Box<Item>),
+    /// A look-up of this hash begins.
+    Lookup(u64),
+    /// The call at this place takes a step.
+    Step(usize),
+    /// Nothing, in this turn.
+    Nothing,
+    /// Nothing any more.
+    End,
+}
+
+/// A call of a schedule as far as it has come: its number, the number of an insert's value, the class of that or of what it looks
+/// for, where it stands, and what it was told at its end.
+#[derive(Clone, Copy)]
+struct Call {
+    number: u64,
+    value: Option<u64>,
+    class: u64,
+    state: CallState,
+    said: Option<Said>,
+}
+
+/// A schedule as far as it has come, beside the machine.
+#[derive(Drop)]
+pub struct Replay<'a, 'm> {
+    pub(crate) ground: Ground<'a, 'm>,
+    pub(crate) script: &'a Script,
+    machine: Machine,
+    calls: Vec<Call>,
     /// The numbers of the calls that have begun.
-    pub numbers: Vec<u64>,
-    pub eq: E,
-    pub hash_fn: H,
-    pub test: F,
+    numbers: Vec<u64>,
+    /// How many calls haven't ended.
+    going: u64,
+    /// The place of the call that takes a step, and how many requests were to be refused before it.
+    stepping: usize,
+    refusals: u64,
 }
 
-impl<
-    'a,
-    'm,
-    E: Fn(&Item, &Item) -> bool + Copy,
-    H: Fn(&Item) -> u64 + Copy,
-    F: Fn(&Item) -> bool + Copy,
-> Replay<'a, 'm, E, H, F> {
+impl<'a, 'm> Replay<'a, 'm> {
     /// No call yet, on a table without a generation.
-    pub fn new(ground: Ground<'a, 'm>, eq: E, hash_fn: H, test: F) -> Self
-        requires first { IsFirstCapacity ground.first }
-        requires eq_callable { E.IsAlwaysCallable eq }
-        requires hash_callable { H.IsAlwaysCallable hash_fn }
-        requires test_callable { F.IsAlwaysCallable test }
-        ensures ready { IsReady E.IsAlwaysCallable H.IsAlwaysCallable F.IsAlwaysCallable E.Fn result }
+    fn new(ground: Ground<'a, 'm>, script: &'a Script) -> Self
+        requires { IsFirstCapacity ground.first }
     {
         Replay {
             ground,
+            script,
             machine: Machine::new(ground.alloc, ground.first),
             calls: Vec::new(ground.alloc),
             numbers: Vec::new(ground.alloc),
-            eq,
-            hash_fn,
-            test,
+            going: 0,
+            stepping: 0,
+            refusals: 0,
         }
     }
 
-    /// Whether no call has this number, and no insert this value.
-    fn is_new(&self, call: u64, value: Option<u64>) -> bool {
-        let named = self.numbers.contains(&call);
-        let valued = self.calls.iter().any(|running: &Running<'_, '_, E, H, F>| value.is_some()
-            && running.value == value);
-        !named && !valued
+    /// How many calls have begun on the table.
+    pub(crate) fn begun(&self) -> usize {
+        self.calls.len()
     }
 
-    /// Begins an insert, unless its number or its value was used.
-    pub fn insert(&mut self, call: u64, item: Item) -> Result<(), Fault>
-        requires ready { IsReady E.IsAlwaysCallable H.IsAlwaysCallable F.IsAlwaysCallable E.Fn self.old }
-        ensures ready { IsReady E.IsAlwaysCallable H.IsAlwaysCallable F.IsAlwaysCallable E.Fn self.new }
-    {
+    /// Begins the next call, which has the number of its place.
+    pub(crate) fn begin(&mut self, ask: Ask) -> Result<Turn, Fault> {
+        let number = self.calls.len() as u64;
+        match ask {
+            Ask::Insert { class, hash } => self.insert(
+                number,
+                Item {
+                    number,
+                    class,
+                    hash,
+                },
+            ),
+            Ask::Lookup { class, hash } => self.lookup(number, class, hash),
+        }
+    }
+
+    /// Begins an insert. On the table it is left out if its number or its value was used.
+    pub(crate) fn insert(&mut self, number: u64, item: Item) -> Result<Turn, Fault> {
         let (value, hash) = (item.number, item.hash);
-        self.machine.take(Event::Insert { call, value, hash })?;
-        if !self.is_new(call, Some(value)) {
-            return Ok(());
-        }
-        let boxed = Box::new(self.ground.alloc, item)?;
-        let begun = InsertCall::new(self.ground.table, hash, boxed, self.eq, self.hash_fn);
-        self.numbers.push(call)?;
-        self.calls.push(Running {
-            call,
+        self.machine.take(Event::Insert {
+            call: number,
+            value,
+            hash,
+        })?;
+        let call = Call {
+            number,
             value: Some(value),
             class: item.class,
+            state: CallState::insert(hash),
             said: None,
-            steps: Steps::Insert(begun),
-        })?;
-        Ok(())
+        };
+        let value = granted(Box::new(self.ground.alloc, item))?;
+        self.add(call, Turn::Insert(value))
     }
 
-    /// Begins a look-up of a class, unless its number was used.
-    pub fn lookup(&mut self, call: u64, class: u64, hash: u64) -> Result<(), Fault>
-        requires ready { IsReady E.IsAlwaysCallable H.IsAlwaysCallable F.IsAlwaysCallable E.Fn self.old }
-        ensures ready { IsReady E.IsAlwaysCallable H.IsAlwaysCallable F.IsAlwaysCallable E.Fn self.new }
-    {
-        self.machine.take(Event::Lookup { call, hash })?;
-        if !self.is_new(call, None) {
-            return Ok(());
-        }
-        let begun = LookupCall::new(self.ground.table, hash, self.test);
-        self.numbers.push(call)?;
-        self.calls.push(Running {
-            call,
+    /// Begins a look-up of a class. On the table it is left out if its number was used.
+    pub(crate) fn lookup(&mut self, number: u64, class: u64, hash: u64) -> Result<Turn, Fault> {
+        self.machine.take(Event::Lookup { call: number, hash })?;
+        let call = Call {
+            number,
             value: None,
             class,
+            state: CallState::lookup(hash),
             said: None,
-            steps: Steps::Lookup(begun),
-        })?;
-        Ok(())
+        };
+        self.add(call, Turn::Lookup(hash))
+    }
+
+    /// Adds a call, which begins by this turn, unless its number or its value was used.
+    fn add(&mut self, call: Call, turn: Turn) -> Result<Turn, Fault> {
+        if self.is_used(&call) {
+            return Ok(Turn::Nothing);
+        }
+        granted(self.numbers.push(call.number))?;
+        granted(self.calls.push(call))?;
+        self.going = self.going.wrapping_add(1);
+        Ok(turn)
+    }
+
+    /// Whether a call has the number of this one, or an insert its value.
+    fn is_used(&self, call: &Call) -> bool {
+        for other in &self.calls {
+            if call.value.is_some() && other.value == call.value {
+                return true;
+            }
+        }
+        self.numbers.contains(&call.number)
+    }
+
+    /// Begins a length or a walk, on the machine alone.
+    pub(crate) fn begin_whole(&mut self, event: Event) -> Result<Turn, Fault> {
+        self.machine.take(event)?;
+        granted(self.numbers.push(event.call()))?;
+        Ok(Turn::Nothing)
+    }
+
+    /// The place of the call of this number.
+    pub(crate) fn place_of(&self, number: u64) -> Option<usize> {
+        for (index, call) in self.calls.iter().enumerate() {
+            if call.number == number {
+                return Some(index);
+            }
+        }
+        None
     }
 
     /// The phase of the call at this place.
-    pub fn phase_at(&self, index: usize) -> Phase {
+    pub(crate) fn phase_at(&self, index: usize) -> Phase {
         match self.calls.get(index) {
-            Some(running) => running.state().phase,
+            Some(call) => call.state.phase,
             None => Phase::Done,
         }
     }
 
-    /// The class of the value of the call at this place, or of what it looks for.
-    fn class_at(&self, index: usize) -> u64 {
-        match self.calls.get(index) {
-            Some(running) => running.class,
-            None => 0,
-        }
-    }
-
-    /// What the call at this place was told at its end.
-    pub fn said_at(&self, index: usize) -> Option<Said> {
-        self.calls.get(index)?.said
-    }
-
     /// Whether all calls have ended.
-    pub fn all_ended(&self) -> bool {
-        self.calls.iter().all(|running: &Running<'_, '_, E, H, F>| running.state().phase
-            == Phase::Done)
+    pub(crate) fn all_ended(&self) -> bool {
+        self.going == 0
     }
 
-    /// One step of the call at this place, on the table alone.
-    fn advance_at(&mut self, index: usize) -> Took
-        requires ready { IsReady E.IsAlwaysCallable H.IsAlwaysCallable F.IsAlwaysCallable E.Fn self.old }
-        ensures ready { IsReady E.IsAlwaysCallable H.IsAlwaysCallable F.IsAlwaysCallable E.Fn self.new }
-    {
-        match self.calls.get_mut(index) {
-            Some(running) => running.advance(),
-            None => Took::Blocked,
-        }
+    /// The next turn is a step of the call at this place, in which its closures are told to answer this. Of its memory what
+    /// stands to be refused is.
+    pub(crate) fn step(&mut self, index: usize, accepted: bool, hash: u64) -> Turn {
+        let class = match self.calls.get(index) {
+            Some(call) => call.class,
+            None => 0,
+        };
+        self.script.begin(accepted, hash, class);
+        self.stepping = index;
+        self.refusals = self.ground.memory.refusals_left();
+        Turn::Step(index)
     }
 
-    /// One step of the call at this place, and then on the machine the event that it was. Of the requests for memory in this
-    /// step the one after `refused_after` many is refused, if that is given.
-    pub fn drive(&mut self, index: usize, refused_after: Option<u64>) -> Result<Took, Fault>
-        requires ready { IsReady E.IsAlwaysCallable H.IsAlwaysCallable F.IsAlwaysCallable E.Fn self.old }
-        ensures ready { IsReady E.IsAlwaysCallable H.IsAlwaysCallable F.IsAlwaysCallable E.Fn self.new }
-    {
-        let refusals = if refused_after.is_some() { 1 } else { 0 };
-        self.ground
-            .memory
-            .refuse(refused_after.unwrap_or(0), refusals);
+    /// The next turn is a step of the call at this place. Of its requests for memory the first few are granted, and so many of the
+    /// next are refused.
+    pub(crate) fn step_refused(&mut self, index: usize, passing: u64, refused: u64) -> Turn {
+        self.ground.memory.refuse(passing, refused);
         // Where no closure is asked, the machine is told of a yes: it would take it from an entry that is to be asked about.
-        let took = self.drive_told(index, true, 0);
-        self.ground.memory.refuse(0, 0);
-        took
+        self.step(index, true, 0)
     }
 
-    /// One step of the call at this place, and then on the machine the event that it was. This is what its closures are told to
-    /// answer; of its memory what stands to be refused is.
-    pub fn drive_told(&mut self, index: usize, accepted: bool, hash: u64) -> Result<Took, Fault>
-        requires ready { IsReady E.IsAlwaysCallable H.IsAlwaysCallable F.IsAlwaysCallable E.Fn self.old }
-        ensures ready { IsReady E.IsAlwaysCallable H.IsAlwaysCallable F.IsAlwaysCallable E.Fn self.new }
-    {
-        let Some(running) = self.calls.get(index) else {
-            return Ok(Took::Blocked);
+    /// After a step: on the machine the event that it was.
+    pub(crate) fn follow(&mut self, stepped: Stepped) -> Result<(), Fault> {
+        let granted = self.ground.memory.refusals_left() == self.refusals;
+        let Some(call) = self.calls.get(self.stepping) else {
+            return Ok(());
         };
-        let (call, class) = (running.call, running.class);
-        let before = self.phase_at(index);
-        let Ground { memory, script, .. } = self.ground;
-        script.begin(accepted, hash, class);
-        let refusals = memory.refusals_left();
-        let took = self.advance_at(index);
-        let granted = memory.refusals_left() == refusals;
-        let after = self.phase_at(index);
-        let Some(event) = event_taken(call, before, after, script, granted) else {
-            return Ok(took);
-        };
-        let finished = self.machine.take(event)?;
-        compare(call, took, &finished)?;
-        self.compare_state(index)?;
-        self.compare_length()?;
-        Ok(took)
-    }
-
-    /// Up to so many steps of the call at this place, as long as it moves: how many were tried.
-    pub fn drive_on(&mut self, index: usize, most: u64) -> Result<u64, Fault>
-        requires ready { IsReady E.IsAlwaysCallable H.IsAlwaysCallable F.IsAlwaysCallable E.Fn self.old }
-        ensures ready { IsReady E.IsAlwaysCallable H.IsAlwaysCallable F.IsAlwaysCallable E.Fn self.new }
-    {
-        for tried in 0..most {
-            if self.drive(index, None)? != Took::Moved {
-                return Ok(tried.saturating_add(1));
+        let (before, after) = (call.state.phase, stepped.state.phase);
+        match event_taken(call.number, before, after, self.script, granted) {
+            Some(event) => {
+                self.follow_by(event, stepped)?;
+                self.compare_length()
             }
-        }
-        Ok(most)
-    }
-
-    /// All calls in turn, from this place on, each until it is blocked or ends: up to so many steps in all.
-    pub fn finish(&mut self, first: usize, most: u64) -> Result<(), Fault>
-        requires ready { IsReady E.IsAlwaysCallable H.IsAlwaysCallable F.IsAlwaysCallable E.Fn self.old }
-        ensures ready { IsReady E.IsAlwaysCallable H.IsAlwaysCallable F.IsAlwaysCallable E.Fn self.new }
-    {
-        let (mut index, mut left) = (first, most);
-        for _turn in 0..most {
-            if self.all_ended() {
-                return Ok(());
-            }
-            left = left.saturating_sub(self.drive_on(index, left)?);
-            index = index.saturating_add(1);
-            if self.calls.len() <= index {
-                index = 0;
-            }
-        }
-        Err(Fault::Unfinished)
-    }
-
-    /// One event of a schedule, on the machine and on the table. A call that it begins is of this class: if none is given, of that
-    /// of its value's number, or of 0.
-    pub fn follow(&mut self, event: Event, class: Option<u64>) -> Result<(), Fault>
-        requires ready { IsReady E.IsAlwaysCallable H.IsAlwaysCallable F.IsAlwaysCallable E.Fn self.old }
-        ensures ready { IsReady E.IsAlwaysCallable H.IsAlwaysCallable F.IsAlwaysCallable E.Fn self.new }
-    {
-        match event {
-            Event::Insert { call, value, hash } => self.insert(
-                call,
-                Item {
-                    number: value,
-                    class: class.unwrap_or(value),
-                    hash,
-                },
-            ),
-            Event::Lookup { call, hash } => self.lookup(call, class.unwrap_or(0), hash),
-            Event::Len { call } | Event::Walk { call } => {
-                self.machine.take(event)?;
-                self.numbers.push(call)?;
-                Ok(())
-            }
-            _ => self.follow_step(event),
+            None => Ok(()),
         }
     }
 
-    /// One event of a call that has begun.
-    fn follow_step(&mut self, event: Event) -> Result<(), Fault>
-        requires ready { IsReady E.IsAlwaysCallable H.IsAlwaysCallable F.IsAlwaysCallable E.Fn self.old }
-        ensures ready { IsReady E.IsAlwaysCallable H.IsAlwaysCallable F.IsAlwaysCallable E.Fn self.new }
-    {
+    /// After a step: on the machine this event.
+    pub(crate) fn follow_by(&mut self, event: Event, stepped: Stepped) -> Result<(), Fault> {
+        self.note(stepped);
+        let finished = self.take(event)?;
         let call = event.call();
-        let finished = self.machine.take(event)?;
-        let Ground {
-            memory,
-            script,
-            table,
-            ..
-        } = self.ground;
-        compare_whole(table, &finished)?;
-        let Some(index) = self
-            .calls
-            .iter()
-            .position(|running: &Running<'_, '_, E, H, F>| running.call == call)
-        else {
-            return Ok(());
-        };
-        let before = self.phase_at(index);
-        if !takes(before, event) {
-            compare(call, Took::Blocked, &finished)?;
-            return self.compare_state(index);
+        compare(call, stepped.took, &finished)?;
+        self.compare_state(call, stepped.state)
+    }
+
+    /// An event that the call at this place can't take on the table.
+    pub(crate) fn follow_blocked(&mut self, index: usize, event: Event) -> Result<Turn, Fault> {
+        if let Some(call) = self.calls.get(index) {
+            let blocked = Stepped {
+                took: Took::Blocked,
+                state: call.state,
+            };
+            self.stepping = index;
+            self.follow_by(event, blocked)?;
         }
-        let answers = answers_of(event);
-        script.begin(answers.accepted, answers.hash, self.class_at(index));
-        memory.refuse(0, if answers.granted { 0 } else { 1 });
-        let took = self.advance_at(index);
-        memory.refuse(0, 0);
-        compare(call, took, &finished)?;
-        self.compare_state(index)?;
-        let copied = self.phase_at(index) == Phase::Building;
-        match event {
-            Event::Copy { .. } if !copied => Err(Fault::Step { call }),
-            Event::Show { .. } if copied => Err(Fault::Step { call }),
-            _ => Ok(()),
+        Ok(Turn::Nothing)
+    }
+
+    /// On the machine this event. A length or a walk that it ends is that of the table.
+    pub(crate) fn take(&mut self, event: Event) -> Result<Option<Finished>, Fault> {
+        let finished = self.machine.take(event)?;
+        compare_whole(self.ground.table, &finished)?;
+        Ok(finished)
+    }
+
+    /// Notes what the step came to that was taken last.
+    fn note(&mut self, stepped: Stepped) {
+        if let Some(call) = self.calls.get_mut(self.stepping) {
+            call.state = stepped.state;
+            if let Took::Told(said) = stepped.took {
+                call.said = Some(said);
+                self.going = self.going.wrapping_sub(1);
+            }
         }
     }
 
-    /// The call at this place stands where the machine's call of its number does.
-    fn compare_state(&self, index: usize) -> Result<(), Fault> {
-        let Some(running) = self.calls.get(index) else {
-            return Ok(());
-        };
-        let call = running.call;
-        if self.machine.state_of(call) == Some(running.state()) {
+    /// The call of this number stands in the machine as in the table.
+    fn compare_state(&self, call: u64, state: CallState) -> Result<(), Fault> {
+        if self.machine.state_of(call) == Some(state) {
             return Ok(());
         }
         Err(Fault::Stands { call })
     }
 
-    /// The table and the machine count as many entries, show them in one order, and have as many buckets.
-    pub fn compare_all(&mut self) -> Result<(), Fault>
-        requires ready { IsReady E.IsAlwaysCallable H.IsAlwaysCallable F.IsAlwaysCallable E.Fn self.old }
-        ensures ready { IsReady E.IsAlwaysCallable H.IsAlwaysCallable F.IsAlwaysCallable E.Fn self.new }
-    {
+    /// The call of this place and number was told this at its end.
+    pub(crate) fn compare_end(&self, call: u64, said: Said) -> Result<(), Fault> {
+        let machine = match self.calls.get(call as usize) {
+            Some(call) => call.said,
+            None => None,
+        };
+        same_told(call, Some(said), machine)
+    }
+
+    /// The schedule is over: the table and the machine count as many entries, show them in one order, and have as many buckets.
+    pub(crate) fn end(&mut self) -> Result<Turn, Fault> {
         self.compare_walk()?;
-        self.compare_buckets()
+        self.compare_buckets()?;
+        Ok(Turn::End)
     }
 
     /// The table and the machine count as many entries, and show them in one order.
-    pub fn compare_walk(&mut self) -> Result<(), Fault>
-        requires ready { IsReady E.IsAlwaysCallable H.IsAlwaysCallable F.IsAlwaysCallable E.Fn self.old }
-        ensures ready { IsReady E.IsAlwaysCallable H.IsAlwaysCallable F.IsAlwaysCallable E.Fn self.new }
-    {
+    pub(crate) fn compare_walk(&mut self) -> Result<(), Fault> {
         self.compare_length()?;
         let walked = self.machine.walk()?;
         if walked.is_none() {
@@ -336,47 +340,24 @@ impl<
     }
 
     /// The table and the machine count as many entries now.
-    fn compare_length(&mut self) -> Result<(), Fault>
-        requires ready { IsReady E.IsAlwaysCallable H.IsAlwaysCallable F.IsAlwaysCallable E.Fn self.old }
-        ensures ready { IsReady E.IsAlwaysCallable H.IsAlwaysCallable F.IsAlwaysCallable E.Fn self.new }
-    {
-        let length = self.machine.length()?;
-        if length == Some(self.ground.table.len() as u64) {
+    fn compare_length(&mut self) -> Result<(), Fault> {
+        if self.machine.length()? == Some(self.ground.table.len() as u64) {
             return Ok(());
         }
         Err(Fault::Length)
     }
 
     /// The table and the machine have as many buckets.
-    pub fn compare_buckets(&self) -> Result<(), Fault> {
-        let Ground { table, first, .. } = self.ground;
-        if self.machine.buckets() == buckets(table, first) {
+    pub(crate) fn compare_buckets(&self) -> Result<(), Fault> {
+        if self.machine.buckets() == buckets(self.ground.table, self.ground.first) {
             return Ok(());
         }
         Err(Fault::Buckets)
     }
 }
 
-impl<
-    E: Fn(&Item, &Item) -> bool + Copy,
-    H: Fn(&Item) -> u64 + Copy,
-    F: Fn(&Item) -> bool + Copy,
-> Drop for Replay<'_, '_, E, H, F> {
-    fn drop(self) {
-        let Replay {
-            ground: _,
-            machine: _machine,
-            calls: _calls,
-            numbers: _numbers,
-            eq: _eq,
-            hash_fn: _hash_fn,
-            test: _test,
-        } = self;
-    }
-}
-
 /// How many buckets all generations of a table have: each has twice as many as the one before.
-pub fn buckets(table: &Table<'_>, first: u64) -> u64 {
+pub(crate) fn buckets(table: &Table<'_>, first: u64) -> u64 {
     match table.current() {
         Some(current) => (current.generation.capacity() as u64)
             .saturating_mul(2)
@@ -387,11 +368,15 @@ pub fn buckets(table: &Table<'_>, first: u64) -> u64 {
 
 /// The call was told the same by the table and by the machine.
 fn compare(call: u64, took: Took, finished: &Option<Finished>) -> Result<(), Fault> {
-    let table: Option<Said> = match took {
+    let table = match took {
         Took::Told(said) => Some(said),
         Took::Moved | Took::Blocked => None,
     };
-    let machine = said_to(call, finished);
+    same_told(call, table, said_to(call, finished))
+}
+
+/// What the call was told is the same.
+fn same_told(call: u64, table: Option<Said>, machine: Option<Said>) -> Result<(), Fault> {
     if table == machine {
         return Ok(());
     }

@@ -1,9 +1,8 @@
-//! Schedules that a replay runs.
-ghost use Rattle.testkit_replay.specs.Running.{IsReady};
-
+//! Schedules that drive calls: some are drawn, and in some two calls cut into each other.
 use crate::fault::Fault;
-use crate::item::Item;
-use crate::replay::Replay;
+use crate::replay::{Replay, Turn};
+use crate::running::{Schedule, Stepped, Took};
+use crate::script::Script;
 
 /// How many steps one insert into a table takes at most, if no other call runs.
 const STEPS: u64 = 1000;
@@ -12,135 +11,271 @@ const STEPS: u64 = 1000;
 const CLASSES: u64 = 60;
 
 /// What a call asks.
-#[derive(Clone, Copy, Debug)]
+#[derive(Clone, Copy)]
 pub enum Ask {
     Insert { class: u64, hash: u64 },
     Lookup { class: u64, hash: u64 },
 }
 
-impl<
-    'a,
-    'm,
-    E: Fn(&Item, &Item) -> bool + Copy,
-    H: Fn(&Item) -> u64 + Copy,
-    F: Fn(&Item) -> bool + Copy,
-> Replay<'a, 'm, E, H, F> {
-    /// Begins the next call, which has the number of its place.
-    pub fn begin(&mut self, ask: Ask) -> Result<(), Fault>
-        requires ready { IsReady E.IsAlwaysCallable H.IsAlwaysCallable F.IsAlwaysCallable E.Fn self.old }
-        ensures ready { IsReady E.IsAlwaysCallable H.IsAlwaysCallable F.IsAlwaysCallable E.Fn self.new }
-    {
-        let call = self.calls.len() as u64;
-        match ask {
-            Ask::Insert { class, hash } => self.insert(
-                call,
-                Item {
-                    number: call,
-                    class,
-                    hash,
-                },
-            ),
-            Ask::Lookup { class, hash } => self.lookup(call, class, hash),
-        }
-    }
-
-    /// Inserts values of these hashes, one after the other. Each is of the class of its place.
-    pub fn fill(&mut self, hashes: &[u64]) -> Result<(), Fault>
-        requires ready { IsReady E.IsAlwaysCallable H.IsAlwaysCallable F.IsAlwaysCallable E.Fn self.old }
-        ensures ready { IsReady E.IsAlwaysCallable H.IsAlwaysCallable F.IsAlwaysCallable E.Fn self.new }
-    {
-        for hash in hashes {
-            let index = self.calls.len();
-            self.begin(Ask::Insert {
-                class: index as u64,
-                hash: *hash,
-            })?;
-            self.finish(index, STEPS)?;
-        }
-        Ok(())
-    }
-
-    /// Two calls: so many steps of the first, then so many of the second, and then each in turn until it is blocked or ends,
-    /// up to so many steps in all.
-    pub fn cut(&mut self, asks: (Ask, Ask), steps: (u64, u64), most: u64) -> Result<(), Fault>
-        requires ready { IsReady E.IsAlwaysCallable H.IsAlwaysCallable F.IsAlwaysCallable E.Fn self.old }
-        ensures ready { IsReady E.IsAlwaysCallable H.IsAlwaysCallable F.IsAlwaysCallable E.Fn self.new }
-    {
-        let first = self.calls.len();
-        self.begin(asks.0)?;
-        self.begin(asks.1)?;
-        let taken = self.drive_on(first, steps.0)?;
-        let taken = taken.saturating_add(self.drive_on(first.saturating_add(1), steps.1)?);
-        self.finish(first, most.saturating_sub(taken))?;
-        self.compare_all()
-    }
-
-    /// The next call asks something that is drawn: two of three insert.
-    fn begin_drawn(&mut self, lookups: bool) -> Result<(), Fault>
-        requires ready { IsReady E.IsAlwaysCallable H.IsAlwaysCallable F.IsAlwaysCallable E.Fn self.old }
-        ensures ready { IsReady E.IsAlwaysCallable H.IsAlwaysCallable F.IsAlwaysCallable E.Fn self.new }
-    {
-        let script = self.ground.script;
-        let class = script.draw(CLASSES);
-        let hash = hash_of(class);
-        if lookups && script.draw(3) == 0 {
-            self.begin(Ask::Lookup { class, hash })
-        } else {
-            self.begin(Ask::Insert { class, hash })
-        }
-    }
-
-    /// Inserts up to 40 values that are drawn, one after the other.
-    fn fill_drawn(&mut self) -> Result<(), Fault>
-        requires ready { IsReady E.IsAlwaysCallable H.IsAlwaysCallable F.IsAlwaysCallable E.Fn self.old }
-        ensures ready { IsReady E.IsAlwaysCallable H.IsAlwaysCallable F.IsAlwaysCallable E.Fn self.new }
-    {
-        for _ in 0..self.ground.script.draw(41) {
-            let index = self.calls.len();
-            self.begin_drawn(false)?;
-            self.finish(index, STEPS)?;
-        }
-        Ok(())
-    }
-
-    /// A step of one of the last calls, which is drawn, so many times. Where memory is refused, that comes in one of four steps.
-    fn wander(&mut self, first: usize, steps: u64, refuses: bool) -> Result<(), Fault>
-        requires ready { IsReady E.IsAlwaysCallable H.IsAlwaysCallable F.IsAlwaysCallable E.Fn self.old }
-        ensures ready { IsReady E.IsAlwaysCallable H.IsAlwaysCallable F.IsAlwaysCallable E.Fn self.new }
-    {
-        let script = self.ground.script;
-        let calls = self.calls.len().saturating_sub(first) as u64;
-        for _ in 0..steps {
-            let index = first.saturating_add(script.draw(calls) as usize);
-            let refused = if refuses && script.draw(4) == 0 {
-                Some(script.draw(6))
-            } else {
-                None
-            };
-            self.drive(index, refused)?;
-        }
-        Ok(())
-    }
-
-    /// A schedule that is drawn: two to five calls on a table of up to 40 entries, step by step in an order that is drawn, and
-    /// then to their ends.
-    pub fn run_drawn(&mut self, refuses: bool) -> Result<(), Fault>
-        requires ready { IsReady E.IsAlwaysCallable H.IsAlwaysCallable F.IsAlwaysCallable E.Fn self.old }
-        ensures ready { IsReady E.IsAlwaysCallable H.IsAlwaysCallable F.IsAlwaysCallable E.Fn self.new }
-    {
-        self.fill_drawn()?;
-        let first = self.calls.len();
-        for _ in 0..self.ground.script.draw(4).saturating_add(2) {
-            self.begin_drawn(true)?;
-        }
-        let steps = self.ground.script.draw(300);
-        self.wander(first, steps, refuses)?;
-        self.finish(first, STEPS)?;
-        self.compare_all()
-    }
-}
-
 /// The hash of a class. Some classes share a bucket, and some of those the eight bits.
 pub fn hash_of(class: u64) -> u64 {
     (class % 24) | ((class & 3) << 32)
+}
+
+/// A look-up of a class that is drawn, or an insert: two of three, or all where no look-up is asked for.
+fn draw_ask(script: &Script, lookups: bool) -> Ask {
+    let class = script.draw(CLASSES);
+    let hash = hash_of(class);
+    if lookups && script.draw(3) == 0 {
+        Ask::Lookup { class, hash }
+    } else {
+        Ask::Insert { class, hash }
+    }
+}
+
+/// What steps are taken before the next call begins.
+#[derive(Clone, Copy)]
+enum Goal {
+    /// None.
+    Reached,
+    /// Those of the call at a place, as long as it moves.
+    Stop,
+    /// Those of all calls in turn, from a place on, each until it is blocked or ends.
+    AllEnd,
+}
+
+/// Steps on the way to a goal: at which call it is, and how many are left at most.
+#[derive(Clone, Copy)]
+struct Way {
+    goal: Goal,
+    index: usize,
+    left: u64,
+}
+
+impl Way {
+    /// All calls go to their ends, from this place on, by up to so many steps.
+    fn to_ends(index: usize, left: u64) -> Way {
+        Way {
+            goal: Goal::AllEnd,
+            index,
+            left,
+        }
+    }
+
+    /// Whether there are more steps.
+    fn goes_on(&self, replay: &Replay<'_, '_>) -> Result<bool, Fault> {
+        match self.goal {
+            Goal::Reached => Ok(false),
+            Goal::Stop => Ok(self.left != 0),
+            Goal::AllEnd if replay.all_ended() => Ok(false),
+            Goal::AllEnd if self.left == 0 => Err(Fault::Unfinished),
+            Goal::AllEnd => Ok(true),
+        }
+    }
+
+    /// Hears what its step came to, where so many calls have begun.
+    fn hear(&mut self, took: Took, begun: usize) {
+        self.left = self.left.saturating_sub(1);
+        if took == Took::Moved {
+            return;
+        }
+        if let Goal::Stop = self.goal {
+            self.goal = Goal::Reached;
+        }
+        self.index = self.index.saturating_add(1);
+        if begun <= self.index {
+            self.index = 0;
+        }
+    }
+}
+
+/// No steps.
+const ARRIVED: Way = Way {
+    goal: Goal::Reached,
+    index: 0,
+    left: 0,
+};
+
+/// How far a schedule has come that is drawn.
+#[derive(Clone, Copy)]
+enum Stage {
+    /// So many more values are inserted, one after the other.
+    Fill(u64),
+    /// So many more calls begin.
+    Begin(u64),
+    /// So many more steps are drawn.
+    Wander(u64),
+    /// All calls go to their ends.
+    Finish,
+    Over,
+}
+
+/// A schedule that is drawn: two to five calls on a table of up to 40 entries, step by step in an order that is drawn, and then to
+/// their ends. Where memory is refused, that comes in one of four steps.
+#[derive(Drop)]
+pub(crate) struct Drawn<'s> {
+    script: &'s Script,
+    refuses: bool,
+    stage: Stage,
+    way: Way,
+    /// The place of the first call of those that go step by step.
+    first: usize,
+}
+
+impl<'s> Drawn<'s> {
+    /// The schedule of this script.
+    pub(crate) fn new(script: &'s Script, refuses: bool) -> Drawn<'s> {
+        Drawn {
+            script,
+            refuses,
+            stage: Stage::Fill(script.draw(41)),
+            way: ARRIVED,
+            first: 0,
+        }
+    }
+
+    /// The next turn where no step is left.
+    fn advance(&mut self, replay: &mut Replay<'_, '_>) -> Result<Turn, Fault> {
+        match self.stage {
+            Stage::Fill(0) => {
+                self.first = replay.begun();
+                self.stage = Stage::Begin(self.script.draw(4).saturating_add(2));
+                Ok(Turn::Nothing)
+            }
+            Stage::Fill(left) => {
+                self.stage = Stage::Fill(left.saturating_sub(1));
+                self.way = Way::to_ends(replay.begun(), STEPS);
+                replay.begin(draw_ask(self.script, false))
+            }
+            Stage::Begin(0) => {
+                self.stage = Stage::Wander(self.script.draw(300));
+                Ok(Turn::Nothing)
+            }
+            Stage::Begin(left) => {
+                self.stage = Stage::Begin(left.saturating_sub(1));
+                replay.begin(draw_ask(self.script, true))
+            }
+            Stage::Wander(0) => {
+                self.stage = Stage::Finish;
+                Ok(Turn::Nothing)
+            }
+            Stage::Wander(left) => {
+                self.stage = Stage::Wander(left.saturating_sub(1));
+                Ok(self.wander(replay))
+            }
+            Stage::Finish => {
+                self.stage = Stage::Over;
+                self.way = Way::to_ends(self.first, STEPS);
+                Ok(Turn::Nothing)
+            }
+            Stage::Over => replay.end(),
+        }
+    }
+
+    /// A step of one of the last calls, which is drawn.
+    fn wander(&self, replay: &mut Replay<'_, '_>) -> Turn {
+        let calls = replay.begun().saturating_sub(self.first) as u64;
+        let index = self.first.saturating_add(self.script.draw(calls) as usize);
+        if self.refuses && self.script.draw(4) == 0 {
+            replay.step_refused(index, self.script.draw(6), 1)
+        } else {
+            replay.step_refused(index, 0, 0)
+        }
+    }
+}
+
+impl Schedule for Drawn<'_> {
+    fn next(&mut self, replay: &mut Replay<'_, '_>) -> Result<Turn, Fault> {
+        if self.way.goes_on(replay)? {
+            return Ok(replay.step_refused(self.way.index, 0, 0));
+        }
+        self.way = ARRIVED;
+        self.advance(replay)
+    }
+
+    fn hear(&mut self, replay: &mut Replay<'_, '_>, stepped: Stepped) -> Result<(), Fault> {
+        self.way.hear(stepped.took, replay.begun());
+        replay.follow(stepped)
+    }
+}
+
+/// Inserts of values of these hashes, each of the class of its place, and then two calls: so many steps of the first, then so many
+/// of the second, and then each in turn until it is blocked or ends, up to so many steps in all.
+#[derive(Drop)]
+pub(crate) struct Cut<'c> {
+    hashes: &'c [u64],
+    asks: (Ask, Ask),
+    steps: (u64, u64),
+    /// How many more steps the two calls take at most.
+    left: u64,
+    way: Way,
+    /// How many of its ways it has begun since both calls did.
+    part: u64,
+}
+
+impl<'c> Cut<'c> {
+    pub(crate) fn new(
+        hashes: &'c [u64],
+        asks: (Ask, Ask),
+        steps: (u64, u64),
+        most: u64,
+    ) -> Cut<'c> {
+        Cut {
+            hashes,
+            asks,
+            steps,
+            left: most,
+            way: ARRIVED,
+            part: 0,
+        }
+    }
+
+    /// The next turn where no step is left.
+    fn advance(&mut self, replay: &mut Replay<'_, '_>) -> Result<Turn, Fault> {
+        let begun = replay.begun();
+        if let Some(hash) = self.hashes.get(begun) {
+            self.way = Way::to_ends(begun, STEPS);
+            return replay.begin(Ask::Insert {
+                class: begun as u64,
+                hash: *hash,
+            });
+        }
+        match begun.saturating_sub(self.hashes.len()) {
+            0 => replay.begin(self.asks.0),
+            1 => replay.begin(self.asks.1),
+            _ => self.go_on(replay),
+        }
+    }
+
+    /// The next way of the two calls.
+    fn go_on(&mut self, replay: &mut Replay<'_, '_>) -> Result<Turn, Fault> {
+        let first = self.hashes.len();
+        let (goal, index, left) = match self.part {
+            0 => (Goal::Stop, first, self.steps.0),
+            1 => (Goal::Stop, first.saturating_add(1), self.steps.1),
+            2 => (Goal::AllEnd, first, self.left),
+            _ => return replay.end(),
+        };
+        self.way = Way { goal, index, left };
+        self.part = self.part.saturating_add(1);
+        Ok(Turn::Nothing)
+    }
+}
+
+impl Schedule for Cut<'_> {
+    fn next(&mut self, replay: &mut Replay<'_, '_>) -> Result<Turn, Fault> {
+        if self.way.goes_on(replay)? {
+            return Ok(replay.step_refused(self.way.index, 0, 0));
+        }
+        self.way = ARRIVED;
+        self.advance(replay)
+    }
+
+    fn hear(&mut self, replay: &mut Replay<'_, '_>, stepped: Stepped) -> Result<(), Fault> {
+        if self.part != 0 {
+            self.left = self.left.saturating_sub(1);
+        }
+        self.way.hear(stepped.took, replay.begun());
+        replay.follow(stepped)
+    }
 }

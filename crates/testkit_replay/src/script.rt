@@ -1,4 +1,5 @@
 //! What the closures of calls answer.
+use crate::item::Item;
 use std::cell::Cell;
 use table_terms::law::hash_number;
 
@@ -54,42 +55,32 @@ impl Script {
     }
 
     /// The answer of a closure that is asked whether a value of the class is an entry's equal.
-    pub fn says(&self, class: u64, entry: u64) -> bool {
+    pub fn says(&self, class: u64, entry: &Item) -> bool {
         let accepted = match self.manner {
             Manner::Told => self.accepted.get(),
-            Manner::Lawful => class == entry,
+            Manner::Lawful => class == entry.class,
             Manner::Careless => self.draw(4) == 0,
         };
+        self.met.set(Some(entry.number));
         self.accepted.set(accepted);
         accepted
     }
 
-    /// The answer of a closure that is asked whether an entry of the class is looked for.
-    pub fn seeks(&self, entry: u64) -> bool {
+    /// The answer of a closure that is asked whether an entry is looked for.
+    pub fn seeks(&self, entry: &Item) -> bool {
         self.says(self.sought.get(), entry)
     }
 
     /// The answer of a closure that is asked for the hash of an entry.
-    pub fn rehashes(&self, own: u64) -> u64 {
+    pub fn rehashes(&self, entry: &Item) -> u64 {
         let hash = match self.manner {
             Manner::Told => self.hash.get(),
-            Manner::Lawful => own,
+            Manner::Lawful => entry.hash,
             Manner::Careless => self.draw(64),
         };
+        self.met.set(Some(entry.number));
         self.hash.set(hash);
         hash
-    }
-
-    /// The answer that was told before, to a closure that is asked about the entry of this number.
-    pub fn meets(&self, entry: u64) -> bool {
-        self.met.set(Some(entry));
-        self.accepted.get()
-    }
-
-    /// The hash that was told before, to a closure that is asked for that of the entry of this number.
-    pub fn rehashes_met(&self, entry: u64) -> u64 {
-        self.met.set(Some(entry));
-        self.hash.get()
     }
 
     /// The entry of which a closure was asked since the last time.

@@ -9,22 +9,21 @@ mod retrace;
 pub mod trace;
 mod whole;
 
-use crate::fault::Fault;
-use crate::item::{Item, Said};
-use crate::replay::{Ground, Replay};
-use crate::running::Table;
+use crate::fault::{Fault, granted};
+use crate::item::Said;
+use crate::replay::{Ground, any_request, new_table, run_schedule};
 use crate::schedules::Ask;
 use crate::script::{Manner, Script};
-use crate::whole_calls::trace::{Mark, Trace};
-use crate::whole_calls::whole::{Cuts, Whole};
+use crate::whole_calls::retrace::Retrace;
+use crate::whole_calls::trace::Mark;
+use crate::whole_calls::whole::run_plan;
 use std::alloc::Global;
 use std::sync::Wait;
-use table_shared::LockFreeRawTable;
 use testkit_refusing::{Refusing, Rule};
 
 /// A whole call that no other call runs inside of. Of its requests for memory the first few are granted, and so many of the
 /// next are refused.
-#[derive(Clone, Copy, Debug)]
+#[derive(Clone, Copy)]
 pub struct Top {
     pub ask: Ask,
     pub passing: u64,
@@ -52,51 +51,24 @@ pub fn run_whole<R: Wait>(
     requires { IsFirstCapacity first }
 {
     let memory = Refusing::new(alloc, any_request());
-    let table: Table<'_> = LockFreeRawTable::with_first_capacity(&memory, first as usize);
-    let (script, trace) = (Script::new(manner, seed), Trace::new(alloc));
-    let whole = Whole {
-        rt,
+    let table = new_table(&memory, first);
+    let ground = Ground {
         alloc,
         first,
         memory: &memory,
         table: &table,
-        script: &script,
-        trace: &trace,
-        cuts: Cuts::new(plan),
     };
-    whole.run(plan)?;
-    drop(whole);
-    let marks = trace.into_marks()?;
+    let marks = run_plan(rt, ground, &Script::new(manner, seed), plan)?;
     follow(alloc, first, any_request(), marks.as_slice())?;
     told_in(alloc, marks.as_slice())
-}
-
-/// Each request for memory may be refused.
-fn any_request() -> Rule {
-    Rule::new(0, usize::MAX, 0, 0)
 }
 
 /// Follows what happened on a table beside the machine, whose memory has the same rule.
 fn follow(alloc: Global, first: u64, rule: Rule, marks: &[Mark]) -> Result<(), Fault>
     requires { IsFirstCapacity first }
 {
-    let memory = Refusing::new(alloc, rule);
-    let table: Table<'_> = LockFreeRawTable::with_first_capacity(&memory, first as usize);
     let script = Script::new(Manner::Told, 0);
-    let ground = Ground {
-        alloc,
-        first,
-        memory: &memory,
-        table: &table,
-        script: &script,
-    };
-    let mut replay = Replay::new(
-        ground,
-        |_new: &Item, entry: &Item| script.meets(entry.number),
-        |entry: &Item| script.rehashes_met(entry.number),
-        |entry: &Item| script.meets(entry.number),
-    );
-    replay.retrace(marks)
+    run_schedule(alloc, first, rule, &script, &mut Retrace::new(marks))
 }
 
 /// What the calls were told, in the order in which they ended.
@@ -104,7 +76,7 @@ fn told_in(alloc: Global, marks: &[Mark]) -> Result<Vec<(u64, Said)>, Fault> {
     let mut told = Vec::new(alloc);
     for mark in marks {
         if let Mark::Told(call, said) = mark {
-            told.push((*call, *said))?;
+            granted(told.push((*call, *said)))?;
         }
     }
     Ok(told)

@@ -1,34 +1,76 @@
 //! Numbers in a table over shards that one owner holds alone, each equal to itself alone.
 use lock_free_hashtable::sharded::HeldShardedTable;
-use std::alloc::{AllocError, Allocator, Global};
+use std::alloc::{Allocator, Global};
 use std::process::Abort;
 use table_terms::law::{NumberLaw, hash_number};
+use testkit_counting::asked::{hash, same};
+use testkit_counting::numbers::Told;
 
 /// A table of boxed numbers over so many shards.
 pub type Numbers<const SHARDS: usize, A> = HeldShardedTable<Box<u64>, SHARDS, A>;
 
-/// Inserts the number: None where it was refused, else whether it was placed. What comes back is the number.
+/// What `place_alone` tells of the number.
 pub fn insert<const SHARDS: usize, A: Allocator + Copy>(
-    rt: &impl Abort,
     table: &mut Numbers<SHARDS, A>,
     alloc: Global,
     number: u64,
-) -> Result<Option<bool>, AllocError> {
-    let value = Box::new(alloc, number)?;
-    match table.place_alone::<NumberLaw, _, _>(
-        hash_number(number),
-        value,
-        &|new: &u64, entry: &u64| *new == *entry,
-        &|entry: &u64| hash_number(*entry),
-    ) {
-        Ok((_, None)) => Ok(Some(true)),
-        Ok((_, Some(back))) => {
-            assert_eq!(rt; *back, number);
-            Ok(Some(false))
-        }
-        Err(back) => {
-            assert_eq!(rt; *back, number);
-            Ok(None)
-        }
+) -> Told {
+    let Ok(value) = Box::new(alloc, number) else {
+        return Told::Wrong;
+    };
+    match table.place_alone::<NumberLaw, _, _>(hash_number(number), value, &same, &hash) {
+        Ok((_, None)) => Told::Placed,
+        Ok((_, Some(back))) if *back == number => Told::Found,
+        Err(back) if *back == number => Told::Refused,
+        _ => Told::Wrong,
     }
+}
+
+/// Inserts the numbers below `count`: how many were placed.
+pub fn fill<const SHARDS: usize>(
+    table: &mut Numbers<SHARDS, Global>,
+    alloc: Global,
+    count: u64,
+) -> u64 {
+    let mut placed = 0u64;
+    for number in 0..count {
+        placed = placed.wrapping_add(u64::from(insert(table, alloc, number) == Told::Placed));
+    }
+    placed
+}
+
+/// The number that a look-up shows.
+pub fn shown<const SHARDS: usize, A: Allocator + Copy>(
+    table: &Numbers<SHARDS, A>,
+    number: u64,
+) -> Option<u64> {
+    let hash = hash_number(number);
+    table
+        .lookup_alone::<NumberLaw, _>(hash, |entry: &u64| *entry == number)
+        .copied()
+}
+
+/// How many of the numbers below `count` a look-up shows.
+pub fn count_shown<const SHARDS: usize, A: Allocator + Copy>(
+    table: &Numbers<SHARDS, A>,
+    count: u64,
+) -> u64 {
+    let mut found = 0u64;
+    for number in 0..count {
+        found = found.wrapping_add(u64::from(shown(table, number) == Some(number)));
+    }
+    found
+}
+
+/// A look-up shows each of the numbers below `count`, and the table has no more.
+pub fn holds<const SHARDS: usize, A: Allocator + Copy>(
+    table: &Numbers<SHARDS, A>,
+    count: u64,
+) -> bool {
+    table.len_alone() as u64 == count && count_shown(table, count) == count
+}
+
+/// These counts are seen.
+pub fn assert_counted<R: Abort>(rt: &R, seen: &[u64], expected: &[u64]) {
+    assert_eq!(rt; seen, expected);
 }

@@ -19,7 +19,7 @@ pub enum Step {
 }
 
 /// What a call is told: numbers in place of boxes.
-#[derive(Clone, Copy, Debug, PartialEq, Eq)]
+#[derive(Clone, Copy, PartialEq, Eq)]
 pub enum Told {
     Placed(u64),
     Found(u64, u64),
@@ -101,32 +101,33 @@ fn run<B: AloneTable<Box<u64>, NumberLaw>>(
     }
 }
 
-/// This table tells the steps this.
-fn assert_run<B: AloneTable<Box<u64>, NumberLaw>>(
-    rt: &impl Abort,
+/// Whether this table tells the steps this.
+fn tells<B: AloneTable<Box<u64>, NumberLaw>>(
     alloc: Global,
     table: &mut B,
     steps: &[Step],
     expected: &[Told],
-) -> Result<(), AllocError> {
-    assert_eq!(rt; run(alloc, table, steps)?.as_slice(), expected);
-    Ok(())
+) -> bool {
+    match run(alloc, table, steps) {
+        Ok(told) => told.as_slice() == expected,
+        Err(_) => false,
+    }
 }
 
 /// New tables of every kind tell the steps this: the plain list, the raw table, and those over shards.
-fn assert_told(
-    rt: &impl Abort,
-    alloc: Global,
-    steps: &[Step],
-    expected: &[Told],
-) -> Result<(), AllocError> {
-    assert_run(rt, alloc, &mut PlainList::new(alloc), steps, expected)?;
-    assert_run(rt, alloc, &mut HeldRawTable::new(alloc), steps, expected)?;
-    assert_run(rt, alloc, &mut one_shard(alloc), steps, expected)?;
-    assert_run(rt, alloc, &mut two_shards(alloc), steps, expected)?;
-    assert_run(rt, alloc, &mut four_shards(alloc), steps, expected)?;
-    assert_run(rt, alloc, &mut eight_shards(alloc), steps, expected)?;
-    assert_run(rt, alloc, &mut sixteen_shards(alloc), steps, expected)
+fn assert_told(rt: &impl Abort, alloc: Global, steps: &[Step], expected: &[Told]) {
+    assert!(rt; tells(alloc, &mut PlainList::new(alloc), steps, expected));
+    assert!(rt; tells(alloc, &mut HeldRawTable::new(alloc), steps, expected));
+    assert!(rt; tells_over_shards(alloc, steps, expected));
+}
+
+/// New tables over one shard, two, four, eight and sixteen tell the steps this.
+fn tells_over_shards(alloc: Global, steps: &[Step], expected: &[Told]) -> bool {
+    tells(alloc, &mut one_shard(alloc), steps, expected)
+        && tells(alloc, &mut two_shards(alloc), steps, expected)
+        && tells(alloc, &mut four_shards(alloc), steps, expected)
+        && tells(alloc, &mut eight_shards(alloc), steps, expected)
+        && tells(alloc, &mut sixteen_shards(alloc), steps, expected)
 }
 
 const STEPS: [Step; 7] = [
@@ -150,9 +151,8 @@ const TOLD: [Told; 7] = [
 ];
 
 #[test]
-fn calls_are_told_what_a_list_tells(rt: HostRuntime) -> Result<(), Fail> {
-    assert_told(&rt, rt.alloc(), STEPS.as_slice(), TOLD.as_slice())?;
-    Ok(())
+fn calls_are_told_what_a_list_tells(rt: HostRuntime) {
+    assert_told(&rt, rt.alloc(), STEPS.as_slice(), TOLD.as_slice());
 }
 
 /// What a list of numbers tells of the step, and the list after.
@@ -197,6 +197,6 @@ fn generated_calls_are_told_what_a_list_tells(rt: HostRuntime) -> Result<(), Fai
         steps.push(step)?;
         expected.push(list_tells(&mut list, step)?)?;
     }
-    assert_told(&rt, rt.alloc(), steps.as_slice(), expected.as_slice())?;
+    assert_told(&rt, rt.alloc(), steps.as_slice(), expected.as_slice());
     Ok(())
 }

@@ -1,88 +1,67 @@
 //! What an insert into shards shows at once, and what it leaves, beside `place_alone` of the same numbers.
 use super::makers::{eight_shards, one_shard, two_shards, two_shards_of};
-use super::numbers::{Numbers, insert};
-use super::refusals::{assert_requests, refused_in_turn};
+use super::numbers::{Numbers, assert_counted, holds, insert};
+use super::refusals::{RUNS, assert_requests};
 use super::walks::walked;
 use std::alloc::{AllocError, Allocator, Global};
 use std::process::Abort;
 use std::test::Fail;
 use table_terms::law::{NumberLaw, hash_number};
+use testkit_counting::asked::{hash, same};
+use testkit_counting::numbers::Told;
 use testkit_refusing::{Refusing, Rule};
 
-/// What an insert of a number shows, and what comes back.
-#[derive(Clone, Copy, Debug, PartialEq, Eq)]
-enum Shown {
-    Placed(u64),
-    Found(u64, u64),
-    Refused(u64),
+/// What an insert of a number tells by what it shows and what comes back.
+fn told_by(answer: Result<(&u64, Option<Box<u64>>), Box<u64>>, number: u64) -> Told {
+    match answer {
+        Ok((shown, None)) if *shown == number => Told::Placed,
+        Ok((shown, Some(back))) if *shown == number && *back == number => Told::Found,
+        Err(back) if *back == number => Told::Refused,
+        _ => Told::Wrong,
+    }
 }
 
-/// Inserts the number under a hash of the caller's.
-fn show_by<const SHARDS: usize, A: Allocator + Copy, E: Fn(&u64, &u64) -> bool>(
-    table: &mut Numbers<SHARDS, A>,
-    alloc: Global,
-    hash: u64,
-    number: u64,
-    eq: E,
-) -> Result<Shown, AllocError>
-    requires eq_callable { E.IsAlwaysCallable eq }
-{
-    let value = Box::new(alloc, number)?;
-    let shown = match table.insert_alone::<NumberLaw, E, _>(
-        hash,
-        value,
-        eq,
-        |entry: &u64| hash_number(*entry),
-    ) {
-        Ok((shown, None)) => Shown::Placed(*shown),
-        Ok((shown, Some(back))) => Shown::Found(*shown, *back),
-        Err(back) => Shown::Refused(*back),
-    };
-    Ok(shown)
-}
-
-/// Inserts the number by the law.
+/// What an insert of the number is told that shows it.
 fn show<const SHARDS: usize, A: Allocator + Copy>(
     table: &mut Numbers<SHARDS, A>,
     alloc: Global,
     number: u64,
-) -> Result<Shown, AllocError> {
-    show_by(
-        table,
-        alloc,
-        hash_number(number),
-        number,
-        |new: &u64, entry: &u64| *new == *entry,
-    )
-}
-
-/// A look-up shows each of the first so many numbers, and the table has no more.
-fn assert_holds<const SHARDS: usize, A: Allocator + Copy>(
-    rt: &impl Abort,
-    table: &Numbers<SHARDS, A>,
-    numbers: u64,
-) {
-    assert_eq!(rt; table.len_alone() as u64, numbers);
-    for number in 0..numbers {
-        let shown = table.lookup_alone::<NumberLaw, _>(
-            hash_number(number),
-            |entry: &u64| *entry == number,
-        );
-        assert_eq!(rt; shown.copied(), Some(number));
+) -> Told {
+    match Box::new(alloc, number) {
+        Ok(value) => told_by(
+            table.insert_alone::<NumberLaw, _, _>(hash_number(number), value, same, hash),
+            number,
+        ),
+        Err(_) => Told::Wrong,
     }
 }
 
 /// The tables have the same entries in the same order, and as many buckets.
-fn assert_alike<const SHARDS: usize>(
-    rt: &impl Abort,
+fn are_alike<const SHARDS: usize>(
     shows: &Numbers<SHARDS, Global>,
     places: &Numbers<SHARDS, Global>,
     alloc: Global,
+) -> Result<bool, AllocError> {
+    let same_walk = walked(shows, alloc)?.as_slice() == walked(places, alloc)?.as_slice();
+    Ok(
+        same_walk
+            && shows.len_alone() == places.len_alone()
+            && shows.capacity_alone() == places.capacity_alone()
+            && shows.buckets_alone() == places.buckets_alone(),
+    )
+}
+
+/// The number is told so, and after that the tables are alike.
+fn assert_told<const SHARDS: usize>(
+    rt: &impl Abort,
+    shows: &mut Numbers<SHARDS, Global>,
+    places: &Numbers<SHARDS, Global>,
+    alloc: Global,
+    number: u64,
+    told: Told,
 ) -> Result<(), AllocError> {
-    assert_eq!(rt; walked(shows, alloc)?, walked(places, alloc)?);
-    assert_eq!(rt; shows.len_alone(), places.len_alone());
-    assert_eq!(rt; shows.capacity_alone(), places.capacity_alone());
-    assert_eq!(rt; shows.buckets_alone(), places.buckets_alone());
+    assert_eq!(rt; show(shows, alloc, number), told, "{number}");
+    assert!(rt; are_alike(shows, places, alloc)?, "{number}");
     Ok(())
 }
 
@@ -96,16 +75,11 @@ fn assert_shows_as_placed<const SHARDS: usize>(
     numbers: u64,
 ) -> Result<(), AllocError> {
     for number in 0..numbers {
-        assert_eq!(rt; show(&mut shows, alloc, number)?, Shown::Placed(number));
-        assert_eq!(rt; insert(rt, &mut places, alloc, number)?, Some(true));
-        assert_alike(rt, &shows, &places, alloc)?;
-        assert_eq!(rt;
-            show(&mut shows, alloc, number)?,
-            Shown::Found(number, number)
-        );
-        assert_alike(rt, &shows, &places, alloc)?;
+        assert!(rt; insert(&mut places, alloc, number) == Told::Placed);
+        assert_told(rt, &mut shows, &places, alloc, number, Told::Placed)?;
+        assert_told(rt, &mut shows, &places, alloc, number, Told::Found)?;
     }
-    assert_holds(rt, &shows, numbers);
+    assert!(rt; holds(&shows, numbers));
     Ok(())
 }
 
@@ -117,54 +91,70 @@ fn leaves_what_place_alone_leaves(rt: HostRuntime) -> Result<(), Fail> {
     Ok(())
 }
 
-/// Shows seventeen numbers and the fifth of them again, where the request after so many is refused. A number that is refused comes
-/// back, the others stay, and the next try places it. Whether a request was refused.
-fn assert_all_shown(rt: &impl Abort, alloc: Global, passing: u64) -> Result<bool, AllocError> {
+/// Shows the number, which is placed by the second try at the latest. A number that is refused comes back, and the others stay.
+fn is_placed(table: &mut Numbers<2, &Refusing<Global>>, alloc: Global, number: u64) -> bool {
+    let mut told = show(table, alloc, number);
+    if told == Told::Refused && holds(table, number) {
+        told = show(table, alloc, number);
+    }
+    told == Told::Placed && holds(table, number.wrapping_add(1))
+}
+
+/// Shows seventeen numbers and the fifth of them again, where the request after so many is refused. Each is placed, and the fifth
+/// is found. Whether a request was refused.
+fn assert_all_shown(rt: &impl Abort, alloc: Global, passing: u64) -> bool {
     let heap = Refusing::new(alloc, Rule::new(0, usize::MAX, passing, 1));
     let mut table = two_shards_of(&heap);
     for number in 0..17u64 {
-        let mut shown = show(&mut table, alloc, number)?;
-        if shown == Shown::Refused(number) {
-            assert_holds(rt, &table, number);
-            shown = show(&mut table, alloc, number)?;
-        }
-        assert_eq!(rt; shown, Shown::Placed(number));
-        assert_holds(rt, &table, number.saturating_add(1));
+        assert!(rt; is_placed(&mut table, alloc, number), "{number}");
     }
-    assert_eq!(rt; show(&mut table, alloc, 4)?, Shown::Found(4, 4));
-    assert_holds(rt, &table, 17);
-    Ok(heap.refusals_left() == 0)
+    let is_found = show(&mut table, alloc, 4) == Told::Found;
+    assert!(rt; is_found && holds(&table, 17));
+    heap.refusals_left() == 0
 }
 
 #[test]
-fn each_request_of_an_insert_that_shows_refused(rt: HostRuntime) -> Result<(), Fail> {
-    let requests = refused_in_turn(|passing: u64| assert_all_shown(&rt, rt.alloc(), passing))?;
-    assert_requests(&rt, requests);
-    Ok(())
+fn each_request_of_an_insert_that_shows_refused(rt: HostRuntime) {
+    let mut refused = 0u64;
+    for passing in 0..RUNS {
+        refused = refused.wrapping_add(u64::from(assert_all_shown(&rt, rt.alloc(), passing)));
+    }
+    assert_requests(&rt, refused);
 }
 
-/// Hashes of the first shard of two and of the second, numbers, and what an equality that is always met shows.
-const CARELESS: [(u64, u64, Shown); 4] = [
-    (0, 1, Shown::Placed(1)),
-    (1 << 63, 2, Shown::Placed(2)),
-    (0, 3, Shown::Found(1, 3)),
-    (1 << 63, 4, Shown::Found(2, 4)),
+/// No value.
+const NONE: u64 = u64::MAX;
+
+/// Hashes of the first shard of two and of the second, numbers, and what an equality that is always met shows, and what comes back.
+const CARELESS: [(u64, u64, [u64; 2]); 4] = [
+    (0, 1, [1, NONE]),
+    (1 << 63, 2, [2, NONE]),
+    (0, 3, [1, 3]),
+    (1 << 63, 4, [2, 4]),
 ];
+
+/// An equality that is always met.
+fn always(_new: &u64, _entry: &u64) -> bool {
+    true
+}
+
+/// What an insert of the value shows by an equality that is always met, and what comes back.
+fn show_careless(table: &mut Numbers<2, Global>, hash_of: u64, value: Box<u64>) -> [u64; 2] {
+    match table.insert_alone::<NumberLaw, _, _>(hash_of, value, always, hash) {
+        Ok((shown, None)) => [*shown, NONE],
+        Ok((shown, Some(back))) => [*shown, *back],
+        Err(back) => [NONE, *back],
+    }
+}
 
 /// An equality that is always met is asked of entries in the hash's shard alone.
 #[test]
 fn shows_an_entry_of_its_own_shard(rt: HostRuntime) -> Result<(), Fail> {
     let mut table: Numbers<2, Global> = two_shards(rt.alloc());
-    for (hash, number, expected) in CARELESS {
-        let shown = show_by(
-            &mut table,
-            rt.alloc(),
-            hash,
-            number,
-            |_: &u64, _: &u64| true,
-        )?;
-        assert_eq!(rt; shown, expected);
+    for (hash_of, number, expected) in CARELESS {
+        let shown = show_careless(&mut table, hash_of, Box::new(rt.alloc(), number)?);
+        assert_counted(&rt, shown.as_slice(), expected.as_slice());
     }
-    assert_eq!(rt; table.len_alone(), 2);
+    assert!(rt; table.len_alone() == 2);
     Ok(())
 }

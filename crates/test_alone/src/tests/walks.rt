@@ -1,19 +1,18 @@
 //! Walks over eight shards, by reference and by value.
 use super::makers::eight_shards;
-use super::numbers::{Numbers, insert};
+use super::numbers::{Numbers, assert_counted, fill};
 use std::alloc::{AllocError, Global};
 use std::process::Abort;
 use std::test::Fail;
+use testkit_counting::numbers::count_first;
 
 type EightShards = Numbers<8, Global>;
 
-/// A table of the first so many numbers.
-fn filled(rt: &impl Abort, alloc: Global, numbers: u64) -> Result<EightShards, AllocError> {
+/// A table into which the numbers below `count` were placed.
+fn filled(rt: &impl Abort, alloc: Global, count: u64) -> EightShards {
     let mut table = eight_shards(alloc);
-    for number in 0..numbers {
-        assert_eq!(rt; insert(rt, &mut table, alloc, number)?, Some(true));
-    }
-    Ok(table)
+    assert!(rt; fill(&mut table, alloc, count) == count);
+    table
 }
 
 /// The numbers of a walk.
@@ -38,54 +37,53 @@ fn handed_out(table: EightShards, alloc: Global) -> Result<Vec<u64>, AllocError>
 }
 
 /// The numbers are the first so many, each once.
-fn assert_each_once(rt: &impl Abort, mut numbers: Vec<u64>, count: u64) {
-    numbers.sort_unstable();
-    assert_eq!(rt; numbers.len() as u64, count);
-    for (expected, number) in (0..count).zip(numbers.iter()) {
-        assert_eq!(rt; *number, expected);
-    }
+fn assert_each_once<R: Abort>(rt: &R, numbers: Vec<u64>, count: u64) {
+    let (length, first) = count_first(numbers);
+    assert_counted(rt, [length, first].as_slice(), [count, count].as_slice());
+}
+
+/// A walk or a table by value is so long, as it says.
+fn assert_length<R: Abort>(rt: &R, said: (usize, Option<usize>), length: usize) {
+    assert_eq!(rt; said, (length, Some(length)));
 }
 
 #[test]
 fn walks_give_a_thousand_numbers_once_each(rt: HostRuntime) -> Result<(), Fail> {
-    let table = filled(&rt, rt.alloc(), 1000)?;
-    assert_eq!(rt; (table.len_alone(), table.is_empty_alone()), (1000, false));
-    assert_eq!(rt; table.iter_alone().size_hint(), (1000, Some(1000)));
+    let table = filled(&rt, rt.alloc(), 1000);
+    assert!(rt; table.len_alone() == 1000 && !table.is_empty_alone());
+    assert_length(&rt, table.iter_alone().size_hint(), 1000);
     assert_each_once(&rt, walked(&table, rt.alloc())?, 1000);
     assert_each_once(&rt, handed_out(table, rt.alloc())?, 1000);
-    assert_each_once(
-        &rt,
-        handed_out(filled(&rt, rt.alloc(), 10)?, rt.alloc())?,
-        10,
-    );
+    let ten = filled(&rt, rt.alloc(), 10);
+    assert_each_once(&rt, handed_out(ten, rt.alloc())?, 10);
     Ok(())
 }
 
 #[test]
-fn a_walk_stays_at_its_end(rt: HostRuntime) -> Result<(), Fail> {
-    let table = filled(&rt, rt.alloc(), 20)?;
+fn a_walk_stays_at_its_end(rt: HostRuntime) {
+    let table = filled(&rt, rt.alloc(), 20);
     let mut walk = table.iter_alone();
-    for _number in 0..20 {
-        assert!(rt; walk.next().is_some());
+    let mut steps = 0u64;
+    for _step in 0..20 {
+        steps = steps.wrapping_add(u64::from(walk.next().is_some()));
     }
-    assert!(rt; walk.next().is_none() && walk.next().is_none());
-    Ok(())
+    assert!(rt; steps == 20 && walk.next().is_none() && walk.next().is_none());
 }
 
 #[test]
-fn an_owning_walk_stays_at_its_end(rt: HostRuntime) -> Result<(), Fail> {
-    let mut walk = filled(&rt, rt.alloc(), 20)?.into_iter();
-    assert_eq!(rt; walk.size_hint(), (20, Some(20)));
-    for _number in 0..20 {
-        assert!(rt; walk.next().is_some());
+fn an_owning_walk_stays_at_its_end(rt: HostRuntime) {
+    let mut walk = filled(&rt, rt.alloc(), 20).into_iter();
+    assert_length(&rt, walk.size_hint(), 20);
+    let mut steps = 0u64;
+    for _step in 0..20 {
+        steps = steps.wrapping_add(u64::from(walk.next().is_some()));
     }
-    assert!(rt; walk.next().is_none() && walk.next().is_none());
-    Ok(())
+    assert!(rt; steps == 20 && walk.next().is_none() && walk.next().is_none());
 }
 
 #[test]
 fn shards_without_entries_give_nothing(rt: HostRuntime) {
     let table: EightShards = eight_shards(rt.alloc());
-    assert!(rt; table.is_empty_alone() && table.iter_alone().next().is_none());
-    assert!(rt; table.into_iter().next().is_none());
+    let shows_none = table.is_empty_alone() && table.iter_alone().next().is_none();
+    assert!(rt; shows_none && table.into_iter().next().is_none());
 }

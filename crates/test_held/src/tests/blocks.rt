@@ -1,9 +1,10 @@
 //! Each block that a table asks for is given back once.
-use super::pairs::{End, Pairs, assert_end, insert};
-use std::alloc::{AllocError, Allocator, Global};
+use super::assert_same;
+use super::pairs::{End, Pair, Pairs, assert_end, assert_size, insert};
+use std::alloc::{AllocError, Global};
 use std::process::Abort;
 use std::test::Fail;
-use table_held::raw::HeldRawTable;
+use table_held::raw::{HeldRawTable, IntoIter};
 use testkit_refusing::{Refusing, Rule};
 
 /// Entries of a table, and the blocks that it holds at least: one for each entry, and two for each
@@ -27,29 +28,24 @@ const REFUSED: [(usize, usize, u64); 9] = [
     (0, 31, 19),
 ];
 
+/// A table in memory that counts its blocks.
+type Counted<'a> = Pairs<&'a Refusing<Global>>;
+
+/// What such a table hands out.
+type Values<'a> = IntoIter<Box<Pair>, &'a Refusing<Global>>;
+
 /// A table that has the first numbers as its entries.
-fn table_of<A: Allocator + Copy>(
+fn table_of<'a>(
     rt: &impl Abort,
-    below: A,
+    heap: &'a Refusing<Global>,
     alloc: Global,
     entries: u64,
-) -> Result<Pairs<A>, AllocError> {
-    let mut table = HeldRawTable::new(below);
+) -> Result<Counted<'a>, AllocError> {
+    let mut table = HeldRawTable::new(heap);
     for number in 0..entries {
         assert_end(rt, &mut table, alloc, number, End::Placed)?;
     }
     Ok(table)
-}
-
-/// At least so many blocks were granted and not given back.
-fn assert_out<A: Allocator>(rt: &impl Abort, heap: &Refusing<A>, least: u64) {
-    let out = heap.granted().saturating_sub(heap.given_back());
-    assert!(rt; out >= least, "{out} of {least} blocks are out");
-}
-
-/// Each block that was granted was given back.
-fn assert_none_out<A: Allocator>(rt: &impl Abort, heap: &Refusing<A>) {
-    assert_eq!(rt; heap.given_back(), heap.granted());
 }
 
 /// A heap that refuses nothing.
@@ -57,45 +53,68 @@ fn ample(alloc: Global) -> Refusing<Global> {
     Refusing::new(alloc, Rule::new(0, 0, 0, 0))
 }
 
+/// So many blocks were granted, and so many given back.
+fn assert_blocks(rt: &impl Abort, heap: &Refusing<Global>, granted: u64, given_back: u64) {
+    assert_same(rt, heap.granted(), granted);
+    assert_same(rt, heap.given_back(), given_back);
+}
+
 /// What is dropped here holds at least so many blocks, and gives back all.
 fn assert_gives_back<T: Drop>(rt: &impl Abort, heap: &Refusing<Global>, owner: T, least: u64) {
-    assert_out(rt, heap, least);
+    assert!(rt; heap.granted().saturating_sub(heap.given_back()) >= least);
     drop(owner);
-    assert_none_out(rt, heap);
+    assert_same(rt, heap.given_back(), heap.granted());
+}
+
+/// So many values are taken out, each with a block.
+fn take(rt: &impl Abort, heap: &Refusing<Global>, values: &mut Values<'_>, taken: u64) {
+    let before = heap.given_back();
+    for _value in 0..taken {
+        assert!(rt; values.next().is_some());
+    }
+    assert!(rt; heap.given_back().saturating_sub(before) >= taken);
 }
 
 /// So many values are taken out of a table of so many entries, each with a block, and the rest is dropped.
 fn assert_taken(rt: &impl Abort, alloc: Global, entries: u64, taken: u64) -> Result<(), Fail> {
     let heap = ample(alloc);
     let mut values = table_of(rt, &heap, alloc, entries)?.into_iter();
-    assert_out(rt, &heap, entries);
-    let before = heap.given_back();
-    for _value in 0..taken {
-        assert!(rt; values.next().is_some());
-    }
-    assert!(rt; heap.given_back().saturating_sub(before) >= taken);
+    assert!(rt; heap.granted().saturating_sub(heap.given_back()) >= entries);
+    take(rt, &heap, &mut values, taken);
     assert_gives_back(rt, &heap, values, entries.saturating_sub(taken));
+    Ok(())
+}
+
+/// Twenty inserts.
+fn insert_twenty(table: &mut Counted<'_>, alloc: Global) -> Result<(), AllocError> {
+    for number in 0..20 {
+        insert(table, alloc, (number, number))?;
+    }
     Ok(())
 }
 
 /// Twenty inserts, of which one meets the refusal, and the end of their table.
 fn assert_refused_once(rt: &impl Abort, alloc: Global, rule: Rule) -> Result<(), AllocError> {
     let heap = Refusing::new(alloc, rule);
-    let mut table: Pairs<&Refusing<Global>> = HeldRawTable::new(&heap);
-    for number in 0..20 {
-        insert(&mut table, alloc, (number, number))?;
-    }
-    assert_eq!(rt; heap.refusals_left(), 0);
+    let mut table: Counted<'_> = HeldRawTable::new(&heap);
+    insert_twenty(&mut table, alloc)?;
+    assert_same(rt, heap.refusals_left(), 0);
     assert_gives_back(rt, &heap, table, 19);
+    Ok(())
+}
+
+/// A table of so many entries holds at least so many blocks, and gives back all at its end.
+fn assert_end_of(rt: &impl Abort, alloc: Global, entries: u64, blocks: u64) -> Result<(), Fail> {
+    let heap = ample(alloc);
+    let table = table_of(rt, &heap, alloc, entries)?;
+    assert_gives_back(rt, &heap, table, blocks);
     Ok(())
 }
 
 #[test]
 fn the_end_of_a_table(rt: HostRuntime) -> Result<(), Fail> {
     for (entries, blocks) in TABLES {
-        let heap = ample(rt.alloc());
-        let table = table_of(&rt, &heap, rt.alloc(), entries)?;
-        assert_gives_back(&rt, &heap, table, blocks);
+        assert_end_of(&rt, rt.alloc(), entries, blocks)?;
     }
     Ok(())
 }
@@ -120,11 +139,11 @@ fn a_request_refused(rt: HostRuntime) -> Result<(), Fail> {
 #[test]
 fn a_generation_without_entries(rt: HostRuntime) -> Result<(), Fail> {
     let heap = Refusing::new(rt.alloc(), Rule::new(0, 31, 0, 1));
-    let mut table: Pairs<&Refusing<Global>> = HeldRawTable::new(&heap);
+    let mut table: Counted<'_> = HeldRawTable::new(&heap);
     insert(&mut table, rt.alloc(), (1, 1))?;
-    assert_eq!(rt; (table.len_alone(), table.capacity_alone()), (0, 16));
-    assert_eq!(rt; (heap.granted(), heap.given_back()), (2, 0));
+    assert_size(&rt, &table, 0, 16);
+    assert_blocks(&rt, &heap, 2, 0);
     drop(table);
-    assert_eq!(rt; (heap.granted(), heap.given_back()), (2, 2));
+    assert_blocks(&rt, &heap, 2, 2);
     Ok(())
 }

@@ -1,12 +1,11 @@
 //! When growth comes if memory is ample, and how often it asks for hashes.
-use super::pairs::{End, Pairs, assert_end, assert_size, same};
+use super::assert_same;
+use super::pairs::{Closures, End, Pairs, assert_placed, assert_size, assert_told_at, told_of};
 use std::alloc::{AllocError, Global};
-use std::cell::Cell;
 use std::ops::Range;
 use std::process::Abort;
 use std::test::Fail;
 use table_held::raw::HeldRawTable;
-use table_terms::law::PairLaw;
 
 /// From so many entries to so many: the buckets of the current generation and of all together, where each growth was
 /// granted.
@@ -17,22 +16,19 @@ const SIZES: [(u64, u64, usize, usize); 4] = [
     (32, 63, 128, 240),
 ];
 
-/// The insert of the number is told this value's place, and asks `hash_fn` so often.
+/// The insert of the pair of the number and itself ends so, and asks `hash_fn` so often.
 fn assert_asks(
     rt: &impl Abort,
     table: &mut Pairs,
     alloc: Global,
     number: u64,
+    end: End,
     asks: u64,
 ) -> Result<(), AllocError> {
-    let asked = Cell::new(0u64);
-    let value = Box::new(alloc, (number, number))?;
-    let told = table.insert_alone::<PairLaw, _, _>(number, value, same, |pair: &(u64, u64)| {
-        asked.set(asked.get().wrapping_add(1));
-        pair.0
-    });
-    assert!(rt; told.is_ok(), "at {number}");
-    assert_eq!(rt; asked.get(), asks, "at {number}");
+    let closures = Closures::lawful();
+    let (pair, told) = ((number, number), told_of(number, end));
+    assert_told_at(rt, &closures, table, alloc, number, pair, told)?;
+    assert_same(rt, closures.hash_asks(), asks);
     Ok(())
 }
 
@@ -46,9 +42,8 @@ fn assert_grows(
     buckets: usize,
 ) -> Result<(), AllocError> {
     for number in numbers {
-        assert_end(rt, table, alloc, number, End::Placed)?;
-        assert_size(rt, table, (number as usize).saturating_add(1), capacity);
-        assert_eq!(rt; table.buckets_alone(), buckets);
+        assert_placed(rt, table, alloc, number, capacity)?;
+        assert_same(rt, table.buckets_alone() as u64, buckets as u64);
     }
     Ok(())
 }
@@ -70,14 +65,9 @@ fn each_entry_is_hashed_once_a_growth(rt: HostRuntime) -> Result<(), Fail> {
     for number in 0..40 {
         let entries = number + 1;
         let grows = entries == 8 || entries == 16 || entries == 32;
-        assert_asks(
-            &rt,
-            &mut table,
-            rt.alloc(),
-            number,
-            if grows { entries } else { 0 },
-        )?;
-        assert_asks(&rt, &mut table, rt.alloc(), number / 2, 0)?;
+        let asks = if grows { entries } else { 0 };
+        assert_asks(&rt, &mut table, rt.alloc(), number, End::Placed, asks)?;
+        assert_asks(&rt, &mut table, rt.alloc(), number / 2, End::Found, 0)?;
     }
     assert_size(&rt, &table, 40, 128);
     Ok(())

@@ -1,5 +1,6 @@
 //! Memory that is refused: what is told, what the table keeps, and when growth comes after all.
-use super::pairs::{End, Pairs, assert_end, assert_shown, assert_size};
+use super::assert_same;
+use super::pairs::{End, Pairs, assert_end, assert_placed, assert_shown, assert_size};
 use std::alloc::{AllocError, Allocator, Global};
 use std::ops::Range;
 use std::process::Abort;
@@ -102,8 +103,7 @@ fn assert_placed_within<A: Allocator + Copy>(
     capacity: usize,
 ) -> Result<(), AllocError> {
     for number in numbers {
-        assert_end(rt, table, alloc, number, End::Placed)?;
-        assert_size(rt, table, (number as usize).saturating_add(1), capacity);
+        assert_placed(rt, table, alloc, number, capacity)?;
     }
     Ok(())
 }
@@ -138,7 +138,7 @@ fn take<A: Allocator>(
         )?,
         Step::Ends(number, end) => assert_end(rt, table, alloc, number, end)?,
         Step::Has(entries, capacity) => {
-            assert_eq!(rt; heap.refusals_left(), 0);
+            assert_same(rt, heap.refusals_left(), 0);
             assert_size(rt, table, entries, capacity);
         }
         Step::Shows(first, end, is_entry) => assert_all_shown(rt, table, first..end, is_entry),

@@ -1,5 +1,6 @@
 //! Generated runs, held against the slow list reply by reply.
-use super::pairs::{Pairs, Told, hash, insert, lookup, same};
+use super::assert_same;
+use super::pairs::{Pair, Pairs, Told, assert_shown, assert_shown_at, assert_size, insert};
 use crate::slow_list::SlowList;
 use rand_core::{Rng, SeedableRng};
 use rand_xoshiro::SplitMix64;
@@ -23,24 +24,26 @@ fn draw(numbers: &mut SplitMix64, bound: u64) -> u64 {
 }
 
 /// A pair of one of a few hashes.
-fn draw_pair(numbers: &mut SplitMix64) -> (u64, u64) {
+fn draw_pair(numbers: &mut SplitMix64) -> Pair {
     let index = draw(numbers, 7) as usize;
     (HASHES.get(index).copied().unwrap_or(0), draw(numbers, 12))
 }
 
-/// What the list tells of a pair that the table was handed: it may refuse where a request was refused and no entry is equal.
-fn expected(list: &mut SlowList, pair: (u64, u64), told: Told, refused: bool) -> Option<Told> {
-    if let Told::Refused(_) = told {
-        return match (refused, list.lookup(pair)) {
-            (true, None) => Some(Told::Refused(pair)),
-            _ => None,
-        };
+/// Whether the list tells the same of a pair that the table was handed: it may refuse where a request was refused and no
+/// entry is equal.
+fn agrees(list: &mut SlowList, pair: Pair, told: Told, refused: bool) -> bool {
+    match told {
+        Told::Refused(back) => refused && back == pair && list.lookup(pair).is_none(),
+        Told::Placed(shown) => { shown == pair && matches!(list.insert(pair), Insertion::Placed) }
+        Told::Found(shown, back) => {
+            shown == pair && back == pair && matches!(list.insert(pair), Insertion::Found)
+        }
     }
-    match list.insert(pair) {
-        Insertion::Placed => Some(Told::Placed(pair)),
-        Insertion::Found => Some(Told::Found(pair, pair)),
-        Insertion::Refused => None,
-    }
+}
+
+/// Two walks have the same pairs in the same order.
+fn assert_same_pairs(rt: &impl Abort, one: &[Pair], other: &[Pair]) {
+    assert!(rt; one == other);
 }
 
 /// A table and the list that it stands for.
@@ -61,17 +64,12 @@ impl<A: Allocator + Copy> Both<A> {
     }
 
     /// Inserts the pair into both. `refusals` is how many requests the table's heap is still going to refuse.
-    fn insert(
-        &mut self,
-        rt: &impl Abort,
-        heap: &Refusing<Global>,
-        pair: (u64, u64),
-    ) -> Result<(), Fail> {
+    fn insert(&mut self, rt: &impl Abort, heap: &Refusing<Global>, pair: Pair) -> Result<(), Fail> {
         let before = heap.refusals_left();
         let capacity = self.table.capacity_alone();
         let told = insert(&mut self.table, self.alloc, pair)?;
         let refused = heap.refusals_left() < before;
-        assert_eq!(rt; Some(told), expected(&mut self.list, pair, told, refused));
+        assert!(rt; agrees(&mut self.list, pair, told, refused));
         self.assert_grown(rt, capacity, refused);
         Ok(())
     }
@@ -82,13 +80,13 @@ impl<A: Allocator + Copy> Both<A> {
         assert!(rt; refused || !wanted || self.table.capacity_alone() > capacity);
     }
 
-    fn lookup(&self, rt: &impl Abort, pair: (u64, u64)) {
-        assert_eq!(rt; lookup(&self.table, pair), self.list.lookup(pair));
+    fn lookup(&self, rt: &impl Abort, pair: Pair) {
+        assert_shown_at(rt, &self.table, pair.0, pair, self.list.lookup(pair));
     }
 
     fn count(&self, rt: &impl Abort) {
-        assert_eq!(rt; self.table.len_alone(), self.list.len());
-        assert_eq!(rt; self.table.is_empty_alone(), self.list.len() == 0);
+        assert_same(rt, self.table.len_alone() as u64, self.list.len() as u64);
+        assert!(rt; self.table.is_empty_alone() == (self.list.len() == 0));
     }
 
     fn walk(&self, rt: &impl Abort) -> Result<(), Fail> {
@@ -96,7 +94,7 @@ impl<A: Allocator + Copy> Both<A> {
         walked.sort_unstable();
         let mut expected = Vec::from_slice(self.alloc, self.list.walk())?;
         expected.sort_unstable();
-        assert_eq!(rt; walked.as_slice(), expected.as_slice());
+        assert_same_pairs(rt, walked.as_slice(), expected.as_slice());
         Ok(())
     }
 
@@ -105,7 +103,7 @@ impl<A: Allocator + Copy> Both<A> {
         &mut self,
         rt: &impl Abort,
         heap: &Refusing<Global>,
-        pair: (u64, u64),
+        pair: Pair,
         tries: u64,
     ) -> Result<(), Fail> {
         for _tried in 0..tries {
@@ -113,17 +111,14 @@ impl<A: Allocator + Copy> Both<A> {
                 self.insert(rt, heap, pair)?;
             }
         }
-        assert_eq!(rt; self.list.lookup(pair), Some(pair));
+        assert_shown(rt, &self.table, pair, true);
         self.lookup(rt, pair);
         Ok(())
     }
 }
 
 /// The pairs of a table, in the order of its walk.
-fn walk<A: Allocator + Copy>(
-    table: &Pairs<A>,
-    alloc: Global,
-) -> Result<Vec<(u64, u64)>, AllocError> {
+fn walk<A: Allocator + Copy>(table: &Pairs<A>, alloc: Global) -> Result<Vec<Pair>, AllocError> {
     let mut pairs = Vec::new(alloc);
     for pair in table {
         pairs.push(*pair)?;
@@ -192,16 +187,28 @@ fn each_request_of_memory_refused_in_turn(rt: HostRuntime) -> Result<(), Fail> {
     Ok(())
 }
 
+/// Equal pairs.
+fn same(a: &Pair, b: &Pair) -> bool {
+    a == b
+}
+
+/// The hash of a pair.
+fn hash(pair: &Pair) -> u64 {
+    pair.0
+}
+
 /// Places the pair by the place form of insert.
-fn place(table: &mut Pairs, alloc: Global, pair: (u64, u64)) -> Result<Told, AllocError> {
+fn place(table: &mut Pairs, alloc: Global, pair: Pair) -> Result<Told, AllocError> {
     let value = Box::new(alloc, pair)?;
-    Ok(
-        match table.place_alone::<PairLaw, _, _>(pair.0, value, &same, &hash) {
-            Ok((place, None)) => Told::Placed(*table.target_at(place)),
-            Ok((place, Some(back))) => Told::Found(*table.target_at(place), *back),
-            Err(back) => Told::Refused(*back),
-        },
-    )
+    let (place, back) = match table.place_alone::<PairLaw, _, _>(pair.0, value, &same, &hash) {
+        Ok(placed) => placed,
+        Err(back) => return Ok(Told::Refused(*back)),
+    };
+    let shown = *table.target_at(place);
+    Ok(match back {
+        None => Told::Placed(shown),
+        Some(back) => Told::Found(shown, *back),
+    })
 }
 
 /// Two tables have the same entries in the same order, and the same buckets.
@@ -211,12 +218,17 @@ fn assert_alike(
     one: &Pairs,
     other: &Pairs,
 ) -> Result<(), AllocError> {
-    assert_eq!(rt; one.len_alone(), other.len_alone());
-    assert_eq!(rt; one.capacity_alone(), other.capacity_alone());
-    assert_eq!(rt; one.buckets_alone(), other.buckets_alone());
-    assert_eq!(rt;
+    assert_same(rt, one.len_alone() as u64, other.len_alone() as u64);
+    assert_same(
+        rt,
+        one.capacity_alone() as u64,
+        other.capacity_alone() as u64,
+    );
+    assert_same(rt, one.buckets_alone() as u64, other.buckets_alone() as u64);
+    assert_same_pairs(
+        rt,
         walk(one, alloc)?.as_slice(),
-        walk(other, alloc)?.as_slice()
+        walk(other, alloc)?.as_slice(),
     );
     Ok(())
 }
@@ -227,16 +239,16 @@ fn assert_inserts_alike(
     alloc: Global,
     shown: &mut Pairs,
     placed: &mut Pairs,
-    pair: (u64, u64),
+    pair: Pair,
 ) -> Result<(), AllocError> {
-    assert_eq!(rt; insert(shown, alloc, pair)?, place(placed, alloc, pair)?);
+    assert!(rt; insert(shown, alloc, pair)? == place(placed, alloc, pair)?);
     assert_alike(rt, alloc, shown, placed)
 }
 
 /// The table shows each of the pairs.
-fn assert_all_shown(rt: &impl Abort, table: &Pairs, pairs: &[(u64, u64)]) {
+fn assert_all_shown(rt: &impl Abort, table: &Pairs, pairs: &[Pair]) {
     for pair in pairs {
-        assert_eq!(rt; lookup(table, *pair), Some(*pair));
+        assert_shown(rt, table, *pair, true);
     }
 }
 
@@ -256,6 +268,6 @@ fn both_forms_of_insert_leave_the_same_table(rt: HostRuntime) -> Result<(), Fail
         }
         assert_all_shown(&rt, &shown, pairs.as_slice());
     }
-    assert_eq!(rt; (shown.len_alone(), shown.capacity_alone()), (128, 512));
+    assert_size(&rt, &shown, 128, 512);
     Ok(())
 }

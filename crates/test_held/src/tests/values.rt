@@ -1,6 +1,7 @@
 //! The kinds of values that a table holds.
-use std::alloc::{AllocError, Global};
+use super::assert_same;
 use std::num::{NonZeroU32, NonZeroU64};
+use std::ops::Range;
 use std::process::Abort;
 use std::sync::Arc;
 use std::test::Fail;
@@ -8,120 +9,126 @@ use table_held::raw::{HeldRawTable, is_first_capacity};
 use table_held::{AtomicValue, InPlace};
 use table_terms::law::{Law, NumberLaw, hash_number};
 
-/// The target of a value, known by its bounds alone.
-fn target_of<V: AtomicValue>(value: &V) -> &V::Target {
-    value.deref()
+/// The number that a target is known by.
+trait Number {
+    fn number(&self) -> u64;
 }
 
-/// Inserts a value whose target has a number. The number shown, and whether it was placed; None where it was refused.
-fn insert<L: Law<V::Target>, V: AtomicValue, N: Fn(&V::Target) -> u64>(
-    table: &mut HeldRawTable<V>,
-    value: V,
-    number: N,
-) -> Option<(u64, bool)>
-    requires { N.IsAlwaysCallable number }
-{
-    let hash = hash_number(number(value.deref()));
-    match table.insert_alone::<L, _, _>(
-        hash,
-        value,
-        |a: &V::Target, b: &V::Target| number(a) == number(b),
-        |a: &V::Target| hash_number(number(a)),
-    ) {
-        Ok((shown, back)) => Some((number(shown), back.is_none())),
-        Err(_) => None,
+impl Number for u16 {
+    fn number(&self) -> u64 {
+        u64::from(*self)
     }
 }
 
-/// The number that a look-up for it shows.
-fn shown<L: Law<V::Target>, V: AtomicValue, N: Fn(&V::Target) -> u64>(
+impl Number for u32 {
+    fn number(&self) -> u64 {
+        u64::from(*self)
+    }
+}
+
+impl Number for NonZeroU32 {
+    fn number(&self) -> u64 {
+        u64::from(self.get())
+    }
+}
+
+impl Number for NonZeroU64 {
+    fn number(&self) -> u64 {
+        self.get()
+    }
+}
+
+/// The target of the value, known by its bounds alone, has this number.
+fn assert_target<T: Number, V: AtomicValue<Target = T>>(rt: &impl Abort, value: &V, number: u64) {
+    assert_same(rt, value.deref().number(), number);
+}
+
+/// The insert of a value shows its number, and places it or not.
+fn assert_told<L: Law<T>, T: Number, V: AtomicValue<Target = T>>(
+    rt: &impl Abort,
+    table: &mut HeldRawTable<V>,
+    value: V,
+    number: u64,
+    is_placed: bool,
+) {
+    match table.insert_alone::<L, _, _>(
+        hash_number(number),
+        value,
+        |a: &T, b: &T| a.number() == b.number(),
+        |a: &T| hash_number(a.number()),
+    ) {
+        Ok((shown, back)) => {
+            assert_same(rt, shown.number(), number);
+            assert!(rt; back.is_none() == is_placed);
+        }
+        Err(_) => assert!(rt; false),
+    }
+}
+
+/// The look-up of the number shows it.
+fn assert_shown<L: Law<T>, T: Number, V: AtomicValue<Target = T>>(
+    rt: &impl Abort,
     table: &HeldRawTable<V>,
-    asked: u64,
-    number: N,
-) -> Option<u64>
-    requires { N.IsAlwaysCallable number }
-{
-    let found = table.lookup_alone::<L, _>(hash_number(asked), |a: &V::Target| number(a) == asked);
-    found.map(|a: &V::Target| number(a))
+    number: u64,
+) {
+    match table.lookup_alone::<L, _>(hash_number(number), |a: &T| a.number() == number) {
+        Some(shown) => assert_same(rt, shown.number(), number),
+        None => assert!(rt; false),
+    }
 }
 
-/// The number of a short value.
-fn short(value: &u16) -> u64 {
-    u64::from(*value)
+/// The look-up of each of the numbers shows it.
+fn assert_all_shown<L: Law<T>, T: Number, V: AtomicValue<Target = T>>(
+    rt: &impl Abort,
+    table: &HeldRawTable<V>,
+    numbers: Range<u64>,
+) {
+    for number in numbers {
+        assert_shown::<L, T, V>(rt, table, number);
+    }
 }
 
-/// The number of a value that stands in the bucket itself.
-fn narrow(value: &NonZeroU32) -> u64 {
-    u64::from(value.get())
-}
-
-/// The number of another value that stands there.
-fn wide(value: &NonZeroU64) -> u64 {
-    value.get()
-}
-
-/// The number of a value that lies in the table's block.
-fn long(value: &u32) -> u64 {
-    u64::from(*value)
-}
-
-/// The insert placed the number, and shows it.
-fn assert_placed(rt: &impl Abort, told: Option<(u64, bool)>, number: u64) {
-    assert_eq!(rt; told, Some((number, true)));
-}
-
-/// How many values a table of numbers below 32 hands out, and their bits.
-fn bits_of(table: HeldRawTable<Arc<u16>>) -> (u32, u32) {
-    let (mut values, mut bits) = (0u32, 0u32);
+/// How many values a table of numbers below 64 hands out, and their bits.
+fn bits_of(table: HeldRawTable<Arc<u16>>) -> (u64, u64) {
+    let (mut values, mut bits) = (0u64, 0u64);
     for value in table {
         values = values.wrapping_add(1);
-        bits |= 1u32.wrapping_shl(u32::from(*value));
+        bits |= 1u64.wrapping_shl(u32::from(*value));
     }
     (values, bits)
 }
 
 #[test]
 fn values_show_their_targets(rt: HostRuntime) -> Result<(), Fail> {
-    assert_eq!(rt; *target_of(&Box::new(rt.alloc(), 7u16)?), 7);
-    assert_eq!(rt; *target_of(&Arc::new(rt.alloc(), 8u16)?), 8);
-    assert_eq!(rt; *target_of(&InPlace(11u16)), 11);
-    let wide = NonZeroU64::new(9).ok_or("zero")?;
-    assert_eq!(rt; *target_of(&wide), wide);
-    let narrow = NonZeroU32::new(10).ok_or("zero")?;
-    assert_eq!(rt; *target_of(&narrow), narrow);
+    assert_target(&rt, &Box::new(rt.alloc(), 7u16)?, 7);
+    assert_target(&rt, &Arc::new(rt.alloc(), 8u16)?, 8);
+    assert_target(&rt, &InPlace(11u16), 11);
+    assert_target(&rt, &NonZeroU64::new(9).ok_or("zero")?, 9);
+    assert_target(&rt, &NonZeroU32::new(10).ok_or("zero")?, 10);
     Ok(())
-}
-
-/// A table of so many of the first numbers, each as the value that is made of it.
-fn filled<V: AtomicValue<Target = u16>, M: Fn(u16) -> Result<V, AllocError>>(
-    rt: &impl Abort,
-    alloc: Global,
-    numbers: u16,
-    make: M,
-) -> Result<HeldRawTable<V>, AllocError>
-    requires { M.IsAlwaysCallable make }
-{
-    let mut table = HeldRawTable::new(alloc);
-    for number in 0..numbers {
-        let told = insert::<NumberLaw, _, _>(&mut table, make(number)?, short);
-        assert_placed(rt, told, u64::from(number));
-    }
-    Ok(table)
 }
 
 #[test]
 fn a_hundred_boxes(rt: HostRuntime) -> Result<(), Fail> {
-    let alloc = rt.alloc();
-    let table = filled(&rt, alloc, 100, |number: u16| Ok(Box::new(alloc, number)?))?;
-    assert_eq!(rt; table.len_alone(), 100);
+    let mut table: HeldRawTable<Box<u16>> = HeldRawTable::new(rt.alloc());
+    for number in 0..100u16 {
+        let value = Box::new(rt.alloc(), number)?;
+        assert_told::<NumberLaw, _, _>(&rt, &mut table, value, u64::from(number), true);
+    }
+    assert_same(&rt, table.len_alone() as u64, 100);
     Ok(())
 }
 
 #[test]
 fn ten_shared_values_handed_out(rt: HostRuntime) -> Result<(), Fail> {
-    let alloc = rt.alloc();
-    let table = filled(&rt, alloc, 10, |number: u16| Ok(Arc::new(alloc, number)?))?;
-    assert_eq!(rt; bits_of(table), (10, 0b11_1111_1111));
+    let mut table: HeldRawTable<Arc<u16>> = HeldRawTable::new(rt.alloc());
+    for number in 0..10u16 {
+        let value = Arc::new(rt.alloc(), number)?;
+        assert_told::<NumberLaw, _, _>(&rt, &mut table, value, u64::from(number), true);
+    }
+    let (values, bits) = bits_of(table);
+    assert_same(&rt, values, 10);
+    assert_same(&rt, bits, 0b11_1111_1111);
     Ok(())
 }
 
@@ -130,15 +137,9 @@ fn narrow_numbers_are_found(rt: HostRuntime) -> Result<(), Fail> {
     let mut table: HeldRawTable<NonZeroU32> = HeldRawTable::new(rt.alloc());
     for number in 1..10_000u32 {
         let value = NonZeroU32::new(number).ok_or("zero")?;
-        let told = insert::<NumberLaw, _, _>(&mut table, value, narrow);
-        assert_placed(&rt, told, u64::from(number));
+        assert_told::<NumberLaw, _, _>(&rt, &mut table, value, u64::from(number), true);
     }
-    for number in 1..10_000u64 {
-        assert_eq!(rt;
-            shown::<NumberLaw, _, _>(&table, number, narrow),
-            Some(number)
-        );
-    }
+    assert_all_shown::<NumberLaw, _, _>(&rt, &table, 1..10_000);
     Ok(())
 }
 
@@ -146,17 +147,12 @@ fn narrow_numbers_are_found(rt: HostRuntime) -> Result<(), Fail> {
 fn a_million_numbers(rt: HostRuntime) -> Result<(), Fail> {
     let mut table: HeldRawTable<InPlace<u32>> = HeldRawTable::new(rt.alloc());
     for number in 0..1_000_000u32 {
-        let told = insert::<NumberLaw, _, _>(&mut table, InPlace(number), long);
-        assert_placed(&rt, told, u64::from(number));
+        let value = InPlace(number);
+        assert_told::<NumberLaw, _, _>(&rt, &mut table, value, u64::from(number), true);
     }
-    for number in 0..1_000_000u64 {
-        assert_eq!(rt;
-            shown::<NumberLaw, _, _>(&table, number, long),
-            Some(number)
-        );
-    }
-    assert_eq!(rt; table.iter_alone().count(), 1_000_000);
-    assert_eq!(rt; table.capacity_alone(), 1 << 21);
+    assert_all_shown::<NumberLaw, _, _>(&rt, &table, 0..1_000_000);
+    assert_same(&rt, table.iter_alone().count() as u64, 1_000_000);
+    assert_same(&rt, table.capacity_alone() as u64, 1 << 21);
     Ok(())
 }
 
@@ -164,14 +160,14 @@ fn a_million_numbers(rt: HostRuntime) -> Result<(), Fail> {
 fn wide_numbers_come_back(rt: HostRuntime) -> Result<(), Fail> {
     assert!(rt; is_first_capacity(64) && !is_first_capacity(48));
     let mut table: HeldRawTable<NonZeroU64> = HeldRawTable::with_first_capacity(rt.alloc(), 64);
-    for placed in [true, false] {
-        let told = insert::<NumberLaw, _, _>(&mut table, NonZeroU64::MAX, wide);
-        assert_eq!(rt; told, Some((u64::MAX, placed)));
+    for is_placed in [true, false] {
+        assert_told::<NumberLaw, _, _>(&rt, &mut table, NonZeroU64::MAX, u64::MAX, is_placed);
     }
-    assert_eq!(rt; (table.capacity_alone(), table.buckets_alone()), (64, 64));
+    assert_same(&rt, table.capacity_alone() as u64, 64);
+    assert_same(&rt, table.buckets_alone() as u64, 64);
     for shown in &table {
-        assert_eq!(rt; *shown, NonZeroU64::MAX);
+        assert_same(&rt, shown.get(), u64::MAX);
     }
-    assert_eq!(rt; table.into_iter().count(), 1);
+    assert_same(&rt, table.into_iter().count() as u64, 1);
     Ok(())
 }

@@ -160,7 +160,7 @@ fn assert_bad<R: Threads + Wait + AllocGlobal + Abort + Sync>(
     let (words, before, printed, after, message) = around;
     for line in lines {
         let input = format!(in rt.alloc(); "{before}{line}\n{after}")?;
-        let ended = run(rt, words, input.as_bytes())?;
+        let ended = run(rt, words, input.as_bytes());
         assert_ended(rt, &ended, line, printed, message, 2);
     }
     Ok(())
@@ -174,31 +174,26 @@ const GOOD_EVENTS: &str =
 
 #[test]
 fn a_bad_line_ends_the_run(rt: HostRuntime) -> Result<(), Fail> {
-    assert_prints(&rt, &["core"], GOOD_EVENTS, "0\n3 len 0\n2 none\n")?;
+    assert_prints(&rt, &["core"], GOOD_EVENTS, "0\n3 len 0\n2 none\n");
     assert_bad(&rt, AROUND_CALLS, &BAD_CALLS)?;
     assert_bad(&rt, AROUND_EVENTS, &BAD_EVENTS)
 }
 
 /// Runs a line of one byte after a line that is well spelled.
-fn assert_byte<R: Threads + Wait + AllocGlobal + Abort + Sync>(
-    rt: &R,
-    byte: u8,
-) -> Result<(), Fail> {
-    let ended = run(rt, &[], &[b'n', b'\n', byte, b'\n'])?;
+fn assert_byte<R: Threads + Wait + AllocGlobal + Abort + Sync>(rt: &R, byte: u8) {
+    let ended = run(rt, &[], &[b'n', b'\n', byte, b'\n']);
     match byte {
         b'n' | b'c' | b'b' => assert_ended(rt, &ended, "a count", "0\n0\n", "", 0),
         b'w' => assert_ended(rt, &ended, "a walk", "0\n[]\n", "", 0),
         _ => assert_ended(rt, &ended, "a byte", "0\n", "bad line 2\n", 2),
     }
-    Ok(())
 }
 
 #[test]
-fn every_byte_as_a_line(rt: HostRuntime) -> Result<(), Fail> {
+fn every_byte_as_a_line(rt: HostRuntime) {
     for byte in 0..=255u8 {
-        assert_byte(&rt, byte)?;
+        assert_byte(&rt, byte);
     }
-    Ok(())
 }
 
 /// No proper beginning of one of these lines is a line, but for the empty one at the end of the input.
@@ -222,7 +217,7 @@ fn assert_cut<R: Threads + Wait + AllocGlobal + Abort + Sync>(
 ) -> Result<(), Fail> {
     let mut input = before.as_bytes().to_vec(rt.alloc())?;
     input.extend_from_slice(beginning)?;
-    let ended = run(rt, &[], input.as_slice())?;
+    let ended = run(rt, &[], input.as_slice());
     if beginning.is_empty() {
         assert_ended(rt, &ended, before, wanted, "", 0);
     } else {
@@ -279,7 +274,7 @@ fn assert_too_long<R: Threads + Wait + AllocGlobal + Abort + Sync>(
     let long = vec![in rt.alloc(); byte; count]?;
     input.extend_from_slice(long.as_slice())?;
     input.extend_from_slice(ending)?;
-    let ended = run(rt, &[], input.as_slice())?;
+    let ended = run(rt, &[], input.as_slice());
     assert_ended(rt, &ended, "a long line", "placed\n", "bad line 2\n", 2);
     Ok(())
 }
@@ -317,7 +312,8 @@ fn lines_across_blocks(rt: HostRuntime) -> Result<(), Fail> {
         wanted.push_str("placed\n")?;
     }
     wanted.push_str("2000\nsome 1999\nsome 381\n")?;
-    assert_prints(&rt, &[], input.as_str(), wanted.as_str())
+    assert_prints(&rt, &[], input.as_str(), wanted.as_str());
+    Ok(())
 }
 
 /// The longest line that is spelled well.
@@ -331,5 +327,6 @@ fn the_longest_lines_across_blocks(rt: HostRuntime) -> Result<(), Fail> {
         input.push_str(LONGEST)?;
     }
     input.push_str("b\n")?;
-    assert_prints(&rt, &["core"], input.as_str(), "0\n")
+    assert_prints(&rt, &["core"], input.as_str(), "0\n");
+    Ok(())
 }

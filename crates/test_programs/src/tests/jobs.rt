@@ -2,6 +2,7 @@
 ghost use Rattle.table_shared.specs.Stepped.{MayStep};
 
 use super::gates::{ClosedFrom, ClosedTo};
+use super::{assert_same, assert_told};
 use lock_free_hashtable::raw::{InsertCall, LockFreeRawTable, Low};
 use std::alloc::{AllocError, Allocator, Global};
 use std::cell::Cell;
@@ -104,7 +105,8 @@ fn a_walk_shows_what_is_not_counted_yet(rt: HostRuntime) -> Result<(), Fail> {
         |entry: &u32| hash_of(*entry),
     );
     advance_times(&mut call, STEPS_TO_PLACE);
-    assert_eq!(rt; (table.len(), table.walked_entries()), (0, 1));
+    assert_same(&rt, table.len() as u64, 0);
+    assert_same(&rt, table.walked_entries() as u64, 1);
     Ok(())
 }
 
@@ -181,8 +183,8 @@ fn each_job_has_a_gate_of_its_own(rt: HostRuntime) {
     let mut output = Vec::new(rt.alloc());
     let crew = Crew::new(2, WORKER_STACK);
     let ended = run_stress(&rt, rt.alloc(), crew, 2, &gates, &mut output);
-    assert_eq!(rt; ended, Ok(()));
-    assert_eq!(rt; made.get(), 6);
+    assert_told(&rt, ended, Ok(()));
+    assert_same(&rt, made.get() as u64, 6);
 }
 
 #[test]
@@ -191,7 +193,7 @@ fn each_seat_that_is_stuck_is_seen(rt: HostRuntime) {
         let mut output = Vec::new(rt.alloc());
         let gate = ClosedTo(stuck);
         let ended = run_seats(&rt, rt.alloc(), 3, WORKER_STACK, &gate, &mut output);
-        assert_eq!(rt; ended, Err(Fault::GateStuck), "seat {stuck}");
+        assert_told(&rt, ended, Err(Fault::GateStuck));
         assert!(rt; output.is_empty());
     }
 }

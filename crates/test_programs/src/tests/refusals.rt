@@ -3,7 +3,7 @@ ghost use Rattle.std.specs.Prelude.{◌<◌};
 ghost use Rattle.table_terms.specs.Capacities.{IsFirstCapacity};
 
 use super::machine::{events_of, lines_of_replies, push_line, replies};
-use super::{Ended, run_refusing};
+use super::{Ended, assert_bytes, assert_ended, assert_same, run_into, run_refusing};
 use lock_free_hashtable::raw::Low;
 use std::alloc::{Allocator, Global};
 use std::cell::Cell;
@@ -20,7 +20,6 @@ use table_terms::capacity::is_first_capacity;
 use testkit_refusing::{Refusing, Rule};
 use testkit_schedules::script::push_events;
 use testkit_schedules::worked::LOST_TO_AN_EQUAL;
-use tool_commands::program::run_words;
 
 /// More requests than any schedule here makes.
 const REQUESTS: u64 = 10_000;
@@ -297,7 +296,7 @@ fn refuse_command<R: Threads + Wait + Abort + AllocGlobal + Sync>(
     let word = format!(in rt.alloc(); "{first}")?;
     let words = ["core", word.as_str()];
     let rule = Rule::new(0, usize::MAX, granted, 1);
-    let (ended, left) = run_refusing(rt, rule, &words, schedule.input.as_bytes())?;
+    let (ended, left) = run_refusing(rt, rule, &words, schedule.input.as_bytes());
     let is_refused = is_refused(rt, &ended, schedule.told.as_str());
     assert!(rt; left == 0 || !is_refused);
     assert!(rt; granted > 0 || is_refused && ended.output.is_empty());
@@ -370,14 +369,13 @@ fn each_request_of_a_schedule_is_refused_in_turn(rt: HostRuntime) -> Result<(), 
 /// Whether a run was refused memory. Then it has printed some of the lines of a run with ample memory, from the first on and
 /// each of them whole; else it has printed all of them.
 fn is_refused<R: Abort>(rt: &R, ended: &Ended, ample: &str) -> bool {
-    let printed = ended.output.as_str();
     if ended.status == 0 {
-        assert_eq!(rt; printed, ample);
-        assert_eq!(rt; ended.messages.as_str(), "");
+        assert_ended(rt, ended, "memory was there", ample, "", 0);
         return false;
     }
-    assert_eq!(rt; ended.status, 1);
-    assert_eq!(rt; ended.messages.as_str(), "no memory\n");
+    let printed = ended.text();
+    assert_same(rt, u64::from(ended.status), 1);
+    assert_bytes(rt, "no memory", ended.messages.as_slice(), b"no memory\n");
     assert!(rt; ample.starts_with(printed));
     assert!(rt; printed.is_empty() || printed.ends_with('\n'));
     true
@@ -452,7 +450,7 @@ fn run_asking<R: Threads + Wait + Abort + Sync, A: Low + Copy + Send + Sync>(
     let mut output_left = output.as_mut_slice();
     let mut messages_left = messages.as_mut_slice();
     let reader = Lines { given: &given };
-    let status = run_words(
+    let status = run_into(
         rt,
         alloc,
         &["core"],

@@ -25,7 +25,7 @@ fn assert_row<R: Threads + Wait + AllocGlobal + Abort + Sync>(
 ) -> Result<(), Fail> {
     let (first, parts, printed) = *row;
     let input = lines_of(rt.alloc(), parts)?;
-    assert_prints(rt, words_for(first), input.as_str(), printed)?;
+    assert_prints(rt, words_for(first), input.as_str(), printed);
     assert!(rt; is_first_capacity(first));
     let steps = lines_of_steps(rt.alloc(), first, input.as_str())?;
     assert_eq!(rt; steps.as_str(), printed);

@@ -3,6 +3,7 @@ ghost use Rattle.std.specs.Prelude.{IfOk};
 ghost use Rattle.seated.specs.Tables.{IsSeatOf};
 
 use super::gates::ClosedFrom;
+use super::{assert_bytes, assert_same, assert_told};
 use lock_free_hashtable::raw::Low;
 use seated::{NumberTable, Seat};
 use std::alloc::{AllocError, Global};
@@ -24,9 +25,14 @@ fn assert_filled<R: Threads + Wait + AllocGlobal + Abort + Sync>(
     let mut output = Vec::with_capacity(rt.alloc(), 32)?;
     let gate = MeetingGate::new(GATE_TURNS);
     let ended = run_seats(rt, rt.alloc(), threads, WORKER_STACK, &gate, &mut output);
-    assert_eq!(rt; ended, Ok(()));
+    assert_told(rt, ended, Ok(()));
     let printed = format!(in rt.alloc(); "placed 1024\nfull {threads}\n")?;
-    assert_eq!(rt; output.as_slice(), printed.as_str().as_bytes());
+    assert_bytes(
+        rt,
+        printed.as_str(),
+        output.as_slice(),
+        printed.as_str().as_bytes(),
+    );
     Ok(())
 }
 
@@ -47,8 +53,8 @@ fn assert_ends<R: Threads + Wait + AllocGlobal + Abort + Sync, A: Low + Copy + S
     let mut output = Vec::new(rt.alloc());
     let closed = ClosedFrom(inserts);
     let ended = run_seats(rt, alloc, 2, WORKER_STACK, &closed, &mut output);
-    assert_eq!(rt; ended, wanted);
-    assert_eq!(rt; output.is_empty(), wanted.is_err());
+    assert!(rt; output.is_empty() == wanted.is_err());
+    assert_told(rt, ended, wanted);
 }
 
 #[test]
@@ -80,11 +86,7 @@ fn output_may_be_refused(rt: HostRuntime) {
         let open = ClosedFrom(usize::MAX);
         let mut part = &mut bytes[..room];
         let ended = run_seats(&rt, rt.alloc(), 2, WORKER_STACK, &open, &mut part);
-        assert_eq!(rt;
-            ended,
-            Err(Fault::Stream(StreamFault::WriteFailed)),
-            "at {room}"
-        );
+        assert_told(&rt, ended, Err(Fault::Stream(StreamFault::WriteFailed)));
     }
 }
 
@@ -108,8 +110,9 @@ fn workers_in_one_thread_are_stuck(rt: HostRuntime) -> Result<(), Fail> {
     };
     let (_, first) = work(&gate, 0, &table, first);
     let (_, second) = work(&gate, 1, &table, second);
-    assert_eq!(rt; (first.placed, first.is_stuck), (0, true));
-    assert_eq!(rt; (second.placed, second.is_stuck), (1, true));
+    assert!(rt; first.is_stuck && second.is_stuck);
+    assert_same(&rt, first.placed as u64, 0);
+    assert_same(&rt, second.placed as u64, 1);
     Ok(())
 }
 
@@ -162,7 +165,7 @@ fn a_thread_that_cannot_be_started_ends_the_run(rt: HostRuntime) {
     let gate = MeetingGate::new(u64::MAX);
     let mut output = Vec::new(rt.alloc());
     let ended = run_seats(&rt, rt.alloc(), 2, NO_STACK, &gate, &mut output);
-    assert_eq!(rt; ended, Err(Fault::NoThread));
+    assert_told(&rt, ended, Err(Fault::NoThread));
     assert!(rt; output.is_empty());
     assert_passes(&rt, &gate, 0, 0, false);
 }

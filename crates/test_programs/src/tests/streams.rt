@@ -1,5 +1,5 @@
 //! Readers and writers that fail, and replies that are there when the next line is asked for.
-use super::{assert_ended, run_on};
+use super::{assert_bytes, assert_ended, assert_same, run_into, run_on};
 use std::cell::Cell;
 use std::io;
 use std::io::{ErrorKind, Read, Write};
@@ -7,7 +7,6 @@ use std::process::Abort;
 use std::sync::Wait;
 use std::test::Fail;
 use std::thread::Threads;
-use tool_commands::program::run_words;
 
 /// A reader over memory that gives so many bytes at a call, and fails at a later call.
 #[derive(Drop)]
@@ -54,18 +53,16 @@ impl Read for Failing<'_> {
 
 const INPUT: &str = "i 0 1\ni 0 1\nl 0 1\nn\nw\n";
 
-const REPLIES: [&str; 5] = ["placed\n", "found\n", "some 1\n", "1\n", "[1]\n"];
-
-/// The replies to the lines that end within the first bytes of the input.
-fn replies_to(out: &mut String, bytes: usize) -> Result<(), Fail> {
-    let mut end = 0usize;
-    for (line, reply) in INPUT.split_inclusive('\n').zip(REPLIES.iter()) {
-        end = end.saturating_add(line.len());
-        if end <= bytes {
-            out.push_str(reply)?;
-        }
+/// The replies to the lines that end within so many first bytes of the input.
+fn replies_to(bytes: usize) -> &'static str {
+    match bytes {
+        0..=5 => "",
+        6..=11 => "placed\n",
+        12..=17 => "placed\nfound\n",
+        18..=19 => "placed\nfound\nsome 1\n",
+        20..=21 => "placed\nfound\nsome 1\n1\n",
+        _ => "placed\nfound\nsome 1\n1\n[1]\n",
     }
-    Ok(())
 }
 
 /// Asserts what is printed where so many reads are given and the next one fails, if it is made.
@@ -76,12 +73,11 @@ fn assert_given<R: Threads + Wait + AllocGlobal + Abort + Sync>(
     fails: bool,
 ) -> Result<(), Fail> {
     let reader = Failing::new(INPUT.as_bytes(), at_once, given as u64);
-    let ended = run_on(rt, rt.alloc(), &[], reader)?;
-    let mut wanted = String::new(rt.alloc());
-    replies_to(&mut wanted, given.saturating_mul(at_once))?;
+    let ended = run_on(rt, rt.alloc(), &[], reader);
+    let wanted = replies_to(given.saturating_mul(at_once));
     let at = format!(in rt.alloc(); "{given} reads of {at_once}")?;
     let (messages, status) = if fails { ("read failed\n", 1) } else { ("", 0) };
-    assert_ended(rt, &ended, at.as_str(), wanted.as_str(), messages, status);
+    assert_ended(rt, &ended, at.as_str(), wanted, messages, status);
     Ok(())
 }
 
@@ -98,25 +94,25 @@ fn a_reader_that_fails_at_each_call(rt: HostRuntime) -> Result<(), Fail> {
 }
 
 /// Asserts that all replies are printed where each read is interrupted first.
-fn assert_interrupted<R: Threads + Wait + AllocGlobal + Abort + Sync>(
-    rt: &R,
-    at_once: usize,
-) -> Result<(), Fail> {
-    let mut wanted = String::new(rt.alloc());
-    replies_to(&mut wanted, INPUT.len())?;
+fn assert_interrupted<R: Threads + Wait + AllocGlobal + Abort + Sync>(rt: &R, at_once: usize) {
     let mut reader = Failing::new(INPUT.as_bytes(), at_once, u64::MAX);
     reader.interruptions = u64::MAX;
-    let ended = run_on(rt, rt.alloc(), &[], reader)?;
-    assert_ended(rt, &ended, "an interrupted read", wanted.as_str(), "", 0);
-    Ok(())
+    let ended = run_on(rt, rt.alloc(), &[], reader);
+    assert_ended(
+        rt,
+        &ended,
+        "an interrupted read",
+        replies_to(INPUT.len()),
+        "",
+        0,
+    );
 }
 
 #[test]
-fn an_interrupted_read_is_tried_again(rt: HostRuntime) -> Result<(), Fail> {
+fn an_interrupted_read_is_tried_again(rt: HostRuntime) {
     for at_once in [1, 7, 100] {
-        assert_interrupted(&rt, at_once)?;
+        assert_interrupted(&rt, at_once);
     }
-    Ok(())
 }
 
 /// Asserts how a run ends whose reader fails after so many thousand bytes of one line.
@@ -126,7 +122,7 @@ fn assert_fails_in_a_line<R: Threads + Wait + AllocGlobal + Abort + Sync>(
 ) -> Result<(), Fail> {
     let long = vec![in rt.alloc(); b'0'; 100_000]?;
     let reader = Failing::new(long.as_slice(), 1000, given);
-    let ended = run_on(rt, rt.alloc(), &[], reader)?;
+    let ended = run_on(rt, rt.alloc(), &[], reader);
     assert_ended(rt, &ended, "a long line", "", "read failed\n", 1);
     Ok(())
 }
@@ -183,40 +179,44 @@ fn assert_run<R: Threads + Wait + AllocGlobal + Abort + Sync, I: Read + Drop>(
     status: u8,
 ) {
     let mut messages = Vec::new(rt.alloc());
-    let ended = run_words(rt, rt.alloc(), &["calls"], input, writer, &mut messages);
-    assert_eq!(rt; messages.as_slice(), message.as_bytes());
-    assert_eq!(rt; ended, status);
+    let ended = run_into(rt, rt.alloc(), &["calls"], input, writer, &mut messages);
+    assert_bytes(rt, message, messages.as_slice(), message.as_bytes());
+    assert_same(rt, u64::from(ended), u64::from(status));
 }
 
-/// Asserts what is written where so many calls of the writer succeed.
+/// How many calls of the writer succeed, how many first bytes of the input are replied to then, and how the run ends.
+const WRITES: [(u64, usize, &str, u8); 6] = [
+    (0, 0, "write failed\n", 1),
+    (1, 6, "write failed\n", 1),
+    (2, 12, "write failed\n", 1),
+    (3, 18, "write failed\n", 1),
+    (4, 20, "write failed\n", 1),
+    (5, 22, "", 0),
+];
+
+/// Asserts what is written where so many calls of the writer succeed, and how the run ends.
 fn assert_writes<R: Threads + Wait + AllocGlobal + Abort + Sync>(
     rt: &R,
-    given: usize,
-) -> Result<(), Fail> {
+    given: u64,
+    replied: usize,
+    message: &str,
+    status: u8,
+) {
     // One byte is read at a time, so each reply is written by a call of its own, before the next line is read.
     let reader = Failing::new(INPUT.as_bytes(), 1, u64::MAX);
     let mut output = Vec::new(rt.alloc());
     let count = Cell::new(0);
-    let mut writer = Full::new(&mut output, given as u64, &count);
-    if given < REPLIES.len() {
-        assert_run(rt, reader, &mut writer, "write failed\n", 1);
-    } else {
-        assert_run(rt, reader, &mut writer, "", 0);
-    }
-    let mut wanted = Vec::new(rt.alloc());
-    for reply in REPLIES.iter().take(given) {
-        wanted.extend_from_slice(reply.as_bytes())?;
-    }
-    assert_eq!(rt; output.as_slice(), wanted.as_slice(), "{given} writes");
-    Ok(())
+    let mut writer = Full::new(&mut output, given, &count);
+    assert_run(rt, reader, &mut writer, message, status);
+    let wanted = replies_to(replied);
+    assert_bytes(rt, wanted, output.as_slice(), wanted.as_bytes());
 }
 
 #[test]
-fn a_writer_that_fails_at_each_call(rt: HostRuntime) -> Result<(), Fail> {
-    for given in 0..=REPLIES.len() {
-        assert_writes(&rt, given)?;
+fn a_writer_that_fails_at_each_call(rt: HostRuntime) {
+    for (given, replied, message, status) in WRITES {
+        assert_writes(&rt, given, replied, message, status);
     }
-    Ok(())
 }
 
 #[test]
@@ -263,7 +263,7 @@ fn what_could_not_be_written_is_not_sent_again(rt: HostRuntime) {
         taken: &mut taken,
     };
     let input = b"i 0 1\nn\n".as_slice();
-    let status = run_words(
+    let status = run_into(
         &rt,
         rt.alloc(),
         &["calls"],
@@ -272,9 +272,14 @@ fn what_could_not_be_written_is_not_sent_again(rt: HostRuntime) {
         &mut messages,
     );
     drop(output);
-    assert_eq!(rt; taken.len(), 0);
-    assert_eq!(rt; messages.as_slice(), b"write failed\n".as_slice());
-    assert_eq!(rt; status, 1);
+    assert!(rt; taken.is_empty());
+    assert_bytes(
+        &rt,
+        "a writer that fails once",
+        messages.as_slice(),
+        b"write failed\n",
+    );
+    assert_same(&rt, u64::from(status), 1);
 }
 
 /// Asserts the status of a run whose message is dropped.
@@ -284,9 +289,9 @@ fn assert_dropped<R: Threads + Wait + AllocGlobal + Abort + Sync>(rt: &R, words:
     let count = Cell::new(0);
     let mut writer = Full::new(&mut messages, 0, &count);
     let input = b"n\nx\n".as_slice();
-    let status = run_words(rt, rt.alloc(), words, input, &mut output, &mut writer);
-    assert_eq!(rt; status, 2);
-    assert_eq!(rt; messages.len(), 0);
+    let status = run_into(rt, rt.alloc(), words, input, &mut output, &mut writer);
+    assert_same(rt, u64::from(status), 2);
+    assert!(rt; messages.is_empty());
 }
 
 #[test]
@@ -357,8 +362,8 @@ fn assert_replies_before_reads<R: Threads + Wait + AllocGlobal + Abort + Sync, W
         written,
         seen: &mut seen,
     };
-    let status = run_words(rt, rt.alloc(), &["calls"], reader, writer, &mut messages);
-    assert_eq!(rt; status, 0);
+    let status = run_into(rt, rt.alloc(), &["calls"], reader, writer, &mut messages);
+    assert_same(rt, u64::from(status), 0);
     // 0 bytes before the first line, then those of one reply more at each call; the last part is no line before the end.
     assert_eq!(rt; seen.as_slice(), [0, 7, 13, 20, 22, 22].as_slice());
 }
@@ -370,7 +375,7 @@ fn each_reply_is_there_when_the_next_line_is_asked_for(rt: HostRuntime) {
     let count = Cell::new(0);
     let mut sent = Vec::new(rt.alloc());
     assert_replies_before_reads(&rt, &count, &mut Full::new(&mut sent, u64::MAX, &count));
-    assert_eq!(rt; sent.as_slice(), SENT);
+    assert_bytes(&rt, "what was sent", sent.as_slice(), SENT);
 }
 
 #[test]
@@ -384,5 +389,5 @@ fn a_writer_that_keeps_what_it_takes_is_flushed(rt: HostRuntime) {
     };
     assert_replies_before_reads(&rt, &count, &mut writer);
     drop(writer);
-    assert_eq!(rt; sent.as_slice(), SENT);
+    assert_bytes(&rt, "what was sent", sent.as_slice(), SENT);
 }

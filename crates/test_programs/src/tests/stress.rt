@@ -1,6 +1,6 @@
 //! Jobs of many threads on a table that they share, and what ends them.
 use super::gates::{ClosedFrom, ClosedTo};
-use super::{assert_ended, assert_prints, run_on, run_refusing};
+use super::{assert_bytes, assert_ended, assert_prints, assert_told, run_on, run_refusing};
 use lock_free_hashtable::raw::{LockFreeRawTable, Low};
 use std::process::Abort;
 use std::sync::Wait;
@@ -20,15 +20,15 @@ use tool_commands::workers::{Values, Worker, insert_all, make_call};
 use tool_streams::faults::StreamFault;
 
 #[test]
-fn few_threads_run_many_jobs(rt: HostRuntime) -> Result<(), Fail> {
+fn few_threads_run_many_jobs(rt: HostRuntime) {
     let printed = "insert_unique 2000\ninsert_same 10000\ninsert_lookup 2000\n";
-    assert_prints(&rt, &["stress", "2", "10"], "", printed)
+    assert_prints(&rt, &["stress", "2", "10"], "", printed);
 }
 
 #[test]
-fn many_threads_run_a_job(rt: HostRuntime) -> Result<(), Fail> {
+fn many_threads_run_a_job(rt: HostRuntime) {
     let printed = "insert_unique 64000\ninsert_same 10000\ninsert_lookup 64000\n";
-    assert_prints(&rt, &["stress", "64", "1"], "", printed)
+    assert_prints(&rt, &["stress", "64", "1"], "", printed);
 }
 
 /// The first job of a kind.
@@ -103,8 +103,8 @@ fn assert_run<
     let mut output = Vec::new(rt.alloc());
     let crew = Crew::new(2, stack);
     let told = run_stress(rt, alloc, crew, 1, gates, &mut output);
-    assert_eq!(rt; told, ended);
-    assert_eq!(rt; output.as_slice(), printed.as_bytes());
+    assert_told(rt, told, ended);
+    assert_bytes(rt, printed, output.as_slice(), printed.as_bytes());
 }
 
 const UNIQUE: &str = "insert_unique 2000\n";
@@ -154,13 +154,12 @@ fn want_of_memory_is_told_before_a_gate_that_is_stuck(rt: HostRuntime) {
 }
 
 #[test]
-fn refused_memory_ends_the_run(rt: HostRuntime) -> Result<(), Fail> {
+fn refused_memory_ends_the_run(rt: HostRuntime) {
     for granted in [0, 1, 2, 3, 4, 5, 6, 7, 8, 9, 10, 11, 12, 100, 1000] {
         let rule = Rule::new(0, usize::MAX, granted, u64::MAX);
-        let (ended, _) = run_refusing(&rt, rule, &["stress", "2", "1"], b"")?;
+        let (ended, _) = run_refusing(&rt, rule, &["stress", "2", "1"], b"");
         assert_ended(&rt, &ended, "refused memory", "", "no memory\n", 1);
     }
-    Ok(())
 }
 
 #[test]
@@ -171,11 +170,7 @@ fn output_may_be_refused(rt: HostRuntime) {
         let open = ClosedFrom(usize::MAX);
         let mut part = &mut bytes[..room];
         let ended = run_stress(&rt, rt.alloc(), crew, 1, &open, &mut part);
-        assert_eq!(rt;
-            ended,
-            Err(Fault::Stream(StreamFault::WriteFailed)),
-            "at {room}"
-        );
+        assert_told(&rt, ended, Err(Fault::Stream(StreamFault::WriteFailed)));
     }
 }
 
@@ -222,7 +217,7 @@ fn the_program_runs_its_jobs_under_its_gate(rt: HostRuntime) -> Result<(), Fail>
     let heap = Refusing::new(rt.alloc(), rule);
     let own: Box<u32, _> = Box::new(&heap, 0)?;
     assert_eq!(rt; heap.went_alone(), 1);
-    let ended = run_on(&rt, &heap, &["stress", "2", "1"], b"".as_slice())?;
+    let ended = run_on(&rt, &heap, &["stress", "2", "1"], b"".as_slice());
     assert_ended(&rt, &ended, "paired memory", ALL, "", 0);
     assert_eq!(rt; heap.went_alone(), 2);
     drop(own);

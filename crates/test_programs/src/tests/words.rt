@@ -1,11 +1,10 @@
 //! The words that the program was called with.
-use super::text_of;
+use super::{Ended, assert_ended};
 use std::alloc::Allocator;
 use std::env::FillError;
 use std::process::Abort;
 use std::rt::Env;
 use std::sync::Wait;
-use std::test::Fail;
 use std::thread::Threads;
 use testkit_refusing::{Refusing, Rule};
 use tool_commands::program::run_program;
@@ -73,34 +72,29 @@ const ROWS: [Row; 11] = [
     (&[b"tablerun", b"calls\xff"], "", USAGE, 2),
 ];
 
-/// Asserts what the program prints that is called so.
-fn assert_row<R: Threads + Wait + AllocGlobal + Abort + Sync>(
+/// Runs the program that is called so, over an input.
+fn run_called<R: Threads + Wait + AllocGlobal + Sync, A: Allocator + Copy>(
     rt: &R,
-    row: &Row,
-) -> Result<(), Fail> {
-    let (arguments, printed, message, status) = *row;
-    let called = Called {
-        arguments,
-        alloc: rt.alloc(),
-    };
+    called: &Called<A>,
+    input: &[u8],
+) -> Ended {
     let mut output = Vec::new(rt.alloc());
     let mut messages = Vec::new(rt.alloc());
-    let input = b"i 0 1\nc\n".as_slice();
-    let ended = run_program(rt, &called, rt.alloc(), input, &mut output, &mut messages);
-    let output = text_of(rt.alloc(), output.as_slice())?;
-    let messages = text_of(rt.alloc(), messages.as_slice())?;
-    assert_eq!(rt; output.as_str(), printed);
-    assert_eq!(rt; messages.as_str(), message);
-    assert_eq!(rt; ended, status);
-    Ok(())
+    let status = run_program(rt, called, rt.alloc(), input, &mut output, &mut messages);
+    Ended {
+        status,
+        output,
+        messages,
+    }
 }
 
 #[test]
-fn words_are_the_command(rt: HostRuntime) -> Result<(), Fail> {
-    for row in &ROWS {
-        assert_row(&rt, row)?;
+fn words_are_the_command(rt: HostRuntime) {
+    for (arguments, printed, message, status) in ROWS {
+        let alloc = rt.alloc();
+        let ended = run_called(&rt, &Called { arguments, alloc }, b"i 0 1\nc\n");
+        assert_ended(&rt, &ended, printed, printed, message, status);
     }
-    Ok(())
 }
 
 const CALLED: &[&[u8]] = &[b"tablerun", b"calls", b"32"];
@@ -113,18 +107,12 @@ fn told_after<R: Threads + Wait + AllocGlobal + Abort + Sync>(rt: &R, granted: u
         arguments: CALLED,
         alloc: &memory,
     };
-    let mut output = Vec::new(rt.alloc());
-    let mut messages = Vec::new(rt.alloc());
-    let input = b"c\n".as_slice();
-    let ended = run_program(rt, &called, rt.alloc(), input, &mut output, &mut messages);
-    if ended == 0 {
-        assert_eq!(rt; output.as_slice(), b"0\n".as_slice());
-        assert_eq!(rt; messages.len(), 0);
+    let ended = run_called(rt, &called, b"c\n");
+    if ended.status == 0 {
+        assert_ended(rt, &ended, "memory was there", "0\n", "", 0);
         return 0;
     }
-    assert_eq!(rt; messages.as_slice(), b"no memory\n".as_slice());
-    assert_eq!(rt; output.len(), 0);
-    assert_eq!(rt; ended, 1);
+    assert_ended(rt, &ended, "no memory", "", "no memory\n", 1);
     1
 }
 

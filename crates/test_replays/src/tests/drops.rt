@@ -6,8 +6,6 @@ use std::process::Abort;
 use std::sync::atomic::{AtomicU64, Ordering};
 use std::sync::{Arc, Wait};
 use std::test::Fail;
-use table_cell::Low;
-use table_generations::atomic_value::AtomicValue;
 use table_shared::{InsertCall, LockFreeRawTable, Progress};
 use testkit_counting::Counting;
 use testkit_refusing::{Refusing, Rule};
@@ -28,6 +26,18 @@ struct Course {
     placed_at: u64,
     /// Its last step.
     ended_at: u64,
+}
+
+impl Course {
+    /// How many entries there are beside its own, if another value was placed meanwhile or wasn't.
+    fn entries_with(&self, joined: bool) -> u64 {
+        self.entries.wrapping_add(u64::from(joined))
+    }
+
+    /// Whether one of those is its equal.
+    fn knows(&self, joined: bool) -> bool {
+        self.number < self.entries || (joined && self.meanwhile == Some(self.number))
+    }
 }
 
 /// A step that isn't taken.
@@ -143,15 +153,12 @@ const COURSES: [Course; 10] = [
 ];
 
 /// Takes so many steps. Whether the last of them ended the call.
-fn advance_times<
-    'a,
-    T: AtomicValue,
-    A: Low + Copy,
-    E: Fn(&T::Target, &T::Target) -> bool,
-    H: Fn(&T::Target) -> u64,
->(call: &mut InsertCall<'a, T, A, E, H>, times: u64) -> bool
-    requires may_step { MayStep E.IsAlwaysCallable H.IsAlwaysCallable T.target E.Fn call.old }
-    ensures may_step { MayStep E.IsAlwaysCallable H.IsAlwaysCallable T.target E.Fn call.new }
+fn advance_times<'a, 'm, E: Fn(&Counting, &Counting) -> bool, H: Fn(&Counting) -> u64>(
+    call: &mut InsertCall<'a, Box<Counting>, &'m Refusing<Global>, E, H>,
+    times: u64,
+) -> bool
+    requires may_step { MayStep E.IsAlwaysCallable H.IsAlwaysCallable (λ b. b.value) E.Fn call.old }
+    ensures may_step { MayStep E.IsAlwaysCallable H.IsAlwaysCallable (λ b. b.value) E.Fn call.new }
 {
     let mut ended = false;
     for _ in 0..times {
@@ -226,7 +233,12 @@ fn give_up_after<R: Wait + Abort>(
     if before < steps {
         ended = advance_times(&mut call, steps.wrapping_sub(before));
     }
-    assert_eq!(rt; ended, steps == course.ended_at, "{steps}");
+    assert_count(
+        rt,
+        u64::from(ended),
+        u64::from(steps == course.ended_at),
+        steps,
+    );
 }
 
 /// The number that is placed meanwhile, in a box, if the insert comes so far.
@@ -245,6 +257,11 @@ fn other_of(
     }
 }
 
+/// After an insert that was dropped after so many steps, as many were counted as are wanted.
+fn assert_count(rt: &impl Abort, counted: u64, wanted: u64, steps: u64) {
+    assert_eq!(rt; counted, wanted, "{steps}");
+}
+
 /// What the table has after an insert was given up: its entries and the next one.
 fn assert_goes_on<R: Wait + Abort>(
     rt: &R,
@@ -254,9 +271,42 @@ fn assert_goes_on<R: Wait + Abort>(
     steps: u64,
 ) {
     let next = value.number;
-    assert!(rt; places(rt, table, value), "{steps}");
-    assert!(rt; contains(table, next), "{steps}");
-    assert_eq!(rt; table.len() as u64, entries.wrapping_add(1), "{steps}");
+    assert_count(rt, u64::from(places(rt, table, value)), 1, steps);
+    assert_count(rt, u64::from(contains(table, next)), 1, steps);
+    assert_count(rt, table.len() as u64, entries.wrapping_add(1), steps);
+}
+
+/// Drops the insert of the course after so many steps, and then places the next number: whether another value was placed meanwhile.
+fn give_up_and_go_on<R: Wait + Abort>(
+    rt: &R,
+    alloc: Global,
+    memory: &Refusing<Global>,
+    course: &Course,
+    steps: u64,
+    counts: (&Arc<AtomicU64>, &Arc<AtomicU64>),
+) -> Result<bool, AllocError> {
+    let (drops, others) = counts;
+    let table: Table<'_> = LockFreeRawTable::new(memory);
+    fill(rt, alloc, &table, memory, course.entries, others)?;
+    memory.refuse(course.passing, course.refused);
+    let other = other_of(alloc, course, steps, others)?;
+    let joined = other.is_some();
+    let value = Box::new(alloc, Counting::new(course.number, drops.clone()?))?;
+    give_up_after(rt, &table, value, other, course, steps);
+    memory.refuse(0, 0);
+    let placed = course.placed_at <= steps;
+    assert_count(rt, drops.load(Ordering::SeqCst), u64::from(!placed), steps);
+    let known = placed || course.knows(joined);
+    assert_count(
+        rt,
+        u64::from(contains(&table, course.number)),
+        u64::from(known),
+        steps,
+    );
+    let next = Counting::new(course.entries.wrapping_add(1), others.clone()?);
+    let there = course.entries_with(joined).wrapping_add(u64::from(placed));
+    assert_goes_on(rt, &table, Box::new(alloc, next)?, there, steps);
+    Ok(joined)
 }
 
 /// An insert that is dropped after so many steps: its value is an entry or was dropped once, and the next insert finishes.
@@ -269,31 +319,11 @@ fn assert_given_up<R: Wait + Abort>(
     let memory = Refusing::new(alloc, Rule::new(0, usize::MAX, 0, 0));
     let drops = Arc::new(alloc, AtomicU64::new(0))?;
     let others = Arc::new(alloc, AtomicU64::new(0))?;
-    let table: Table<'_> = LockFreeRawTable::new(&memory);
-    fill(rt, alloc, &table, &memory, course.entries, &others)?;
-    memory.refuse(course.passing, course.refused);
-    let other = other_of(alloc, course, steps, &others)?;
-    let there = course.entries.wrapping_add(other.is_some() as u64);
-    let known = course.number < course.entries
-        || (other.is_some() && course.meanwhile == Some(course.number));
-    let value = Box::new(alloc, Counting::new(course.number, drops.clone()?))?;
-    give_up_after(rt, &table, value, other, course, steps);
-    memory.refuse(0, 0);
-    let placed = course.placed_at <= steps;
-    let dropped = drops.load(Ordering::SeqCst);
-    assert_eq!(rt; dropped, if placed { 0 } else { 1 }, "{steps}");
-    assert_eq!(rt; contains(&table, course.number), placed || known, "{steps}");
-    let next = course.entries.wrapping_add(1);
-    let value = Box::new(alloc, Counting::new(next, others.clone()?))?;
-    assert_goes_on(rt, &table, value, there.wrapping_add(placed as u64), steps);
-    drop(table);
-    assert_eq!(rt; drops.load(Ordering::SeqCst), 1, "{steps}");
-    assert_eq!(rt;
-        others.load(Ordering::SeqCst),
-        there.wrapping_add(1),
-        "{steps}"
-    );
-    assert_eq!(rt; memory.given_back(), memory.granted(), "{steps}");
+    let joined = give_up_and_go_on(rt, alloc, &memory, course, steps, (&drops, &others))?;
+    assert_count(rt, drops.load(Ordering::SeqCst), 1, steps);
+    let there = course.entries_with(joined).wrapping_add(1);
+    assert_count(rt, others.load(Ordering::SeqCst), there, steps);
+    assert_count(rt, memory.given_back(), memory.granted(), steps);
     Ok(())
 }
 

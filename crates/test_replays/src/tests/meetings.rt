@@ -167,13 +167,14 @@ fn assert_at_one_bucket<R: Abort + Threads + Wait + Sync>(
     asks: (Ask, Ask),
     expected: (Told, Told),
 ) {
+    let (first_wins, second_wins) = expected;
     assert!(rt; is_first_capacity(16));
     match run_meeting(rt, alloc, 16, &[OPENING], Meeting::Bucket, asks) {
         Ok(told) => {
-            let is_told = told.as_slice() == expected.0 || told.as_slice() == expected.1;
+            let is_told = told.as_slice() == first_wins || told.as_slice() == second_wins;
             assert!(rt; is_told, "{told:?}");
         }
-        Err(fault) => assert!(rt; false, "{fault:?} {asks:?}"),
+        Err(fault) => assert!(rt; false, "{fault:?} {first_wins:?}"),
     }
 }
 
@@ -196,7 +197,7 @@ fn assert_at_the_lock<R: Abort + Threads + Wait + Sync>(
     assert!(rt; is_first_capacity(16));
     match run_meeting(rt, alloc, 16, &SEVEN, Meeting::Lock, (INSERT_7, ask)) {
         Ok(told) => assert_eq!(rt; told.as_slice(), expected),
-        Err(fault) => assert!(rt; false, "{fault:?} {ask:?}"),
+        Err(fault) => assert!(rt; false, "{fault:?} {expected:?}"),
     }
 }
 

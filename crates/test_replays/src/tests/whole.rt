@@ -270,7 +270,7 @@ fn assert_row<R: Abort + Wait>(rt: &R, alloc: Global, row: &Row) {
         Plan::Worked { tops, inside },
     ) {
         Ok(told) => assert_eq!(rt; told.as_slice(), expected),
-        Err(fault) => assert!(rt; false, "{fault:?} {tops:?}"),
+        Err(fault) => assert!(rt; false, "{fault:?} {expected:?}"),
     }
 }
 

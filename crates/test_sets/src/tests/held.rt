@@ -1,6 +1,12 @@
 //! The set that one owner holds alone.
-use super::{Numbers, Told, answer_of, assert_numbers, shown_answer};
+use super::{
+    Numbers, Told, assert_numbers, assert_placed_once, assert_same, assert_shown, assert_told,
+    insert_box,
+};
+use std::alloc::{AllocError, Global};
 use std::num::{NonZeroU32, NonZeroU64};
+use std::ops::Range;
+use std::process::Abort;
 use std::test::Fail;
 use table_sets::{HeldSet, InPlace, Inserted, NumberLaw};
 
@@ -10,29 +16,32 @@ type InPlaces = HeldSet<InPlace<u64>, NumberLaw>;
 #[test]
 fn no_entries(rt: HostRuntime) {
     let set: InPlaces = HeldSet::new(rt.alloc());
-    assert_eq!(rt; (set.len(), set.is_empty()), (0, true));
-    assert_eq!(rt; set.get(&7), None);
-    assert!(rt; !set.contains(&7));
-    assert_eq!(rt; set.iter().count(), 0);
-    assert_eq!(rt; set.into_iter().count(), 0);
+    assert!(rt; set.is_empty() && set.get(&7).is_none() && !set.contains(&7));
+    assert_same(&rt, set.len() as u64, 0);
+    assert_same(&rt, set.iter().count() as u64, 0);
+    assert_same(&rt, set.into_iter().count() as u64, 0);
+}
+
+/// Inserts the numbers, boxed: each insert is told so.
+fn insert_all(
+    rt: &impl Abort,
+    set: &mut Numbers<Global>,
+    alloc: Global,
+    numbers: Range<u64>,
+    expected: Told,
+) -> Result<(), AllocError> {
+    for number in numbers {
+        assert!(rt; insert_box(set, alloc, number)? == expected);
+    }
+    Ok(())
 }
 
 /// Five growths from 16 buckets, and each number is found after them.
 #[test]
 fn boxed_numbers(rt: HostRuntime) -> Result<(), Fail> {
-    let mut set: Numbers<_> = HeldSet::new(rt.alloc());
-    for number in 0..300 {
-        assert_eq!(rt;
-            answer_of(set.insert(Box::new(rt.alloc(), number)?)),
-            Told::Placed
-        );
-    }
-    for number in 0..300 {
-        assert_eq!(rt;
-            answer_of(set.insert(Box::new(rt.alloc(), number)?)),
-            Told::Found
-        );
-    }
+    let mut set: Numbers<Global> = HeldSet::new(rt.alloc());
+    insert_all(&rt, &mut set, rt.alloc(), 0..300, Told::Placed)?;
+    insert_all(&rt, &mut set, rt.alloc(), 0..300, Told::Found)?;
     assert_numbers(&rt, &set, 300);
     Ok(())
 }
@@ -41,39 +50,32 @@ fn boxed_numbers(rt: HostRuntime) -> Result<(), Fail> {
 #[test]
 fn the_value_comes_back(rt: HostRuntime) {
     let mut set: InPlaces = HeldSet::with_first_capacity(rt.alloc(), 32);
-    assert_eq!(rt; answer_of(set.insert(InPlace(7))), Told::Placed);
+    assert_told(&rt, &mut set, InPlace(7), Told::Placed);
     match set.insert(InPlace(7)) {
-        Inserted::Found(InPlace(back)) => assert_eq!(rt; back, 7),
+        Inserted::Found(InPlace(back)) => assert_same(&rt, back, 7),
         Inserted::Placed | Inserted::Refused(_) => assert!(rt; false),
     }
-    assert_eq!(rt; (set.len(), set.is_empty()), (1, false));
-    assert_eq!(rt; set.into_table().capacity_alone(), 32);
+    assert!(rt; !set.is_empty());
+    assert_same(&rt, set.len() as u64, 1);
+    assert_same(&rt, set.into_table().capacity_alone() as u64, 32);
 }
 
 #[test]
 fn the_entry_is_shown(rt: HostRuntime) {
     let mut set: InPlaces = HeldSet::new(rt.alloc());
-    for number in 0..20 {
-        let shown = shown_answer(set.insert_and_show(InPlace(number)));
-        assert_eq!(rt; shown, (Told::Placed, Some(number)));
+    for expected in [Told::Placed, Told::Found] {
+        for number in 0..20 {
+            assert_shown(&rt, set.insert_and_show(InPlace(number)), number, expected);
+        }
     }
-    for number in 0..20 {
-        let shown = shown_answer(set.insert_and_show(InPlace(number)));
-        assert_eq!(rt; shown, (Told::Found, Some(number)));
-    }
-    assert_eq!(rt; set.len(), 20);
+    assert_same(&rt, set.len() as u64, 20);
 }
 
 /// The numbers from 1 to 20 have the sum 210, by each way of walking over them.
 #[test]
 fn walks(rt: HostRuntime) -> Result<(), Fail> {
-    let mut set: Numbers<_> = HeldSet::new(rt.alloc());
-    for number in 1..21 {
-        assert_eq!(rt;
-            answer_of(set.insert(Box::new(rt.alloc(), number)?)),
-            Told::Placed
-        );
-    }
+    let mut set: Numbers<Global> = HeldSet::new(rt.alloc());
+    insert_all(&rt, &mut set, rt.alloc(), 1..21, Told::Placed)?;
     let mut by_iter = 0u64;
     for entry in set.iter() {
         by_iter = by_iter.wrapping_add(*entry);
@@ -86,7 +88,9 @@ fn walks(rt: HostRuntime) -> Result<(), Fail> {
     for value in set {
         by_value = by_value.wrapping_add(*value);
     }
-    assert_eq!(rt; (by_iter, by_loop, by_value), (210, 210, 210));
+    for sum in [by_iter, by_loop, by_value] {
+        assert_same(&rt, sum, 210);
+    }
     Ok(())
 }
 
@@ -94,10 +98,8 @@ fn walks(rt: HostRuntime) -> Result<(), Fail> {
 fn numbers_that_are_never_zero(rt: HostRuntime) {
     let mut long: HeldSet<NonZeroU64, NumberLaw> = HeldSet::new(rt.alloc());
     let mut short: HeldSet<NonZeroU32, NumberLaw> = HeldSet::new(rt.alloc());
-    for expected in [Told::Placed, Told::Found] {
-        assert_eq!(rt; answer_of(long.insert(NonZeroU64::MAX)), expected);
-        assert_eq!(rt; answer_of(short.insert(NonZeroU32::MIN)), expected);
-    }
+    assert_placed_once(&rt, &mut long, NonZeroU64::MAX, NonZeroU64::MAX);
+    assert_placed_once(&rt, &mut short, NonZeroU32::MIN, NonZeroU32::MIN);
     assert!(rt; long.contains(&NonZeroU64::MAX) && !long.contains(&NonZeroU64::MIN));
     assert!(rt; short.contains(&NonZeroU32::MIN) && !short.contains(&NonZeroU32::MAX));
 }
@@ -106,10 +108,8 @@ fn numbers_that_are_never_zero(rt: HostRuntime) {
 fn short_numbers(rt: HostRuntime) {
     let mut words: HeldSet<InPlace<u32>, NumberLaw> = HeldSet::new(rt.alloc());
     let mut halves: HeldSet<InPlace<u16>, NumberLaw> = HeldSet::new(rt.alloc());
-    for expected in [Told::Placed, Told::Found] {
-        assert_eq!(rt; answer_of(words.insert(InPlace(70_000))), expected);
-        assert_eq!(rt; answer_of(halves.insert(InPlace(4))), expected);
-    }
+    assert_placed_once(&rt, &mut words, InPlace(70_000), InPlace(70_000));
+    assert_placed_once(&rt, &mut halves, InPlace(4), InPlace(4));
     assert!(rt; words.contains(&70_000) && !words.contains(&4));
     assert!(rt; halves.contains(&4) && !halves.contains(&5));
 }

@@ -1,5 +1,5 @@
 //! Pairs and texts, and look-ups by a key.
-use super::{Texts, Told, answer_of, boxed_text};
+use super::{Texts, assert_placed_once, assert_same, boxed_text};
 use std::alloc::{Allocator, Global};
 use std::process::Abort;
 use std::test::Fail;
@@ -18,18 +18,17 @@ const TEXTS: [&str; 6] = ["", "a", "b", "ab", "ba", "aa"];
 fn pairs_by_both_parts(rt: HostRuntime) {
     let mut set: Pairs = HeldSet::new(rt.alloc());
     for pair in PAIRS {
-        assert_eq!(rt; answer_of(set.insert(InPlace(pair))), Told::Placed);
-        assert_eq!(rt; answer_of(set.insert(InPlace(pair))), Told::Found);
+        assert_placed_once(&rt, &mut set, InPlace(pair), InPlace(pair));
     }
-    assert_eq!(rt; set.len(), 5);
-    assert_eq!(rt; set.get(&(2, 1)).copied(), Some((2, 1)));
-    assert_eq!(rt; set.get(&(0, 1)), None);
+    assert_same(&rt, set.len() as u64, 5);
+    assert!(rt; set.get(&(2, 1)).copied() == Some((2, 1)));
+    assert!(rt; set.get(&(0, 1)).is_none());
 }
 
 /// The text that a look-up by a `&str` shows is that text.
 fn assert_text<A: Allocator + Copy>(rt: &impl Abort, set: &Texts<A>, text: &str) {
     match set.get_by_key(&text) {
-        Some(shown) => assert_eq!(rt; shown.as_str(), text),
+        Some(shown) => assert!(rt; shown.as_str() == text),
         None => assert!(rt; false),
     }
 }
@@ -38,16 +37,10 @@ fn assert_text<A: Allocator + Copy>(rt: &impl Abort, set: &Texts<A>, text: &str)
 fn texts_by_their_bytes(rt: HostRuntime) -> Result<(), Fail> {
     let mut set: Texts<Global> = HeldSet::new(rt.alloc());
     for text in TEXTS {
-        assert_eq!(rt;
-            answer_of(set.insert(boxed_text(rt.alloc(), text)?)),
-            Told::Placed
-        );
-        assert_eq!(rt;
-            answer_of(set.insert(boxed_text(rt.alloc(), text)?)),
-            Told::Found
-        );
+        let (first, again) = (boxed_text(rt.alloc(), text)?, boxed_text(rt.alloc(), text)?);
+        assert_placed_once(&rt, &mut set, first, again);
     }
-    assert_eq!(rt; set.len(), 6);
+    assert_same(&rt, set.len() as u64, 6);
     for text in TEXTS {
         assert_text(&rt, &set, text);
     }

@@ -1,5 +1,5 @@
 //! Each request for memory refused in turn.
-use super::{Numbers, Told, answer_of, assert_numbers};
+use super::{Numbers, Told, assert_numbers, assert_same, insert_box};
 use std::alloc::Global;
 use std::process::Abort;
 use std::test::Fail;
@@ -20,17 +20,14 @@ fn refused_inserts(rt: &impl Abort, alloc: Global, passing: u64) -> Result<u64, 
     let mut set: Numbers<&Refusing<Global>> = HeldSet::new(&memory);
     let mut refused = 0u64;
     for number in 0..NUMBERS {
-        if answer_of(set.insert(Box::new(alloc, number)?)) == Told::Refused {
+        if insert_box(&mut set, alloc, number)? == Told::Refused {
             refused = refused.wrapping_add(1);
             assert_numbers(rt, &set, number);
-            assert_eq!(rt;
-                answer_of(set.insert(Box::new(alloc, number)?)),
-                Told::Placed
-            );
+            assert!(rt; insert_box(&mut set, alloc, number)? == Told::Placed);
         }
     }
     assert_numbers(rt, &set, NUMBERS);
-    assert_eq!(rt; answer_of(set.insert(Box::new(alloc, 4)?)), Told::Found);
+    assert!(rt; insert_box(&mut set, alloc, 4)? == Told::Found);
     Ok(refused)
 }
 
@@ -40,7 +37,7 @@ fn each_request_refused_in_turn(rt: HostRuntime) -> Result<(), Fail> {
     for passing in 0..40u64 {
         refused = refused.wrapping_add(refused_inserts(&rt, rt.alloc(), passing)?);
     }
-    assert_eq!(rt; refused, TOLD);
+    assert_same(&rt, refused, TOLD);
     Ok(())
 }
 
@@ -50,23 +47,14 @@ fn no_memory_at_all(rt: HostRuntime) -> Result<(), Fail> {
     let memory = Refusing::new(rt.alloc(), Rule::new(0, usize::MAX, 0, u64::MAX));
     let mut set: Numbers<&Refusing<Global>> = HeldSet::new(&memory);
     match set.insert_and_show(Box::new(rt.alloc(), 9)?) {
-        Shown::Refused(back) => assert_eq!(rt; *back, 9),
+        Shown::Refused(back) => assert_same(&rt, *back, 9),
         Shown::Placed(_) | Shown::Found(_, _) => assert!(rt; false),
     }
     assert_numbers(&rt, &set, 0);
     memory.refuse(3, u64::MAX);
-    assert_eq!(rt;
-        answer_of(set.insert(Box::new(rt.alloc(), 0)?)),
-        Told::Placed
-    );
-    assert_eq!(rt;
-        answer_of(set.insert(Box::new(rt.alloc(), 1)?)),
-        Told::Refused
-    );
-    assert_eq!(rt;
-        answer_of(set.insert(Box::new(rt.alloc(), 0)?)),
-        Told::Found
-    );
+    for (number, told) in [(0, Told::Placed), (1, Told::Refused), (0, Told::Found)] {
+        assert!(rt; insert_box(&mut set, rt.alloc(), number)? == told);
+    }
     assert_numbers(&rt, &set, 1);
     Ok(())
 }

@@ -1,13 +1,12 @@
 //! The set over four shards that threads share.
 ghost use Rattle.table_terms.specs.Capacities.{IsFirstCapacity};
 
-use super::shared::{placed_by, refused_by};
-use super::{Told, boxed_text, shown_answer};
+use super::shared::{assert_grows, insert_all, placed_by_two, refused_by};
+use super::{Told, assert_same, boxed_text};
 use std::alloc::{AllocError, Global};
 use std::process::Abort;
 use std::sync::Wait;
 use std::test::Fail;
-use std::thread;
 use table_shared_sets::{InPlace, NumberLaw, ShardedSet, Shown, TextLaw};
 use table_terms::law::hash_number;
 use testkit_refusing::{Refusing, Rule};
@@ -46,9 +45,8 @@ fn boxes(alloc: &Refusing<Global>) -> Boxes<'_> {
 #[test]
 fn no_entries(rt: HostRuntime) {
     let set = in_places(rt.alloc());
-    assert_eq!(rt; (set.len(), set.is_empty()), (0, true));
-    assert_eq!(rt; set.get(&7), None);
-    assert!(rt; !set.contains(&7));
+    assert!(rt; set.is_empty() && set.get(&7).is_none() && !set.contains(&7));
+    assert_same(&rt, set.len() as u64, 0);
     assert!(rt; set.iter().next().is_none());
     assert!(rt; set.into_iter().next().is_none());
 }
@@ -57,32 +55,20 @@ fn no_entries(rt: HostRuntime) {
 #[test]
 fn numbers_over_growth(rt: HostRuntime) {
     let set = in_places(rt.alloc());
-    for number in 0..500 {
-        let shown = shown_answer(set.insert(&rt, InPlace(number)));
-        assert_eq!(rt; shown, (Told::Placed, Some(number)));
-    }
-    for number in 0..500 {
-        let shown = shown_answer(set.insert(&rt, InPlace(number)));
-        assert_eq!(rt; shown, (Told::Found, Some(number)));
-        assert_eq!(rt; set.get(&number).copied(), Some(number));
-    }
-    assert!(rt; set.contains(&499) && !set.contains(&500));
-    assert_eq!(rt; (set.len(), set.is_empty()), (500, false));
+    assert_grows(&rt, &set, 500);
 }
 
 /// A number lies in the shard of its hash, and the first generation of that shard has the buckets that were named.
 #[test]
 fn the_first_capacity_of_a_shard(rt: HostRuntime) -> Result<(), Fail> {
     let set = in_places_of(rt.alloc(), 32);
-    assert_eq!(rt;
-        shown_answer(set.insert(&rt, InPlace(5))),
-        (Told::Placed, Some(5))
-    );
+    insert_all(&rt, &set, 5..6, Told::Placed);
     let table = set.into_table();
     let shard = table.shard(hash_number(5));
-    assert_eq!(rt; (shard.len(), table.len()), (1, 1));
+    assert_same(&rt, shard.len() as u64, 1);
+    assert_same(&rt, table.len() as u64, 1);
     let made = shard.current().ok_or("no generation")?;
-    assert_eq!(rt; made.generation.capacity(), 32);
+    assert_same(&rt, made.generation.capacity() as u64, 32);
     Ok(())
 }
 
@@ -90,10 +76,7 @@ fn the_first_capacity_of_a_shard(rt: HostRuntime) -> Result<(), Fail> {
 #[test]
 fn walks(rt: HostRuntime) {
     let set = in_places(rt.alloc());
-    for number in 1..21 {
-        let told = shown_answer(set.insert(&rt, InPlace(number))).0;
-        assert_eq!(rt; told, Told::Placed);
-    }
+    insert_all(&rt, &set, 1..21, Told::Placed);
     let mut by_iter = 0u64;
     for entry in set.iter() {
         by_iter = by_iter.wrapping_add(*entry);
@@ -106,14 +89,16 @@ fn walks(rt: HostRuntime) {
     for value in set {
         by_value = by_value.wrapping_add(value.0);
     }
-    assert_eq!(rt; (by_iter, by_loop, by_value), (210, 210, 210));
+    for sum in [by_iter, by_loop, by_value] {
+        assert_same(&rt, sum, 210);
+    }
 }
 
 #[test]
 fn texts_by_keys(rt: HostRuntime) -> Result<(), Fail> {
     let set = texts(rt.alloc());
     match set.insert(&rt, boxed_text(rt.alloc(), "ab")?) {
-        Shown::Placed(entry) => assert_eq!(rt; entry.as_str(), "ab"),
+        Shown::Placed(entry) => assert!(rt; entry.as_str() == "ab"),
         Shown::Found(_, _) | Shown::Refused(_) => assert!(rt; false),
     }
     assert!(rt; set.get_by_key(&"ab").is_some());
@@ -125,18 +110,8 @@ fn texts_by_keys(rt: HostRuntime) -> Result<(), Fail> {
 #[test]
 fn two_threads(rt: HostRuntime) -> Result<(), Fail> {
     let set = in_places(rt.alloc());
-    let shared = &set;
-    let placed = thread::scope(
-        thread::scope_env(),
-        &rt,
-        move |scope| -> Result<u64, Fail> {
-            let other = scope.spawn(move || placed_by(&rt, shared))?;
-            let here = placed_by(&rt, shared);
-            let there = other.join(&rt);
-            Ok(here.wrapping_add(there))
-        },
-    )?;
-    assert_eq!(rt; (placed, set.len()), (1000, 1000));
+    assert_same(&rt, placed_by_two(&rt, &set)?, 1000);
+    assert_same(&rt, set.len() as u64, 1000);
     Ok(())
 }
 
@@ -151,7 +126,7 @@ fn refused<R: Wait + Abort>(rt: &R, alloc: Global, passing: u64) -> Result<u64, 
     let set = boxes(&memory);
     let told = refused_by(rt, alloc, &set)?;
     drop(set);
-    assert_eq!(rt; memory.given_back(), memory.granted());
+    assert_same(rt, memory.given_back(), memory.granted());
     Ok(told)
 }
 
@@ -161,6 +136,6 @@ fn each_request_refused_in_turn(rt: HostRuntime) -> Result<(), Fail> {
     for passing in 0..80u64 {
         told = told.wrapping_add(refused(&rt, rt.alloc(), passing)?);
     }
-    assert_eq!(rt; told, TOLD);
+    assert_same(&rt, told, TOLD);
     Ok(())
 }

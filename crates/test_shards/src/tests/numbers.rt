@@ -1,109 +1,139 @@
-//! Numbers in a table over shards, each equal to itself alone.
+//! Values in tables over shards, told apart by their numbers.
+use lock_free_hashtable::AtomicValue;
 use lock_free_hashtable::sharded::ShardedLockFreeRawTable;
 use std::alloc::{AllocError, Allocator, Global};
 use std::process::Abort;
 use std::sync::Wait;
 use table_cell::Low;
 use table_terms::law::hash_number;
-pub(crate) use testkit_counting::numbers::Told;
-use testkit_counting::numbers::{hash, same, told_of};
+use testkit_counting::asked;
+use testkit_counting::asked::Numbered;
+pub(crate) use testkit_counting::numbers::{Numbers, Told};
+use testkit_counting::numbers::{count_first, seen, those_below};
+use testkit_counting::tally::Tally;
 
 /// A table of boxed numbers over so many shards.
-pub(crate) type Numbers<const SHARDS: usize, A> = ShardedLockFreeRawTable<Box<u64>, SHARDS, A>;
+pub(crate) type Table<const SHARDS: usize, A> = ShardedLockFreeRawTable<Box<u64>, SHARDS, A>;
 
-/// What an insert of the value is told.
-pub(crate) fn insert<R: Wait, const SHARDS: usize, A: Low + Copy>(
+/// What an insert of the value under this hash is told. Each number is equal to itself alone.
+pub(crate) fn insert_at<R: Wait, T: AtomicValue, const SHARDS: usize, A: Low + Copy>(
     rt: &R,
-    table: &Numbers<SHARDS, A>,
-    value: Box<u64>,
-) -> Told {
-    let number = *value;
-    told_of(
-        table.insert(rt, hash_number(number), value, same, hash),
-        number,
-    )
-}
-
-/// Whether a look-up finds the number.
-pub(crate) fn contains<const SHARDS: usize, A: Allocator + Copy>(
-    table: &Numbers<SHARDS, A>,
-    number: u64,
-) -> bool {
-    match table.lookup(hash_number(number), |a: &u64| *a == number) {
-        Some(found) => *found == number,
-        None => false,
+    table: &ShardedLockFreeRawTable<T, SHARDS, A>,
+    hash: u64,
+    value: T,
+) -> Told
+where
+    T::Target: Numbered,
+{
+    let target = value.deref();
+    let number = target.number();
+    match table.insert(
+        rt,
+        hash,
+        value,
+        asked::same::<T::Target>,
+        asked::hash::<T::Target>,
+    ) {
+        Ok((shown, None)) if shown.number() == number => Told::Placed,
+        Ok((shown, Some(back))) if shown.number() == number && back.deref().number() == number =>
+            Told::Found,
+        Err(back) if back.deref().number() == number => Told::Refused,
+        _ => Told::Wrong,
     }
 }
 
-/// Asserts that the entries are the numbers below `count`: each is found, and the walk shows each once.
-pub(crate) fn assert_entries<R: Abort, const SHARDS: usize, A: Allocator + Copy>(
-    rt: &R,
-    table: &Numbers<SHARDS, A>,
-    alloc: Global,
-    count: u64,
-) -> Result<(), AllocError> {
-    assert_eq!(rt; entries_seen(table, alloc, count)?, [count; 4]);
-    assert_eq!(rt; table.is_empty(), count == 0);
-    Ok(())
+/// A table of boxed numbers over shards, each number under its own hash, whatever the number of shards and their memory.
+pub(crate) trait OverShards {
+    /// What an insert of the number is told, whose block is asked for here.
+    fn insert_of<R: Wait>(&self, rt: &R, alloc: Global, number: u64) -> Told;
+
+    /// Whether a look-up shows the number.
+    fn has(&self, number: u64) -> bool;
+
+    /// How many entries it counts, and whether it says that it is empty.
+    fn counted(&self) -> (u64, bool);
+
+    /// The numbers that a walk shows.
+    fn shown(&self, alloc: Global) -> Result<Vec<u64>, AllocError>;
 }
 
-/// Whether the entries are the numbers below `count`.
-pub(crate) fn has_below<const SHARDS: usize, A: Allocator + Copy>(
-    table: &Numbers<SHARDS, A>,
-    alloc: Global,
-    count: u64,
-) -> Result<bool, AllocError> {
-    let is_empty = table.is_empty();
-    Ok(entries_seen(table, alloc, count)? == [count; 4] && is_empty == (count == 0))
-}
-
-/// The first number that no look-up finds, the table's length, how many numbers a walk shows, and how many of the first
-/// numbers are among them, each once.
-fn entries_seen<const SHARDS: usize, A: Allocator + Copy>(
-    table: &Numbers<SHARDS, A>,
-    alloc: Global,
-    count: u64,
-) -> Result<[u64; 4], AllocError> {
-    let mut walked = Vec::new(alloc);
-    for number in table.iter() {
-        walked.push(*number)?;
-    }
-    let shown = walked.len() as u64;
-    Ok([
-        first_missed(table, count),
-        table.len() as u64,
-        shown,
-        first_of(walked),
-    ])
-}
-
-/// The first number that no look-up finds, of those up to `count`.
-fn first_missed<const SHARDS: usize, A: Allocator + Copy>(
-    table: &Numbers<SHARDS, A>,
-    count: u64,
-) -> u64 {
-    let beyond = count.wrapping_add(1);
-    for number in 0..beyond {
-        if !contains(table, number) {
-            return number;
+impl<const SHARDS: usize, A: Low + Copy> OverShards
+    for ShardedLockFreeRawTable<Box<u64>, SHARDS, A> {
+    fn insert_of<R: Wait>(&self, rt: &R, alloc: Global, number: u64) -> Told {
+        match Box::new(alloc, number) {
+            Ok(value) => insert_at(rt, self, hash_number(number), value),
+            Err(_) => Told::Wrong,
         }
     }
-    beyond
+
+    fn has(&self, number: u64) -> bool {
+        match self.lookup(hash_number(number), |entry: &u64| *entry == number) {
+            Some(found) => *found == number,
+            None => false,
+        }
+    }
+
+    fn counted(&self) -> (u64, bool) {
+        (self.len() as u64, self.is_empty())
+    }
+
+    fn shown(&self, alloc: Global) -> Result<Vec<u64>, AllocError> {
+        let mut numbers = Vec::new(alloc);
+        for number in self.iter() {
+            numbers.push(*number)?;
+        }
+        Ok(numbers)
+    }
 }
 
-/// How many of the first numbers these are, each once.
-fn first_of(mut numbers: Vec<u64>) -> u64 {
-    numbers.sort_unstable();
-    let in_place = (0u64..)
-        .zip(numbers.as_slice())
-        .filter(|(expected, number)| *expected == **number);
-    in_place.count() as u64
+/// Such a table, and where the blocks of its numbers are asked for.
+#[derive(Drop)]
+pub(crate) struct Sharded<'a, T> {
+    pub table: &'a T,
+    pub alloc: Global,
+}
+
+impl<'a, T: OverShards> Numbers for Sharded<'a, T> {
+    fn insert<R: Wait>(&self, rt: &R, number: u64) -> Told {
+        self.table.insert_of(rt, self.alloc, number)
+    }
+
+    fn contains(&self, number: u64) -> bool {
+        self.table.has(number)
+    }
+
+    fn length(&self) -> (u64, bool) {
+        self.table.counted()
+    }
+
+    fn walked(&self) -> Result<Vec<u64>, AllocError> {
+        self.table.shown(self.alloc)
+    }
+}
+
+/// These counts are seen.
+pub(crate) fn assert_counted<R: Abort>(rt: &R, seen: &[u64], expected: &[u64]) {
+    assert_eq!(rt; seen, expected);
+}
+
+/// So many inserts were told Placed, so many Found, and none anything else.
+pub(crate) fn assert_tally<R: Abort>(rt: &R, told: Tally, placed: u64, found: u64) {
+    assert_counted(rt, told.counts().as_slice(), [placed, found, 0].as_slice());
+}
+
+/// Asserts that the entries are the numbers below `count`, each once.
+pub(crate) fn assert_entries<R: Abort, T: Numbers>(rt: &R, table: &T, count: u64) {
+    assert_counted(
+        rt,
+        seen(table, count).as_slice(),
+        those_below(count).as_slice(),
+    );
 }
 
 /// Asserts that the table hands out the numbers below `count`, each once, and nothing after.
 pub(crate) fn assert_handed(
     rt: &impl Abort,
-    table: Numbers<8, Global>,
+    table: Table<8, Global>,
     alloc: Global,
     count: u64,
 ) -> Result<(), AllocError> {
@@ -112,7 +142,12 @@ pub(crate) fn assert_handed(
     while let Some(value) = values.next() {
         handed.push(*value)?;
     }
-    assert!(rt; values.next().is_none());
-    assert_eq!(rt; (handed.len() as u64, first_of(handed)), (count, count));
+    let stays = values.next().is_none();
+    let (length, first) = count_first(handed);
+    assert_counted(
+        rt,
+        [length, first, u64::from(stays)].as_slice(),
+        [count, count, 1].as_slice(),
+    );
     Ok(())
 }

@@ -1,11 +1,10 @@
 //! Each request for memory of two shards refused in turn.
 use super::made::two;
-use super::numbers::{has_below, insert};
-use std::alloc::{AllocError, Global};
+use super::numbers::{Sharded, assert_counted};
+use std::alloc::Global;
 use std::process::Abort;
 use std::sync::Wait;
-use std::test::Fail;
-use testkit_counting::numbers::{counted_in_turn, refused_inserts};
+use testkit_counting::numbers::refused_inserts;
 use testkit_refusing::{Refusing, Rule};
 
 /// How many numbers are inserted: each shard grows from 16 buckets to 32.
@@ -18,26 +17,36 @@ const TOLD: u64 = NUMBERS + 2 * 6;
 
 /// How many of the inserts were refused, where one request after `passing` many is refused. In the end each block was given
 /// back.
-fn refused<R: Wait + Abort>(
-    rt: &R,
-    alloc: Global,
-    passing: u64,
-) -> Result<Option<u64>, AllocError> {
+fn refused<R: Wait + Abort>(rt: &R, alloc: Global, passing: u64) -> Option<u64> {
     let memory = Refusing::new(alloc, Rule::new(0, usize::MAX, passing, 1));
     let table = two(&memory);
     let told = refused_inserts(
+        rt,
+        &Sharded {
+            table: &table,
+            alloc,
+        },
         NUMBERS,
-        |number: u64| Ok(insert(rt, &table, Box::new(alloc, number)?)),
-        |count: u64| has_below(&table, alloc, count),
     );
     drop(table);
-    assert_eq!(rt; memory.given_back(), memory.granted());
+    assert_counted(
+        rt,
+        [memory.given_back()].as_slice(),
+        [memory.granted()].as_slice(),
+    );
     told
 }
 
+/// How many inserts of sixty runs were refused, of which each lets one request more pass than the one before.
+fn refused_in_turn<R: Wait + Abort>(rt: &R, alloc: Global) -> Option<u64> {
+    let mut sum = 0u64;
+    for passing in 0..60 {
+        sum = sum.wrapping_add(refused(rt, alloc, passing)?);
+    }
+    Some(sum)
+}
+
 #[test]
-fn each_request_refused_in_turn(rt: HostRuntime) -> Result<(), Fail> {
-    let told = counted_in_turn(60, |passing: u64| refused(&rt, rt.alloc(), passing))?;
-    assert_eq!(rt; told, Some(TOLD));
-    Ok(())
+fn each_request_refused_in_turn(rt: HostRuntime) {
+    assert_eq!(rt; refused_in_turn(&rt, rt.alloc()), Some(TOLD));
 }

@@ -1,12 +1,11 @@
 //! One entry in one shard: every call asks the shard of its hash alone, or all of them.
 use super::made::{eight, eight_of, one};
-use super::numbers::Numbers;
+use super::numbers::{Table, Told, assert_counted, insert_at};
 use lock_free_hashtable::raw::is_first_capacity;
 use std::alloc::{AllocError, Allocator, Global};
 use std::process::Abort;
 use std::sync::Wait;
 use std::test::Fail;
-use table_cell::Low;
 
 /// How many shards there are, and of how many bits their number is.
 const SHARDS: u64 = 8;
@@ -19,58 +18,93 @@ const ENDS: [u64; 4] = [0, 5, 15, (200 << 32) | 5];
 /// A first capacity that isn't the usual one.
 const WIDE: usize = 64;
 
+/// A number that no test inserts.
+const NONE: u64 = u64::MAX;
+
 /// The hash of this end in this shard.
 fn hash_in(shard: u64, end: u64) -> u64 {
     (shard << (64 - SHARD_BITS)) | end
 }
 
-/// Inserts the number under this hash. Whether it was placed.
-fn places<R: Wait, const N: usize, A: Low + Copy>(
-    rt: &R,
-    table: &Numbers<N, A>,
-    hash: u64,
-    value: Box<u64>,
-) -> bool {
-    let told = table.insert(rt, hash, value, |a: &u64, b: &u64| *a == *b, |_| hash);
-    matches!(&told, Ok((_, None)))
-}
-
 /// The number that a look-up under this hash shows, whatever it is.
-fn shown<const N: usize, A: Allocator + Copy>(table: &Numbers<N, A>, hash: u64) -> Option<u64> {
+fn shown<const N: usize, A: Allocator + Copy>(table: &Table<N, A>, hash: u64) -> u64 {
     match table.lookup(hash, |_| true) {
-        Some(number) => Some(*number),
-        None => None,
+        Some(number) => *number,
+        None => NONE,
     }
 }
 
-/// Asserts that the table has one entry, this number, which is shown under this end in this shard, and in no other one.
-fn assert_alone_in(rt: &impl Abort, table: &Numbers<8, Global>, shard: u64, end: u64, number: u64) {
-    assert_eq!(rt; (table.len(), table.is_empty()), (1, false));
-    for asked in 0..SHARDS {
-        let expected = if asked == shard { Some(number) } else { None };
-        assert_eq!(rt; shown(table, hash_in(asked, end)), expected, "{asked}");
-        let counted = usize::from(asked == shard);
-        assert_eq!(rt; table.shard(hash_in(asked, end)).len(), counted, "{asked}");
-    }
+/// The numbers that a walk shows first and second.
+fn first_two<const N: usize, A: Allocator + Copy>(table: &Table<N, A>) -> [u64; 2] {
     let mut walk = table.iter();
-    assert_eq!(rt; walk.next().copied(), Some(number));
-    assert!(rt; walk.next().is_none());
+    let first = walk.next().copied().unwrap_or(NONE);
+    [first, walk.next().copied().unwrap_or(NONE)]
 }
 
-/// Inserts one number into a shard of a new table.
+/// Asserts that the number is shown under this end in this shard, which has an entry, and in no other one.
+fn assert_shown_in<R: Abort>(rt: &R, table: &Table<8, Global>, shard: u64, end: u64, number: u64) {
+    for asked in 0..SHARDS {
+        let hash = hash_in(asked, end);
+        let seen = [shown(table, hash), table.shard(hash).len() as u64];
+        let expected = if asked == shard {
+            [number, 1]
+        } else {
+            [NONE, 0]
+        };
+        assert_counted(rt, seen.as_slice(), expected.as_slice());
+    }
+}
+
+/// Inserts one number into a shard of the table, which has no entry before, and then this one alone.
+fn assert_alone_in<R: Abort + Wait>(
+    rt: &R,
+    table: &Table<8, Global>,
+    shard: u64,
+    end: u64,
+    value: Box<u64>,
+) {
+    let number = *value;
+    let was_empty = table.is_empty();
+    let is_placed = insert_at(rt, table, hash_in(shard, end), value) == Told::Placed;
+    let [first, second] = first_two(table);
+    assert_counted(
+        rt,
+        [
+            u64::from(was_empty && is_placed && !table.is_empty()),
+            table.len() as u64,
+            first,
+            second,
+        ]
+        .as_slice(),
+        [1, 1, number, NONE].as_slice(),
+    );
+    assert_shown_in(rt, table, shard, end, number);
+}
+
+/// The numbers that a table hands out first and second.
+fn handed_two(table: Table<8, Global>) -> [u64; 2] {
+    let mut values = table.into_iter();
+    [number_of(values.next()), number_of(values.next())]
+}
+
+/// The number of a value that is handed out.
+fn number_of(value: Option<Box<u64>>) -> u64 {
+    match value {
+        Some(value) => *value,
+        None => NONE,
+    }
+}
+
+/// Inserts one number into a shard of a new table, which hands it out.
 fn assert_lies_in<R: Abort + Wait>(
     rt: &R,
     alloc: Global,
     shard: u64,
     end: u64,
 ) -> Result<(), AllocError> {
-    let table: Numbers<8, Global> = eight(alloc);
-    assert!(rt; table.is_empty());
-    assert!(rt; places(rt, &table, hash_in(shard, end), Box::new(alloc, end)?));
-    assert_alone_in(rt, &table, shard, end, end);
-    let mut values = table.into_iter();
-    assert!(rt; matches!(values.next(), Some(value) if *value == end));
-    assert!(rt; values.next().is_none());
+    let table: Table<8, Global> = eight(alloc);
+    assert_alone_in(rt, &table, shard, end, Box::new(alloc, end)?);
+    assert_counted(rt, handed_two(table).as_slice(), [end, NONE].as_slice());
     Ok(())
 }
 
@@ -84,34 +118,60 @@ fn an_entry_is_in_the_shard_of_its_hash_alone(rt: HostRuntime) -> Result<(), Fai
     Ok(())
 }
 
-#[test]
-fn one_shard_takes_every_hash(rt: HostRuntime) -> Result<(), Fail> {
-    let table = one(rt.alloc());
-    assert!(&rt; table.is_empty());
-    for (number, hash) in [(1, 0), (2, (1 << 63) | 3), (3, u64::MAX)] {
-        assert!(&rt; places(&rt, &table, hash, Box::new(rt.alloc(), number)?));
-        assert_eq!(&rt; shown(&table, hash), Some(number));
-        assert_eq!(&rt; table.len(), table.shard(0).len());
-    }
-    assert_eq!(&rt; (table.len(), table.iter().count()), (3, 3));
-    let mut handed = 0u32;
+/// How many values a table of one shard hands out.
+fn count_handed(table: Table<1, Global>) -> u64 {
+    let mut handed = 0u64;
     for _value in table {
         handed = handed.wrapping_add(1);
     }
-    assert_eq!(&rt; handed, 3);
+    handed
+}
+
+/// Inserts the number, which is shown then. The one shard has all entries, which are so many.
+fn assert_taken<R: Abort + Wait>(rt: &R, table: &Table<1, Global>, hash: u64, value: Box<u64>) {
+    let number = *value;
+    let is_placed = insert_at(rt, table, hash, value) == Told::Placed;
+    let seen = [
+        u64::from(is_placed),
+        shown(table, hash),
+        table.len() as u64,
+        table.shard(0).len() as u64,
+    ];
+    assert_counted(rt, seen.as_slice(), [1, number, number, number].as_slice());
+}
+
+#[test]
+fn one_shard_takes_every_hash(rt: HostRuntime) -> Result<(), Fail> {
+    let table = one(rt.alloc());
+    assert!(rt; table.is_empty());
+    for (number, hash) in [(1, 0), (2, (1 << 63) | 3), (3, u64::MAX)] {
+        assert_taken(&rt, &table, hash, Box::new(rt.alloc(), number)?);
+    }
+    let walked = table.iter().count() as u64;
+    assert_counted(
+        &rt,
+        [walked, count_handed(table)].as_slice(),
+        [3, 3].as_slice(),
+    );
     Ok(())
+}
+
+/// The buckets of the shard of this hash; 0 where it has no generation.
+fn buckets_at(table: &Table<8, Global>, hash: u64) -> u64 {
+    match table.shard(hash).current() {
+        Some(current) => current.generation.capacity() as u64,
+        None => 0,
+    }
 }
 
 #[test]
 fn each_shard_has_the_first_capacity(rt: HostRuntime) -> Result<(), Fail> {
-    assert!(&rt; is_first_capacity(WIDE));
+    assert!(rt; is_first_capacity(WIDE));
     for shard in 0..SHARDS {
         let table = eight_of(rt.alloc(), WIDE);
-        let hash = hash_in(shard, 5);
-        assert!(&rt; places(&rt, &table, hash, Box::new(rt.alloc(), shard)?));
-        let made = table.shard(hash).current().ok_or("no generation")?;
-        assert_eq!(&rt; made.generation.capacity(), WIDE);
-        assert_alone_in(&rt, &table, shard, 5, shard);
+        assert_alone_in(&rt, &table, shard, 5, Box::new(rt.alloc(), shard)?);
+        let buckets = buckets_at(&table, hash_in(shard, 5));
+        assert_counted(&rt, [buckets].as_slice(), [WIDE as u64].as_slice());
     }
     Ok(())
 }

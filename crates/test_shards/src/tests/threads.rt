@@ -1,43 +1,27 @@
 //! Threads that insert at once over sixteen shards.
 use super::made::sixteen;
-use super::numbers::{Numbers, Told, assert_entries, insert};
-use std::alloc::Global;
-use std::sync::Wait;
-use std::test::Fail;
-use std::thread;
+use super::numbers::{Sharded, assert_entries, assert_tally};
+use testkit_counting::numbers::fill_at_once;
 
-/// How many numbers each thread inserts.
-const PART: u64 = 250_000;
+/// The numbers of four threads, each from one on up to another.
+const PARTS: [(u64, u64); 4] = [
+    (0, 250_000),
+    (250_000, 500_000),
+    (500_000, 750_000),
+    (750_000, MILLION),
+];
 
-/// How many threads there are.
-const THREADS: u64 = 4;
-
-/// Inserts the numbers of one part: how many were placed.
-fn fill<R: Wait>(rt: &R, table: &Numbers<16, Global>, alloc: Global, part: u64) -> u64 {
-    let mut placed = 0u64;
-    for number in 0..PART {
-        let Ok(value) = Box::new(alloc, number.wrapping_add(part.wrapping_mul(PART))) else {
-            return placed;
-        };
-        if insert(rt, table, value) == Told::Placed {
-            placed = placed.wrapping_add(1);
-        }
-    }
-    placed
-}
+const MILLION: u64 = 1_000_000;
 
 #[test]
-fn a_million_numbers_of_four_threads(rt: HostRuntime) -> Result<(), Fail> {
-    let table = sixteen(rt.alloc());
-    let placed = thread::map_indices(
-        &rt,
-        rt.alloc(),
-        THREADS as usize,
-        &|part: usize| fill(&rt, &table, rt.alloc(), part as u64),
-    )?;
-    for count in placed.as_slice() {
-        assert_eq!(&rt; *count, PART);
-    }
-    assert_entries(&rt, &table, rt.alloc(), THREADS * PART)?;
-    Ok(())
+fn a_million_numbers_of_four_threads(rt: HostRuntime) {
+    let alloc = rt.alloc();
+    let table = sixteen(alloc);
+    let numbers = Sharded {
+        table: &table,
+        alloc,
+    };
+    let told = fill_at_once(&rt, &numbers, alloc, PARTS.as_slice());
+    assert_tally(&rt, told, MILLION, 0);
+    assert_entries(&rt, &numbers, MILLION);
 }

@@ -1,7 +1,8 @@
 //! Values over eight shards whose drops are counted.
 use super::made::eight;
+use super::numbers::{Told, insert_at};
 use lock_free_hashtable::sharded::ShardedLockFreeRawTable;
-use std::alloc::AllocError;
+use std::alloc::{AllocError, Global};
 use std::process::Abort;
 use std::sync::Wait;
 use std::test::Fail;
@@ -16,40 +17,43 @@ const TAKEN: [u64; 4] = [0, 1, 120, VALUES];
 
 type Table = ShardedLockFreeRawTable<Box<Counting>, 8>;
 
-/// Inserts values of the first numbers.
-fn fill<R: Wait + Abort>(rt: &R, table: &Table, drops: &Drops) -> Result<(), AllocError> {
+/// A table into which values of the first numbers were placed.
+fn filled<R: Wait + Abort>(rt: &R, alloc: Global, drops: &Drops) -> Result<Table, AllocError> {
+    let table = eight(alloc);
+    let mut placed = 0u64;
     for number in 0..VALUES {
-        let told = table.insert(
-            rt,
-            hash_number(number),
-            drops.counting(number)?,
-            |a: &Counting, b: &Counting| a.number == b.number,
-            |a: &Counting| hash_number(a.number),
-        );
-        assert!(rt; matches!(&told, Ok((_, None))), "{number}");
+        let told = insert_at(rt, &table, hash_number(number), drops.counting(number)?);
+        placed = placed.wrapping_add(u64::from(told == Told::Placed));
     }
+    assert!(rt; placed == VALUES);
+    Ok(table)
+}
+
+/// How many values were never dropped, and how many once, at three times.
+fn assert_dropped<R: Abort>(rt: &R, seen: [(u64, u64); 3], expected: [(u64, u64); 3]) {
+    assert_eq!(rt; seen, expected);
+}
+
+/// So many values are taken out of a table, and the rest is dropped; those go last.
+fn assert_taken<R: Wait + Abort>(rt: &R, alloc: Global, taken: u64) -> Result<(), AllocError> {
+    let drops = Drops::new(alloc, VALUES)?;
+    let mut values = filled(rt, alloc, &drops)?.into_iter();
+    let mut kept = Vec::new(alloc);
+    for _value in 0..taken {
+        if let Some(value) = values.next() {
+            kept.push(value)?;
+        }
+    }
+    let left = VALUES.wrapping_sub(taken);
+    let expected = [(VALUES, 0), (taken, left), (0, VALUES)];
+    assert_dropped(rt, drops.as_dropped(values, kept), expected);
     Ok(())
 }
 
 #[test]
 fn an_iterator_that_ends_early_drops_the_rest(rt: HostRuntime) -> Result<(), Fail> {
     for taken in TAKEN {
-        let drops = Drops::new(rt.alloc(), VALUES)?;
-        let table = eight(rt.alloc());
-        fill(&rt, &table, &drops)?;
-        let mut kept = Vec::new(rt.alloc());
-        let mut values = table.into_iter();
-        for _ in 0..taken {
-            kept.push(values.next().ok_or("too few values")?)?;
-        }
-        assert_eq!(&rt;
-            drops.as_dropped(values, kept),
-            [
-                (VALUES, 0),
-                (taken, VALUES.saturating_sub(taken)),
-                (0, VALUES)
-            ]
-        );
+        assert_taken(&rt, rt.alloc(), taken)?;
     }
     Ok(())
 }
@@ -57,11 +61,8 @@ fn an_iterator_that_ends_early_drops_the_rest(rt: HostRuntime) -> Result<(), Fai
 #[test]
 fn the_end_of_a_table_drops_each_value_once(rt: HostRuntime) -> Result<(), Fail> {
     let drops = Drops::new(rt.alloc(), VALUES)?;
-    let table = eight(rt.alloc());
-    fill(&rt, &table, &drops)?;
-    assert_eq!(&rt;
-        drops.as_dropped((), table),
-        [(VALUES, 0), (VALUES, 0), (0, VALUES)]
-    );
+    let table = filled(&rt, rt.alloc(), &drops)?;
+    let expected = [(VALUES, 0), (VALUES, 0), (0, VALUES)];
+    assert_dropped(&rt, drops.as_dropped((), table), expected);
     Ok(())
 }

@@ -1,83 +1,94 @@
 //! A thousand numbers over eight shards: found, walked and handed out.
 use super::made::{eight, eight_held};
-use super::numbers::{Told, assert_entries, assert_handed, insert};
+use super::numbers::{
+    Numbers, Sharded, Table, Told, assert_counted, assert_entries, assert_handed, assert_tally,
+};
 use lock_free_hashtable::sharded::HeldShardedTable;
-use std::alloc::AllocError;
+use std::alloc::{AllocError, Global};
 use std::process::Abort;
+use std::sync::Wait;
 use std::test::Fail;
 use table_terms::law::{NumberLaw, hash_number};
+use testkit_counting::asked::{hash, same};
+use testkit_counting::numbers::fill;
 
 /// How many numbers there are.
 const NUMBERS: u64 = 1000;
 
-/// Places the number in a table held alone.
-fn place_alone(
-    rt: &impl Abort,
-    table: &mut HeldShardedTable<Box<u64>, 8>,
-    value: Box<u64>,
+/// A table that has the numbers below `from` finds them, is filled on up to `to`, and has those then. It is handed out.
+fn assert_filled_on<R: Abort + Wait>(
+    rt: &R,
+    table: Table<8, Global>,
+    alloc: Global,
+    from: u64,
+    to: u64,
 ) -> Result<(), AllocError> {
-    let number = *value;
-    let placed = table.place_alone::<NumberLaw, _, _>(
-        hash_number(number),
-        value,
-        &|a: &u64, b: &u64| *a == *b,
-        &|a: &u64| hash_number(*a),
-    );
-    assert!(rt; matches!(&placed, Ok((_, None))), "{number}");
-    Ok(())
+    let numbers = Sharded {
+        table: &table,
+        alloc,
+    };
+    assert_entries(rt, &numbers, from);
+    assert_tally(rt, fill(rt, &numbers, 0..from), 0, from);
+    assert_tally(rt, fill(rt, &numbers, from..to), to.wrapping_sub(from), 0);
+    assert_entries(rt, &numbers, to);
+    assert_handed(rt, table, alloc, to)
 }
 
 #[test]
 fn what_is_inserted_is_walked_and_handed_out_once(rt: HostRuntime) -> Result<(), Fail> {
-    let table = eight(rt.alloc());
-    assert_entries(&rt, &table, rt.alloc(), 0)?;
-    for number in 0..NUMBERS {
-        assert_eq!(&rt;
-            insert(&rt, &table, Box::new(rt.alloc(), number)?),
-            Told::Placed
-        );
-    }
-    assert_entries(&rt, &table, rt.alloc(), NUMBERS)?;
-    assert_handed(&rt, table, rt.alloc(), NUMBERS)?;
+    assert_filled_on(&rt, eight(rt.alloc()), rt.alloc(), 0, NUMBERS)?;
     Ok(())
+}
+
+/// A table held alone into which the first numbers were placed.
+fn held(alloc: Global) -> Result<HeldShardedTable<Box<u64>, 8>, AllocError> {
+    let mut table = eight_held(alloc);
+    for number in 0..NUMBERS {
+        let value = Box::new(alloc, number)?;
+        let _told = table.place_alone::<NumberLaw, _, _>(hash_number(number), value, &same, &hash);
+    }
+    Ok(table)
 }
 
 #[test]
 fn what_is_shared_is_walked_and_handed_out_once(rt: HostRuntime) -> Result<(), Fail> {
-    let mut held = eight_held(rt.alloc());
-    for number in 0..NUMBERS {
-        place_alone(&rt, &mut held, Box::new(rt.alloc(), number)?)?;
-    }
-    let table = held.share();
-    assert_entries(&rt, &table, rt.alloc(), NUMBERS)?;
-    for number in 0..2 * NUMBERS {
-        let told = insert(&rt, &table, Box::new(rt.alloc(), number)?);
-        assert_eq!(&rt; told == Told::Found, number < NUMBERS, "{number}");
-    }
-    assert_entries(&rt, &table, rt.alloc(), 2 * NUMBERS)?;
-    assert_handed(&rt, table, rt.alloc(), 2 * NUMBERS)?;
+    let table = held(rt.alloc())?.share();
+    assert_filled_on(&rt, table, rt.alloc(), NUMBERS, 2 * NUMBERS)?;
     Ok(())
+}
+
+/// Whether an insert of a new number makes the shard of its hash alone longer by one.
+fn lengthens<R: Wait>(rt: &R, numbers: &Sharded<'_, Table<8, Global>>, number: u64) -> bool {
+    let shard = numbers.table.shard(hash_number(number));
+    let before = shard.len();
+    let is_placed = numbers.insert(rt, number) == Told::Placed;
+    is_placed && shard.len() == before.saturating_add(1)
+}
+
+/// The sum of the lengths of the shards.
+fn lengths(table: &Table<8, Global>) -> u64 {
+    let mut sum = 0u64;
+    for shard in 0..8u64 {
+        sum = sum.wrapping_add(table.shard(shard << 61).len() as u64);
+    }
+    sum
 }
 
 /// Each shard is asked for the numbers of its hashes alone.
 #[test]
-fn a_number_lies_in_the_shard_of_its_hash(rt: HostRuntime) -> Result<(), Fail> {
+fn a_number_lies_in_the_shard_of_its_hash(rt: HostRuntime) {
     let table = eight(rt.alloc());
+    let numbers = Sharded {
+        table: &table,
+        alloc: rt.alloc(),
+    };
+    let mut lengthened = 0u64;
     for number in 0..NUMBERS {
-        let before = table.shard(hash_number(number)).len();
-        assert_eq!(&rt;
-            insert(&rt, &table, Box::new(rt.alloc(), number)?),
-            Told::Placed
-        );
-        assert_eq!(&rt;
-            table.shard(hash_number(number)).len(),
-            before.saturating_add(1)
-        );
+        lengthened = lengthened.wrapping_add(u64::from(lengthens(&rt, &numbers, number)));
     }
-    let mut lengths = 0usize;
-    for shard in 0..8u64 {
-        lengths = lengths.saturating_add(table.shard(shard << 61).len());
-    }
-    assert_eq!(&rt; lengths as u64, NUMBERS);
-    Ok(())
+    assert_counted(
+        &rt,
+        [lengthened, lengths(&table)].as_slice(),
+        [NUMBERS, NUMBERS].as_slice(),
+    );
 }

@@ -1,55 +1,43 @@
 //! One thread on a shared table.
-use super::numbers::{Numbers, Told, assert_entries, contains, insert};
+use super::numbers::{Boxed, Numbers, Told, assert_entries, assert_tally};
 use std::alloc::Global;
-use std::test::Fail;
-use table_shared::LockFreeRawTable;
+use std::sync::Wait;
+use testkit_counting::asked::Lawful;
+use testkit_counting::numbers::fill;
+use testkit_counting::tally::Tally;
 
 /// More than seven growths' worth.
 const NUMBERS: u64 = 2000;
 
 #[test]
 fn a_table_without_entries(rt: HostRuntime) {
-    let table: Numbers<Global> = LockFreeRawTable::new(rt.alloc());
-    assert!(rt; table.is_empty());
-    assert!(rt; !contains(&table, 0));
+    let table: Boxed<Global> = Boxed::new(rt.alloc(), rt.alloc(), Lawful::Spread);
     assert_entries(&rt, &table, 0);
 }
 
-#[test]
-fn numbers_over_growth(rt: HostRuntime) -> Result<(), Fail> {
-    let table: Numbers<Global> = LockFreeRawTable::new(rt.alloc());
+/// Inserts the numbers, each of which no look-up may find before: what the inserts are told.
+fn fill_anew<R: Wait>(rt: &R, table: &Boxed<Global>) -> Tally {
+    let mut tally = Tally::NONE;
     for number in 0..NUMBERS {
-        assert!(rt; !contains(&table, number));
-        assert_eq!(rt;
-            insert(&rt, &table, Box::new(rt.alloc(), number)?),
-            Told::Placed
-        );
+        if table.contains(number) {
+            tally = tally.with(Told::Wrong);
+        }
+        tally = tally.with(table.insert(rt, number));
     }
-    for number in 0..NUMBERS {
-        assert_eq!(rt;
-            insert(&rt, &table, Box::new(rt.alloc(), number)?),
-            Told::Found
-        );
-    }
-    assert_entries(&rt, &table, NUMBERS);
-    Ok(())
+    tally
 }
 
 #[test]
-fn different_values_of_one_hash(rt: HostRuntime) -> Result<(), Fail> {
-    let table: Numbers<Global> = LockFreeRawTable::new(rt.alloc());
-    for number in 0..50u64 {
-        let value = Box::new(rt.alloc(), number)?;
-        let told = table.insert(&rt, 7, value, |a: &u64, b: &u64| *a == *b, |_a: &u64| 7);
-        assert!(rt; matches!(told, Ok((_, None))));
-    }
-    for number in 0..50u64 {
-        assert_eq!(rt;
-            table.lookup(7, |a: &u64| *a == number).copied(),
-            Some(number)
-        );
-    }
-    assert!(rt; table.lookup(7, |a: &u64| *a == 50).is_none());
-    assert_eq!(rt; table.len(), 50);
-    Ok(())
+fn numbers_over_growth(rt: HostRuntime) {
+    let table: Boxed<Global> = Boxed::new(rt.alloc(), rt.alloc(), Lawful::Spread);
+    assert_tally(&rt, fill_anew(&rt, &table), NUMBERS, 0);
+    assert_tally(&rt, fill(&rt, &table, 0..NUMBERS), 0, NUMBERS);
+    assert_entries(&rt, &table, NUMBERS);
+}
+
+#[test]
+fn different_values_of_one_hash(rt: HostRuntime) {
+    let table: Boxed<Global> = Boxed::new(rt.alloc(), rt.alloc(), Lawful::At(7));
+    assert_tally(&rt, fill(&rt, &table, 0..50), 50, 0);
+    assert_entries(&rt, &table, 50);
 }

@@ -1,18 +1,19 @@
 //! What the count of a table says while threads insert, and what they are told where a generation is full.
-use super::growth::capacity;
 use super::numbers::{
-    Numbers, Tally, Told, assert_counted, assert_entries, assert_entries_by, assert_tally,
-    assert_told, contains, insert, insert_by,
+    Boxed, Numbers, Told, assert_counted, assert_entries, assert_tally, assert_told, insert_at,
+    walk_length,
 };
-use lock_free_hashtable::raw::LockFreeRawTable;
-use std::alloc::{AllocError, Allocator, Global};
+use super::waits::look_for;
+use std::alloc::Global;
 use std::process::Abort;
 use std::sync::Wait;
 use std::sync::atomic::{AtomicU64, Ordering};
-use std::test::Fail;
-use std::thread;
 use std::thread::Threads;
+use table_cell::Low;
 use table_terms::law::hash_number;
+use testkit_counting::asked::{Asked, Lawful};
+use testkit_counting::numbers::{fill, fill_at_once};
+use testkit_counting::tally::{Tally, Work, at_once};
 use testkit_refusing::{Refusing, Rule};
 
 /// How many bytes the block of an entry has; all else that a table asks for is more.
@@ -45,39 +46,19 @@ const PAIRS: [(u64, u64); 9] = [
     (15, 16),
 ];
 
-/// Where the ways of numbers begin.
-#[derive(Clone, Copy)]
-enum Ways {
-    /// Each where its bits are spread to.
-    Spread,
-    /// Those below 15 at the bucket of their own number, and all others at the first one.
-    FromTheFirst,
-}
-
-impl Ways {
-    /// The hash of the number.
-    fn hash(self, number: u64) -> u64 {
-        match self {
-            Ways::Spread => hash_number(number),
-            Ways::FromTheFirst if number < 15 => number,
-            Ways::FromTheFirst => 0,
-        }
-    }
-}
-
 /// Numbers that two threads insert at once, pair after pair; how many requests for growth are refused before; how many
 /// numbers are placed; and the buckets in the end.
 struct Meeting {
-    ways: Ways,
+    lawful: Lawful,
     pairs: &'static [(u64, u64)],
     refused: u64,
     placed: u64,
-    buckets: usize,
+    buckets: u64,
 }
 
 /// Of the last pair one takes the last bucket, and the other one grows the table.
 const AT_THE_LAST_BUCKET: Meeting = Meeting {
-    ways: Ways::Spread,
+    lawful: Lawful::Spread,
     pairs: &PAIRS,
     refused: 8,
     placed: 17,
@@ -86,7 +67,7 @@ const AT_THE_LAST_BUCKET: Meeting = Meeting {
 
 /// The same, but that bucket ends the way of both: who loses it has been at every bucket.
 const AT_THE_END_OF_THE_WAY: Meeting = Meeting {
-    ways: Ways::FromTheFirst,
+    lawful: Lawful::FromTheFirst,
     pairs: &PAIRS,
     refused: 8,
     placed: 17,
@@ -95,229 +76,209 @@ const AT_THE_END_OF_THE_WAY: Meeting = Meeting {
 
 /// Of the last pair one finds the other one's number, and both ask for growth: one of them is refused.
 const FOUND_BY_THE_LOSER: Meeting = Meeting {
-    ways: Ways::Spread,
+    lawful: Lawful::Spread,
     pairs: &[(0, 0), (1, 2), (3, 4), (5, 6), (7, 8), (9, 9)],
     refused: 3,
     placed: 10,
     buckets: 32,
 };
 
-/// Both numbers are offered at once: what the two inserts are told.
-fn offer<R: Threads + Wait + Sync>(
-    rt: &R,
-    table: &Numbers<&Memory<'_>>,
-    alloc: Global,
-    ways: Ways,
-    pair: (u64, u64),
-) -> Result<Tally, AllocError> {
-    let (first, second) = (Box::new(alloc, pair.0)?, Box::new(alloc, pair.1)?);
-    let (first, second) = thread::join(
+/// So many entries are counted and walked, in a current generation of so many buckets.
+fn assert_size<R: Abort, A: Low + Copy>(rt: &R, table: &Boxed<A>, entries: u64, buckets: u64) {
+    assert_counted(
         rt,
-        || insert_by(rt, table, first, |number: u64| ways.hash(number)),
-        || insert_by(rt, table, second, |number: u64| ways.hash(number)),
+        table.size().as_slice(),
+        [entries, entries, buckets].as_slice(),
     );
-    Ok(Tally::NONE.with(first).with(second))
 }
 
-/// Both numbers of each pair are offered at once.
-fn assert_meets<R: Abort + Threads + Wait + Sync>(
+/// Both numbers of each pair are offered at once: what all inserts are told.
+fn offer_all<R: Threads + Wait + Sync>(
     rt: &R,
+    table: &Boxed<&Memory<'_>>,
     alloc: Global,
-    meeting: &Meeting,
-) -> Result<(), AllocError> {
+    pairs: &[(u64, u64)],
+) -> Tally {
+    let mut tally = Tally::NONE;
+    for (one, other) in pairs {
+        let parts = [(*one, one.wrapping_add(1)), (*other, other.wrapping_add(1))];
+        tally = tally.and(fill_at_once(rt, table, alloc, parts.as_slice()));
+    }
+    tally
+}
+
+/// The numbers are offered to a table that has its first generation and no entry: the block of its first value was refused.
+fn assert_meets<R: Abort + Threads + Wait + Sync>(rt: &R, alloc: Global, meeting: &Meeting) {
     let pairs = meeting.pairs.len() as u64;
     let growth = Refusing::new(alloc, Rule::new(BLOCK + 1, usize::MAX, 0, 0));
     let heap = Refusing::new(&growth, Rule::new(BLOCK, BLOCK, 0, 1).paired(pairs, LOOKS));
-    let table: Numbers<&Memory<'_>> = LockFreeRawTable::new(&heap);
-    assert_told(rt, &table, alloc, 0, Told::Refused)?;
-    assert!(rt; table.current().is_some() && table.is_empty());
+    let table: Boxed<&Memory<'_>> = Boxed::new(&heap, alloc, meeting.lawful);
+    assert_told(rt, &table, 0, Told::Refused);
+    assert_entries(rt, &table, 0);
+    assert_size(rt, &table, 0, 16);
     growth.refuse(0, meeting.refused);
-    let mut tally = Tally::NONE;
-    for &pair in meeting.pairs {
-        tally = tally.and(offer(rt, &table, alloc, meeting.ways, pair)?);
-    }
-    assert_tally(
-        rt,
-        tally,
-        meeting.placed,
-        (2 * pairs).wrapping_sub(meeting.placed),
-    );
+    let told = offer_all(rt, &table, alloc, meeting.pairs);
+    let found = (2 * pairs).wrapping_sub(meeting.placed);
+    assert_tally(rt, told, meeting.placed, found);
     assert_counted(
         rt,
-        [
-            heap.went_alone(),
-            growth.refusals_left(),
-            capacity(&table) as u64,
-        ]
-        .as_slice(),
-        [0, 0, meeting.buckets as u64].as_slice(),
+        [heap.went_alone(), growth.refusals_left()].as_slice(),
+        [0, 0].as_slice(),
     );
-    assert_entries_by(
-        rt,
-        &table,
-        meeting.placed,
-        |number: u64| meeting.ways.hash(number),
-    );
-    Ok(())
+    assert_size(rt, &table, meeting.placed, meeting.buckets);
+    assert_entries(rt, &table, meeting.placed);
 }
 
 #[test]
-fn the_loser_at_the_last_bucket_is_placed(rt: HostRuntime) -> Result<(), Fail> {
+fn the_loser_at_the_last_bucket_is_placed(rt: HostRuntime) {
     for _again in 0..10u32 {
-        assert_meets(&rt, rt.alloc(), &AT_THE_LAST_BUCKET)?;
-        assert_meets(&rt, rt.alloc(), &AT_THE_END_OF_THE_WAY)?;
+        assert_meets(&rt, rt.alloc(), &AT_THE_LAST_BUCKET);
+        assert_meets(&rt, rt.alloc(), &AT_THE_END_OF_THE_WAY);
     }
-    Ok(())
 }
 
 #[test]
-fn growth_comes_after_what_a_loser_found(rt: HostRuntime) -> Result<(), Fail> {
+fn growth_comes_after_what_a_loser_found(rt: HostRuntime) {
     for _again in 0..10u32 {
-        assert_meets(&rt, rt.alloc(), &FOUND_BY_THE_LOSER)?;
+        assert_meets(&rt, rt.alloc(), &FOUND_BY_THE_LOSER);
     }
-    Ok(())
 }
 
-/// Fills the first generation of the empty table, whose growth is refused from the second number on.
-fn fill_first<R: Abort + Wait>(
+/// Memory that grants all for now, of which only what is more than the block of an entry is counted.
+fn memory_of_growth(alloc: Global) -> Refusing<Global> {
+    Refusing::new(alloc, Rule::new(BLOCK + 1, usize::MAX, 0, 0))
+}
+
+/// A table whose first generation is full, and whose growth is refused from the second number on.
+fn full<'m, R: Abort + Wait>(
     rt: &R,
-    table: &Numbers<&Refusing<Global>>,
+    heap: &'m Refusing<Global>,
     alloc: Global,
-    heap: &Refusing<Global>,
-) -> Result<(), AllocError> {
-    assert_told(rt, table, alloc, 0, Told::Placed)?;
+) -> Boxed<&'m Refusing<Global>> {
+    let table = Boxed::new(heap, alloc, Lawful::Spread);
+    assert_told(rt, &table, 0, Told::Placed);
     heap.refuse(0, u64::MAX);
-    for number in 1..16 {
-        assert_told(rt, table, alloc, number, Told::Placed)?;
-    }
-    Ok(())
-}
-
-/// So many entries, in a current generation of so many buckets.
-fn assert_size<R: Abort>(rt: &R, table: &Numbers<&Refusing<Global>>, entries: u64, buckets: u64) {
-    assert_counted(
-        rt,
-        [table.len() as u64, capacity(table) as u64].as_slice(),
-        [entries, buckets].as_slice(),
-    );
+    assert_tally(rt, fill(rt, &table, 1..16), 15, 0);
+    table
 }
 
 #[test]
-fn a_full_generation_grows_once_there_is_memory(rt: HostRuntime) -> Result<(), Fail> {
-    let heap = Refusing::new(rt.alloc(), Rule::new(BLOCK + 1, usize::MAX, 0, 0));
-    let table: Numbers<&Refusing<Global>> = LockFreeRawTable::new(&heap);
-    fill_first(&rt, &table, rt.alloc(), &heap)?;
-    assert_told(&rt, &table, rt.alloc(), 16, Told::Refused)?;
-    assert_told(&rt, &table, rt.alloc(), 4, Told::Found)?;
+fn a_full_generation_grows_once_there_is_memory(rt: HostRuntime) {
+    let heap = memory_of_growth(rt.alloc());
+    let table = full(&rt, &heap, rt.alloc());
+    assert_told(&rt, &table, 16, Told::Refused);
+    assert_told(&rt, &table, 4, Told::Found);
     assert_size(&rt, &table, 16, 16);
     heap.refuse(0, 0);
-    assert_told(&rt, &table, rt.alloc(), 4, Told::Found)?;
+    assert_told(&rt, &table, 4, Told::Found);
     assert_size(&rt, &table, 16, 32);
-    Ok(())
 }
 
 #[test]
-fn a_full_generation_grows_for_a_new_number(rt: HostRuntime) -> Result<(), Fail> {
-    let heap = Refusing::new(rt.alloc(), Rule::new(BLOCK + 1, usize::MAX, 0, 0));
-    let table: Numbers<&Refusing<Global>> = LockFreeRawTable::new(&heap);
-    fill_first(&rt, &table, rt.alloc(), &heap)?;
+fn a_full_generation_grows_for_a_new_number(rt: HostRuntime) {
+    let heap = memory_of_growth(rt.alloc());
+    let table = full(&rt, &heap, rt.alloc());
     heap.refuse(0, 0);
-    assert_told(&rt, &table, rt.alloc(), 16, Told::Placed)?;
+    assert_told(&rt, &table, 16, Told::Placed);
     assert_entries(&rt, &table, 17);
     assert_size(&rt, &table, 17, 64);
-    Ok(())
 }
 
-/// Once the other thread has begun, looks at the count and at a walk, and then inserts. Whether no look counted what no
-/// later walk showed.
-fn looks_and_inserts<R: Wait, A: table_cell::Low + Copy>(
-    rt: &R,
-    table: &Numbers<A>,
-    begun: &AtomicU64,
-    value: Box<u64>,
-) -> bool {
-    for _look in 0..LOOKS {
-        if begun.load(Ordering::SeqCst) == 1 {
-            break;
+/// Two threads, of which one waits for the memory of its entry while the other one looks.
+#[derive(Drop)]
+struct Looked<'m> {
+    table: Boxed<&'m Refusing<Global>>,
+    begun: AtomicU64,
+}
+
+impl<'m> Looked<'m> {
+    /// How often a look counted what no later walk showed.
+    fn look(&self) -> u64 {
+        let mut miscounts = 0u64;
+        for _look in 0..QUIET_LOOKS {
+            let [counted, shown, _] = self.table.size();
+            miscounts = miscounts.wrapping_add(u64::from(shown < counted));
         }
+        miscounts
     }
-    let mut well = true;
-    for _look in 0..QUIET_LOOKS {
-        let counted = table.len();
-        well = well && counted <= table.iter().count();
-    }
-    insert(rt, table, value) == Told::Placed && well
 }
 
-/// One thread waits for the memory of its entry while another one looks.
+impl<'m> Work for Looked<'m> {
+    fn work<R: Wait>(&self, rt: &R, thread: u64) -> Tally {
+        let mut tally = Tally::NONE;
+        if thread == 0 {
+            self.begun.store(1, Ordering::SeqCst);
+        } else {
+            look_for(&self.begun);
+            tally.other = self.look();
+        }
+        tally.with(self.table.insert(rt, thread))
+    }
+}
+
 #[test]
-fn an_entry_is_counted_once_it_is_there(rt: HostRuntime) -> Result<(), Fail> {
+fn an_entry_is_counted_once_it_is_there(rt: HostRuntime) {
     let heap = Refusing::new(rt.alloc(), Rule::new(BLOCK, BLOCK, 0, 1).paired(1, LOOKS));
-    let table: Numbers<&Refusing<Global>> = LockFreeRawTable::new(&heap);
-    assert_told(&rt, &table, rt.alloc(), 7, Told::Refused)?;
-    let begun = AtomicU64::new(0);
-    let (first, second) = (Box::new(rt.alloc(), 0u64)?, Box::new(rt.alloc(), 1u64)?);
-    let (told, well) = thread::join(
-        &rt,
-        || {
-            begun.store(1, Ordering::SeqCst);
-            insert(&rt, &table, first)
-        },
-        || looks_and_inserts(&rt, &table, &begun, second),
-    );
-    assert_eq!(rt; (told, well, heap.went_alone()), (Told::Placed, true, 0));
-    assert_entries(&rt, &table, 2);
-    Ok(())
+    let looked = Looked {
+        table: Boxed::new(&heap, rt.alloc(), Lawful::Spread),
+        begun: AtomicU64::new(0),
+    };
+    assert_told(&rt, &looked.table, 7, Told::Refused);
+    assert_tally(&rt, at_once(&rt, rt.alloc(), 2, &looked), 2, 0);
+    assert_counted(&rt, [heap.went_alone()].as_slice(), [0].as_slice());
+    assert_entries(&rt, &looked.table, 2);
 }
 
-/// A table into which two threads insert the same numbers, and what is seen meanwhile.
+/// A table into which two threads insert the same numbers while a third one watches, and what is seen meanwhile.
 #[derive(Drop)]
 struct Watched {
-    table: Numbers<Global>,
+    table: Boxed<Global>,
     /// How often the count wasn't that of the entries, under a lock held alone.
     miscounts: AtomicU64,
     /// How many threads have inserted all that they have.
     done: AtomicU64,
+    alloc: Global,
+}
+
+/// While a growth copies, the count of the table has to be that of its entries.
+impl Asked for Watched {
+    fn agrees(&self, new: u64, entry: u64) -> bool {
+        new == entry
+    }
+
+    fn hash(&self, number: u64) -> u64 {
+        if self.table.table.len() as u64 != walk_length(&self.table.table) {
+            self.miscounts.fetch_add(1, Ordering::SeqCst);
+        }
+        hash_number(number)
+    }
 }
 
 impl Watched {
-    /// Inserts the number; while a growth copies, the count of the table has to be that of its entries.
-    fn insert<R: Wait>(&self, rt: &R, value: Box<u64>) {
-        let _told = self.table.insert(
-            rt,
-            hash_number(*value),
-            value,
-            |a: &u64, b: &u64| *a == *b,
-            |entry: &u64| {
-                if self.table.len() != self.table.iter().count() {
-                    let _before = self.miscounts.fetch_add(1, Ordering::SeqCst);
-                }
-                hash_number(*entry)
-            },
-        );
+    /// Inserts the number.
+    fn insert<R: Wait>(&self, rt: &R, number: u64) -> Told {
+        match Box::new(self.alloc, number) {
+            Ok(value) => insert_at(rt, &self.table.table, hash_number(number), value, self),
+            Err(_) => Told::Wrong,
+        }
     }
 
     /// Inserts every number from 1 on, and then says that it is done.
-    fn fill<R: Wait>(&self, rt: &R, alloc: Global) {
+    fn fill<R: Wait>(&self, rt: &R) -> Tally {
+        let mut tally = Tally::NONE;
         for number in 1..NUMBERS {
-            if let Ok(value) = Box::new(alloc, number) {
-                self.insert(rt, value);
-            }
+            tally = tally.with(self.insert(rt, number));
         }
-        let _before = self.done.fetch_add(1, Ordering::SeqCst);
-    }
-
-    /// Two threads insert the numbers.
-    fn fill_by_two<R: Threads + Wait + Sync>(&self, rt: &R, alloc: Global) {
-        let ((), ()) = thread::join(rt, || self.fill(rt, alloc), || self.fill(rt, alloc));
+        self.done.fetch_add(1, Ordering::SeqCst);
+        tally
     }
 
     /// Looks until both are done: how often the count was above that of a later walk, or the number 0 was missed.
     fn watch(&self) -> u64 {
         let mut missed = 0u64;
         for _look in 0..LOOKS {
-            let counted = self.table.len();
-            if self.table.iter().count() < counted || !contains(&self.table, 0) {
+            let [counted, shown, _] = self.table.size();
+            if shown < counted || !self.table.contains(0) {
                 missed = missed.wrapping_add(1);
             }
             if self.done.load(Ordering::SeqCst) == 2 {
@@ -328,27 +289,40 @@ impl Watched {
     }
 }
 
+impl Work for Watched {
+    fn work<R: Wait>(&self, rt: &R, thread: u64) -> Tally {
+        if thread != 0 {
+            return self.fill(rt);
+        }
+        Tally {
+            other: self.watch(),
+            ..Tally::NONE
+        }
+    }
+}
+
 /// Two threads insert the same numbers through several growths, and a third one watches.
-fn assert_counts<R: Abort + Threads + Wait + Sync>(
-    rt: &R,
-    alloc: Global,
-) -> Result<(), AllocError> {
+fn assert_counts<R: Abort + Threads + Wait + Sync>(rt: &R, alloc: Global) {
     let watched = Watched {
-        table: LockFreeRawTable::new(alloc),
+        table: Boxed::new(alloc, alloc, Lawful::Spread),
         miscounts: AtomicU64::new(0),
         done: AtomicU64::new(0),
+        alloc,
     };
-    assert_told(rt, &watched.table, alloc, 0, Told::Placed)?;
-    let (missed, ()) = thread::join(rt, || watched.watch(), || watched.fill_by_two(rt, alloc));
-    assert_eq!(rt; (missed, watched.miscounts.load(Ordering::SeqCst)), (0, 0));
+    assert_told(rt, &watched.table, 0, Told::Placed);
+    let new = NUMBERS - 1;
+    assert_tally(rt, at_once(rt, alloc, 3, &watched), new, new);
+    assert_counted(
+        rt,
+        [watched.miscounts.load(Ordering::SeqCst)].as_slice(),
+        [0].as_slice(),
+    );
     assert_entries(rt, &watched.table, NUMBERS);
-    Ok(())
 }
 
 #[test]
-fn the_count_is_that_of_the_entries_while_a_growth_copies(rt: HostRuntime) -> Result<(), Fail> {
+fn the_count_is_that_of_the_entries_while_a_growth_copies(rt: HostRuntime) {
     for _round in 0..ROUNDS {
-        assert_counts(&rt, rt.alloc())?;
+        assert_counts(&rt, rt.alloc());
     }
-    Ok(())
 }

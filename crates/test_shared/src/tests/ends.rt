@@ -1,14 +1,15 @@
 //! Each value is dropped once: those that came back, those that are taken out at the end, and the rest.
-use super::countings::{Countings, Filling, fill, opened, paired};
-use super::numbers::{Tally, assert_counted, assert_tally, sum};
+use super::countings::{Counted, opened, paired};
+use super::numbers::{assert_counted, assert_tally};
 use lock_free_hashtable::raw::LockFreeRawTable;
 use std::alloc::{AllocError, Global};
 use std::process::Abort;
 use std::sync::Wait;
 use std::test::Fail;
-use std::thread;
 use std::thread::Threads;
 use testkit_counting::Drops;
+use testkit_counting::asked::{Asked, Lawful};
+use testkit_counting::tally::{Tally, Work, at_once};
 use testkit_refusing::{Refusing, Rule};
 
 /// How many classes two threads insert at once, each losing its exchange or winning it.
@@ -20,17 +21,50 @@ const CLASSES: u64 = 3000;
 /// How many values are taken out before the rest is dropped.
 const TAKEN: [u64; 5] = [0, 1, 2, 1500, 3000];
 
-/// So many values of the table are taken out, and the rest is dropped; those go last. `gone` values came back before.
+/// Threads that insert each its own number of these classes, from one on up to another.
+#[derive(Drop)]
+struct Filling<'a, 'm> {
+    counted: &'a Counted<'m>,
+    from: u64,
+    to: u64,
+}
+
+impl<'a, 'm> Work for Filling<'a, 'm> {
+    fn work<R: Wait>(&self, rt: &R, thread: u64) -> Tally {
+        let mut tally = Tally::NONE;
+        for class in self.from..self.to {
+            let number = class.wrapping_mul(4).wrapping_add(thread);
+            let hash = Lawful::InFours.hash(number);
+            tally = tally.with(self.counted.insert(rt, hash, number));
+        }
+        tally
+    }
+}
+
+/// So many threads insert their numbers of the classes: what they are told.
+fn fill_at_once<R: Threads + Wait + Sync>(
+    rt: &R,
+    alloc: Global,
+    counted: &Counted<'_>,
+    from: u64,
+    to: u64,
+    threads: usize,
+) -> Tally {
+    at_once(rt, alloc, threads, &Filling { counted, from, to })
+}
+
+/// So many values of a table that has one of each class are taken out, and the rest is dropped; those go last. `gone` values
+/// came back before. In the end the memory has each block back.
 fn assert_ends(
     rt: &impl Abort,
-    table: Countings<'_>,
     alloc: Global,
-    drops: &Drops,
+    heap: &Refusing<Global>,
+    counted: Counted<'_>,
     taken: u64,
     gone: u64,
 ) -> Result<(), AllocError> {
-    let entries = table.len() as u64;
-    let before = drops.dropped(1);
+    let Counted { table, drops } = counted;
+    let (entries, before) = (table.len() as u64, drops.dropped(1));
     let mut rest = table.into_iter();
     let length = rest.len() as u64;
     let mut kept = Vec::new(alloc);
@@ -39,34 +73,29 @@ fn assert_ends(
             kept.push(value)?;
         }
     }
-    let (count, with_all) = (kept.len() as u64, drops.dropped(1));
-    drop(rest);
-    let with_kept = drops.dropped(1);
-    drop(kept);
-    let all = gone.wrapping_add(entries);
+    let count = kept.len() as u64;
+    let [(_, with_all), (_, with_kept), (_, at_end)] = drops.as_dropped(rest, kept);
+    let all = gone.wrapping_add(CLASSES);
     assert_counted(
         rt,
-        [length, count, before, with_all, with_kept, drops.dropped(1)].as_slice(),
-        [entries, taken, gone, gone, all.wrapping_sub(taken), all].as_slice(),
+        [entries, length, count, before, with_all, with_kept, at_end].as_slice(),
+        [
+            CLASSES,
+            CLASSES,
+            taken,
+            gone,
+            gone,
+            all.wrapping_sub(taken),
+            all,
+        ]
+        .as_slice(),
+    );
+    assert_counted(
+        rt,
+        [heap.given_back()].as_slice(),
+        [heap.granted()].as_slice(),
     );
     Ok(())
-}
-
-/// So many threads insert all classes.
-fn fill_at_once<R: Threads + Wait + Sync>(
-    rt: &R,
-    alloc: Global,
-    filling: &Filling<'_, '_>,
-    classes: u64,
-    threads: usize,
-) -> Result<Tally, AllocError> {
-    let told = thread::map_indices(
-        rt,
-        alloc,
-        threads,
-        &|thread: usize| fill(rt, filling, 0..classes, thread as u64),
-    )?;
-    sum(told.as_slice())
 }
 
 /// Four threads insert equal values over growth.
@@ -76,22 +105,13 @@ fn assert_grown<R: Abort + Threads + Wait + Sync>(
     taken: u64,
 ) -> Result<(), AllocError> {
     let heap = Refusing::new(alloc, Rule::new(0, 0, 0, 0));
-    let drops = Drops::new(alloc, 4 * CLASSES)?;
-    let table: Countings<'_> = LockFreeRawTable::new(&heap);
-    let filling = Filling {
-        table: &table,
-        drops: &drops,
+    let counted = Counted {
+        table: LockFreeRawTable::new(&heap),
+        drops: Drops::new(alloc, 4 * CLASSES)?,
     };
-    let told = fill_at_once(rt, alloc, &filling, CLASSES, 4)?;
-    let found = 3 * CLASSES;
-    assert_tally(rt, told, CLASSES, found);
-    assert_ends(rt, table, alloc, &drops, taken, found)?;
-    assert_counted(
-        rt,
-        [drops.dropped(1), heap.given_back()].as_slice(),
-        [4 * CLASSES, heap.granted()].as_slice(),
-    );
-    Ok(())
+    let told = fill_at_once(rt, alloc, &counted, 0, CLASSES, 4);
+    assert_tally(rt, told, CLASSES, 3 * CLASSES);
+    assert_ends(rt, alloc, &heap, counted, taken, 3 * CLASSES)
 }
 
 /// Two threads insert equal values, and each exchange of the one meets one of the other; then one thread goes on, over
@@ -102,36 +122,24 @@ fn assert_lost<R: Abort + Threads + Wait + Sync>(
     taken: u64,
 ) -> Result<(), AllocError> {
     let heap = paired(alloc, LOST);
-    let drops = Drops::new(alloc, 4 * CLASSES)?;
-    let table = opened(rt, &heap, &drops, 3)?;
+    let counted = opened(rt, &heap, Drops::new(alloc, 4 * CLASSES)?, 3);
     let before = heap.granted();
-    let filling = Filling {
-        table: &table,
-        drops: &drops,
-    };
-    let told = fill_at_once(rt, alloc, &filling, LOST, 2)?;
+    let told = fill_at_once(rt, alloc, &counted, 0, LOST, 2);
     assert_tally(rt, told, LOST, LOST);
-    let asked = heap.granted().wrapping_sub(before);
     assert_counted(
         rt,
         [
             heap.went_alone(),
-            asked,
+            heap.granted().wrapping_sub(before),
             heap.given_back(),
-            table.len() as u64,
+            counted.table.len() as u64,
         ]
         .as_slice(),
         [0, 2 * LOST, LOST, LOST].as_slice(),
     );
-    let told = fill(rt, &filling, LOST..CLASSES, 0)?;
+    let told = fill_at_once(rt, alloc, &counted, LOST, CLASSES, 1);
     assert_tally(rt, told, CLASSES - LOST, 0);
-    assert_ends(rt, table, alloc, &drops, taken, LOST + 1)?;
-    assert_counted(
-        rt,
-        [drops.dropped(1), heap.given_back()].as_slice(),
-        [CLASSES + LOST + 1, heap.granted()].as_slice(),
-    );
-    Ok(())
+    assert_ends(rt, alloc, &heap, counted, taken, LOST + 1)
 }
 
 #[test]

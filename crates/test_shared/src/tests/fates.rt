@@ -1,5 +1,6 @@
 //! The account of a round sees what is wrong.
 use std::alloc::Global;
+use std::process::Abort;
 use testkit_rounds::Fault;
 use testkit_rounds::fates::{Fate, Fates};
 
@@ -22,10 +23,15 @@ fn account(alloc: Global, back: &[u64], entries: &[u64]) -> Result<(), Fault> {
     fates.check_settled()
 }
 
+/// An account tells this.
+fn assert_told(rt: &impl Abort, told: Result<(), Fault>, expected: Result<(), Fault>) {
+    assert_eq!(rt; told, expected);
+}
+
 #[test]
 fn each_value_is_accounted_for(rt: HostRuntime) {
     for (back, entries, expected) in ACCOUNTS {
-        assert_eq!(rt; account(rt.alloc(), back, entries), expected);
+        assert_told(&rt, account(rt.alloc(), back, entries), expected);
     }
 }
 
@@ -48,6 +54,6 @@ fn compare(alloc: Global, walked: &[u64], handed: &[u64]) -> Result<(), Fault> {
 #[test]
 fn a_walk_is_what_is_handed_out(rt: HostRuntime) {
     for (walked, handed, expected) in WALKS {
-        assert_eq!(rt; compare(rt.alloc(), walked, handed), expected);
+        assert_told(&rt, compare(rt.alloc(), walked, handed), expected);
     }
 }

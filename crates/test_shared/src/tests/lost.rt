@@ -1,14 +1,14 @@
 //! Exchanges that are lost for sure: two threads ask for the block of an entry, each for the same empty bucket, and neither is
 //! answered before the other has asked.
-use super::countings::{Countings, insert, opened, paired};
-use super::numbers::{Tally, assert_counted, assert_tally};
+use super::countings::{Counted, opened, paired};
+use super::numbers::{assert_counted, assert_tally, walk_length};
 use std::alloc::{AllocError, Global};
 use std::process::Abort;
 use std::sync::Wait;
 use std::test::Fail;
-use std::thread;
 use std::thread::Threads;
-use testkit_counting::{Counting, Drops};
+use testkit_counting::Drops;
+use testkit_counting::tally::{Tally, Work, at_once};
 
 /// The hash of the first of two values, whose number is 0.
 const HASH: u64 = 5;
@@ -25,20 +25,22 @@ const MEETINGS: [(u64, u64, u64, u64); 5] = [
     (1, HASH + (1 << 32), 2, 3),
 ];
 
-/// Two values are offered at once, each under its hash: what the two inserts are told.
-fn offer<R: Threads + Wait + Sync>(
-    rt: &R,
-    table: &Countings<'_>,
-    first: Box<Counting>,
+/// Two values that are offered at once: the number 0, and one of this number and hash.
+#[derive(Drop)]
+struct Offer<'a, 'm> {
+    counted: &'a Counted<'m>,
+    number: u64,
     hash: u64,
-    second: Box<Counting>,
-) -> Tally {
-    let (first, second) = thread::join(
-        rt,
-        || insert(rt, table, HASH, first),
-        || insert(rt, table, hash, second),
-    );
-    Tally::NONE.with(first).with(second)
+}
+
+impl<'a, 'm> Work for Offer<'a, 'm> {
+    fn work<R: Wait>(&self, rt: &R, thread: u64) -> Tally {
+        Tally::NONE.with(if thread == 0 {
+            self.counted.insert(rt, HASH, 0)
+        } else {
+            self.counted.insert(rt, self.hash, self.number)
+        })
+    }
 }
 
 /// The number 0 and another one are offered to one empty bucket.
@@ -48,30 +50,29 @@ fn assert_met<R: Abort + Threads + Wait + Sync>(
     meeting: (u64, u64, u64, u64),
 ) -> Result<(), AllocError> {
     let (number, hash, placed, blocks) = meeting;
-    let drops = Drops::new(alloc, 8)?;
     let heap = paired(alloc, 1);
-    let table = opened(rt, &heap, &drops, 7)?;
+    let counted = opened(rt, &heap, Drops::new(alloc, 8)?, 7);
     let before = heap.granted();
-    let tally = offer(
-        rt,
-        &table,
-        drops.counting(0)?,
+    let offer = Offer {
+        counted: &counted,
+        number,
         hash,
-        drops.counting(number)?,
-    );
+    };
     let found = 2u64.wrapping_sub(placed);
-    assert_tally(rt, tally, placed, found);
-    let asked = heap.granted().wrapping_sub(before);
-    let shown = table.iter().count() as u64;
+    assert_tally(rt, at_once(rt, alloc, 2, &offer), placed, found);
+    let Counted { table, drops } = counted;
     assert_counted(
         rt,
-        [heap.went_alone(), asked, heap.given_back()].as_slice(),
-        [0, blocks, 1].as_slice(),
-    );
-    assert_counted(
-        rt,
-        [table.len() as u64, shown, drops.dropped(1)].as_slice(),
-        [placed, placed, found.wrapping_add(1)].as_slice(),
+        [
+            heap.went_alone(),
+            heap.granted().wrapping_sub(before),
+            heap.given_back(),
+            table.len() as u64,
+            walk_length(&table),
+            drops.dropped(1),
+        ]
+        .as_slice(),
+        [0, blocks, 1, placed, placed, found.wrapping_add(1)].as_slice(),
     );
     drop(table);
     assert_counted(

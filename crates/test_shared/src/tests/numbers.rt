@@ -1,78 +1,200 @@
-//! Numbers in a shared table, each equal to itself alone.
+//! Values in tables that threads share, told apart by their numbers.
+use lock_free_hashtable::raw::{LockFreeRawTable, Low};
+use lock_free_hashtable::{AtomicValue, InPlace};
 use std::alloc::{AllocError, Allocator, Global};
+use std::num::NonZeroU32;
 use std::process::Abort;
-use std::sync::Wait;
-use table_cell::Low;
-use table_generations::atomic_value::AtomicValue;
-use table_shared::LockFreeRawTable;
-use table_terms::law::hash_number;
-pub(crate) use testkit_counting::numbers::Told;
-use testkit_counting::numbers::{same, told_of};
+use std::sync::{Arc, Wait};
+use testkit_counting::asked::{Asked, Lawful, Numbered};
+pub(crate) use testkit_counting::numbers::{Numbers, Told};
+use testkit_counting::numbers::{seen, those_below};
+use testkit_counting::tally::Tally;
 
-/// A shared table of boxed numbers.
-pub(crate) type Numbers<A> = LockFreeRawTable<Box<u64>, A>;
-
-/// How many inserts were told what.
-#[derive(Clone, Copy)]
-pub(crate) struct Tally {
-    pub placed: u64,
-    pub found: u64,
-    pub other: u64,
-}
-
-impl Tally {
-    pub(crate) const NONE: Tally = Tally {
-        placed: 0,
-        found: 0,
-        other: 0,
-    };
-
-    /// With one insert more.
-    pub(crate) fn with(self, told: Told) -> Tally {
-        let Tally {
-            placed,
-            found,
-            other,
-        } = self;
-        match told {
-            Told::Placed => Tally {
-                placed: placed.wrapping_add(1),
-                found,
-                other,
-            },
-            Told::Found => Tally {
-                placed,
-                found: found.wrapping_add(1),
-                other,
-            },
-            Told::Refused | Told::Wrong => Tally {
-                placed,
-                found,
-                other: other.wrapping_add(1),
-            },
-        }
-    }
-
-    /// With those of another thread.
-    pub(crate) fn and(self, more: Tally) -> Tally {
-        Tally {
-            placed: self.placed.wrapping_add(more.placed),
-            found: self.found.wrapping_add(more.found),
-            other: self.other.wrapping_add(more.other),
-        }
+/// What an insert of the value under this hash is told, and the target that it shows.
+pub(crate) fn insert_and_show<'a, R: Wait, T: AtomicValue, A: Low + Copy, L: Asked>(
+    rt: &R,
+    table: &'a LockFreeRawTable<T, A>,
+    hash: u64,
+    value: T,
+    asked: &L,
+) -> (Told, Option<&'a T::Target>)
+where
+    T::Target: Numbered,
+{
+    let target = value.deref();
+    let number = target.number();
+    match table.insert(
+        rt,
+        hash,
+        value,
+        |new: &T::Target, entry: &T::Target| asked.agrees(new.number(), entry.number()),
+        |entry: &T::Target| asked.hash(entry.number()),
+    ) {
+        Ok((shown, None)) if shown.number() == number => (Told::Placed, Some(shown)),
+        Ok((shown, Some(back)))
+            if asked.agrees(number, shown.number()) && back.deref().number() == number => (
+            Told::Found,
+            Some(shown),
+        ),
+        Err(back) if back.deref().number() == number => (Told::Refused, None),
+        _ => (Told::Wrong, None),
     }
 }
 
-/// What all of these threads are told.
-pub(crate) fn sum(tallies: &[Result<Tally, AllocError>]) -> Result<Tally, AllocError> {
-    let mut sum = Tally::NONE;
-    for tally in tallies {
-        match tally {
-            Ok(tally) => sum = sum.and(*tally),
-            Err(_) => return Err(AllocError),
+/// What an insert of the value under this hash is told.
+pub(crate) fn insert_at<R: Wait, T: AtomicValue, A: Low + Copy, L: Asked>(
+    rt: &R,
+    table: &LockFreeRawTable<T, A>,
+    hash: u64,
+    value: T,
+    asked: &L,
+) -> Told
+where
+    T::Target: Numbered,
+{
+    let (told, _shown) = insert_and_show(rt, table, hash, value, asked);
+    told
+}
+
+/// The target of this number that a look-up under this hash shows.
+pub(crate) fn shown<T: AtomicValue, A: Allocator + Copy>(
+    table: &LockFreeRawTable<T, A>,
+    hash: u64,
+    number: u64,
+) -> Option<&T::Target>
+where
+    T::Target: Numbered,
+{
+    table.lookup(hash, |entry: &T::Target| entry.number() == number)
+}
+
+/// Values that are made of a number.
+pub(crate) trait Made: AtomicValue {
+    /// The value of this number; None where there is no memory for it, or no such value.
+    fn made(alloc: Global, number: u64) -> Option<Self>;
+}
+
+impl Made for Box<u64> {
+    fn made(alloc: Global, number: u64) -> Option<Self> {
+        Box::new(alloc, number).ok()
+    }
+}
+
+impl Made for Arc<u16> {
+    fn made(alloc: Global, number: u64) -> Option<Self> {
+        Arc::new(alloc, u16::try_from(number).ok()?).ok()
+    }
+}
+
+impl Made for NonZeroU32 {
+    fn made(_alloc: Global, number: u64) -> Option<Self> {
+        NonZeroU32::new(u32::try_from(number.wrapping_add(1)).ok()?)
+    }
+}
+
+impl Made for InPlace<u64> {
+    fn made(_alloc: Global, number: u64) -> Option<Self> {
+        Some(InPlace(number))
+    }
+}
+
+/// A shared table of values that are made of numbers.
+#[derive(Drop)]
+pub(crate) struct Shared<T: AtomicValue, A: Allocator + Copy = Global> {
+    pub table: LockFreeRawTable<T, A>,
+    lawful: Lawful,
+    alloc: Global,
+}
+
+/// A shared table of numbers in boxes.
+pub(crate) type Boxed<A> = Shared<Box<u64>, A>;
+
+impl<T: AtomicValue, A: Allocator + Copy> Shared<T, A> {
+    /// The table without entries, of this memory.
+    pub(crate) fn new(memory: A, alloc: Global, lawful: Lawful) -> Self {
+        Shared::of(LockFreeRawTable::new(memory), alloc, lawful)
+    }
+
+    /// This table.
+    pub(crate) fn of(table: LockFreeRawTable<T, A>, alloc: Global, lawful: Lawful) -> Self {
+        Shared {
+            table,
+            lawful,
+            alloc,
         }
     }
-    Ok(sum)
+
+    /// How many entries are counted, how many a walk shows, and the buckets of the current generation.
+    pub(crate) fn size(&self) -> [u64; 3] {
+        let buckets = match self.table.current() {
+            Some(current) => current.generation.capacity(),
+            None => 0,
+        };
+        [
+            self.table.len() as u64,
+            walk_length(&self.table),
+            buckets as u64,
+        ]
+    }
+}
+
+/// How many entries a walk shows.
+pub(crate) fn walk_length<T: AtomicValue, A: Allocator + Copy>(
+    table: &LockFreeRawTable<T, A>,
+) -> u64 {
+    table.iter().count() as u64
+}
+
+impl<T: Made, A: Low + Copy> Numbers for Shared<T, A>
+where
+    T::Target: Numbered,
+{
+    fn insert<R: Wait>(&self, rt: &R, number: u64) -> Told {
+        match T::made(self.alloc, number) {
+            Some(value) => insert_at(
+                rt,
+                &self.table,
+                self.lawful.hash(number),
+                value,
+                &self.lawful,
+            ),
+            None => Told::Wrong,
+        }
+    }
+
+    fn contains(&self, number: u64) -> bool {
+        match shown(&self.table, self.lawful.hash(number), number) {
+            Some(found) => found.number() == number,
+            None => false,
+        }
+    }
+
+    fn length(&self) -> (u64, bool) {
+        (self.table.len() as u64, self.table.is_empty())
+    }
+
+    fn walked(&self) -> Result<Vec<u64>, AllocError> {
+        let mut numbers = Vec::new(self.alloc);
+        for entry in self.table.iter() {
+            numbers.push(entry.number())?;
+        }
+        Ok(numbers)
+    }
+}
+
+/// The numbers of the values that the table hands out.
+pub(crate) fn handed<T: AtomicValue, A: Allocator + Copy>(
+    table: LockFreeRawTable<T, A>,
+    alloc: Global,
+) -> Result<Vec<u64>, AllocError>
+where
+    T::Target: Numbered,
+{
+    let mut numbers = Vec::new(alloc);
+    for value in table {
+        numbers.push(value.deref().number())?;
+    }
+    Ok(numbers)
 }
 
 /// These counts are seen.
@@ -82,139 +204,19 @@ pub(crate) fn assert_counted<R: Abort>(rt: &R, seen: &[u64], expected: &[u64]) {
 
 /// So many inserts were told Placed, so many Found, and none anything else.
 pub(crate) fn assert_tally<R: Abort>(rt: &R, told: Tally, placed: u64, found: u64) {
-    assert_counted(
-        rt,
-        [told.placed, told.found, told.other].as_slice(),
-        [placed, found, 0].as_slice(),
-    );
-}
-
-/// What an insert of the number is told, for which there is memory.
-pub(crate) fn insert_number<R: Wait, A: Low + Copy>(
-    rt: &R,
-    table: &Numbers<A>,
-    alloc: Global,
-    number: u64,
-) -> Result<Told, AllocError> {
-    Ok(insert(rt, table, Box::new(alloc, number)?))
-}
-
-/// Inserts the number, which is told so.
-pub(crate) fn assert_told<R: Abort + Wait, A: Low + Copy>(
-    rt: &R,
-    table: &Numbers<A>,
-    alloc: Global,
-    number: u64,
-    told: Told,
-) -> Result<(), AllocError> {
-    assert_eq!(rt; insert_number(rt, table, alloc, number)?, told, "{number}");
-    Ok(())
-}
-
-/// What an insert of the value is told.
-pub(crate) fn insert<R: Wait, A: Low + Copy>(rt: &R, table: &Numbers<A>, value: Box<u64>) -> Told {
-    insert_by(rt, table, value, hash_number)
-}
-
-/// What an insert of the value is told, where these are the hashes of the numbers.
-pub(crate) fn insert_by<R: Wait, A: Low + Copy, H: Fn(u64) -> u64>(
-    rt: &R,
-    table: &Numbers<A>,
-    value: Box<u64>,
-    hash_of: H,
-) -> Told
-    requires { H.IsAlwaysCallable hash_of }
-{
-    let number = *value;
-    let told = table.insert(rt, hash_of(number), value, same, |a: &u64| hash_of(*a));
-    told_of(told, number)
-}
-
-/// Whether a look-up finds the number.
-pub(crate) fn contains<A: Allocator + Copy>(table: &Numbers<A>, number: u64) -> bool {
-    contains_at(table, number, hash_number(number))
-}
-
-/// Whether a look-up under this hash finds the number.
-fn contains_at<A: Allocator + Copy>(table: &Numbers<A>, number: u64, hash: u64) -> bool {
-    match table.lookup(hash, |a: &u64| *a == number) {
-        Some(found) => *found == number,
-        None => false,
-    }
+    assert_counted(rt, told.counts().as_slice(), [placed, found, 0].as_slice());
 }
 
 /// Asserts that the entries are the numbers below `count`, each once.
-pub(crate) fn assert_entries<R: Abort, A: Allocator + Copy>(
-    rt: &R,
-    table: &Numbers<A>,
-    count: u64,
-) {
-    assert_entries_by(rt, table, count, hash_number);
-}
-
-/// Asserts that the entries are the numbers below `count`, each once, where these are the hashes of the numbers.
-pub(crate) fn assert_entries_by<R: Abort, A: Allocator + Copy, H: Fn(u64) -> u64>(
-    rt: &R,
-    table: &Numbers<A>,
-    count: u64,
-    hash_of: H,
-)
-    requires { H.IsAlwaysCallable hash_of }
-{
+pub(crate) fn assert_entries<R: Abort, T: Numbers>(rt: &R, table: &T, count: u64) {
     assert_counted(
         rt,
-        entries_seen(table, count, &hash_of).as_slice(),
-        [count, count, count, count, sum_below(count)].as_slice(),
+        seen(table, count).as_slice(),
+        those_below(count).as_slice(),
     );
 }
 
-/// Whether the entries are the numbers below `count`, each once.
-pub(crate) fn has_below<A: Allocator + Copy>(table: &Numbers<A>, count: u64) -> bool {
-    let seen = entries_seen(table, count, &hash_number);
-    seen == [count, count, count, count, sum_below(count)]
-}
-
-/// The first number that no look-up finds, the table's length, and of the numbers that a walk shows how many there are, how
-/// many of them are below `count`, and their sum.
-fn entries_seen<A: Allocator + Copy, H: Fn(u64) -> u64>(
-    table: &Numbers<A>,
-    count: u64,
-    hash_of: &H,
-) -> [u64; 5]
-    requires { H.IsAlwaysCallable hash_of.now }
-{
-    let missed = first_missed(table, count, hash_of);
-    let (mut shown, mut below, mut sum) = (0u64, 0u64, 0u64);
-    for number in table.iter() {
-        shown = shown.wrapping_add(1);
-        below = below.wrapping_add(u64::from(*number < count));
-        sum = sum.wrapping_add(*number);
-    }
-    [missed, table.len() as u64, shown, below, sum]
-}
-
-/// The first number that no look-up finds, of those up to `count`.
-fn first_missed<A: Allocator + Copy, H: Fn(u64) -> u64>(
-    table: &Numbers<A>,
-    count: u64,
-    hash_of: &H,
-) -> u64
-    requires { H.IsAlwaysCallable hash_of.now }
-{
-    let beyond = count.wrapping_add(1);
-    for number in 0..beyond {
-        if !contains_at(table, number, hash_of(number)) {
-            return number;
-        }
-    }
-    beyond
-}
-
-/// The sum of the numbers below `count`.
-fn sum_below(count: u64) -> u64 {
-    let mut sum = 0u64;
-    for number in 0..count {
-        sum = sum.wrapping_add(number);
-    }
-    sum
+/// Inserts the number, which is told so.
+pub(crate) fn assert_told<R: Abort + Wait, T: Numbers>(rt: &R, table: &T, number: u64, told: Told) {
+    assert_eq!(rt; table.insert(rt, number), told, "{number}");
 }

@@ -1,10 +1,9 @@
 //! Each request for memory refused in turn.
-use super::numbers::{Numbers, has_below, insert_number};
-use std::alloc::{AllocError, Global};
+use super::numbers::Boxed;
+use std::alloc::Global;
 use std::sync::Wait;
-use std::test::Fail;
-use table_shared::LockFreeRawTable;
-use testkit_counting::numbers::{counted_in_turn, refused_inserts};
+use testkit_counting::asked::Lawful;
+use testkit_counting::numbers::refused_inserts;
 use testkit_refusing::{Refusing, Rule};
 
 /// How many numbers are inserted: a growth from 16 buckets to 32 lies among them.
@@ -16,19 +15,22 @@ const NUMBERS: u64 = 17;
 const TOLD: u64 = NUMBERS + 6;
 
 /// How many of the inserts were refused, where one request after `passing` many is refused.
-fn refused<R: Wait>(rt: &R, alloc: Global, passing: u64) -> Result<Option<u64>, AllocError> {
+fn refused<R: Wait>(rt: &R, alloc: Global, passing: u64) -> Option<u64> {
     let memory = Refusing::new(alloc, Rule::new(0, usize::MAX, passing, 1));
-    let table: Numbers<&Refusing<Global>> = LockFreeRawTable::new(&memory);
-    refused_inserts(
-        NUMBERS,
-        |number: u64| insert_number(rt, &table, alloc, number),
-        |count: u64| Ok(has_below(&table, count)),
-    )
+    let table: Boxed<&Refusing<Global>> = Boxed::new(&memory, alloc, Lawful::Spread);
+    refused_inserts(rt, &table, NUMBERS)
+}
+
+/// How many inserts of forty runs were refused, of which each lets one request more pass than the one before.
+fn refused_in_turn<R: Wait>(rt: &R, alloc: Global) -> Option<u64> {
+    let mut sum = 0u64;
+    for passing in 0..40 {
+        sum = sum.wrapping_add(refused(rt, alloc, passing)?);
+    }
+    Some(sum)
 }
 
 #[test]
-fn each_request_refused_in_turn(rt: HostRuntime) -> Result<(), Fail> {
-    let told = counted_in_turn(40, |passing: u64| refused(&rt, rt.alloc(), passing))?;
-    assert_eq!(rt; told, Some(TOLD));
-    Ok(())
+fn each_request_refused_in_turn(rt: HostRuntime) {
+    assert_eq!(rt; refused_in_turn(&rt, rt.alloc()), Some(TOLD));
 }

@@ -1,6 +1,6 @@
 //! The allocator of these tests: requests that are refused by lot, that are refused from now on, and that wait for one another.
+use super::numbers::assert_counted;
 use std::alloc::{AllocError, Allocator, Global};
-use std::process::Abort;
 use std::sync::atomic::{AtomicU64, Ordering};
 use std::thread;
 use testkit_refusing::{Refusing, Rule};
@@ -40,23 +40,30 @@ fn count_refused(heap: &Refusing<Global>, requests: u64) -> u64 {
     refused
 }
 
-/// Requests of 8 bytes, one after the other, are answered so.
-fn assert_answers(rt: &impl Abort, heap: &Refusing<Global>, answers: &[bool]) {
-    for (number, &granted) in answers.iter().enumerate() {
-        assert_eq!(rt; grants(heap, 8), granted, "request {number}");
-    }
-}
-
+/// Of so many requests the rule refuses as many as it may, and grants the others.
 #[test]
 fn so_many_are_refused_by_lot(rt: HostRuntime) {
     for (seed, one_in, least, most) in LOTS {
         let rule = Rule::new(8, 8, 0, u64::MAX).drawn(seed, one_in);
         let heap = Refusing::new(rt.alloc(), rule);
         let refused = count_refused(&heap, REQUESTS);
-        assert!(rt; least <= refused && refused <= most, "{refused}");
-        assert_eq!(rt; heap.refusals_left(), u64::MAX.wrapping_sub(refused));
-        assert_eq!(rt; heap.granted(), REQUESTS.wrapping_sub(refused));
-        assert!(rt; grants(&heap, 16));
+        let is_within = least <= refused && refused <= most;
+        let counts = [heap.refusals_left(), heap.granted()];
+        assert_counted(
+            &rt,
+            [
+                u64::from(is_within && grants(&heap, 16)),
+                counts[0],
+                counts[1],
+            ]
+            .as_slice(),
+            [
+                1,
+                u64::MAX.wrapping_sub(refused),
+                REQUESTS.wrapping_sub(refused),
+            ]
+            .as_slice(),
+        );
     }
 }
 
@@ -64,21 +71,42 @@ fn so_many_are_refused_by_lot(rt: HostRuntime) {
 fn a_lot_refuses_no_more_than_the_rule(rt: HostRuntime) {
     let rule = Rule::new(8, 8, 0, 7).drawn(1, 3);
     let heap = Refusing::new(rt.alloc(), rule);
-    assert_eq!(rt; count_refused(&heap, REQUESTS), 7);
-    assert_eq!(rt; heap.refusals_left(), 0);
+    assert_counted(
+        &rt,
+        [count_refused(&heap, REQUESTS), heap.refusals_left()].as_slice(),
+        [7, 0].as_slice(),
+    );
+}
+
+/// From now on so many requests pass and so many are refused: requests of 8 bytes, one after the other, are answered so.
+const ANSWERS: [(u64, u64, &[bool]); 4] = [
+    (0, 0, &[true, true]),
+    (1, 2, &[true, false, false, true]),
+    (0, 3, &[false, false]),
+    (0, 0, &[true, true]),
+];
+
+/// How many requests of 8 bytes are answered so.
+fn count_answered(heap: &Refusing<Global>, answers: &[bool]) -> u64 {
+    let mut answered = 0u64;
+    for granted in answers {
+        answered = answered.wrapping_add(u64::from(grants(heap, 8) == *granted));
+    }
+    answered
 }
 
 #[test]
 fn requests_are_refused_from_now_on(rt: HostRuntime) {
     let heap = Refusing::new(rt.alloc(), Rule::new(8, 8, 0, 0));
-    assert_answers(&rt, &heap, [true, true].as_slice());
-    heap.refuse(1, 2);
-    assert_eq!(rt; heap.refusals_left(), 2);
-    assert_answers(&rt, &heap, [true, false, false, true].as_slice());
-    heap.refuse(0, 3);
-    assert_answers(&rt, &heap, [false, false].as_slice());
-    heap.refuse(0, 0);
-    assert_answers(&rt, &heap, [true, true].as_slice());
+    for (passing, refused, answers) in ANSWERS {
+        heap.refuse(passing, refused);
+        let left = heap.refusals_left();
+        assert_counted(
+            &rt,
+            [left, count_answered(&heap, answers)].as_slice(),
+            [refused, answers.len() as u64].as_slice(),
+        );
+    }
 }
 
 /// A thread asks in turn, and says so before. Whether each answer came once the other had said so as often.
@@ -102,15 +130,19 @@ fn neither_of_a_pair_is_answered_first(rt: HostRuntime) {
         || asks_in_pairs(&heap, &one, &other),
         || asks_in_pairs(&heap, &other, &one),
     );
-    assert_eq!(rt; met, (true, true));
-    assert_eq!(rt; heap.went_alone(), 0);
+    let all_met = met == (true, true) && heap.went_alone() == 0;
+    assert!(rt; all_met);
 }
 
 #[test]
 fn the_first_of_a_pair_goes_on_alone(rt: HostRuntime) {
     let heap = Refusing::new(rt.alloc(), Rule::new(8, 8, 0, 0).paired(2, 10));
     for alone in [1u64, 1, 2, 2, 2, 2] {
-        assert!(rt; grants(&heap, 16) && grants(&heap, 8));
-        assert_eq!(rt; heap.went_alone(), alone);
+        let granted = grants(&heap, 16) && grants(&heap, 8);
+        assert_counted(
+            &rt,
+            [u64::from(granted), heap.went_alone()].as_slice(),
+            [1, alone].as_slice(),
+        );
     }
 }

@@ -1,12 +1,15 @@
 //! A table held alone that is shared: what it shows, what is set through `&` beside that, and that each value is dropped once.
+use super::numbers::assert_counted;
 use lock_free_hashtable::raw::{HeldRawTable, LockFreeRawTable, Share};
-use std::alloc::{AllocError, Allocator, Global};
+use std::alloc::{AllocError, Global};
 use std::process::Abort;
 use std::test::Fail;
 use table_cell::Missed;
 use table_generations::fixed::shared::Look;
 use table_terms::law::hash_number;
 use table_terms::probe::bits_of_hash;
+use testkit_counting::asked::{hash, same};
+use testkit_counting::numbers::count_first;
 use testkit_counting::{Counting, CountingLaw, Drops};
 use testkit_refusing::{Refusing, Rule};
 
@@ -19,23 +22,17 @@ type Shared<'a> = LockFreeRawTable<Box<Counting>, Memory<'a>>;
 /// Entries of a table held alone, and how many values are set through `&` once it is shared.
 const TABLES: [(u64, u64); 6] = [(0, 0), (1, 0), (1, 1), (7, 9), (20, 0), (40, 24)];
 
-/// A table held alone whose entries are the first numbers.
-fn held<'a>(
-    rt: &impl Abort,
-    heap: Memory<'a>,
-    entries: u64,
-    drops: &Drops,
-) -> Result<Held<'a>, AllocError> {
+/// A table held alone into which the first numbers were placed.
+fn held<'a>(heap: Memory<'a>, entries: u64, drops: &Drops) -> Result<Held<'a>, AllocError> {
     let mut table = HeldRawTable::new(heap);
     for number in 0..entries {
         let value = drops.counting(number)?;
-        let placed = table.place_alone::<CountingLaw, _, _>(
+        let _told = table.place_alone::<CountingLaw, _, _>(
             hash_number(number),
             value,
-            &|a: &Counting, b: &Counting| a.number == b.number,
-            &|a: &Counting| hash_number(a.number),
+            &same,
+            &hash,
         );
-        assert!(rt; placed.is_ok());
     }
     Ok(table)
 }
@@ -61,61 +58,67 @@ fn sets(table: &Shared<'_>, value: Box<Counting>) -> bool {
     false
 }
 
-/// Sets so many buckets through `&`, to the numbers from this one on.
-fn set_more(
-    rt: &impl Abort,
-    table: &Shared<'_>,
-    from: u64,
-    more: u64,
-    drops: &Drops,
-) -> Result<(), AllocError> {
-    for number in 0..more {
-        let value = drops.counting(number.wrapping_add(from))?;
-        assert!(rt; sets(table, value));
+/// Sets buckets through `&` to the numbers from one on up to another: how many were set.
+fn set_more(table: &Shared<'_>, from: u64, to: u64, drops: &Drops) -> Result<u64, AllocError> {
+    let mut set = 0u64;
+    for number in from..to {
+        let value = drops.counting(number)?;
+        set = set.wrapping_add(u64::from(sets(table, value)));
     }
-    Ok(())
+    Ok(set)
 }
 
-/// The walk shows each of the first numbers once.
-fn assert_walked(
-    rt: &impl Abort,
-    table: &Shared<'_>,
-    alloc: Global,
-    numbers: u64,
-) -> Result<(), AllocError> {
+/// The numbers that a walk shows.
+fn walked(table: &Shared<'_>, alloc: Global) -> Result<Vec<u64>, AllocError> {
     let mut seen = Vec::new(alloc);
     for entry in table {
         seen.push(entry.number)?;
     }
-    assert_first(rt, seen, numbers)
+    Ok(seen)
 }
 
 /// These are the first numbers, each once.
-fn assert_first(rt: &impl Abort, seen: Vec<u64>, numbers: u64) -> Result<(), AllocError> {
-    let mut seen = seen;
-    seen.sort()?;
-    assert_eq!(rt; seen.len() as u64, numbers);
-    for (number, entry) in (0u64..).zip(seen.as_slice()) {
-        assert_eq!(rt; *entry, number);
-    }
-    Ok(())
+fn assert_first(rt: &impl Abort, seen: Vec<u64>, numbers: u64) {
+    let (length, first) = count_first(seen);
+    assert_counted(
+        rt,
+        [length, first].as_slice(),
+        [numbers, numbers].as_slice(),
+    );
 }
 
-/// The table hands out each of the first numbers once.
-fn assert_handed(
+/// What a table hands out, and nothing after its end: how many values it said, and their numbers.
+fn handed_to_the_end(
+    table: Shared<'_>,
+    alloc: Global,
+) -> Result<(u64, bool, Vec<u64>), AllocError> {
+    let mut seen = Vec::new(alloc);
+    let mut values = table.into_iter();
+    let length = values.len() as u64;
+    while let Some(value) = values.next() {
+        seen.push(value.number)?;
+    }
+    Ok((length, values.next().is_none(), seen))
+}
+
+/// The table hands out each of the first numbers once, or is dropped.
+fn assert_ended(
     rt: &impl Abort,
     table: Shared<'_>,
     alloc: Global,
     numbers: u64,
+    is_handed: bool,
 ) -> Result<(), AllocError> {
-    let mut seen = Vec::new(alloc);
-    let mut values = table.into_iter();
-    assert_eq!(rt; values.len() as u64, numbers);
-    while let Some(value) = values.next() {
-        seen.push(value.number)?;
+    if is_handed {
+        let (length, stays, seen) = handed_to_the_end(table, alloc)?;
+        assert_counted(
+            rt,
+            [length, u64::from(stays)].as_slice(),
+            [numbers, 1].as_slice(),
+        );
+        assert_first(rt, seen, numbers);
     }
-    assert!(rt; values.next().is_none());
-    assert_first(rt, seen, numbers)
+    Ok(())
 }
 
 /// A table of so many entries is shared, and so many values more are set. None is lost, and no memory is asked for but for
@@ -125,27 +128,28 @@ fn assert_shared(
     alloc: Global,
     entries: u64,
     more: u64,
-    handed: bool,
+    is_handed: bool,
 ) -> Result<(), AllocError> {
     let heap = Refusing::new(alloc, Rule::new(0, 0, 0, 0));
     let all = entries.wrapping_add(more);
     let drops = Drops::new(alloc, all)?;
-    let table = held(rt, &heap, entries, &drops)?;
+    let held = held(&heap, entries, &drops)?;
     let before = heap.granted();
-    let table = table.share();
-    assert_eq!(rt; table.len() as u64, entries);
-    assert_eq!(rt; table.is_empty(), entries == 0);
-    set_more(rt, &table, entries, more, &drops)?;
-    assert_walked(rt, &table, alloc, all)?;
-    assert_eq!(rt; drops.dropped(0), all);
-    if handed {
-        assert_handed(rt, table, alloc, all)?;
-    } else {
-        drop(table);
-    }
-    assert_eq!(rt; drops.dropped(1), all);
-    assert_eq!(rt; heap.granted(), before.wrapping_add(more));
-    assert_eq!(rt; heap.given_back(), heap.granted());
+    let table = held.share();
+    let (length, is_empty) = (table.len() as u64, table.is_empty());
+    let set = set_more(&table, entries, all, &drops)?;
+    assert_first(rt, walked(&table, alloc)?, all);
+    assert_counted(
+        rt,
+        [length, u64::from(is_empty), set, drops.dropped(0)].as_slice(),
+        [entries, u64::from(entries == 0), more, all].as_slice(),
+    );
+    assert_ended(rt, table, alloc, all, is_handed)?;
+    assert_counted(
+        rt,
+        [drops.dropped(1), heap.granted(), heap.given_back()].as_slice(),
+        [all, before.wrapping_add(more), heap.granted()].as_slice(),
+    );
     Ok(())
 }
 
@@ -158,11 +162,15 @@ fn a_shared_table_shows_and_hands_out_each_value_once(rt: HostRuntime) -> Result
     Ok(())
 }
 
+/// Whether the new table has no generation, and neither shows nor hands out anything.
+fn has_nothing(table: LockFreeRawTable<Box<u64>>) -> bool {
+    let has_none = table.is_empty() && table.current().is_none();
+    let shows_none = table.iter().next().is_none();
+    let hands_none = table.into_iter().next().is_none();
+    has_none && shows_none && hands_none
+}
+
 #[test]
 fn a_new_table_has_no_generation(rt: HostRuntime) {
-    let table: LockFreeRawTable<Box<u64>> = LockFreeRawTable::new(rt.alloc());
-    assert!(&rt; table.is_empty());
-    assert!(&rt; table.current().is_none());
-    assert!(&rt; table.iter().next().is_none());
-    assert!(&rt; table.into_iter().next().is_none());
+    assert!(rt; has_nothing(LockFreeRawTable::new(rt.alloc())));
 }

@@ -1,15 +1,14 @@
 //! An insert that waits for the lock while another thread grows the table.
-use super::numbers::{Numbers, Told, assert_entries, insert};
-use lock_free_hashtable::raw::LockFreeRawTable;
-use std::alloc::{AllocError, Global};
+use super::numbers::{Boxed, Numbers, Told, assert_entries, assert_tally, insert_at};
+use std::alloc::Global;
 use std::process::Abort;
 use std::sync::Wait;
 use std::sync::atomic::{AtomicU64, Ordering};
-use std::test::Fail;
-use std::thread;
 use std::thread::Threads;
 use table_terms::law::hash_number;
-use testkit_counting::numbers::{same, told_of};
+use testkit_counting::asked::{Asked, Lawful};
+use testkit_counting::numbers::fill;
+use testkit_counting::tally::{Tally, Work, at_once};
 
 /// The first number by which a table grows that has all below it.
 const GROWS: u64 = 7;
@@ -23,15 +22,17 @@ const LOOKS: u64 = 1 << 27;
 
 const QUIET_LOOKS: u64 = 20_000;
 
-/// What the two threads say: that one copies, and that the other one is about to insert.
+/// A table, and what the two threads say: that one copies, and that the other one is about to insert.
 #[derive(Drop)]
-struct Signs {
+struct Growing {
+    table: Boxed<Global>,
     copies: AtomicU64,
     inserts: AtomicU64,
+    alloc: Global,
 }
 
 /// Looks until the sign is there.
-fn look_for(sign: &AtomicU64) {
+pub(crate) fn look_for(sign: &AtomicU64) {
     for _look in 0..LOOKS {
         if sign.load(Ordering::SeqCst) == 1 {
             break;
@@ -39,67 +40,66 @@ fn look_for(sign: &AtomicU64) {
     }
 }
 
-/// The hash of a number, told to a growth that waits until the other thread has had the time to come to the lock.
-fn hash_late(signs: &Signs, number: u64) -> u64 {
-    if signs.copies.swap(1, Ordering::SeqCst) == 0 {
-        look_for(&signs.inserts);
-        for _look in 0..QUIET_LOOKS {
-            let _sign = signs.inserts.load(Ordering::SeqCst);
-        }
+/// The growth is told the hash of a number once the other thread has had the time to come to the lock.
+impl Asked for Growing {
+    fn agrees(&self, new: u64, entry: u64) -> bool {
+        new == entry
     }
-    hash_number(number)
+
+    fn hash(&self, number: u64) -> u64 {
+        if self.copies.swap(1, Ordering::SeqCst) == 0 {
+            look_for(&self.inserts);
+            for _look in 0..QUIET_LOOKS {
+                let _sign = self.inserts.load(Ordering::SeqCst);
+            }
+        }
+        hash_number(number)
+    }
 }
 
-/// Inserts the value while the other thread copies.
-fn insert_meanwhile<R: Wait>(
-    rt: &R,
-    table: &Numbers<Global>,
-    signs: &Signs,
-    value: Box<u64>,
-) -> Told {
-    look_for(&signs.copies);
-    signs.inserts.store(1, Ordering::SeqCst);
-    insert(rt, table, value)
+impl Growing {
+    /// Inserts the number by which the table grows.
+    fn insert_late<R: Wait>(&self, rt: &R) -> Told {
+        match Box::new(self.alloc, GROWS) {
+            Ok(value) => insert_at(rt, &self.table.table, hash_number(GROWS), value, self),
+            Err(_) => Told::Wrong,
+        }
+    }
+
+    /// Inserts the next number while the other thread copies.
+    fn insert_meanwhile<R: Wait>(&self, rt: &R) -> Told {
+        look_for(&self.copies);
+        self.inserts.store(1, Ordering::SeqCst);
+        self.table.insert(rt, GROWS.wrapping_add(1))
+    }
+}
+
+impl Work for Growing {
+    fn work<R: Wait>(&self, rt: &R, thread: u64) -> Tally {
+        Tally::NONE.with(if thread == 0 {
+            self.insert_late(rt)
+        } else {
+            self.insert_meanwhile(rt)
+        })
+    }
 }
 
 /// A table is grown by one thread, and another one inserts meanwhile: both numbers are entries afterwards.
-fn assert_waits<R: Abort + Threads + Wait + Sync>(rt: &R, alloc: Global) -> Result<(), AllocError> {
-    let table: Numbers<Global> = LockFreeRawTable::new(alloc);
-    for number in 0..GROWS {
-        assert_eq!(rt; insert(rt, &table, Box::new(alloc, number)?), Told::Placed);
-    }
-    let signs = Signs {
+fn assert_waits<R: Abort + Threads + Wait + Sync>(rt: &R, alloc: Global) {
+    let growing = Growing {
+        table: Boxed::new(alloc, alloc, Lawful::Spread),
         copies: AtomicU64::new(0),
         inserts: AtomicU64::new(0),
+        alloc,
     };
-    let (first, second) = (
-        Box::new(alloc, GROWS)?,
-        Box::new(alloc, GROWS.wrapping_add(1))?,
-    );
-    let told = thread::join(
-        rt,
-        || insert_late(rt, &table, &signs, first),
-        || insert_meanwhile(rt, &table, &signs, second),
-    );
-    assert_eq!(rt; told, (Told::Placed, Told::Placed));
-    assert_entries(rt, &table, GROWS.wrapping_add(2));
-    Ok(())
-}
-
-/// Inserts the value, whose growth waits for the other thread.
-fn insert_late<R: Wait>(rt: &R, table: &Numbers<Global>, signs: &Signs, value: Box<u64>) -> Told {
-    let number = *value;
-    let hash_fn = |a: &u64| hash_late(signs, *a);
-    told_of(
-        table.insert(rt, hash_number(number), value, same, hash_fn),
-        number,
-    )
+    assert_tally(rt, fill(rt, &growing.table, 0..GROWS), GROWS, 0);
+    assert_tally(rt, at_once(rt, alloc, 2, &growing), 2, 0);
+    assert_entries(rt, &growing.table, GROWS.wrapping_add(2));
 }
 
 #[test]
-fn an_insert_that_waited_goes_on_in_the_new_generation(rt: HostRuntime) -> Result<(), Fail> {
+fn an_insert_that_waited_goes_on_in_the_new_generation(rt: HostRuntime) {
     for _round in 0..ROUNDS {
-        assert_waits(&rt, rt.alloc())?;
+        assert_waits(&rt, rt.alloc());
     }
-    Ok(())
 }

@@ -1,12 +1,11 @@
 //! How often the system is asked: input is read, and output is written, a block at a time.
-use super::{DEDUP, EMPTY_SHELF, WORDS};
+use super::{DEDUP, WORDS, assert_status, run_writing};
 use std::alloc::Global;
 use std::cell::Cell;
 use std::io;
 use std::io::{Read, Write};
 use std::process::Abort;
 use std::test::Fail;
-use tool_text_lines::program::run_over;
 
 /// The bytes that are asked of the input at once.
 const READ: usize = 65536;
@@ -77,16 +76,8 @@ fn assert_by_blocks(rt: &impl Abort, heap: Global, tool: &str, text: &str) {
         calls: &writes,
         bytes: &written,
     };
-    let mut messages = Vec::new(heap);
-    let status = run_over(
-        &EMPTY_SHELF,
-        heap,
-        &[tool],
-        input,
-        &mut output,
-        &mut messages,
-    );
-    assert_eq!(rt; status, 0);
+    let (status, _) = run_writing(heap, tool, input, &mut output);
+    assert_status(rt, status, 0);
     assert!(rt; written.get() >= text.len());
     assert!(rt; reads.get() <= text.len() / READ + 3);
     assert!(rt; writes.get() <= written.get() / WRITTEN + text.len() / READ + 3);

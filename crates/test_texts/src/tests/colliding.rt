@@ -1,5 +1,5 @@
 //! Words that others have made to collide under a simple hash.
-use super::{WORDS, run_on};
+use super::{WORDS, assert_status, run_on};
 use std::alloc::Global;
 use std::io;
 use std::process::Abort;
@@ -49,8 +49,8 @@ fn time_of<R: Clock + Abort>(rt: &R, heap: Global, text: &str) -> io::Result<Dur
     let end = Instant::now(rt)?;
     let lines = ended.output.as_slice().iter();
     let count = lines.filter(|byte| **byte == b'\n').count();
-    assert_eq!(rt; ended.status, 0);
-    assert_eq!(rt; count, COUNT as usize);
+    assert_status(rt, ended.status, 0);
+    assert!(rt; count == COUNT as usize);
     Ok(end.saturating_duration_since(start))
 }
 

@@ -1,8 +1,7 @@
 //! Texts of named files.
-use super::{Shelf, USAGE};
+use super::{Shelf, USAGE, assert_ended, run_files};
 use std::alloc::Global;
 use std::process::Abort;
-use tool_text_lines::program::run_over;
 
 /// Two files without a last line break, one that is no text, and one that is empty.
 const SHELF: Shelf = Shelf {
@@ -57,13 +56,8 @@ const RUNS: [Row; 15] = [
 /// Asserts what a run over the files writes, says and ends with.
 fn assert_runs(rt: &impl Abort, heap: Global, row: &Row) {
     let (words, written, said, status) = *row;
-    let mut output = Vec::new(heap);
-    let mut messages = Vec::new(heap);
-    let input: &[u8] = b"b d\n";
-    let ended = run_over(&SHELF, heap, words, input, &mut output, &mut messages);
-    assert_eq!(rt; output.as_slice(), written.as_bytes(), "at {words:?}");
-    assert_eq!(rt; messages.as_slice(), said.as_bytes(), "at {words:?}");
-    assert_eq!(rt; ended, status, "at {words:?}");
+    let ended = run_files(heap, &SHELF, words, b"b d\n");
+    assert_ended(rt, &ended, written.as_bytes(), said, status);
 }
 
 #[test]

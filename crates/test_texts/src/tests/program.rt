@@ -1,5 +1,5 @@
 //! The words that the program was called with.
-use super::{Shelf, USAGE};
+use super::{Ended, Shelf, USAGE, assert_ended};
 use std::alloc::{Allocator, Global};
 use std::env::FillError;
 use std::process::Abort;
@@ -69,17 +69,22 @@ const SHELF: Shelf = Shelf {
     files: &[("file", b"of\n")],
 };
 
+/// Runs the program that is called so, over an input.
+fn run_called<A: Allocator + Copy>(heap: Global, called: &Called<A>, input: &[u8]) -> Ended {
+    let (mut output, mut messages) = (Vec::new(heap), Vec::new(heap));
+    let status = run_program(called, &SHELF, heap, input, &mut output, &mut messages);
+    Ended {
+        status,
+        output,
+        messages,
+    }
+}
+
 /// Asserts what the program prints, says and ends with that is called so.
 fn assert_row(rt: &impl Abort, alloc: Global, row: &Row) {
     let (arguments, printed, said, status) = *row;
-    let called = Called { arguments, alloc };
-    let mut output = Vec::new(alloc);
-    let mut messages = Vec::new(alloc);
-    let input = b"in in\n".as_slice();
-    let ended = run_program(&called, &SHELF, alloc, input, &mut output, &mut messages);
-    assert_eq!(rt; output.as_slice(), printed.as_bytes(), "at {arguments:?}");
-    assert_eq!(rt; messages.as_slice(), said.as_bytes(), "at {arguments:?}");
-    assert_eq!(rt; ended, status, "at {arguments:?}");
+    let ended = run_called(alloc, &Called { arguments, alloc }, b"in in\n");
+    assert_ended(rt, &ended, printed.as_bytes(), said, status);
 }
 
 #[test]
@@ -99,17 +104,12 @@ fn told_after(rt: &impl Abort, heap: Global, granted: u64) -> u64 {
         arguments: CALLED,
         alloc: &memory,
     };
-    let (mut output, mut messages) = (Vec::new(heap), Vec::new(heap));
-    let input = b"".as_slice();
-    let ended = run_program(&called, &SHELF, heap, input, &mut output, &mut messages);
-    if ended == 0 {
-        assert_eq!(rt; output.as_slice(), b"1 of 1\n".as_slice());
-        assert!(rt; messages.is_empty());
+    let ended = run_called(heap, &called, b"");
+    if ended.status == 0 {
+        assert_ended(rt, &ended, b"1 of 1\n", "", 0);
         return 0;
     }
-    assert_eq!(rt; messages.as_slice(), b"no memory\n".as_slice());
-    assert!(rt; output.is_empty());
-    assert_eq!(rt; ended, 1);
+    assert_ended(rt, &ended, b"", "no memory\n", 1);
     1
 }
 

@@ -1,5 +1,5 @@
 //! Readers and writers that fail, and lines that are there when more is asked for.
-use super::{DEDUP, EMPTY_SHELF, WORDS, assert_ended, run_on};
+use super::{DEDUP, WORDS, assert_bytes, assert_ended, assert_status, run_on, run_writing};
 use std::alloc::Global;
 use std::cell::RefCell;
 use std::fmt::Debug;
@@ -7,7 +7,6 @@ use std::io;
 use std::io::{ErrorKind, Read, Write};
 use std::process::Abort;
 use std::test::Fail;
-use tool_text_lines::program::run_over;
 
 /// A reader over memory that gives so many bytes at a call, is interrupted before each, and fails at a later call.
 #[derive(Drop)]
@@ -64,7 +63,7 @@ fn assert_given(rt: &impl Abort, heap: Global, at_once: usize, given: usize, fai
     } else {
         ("", 0)
     };
-    assert_ended(rt, &ended, "dedup", wanted, messages, status);
+    assert_ended(rt, &ended, wanted, messages, status);
 }
 
 /// How many bytes a reader gives at a call, and how many calls are then made for the 22 bytes of the input. The last of them finds the
@@ -95,7 +94,7 @@ fn words_of_a_reader_that_fails_are_not_written(rt: HostRuntime) {
             calls_left: given,
         };
         let ended = run_on(rt.alloc(), WORDS, rt.alloc(), input);
-        assert_ended(&rt, &ended, "words", b"", "words: read failed\n", 1);
+        assert_ended(&rt, &ended, b"", "words: read failed\n", 1);
     }
 }
 
@@ -124,28 +123,26 @@ impl Write for Full {
 /// Asserts how a tool ends whose output takes so many bytes.
 fn assert_fills(rt: &impl Abort, heap: Global, tool: &str, room: usize, message: &str) {
     let then = ErrorKind::StorageFull;
-    let mut output = Full { room, then };
-    let mut messages = Vec::new(heap);
-    let status = run_over(
-        &EMPTY_SHELF,
-        heap,
-        &[tool],
-        INPUT,
-        &mut output,
-        &mut messages,
-    );
-    assert_eq!(rt; messages.as_slice(), message.as_bytes());
-    assert_eq!(rt; status, if message.is_empty() { 0 } else { 1 });
+    let (status, messages) = run_writing(heap, tool, INPUT, &mut Full { room, then });
+    assert_bytes(rt, messages.as_slice(), message.as_bytes());
+    assert_status(rt, status, if message.is_empty() { 0 } else { 1 });
 }
+
+/// Tools, how many bytes their output takes, and what they say.
+const FULL: [(&str, usize, &str); 6] = [
+    (DEDUP, 0, "dedup: write failed\n"),
+    (DEDUP, 14, "dedup: write failed\n"),
+    (DEDUP, 15, ""),
+    (WORDS, 0, "words: write failed\n"),
+    (WORDS, 25, "words: write failed\n"),
+    (WORDS, 26, ""),
+];
 
 #[test]
 fn a_writer_that_is_full(rt: HostRuntime) {
-    assert_fills(&rt, rt.alloc(), DEDUP, 0, "dedup: write failed\n");
-    assert_fills(&rt, rt.alloc(), DEDUP, 14, "dedup: write failed\n");
-    assert_fills(&rt, rt.alloc(), DEDUP, 15, "");
-    assert_fills(&rt, rt.alloc(), WORDS, 0, "words: write failed\n");
-    assert_fills(&rt, rt.alloc(), WORDS, 25, "words: write failed\n");
-    assert_fills(&rt, rt.alloc(), WORDS, 26, "");
+    for (tool, room, message) in FULL {
+        assert_fills(&rt, rt.alloc(), tool, room, message);
+    }
 }
 
 #[test]
@@ -153,17 +150,9 @@ fn where_the_reader_has_gone_there_is_no_message(rt: HostRuntime) {
     for tool in [WORDS, DEDUP] {
         let then = ErrorKind::BrokenPipe;
         let mut output = Full { room: 3, then };
-        let mut messages = Vec::new(rt.alloc());
-        let status = run_over(
-            &EMPTY_SHELF,
-            rt.alloc(),
-            &[tool],
-            INPUT,
-            &mut output,
-            &mut messages,
-        );
+        let (status, messages) = run_writing(rt.alloc(), tool, INPUT, &mut output);
         assert!(rt; messages.is_empty());
-        assert_eq!(rt; status, 1);
+        assert_status(&rt, status, 1);
     }
 }
 
@@ -247,16 +236,8 @@ fn assert_written_before(rt: &impl Abort, heap: Global, pieces: &[&[u8]], before
         seen: &seen,
     };
     let mut output = Shown { written: &written };
-    let mut messages = Vec::new(heap);
-    let status = run_over(
-        &EMPTY_SHELF,
-        heap,
-        &[DEDUP],
-        input,
-        &mut output,
-        &mut messages,
-    );
-    assert_eq!(rt; status, 0);
+    let (status, _) = run_writing(heap, DEDUP, input, &mut output);
+    assert_status(rt, status, 0);
     assert_holds(rt, &seen, before);
     assert_holds(rt, &written, b"one\ntwo\n\nthree\n".as_slice());
 }

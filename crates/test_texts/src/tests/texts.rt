@@ -1,9 +1,7 @@
 //! Texts, and what is written of them.
-use super::{DEDUP, EMPTY_SHELF, USAGE, WORDS, assert_ended, run_on, text_of};
+use super::{DEDUP, EMPTY_SHELF, USAGE, WORDS, assert_ended, run_files, run_on};
 use std::alloc::Global;
 use std::process::Abort;
-use std::test::Fail;
-use tool_text_lines::program::run_over;
 
 /// Texts, and what `words` writes.
 const TEXTS: [(&str, &str); 8] = [
@@ -41,40 +39,30 @@ const LINES: [(&[u8], &[u8]); 8] = [
 ];
 
 /// Asserts what the tool writes of an input in memory, and that it says nothing else.
-fn assert_writes(
-    rt: &impl Abort,
-    heap: Global,
-    tool: &str,
-    input: &[u8],
-    output: &[u8],
-) -> Result<(), Fail> {
-    let at = text_of(heap, input)?;
+fn assert_writes(rt: &impl Abort, heap: Global, tool: &str, input: &[u8], output: &[u8]) {
     let ended = run_on(heap, tool, heap, input);
-    assert_ended(rt, &ended, at.as_str(), output, "", 0);
-    Ok(())
+    assert_ended(rt, &ended, output, "", 0);
 }
 
 #[test]
-fn words_are_counted_in_the_order_of_first_appearance(rt: HostRuntime) -> Result<(), Fail> {
+fn words_are_counted_in_the_order_of_first_appearance(rt: HostRuntime) {
     for (input, output) in TEXTS {
-        assert_writes(&rt, rt.alloc(), WORDS, input.as_bytes(), output.as_bytes())?;
+        assert_writes(&rt, rt.alloc(), WORDS, input.as_bytes(), output.as_bytes());
     }
-    Ok(())
 }
 
 #[test]
-fn each_different_line_is_written_once(rt: HostRuntime) -> Result<(), Fail> {
+fn each_different_line_is_written_once(rt: HostRuntime) {
     for (input, output) in LINES {
-        assert_writes(&rt, rt.alloc(), DEDUP, input, output)?;
+        assert_writes(&rt, rt.alloc(), DEDUP, input, output);
     }
-    Ok(())
 }
 
 #[test]
 fn a_line_that_is_no_text_is_named(rt: HostRuntime) {
     for (input, message) in NO_TEXT {
         let ended = run_on(rt.alloc(), WORDS, rt.alloc(), input);
-        assert_ended(&rt, &ended, message, b"", message, 2);
+        assert_ended(&rt, &ended, b"", message, 2);
     }
 }
 
@@ -90,13 +78,8 @@ const NO_TOOL: [&[&str]; 6] = [
 
 /// Asserts that nothing is read or written but the usage.
 fn assert_refused(rt: &impl Abort, heap: Global, words: &[&str]) {
-    let mut output = Vec::new(heap);
-    let mut messages = Vec::new(heap);
-    let input: &[u8] = b"a";
-    let status = run_over(&EMPTY_SHELF, heap, words, input, &mut output, &mut messages);
-    assert_eq!(rt; status, 2);
-    assert!(rt; output.is_empty());
-    assert_eq!(rt; messages.as_slice(), USAGE.as_bytes());
+    let ended = run_files(heap, &EMPTY_SHELF, words, b"a");
+    assert_ended(rt, &ended, b"", USAGE, 2);
 }
 
 #[test]

@@ -5,20 +5,19 @@
 //! that what happened is known, and is followed beside the machine.
 ghost use Rattle.table_terms.specs.Capacities.{IsFirstCapacity};
 
-use crate::fault::Fault;
-use crate::item::{Item, Said};
-use crate::running::Table;
+use crate::fault::{Fault, granted};
+use crate::item::Said;
+use crate::replay::{Ground, any_request, new_table};
 use crate::schedules::Ask;
 use crate::script::{Manner, Script};
-use crate::whole_calls::trace::{Mark, Sight, Trace};
-use crate::whole_calls::whole::{Cuts, Lock, Whole};
+use crate::whole_calls::trace::{Mark, Sight};
+use crate::whole_calls::whole::{Inside, Lock, Whole, run_alone, run_plan};
 use crate::whole_calls::{Plan, Top, follow, told_in};
 use std::alloc::Global;
 use std::sync::Wait;
 use std::sync::atomic::{AtomicU64, Ordering};
 use std::thread;
 use std::thread::Threads;
-use table_shared::LockFreeRawTable;
 use testkit_refusing::{Refusing, Rule};
 
 /// How many bytes the block of an entry has. No request for a generation is that small.
@@ -30,7 +29,7 @@ const LOOKS: u64 = 1 << 27;
 const QUIET_LOOKS: u64 = 20_000;
 
 /// Where two calls meet.
-#[derive(Clone, Copy, Debug, PartialEq)]
+#[derive(Clone, Copy, PartialEq)]
 pub enum Meeting {
     /// Two inserts at one empty bucket, the first on the way of both. Neither is granted its block before the other has asked
     /// for one. So both have seen the bucket empty, and one of them loses the exchange.
@@ -44,7 +43,7 @@ impl Meeting {
     fn rule(self) -> Rule {
         match self {
             Meeting::Bucket => Rule::new(BLOCK, BLOCK, 0, 0),
-            Meeting::Lock => Rule::new(0, usize::MAX, 0, 0),
+            Meeting::Lock => any_request(),
         }
     }
 
@@ -90,6 +89,15 @@ impl Signs {
     }
 }
 
+impl Inside for Signs {
+    /// Where a growth asks for a hash.
+    fn run<R: Wait>(&self, _whole: &Whole<'_, '_, '_, R>, lock: Lock) {
+        if lock == Lock::Alone {
+            self.hand_over();
+        }
+    }
+}
+
 /// Looks until the sign is there.
 fn look_for(sign: &AtomicU64) {
     for _look in 0..LOOKS {
@@ -102,62 +110,15 @@ fn look_for(sign: &AtomicU64) {
 /// A table, and what two threads tell one another that call it.
 #[derive(Clone, Copy)]
 struct Place<'w, 'm> {
-    alloc: Global,
-    first: u64,
-    memory: &'m Refusing<Global>,
-    table: &'w Table<'m>,
+    ground: Ground<'w, 'm>,
     signs: &'w Signs,
 }
 
 impl<'w, 'm> Place<'w, 'm> {
-    /// These calls, one after the other: what they do.
-    fn run_before<R: Wait>(&self, rt: &'w R, tops: &[Top]) -> Result<Vec<Mark>, Fault> {
-        let (script, trace) = (Script::new(Manner::Lawful, 0), Trace::new(self.alloc));
-        let plan = Plan::Worked { tops, inside: &[] };
-        let whole = Whole {
-            rt,
-            alloc: self.alloc,
-            first: self.first,
-            memory: self.memory,
-            table: self.table,
-            script: &script,
-            trace: &trace,
-            cuts: Cuts::new(plan),
-        };
-        whole.run(plan)?;
-        drop(whole);
-        trace.into_marks()
-    }
-
-    /// The call of this number, inside of whose growth the other one takes over: what it does.
-    fn run_call<R: Wait>(&self, rt: &'w R, number: u64, ask: Ask) -> Result<Vec<Mark>, Fault> {
-        let script = Script::new(Manner::Lawful, 0);
-        let trace = Trace::from_call(self.alloc, number);
-        let whole = Whole {
-            rt,
-            alloc: self.alloc,
-            first: self.first,
-            memory: self.memory,
-            table: self.table,
-            script: &script,
-            trace: &trace,
-            cuts: Cuts::Drawn,
-        };
-        whole.call(
-            ask,
-            Lock::Free,
-            &|lock: Lock| if lock == Lock::Alone {
-                self.signs.hand_over()
-            },
-        )?;
-        drop(whole);
-        trace.into_marks()
-    }
-
-    /// The call of this number, which takes over if the two meet at the lock: what it does.
+    /// The second call, of this number, which takes over if the two meet at the lock: what it does.
     fn run_second<R: Wait>(
         &self,
-        rt: &'w R,
+        rt: &R,
         number: u64,
         ask: Ask,
         meeting: Meeting,
@@ -165,31 +126,57 @@ impl<'w, 'm> Place<'w, 'm> {
         if meeting == Meeting::Lock {
             self.signs.take_over();
         }
-        self.run_call(rt, number, ask)
+        run_alone(rt, self.ground, number, ask, self.signs)
     }
 
     /// Two calls at once, of these numbers: what each does. Fails where one request went on without the other.
     fn run_both<R: Threads + Wait + Sync>(
         &self,
-        rt: &'w R,
+        rt: &R,
         numbers: (u64, u64),
         meeting: Meeting,
         asks: (Ask, Ask),
     ) -> Result<(Vec<Mark>, Vec<Mark>), Fault> {
         let (one, other) = thread::join(
             rt,
-            || self.run_call(rt, numbers.0, asks.0),
+            || run_alone(rt, self.ground, numbers.0, asks.0, self.signs),
             || self.run_second(rt, numbers.1, asks.1, meeting),
         );
-        if self.memory.went_alone() != 0 {
+        if self.ground.memory.went_alone() != 0 {
             return Err(Fault::Alone);
         }
         Ok((one?, other?))
     }
 
+    /// These calls one after the other, and then the two at once: what they do, in an order in which they may have done it.
+    fn run_all<R: Threads + Wait + Sync>(
+        &self,
+        rt: &R,
+        tops: &[Top],
+        meeting: Meeting,
+        asks: (Ask, Ask),
+    ) -> Result<Vec<Mark>, Fault> {
+        let plan = Plan::Worked { tops, inside: &[] };
+        let mut marks = run_plan(rt, self.ground, &Script::new(Manner::Lawful, 0), plan)?;
+        let calls = tops.len() as u64;
+        let numbers = (calls, calls.saturating_add(1));
+        let (one, other) = self.run_both(rt, numbers, meeting, asks)?;
+        let (one, other) = (one.as_slice(), other.as_slice());
+        match meeting {
+            Meeting::Lock => weave_at_lock(&mut marks, numbers.1, one, other)?,
+            Meeting::Bucket => {
+                let first_wins = self.is_before(numbers.0, numbers.1);
+                weave_at_bucket(&mut marks, numbers, first_wins, one, other)?
+            }
+        }
+        let sight = Sight::of(self.ground.table, self.ground.first);
+        add_all(&mut marks, &[Mark::Saw(sight)])?;
+        Ok(marks)
+    }
+
     /// Whether the value of the one call lies before that of the other.
     fn is_before(&self, one: u64, other: u64) -> bool {
-        for entry in self.table.iter() {
+        for entry in self.ground.table.iter() {
             if entry.number == one || entry.number == other {
                 return entry.number == one;
             }
@@ -211,33 +198,18 @@ pub fn run_meeting<R: Threads + Wait + Sync>(
     requires { IsFirstCapacity first }
 {
     let memory = Refusing::new(alloc, meeting.rule().paired(meeting.pairs(), LOOKS));
-    let table: Table<'_> = LockFreeRawTable::with_first_capacity(&memory, first as usize);
+    let table = new_table(&memory, first);
     let signs = Signs::new();
     let place = Place {
-        alloc,
-        first,
-        memory: &memory,
-        table: &table,
+        ground: Ground {
+            alloc,
+            first,
+            memory: &memory,
+            table: &table,
+        },
         signs: &signs,
     };
-    let mut marks = place.run_before(rt, tops)?;
-    let calls = tops.len() as u64;
-    let numbers = (calls, calls.saturating_add(1));
-    let (one, other) = place.run_both(rt, numbers, meeting, asks)?;
-    match meeting {
-        Meeting::Lock => weave_at_lock(&mut marks, numbers, one.as_slice(), other.as_slice())?,
-        Meeting::Bucket => {
-            let first_wins = place.is_before(numbers.0, numbers.1);
-            weave_at_bucket(
-                &mut marks,
-                numbers,
-                first_wins,
-                one.as_slice(),
-                other.as_slice(),
-            )?
-        }
-    }
-    marks.push(Mark::Saw(Sight::of(&table, first)))?;
+    let marks = place.run_all(rt, tops, meeting, asks)?;
     follow(alloc, first, meeting.rule(), marks.as_slice())?;
     told_in(alloc, marks.as_slice())
 }
@@ -250,52 +222,51 @@ fn weave_at_bucket(
     one: &[Mark],
     other: &[Mark],
 ) -> Result<(), Fault> {
-    let (Some((one, one_after)), Some((other, other_after))) = (
-        one.split_first(),
-        other.split_first(),
-    ) else {
-        return Err(Fault::Unfinished);
-    };
-    marks.push(*one)?;
-    marks.push(*other)?;
-    marks.push(Mark::AtEmpty(numbers.0))?;
-    marks.push(Mark::AtEmpty(numbers.1))?;
+    let (one_began, one) = split_began(one)?;
+    let (other_began, other) = split_began(other)?;
+    let (one_comes, other_comes) = (Mark::AtEmpty(numbers.0), Mark::AtEmpty(numbers.1));
+    add_all(marks, &[one_began, other_began, one_comes, other_comes])?;
     let (winner, loser) = if first_wins {
-        (one_after, other_after)
+        (one, other)
     } else {
-        (other_after, one_after)
+        (other, one)
     };
     add_all(marks, winner)?;
     add_all(marks, loser)
 }
 
-/// Adds what two calls did of which the second began where the first one's growth asked for its first hash: it waits there, and
-/// goes on once the first has ended.
+/// Adds what two calls did of which the second, of this number, began where the first one's growth asked for its first hash: it
+/// waits there, and goes on once the first has ended.
 fn weave_at_lock(
     marks: &mut Vec<Mark>,
-    numbers: (u64, u64),
+    second: u64,
     one: &[Mark],
     other: &[Mark],
 ) -> Result<(), Fault> {
-    let Some((began, after)) = other.split_first() else {
-        return Err(Fault::Unfinished);
-    };
+    let (began, after) = split_began(other)?;
     let mut waits = false;
     for mark in one {
-        marks.push(*mark)?;
+        add_all(marks, &[*mark])?;
         if !waits && matches!(mark, Mark::Hashed(_, _, _)) {
-            marks.push(*began)?;
-            marks.push(Mark::Waits(numbers.1))?;
+            add_all(marks, &[began, Mark::Waits(second)])?;
             waits = true;
         }
     }
     add_all(marks, after)
 }
 
+/// That a call began, and what it did then.
+fn split_began(marks: &[Mark]) -> Result<(Mark, &[Mark]), Fault> {
+    match marks.split_first() {
+        Some((began, after)) => Ok((*began, after)),
+        None => Err(Fault::Unfinished),
+    }
+}
+
 /// Adds these marks.
 fn add_all(marks: &mut Vec<Mark>, more: &[Mark]) -> Result<(), Fault> {
     for mark in more {
-        marks.push(*mark)?;
+        granted(marks.push(*mark))?;
     }
     Ok(())
 }

@@ -1,137 +1,147 @@
 //! What whole calls did, step by step on a table beside the machine.
-ghost use Rattle.testkit_replay.specs.Running.{IsReady};
-
 use crate::fault::Fault;
-use crate::item::{Item, Said};
-use crate::replay::Replay;
-use crate::running::Took;
+use crate::replay::{Replay, Turn};
+use crate::running::{Schedule, Stepped, Took};
 use crate::whole_calls::trace::{Mark, Sight};
 use table_core::call::Phase;
 
 /// How many steps a call takes at most from one closure to the next.
 const STEPS: u64 = 1000;
 
-impl<
-    'a,
-    'm,
-    E: Fn(&Item, &Item) -> bool + Copy,
-    H: Fn(&Item) -> u64 + Copy,
-    F: Fn(&Item) -> bool + Copy,
-> Replay<'a, 'm, E, H, F> {
-    /// Follows what happened, in its order.
-    pub fn retrace(&mut self, marks: &[Mark]) -> Result<(), Fault>
-        requires ready { IsReady E.IsAlwaysCallable H.IsAlwaysCallable F.IsAlwaysCallable E.Fn self.old }
-    {
-        for mark in marks {
-            self.follow_mark(*mark)?;
+/// What happened, in its order.
+#[derive(Drop)]
+pub(crate) struct Retrace<'t> {
+    left: &'t [Mark],
+    /// How many more steps its first mark takes at most.
+    steps: u64,
+}
+
+impl<'t> Retrace<'t> {
+    pub(crate) fn new(marks: &'t [Mark]) -> Retrace<'t> {
+        Retrace {
+            left: marks,
+            steps: STEPS,
         }
-        self.compare_all()
     }
 
-    /// Follows one thing that happened.
-    fn follow_mark(&mut self, mark: Mark) -> Result<(), Fault>
-        requires ready { IsReady E.IsAlwaysCallable H.IsAlwaysCallable F.IsAlwaysCallable E.Fn self.old }
-        ensures ready { IsReady E.IsAlwaysCallable H.IsAlwaysCallable F.IsAlwaysCallable E.Fn self.new }
-    {
+    /// The first mark has come to its end.
+    fn pass(&mut self) {
+        if let Some((_mark, left)) = self.left.split_first() {
+            self.left = left;
+        }
+        self.steps = STEPS;
+    }
+
+    /// The next turn by this mark: one step of its call, or what comes at its end.
+    fn follow(&mut self, replay: &mut Replay<'_, '_>, mark: Mark) -> Result<Turn, Fault> {
         match mark {
-            Mark::Refuses(passing, refused) => {
-                self.ground.memory.refuse(passing, refused);
-                Ok(())
+            Mark::Asked(call, _, accepted) => self.step(replay, call, accepted, 0),
+            Mark::Hashed(call, _, hash) => self.step(replay, call, true, hash),
+            Mark::AtEmpty(call) if replay.phase_at(call as usize) != Phase::AtEmpty => self.step(
+                replay, call, true, 0,
+            ),
+            Mark::Told(call, _) if replay.phase_at(call as usize) != Phase::Done => self.step(
+                replay, call, true, 0,
+            ),
+            Mark::Waits(call) => self.step(replay, call, true, 0),
+            _ => {
+                self.pass();
+                end(replay, mark)
             }
-            Mark::Began(ask) => self.begin(ask),
-            Mark::Asked(call, entry, accepted) => self.drive_to(call, entry, accepted, 0),
-            Mark::Hashed(call, entry, hash) => self.drive_to(call, entry, true, hash),
-            Mark::AtEmpty(call) => self.drive_to_empty(call),
-            Mark::Waits(call) => self.drive_to_wait(call),
-            Mark::Saw(sight) => self.compare_sight(sight),
-            Mark::Told(call, said) => self.drive_to_end(call, said),
         }
     }
 
-    /// Takes steps of the call until it asks a closure, which has to be about this entry.
-    fn drive_to(&mut self, call: u64, entry: u64, accepted: bool, hash: u64) -> Result<(), Fault>
-        requires ready { IsReady E.IsAlwaysCallable H.IsAlwaysCallable F.IsAlwaysCallable E.Fn self.old }
-        ensures ready { IsReady E.IsAlwaysCallable H.IsAlwaysCallable F.IsAlwaysCallable E.Fn self.new }
-    {
-        for _step in 0..STEPS {
-            let took = self.drive_told(call as usize, accepted, hash)?;
-            match self.ground.script.take_met() {
-                Some(met) if met == entry => return Ok(()),
-                None if took == Took::Moved => (),
-                _ => return Err(Fault::Asked { call }),
-            }
+    /// A step of this call, whose closures are told to answer this.
+    fn step(
+        &mut self,
+        replay: &mut Replay<'_, '_>,
+        call: u64,
+        accepted: bool,
+        hash: u64,
+    ) -> Result<Turn, Fault> {
+        if self.steps == 0 {
+            return Err(Fault::Unfinished);
         }
-        Err(Fault::Unfinished)
+        self.steps = self.steps.saturating_sub(1);
+        Ok(replay.step(call as usize, accepted, hash))
     }
+}
 
-    /// Takes steps of the call, at none of which it asks a closure, until it is about to offer its value at an empty bucket.
-    fn drive_to_empty(&mut self, call: u64) -> Result<(), Fault>
-        requires ready { IsReady E.IsAlwaysCallable H.IsAlwaysCallable F.IsAlwaysCallable E.Fn self.old }
-        ensures ready { IsReady E.IsAlwaysCallable H.IsAlwaysCallable F.IsAlwaysCallable E.Fn self.new }
-    {
-        let index = call as usize;
-        for _step in 0..STEPS {
-            if self.phase_at(index) == Phase::AtEmpty {
-                return Ok(());
-            }
-            let took = self.drive_told(index, true, 0)?;
-            if took != Took::Moved || self.ground.script.take_met().is_some() {
-                return Err(Fault::Asked { call });
-            }
-        }
-        Err(Fault::Unfinished)
+/// What comes at the end of this mark.
+fn end(replay: &mut Replay<'_, '_>, mark: Mark) -> Result<Turn, Fault> {
+    match mark {
+        Mark::Began(ask) => return replay.begin(ask),
+        Mark::Refuses(passing, refused) => replay.ground.memory.refuse(passing, refused),
+        Mark::Saw(sight) => compare_sight(replay, sight)?,
+        Mark::Told(call, said) => replay.compare_end(call, said)?,
+        _ => (),
     }
+    Ok(Turn::Nothing)
+}
 
-    /// The call can't take its next step, since another one has the lock.
-    fn drive_to_wait(&mut self, call: u64) -> Result<(), Fault>
-        requires ready { IsReady E.IsAlwaysCallable H.IsAlwaysCallable F.IsAlwaysCallable E.Fn self.old }
-        ensures ready { IsReady E.IsAlwaysCallable H.IsAlwaysCallable F.IsAlwaysCallable E.Fn self.new }
-    {
-        if self.drive_told(call as usize, true, 0)? == Took::Blocked {
-            return Ok(());
-        }
+/// The table and the machine show this now.
+fn compare_sight(replay: &mut Replay<'_, '_>, sight: Sight) -> Result<(), Fault> {
+    if sight != Sight::of(replay.ground.table, replay.ground.first) {
+        return Err(Fault::Sight);
+    }
+    replay.compare_walk()
+}
+
+/// Whether a mark has come to its end by a step that came to this, in which a closure was asked about the entry that was met.
+fn is_reached(mark: Mark, took: Took, met: Option<u64>) -> Result<bool, Fault> {
+    match mark {
+        Mark::Asked(call, entry, _) => meets(call, entry, took, met),
+        Mark::Hashed(call, entry, _) => meets(call, entry, took, met),
+        Mark::AtEmpty(call) => goes_on(call, took == Took::Moved, met),
+        Mark::Told(call, _) => goes_on(call, took != Took::Blocked, met),
+        Mark::Waits(call) => waits(call, took),
+        _ => Ok(false),
+    }
+}
+
+/// Whether a closure of the call was asked, which has to be about this entry. Else the call has to move.
+fn meets(call: u64, entry: u64, took: Took, met: Option<u64>) -> Result<bool, Fault> {
+    match met {
+        Some(met) if met == entry => Ok(true),
+        None if took == Took::Moved => Ok(false),
+        _ => Err(Fault::Asked { call }),
+    }
+}
+
+/// The call goes on, and no closure of it was asked.
+fn goes_on(call: u64, goes: bool, met: Option<u64>) -> Result<bool, Fault> {
+    if goes && met.is_none() {
+        Ok(false)
+    } else {
+        Err(Fault::Asked { call })
+    }
+}
+
+/// The call can't take its step, since another one has the lock.
+fn waits(call: u64, took: Took) -> Result<bool, Fault> {
+    if took == Took::Blocked {
+        Ok(true)
+    } else {
         Err(Fault::Step { call })
     }
+}
 
-    /// Takes steps of the call to its end, at none of which it asks a closure. It has to be told this.
-    fn drive_to_end(&mut self, call: u64, said: Said) -> Result<(), Fault>
-        requires ready { IsReady E.IsAlwaysCallable H.IsAlwaysCallable F.IsAlwaysCallable E.Fn self.old }
-        ensures ready { IsReady E.IsAlwaysCallable H.IsAlwaysCallable F.IsAlwaysCallable E.Fn self.new }
-    {
-        let index = call as usize;
-        for _step in 0..STEPS {
-            if self.phase_at(index) == Phase::Done {
-                return self.compare_end(call, said);
-            }
-            let took = self.drive_told(index, true, 0)?;
-            if took == Took::Blocked || self.ground.script.take_met().is_some() {
-                return Err(Fault::Asked { call });
-            }
+impl Schedule for Retrace<'_> {
+    fn next(&mut self, replay: &mut Replay<'_, '_>) -> Result<Turn, Fault> {
+        match self.left.first() {
+            Some(mark) => self.follow(replay, *mark),
+            None => replay.end(),
         }
-        Err(Fault::Unfinished)
     }
 
-    /// The call was told this at its end.
-    fn compare_end(&self, call: u64, said: Said) -> Result<(), Fault> {
-        let machine = self.said_at(call as usize);
-        if machine == Some(said) {
+    fn hear(&mut self, replay: &mut Replay<'_, '_>, stepped: Stepped) -> Result<(), Fault> {
+        replay.follow(stepped)?;
+        let Some(mark) = self.left.first() else {
             return Ok(());
+        };
+        if is_reached(*mark, stepped.took, replay.script.take_met())? {
+            self.pass();
         }
-        Err(Fault::Told {
-            call,
-            table: Some(said),
-            machine,
-        })
-    }
-
-    /// The table and the machine show this now.
-    fn compare_sight(&mut self, sight: Sight) -> Result<(), Fault>
-        requires ready { IsReady E.IsAlwaysCallable H.IsAlwaysCallable F.IsAlwaysCallable E.Fn self.old }
-        ensures ready { IsReady E.IsAlwaysCallable H.IsAlwaysCallable F.IsAlwaysCallable E.Fn self.new }
-    {
-        if sight != Sight::of(self.ground.table, self.ground.first) {
-            return Err(Fault::Sight);
-        }
-        self.compare_walk()
+        Ok(())
     }
 }

@@ -63,13 +63,8 @@ pub struct Trace {
 }
 
 impl Trace {
-    /// Nothing yet.
-    pub fn new(alloc: Global) -> Trace {
-        Trace::from_call(alloc, 0)
-    }
-
     /// Nothing yet, where so many calls have begun elsewhere.
-    pub fn from_call(alloc: Global, begun: u64) -> Trace {
+    pub fn new(alloc: Global, begun: u64) -> Trace {
         Trace {
             marks: RefCell::new(Vec::new(alloc)),
             begun: Cell::new(begun),

@@ -1,56 +1,27 @@
 //! Whole calls on a table, and what runs inside their closures.
-use crate::fault::Fault;
+use crate::fault::{Fault, granted};
 use crate::item::{Item, Said};
+use crate::replay::Ground;
 use crate::running::Table;
 use crate::schedules::{Ask, hash_of};
-use crate::script::Script;
+use crate::script::{Manner, Script};
 use crate::whole_calls::trace::{Mark, Sight, Trace};
 use crate::whole_calls::{Plan, Top};
-use std::alloc::Global;
 use std::cell::Cell;
 use std::sync::Wait;
-use testkit_refusing::Refusing;
 
 /// How many classes there are to draw from.
 const CLASSES: u64 = 60;
 
-/// Which calls run inside a closure.
-pub(crate) enum Cuts<'c> {
-    /// Some that are drawn.
-    Drawn,
-    /// These, inside the first closure that is asked once they are due.
-    Once(&'c [Ask], Cell<bool>),
-}
-
-impl<'c> Cuts<'c> {
-    /// Those of a plan.
-    pub(crate) fn new(plan: Plan<'c>) -> Cuts<'c> {
-        match plan {
-            Plan::Drawn { .. } => Cuts::Drawn,
-            Plan::Worked { inside, .. } => Cuts::Once(inside, Cell::new(false)),
-        }
-    }
-}
-
-impl Drop for Cuts<'_> {
-    fn drop(self) {
-        match self {
-            Cuts::Drawn => (),
-            Cuts::Once(_asks, _due) => (),
-        }
-    }
-}
-
-/// A table, its memory, and what notes the calls on it.
-pub(crate) struct Whole<'w, 'n, 'm, R: Wait> {
-    pub(crate) rt: &'w R,
-    pub(crate) alloc: Global,
-    pub(crate) first: u64,
-    pub(crate) memory: &'m Refusing<Global>,
-    pub(crate) table: &'w Table<'m>,
+/// A table, what its closures answer, what notes the calls on it, and the calls that run inside the first closure that is asked
+/// once they are due. Without those, some that are drawn run inside of closures.
+#[derive(Drop)]
+pub(crate) struct Scene<'w, 'n, 'm> {
+    pub(crate) ground: Ground<'w, 'm>,
     pub(crate) script: &'n Script,
     pub(crate) trace: &'n Trace,
-    pub(crate) cuts: Cuts<'n>,
+    inside: Option<&'n [Ask]>,
+    due: Cell<bool>,
 }
 
 /// Which lock is held where a closure is asked.
@@ -77,104 +48,50 @@ impl Lock {
     }
 }
 
-impl<'w, 'n, 'm, R: Wait> Whole<'w, 'n, 'm, R> {
-    /// A whole call, inside whose closures `inside` runs with the lock that is held.
-    pub(crate) fn call<I: Fn(Lock)>(&self, ask: Ask, lock: Lock, inside: &I) -> Result<(), Fault>
-        requires { I.IsAlwaysCallable inside.now }
-    {
-        match ask {
-            Ask::Insert { class, hash } => self.insert(class, hash, lock, inside),
-            Ask::Lookup { class, hash } => {
-                self.lookup(class, hash, lock, inside);
-                Ok(())
-            }
+impl<'w, 'n, 'm> Scene<'w, 'n, 'm> {
+    /// No call yet.
+    fn new(
+        ground: Ground<'w, 'm>,
+        script: &'n Script,
+        trace: &'n Trace,
+        inside: Option<&'n [Ask]>,
+    ) -> Self {
+        Scene {
+            ground,
+            script,
+            trace,
+            inside,
+            due: Cell::new(false),
         }
-    }
-
-    /// A whole insert.
-    fn insert<I: Fn(Lock)>(
-        &self,
-        class: u64,
-        hash: u64,
-        lock: Lock,
-        inside: &I,
-    ) -> Result<(), Fault>
-        requires { I.IsAlwaysCallable inside.now }
-    {
-        let number = self.trace.begin(Ask::Insert { class, hash });
-        let value = Box::new(
-            self.alloc,
-            Item {
-                number,
-                class,
-                hash,
-            },
-        )?;
-        let reply = self.table.insert(
-            self.rt,
-            hash,
-            value,
-            |new: &Item, entry: &Item| -> bool
-                requires { I.IsAlwaysCallable inside.now }
-            {
-                let accepted = self.says(number, new.class, entry);
-                inside(lock.inside_insert());
-                accepted
-            },
-            |entry: &Item| -> u64
-                requires { I.IsAlwaysCallable inside.now }
-            {
-                let told = self.script.rehashes(entry.hash);
-                self.trace.note(Mark::Hashed(number, entry.number, told));
-                inside(Lock::Alone);
-                told
-            },
-        );
-        self.trace.note(Mark::Told(number, Said::of_insert(&reply)));
-        Ok(())
-    }
-
-    /// A whole look-up.
-    fn lookup<I: Fn(Lock)>(&self, class: u64, hash: u64, lock: Lock, inside: &I)
-        requires { I.IsAlwaysCallable inside.now }
-    {
-        let number = self.trace.begin(Ask::Lookup { class, hash });
-        let shown = self.table.lookup(
-            hash,
-            |entry: &Item| -> bool
-                requires { I.IsAlwaysCallable inside.now }
-            {
-                let accepted = self.says(number, class, entry);
-                inside(lock);
-                accepted
-            },
-        );
-        self.trace.note(Mark::Told(number, Said::of_lookup(shown)));
     }
 
     /// What a call is told that asks whether an entry is of its class.
     fn says(&self, number: u64, class: u64, entry: &Item) -> bool {
-        let accepted = self.script.says(class, entry.class);
+        let accepted = self.script.says(class, entry);
         self.trace.note(Mark::Asked(number, entry.number, accepted));
         accepted
     }
 
-    /// Looks at the table.
-    fn look(&self) {
-        self.trace
-            .note(Mark::Saw(Sight::of(self.table, self.first)));
+    /// What an insert is told that asks for the hash of an entry.
+    fn rehashes(&self, number: u64, entry: &Item) -> u64 {
+        let told = self.script.rehashes(entry);
+        self.trace.note(Mark::Hashed(number, entry.number, told));
+        told
+    }
+
+    /// A call inside a closure ended so. Looks at the table.
+    fn look_after(&self, ended: Result<(), Fault>) {
+        self.trace.keep(ended);
+        let sight = Sight::of(self.ground.table, self.ground.first);
+        self.trace.note(Mark::Saw(sight));
     }
 
     /// Whether an insert that is begun now would end, while this lock is held: it would wait for ever for the lock of its own
     /// growth, or one around it would.
     fn may_insert(&self, lock: Lock) -> bool {
-        let capacity = match self.table.current() {
-            Some(current) => current.generation.capacity(),
-            None => 0,
-        };
         match lock {
             Lock::Free => true,
-            Lock::Shared => self.table.len().saturating_add(1) < capacity / 2,
+            Lock::Shared => has_room(self.ground.table),
             Lock::SharedTwice | Lock::Alone => false,
         }
     }
@@ -188,51 +105,6 @@ impl<'w, 'n, 'm, R: Wait> Whole<'w, 'n, 'm, R> {
         } else {
             Ask::Insert { class, hash }
         }
-    }
-
-    /// Inside a closure of a call that no other call runs around.
-    fn run_inside(&self, lock: Lock) {
-        match &self.cuts {
-            Cuts::Once(asks, due) => {
-                if due.replace(false) {
-                    self.run_once(asks, lock);
-                }
-            }
-            Cuts::Drawn => {
-                if self.script.draw(4) == 0 {
-                    let ask = self.ask_drawn(lock);
-                    let deeper = |held: Lock| self.run_deeper(held);
-                    self.trace.keep(self.call(ask, lock, &deeper));
-                    self.look();
-                }
-            }
-        }
-    }
-
-    /// Inside a closure of a call that runs inside another one.
-    fn run_deeper(&self, lock: Lock) {
-        if self.script.draw(4) == 0 {
-            let ask = self.ask_drawn(lock);
-            self.trace.keep(self.call(ask, lock, &|_lock: Lock| ()));
-            self.look();
-        }
-    }
-
-    /// These calls, one after the other.
-    fn run_once(&self, asks: &[Ask], lock: Lock) {
-        for ask in asks {
-            self.trace.keep(self.call(*ask, lock, &|_lock: Lock| ()));
-            self.look();
-        }
-    }
-
-    /// A call that no other call runs around.
-    fn run_top(&self, top: Top) -> Result<(), Fault> {
-        self.memory.refuse(top.passing, top.refused);
-        self.trace.note(Mark::Refuses(top.passing, top.refused));
-        self.call(top.ask, Lock::Free, &|lock: Lock| self.run_inside(lock))?;
-        self.look();
-        Ok(())
     }
 
     /// A call that is drawn, and what is refused to it.
@@ -249,12 +121,156 @@ impl<'w, 'n, 'm, R: Wait> Whole<'w, 'n, 'm, R> {
         }
     }
 
+    /// Of the requests of this call the first few are granted, and so many of the next are refused.
+    fn refuse(&self, top: Top) {
+        self.ground.memory.refuse(top.passing, top.refused);
+        self.trace.note(Mark::Refuses(top.passing, top.refused));
+    }
+}
+
+/// Whether a table stays its generation with one more entry, and another one after it.
+fn has_room(table: &Table<'_>) -> bool {
+    match table.current() {
+        Some(current) => table.len().saturating_add(1) < current.generation.capacity() / 2,
+        None => false,
+    }
+}
+
+/// Whole calls on a table.
+pub(crate) struct Whole<'w, 'n, 'm, R: Wait> {
+    pub(crate) rt: &'w R,
+    pub(crate) scene: Scene<'w, 'n, 'm>,
+}
+
+impl<R: Wait> Drop for Whole<'_, '_, '_, R> {
+    fn drop(self) {
+        let Whole {
+            rt: _,
+            scene: _scene,
+        } = self;
+    }
+}
+
+/// What runs inside the closures of a whole call.
+pub(crate) trait Inside {
+    /// Runs, while this lock is held.
+    fn run<R: Wait>(&self, whole: &Whole<'_, '_, '_, R>, lock: Lock);
+}
+
+/// Nothing.
+struct Nothing;
+
+impl Inside for Nothing {
+    fn run<R: Wait>(&self, _whole: &Whole<'_, '_, '_, R>, _lock: Lock) {}
+}
+
+/// One call of four that are drawn. Nothing runs inside it.
+struct Deeper;
+
+impl Inside for Deeper {
+    fn run<R: Wait>(&self, whole: &Whole<'_, '_, '_, R>, lock: Lock) {
+        if whole.scene.script.draw(4) == 0 {
+            let ask = whole.scene.ask_drawn(lock);
+            whole.scene.look_after(whole.call(ask, lock, &Nothing));
+        }
+    }
+}
+
+/// Those that cut into a call that no other call runs around.
+struct Cutting;
+
+impl Inside for Cutting {
+    fn run<R: Wait>(&self, whole: &Whole<'_, '_, '_, R>, lock: Lock) {
+        if let Some(asks) = whole.scene.inside {
+            if whole.scene.due.replace(false) {
+                whole.run_once(asks, lock);
+            }
+        } else if whole.scene.script.draw(4) == 0 {
+            let ask = whole.scene.ask_drawn(lock);
+            whole.scene.look_after(whole.call(ask, lock, &Deeper));
+        }
+    }
+}
+
+impl<'w, 'n, 'm, R: Wait> Whole<'w, 'n, 'm, R> {
+    /// A whole call, inside whose closures something runs with the lock that is held.
+    pub(crate) fn call<I: Inside>(&self, ask: Ask, lock: Lock, inside: &I) -> Result<(), Fault> {
+        let number = self.scene.trace.begin(ask);
+        let said = match ask {
+            Ask::Insert { class, hash } => self.insert(
+                Item {
+                    number,
+                    class,
+                    hash,
+                },
+                lock.inside_insert(),
+                inside,
+            )?,
+            Ask::Lookup { class, hash } => self.lookup(number, class, hash, lock, inside),
+        };
+        self.scene.trace.note(Mark::Told(number, said));
+        Ok(())
+    }
+
+    /// A whole insert, inside whose questions for an equal this lock is held.
+    fn insert<I: Inside>(&self, item: Item, lock: Lock, inside: &I) -> Result<Said, Fault> {
+        let value = granted(Box::new(self.scene.ground.alloc, item))?;
+        let reply = self.scene.ground.table.insert(
+            self.rt,
+            item.hash,
+            value,
+            |new: &Item, entry: &Item| {
+                let accepted = self.scene.says(new.number, new.class, entry);
+                inside.run(self, lock);
+                accepted
+            },
+            |entry: &Item| {
+                let told = self.scene.rehashes(item.number, entry);
+                inside.run(self, Lock::Alone);
+                told
+            },
+        );
+        Ok(Said::of_insert(&reply))
+    }
+
+    /// A whole look-up.
+    fn lookup<I: Inside>(
+        &self,
+        number: u64,
+        class: u64,
+        hash: u64,
+        lock: Lock,
+        inside: &I,
+    ) -> Said {
+        let shown = self.scene.ground.table.lookup(hash, |entry: &Item| {
+            let accepted = self.scene.says(number, class, entry);
+            inside.run(self, lock);
+            accepted
+        });
+        Said::of_lookup(shown)
+    }
+
+    /// These calls, one after the other.
+    fn run_once(&self, asks: &[Ask], lock: Lock) {
+        for ask in asks {
+            self.scene.look_after(self.call(*ask, lock, &Nothing));
+        }
+    }
+
+    /// A call that no other call runs around.
+    fn run_top(&self, top: Top) -> Result<(), Fault> {
+        self.scene.refuse(top);
+        self.call(top.ask, Lock::Free, &Cutting)?;
+        self.scene.look_after(Ok(()));
+        Ok(())
+    }
+
     /// All calls of the plan.
-    pub(crate) fn run(&self, plan: Plan<'_>) -> Result<(), Fault> {
+    fn run(&self, plan: Plan<'_>) -> Result<(), Fault> {
         match plan {
             Plan::Drawn { tops, refuses } => {
                 for _top in 0..tops {
-                    self.run_top(self.draw_top(refuses))?;
+                    self.run_top(self.scene.draw_top(refuses))?;
                 }
                 Ok(())
             }
@@ -267,26 +283,49 @@ impl<'w, 'n, 'm, R: Wait> Whole<'w, 'n, 'm, R> {
         let mut left = tops.len();
         for top in tops {
             left = left.saturating_sub(1);
-            if let Cuts::Once(_, due) = &self.cuts {
-                due.set(left == 0);
-            }
+            self.scene.due.set(left == 0);
             self.run_top(*top)?;
         }
         Ok(())
     }
 }
 
-impl<R: Wait> Drop for Whole<'_, '_, '_, R> {
-    fn drop(self) {
-        let Whole {
-            rt: _,
-            alloc: _,
-            first: _,
-            memory: _,
-            table: _,
-            script: _,
-            trace: _,
-            cuts: _cuts,
-        } = self;
-    }
+/// All calls of a plan on a table: what they do.
+pub(crate) fn run_plan<R: Wait>(
+    rt: &R,
+    ground: Ground<'_, '_>,
+    script: &Script,
+    plan: Plan<'_>,
+) -> Result<Vec<Mark>, Fault> {
+    let trace = Trace::new(ground.alloc, 0);
+    let inside = match plan {
+        Plan::Drawn { .. } => None,
+        Plan::Worked { inside, .. } => Some(inside),
+    };
+    let whole = Whole {
+        rt,
+        scene: Scene::new(ground, script, &trace, inside),
+    };
+    whole.run(plan)?;
+    drop(whole);
+    trace.into_marks()
+}
+
+/// The call of this number on a table: what it does.
+pub(crate) fn run_alone<R: Wait, I: Inside>(
+    rt: &R,
+    ground: Ground<'_, '_>,
+    number: u64,
+    ask: Ask,
+    inside: &I,
+) -> Result<Vec<Mark>, Fault> {
+    let script = Script::new(Manner::Lawful, 0);
+    let trace = Trace::new(ground.alloc, number);
+    let whole = Whole {
+        rt,
+        scene: Scene::new(ground, &script, &trace, None),
+    };
+    whole.call(ask, Lock::Free, inside)?;
+    drop(whole);
+    trace.into_marks()
 }

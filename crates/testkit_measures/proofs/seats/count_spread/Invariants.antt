@@ -1,6 +1,5 @@
-use Rattle.std.proofs.Common.{◌≤◌}
 use Rattle.seated.specs.Tables.{IsSeatOf}
 use Rattle.testkit_measures.proofs.seats.count_spread.Given as goal
 
 abbrev pub invariant-loop-index : goal.invariant-loop-index
-invariant-loop-index _ l = (l.found ≤ l.index) × IsSeatOf l.table l.seat
+invariant-loop-index l = IsSeatOf l.table l.seat

@@ -4,4 +4,4 @@ use Rattle.seated.specs.Numbers.{own_numbers}
 use Rattle.testkit_measures.proofs.seats.insert_in_order.Given as goal
 
 abbrev pub invariant-loop-index : goal.invariant-loop-index
-invariant-loop-index _ l = IsSeatOf l.table l.seat × (length (own_numbers l.seat) ≡ length (own_numbers l.initial.seat) + l.placed) × (l.placed ≤ l.index)
+invariant-loop-index l = IsSeatOf l.table l.seat × (length (own_numbers l.seat) ≡ length (own_numbers l.initial.seat) + l.placed) × (l.placed ≤ l.index)

@@ -2,4 +2,4 @@ use Rattle.table_shared.specs.Stepped.{MayStep}
 use Rattle.test_replays.proofs.tests.drops.advance_times.Given as goal
 
 abbrev pub invariant-loop : goal.invariant-loop
-invariant-loop g l = MayStep (goal.E-IsAlwaysCallable g) (goal.H-IsAlwaysCallable g) g.T.AtomicValue.target g.E.Fn l.call
+invariant-loop g l = MayStep (goal.E-IsAlwaysCallable g) (goal.H-IsAlwaysCallable g) (λ b. b.value) g.E.Fn l.call
