@@ -4,6 +4,7 @@ use Rattle.std.specs.Prelude.{◌==◌}
 use Rattle.std.specs.List.{slice_get}
 use Rattle.table_core.specs.Replies.{Reply, ReplyPlaced, ReplyFound, ReplyRefused, ReplySome, ReplyNone, ReplyLen, ReplyWalk, Finished}
 use Rattle.table_core.specs.Generations.{Table, bucket_in}
+use Rattle.table_core.specs.Phases.{about, first_phase}
 use Rattle.table_core.specs.Calls.{Call, starts, is_done}
 use Rattle.table_core.specs.Machine.{World, empty, walked_gen, refused, found_entry, reply_of_outcome, Act, acts, after, run}
 use Rattle.table_core.specs.History.{begun_by, beginnings}
@@ -13,7 +14,7 @@ use Rattle.table_core.specs.declared.event.Event.TheVariants.{Insert}
 use Rattle.table_core.specs.declared.generation.Entry.{Entry}
 use Rattle.table_core.specs.declared.call.CallState.{CallState}
 use Rattle.table_core.specs.declared.call.Phase.{Phase}
-use Rattle.table_core.specs.declared.call.Phase.TheVariants.{WantShared, LookLoad, LookProbe, LenLoad, LenSize, WalkLoad, WalkAt}
+use Rattle.table_core.specs.declared.call.Phase.TheVariants.{WantShared, LookLoad, LenLoad, WalkLoad}
 use Rattle.table_core.specs.declared.call.Outcome.{Outcome}
 use Rattle.table_core.specs.declared.call.Outcome.TheVariants.{Pending, New, Existing}
 use Rattle.table_core.specs.declared.call.Answer.{Answer}
@@ -27,13 +28,7 @@ use Rattle.table_core.proofs.Callings.{row_not_done}
 
 -- the phase in which a call in this one began
 abbrev opening : Phase → Phase
-opening LookLoad = LookLoad
-opening LookProbe = LookLoad
-opening LenLoad = LenLoad
-opening LenSize = LenLoad
-opening WalkLoad = WalkLoad
-opening WalkAt = WalkLoad
-opening _ = WantShared
+opening p = first_phase (about p).caller
 
 row_opening : (w : World) (c : Call) {p : Phase} {x : Event} {a : Answer} {r : CallState} {ls : List ℕ} {t : Table} {q : Option Reply} → Row w c p x a r ls t q → (opening r.phase ≡ opening p) ⊎ (is_done r.phase ≡ true)
 row_opening w c (looks_none _ _) = inr refl

@@ -6,6 +6,7 @@ use Rattle.table_core.proofs.Weights.{weigh, count_by-weigh, same_weights}
 use Rattle.table_core.specs.Replies.{Reply, ReplyFound, ReplyRefused, Finished}
 use Rattle.table_core.specs.Generations.{Gen, Table, last_of, gen_of, bucket_in, is_current}
 use Rattle.table_terms.specs.Capacities.{IsFirstCapacity}
+use Rattle.table_core.specs.Phases.{stands}
 use Rattle.table_core.specs.Calls.{Call, starts, is_done, is_pending}
 use Rattle.table_core.specs.Machine.{World, empty, walked_gen, refused, reply_of_outcome, reply, Act, Begins, acts, finished_call, finishes, after}
 use Rattle.table_core.specs.History.{replies, placed_by, placed, given, handed_back, back, kept, runs, running}
@@ -28,7 +29,7 @@ use Rattle.table_core.specs.Law.{Law, accepts, IsLawful}
 use Rattle.table_core.specs.Bound.{one_if}
 use Rattle.table_core.specs.Lists.{IsSettled, is_refusal, NoneRefusedInVain, Classes, SameClasses}
 use Rattle.table_core.proofs.Turns.{Turn, rests, opens, takes}
-use Rattle.table_core.proofs.Standing.{stands, pending_of}
+use Rattle.table_core.proofs.Standing.{pending_of}
 use Rattle.table_core.proofs.Facts.{Within, probing, wants_growth, is_asking, LawOk, Inv}
 use Rattle.table_core.proofs.Contents.{in_bucket, same_number}
 use Rattle.table_core.proofs.Pasts.{turn_after, placed_snoc, replies_snoc, by_snoc, by_snoc_from}

@@ -58,7 +58,7 @@ no_position n [] h = refl
 no_position n (c ∷ cs) h = none_if (c.number == n) (position_of n cs) c _ h (no_position n cs)
 
 -- an event that begins no call is taken by the call of its number
-not_opened : (w : World) (x : Event) → opening x ≡ None → act_of w x ≡ call_acts w (call_numbered (number_of x) w.calls) x
+pub not_opened : (w : World) (x : Event) → opening x ≡ None → act_of w x ≡ call_acts w (call_numbered (number_of x) w.calls) x
 not_opened w (Insert c v h) e = absurd (cc)
 not_opened w (Lookup c h) e = absurd (cc)
 not_opened w (Len c) e = absurd (cc)

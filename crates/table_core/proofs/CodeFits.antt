@@ -136,6 +136,16 @@ walk_keeps w c _ a f = absurd (cc)
 pub finds_same : (w v : World) (s r : CallState) (x : Event) (o : Option Answer) (a : Answer) → w ≡ v → s ≡ r → o ≡ finds v s x → o ≡ Some a → finds w r x ≡ Some a
 finds_same w v s r x o a e q f g = ap (λ z. finds z r x) e ∙ ap (λ z. finds v z x) (sym q) ∙ sym f ∙ g
 
+-- a call stands once at its place
+pub same_call : (cs : List Call) (i : ℕ) (c d : Call) → slice_get cs i ≡ Some c → slice_get cs i ≡ Some d → c ≡ d
+same_call cs i c d h k = let z : Some c ≡ Some d = sym h ∙ k in cc
+
+-- the state that was read at a place is that of its call, and so is what was found in it
+pub found_at : (w v : World) (i : ℕ) (c d : Call) (s : CallState) (x : Event) (o : Option Answer) (a : Answer) → w ≡ v → slice_get w.calls i ≡ Some c → s ≡ c.state → o ≡ finds v s x → o ≡ Some a → slice_get w.calls i ≡ Some d → (s ≡ d.state) × (finds w d.state x ≡ Some a)
+found_at w v i c d s x o a e h k q f g =
+    let r : s ≡ d.state = k ∙ ap (λ (y : Call). y.state) (same_call w.calls i c d h g) in
+    (r, finds_same w v s d.state x o a e r q f)
+
 -- a walk has moved
 pub go_walk : (w v : World) (i : ℕ) (c : Call) (x : Event) (a : Answer) (now : List Call) → w ≡ v → c.state.phase ≡ WalkAt → finds w c.state x ≡ Some a → now ≡ slice_set w.calls i (call_after w.table c a) →
     record { table = w.table; calls = now } ≡ moved v i c x (finds v c.state x)

@@ -6,6 +6,7 @@ use Rattle.table_core.proofs.Weights.{weigh}
 use Rattle.table_core.specs.Replies.{Reply, Finished}
 use Rattle.table_core.specs.Generations.{Gen, Build, Table, bucket, put_in, first_empty, fresh, fill, count, copy_in, last_of, current, change_at, change, next_capacity, entries_of, entry_left, next_copied, copy_on, built}
 use Rattle.table_terms.specs.Hashes.{bits_of}
+use Rattle.table_core.specs.Phases.{stands}
 use Rattle.table_core.specs.Calls.{Call, holds_shared}
 use Rattle.table_core.specs.Machine.{World, empty, bucket_of, place, add_one, begin_growth, show_built, Act, Goes}
 use Rattle.table_core.specs.History.{placed_by}
@@ -24,7 +25,7 @@ use Rattle.std.specs.Option.{is_some}
 use Rattle.table_core.specs.Bound.{one_if}
 use Rattle.table_core.proofs.Turns.{Turn, rests, opens, takes}
 use Rattle.table_core.proofs.Pasts.{append-none}
-use Rattle.table_core.proofs.Standing.{fitting, stands, IsLast, CallOk, CallsOk, length-change}
+use Rattle.table_core.proofs.Standing.{fitting, IsLast, CallOk, CallsOk, length-change}
 use Rattle.table_core.proofs.Facts.{values, In, Holding, Grew, AllGrew}
 use Rattle.std.proofs.lemmas.Bool.{false_from_ne_true}
 

@@ -5,15 +5,16 @@ use Rattle.table_core.specs.Replies.{Reply, Finished}
 use Rattle.table_core.specs.Generations.{Table}
 use Rattle.table_terms.specs.Hashes.{bits_of}
 use Rattle.table_core.specs.Calls.{Call, starts, is_used, call_numbered, replaced, decided}
-use Rattle.table_core.specs.Machine.{World, finds_in, finds, changed, reply_in, list_in, number_of, in_range, Act, Begins, Goes, act_of, acts, after_act, happens, finished_call, finished_by, finishes}
+use Rattle.table_core.specs.Machine.{World, finds_in, finds, changed, reply_in, list_in, number_of, in_range, Act, Begins, Goes, acts, after_act, happens, finished_call, finished_by, finishes}
 use Rattle.table_core.specs.declared.event.Event.{Event}
-use Rattle.table_core.specs.declared.event.Event.TheVariants.{Insert, Lookup, Len, Walk}
 use Rattle.table_core.specs.declared.call.CallState.{CallState}
 use Rattle.table_core.specs.declared.call.Phase.{Phase}
 use Rattle.table_core.specs.declared.call.Answer.{Answer}
 use Rattle.table_core.specs.declared.call.Answer.TheVariants.{Holds, HoldsUnasked, Begun, Failed}
 use Rattle.table_core.specs.Machine.{call_acts}
 use Rattle.table_core.specs.Steps.{IsTheStep, OnlyStep, moves_lock, HoldsAsBefore, LockStays, Row, shares, loads_none, loads, reads_empty, meets, turns, turns_unasked, goes_on, goes_on_unasked, memory_refused, puts, loses_meets, loses_turns, loses_turns_unasked, loses_goes_on, loses_goes_on_unasked, adds, leaves_ok, leaves_grow, leaves_refused, large, small, owns, begins_first, fails_first, unwanted, fails_largest, fails_refused, begins_next, copies, shows, ends, starts_over, ends_failed, gives_up, tries_again, looks_none, looks, look_empty, look_meets, look_turns, look_turns_unasked, look_goes_on, look_goes_on_unasked, len_none, len_loads, len_size, walk_none, walk_loads, walk_skips_last, walk_takes_last, walk_skips, walk_takes, Opens, opens_insert, opens_lookup, opens_len, opens_walk, IsNewValue, left, Takes, Step, moves, stays, begins, goes}
+use Rattle.table_core.specs.Openings.{opening}
+use Rattle.table_core.proofs.CodeEvents.{not_opened}
 use Rattle.table_core.proofs.Rows.{StepsBy, steps}
 
 never_begins : (m : Bool) → (if m && not ((2 ^ 63) == (2 ^ 63)) then Begun else Failed) ≡ Failed
@@ -105,29 +106,15 @@ begins_so w (opens_lookup n h) r u f = rw (r, u) refl
 begins_so w (opens_len n) r u f = rw (r, u) refl
 begins_so w (opens_walk n) r u f = rw (r, u) refl
 
--- an event that begins no call
-abbrev is_move : Event → Bool
-is_move (Insert _ _ _) = false
-is_move (Lookup _ _) = false
-is_move (Len _) = false
-is_move (Walk _) = false
-is_move _ = true
-
-row_moves : (w : World) (c : Call) {p : Phase} {x : Event} {a : Answer} {s : CallState} {ls : List ℕ} {t : Table} {o : Option Reply} → Row w c p x a s ls t o → is_move x ≡ true
+-- the event of a row begins no call
+row_moves : (w : World) (c : Call) {p : Phase} {x : Event} {a : Answer} {s : CallState} {ls : List ℕ} {t : Table} {o : Option Reply} → Row w c p x a s ls t o → opening x ≡ None
 row_moves w c (shares n h) = refl
 row_moves w c _ = refl
-
-move_goes : (w : World) (x : Event) → is_move x ≡ true → act_of w x ≡ call_acts w (call_numbered (number_of x) w.calls) x
-move_goes w (Insert n v h) m = absurd (cc)
-move_goes w (Lookup n h) m = absurd (cc)
-move_goes w (Len n) m = absurd (cc)
-move_goes w (Walk n) m = absurd (cc)
-move_goes w _ m = refl
 
 goes_so : (w : World) (c : Call) {p : Phase} {x : Event} {a : Answer} {s : CallState} {ls : List ℕ} {t : Table} {o : Option Reply} → Row w c p x a s ls t o → in_range x ≡ true → call_numbered (number_of x) w.calls ≡ Some c → finds w c.state x ≡ Some a → acts w x ≡ Some (Goes c a)
 goes_so w c {x = x} {a = a} row r h f =
     let e : call_acts w (call_numbered (number_of x) w.calls) x ≡ Some (Goes c a) = rw (h, f) refl in
-    rw r (move_goes w x (row_moves w c row) ∙ e)
+    rw r (not_opened w x (row_moves w c row) ∙ e)
 
 -- the machine does whatever the table of events says
 pub acts_so : (w : World) {x : Event} {a : Act} {v : World} {r : Option Finished} → Takes w x a v r → acts w x ≡ Some a

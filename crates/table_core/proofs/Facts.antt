@@ -7,12 +7,13 @@ use Rattle.table_core.specs.Replies.{Finished}
 use Rattle.table_core.specs.Generations.{Gen, Build, Table, bucket, current, gen_of, bucket_in, entries_of}
 use Rattle.table_terms.specs.Hashes.{bits_of}
 use Rattle.table_terms.specs.Probes.{bucket_at}
+use Rattle.table_core.specs.Phases.{about, can_meet, asks_for_entry}
 use Rattle.table_core.specs.Calls.{Call, stands_at_bucket}
 use Rattle.table_core.specs.Machine.{World}
 use Rattle.table_core.specs.History.{back, picks}
 use Rattle.table_core.specs.declared.generation.Entry.{Entry}
 use Rattle.table_core.specs.declared.call.Phase.{Phase}
-use Rattle.table_core.specs.declared.call.Phase.TheVariants.{Probe, AtEmpty, Placed, LeaveOk, LeaveGrow, AskSize, WantOwned, Owned, Building, LeaveOwned, LeaveFailed, LookProbe, LenLoad, LenSize, WalkLoad, WalkAt, Done}
+use Rattle.table_core.specs.declared.call.Phase.TheVariants.{Placed, LeaveOk, LeaveGrow, AskSize, WantOwned, Owned, Building, LeaveOwned, LeaveFailed, LenSize, WalkAt, Done}
 use Rattle.table_core.specs.declared.call.Outcome.{Outcome}
 use Rattle.table_core.specs.declared.call.Outcome.TheVariants.{Pending, New, Existing}
 use Rattle.table_core.proofs.Locks.{Locked}
@@ -102,10 +103,7 @@ pub record Valued (w : World) : Type 0 where
   pub apart : (i j : ℕ) (c d : Call) (v : ℕ) → slice_get w.calls i ≡ Some c → slice_get w.calls j ≡ Some d → c.value ≡ Some v → d.value ≡ Some v → i ≡ j
 
 abbrev pub probing : Phase → Bool
-probing Probe = true
-probing AtEmpty = true
-probing LookProbe = true
-probing _ = false
+probing p = can_meet (about p).next
 
 -- a call that probes: its generation, its bucket, and the set buckets that it has passed
 pub record Probing (gens : List Gen) (c : Call) : Type 0 where
@@ -205,12 +203,7 @@ pub record Missed (l : Law) (c : Call) (g : Gen) (n : ℕ) : Type 0 where
 
 -- a call in a phase that it has before its reply
 abbrev pub is_asking : Phase → Bool
-is_asking LenLoad = false
-is_asking LenSize = false
-is_asking WalkLoad = false
-is_asking WalkAt = false
-is_asking Done = false
-is_asking _ = true
+is_asking p = asks_for_entry (about p).caller
 
 pub record Judged (l : Law) (gens : List Gen) (c : Call) : Type 0 where
   -- what the call accepts has its hash

@@ -5,6 +5,7 @@ use Rattle.std.specs.List.{slice_get}
 use Rattle.table_core.proofs.Weights.{count_of, count_by-count_of}
 use Rattle.table_core.specs.Replies.{Reply, Finished}
 use Rattle.table_core.specs.Generations.{Gen, Build, Table, count, current, is_current}
+use Rattle.table_core.specs.Phases.{about, loads_next}
 use Rattle.table_core.specs.Calls.{Call, starts, holds_owned, is_pending}
 use Rattle.table_core.specs.Machine.{World, empty, show_built, Act, Goes, acts, after}
 use Rattle.table_core.specs.History.{replies, placed, loaded_by, generations_loaded}
@@ -12,7 +13,7 @@ use Rattle.table_core.specs.Steps.{Row, shares, loads_none, loads, puts, adds, u
 use Rattle.table_core.specs.declared.event.Event.{Event}
 use Rattle.table_core.specs.declared.call.CallState.{CallState}
 use Rattle.table_core.specs.declared.call.Phase.{Phase}
-use Rattle.table_core.specs.declared.call.Phase.TheVariants.{WantShared, Shared, Owned, Building, LeaveOwned, LeaveFailed, LookLoad, LenLoad, WalkLoad}
+use Rattle.table_core.specs.declared.call.Phase.TheVariants.{WantShared, Owned, Building, LeaveOwned, LeaveFailed}
 use Rattle.table_core.specs.declared.call.Outcome.{Outcome}
 use Rattle.table_core.specs.declared.call.Outcome.TheVariants.{Pending, New, Existing}
 use Rattle.table_core.specs.declared.call.Answer.{Answer}
@@ -44,12 +45,8 @@ own_loaded c _ n e = refl
 -- a call that may load: what it has loaded is not the current generation
 abbrev may_load : Phase → Outcome → Bool
 may_load WantShared o = true
-may_load Shared o = true
-may_load LookLoad o = true
-may_load LenLoad o = true
-may_load WalkLoad o = true
-may_load LeaveOwned Pending = true
-may_load _ o = false
+may_load LeaveOwned o = is_pending o
+may_load p o = loads_next (about p).next
 
 -- what a call has loaded lies behind the n-th generation, or it is the one that it walks; and it lies behind where the call may load
 record Behind (n : ℕ) (s : CallState) (ls : List ℕ) : Type 0 where

@@ -4,6 +4,7 @@ use Rattle.std.specs.Prelude.{◌&&◌, option_to_list, not}
 use Rattle.table_core.specs.Replies.{Reply, ReplyPlaced, ReplyLen, ReplyWalk, Finished}
 use Rattle.table_core.specs.Generations.{Table}
 use Rattle.table_terms.specs.Capacities.{IsFirstCapacity}
+use Rattle.table_core.specs.Phases.{stands}
 use Rattle.table_core.specs.Calls.{Call, is_pending}
 use Rattle.table_core.specs.Machine.{World, empty, bucket_of, reply_of_outcome, Goes, acts, happens, finishes, run, after}
 use Rattle.table_core.specs.History.{replies, fate, placed_by, placed, has_later}
@@ -23,7 +24,7 @@ use Rattle.table_core.specs.ListObject.{Answers}
 use Rattle.table_core.specs.Law.{Law, IsLawful}
 use Rattle.table_core.specs.Lists.{asked, answered, is_list_reply, is_moment, may_be_refused, is_refusal, IsRight}
 use Rattle.table_core.proofs.Pasts.{after_snoc, has_later_append, placed_snoc}
-use Rattle.table_core.proofs.Standing.{fitting, stands, Each, of_each, implies, imply, pending_of}
+use Rattle.table_core.proofs.Standing.{fitting, Each, of_each, implies, imply, pending_of}
 use Rattle.table_core.proofs.Facts.{in_table, probing, is_asking}
 use Rattle.table_core.proofs.Invariant.{inv}
 use Rattle.table_core.proofs.Lawful.{law_after, lawful_before, fresh_value}

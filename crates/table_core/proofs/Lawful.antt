@@ -8,6 +8,7 @@ use Rattle.table_core.specs.Generations.{Gen, Build, Table, bucket, put_in, firs
 use Rattle.table_terms.specs.Hashes.{bits_of}
 use Rattle.table_terms.specs.Probes.{bucket_at}
 use Rattle.table_terms.specs.Capacities.{IsFirstCapacity}
+use Rattle.table_core.specs.Phases.{stands}
 use Rattle.table_core.specs.Calls.{Call, starts}
 use Rattle.table_core.specs.Machine.{World, empty, bucket_of, place, begin_growth, Act, Goes, happens, run, after}
 use Rattle.table_core.specs.History.{replies, placed_by, placed}
@@ -31,11 +32,11 @@ use Rattle.table_core.specs.Bound.{one_if}
 use Rattle.table_core.specs.Lists.{PlacedApart}
 use Rattle.table_core.proofs.Turns.{Turn, rests, opens, takes}
 use Rattle.table_core.proofs.Pasts.{append-none, turn_after, placed_snoc, by_snoc}
-use Rattle.table_core.proofs.Standing.{fitting, stands, CallOk}
+use Rattle.table_core.proofs.Standing.{fitting, CallOk}
 use Rattle.table_core.proofs.Facts.{In, IsSet, Holding, Grew, AllGrew, Seated, probing, Probing, wants_growth, Turned, Tracked, Way, Reached, Missed, is_asking, Judged, LawOk, Inv}
 use Rattle.table_core.proofs.Contents.{order, in_put, in_bucket, in_get, put_stays, bucket_none, bucket_some, row_grew, fit_at, entry_of}
 use Rattle.table_core.proofs.Seats.{first_empty_way, copy_room}
-use Rattle.table_core.proofs.Tracks.{growth_from, asking_outcome, load_outcome, none_shared, none_look, none_len, none_walk, tracked_row}
+use Rattle.table_core.proofs.Tracks.{growth_from, asking_outcome, load_outcome, tracked_row}
 use Rattle.table_core.proofs.Invariant.{inv}
 use Rattle.table_core.proofs.Truth.{and-not, not-and}
 use Rattle.std.proofs.lemmas.Bool.{and_parts, false_from_ne_true}
@@ -255,11 +256,11 @@ judged_met l w c (meets n y d b o) e f u m = met_accepted l w c d b (accepted_at
 judged_met l w c (loses_meets n y d b o) e f u m = met_accepted l w c d b (accepted_at l w c AtEmpty (Put n y true) d y e (λ x. x) b o u)
 judged_met l w c (look_meets n y d b o) e f u m = met_accepted l w c d b (accepted_at l w c LookProbe (Read n y) d y e (λ x. x) b o u)
 judged_met l w c (adds _) e f u m = λ i d h k. absurd (cc)
-judged_met l w c (loads _ _ _) e f u m = λ i d h k. absurd (load_outcome Shared none_shared (is_some c.value) c.state.outcome f i h)
-judged_met l w c (loads_none _ _) e f u m = λ i d h k. absurd (load_outcome Shared none_shared (is_some c.value) c.state.outcome f i h)
-judged_met l w c (looks _ _ _) e f u m = λ i d h k. absurd (load_outcome LookLoad none_look (is_some c.value) c.state.outcome f i h)
-judged_met l w c (len_loads _ _ _) e f u m = λ i d h k. absurd (load_outcome LenLoad none_len (is_some c.value) c.state.outcome f i h)
-judged_met l w c (walk_loads _ _ _) e f u m = λ i d h k. absurd (load_outcome WalkLoad none_walk (is_some c.value) c.state.outcome f i h)
+judged_met l w c (loads _ _ _) e f u m = λ i d h k. absurd (load_outcome Shared (λ i. (refl, refl)) (is_some c.value) c.state.outcome f i h)
+judged_met l w c (loads_none _ _) e f u m = λ i d h k. absurd (load_outcome Shared (λ i. (refl, refl)) (is_some c.value) c.state.outcome f i h)
+judged_met l w c (looks _ _ _) e f u m = λ i d h k. absurd (load_outcome LookLoad (λ i. (refl, refl)) (is_some c.value) c.state.outcome f i h)
+judged_met l w c (len_loads _ _ _) e f u m = λ i d h k. absurd (load_outcome LenLoad (λ i. (refl, refl)) (is_some c.value) c.state.outcome f i h)
+judged_met l w c (walk_loads _ _ _) e f u m = λ i d h k. absurd (load_outcome WalkLoad (λ i. (refl, refl)) (is_some c.value) c.state.outcome f i h)
 judged_met l w c _ e f u m = m
 
 pub judged_row : (l : Law) (w : World) (c : Call) {p : Phase} {x : Event} {a : Answer} {r : CallState} {ls : List ℕ} {t : Table} {q : Option Reply} → Row w c p x a r ls t q → c.state.phase ≡ p → CallOk (length w.table.gens) c → UsesBy l w c c.state.phase x → AllReached l w → Tracked w.table.gens c → Judged l w.table.gens c → Judged l w.table.gens (left c r ls)

@@ -1,6 +1,6 @@
 -- Who holds the lock.
 use Rattle.std.proofs.Common.{ℕ, suc, zero, ◌≡◌, ◌+◌, ◌≤◌, ◌++◌, List, [], ◌∷◌, Bool, true, false, refl, Option, Some, None, arith}
-use Rattle.std.specs.Prelude.{◌||◌, slice_set}
+use Rattle.std.specs.Prelude.{◌&&◌, ◌||◌, not, slice_set}
 use Rattle.std.specs.List.{slice_get}
 use Rattle.table_core.proofs.Weights.{weigh}
 use Rattle.table_core.specs.Replies.{Reply, Finished}
@@ -18,15 +18,13 @@ use Rattle.table_core.specs.Bound.{one_if}
 use Rattle.table_core.proofs.Turns.{Turn, rests, opens, takes}
 use Rattle.table_core.proofs.Lists.{weigh-append, weigh-set, none_counted, weigh-plus}
 
-abbrev pub is_owning : Phase → Bool
-is_owning Owned = true
-is_owning LeaveOwned = true
-is_owning LeaveFailed = true
-is_owning _ = false
-
 abbrev pub is_building : Phase → Bool
 is_building Building = true
 is_building _ = false
+
+-- it holds the lock alone, and builds nothing
+abbrev pub is_owning : Phase → Bool
+is_owning p = holds_owned p && not (is_building p)
 
 abbrev pub sharers : List Call → ℕ
 sharers cs = weigh (λ c. one_if (holds_shared c.state.phase)) cs

@@ -26,7 +26,7 @@ use Rattle.table_core.proofs.Turns.{Turn, rests, opens, takes}
 use Rattle.table_core.proofs.Facts.{AllGrew, Inv}
 use Rattle.table_core.proofs.Standing.{fitting}
 use Rattle.table_core.proofs.Contents.{fit_at, turn_grew}
-use Rattle.table_core.proofs.Tracks.{load_outcome, none_shared, none_look, none_len, none_walk}
+use Rattle.table_core.proofs.Tracks.{load_outcome}
 use Rattle.table_core.proofs.Lawful.{entry_stays}
 use Rattle.table_core.proofs.Pasts.{turn_after, by_snoc, taken_now, taken_later}
 use Rattle.table_core.proofs.Beginnings.{row_own}
@@ -71,11 +71,11 @@ row_meeting w c (meets n y e b h) f k o = meeting_now w c LeaveOk (Read n y) y e
 row_meeting w c (loses_meets n y e b h) f k o = meeting_now w c LeaveOk (Put n y true) y e k refl b h o
 row_meeting w c (look_meets n y e b h) f k o = meeting_now w c Done (Read n y) y e k refl b h o
 row_meeting w c (adds _) f k o = absurd (cc)
-row_meeting w c (loads _ _ _) f k o = absurd (load_outcome Shared none_shared (is_some c.value) c.state.outcome f k o)
-row_meeting w c (loads_none _ _) f k o = absurd (load_outcome Shared none_shared (is_some c.value) c.state.outcome f k o)
-row_meeting w c (looks _ _ _) f k o = absurd (load_outcome LookLoad none_look (is_some c.value) c.state.outcome f k o)
-row_meeting w c (len_loads _ _ _) f k o = absurd (load_outcome LenLoad none_len (is_some c.value) c.state.outcome f k o)
-row_meeting w c (walk_loads _ _ _) f k o = absurd (load_outcome WalkLoad none_walk (is_some c.value) c.state.outcome f k o)
+row_meeting w c (loads _ _ _) f k o = absurd (load_outcome Shared (λ i. (refl, refl)) (is_some c.value) c.state.outcome f k o)
+row_meeting w c (loads_none _ _) f k o = absurd (load_outcome Shared (λ i. (refl, refl)) (is_some c.value) c.state.outcome f k o)
+row_meeting w c (looks _ _ _) f k o = absurd (load_outcome LookLoad (λ i. (refl, refl)) (is_some c.value) c.state.outcome f k o)
+row_meeting w c (len_loads _ _ _) f k o = absurd (load_outcome LenLoad (λ i. (refl, refl)) (is_some c.value) c.state.outcome f k o)
+row_meeting w c (walk_loads _ _ _) f k o = absurd (load_outcome WalkLoad (λ i. (refl, refl)) (is_some c.value) c.state.outcome f k o)
 row_meeting w c _ f k o = met_before o refl
 
 module _ (f : ℕ) (inv : (s : List Event) → Inv (after f s) (placed (empty f) s) (replies (empty f) s)) where

@@ -1,12 +1,13 @@
 -- Each finished insert and look-up is right at one moment of its span.
 use Rattle.std.proofs.Common.{eqb-true, ℕ, ◌≡◌, ◌+◌, ◌-◌, ◌≤◌, ◌++◌, inl, inr, List, [], ◌∷◌, Bool, true, false, refl, Option, Some, None, length, sym, subst, ap, arith, ◌∙◌}
-use Rattle.std.specs.Prelude.{◌==◌, if◌then◌else◌, option_to_list}
+use Rattle.std.specs.Prelude.{◌==◌, if◌then◌else◌, option_to_list, nat_lt}
 use Rattle.std.specs.List.{slice_get}
 use Rattle.table_core.proofs.Weights.{weigh}
 use Rattle.table_core.specs.Replies.{Reply, ReplyPlaced, ReplyFound, ReplyRefused, ReplySome, ReplyNone, ReplyLen, ReplyWalk, Finished}
 use Rattle.table_core.specs.Generations.{Gen, Table, bucket, last_of, current, gen_of, bucket_in, is_current}
 use Rattle.table_terms.specs.Probes.{bucket_at}
 use Rattle.table_terms.specs.Capacities.{IsFirstCapacity}
+use Rattle.table_core.specs.Phases.{stands}
 use Rattle.table_core.specs.Calls.{Call, starts}
 use Rattle.table_core.specs.Machine.{World, empty, walked_gen, bucket_of, refused, found_entry, reply_of_outcome, Act, Goes, acts, finished_call, run, after}
 use Rattle.table_core.specs.History.{replies, placed_by, placed, TakenEvent, answers_so}
@@ -35,11 +36,11 @@ use Rattle.table_core.specs.Lists.{asked, answered, is_list_reply, is_refusal, i
 use Rattle.table_core.proofs.Locks.{le_one}
 use Rattle.table_core.proofs.Turns.{Turn, rests, opens, takes}
 use Rattle.table_core.proofs.Pasts.{append-none, turn_after, placed_snoc, by_snoc, taken_now, taken_later, after_taken, later_snoc}
-use Rattle.table_core.proofs.Standing.{stands, pending_of, gens_stay}
+use Rattle.table_core.proofs.Standing.{pending_of, gens_stay}
 use Rattle.table_core.proofs.Facts.{values, In, Holding, Within, AllGrew, probing, Probing, wants_growth, Met, Tracked, is_asking, LawOk, in_table, Numbered}
 use Rattle.table_core.proofs.Contents.{in_bucket, bucket_none, bucket_some, row_grew, fit_at, same_grew}
 use Rattle.table_core.proofs.Places.{by_class, no_value}
-use Rattle.table_core.proofs.Tracks.{load_outcome, none_shared, none_look, none_len, none_walk}
+use Rattle.table_core.proofs.Tracks.{load_outcome}
 use Rattle.table_core.proofs.Lawful.{accepted_at, refused_by, declined, differing, missed_more, misses_at_empty, misses_at_turn, none_placed, fresh_value, same_entry, same_gen, same_walk, entry_stays, lawful_before, lawful_then, law_after, none_passes}
 use Rattle.table_core.proofs.Members.{none_in, counted, contains_of}
 use Rattle.table_core.proofs.Invariant.{InvAfter, inv}
@@ -242,11 +243,11 @@ found_row l f s i c (meets n y d b u) g h e iv fb k = found_now l f s (Read n y)
 found_row l f s i c (loses_meets n y d b u) g h e iv fb k = found_now l f s (Put n y true) i c d h (ap probing e) iv b (accepted_at l (after f s) c AtEmpty (Put n y true) d y e (λ x. x) b u fb) (λ v. moment_put d.value v c.state.phase e)
 found_row l f s i c (look_meets n y d b u) g h e iv fb k = λ v j d w o b. absurd (let z : c.value ≡ None = no_value LookProbe (refl, λ i. refl, λ i. refl, refl, λ i. refl, λ i. refl) c.value c.state.outcome (fit_at c _ _ (iv.calls.at i c h.1) e) in let q : Some v ≡ None = sym w ∙ z in cc)
 found_row l f s i c (adds _) g h e iv fb k = λ v j d w o b. absurd (cc)
-found_row l f s i c (loads _ _ _) g h e iv fb k = λ v j d w o b. absurd (load_outcome Shared none_shared (is_some c.value) c.state.outcome (fit_at c _ _ (iv.calls.at i c h.1) e) j o)
-found_row l f s i c (loads_none _ _) g h e iv fb k = λ v j d w o b. absurd (load_outcome Shared none_shared (is_some c.value) c.state.outcome (fit_at c _ _ (iv.calls.at i c h.1) e) j o)
-found_row l f s i c (looks _ _ _) g h e iv fb k = λ v j d w o b. absurd (load_outcome LookLoad none_look (is_some c.value) c.state.outcome (fit_at c _ _ (iv.calls.at i c h.1) e) j o)
-found_row l f s i c (len_loads _ _ _) g h e iv fb k = λ v j d w o b. absurd (load_outcome LenLoad none_len (is_some c.value) c.state.outcome (fit_at c _ _ (iv.calls.at i c h.1) e) j o)
-found_row l f s i c (walk_loads _ _ _) g h e iv fb k = λ v j d w o b. absurd (load_outcome WalkLoad none_walk (is_some c.value) c.state.outcome (fit_at c _ _ (iv.calls.at i c h.1) e) j o)
+found_row l f s i c (loads _ _ _) g h e iv fb k = λ v j d w o b. absurd (load_outcome Shared (λ i. (refl, refl)) (is_some c.value) c.state.outcome (fit_at c _ _ (iv.calls.at i c h.1) e) j o)
+found_row l f s i c (loads_none _ _) g h e iv fb k = λ v j d w o b. absurd (load_outcome Shared (λ i. (refl, refl)) (is_some c.value) c.state.outcome (fit_at c _ _ (iv.calls.at i c h.1) e) j o)
+found_row l f s i c (looks _ _ _) g h e iv fb k = λ v j d w o b. absurd (load_outcome LookLoad (λ i. (refl, refl)) (is_some c.value) c.state.outcome (fit_at c _ _ (iv.calls.at i c h.1) e) j o)
+found_row l f s i c (len_loads _ _ _) g h e iv fb k = λ v j d w o b. absurd (load_outcome LenLoad (λ i. (refl, refl)) (is_some c.value) c.state.outcome (fit_at c _ _ (iv.calls.at i c h.1) e) j o)
+found_row l f s i c (walk_loads _ _ _) g h e iv fb k = λ v j d w o b. absurd (load_outcome WalkLoad (λ i. (refl, refl)) (is_some c.value) c.state.outcome (fit_at c _ _ (iv.calls.at i c h.1) e) j o)
 found_row l f s i c {x = x} {t = t} _ g h e iv fb k = found_before l f s x (after f s).table.gens t.gens c g (iv.tracked.at i c h.1).met k
 
 -- Refusals
@@ -423,6 +424,18 @@ right_none l f s x c k g v wa ge none q =
       answer = (look_value l c (placed (empty f) q.at.before) v y, q.same);
     }
 
+-- a look-up that accepts nothing in its last bucket either has found no entry
+pub right_at_turn : (l : Law) (f : ℕ) (s : List Event) (x : Event) (i : ℕ) (c : Call) (d : Entry) → slice_get (after f s).calls i ≡ Some c → c.state.phase ≡ LookProbe → InvAfter f s → LawOk l (after f s) → Fated l f s (after f s).table.gens c → bucket_of (after f s).table c.state ≡ Some d → accepts l c d.value ≡ false → nat_lt (c.state.seen + 1) c.state.capacity ≡ false → IsRight l f (s ++ x ∷ []) (say c.number ReplyNone)
+right_at_turn l f s x i c d at e iv o k u ref lt =
+    let v : c.value ≡ None = no_value LookProbe (refl, λ i. refl, λ i. refl, refl, λ i. refl, λ i. refl) c.value c.state.outcome (fit_at c _ _ (iv.calls.at i c at) e) in
+    let pr : probing c.state.phase ≡ true = ap probing e in
+    let g = (iv.tracked.at i c at).probes pr in
+    let j = o.calls i c at in
+    let all = missed_more l (after f s) c d g u ref (j.probes pr) in
+    let full : c.state.capacity ≤ c.state.seen + 1 = ltb-false (c.state.seen + 1) c.state.capacity lt in
+    let cap : g.gen.capacity ≤ c.state.seen + 1 = rw g.capacity at full in
+    right_none l f s x c g.number g.gen v g.walked g.got (misses_at_turn l c g.gen (c.state.seen + 1) (iv.seated.gens g.number g.gen g.got) (o.gens g.number g.gen g.got) all (j.hash (ap is_asking e)) cap) (k.looked e)
+
 pub right_row : (l : Law) (f : ℕ) (s : List Event) (i : ℕ) (c : Call) {p : Phase} {x : Event} {a : Answer} {r : CallState} {ls : List ℕ} {t : Table} {q : Option Reply} → Row (after f s) c p x a r ls t q → Here l f s x c a i → c.state.phase ≡ p → InvAfter f s → LawOk l (after f s) → UsesBy l (after f s) c c.state.phase x → Fated l f s (after f s).table.gens c → (b : Reply) → q ≡ Some b → is_list_reply b ≡ true → IsRight l f (s ++ x ∷ []) (say c.number b)
 right_row l f s i c (leaves_refused n) h e iv o fb k b w z =
     let y = refused_told c.value b w in
@@ -445,25 +458,11 @@ right_row l f s i c (look_empty n y u) h e iv o fb k b w z =
     let em : bucket g.gen.entries (bucket_at g.gen.capacity c.state.hash c.state.seen) ≡ None = rw (← g.index) (bucket_none (after f s).table c.state g.number g.gen g.walked g.got u) in
     right_told l f _ c.number ReplyNone b (let y : ReplyNone ≡ b = cc in sym y) (right_none l f s (Read n y) c g.number g.gen v g.walked g.got (misses_at_empty l c g.gen c.state.seen (iv.seated.gens g.number g.gen g.got) (o.gens g.number g.gen g.got) (j.probes pr g.number g.gen g.walked g.got) (j.hash (ap is_asking e)) em) (k.looked e))
 right_row l f s i c (look_turns n y d u nay lt) h e iv o fb k b w z =
-    let v : c.value ≡ None = no_value LookProbe (refl, λ i. refl, λ i. refl, refl, λ i. refl, λ i. refl) c.value c.state.outcome (fit_at c _ _ (iv.calls.at i c h.1) e) in
-    let pr : probing c.state.phase ≡ true = ap probing e in
-    let g = (iv.tracked.at i c h.1).probes pr in
-    let j = o.calls i c h.1 in
-    let ref : accepts l c d.value ≡ false = refused_by l (after f s) c LookProbe (Read n y) d y o.gens e (λ x. x) u (declined d c.state y nay) fb (j.hash (ap is_asking e)) g in
-    let all = missed_more l (after f s) c d g u ref (j.probes pr) in
-    let full : c.state.capacity ≤ c.state.seen + 1 = ltb-false (c.state.seen + 1) c.state.capacity lt in
-    let cap : g.gen.capacity ≤ c.state.seen + 1 = rw g.capacity at full in
-    right_told l f _ c.number ReplyNone b (let y : ReplyNone ≡ b = cc in sym y) (right_none l f s (Read n y) c g.number g.gen v g.walked g.got (misses_at_turn l c g.gen (c.state.seen + 1) (iv.seated.gens g.number g.gen g.got) (o.gens g.number g.gen g.got) all (j.hash (ap is_asking e)) cap) (k.looked e))
+    let ref : accepts l c d.value ≡ false = refused_by l (after f s) c LookProbe (Read n y) d y o.gens e (λ x. x) u (declined d c.state y nay) fb ((o.calls i c h.1).hash (ap is_asking e)) ((iv.tracked.at i c h.1).probes (ap probing e)) in
+    right_told l f _ c.number ReplyNone b (let y : ReplyNone ≡ b = cc in sym y) (right_at_turn l f s (Read n y) i c d h.1 e iv o k u ref lt)
 right_row l f s i c (look_turns_unasked n y d u nay lt) h e iv o fb k b w z =
-    let v : c.value ≡ None = no_value LookProbe (refl, λ i. refl, λ i. refl, refl, λ i. refl, λ i. refl) c.value c.state.outcome (fit_at c _ _ (iv.calls.at i c h.1) e) in
-    let pr : probing c.state.phase ≡ true = ap probing e in
-    let g = (iv.tracked.at i c h.1).probes pr in
-    let j = o.calls i c h.1 in
-    let ref : accepts l c d.value ≡ false = refused_by l (after f s) c LookProbe (Read n y) d y o.gens e (λ x. x) u (differing d c.state y nay) fb (j.hash (ap is_asking e)) g in
-    let all = missed_more l (after f s) c d g u ref (j.probes pr) in
-    let full : c.state.capacity ≤ c.state.seen + 1 = ltb-false (c.state.seen + 1) c.state.capacity lt in
-    let cap : g.gen.capacity ≤ c.state.seen + 1 = rw g.capacity at full in
-    right_told l f _ c.number ReplyNone b (let y : ReplyNone ≡ b = cc in sym y) (right_none l f s (Read n y) c g.number g.gen v g.walked g.got (misses_at_turn l c g.gen (c.state.seen + 1) (iv.seated.gens g.number g.gen g.got) (o.gens g.number g.gen g.got) all (j.hash (ap is_asking e)) cap) (k.looked e))
+    let ref : accepts l c d.value ≡ false = refused_by l (after f s) c LookProbe (Read n y) d y o.gens e (λ x. x) u (differing d c.state y nay) fb ((o.calls i c h.1).hash (ap is_asking e)) ((iv.tracked.at i c h.1).probes (ap probing e)) in
+    right_told l f _ c.number ReplyNone b (let y : ReplyNone ≡ b = cc in sym y) (right_at_turn l f s (Read n y) i c d h.1 e iv o k u ref lt)
 right_row l f s i c (look_meets n y d u ok) h e iv o fb k b w z =
     let v : c.value ≡ None = no_value LookProbe (refl, λ i. refl, λ i. refl, refl, λ i. refl, λ i. refl) c.value c.state.outcome (fit_at c _ _ (iv.calls.at i c h.1) e) in
     let ac : accepts l c d.value ≡ true = accepted_at l (after f s) c LookProbe (Read n y) d y e (λ x. x) u ok fb in

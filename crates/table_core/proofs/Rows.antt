@@ -1,5 +1,5 @@
 -- The machine takes exactly the rows of the table of events.
-use Rattle.std.proofs.Common.{eqb-true, ℕ, ◌≡◌, ◌+◌, ◌/◌, ◌^◌, ◌++◌, [], ◌∷◌, Bool, true, false, refl, Option, Some, None, length, subst}
+use Rattle.std.proofs.Common.{eqb-true, ℕ, ◌≡◌, ◌+◌, ◌-◌, ◌/◌, ◌^◌, ◌++◌, [], ◌∷◌, Bool, true, false, refl, Option, Some, None, length, subst}
 use Rattle.std.specs.Prelude.{◌==◌, ◌&&◌, ◌||◌, nat_lt, if◌then◌else◌, not}
 use Rattle.table_core.specs.Replies.{ReplyNone, ReplyWalk}
 use Rattle.table_core.specs.Generations.{Gen, current, is_current, next_copied}
@@ -15,7 +15,7 @@ use Rattle.table_core.specs.declared.call.CallState.{CallState}
 use Rattle.table_core.specs.declared.call.Phase.{Phase}
 use Rattle.table_core.specs.declared.call.Phase.TheVariants.{WantShared, Shared, Probe, AtEmpty, Placed, LeaveOk, LeaveGrow, LeaveRefused, AskSize, WantOwned, Owned, Building, LeaveOwned, LeaveFailed, LookLoad, LookProbe, LenLoad, LenSize, WalkLoad, WalkAt, Done}
 use Rattle.table_core.specs.declared.call.Answer.{Answer}
-use Rattle.table_core.specs.declared.call.Answer.TheVariants.{Taken, Released, ReleasedAfterFailure, Empty, Holds, HoldsUnasked, MemoryRefused, Sized, Begun, Unwanted, Failed}
+use Rattle.table_core.specs.declared.call.Answer.TheVariants.{Taken, NoGeneration, Loaded, Released, ReleasedAfterFailure, Empty, Holds, HoldsUnasked, MemoryRefused, Sized, Begun, Unwanted, Failed}
 use Rattle.std.proofs.lemmas.Bool.{or_parts}
 
 -- what a phase makes of an event and its answer is a row
@@ -25,29 +25,15 @@ Rows w c p x a = Row w c p x a (decided p c.state a) (list_in p w.table c a) (ch
 pub along : (P : Answer → Type 0) (x a : Answer) → Some x ≡ Some a → P x → P a
 along P x a h px = let e : x ≡ a = cc in subst P e px
 
-pub row_share : (w : World) (c : Call) (n : ℕ) (b : Bool) → is_owned w.calls ≡ b → (a : Answer) → takes_unless b ≡ Some a → Rows w c WantShared (Share n) a
-row_share w c n false h a f = along (Rows w c WantShared (Share n)) Taken a f (shares n h)
-row_share w c n true h a f = absurd (cc)
+-- what is taken unless something holds, by whether it does
+pub by_taken : (P : Answer → Type 0) (b k : Bool) → k ≡ b → (k ≡ false → P Taken) → (a : Answer) → takes_unless b ≡ Some a → P a
+by_taken P false k h takes a f = along P Taken a f (takes h)
+by_taken P true k h takes a f = absurd (cc)
 
-pub row_own : (w : World) (c : Call) (n : ℕ) (b : Bool) → is_locked w.calls ≡ b → (a : Answer) → takes_unless b ≡ Some a → Rows w c WantOwned (Own n) a
-row_own w c n false h a f = along (Rows w c WantOwned (Own n)) Taken a f (owns n h)
-row_own w c n true h a f = absurd (cc)
-
-pub row_load : (w : World) (c : Call) (n : ℕ) (o : Option Gen) → current w.table ≡ o → Rows w c Shared (Load n) (loaded (length w.table.gens) o)
-row_load w c n None h = loads_none n h
-row_load w c n (Some g) h = loads n g h
-
-pub row_look : (w : World) (c : Call) (n : ℕ) (o : Option Gen) → current w.table ≡ o → Rows w c LookLoad (Load n) (loaded (length w.table.gens) o)
-row_look w c n None h = looks_none n h
-row_look w c n (Some g) h = looks n g h
-
-pub row_len : (w : World) (c : Call) (n : ℕ) (o : Option Gen) → current w.table ≡ o → Rows w c LenLoad (Load n) (loaded (length w.table.gens) o)
-row_len w c n None h = len_none n h
-row_len w c n (Some g) h = len_loads n g h
-
-pub row_walk : (w : World) (c : Call) (n : ℕ) (o : Option Gen) → current w.table ≡ o → Rows w c WalkLoad (Load n) (loaded (length w.table.gens) o)
-row_walk w c n None h = walk_none n h
-row_walk w c n (Some g) h = walk_loads n g h
+-- what a load finds, by whether there is a current generation
+pub by_current : (w : World) (P : Answer → Type 0) (o : Option Gen) → current w.table ≡ o → (current w.table ≡ None → P NoGeneration) → ((g : Gen) → current w.table ≡ Some g → P (Loaded (length w.table.gens - 1) g.capacity)) → P (loaded (length w.table.gens) o)
+by_current w P None h none some = none h
+by_current w P (Some g) h none some = some g h
 
 -- what a set bucket shows, by whether its bits agree and what the closure says
 abbrev shown : Bool → Bool → Answer
@@ -171,8 +157,8 @@ fail_row w c n false false h k = rw (← k) (ends_failed n h)
 
 -- what an event finds is a row
 pub row : (w : World) (c : Call) (p : Phase) (x : Event) (a : Answer) → finds_in p w c.state x ≡ Some a → Rows w c p x a
-row w c WantShared (Share n) a f = row_share w c n (is_owned w.calls) refl a f
-row w c Shared (Load n) a f = along (Rows w c Shared (Load n)) _ a f (row_load w c n (current w.table) refl)
+row w c WantShared (Share n) a f = by_taken (Rows w c WantShared (Share n)) (is_owned w.calls) (is_owned w.calls) refl (shares n) a f
+row w c Shared (Load n) a f = along (Rows w c Shared (Load n)) _ a f (by_current w (Rows w c Shared (Load n)) (current w.table) refl (loads_none n) (loads n))
 row w c Probe (Read n y) a f = along (Rows w c Probe (Read n y)) _ a f (row_probe w c n y (bucket_of w.table c.state) refl)
 row w c AtEmpty (Put n y m) a f = along (Rows w c AtEmpty (Put n y m)) _ a f (row_put w c n y m)
 row w c Placed (Add n) a f = along (Rows w c Placed (Add n)) _ a f (adds n)
@@ -180,17 +166,17 @@ row w c LeaveOk (Free n) a f = along (Rows w c LeaveOk (Free n)) _ a f (leaves_o
 row w c LeaveGrow (Free n) a f = along (Rows w c LeaveGrow (Free n)) _ a f (leaves_grow n)
 row w c LeaveRefused (Free n) a f = along (Rows w c LeaveRefused (Free n)) _ a f (leaves_refused n)
 row w c AskSize (Size n) a f = row_size w c n (walked_gen w.table c.state) refl a f
-row w c WantOwned (Own n) a f = row_own w c n (is_locked w.calls) refl a f
+row w c WantOwned (Own n) a f = by_taken (Rows w c WantOwned (Own n)) (is_locked w.calls) (is_locked w.calls) refl (owns n) a f
 row w c Owned (Check n m) a f = along (Rows w c Owned (Check n m)) _ a f (row_check w c n m (current w.table) refl)
 row w c Building (Copy n k) a f = row_copy w c n k (next_copied w.table) refl a f
 row w c Building (Show n) a f = row_show w c n (next_copied w.table) refl a f
 row w c LeaveOwned (Free n) a f = along (Rows w c LeaveOwned (Free n)) _ a f (end_row w c n (is_pending c.state.outcome) refl)
 row w c LeaveFailed (Free n) a f = along (Rows w c LeaveFailed (Free n)) _ a f (fail_row w c n (is_pending c.state.outcome) (is_current w.table.gens c.state.walked) refl refl)
-row w c LookLoad (Load n) a f = along (Rows w c LookLoad (Load n)) _ a f (row_look w c n (current w.table) refl)
+row w c LookLoad (Load n) a f = along (Rows w c LookLoad (Load n)) _ a f (by_current w (Rows w c LookLoad (Load n)) (current w.table) refl (looks_none n) (looks n))
 row w c LookProbe (Read n y) a f = along (Rows w c LookProbe (Read n y)) _ a f (row_look_probe w c n y (bucket_of w.table c.state) refl)
-row w c LenLoad (Load n) a f = along (Rows w c LenLoad (Load n)) _ a f (row_len w c n (current w.table) refl)
+row w c LenLoad (Load n) a f = along (Rows w c LenLoad (Load n)) _ a f (by_current w (Rows w c LenLoad (Load n)) (current w.table) refl (len_none n) (len_loads n))
 row w c LenSize (Size n) a f = row_len_size w c n (walked_gen w.table c.state) refl a f
-row w c WalkLoad (Load n) a f = along (Rows w c WalkLoad (Load n)) _ a f (row_walk w c n (current w.table) refl)
+row w c WalkLoad (Load n) a f = along (Rows w c WalkLoad (Load n)) _ a f (by_current w (Rows w c WalkLoad (Load n)) (current w.table) refl (walk_none n) (walk_loads n))
 row w c WalkAt (Read n y) a f = along (Rows w c WalkAt (Read n y)) _ a f (row_walk_read w c n y (bucket_of w.table c.state) refl)
 row w c _ x a f = absurd (cc)
 

@@ -1,17 +1,18 @@
 -- What each call's phase says of its outcome, its value and its generation.
 use Rattle.std.proofs.Common.{ℕ, suc, ◌≡◌, ◌+◌, ◌-◌, ◌≤◌, ◌⊎◌, inl, inr, List, [], ◌∷◌, Bool, true, false, refl, Option, Some, None, length, sym, ap, arith, ◌∙◌}
-use Rattle.std.specs.Prelude.{◌||◌, not}
+use Rattle.std.specs.Prelude.{◌&&◌, ◌||◌, not}
 use Rattle.std.specs.List.{slice_get}
 use Rattle.table_core.specs.Replies.{Reply, Finished}
 use Rattle.table_core.specs.Generations.{Gen, Table, fill, count, last_of, change_at, change}
 use Rattle.table_terms.specs.Hashes.{bits_of}
+use Rattle.table_core.specs.Phases.{HasOutcome, No, Yes, Either, about, is_insert, can_be_other, stands}
 use Rattle.table_core.specs.Calls.{Call, starts, holds_shared, holds_owned, is_pending}
 use Rattle.table_core.specs.Machine.{World, empty, place, Act}
 use Rattle.table_core.specs.Steps.{Row, loads, reads_empty, meets, goes_on, goes_on_unasked, puts, loses_meets, loses_goes_on, loses_goes_on_unasked, adds, shows, starts_over, tries_again, look_meets, Opens, opens_insert, opens_lookup, opens_len, opens_walk, left}
 use Rattle.table_core.specs.declared.event.Event.{Event}
 use Rattle.table_core.specs.declared.call.CallState.{CallState}
 use Rattle.table_core.specs.declared.call.Phase.{Phase}
-use Rattle.table_core.specs.declared.call.Phase.TheVariants.{WantShared, Shared, Probe, AtEmpty, Placed, LeaveOk, LeaveGrow, LeaveRefused, AskSize, WantOwned, Owned, Building, LeaveOwned, LeaveFailed, LookLoad, LookProbe, LenLoad, LenSize, WalkLoad, WalkAt, Done}
+use Rattle.table_core.specs.declared.call.Phase.TheVariants.{WantShared, Probe, AtEmpty, Placed, LeaveOk, Building, LeaveOwned, LeaveFailed, LookProbe, Done}
 use Rattle.table_core.specs.declared.call.Outcome.{Outcome}
 use Rattle.table_core.specs.declared.call.Outcome.TheVariants.{Pending, New, Existing}
 use Rattle.table_core.specs.declared.call.Answer.{Answer}
@@ -22,34 +23,21 @@ use Rattle.table_core.proofs.Locks.{Locked, nobody, alone, sharers, owners, buil
 use Rattle.std.specs.Option.{is_some}
 use Rattle.table_core.specs.Bound.{one_if}
 
+-- whether a call may have this outcome
+abbrev pub may_have : HasOutcome → Outcome → Bool
+may_have No o = is_pending o
+may_have Yes o = not (is_pending o)
+may_have Either o = true
+
+-- whether another call than an insert may have it: such a call places no value
+abbrev pub may_find : HasOutcome → Outcome → Bool
+may_find h (New _) = false
+may_find h o = may_have h o
+
 -- which outcomes an insert (true) or another call may have in a phase
 abbrev pub fitting : Bool → Phase → Outcome → Bool
-fitting true WantShared Pending = true
-fitting true Shared Pending = true
-fitting true Probe Pending = true
-fitting true AtEmpty Pending = true
-fitting true Placed Pending = true
-fitting true LeaveGrow Pending = true
-fitting true LeaveRefused Pending = true
-fitting true LeaveOk (New _) = true
-fitting true LeaveOk (Existing _) = true
-fitting true AskSize (New _) = true
-fitting true AskSize (Existing _) = true
-fitting true WantOwned _ = true
-fitting true Owned _ = true
-fitting true Building _ = true
-fitting true LeaveOwned _ = true
-fitting true LeaveFailed _ = true
-fitting true Done _ = true
-fitting false LookLoad Pending = true
-fitting false LookProbe Pending = true
-fitting false LenLoad Pending = true
-fitting false LenSize Pending = true
-fitting false WalkLoad Pending = true
-fitting false WalkAt Pending = true
-fitting false Done (Existing _) = true
-fitting false Done Pending = true
-fitting _ _ _ = false
+fitting true p o = is_insert p && may_have (about p).outcome o
+fitting false p o = can_be_other (about p).caller && may_find (about p).outcome o
 
 -- a test that passes for each kind and outcome
 abbrev pub Each : (Bool → Outcome → Bool) → Type 0
@@ -94,13 +82,6 @@ move_fitting w c (starts_over _ n) b h = restarts_fitting LeaveOwned (refl, λ i
 move_fitting w c (tries_again _ n _) b h = restarts_fitting LeaveFailed (refl, λ i. refl, λ i. refl, refl, λ i. refl, λ i. refl) b c.state.outcome n h
 move_fitting w c (look_meets _ _ _ _ _) b h = by_table LookProbe Done (λ _. Existing c.state.index) (refl, λ i. refl, λ i. refl, refl, λ i. refl, λ i. refl) b c.state.outcome h
 move_fitting w c {p = p} {r = r} _ b h = by_table p r.phase (λ o. o) (refl, λ i. refl, λ i. refl, refl, λ i. refl, λ i. refl) b c.state.outcome h
-
--- an insert in these phases stands in the current generation
-abbrev pub stands : Phase → Bool
-stands Probe = true
-stands AtEmpty = true
-stands Placed = true
-stands _ = false
 
 abbrev pub IsLast : ℕ → Option ℕ → Type 0
 IsLast n w = (k : ℕ) × (w ≡ Some k) × (suc k ≡ n)

@@ -216,36 +216,25 @@ met_now w c p ls e b = record { there = λ i h. let x : c.state.index ≡ i = cc
 pub met_same : (gens : List Gen) (c : Call) (s : CallState) (ls : List ℕ) → s.walked ≡ c.state.walked → s.outcome ≡ c.state.outcome → Met gens c → Met gens (left c s ls)
 met_same gens c s ls e h m = record { there = λ i o. let q = m.there i (sym h ∙ o) in (q.0, rw e q.1) }
 
+-- no call has met an entry in this phase
+abbrev pub MeetsNone : Phase → Type 0
+MeetsNone p = (i : ℕ) → (fitting true p (Existing i) ≡ false) × (fitting false p (Existing i) ≡ false)
+
 -- a call that loads has no outcome yet
-pub load_outcome : (p : Phase) → ((b : Bool) (i : ℕ) → fitting b p (Existing i) ≡ false) → (b : Bool) (o : Outcome) → fitting b p o ≡ true → (i : ℕ) → o ≡ Existing i → ⊥
-load_outcome p n b o f i e = let x : fitting b p (Existing i) ≡ true = rw e at f in let y : fitting b p (Existing i) ≡ false = n b i in cc
-
-pub none_shared : (b : Bool) (i : ℕ) → fitting b Shared (Existing i) ≡ false
-none_shared true i = refl
-none_shared false i = refl
-
-pub none_look : (b : Bool) (i : ℕ) → fitting b LookLoad (Existing i) ≡ false
-none_look true i = refl
-none_look false i = refl
-
-pub none_len : (b : Bool) (i : ℕ) → fitting b LenLoad (Existing i) ≡ false
-none_len true i = refl
-none_len false i = refl
-
-pub none_walk : (b : Bool) (i : ℕ) → fitting b WalkLoad (Existing i) ≡ false
-none_walk true i = refl
-none_walk false i = refl
+pub load_outcome : (p : Phase) → MeetsNone p → (b : Bool) (o : Outcome) → fitting b p o ≡ true → (i : ℕ) → o ≡ Existing i → ⊥
+load_outcome p n true o f i e = let x : fitting true p (Existing i) ≡ true = rw e at f in let y : fitting true p (Existing i) ≡ false = (n i).0 in cc
+load_outcome p n false o f i e = let x : fitting false p (Existing i) ≡ true = rw e at f in let y : fitting false p (Existing i) ≡ false = (n i).1 in cc
 
 pub met_row : (w : World) (c : Call) {p : Phase} {x : Event} {a : Answer} {r : CallState} {ls : List ℕ} {t : Table} {q : Option Reply} → Row w c p x a r ls t q → fitting (is_some c.value) p c.state.outcome ≡ true → Met w.table.gens c → Met w.table.gens (left c r ls)
 met_row w c (meets _ _ e b _) f m = met_now w c LeaveOk _ e b
 met_row w c (loses_meets _ _ e b _) f m = met_now w c LeaveOk _ e b
 met_row w c (look_meets _ _ e b _) f m = met_now w c Done _ e b
 met_row w c (adds _) f m = record { there = λ i h. absurd (cc) }
-met_row w c (loads _ _ _) f m = record { there = λ i h. absurd (load_outcome Shared none_shared (is_some c.value) c.state.outcome f i h) }
-met_row w c (loads_none _ _) f m = record { there = λ i h. absurd (load_outcome Shared none_shared (is_some c.value) c.state.outcome f i h) }
-met_row w c (looks _ _ _) f m = record { there = λ i h. absurd (load_outcome LookLoad none_look (is_some c.value) c.state.outcome f i h) }
-met_row w c (len_loads _ _ _) f m = record { there = λ i h. absurd (load_outcome LenLoad none_len (is_some c.value) c.state.outcome f i h) }
-met_row w c (walk_loads _ _ _) f m = record { there = λ i h. absurd (load_outcome WalkLoad none_walk (is_some c.value) c.state.outcome f i h) }
+met_row w c (loads _ _ _) f m = record { there = λ i h. absurd (load_outcome Shared (λ i. (refl, refl)) (is_some c.value) c.state.outcome f i h) }
+met_row w c (loads_none _ _) f m = record { there = λ i h. absurd (load_outcome Shared (λ i. (refl, refl)) (is_some c.value) c.state.outcome f i h) }
+met_row w c (looks _ _ _) f m = record { there = λ i h. absurd (load_outcome LookLoad (λ i. (refl, refl)) (is_some c.value) c.state.outcome f i h) }
+met_row w c (len_loads _ _ _) f m = record { there = λ i h. absurd (load_outcome LenLoad (λ i. (refl, refl)) (is_some c.value) c.state.outcome f i h) }
+met_row w c (walk_loads _ _ _) f m = record { there = λ i h. absurd (load_outcome WalkLoad (λ i. (refl, refl)) (is_some c.value) c.state.outcome f i h) }
 met_row w c _ f m = met_same w.table.gens c _ _ refl refl m
 
 pub tracked_row : (w : World) (c : Call) {p : Phase} {x : Event} {a : Answer} {r : CallState} {ls : List ℕ} {t : Table} {q : Option Reply} → Row w c p x a r ls t q → c.state.phase ≡ p → CallOk (length w.table.gens) c → AllSeated w → Tracked w.table.gens c → Tracked w.table.gens (left c r ls)

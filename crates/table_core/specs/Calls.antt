@@ -3,6 +3,7 @@ use Rattle.std.specs.Prelude.{ℕ, ◌+◌, ◌/◌, ◌%◌, ◌==◌, ◌&&◌
 use Rattle.std.specs.Prelude.{true, false, Option, Some, None, List, [], ◌∷◌}
 use Rattle.std.specs.List.{find, list_any}
 use Rattle.std.specs.Option.{option_map}
+use Rattle.table_core.specs.Phases.{is_shared, is_alone, about}
 use Rattle.table_core.specs.declared.call.Phase.{Phase}
 use Rattle.table_core.specs.declared.call.Phase.TheVariants.{WantShared, Shared, Probe, AtEmpty}
 use Rattle.table_core.specs.declared.call.Phase.TheVariants.{Placed, LeaveOk, LeaveGrow}
@@ -108,22 +109,11 @@ is_finished (Some c) = is_done c.state.phase
 
 -- whether a call in this phase holds the lock shared
 abbrev pub holds_shared : Phase → Bool
-holds_shared Shared = true
-holds_shared Probe = true
-holds_shared AtEmpty = true
-holds_shared Placed = true
-holds_shared LeaveOk = true
-holds_shared LeaveGrow = true
-holds_shared LeaveRefused = true
-holds_shared _ = false
+holds_shared p = is_shared (about p).lock
 
 -- whether a call in this phase holds the lock exclusively
 abbrev pub holds_owned : Phase → Bool
-holds_owned Owned = true
-holds_owned Building = true
-holds_owned LeaveOwned = true
-holds_owned LeaveFailed = true
-holds_owned _ = false
+holds_owned p = is_alone (about p).lock
 
 -- one of these calls holds the lock exclusively
 abbrev pub is_owned : List Call → Bool

@@ -6,6 +6,7 @@ pub mod ListObject
 pub mod Replies
 pub mod Bags
 pub mod Generations
+pub mod Phases
 pub mod Calls
 pub mod Machine
 pub mod Steps

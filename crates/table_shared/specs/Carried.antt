@@ -6,7 +6,8 @@ use Rattle.std.specs.Borrow.{Bor}
 use Rattle.std.specs.Fn.{Shared as SharedFn, FnReturnsAtPair}
 use Rattle.table_core.specs.declared.call.Phase.{Phase}
 use Rattle.table_core.specs.declared.call.Phase.TheVariants.{WantShared, WantOwned}
-use Rattle.table_turns.specs.Phases.{Lock, Free, Shares, Owns, Reached}
+use Rattle.table_core.specs.Phases.{Lock, Free, Shares, Owns}
+use Rattle.table_turns.specs.Phases.{Reached}
 use Rattle.table_turns.specs.Phases.{Nothing as ReachedNothing, Own as ReachedOwn, Other as ReachedOther}
 use Rattle.table_shared.specs.declared.insert.between.Carried.{Carried}
 use Rattle.table_shared.specs.declared.insert.between.Carried.TheVariants.{Gone, Value, Own, Met}

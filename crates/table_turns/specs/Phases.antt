@@ -1,42 +1,20 @@
 -- What the phase of a running call says: of its lock, of its outcome, and of the bucket at which it stands.
-use Rattle.std.specs.Prelude.{◌≡◌, ℕ, ◌+◌, ◌-◌, ◌^◌, Bool, true, false, if◌then◌else◌}
-use Rattle.table_core.specs.Calls.{holds_shared, holds_owned}
+use Rattle.std.specs.Prelude.{◌≡◌, ℕ, ◌+◌, ◌-◌, ◌^◌, Bool, true, ◌&&◌, ◌||◌, T}
+use Rattle.table_core.specs.Phases.{Lock, about, is_insert, can_look, can_meet, reads, leaves}
+use Rattle.table_core.specs.Phases.{goes_on, stands, has_none, has_one}
 use Rattle.table_core.specs.declared.call.Phase.{Phase}
-use Rattle.table_core.specs.declared.call.Phase.TheVariants.{WantShared, Shared, Probe, AtEmpty}
-use Rattle.table_core.specs.declared.call.Phase.TheVariants.{Placed, LeaveOk, LeaveGrow}
-use Rattle.table_core.specs.declared.call.Phase.TheVariants.{LeaveRefused, AskSize}
-use Rattle.table_core.specs.declared.call.Phase.TheVariants.{LeaveOwned}
-use Rattle.table_core.specs.declared.call.Phase.TheVariants.{LeaveFailed, LookLoad, LookProbe}
-use Rattle.table_core.specs.declared.call.Phase.TheVariants.{LenLoad, LenSize, WalkLoad, WalkAt}
-use Rattle.table_core.specs.declared.call.Phase.TheVariants.{Done}
-use Rattle.table_core.specs.declared.call.Phase.TheVariants.{WantOwned}
+use Rattle.table_core.specs.declared.call.Phase.TheVariants.{Placed, LookLoad, LookProbe}
 use Rattle.table_core.specs.declared.call.Outcome.{Outcome}
 use Rattle.table_core.specs.declared.call.Outcome.TheVariants.{Pending, New, Existing}
 use Rattle.table_core.specs.declared.call.CallState.{CallState}
 
 -- Locks
 
--- how a call holds the table's lock: not at all, shared, or alone
-pub data Lock : Type 0 where
-  Free : Lock
-  Shares : Lock
-  Owns : Lock
-
 -- the lock that a call in this phase holds
 abbrev pub lock_in : Phase → Lock
-lock_in p = if holds_shared p then Shares else (if holds_owned p then Owns else Free)
+lock_in p = (about p).lock
 
 -- Phases of an insert
-
--- whether an insert can be in this phase
-abbrev pub is_insert : Phase → Bool
-is_insert LookLoad = false
-is_insert LookProbe = false
-is_insert LenLoad = false
-is_insert LenSize = false
-is_insert WalkLoad = false
-is_insert WalkAt = false
-is_insert _ = true
 
 -- an insert can be in this phase
 abbrev pub Inserts : Phase → Type 0
@@ -44,63 +22,36 @@ Inserts p = is_insert p ≡ true
 
 -- an insert in this phase can meet an entry
 abbrev pub Meets : Phase → Type 0
-Meets Probe = Unit {0}
-Meets AtEmpty = Unit {0}
-Meets _ = ⊥
+Meets p = T (is_insert p && can_meet (about p).next)
 
 -- a call in this phase reads a bucket
 abbrev pub ReadsBucket : Phase → Type 0
-ReadsBucket Probe = Unit {0}
-ReadsBucket LookProbe = Unit {0}
-ReadsBucket _ = ⊥
+ReadsBucket p = T (reads (about p).next)
 
 -- a call in this phase can meet an entry
 abbrev pub MeetsEntry : Phase → Type 0
-MeetsEntry LookProbe = Unit {0}
-MeetsEntry p = Meets p
+MeetsEntry p = T (can_meet (about p).next)
 
 -- an insert in this phase stands at a bucket
 abbrev pub AtBucket : Phase → Type 0
-AtBucket Probe = Unit {0}
-AtBucket AtEmpty = Unit {0}
-AtBucket Placed = Unit {0}
-AtBucket _ = ⊥
+AtBucket p = T (stands p)
 
 -- an insert in this phase has no outcome yet
 abbrev pub Hopes : Phase → Type 0
-Hopes WantShared = Unit {0}
-Hopes Shared = Unit {0}
-Hopes Probe = Unit {0}
-Hopes AtEmpty = Unit {0}
-Hopes Placed = Unit {0}
-Hopes LeaveGrow = Unit {0}
-Hopes LeaveRefused = Unit {0}
-Hopes _ = ⊥
+Hopes p = T (is_insert p && has_none (about p).outcome)
 
--- an insert in this phase goes on with the generation that it loaded
+-- an insert in this phase goes on with the generation that it loaded: it stands at a bucket of it, or
+-- it has an outcome
 abbrev pub Walks : Phase → Type 0
-Walks Probe = Unit {0}
-Walks AtEmpty = Unit {0}
-Walks Placed = Unit {0}
-Walks LeaveOk = Unit {0}
-Walks AskSize = Unit {0}
-Walks _ = ⊥
+Walks p = T (stands p || (is_insert p && has_one (about p).outcome))
 
 -- an insert in this phase releases its lock
 abbrev pub Leaves : Phase → Type 0
-Leaves LeaveOk = Unit {0}
-Leaves LeaveGrow = Unit {0}
-Leaves LeaveRefused = Unit {0}
-Leaves LeaveOwned = Unit {0}
-Leaves LeaveFailed = Unit {0}
-Leaves _ = ⊥
+Leaves p = T (leaves (about p).next)
 
 -- an insert in this phase goes on without waiting for a lock
 abbrev pub Turns : Phase → Type 0
-Turns WantShared = ⊥
-Turns WantOwned = ⊥
-Turns Done = ⊥
-Turns _ = Unit {0}
+Turns p = T (goes_on (about p).next)
 
 -- Outcomes
 
@@ -125,10 +76,7 @@ reached _ o = reached_by o
 
 -- whether a look-up can be in this phase
 abbrev pub is_look : Phase → Bool
-is_look LookLoad = true
-is_look LookProbe = true
-is_look Done = true
-is_look _ = false
+is_look p = can_look (about p).caller
 
 -- a look-up can be in this phase
 abbrev pub Looks : Phase → Type 0

@@ -9,7 +9,8 @@ use Rattle.table_core.specs.declared.call.Answer.{Answer}
 use Rattle.table_core.specs.declared.call.Answer.TheVariants.{Holds, HoldsUnasked, Released}
 use Rattle.table_core.specs.declared.call.Answer.TheVariants.{ReleasedAfterFailure}
 use Rattle.table_core.specs.declared.call.CallState.{CallState}
-use Rattle.table_turns.specs.Phases.{Inserts, AtBucket, Hopes, Walks, Free, Shares, lock_in, reached, reached_by, Looks, left}
+use Rattle.table_core.specs.Phases.{Free, Shares}
+use Rattle.table_turns.specs.Phases.{Inserts, AtBucket, Hopes, Walks, lock_in, reached, reached_by, Looks, left}
 
 -- one step of a call: this answer fits where it stood, and decide makes of both where it stands
 abbrev pub Went : CallState → CallState → Answer → Type 0
