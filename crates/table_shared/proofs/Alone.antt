@@ -1,6 +1,7 @@
 -- What a step does at a bucket that was set alone.
 use Rattle.std.proofs.Common.{◌≡◌, ◌∙◌, ℕ, Bool, ap, subst, sym, true, false, Bor}
 use Rattle.std.specs.Prelude.{Option, Some, None, IfSome}
+use Rattle.std.specs.Fn.{FnReturnsAtPair, Shared as SharedFn}
 use Rattle.std.specs.Option.{IsSomeAnd}
 use Rattle.table_cell.specs.declared.bucket.Entry.{Entry}
 use Rattle.table_generations.specs.Buckets.{Content, vacant, own, named, shown, content_at}
@@ -48,3 +49,13 @@ module _ {A T : Type 0} (walked : Option (Bor (GenerationView A T))) (b : Bor (G
     at_accepted r saw =
         there (StepTells target says bits (Holds true) (Some r))
         (alone_so (content_at b.now.contents i) old new (λ o. IsSomeAnd o (Accepts target says bits r)) (StepTells target says bits (Holds true) (Some r)) (λ e so. (so.0, λ _. ap Some so.1)) saw)
+
+  -- so it is where the closure was asked of a value that is the one given
+  module _ {X E : Type 0} (target : T → X) (says : SharedFn E (Bor X × (Bor X × Unit {0})) Bool) (eq : E) (value given : T) (same : value ≡ given) (bits : ℕ) (old new : Option (Entry T)) where
+    pub passed_given : (asked : Bool) (met : Option (Bor X)) → IsSeen (content_at b.now.contents i) old new (λ o. IsSomeAnd o (λ e. IsTrueOf target (FnReturnsAtPair says eq (target value)) bits e (passed asked)))
+        → AtAlone walked i (StepTells target (FnReturnsAtPair says eq (target given)) bits (passed asked) met)
+    passed_given asked met saw = subst (λ v. AtAlone walked i (StepTells target (FnReturnsAtPair says eq (target v)) bits (passed asked) met)) same (at_passed target (FnReturnsAtPair says eq (target value)) bits old new asked met saw)
+
+    pub accepted_given : (r : Bor X) → IsSeen (content_at b.now.contents i) old new (λ o. IsSomeAnd o (Accepts target (FnReturnsAtPair says eq (target value)) bits r))
+        → AtAlone walked i (StepTells target (FnReturnsAtPair says eq (target given)) bits (Holds true) (Some r))
+    accepted_given r saw = subst (λ v. AtAlone walked i (StepTells target (FnReturnsAtPair says eq (target v)) bits (Holds true) (Some r))) same (at_accepted target (FnReturnsAtPair says eq (target value)) bits old new r saw)

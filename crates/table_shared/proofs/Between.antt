@@ -37,35 +37,19 @@ pub record Leads (p q : Phase) : Type 0 where
   pub stands : AtBucket q → AtBucket p
   pub walks : Walks q → Walks p
 
--- an insert that can meet an entry walks a generation
-meets_walks : (p : Phase) → Meets p → Walks p
-meets_walks Probe m = tt
-meets_walks AtEmpty m = tt
-meets_walks _ m = absurd m
+-- an insert that can meet an entry: it walks a generation and isn't over, has no outcome yet and holds
+-- the lock shared, and has reached what its outcome says
+record CanMeet (p : Phase) : Type 0 where
+  walks : Walks p
+  begun : is_done p ≡ false
+  hopes : Hopes p
+  shares : lock_in p ≡ Shares
+  reached_is : (o : Outcome) → reached p o ≡ reached_by o
 
--- it isn't over
-meets_begun : (p : Phase) → Meets p → is_done p ≡ false
-meets_begun Probe m = refl
-meets_begun AtEmpty m = refl
-meets_begun _ m = absurd m
-
--- it has no outcome yet
-meets_hopes : (p : Phase) → Meets p → Hopes p
-meets_hopes Probe m = tt
-meets_hopes AtEmpty m = tt
-meets_hopes _ m = absurd m
-
--- it holds the lock shared
-meets_shares : (p : Phase) → Meets p → lock_in p ≡ Shares
-meets_shares Probe m = refl
-meets_shares AtEmpty m = refl
-meets_shares _ m = absurd m
-
--- it has reached what its outcome says
-meets_reached : (p : Phase) (o : Outcome) → Meets p → reached p o ≡ reached_by o
-meets_reached Probe o m = refl
-meets_reached AtEmpty o m = refl
-meets_reached _ o m = absurd m
+can_meet : (p : Phase) → Meets p → CanMeet p
+can_meet Probe m = record { walks = tt; begun = refl; hopes = tt; shares = refl; reached_is = λ o. refl }
+can_meet AtEmpty m = record { walks = tt; begun = refl; hopes = tt; shares = refl; reached_is = λ o. refl }
+can_meet _ m = absurd m
 
 and_left : (a b : Bool) → (a && b) ≡ true → a ≡ true
 and_left true b e = refl
@@ -136,7 +120,7 @@ module _ {A V X : Type 0} {home : ℕ} {target : V → X} {given : V} {s : CallS
   carries p at begun = b.there (λ over. absurd (let done : is_done Done ≡ false = subst (λ (r : Phase). is_done r ≡ false) (sym at ∙ over) begun in cc))
 
   pub meets_carries : Meets s.phase → carried ≢ Gone
-  meets_carries meets = carries s.phase refl (meets_begun s.phase meets)
+  meets_carries meets = carries s.phase refl (can_meet s.phase meets).begun
 
   pub leaves_carries : Leaves s.phase → carried ≢ Gone
   leaves_carries leaves = carries s.phase refl (leaves_begun s.phase leaves)
@@ -147,7 +131,7 @@ module _ {A V X : Type 0} {home : ℕ} {target : V → X} {given : V} {s : CallS
   -- an insert that can meet an entry carries its value
   pub holds_value : Meets s.phase → (v : V) × (carried ≡ Value v)
   holds_value meets =
-      let nothing : reached s.phase s.outcome ≡ Nothing = meets_reached s.phase s.outcome meets ∙ ap reached_by (b.hopes (meets_hopes s.phase meets)) in
+      let nothing : reached s.phase s.outcome ≡ Nothing = (can_meet s.phase meets).reached_is s.outcome ∙ ap reached_by (b.hopes (can_meet s.phase meets).hopes) in
       value_told carried (b.tells (meets_carries meets) ∙ ap Some nothing)
 
   -- the lock that is held in a known phase
@@ -224,14 +208,14 @@ module _ {A V X : Type 0} {home : ℕ} {target : V → X} {given : V} {s : CallS
     hopes = λ _. passing.pending;
     stands = passing.stands;
     wide = passing.wide;
-    walks = λ _. b.walks (meets_walks s.phase meets);
+    walks = λ _. b.walks (can_meet s.phase meets).walks;
     counts = λ x is. b.counts x is ∙ sym passing.same.1;
     homes = b.homes;
-    locks = b.locks ∙ meets_shares s.phase meets ∙ sym passing.lock;
+    locks = b.locks ∙ (can_meet s.phase meets).shares ∙ sym passing.lock;
     builds = λ building. absurd (passing.not_building building);
     grows = b.grows;
     there = λ _. meets_carries meets;
-    tells = λ x. b.tells x ∙ ap Some (meets_reached s.phase s.outcome meets ∙ sym passing.reached);
+    tells = λ x. b.tells x ∙ ap Some ((can_meet s.phase meets).reached_is s.outcome ∙ sym passing.reached);
     stems = b.stems;
     owns = b.owns;
   }
@@ -247,11 +231,11 @@ module _ {A V X : Type 0} {home : ℕ} {target : V → X} {given : V} {s : CallS
         inserts = refl;
         hopes = λ x. absurd x;
         stands = λ x. absurd x;
-        wide = λ _. b.wide (meets_walks s.phase meets);
-        walks = λ _. b.walks (meets_walks s.phase meets);
+        wide = λ _. b.wide (can_meet s.phase meets).walks;
+        walks = λ _. b.walks (can_meet s.phase meets).walks;
         counts = b.counts;
         homes = b.homes;
-        locks = b.locks ∙ meets_shares s.phase meets;
+        locks = b.locks ∙ (can_meet s.phase meets).shares;
         builds = λ e. absurd (cc);
         grows = b.grows;
         there = λ _ e. absurd (cc);
@@ -357,6 +341,11 @@ module _ {A V X : Type 0} {home : ℕ} {target : V → X} {given : V} {s : CallS
   pub asks_size : (t : CallState) → s.phase ≡ AskSize → (t ≡ to Done s) ⊎ (t ≡ to WantOwned s) → IsBetween home target given t walked growth carried held
   asks_size t at (inl is) = goes_on AskSize Done t growth at is (search rules) refl refl refl (λ e. absurd (cc)) b.grows
   asks_size t at (inr is) = goes_on AskSize WantOwned t growth at is (search rules) refl refl refl (λ e. absurd (cc)) b.grows
+
+  -- an insert that begins no growth
+  pub begins_none : (t : CallState) → s.phase ≡ Owned → (t ≡ to LeaveOwned s) ⊎ (t ≡ to LeaveFailed s) → IsBetween home target given t walked growth carried held
+  begins_none t at (inl is) = goes_on Owned LeaveOwned t growth at is (search rules) refl refl refl (λ e. absurd (cc)) b.grows
+  begins_none t at (inr is) = goes_on Owned LeaveFailed t growth at is (search rules) refl refl refl (λ e. absurd (cc)) b.grows
 
   -- an insert that releases its lock
   pub lets_go : (t : CallState) → Leaves s.phase → Leaving s t → IsBetween home target given t walked growth carried lock.Nothing

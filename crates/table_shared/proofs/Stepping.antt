@@ -52,6 +52,17 @@ module _ {T A E H X : Type 0} {g : Ghosts T X} (says : SharedFn E (Bor X × (Bor
     heard = λ h. subst (λ (c : Carried T (Bor X)). Heard g.target says old.asking.eq old.asking.given.value c) (sym carries) h;
   }
 
+  -- a step of a call that had met nothing
+  pub steps_unmet : (old new : Inserting T A E H X g) (a : Answer) → Went old.state new.state a → new.carried ≢ Gone → new.asking ≡ old.asking → met_in old.carried ≡ None
+      → Heard g.target says old.asking.eq old.asking.given.value new.carried → Steps says old a new
+  steps_unmet old new a went there same unmet heard = record {
+    went = went;
+    there = there;
+    same = same;
+    met = λ some. absurd (some unmet);
+    heard = λ _. heard;
+  }
+
   -- a step of a call that has again what it carried
   pub steps_again : (old mid new : Inserting T A E H X g) (a : Answer) → mid.state ≡ old.state → mid.asking ≡ old.asking → mid.carried ≡ old.carried → Steps says mid a new → Steps says old a new
   steps_again old mid new a state asking carried steps = record {

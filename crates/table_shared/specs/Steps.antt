@@ -5,12 +5,14 @@ use Rattle.std.specs.Borrow.{Bor}
 use Rattle.std.specs.Fn.{Shared as SharedFn, FnReturnsAtPair}
 use Rattle.table_generations.specs.declared.atomic_value.AtomicValue.{Ghosts}
 use Rattle.table_core.specs.declared.call.Answer.{Answer}
+use Rattle.table_terms.specs.Hashes.{bits_of}
 use Rattle.table_turns.specs.Phases.{reached_by}
 use Rattle.table_turns.specs.Steps.{Went}
 use Rattle.table_shared.specs.declared.insert.between.Carried.TheVariants.{Gone}
 use Rattle.table_shared.specs.declared.insert.between.Inserting.{Inserting}
 use Rattle.table_shared.specs.Carried.{met_in, Heard}
 use Rattle.table_shared.specs.Inserts.{Answers, told_by}
+use Rattle.table_shared.specs.Reads.{AtAlone, StepTells}
 use Rattle.table_shared.specs.Stepped.{MayBlock, accepted_in}
 
 module _ {T A E H X : Type 0} {g : Ghosts T X} where
@@ -32,6 +34,10 @@ module _ {T A E H X : Type 0} {g : Ghosts T X} (says : SharedFn E (Bor X × (Bor
     pub met : met_in old.carried ≢ None → met_in new.carried ≡ met_in old.carried
     pub heard : Heard g.target says old.asking.eq old.asking.given.value old.carried
         → Heard g.target says old.asking.eq old.asking.given.value new.carried
+
+  -- what its answer tells of the entry that the bucket where it stood was set to alone
+  abbrev pub TellsAlone : Inserting T A E H X g → Answer → Inserting T A E H X g → Type 0
+  TellsAlone old a new = AtAlone old.walked old.state.index (StepTells g.target (FnReturnsAtPair says old.asking.eq (g.target old.asking.given.value)) (bits_of old.state.hash) a (met_in new.carried))
 
   -- an insert has taken a step, or none and is as it was
   abbrev pub TriesStep : Inserting T A E H X g → Option Answer → Inserting T A E H X g → Type 0

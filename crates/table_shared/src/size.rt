@@ -36,16 +36,10 @@ impl Size {
         self.counted.load(SeqCst)
     }
 
-    /// A value that was placed is counted, while the lock is still held: growth waits for whoever holds it.
+    /// One more is counted, while the lock is still held: growth waits for whoever holds it.
     #[inline(always)]
-    pub(crate) fn count(&self, _held: &RwLockReadGuard<'_, ()>, state: CallState) -> CallState
-        requires phase { state.phase ≡ Placed }
-        requires stands { stands_at_bucket state ≡ true }
-        ensures went { Went state result Counted }
-        ensures counted { result ≡ record state { phase = LeaveOk; outcome = New state.index } }
-    {
+    fn count(&self, _held: &RwLockReadGuard<'_, ()>) {
         self.counted.fetch_add(1, SeqCst);
-        step(state, Answer::Counted)
     }
 }
 
@@ -58,7 +52,8 @@ impl<T: AtomicValue, A: Allocator + Copy> LockFreeRawTable<T, A> {
         ensures went { Went state result Counted }
         ensures counted { result ≡ record state { phase = LeaveOk; outcome = New state.index } }
     {
-        self.size.count(held, state)
+        self.size.count(held);
+        step(state, Answer::Counted)
     }
 
     /// An insert that has an outcome asks whether its generation is half full.

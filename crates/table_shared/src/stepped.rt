@@ -10,11 +10,12 @@ ghost use Rattle.table_turns.specs.Phases.{Other, reached_by};
 ghost use Rattle.table_shared.specs.Inserts.{Answers, told_by};
 ghost use Rattle.table_shared.specs.Stepped.{MayStep, Advances, MayBlock, IfMoved, IfBlocked, IfEnded, found_by, accepted_in};
 
-use crate::insert::between::{Held, Inserting};
+use crate::insert::between::{Asking, Carried, Held, Inserting};
 use crate::lookup::steps::Looking;
 use crate::table::LockFreeRawTable;
 use std::alloc::Allocator;
 use std::marker::Model;
+use std::snapshot::Snapshot;
 use table_cell::Low;
 use table_core::{CallState, Phase};
 use table_generations::atomic_value::AtomicValue;
@@ -34,23 +35,11 @@ pub enum Progress<R> {
 ///
 /// Dropped before its end it is given up: a value that is placed stays and is counted, a value that isn't is dropped, a
 /// generation that it was making is forgotten, and its lock is released.
-pub struct InsertCall<
-    'a,
-    T: AtomicValue,
-    A: Low + Copy,
-    E: Fn(&T::Target, &T::Target) -> bool,
-    H: Fn(&T::Target) -> u64,
-> {
+pub struct InsertCall<'a, T: AtomicValue, A: Low + Copy, E, H> {
     call: Inserting<'a, T, A, E, H>,
 }
 
-impl<
-    'a,
-    T: AtomicValue,
-    A: Low + Copy,
-    E: Fn(&T::Target, &T::Target) -> bool,
-    H: Fn(&T::Target) -> u64,
-> Model for InsertCall<'a, T, A, E, H> {
+impl<'a, T: AtomicValue, A: Low + Copy, E, H> Model for InsertCall<'a, T, A, E, H> {
     ghost use Rattle.table_shared.specs.Carried.{met_in};
     ghost use Rattle.table_shared.specs.Stepped.{InsertView};
 
@@ -65,13 +54,11 @@ impl<
     } };
 }
 
-impl<
-    'a,
-    T: AtomicValue,
-    A: Low + Copy,
+impl<'a, T: AtomicValue, A: Low + Copy, E, H> InsertCall<'a, T, A, E, H>
+where
     E: Fn(&T::Target, &T::Target) -> bool,
     H: Fn(&T::Target) -> u64,
-> InsertCall<'a, T, A, E, H> {
+{
     /// An insert that has taken no step. It takes no memory.
     pub fn new(
         table: &'a LockFreeRawTable<T, A>,
@@ -87,9 +74,17 @@ impl<
         ensures met { result.met ≡ None }
         ensures may_step { MayStep E.IsAlwaysCallable H.IsAlwaysCallable T.target E.Fn result }
     {
-        InsertCall {
-            call: Inserting::new(table, hash, value, eq, hash_fn),
-        }
+        let given = Snapshot::of(&value);
+        let call = Inserting {
+            table,
+            state: CallState::insert(hash),
+            walked: None,
+            growth: None,
+            carried: Carried::Value(value),
+            held: Held::Nothing,
+            asking: Asking { given, eq, hash_fn },
+        };
+        InsertCall { call }
     }
 
     /// Where it stands.
@@ -134,12 +129,7 @@ impl<
     }
 }
 
-impl<
-    T: AtomicValue,
-    A: Low + Copy,
-    E: Fn(&T::Target, &T::Target) -> bool,
-    H: Fn(&T::Target) -> u64,
-> Drop for InsertCall<'_, T, A, E, H> {
+impl<T: AtomicValue, A: Low + Copy, E: Drop, H: Drop> Drop for InsertCall<'_, T, A, E, H> {
     /// A value that is placed and not counted yet is counted; what is built is given up; the lock is released.
     fn drop(self) {
         let InsertCall { call } = self;

@@ -1,8 +1,7 @@
 //! An insert between two steps: what it walks, builds and carries, and the lock that it holds.
-ghost use Rattle.std.specs.Prelude.{◌≡◌, ◌≢◌, None};
-ghost use Rattle.table_core.specs.Calls.{insert_start};
+ghost use Rattle.std.specs.Prelude.{◌≢◌};
 ghost use Rattle.table_shared.specs.Between.{IsBetween};
-ghost use Rattle.table_shared.specs.Carried.{IsAnswer, met_in};
+ghost use Rattle.table_shared.specs.Carried.{IsAnswer};
 
 use crate::growth::Growth;
 use crate::table::LockFreeRawTable;
@@ -58,13 +57,7 @@ pub(crate) struct Asking<T, E, H> {
 /// An insert between two steps: where it stands, the generation that it walks, what it builds and carries, and the lock that
 /// it holds.
 #[derive(Drop)]
-pub(crate) struct Inserting<
-    'a,
-    T: AtomicValue,
-    A: Low + Copy,
-    E: Fn(&T::Target, &T::Target) -> bool,
-    H: Fn(&T::Target) -> u64,
-> {
+pub(crate) struct Inserting<'a, T: AtomicValue, A: Low + Copy, E, H> {
     pub(crate) table: &'a LockFreeRawTable<T, A>,
     pub(crate) state: CallState,
     pub(crate) walked: Option<&'a Generation<T, A>>,
@@ -74,37 +67,4 @@ pub(crate) struct Inserting<
     pub(crate) asking: Asking<T, E, H>,
     ghost between: { IsBetween table.now.home T.target asking.given.value state walked growth
         carried held },
-}
-
-impl<
-    'a,
-    T: AtomicValue,
-    A: Low + Copy,
-    E: Fn(&T::Target, &T::Target) -> bool,
-    H: Fn(&T::Target) -> u64,
-> Inserting<'a, T, A, E, H> {
-    /// An insert that has taken no step.
-    pub(crate) fn new(
-        table: &'a LockFreeRawTable<T, A>,
-        hash: u64,
-        value: T,
-        eq: E,
-        hash_fn: H,
-    ) -> Inserting<'a, T, A, E, H>
-        ensures starts { result.state ≡ insert_start hash }
-        ensures given { result.asking.given.value ≡ value }
-        ensures closures { (result.asking.eq ≡ eq) × (result.asking.hash_fn ≡ hash_fn) }
-        ensures unmet { met_in result.carried ≡ None }
-    {
-        let given = Snapshot::of(&value);
-        Inserting {
-            table,
-            state: CallState::insert(hash),
-            walked: None,
-            growth: None,
-            carried: Carried::Value(value),
-            held: Held::Nothing,
-            asking: Asking { given, eq, hash_fn },
-        }
-    }
 }

@@ -6,11 +6,9 @@ ghost use Rattle.table_core.specs.declared.call.Phase.TheVariants.{Shared, Probe
 ghost use Rattle.table_core.specs.declared.call.Answer.TheVariants.{Taken, Holds, MemoryRefused};
 ghost use Rattle.table_turns.specs.Phases.{Meets, Turns, Leaves};
 ghost use Rattle.table_turns.specs.Steps.{Went, Passing, passed as passed_answer};
-ghost use Rattle.table_terms.specs.Hashes.{bits_of};
 ghost use Rattle.table_shared.specs.Carried.{Asks, Wants, lock_of, met_in};
 ghost use Rattle.table_shared.specs.Inserts.{Answers};
-ghost use Rattle.table_shared.specs.Reads.{AtAlone, StepTells};
-ghost use Rattle.table_shared.specs.Steps.{Steps, Stays, Ends, TriesStep};
+ghost use Rattle.table_shared.specs.Steps.{Steps, Stays, TellsAlone, Ends, TriesStep};
 
 use crate::growth::begin::Wanted;
 use crate::insert::between::{Carried, Held, Inserting};
@@ -23,13 +21,11 @@ use table_core::{Answer, CallState, Phase};
 use table_generations::atomic_value::AtomicValue;
 use table_turns::{passed, released, step, step_loaded, step_released};
 
-impl<
-    'a,
-    T: AtomicValue,
-    A: Low + Copy,
+impl<'a, T: AtomicValue, A: Low + Copy, E, H> Inserting<'a, T, A, E, H>
+where
     E: Fn(&T::Target, &T::Target) -> bool,
     H: Fn(&T::Target) -> u64,
-> Inserting<'a, T, A, E, H> {
+{
     /// The lock that it wants is taken.
     fn take(&mut self, held: Held<'a>) -> Answer
         requires wanted { Wants self.old.state.phase (lock_of held) }
@@ -98,10 +94,7 @@ impl<
         requires phase { self.old.state.phase ≡ Probe }
         requires callable { E.IsAlwaysCallable self.old.asking.eq }
         ensures steps { Steps E.Fn self.old result self.new }
-        ensures alone { AtAlone self.old.walked self.old.state.index
-            (StepTells T.target
-            (FnReturnsAtPair E.Fn self.old.asking.eq (T.target self.old.asking.given.value))
-            (bits_of self.old.state.hash) result (met_in self.new.carried)) }
+        ensures alone { TellsAlone E.Fn self.old result self.new }
     {
         let table: &'a LockFreeRawTable<T, A> = self.table;
         let Some(generation) = self.walked else {
@@ -130,10 +123,7 @@ impl<
         requires phase { self.old.state.phase ≡ AtEmpty }
         requires callable { E.IsAlwaysCallable self.old.asking.eq }
         ensures steps { Steps E.Fn self.old result self.new }
-        ensures alone { result ≢ MemoryRefused → AtAlone self.old.walked self.old.state.index
-            (StepTells T.target
-            (FnReturnsAtPair E.Fn self.old.asking.eq (T.target self.old.asking.given.value))
-            (bits_of self.old.state.hash) result (met_in self.new.carried)) }
+        ensures alone { result ≢ MemoryRefused → TellsAlone E.Fn self.old result self.new }
     {
         let table: &'a LockFreeRawTable<T, A> = self.table;
         let Some(generation) = self.walked else {

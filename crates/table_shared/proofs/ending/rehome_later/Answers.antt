@@ -9,20 +9,18 @@ pub loop-word-preserved-in-Some-take_later : goal.loop-word-preserved-in-Some-ta
 loop-word-preserved-in-Some-take_later g c =
     let next : into_iter_items c.loop-word.word-iterator ≡ c.in-Some.word ∷ into_iter_items c.next.new.self = c.in-Some.ensures.steps.0 in
     let long = ap length next in
-    let room = c.loop-word.invariant.roomy in
-    record {
-      all_open = All-tail (IsOpen c.args.closed.now.id c.args.later.alloc) _ _ (rw next at c.loop-word.invariant.all_open);
-      roomy = rw (c.push_reserved.ensures.items, c.push_reserved.ensures.capacity, length-append) (omega (arith, long, room));
-      settled = rw c.push_reserved.ensures.items (All-push (λ b. IsSettled c.args.home.now.id b.value) _ _ c.loop-word.invariant.settled c.in-Some-take_later.ensures);
-    }
+    let room = c.loop-word.invariant.1 in (
+      All-tail (IsOpen c.args.closed.now.id c.args.later.alloc) _ _ (rw next at c.loop-word.invariant.0),
+      rw (c.push_reserved.ensures.items, c.push_reserved.ensures.capacity, length-append) (omega (arith, long, room)),
+      rw c.push_reserved.ensures.items (All-push (λ b. IsSettled c.args.home.now.id b.value) _ _ c.loop-word.invariant.2 c.in-Some-take_later.ensures),
+    )
 
 pub loop-word-preserved : goal.loop-word-preserved
 loop-word-preserved g c =
     let next : into_iter_items c.loop-word.word-iterator ≡ c.in-Some.word ∷ into_iter_items c.next.new.self = c.in-Some.ensures.steps.0 in
     let long = ap length next in
-    let room = c.loop-word.invariant.roomy in
-    record {
-      all_open = All-tail (IsOpen c.args.closed.now.id c.args.later.alloc) _ _ (rw next at c.loop-word.invariant.all_open);
-      roomy = omega (arith, long, room);
-      settled = c.loop-word.invariant.settled;
-    }
+    let room = c.loop-word.invariant.1 in (
+      All-tail (IsOpen c.args.closed.now.id c.args.later.alloc) _ _ (rw next at c.loop-word.invariant.0),
+      omega (arith, long, room),
+      c.loop-word.invariant.2,
+    )

@@ -5,13 +5,8 @@ use Rattle.table_shared.specs.Lineages.{IsOpen}
 use Rattle.table_shared.specs.Settled.{IsSettled}
 use Rattle.table_shared.proofs.ending.rehome_later.Given as goal
 
-pub record IsUnderWay (A B C : Type 0) : Type 0 where
-  pub all_open : A
-  pub roomy : B
-  pub settled : C
-
 abbrev pub invariant-loop-word : goal.invariant-loop-word
 invariant-loop-word g l =
-    IsUnderWay (All (IsOpen l.closed.id l.alloc) (into_iter_items l.word-iterator))
-    (length l.room.items + length (into_iter_items l.word-iterator) ≤ vec_capacity l.room)
-    (All (λ b. IsSettled l.home.id b.value) l.room.items)
+    All (IsOpen l.closed.id l.alloc) (into_iter_items l.word-iterator)
+    × (length l.room.items + length (into_iter_items l.word-iterator) ≤ vec_capacity l.room)
+    × All (λ b. IsSettled l.home.id b.value) l.room.items

@@ -6,10 +6,9 @@ use Rattle.table_shared.proofs.growth.Growth.copy_rest.Goals as goal
 pub loop-self-preserved : goal.loop-self-preserved
 loop-self-preserved g c =
     let so = c.loop-self.invariant in
-    let more = c.copy_window-state.ensures in
-    record {
-      stays = more.stays ∙ so.stays;
-      home_is = more.same.0 ∙ so.home_is;
-      before_is = more.same.1 ∙ so.before_is;
-      copied = on_both g.T.AtomicValue.target (FnReturnsAt g.H.Fn c.args.hash_fn.now) c.args.self.now c.loop-self.self c.copy_window-state.new.self so.copied more.copies;
-    }
+    let more = c.copy_window-state.ensures in (
+      more.stays ∙ so.0,
+      more.same.0 ∙ so.1,
+      more.same.1 ∙ so.2,
+      on_both g.T.AtomicValue.target (FnReturnsAt g.H.Fn c.args.hash_fn.now) c.args.self.now c.loop-self.self c.copy_window-state.new.self so.3 more.copies,
+    )

@@ -4,18 +4,10 @@ use Rattle.table_shared.specs.Ahead.{CopiesOn}
 use Rattle.table_shared.proofs.growth.Growth.copy_rest.Given as goal
 
 -- entries were copied, each by a step that left the call where it stood
-pub record IsCopying (Stays Home Before Copied : Type 0) : Type 0 where
-  pub stays : Stays
-  pub home_is : Home
-  pub before_is : Before
-  pub copied : Copied
-
 abbrev pub invariant-loop-self : goal.invariant-loop-self
 invariant-loop-self g l =
-    IsCopying (l.state ≡ l.initial.state)
-    (l.self.home ≡ l.initial.self.home)
-    (l.self.before ≡ l.initial.self.before)
-    (CopiesOn g.T.AtomicValue.target (FnReturnsAt g.H.Fn l.hash_fn) l.initial.self l.self)
+    (l.state ≡ l.initial.state) × (l.self.home ≡ l.initial.self.home) × (l.self.before ≡ l.initial.self.before)
+    × CopiesOn g.T.AtomicValue.target (FnReturnsAt g.H.Fn l.hash_fn) l.initial.self l.self
 
 abbrev pub decreases-loop-self : goal.decreases-loop-self
 decreases-loop-self g l = length l.self.before - l.self.passed

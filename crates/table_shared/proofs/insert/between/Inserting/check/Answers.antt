@@ -1,8 +1,8 @@
-use Rattle.std.proofs.Common.{refl, rules, Some}
+use Rattle.std.proofs.Common.{inl, inr, refl, rules, Some}
 use Rattle.table_core.specs.declared.call.Answer.TheVariants.{Begun, Failed, Unwanted}
-use Rattle.table_core.specs.declared.call.Phase.TheVariants.{Building, LeaveFailed, LeaveOwned, Owned}
+use Rattle.table_core.specs.declared.call.Phase.TheVariants.{Building, Owned}
 use Rattle.table_shared.proofs.Looked.{some_same}
-use Rattle.table_shared.proofs.Between.{carries, goes_on, taken}
+use Rattle.table_shared.proofs.Between.{begins_none, carries, goes_on, taken}
 use Rattle.table_shared.proofs.Stepping.{carries_on}
 use Rattle.table_shared.proofs.insert.between.Inserting.check.Goals as goal
 
@@ -12,11 +12,7 @@ step-self-requires g c = record { fits = rw c.requires.phase refl }
 pub invariant_of-self : goal.invariant_of-self
 invariant_of-self g c =
     let i = c.args.self.now in
-    record {
-      between =
-          goes_on i.between Owned LeaveOwned c.step-self.result i.growth c.requires.phase (taken Owned Unwanted i.state c.step-self.result c.requires.phase c.step-self.ensures.decided)
-          (search rules) refl refl refl (λ e. absurd (cc)) i.between.grows;
-    }
+    record { between = begins_none i.between c.step-self.result c.requires.phase (inl (taken Owned Unwanted i.state c.step-self.result c.requires.phase c.step-self.ensures.decided)) }
 
 pub step-self-requires-in-Failed : goal.step-self-requires-in-Failed
 step-self-requires-in-Failed g c = record { fits = rw c.requires.phase refl }
@@ -24,11 +20,7 @@ step-self-requires-in-Failed g c = record { fits = rw c.requires.phase refl }
 pub invariant_of-self-in-Failed : goal.invariant_of-self-in-Failed
 invariant_of-self-in-Failed g c =
     let i = c.args.self.now in
-    record {
-      between =
-          goes_on i.between Owned LeaveFailed c.step-self-in-Failed.result i.growth c.requires.phase (taken Owned Failed i.state c.step-self-in-Failed.result c.requires.phase c.step-self-in-Failed.ensures.decided)
-          (search rules) refl refl refl (λ e. absurd (cc)) i.between.grows;
-    }
+    record { between = begins_none i.between c.step-self-in-Failed.result c.requires.phase (inr (taken Owned Failed i.state c.step-self-in-Failed.result c.requires.phase c.step-self-in-Failed.ensures.decided)) }
 
 pub step-self-requires-in-Begun : goal.step-self-requires-in-Begun
 step-self-requires-in-Begun g c = record { fits = rw c.requires.phase refl }

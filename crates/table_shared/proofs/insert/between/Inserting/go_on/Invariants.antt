@@ -4,12 +4,7 @@ use Rattle.table_shared.specs.Carried.{Asks}
 use Rattle.table_shared.proofs.insert.between.Inserting.go_on.Given as goal
 
 -- the call isn't over, and asks what it asked
-pub record IsUnderWay (Unfinished Same Asking : Type 0) : Type 0 where
-  pub unfinished : Unfinished
-  pub same : Same
-  pub asks : Asking
-
 abbrev pub invariant-loop : goal.invariant-loop
 invariant-loop g l =
-    IsUnderWay (l.call.state.phase ≢ Done) (l.call.asking ≡ l.fn.self.asking)
-    (Asks (goal.E-IsAlwaysCallable g) (goal.H-IsAlwaysCallable g) g.T.AtomicValue.target g.E.Fn l.call.asking l.call.carried)
+    (l.call.state.phase ≢ Done) × (l.call.asking ≡ l.fn.self.asking)
+    × (Asks (goal.E-IsAlwaysCallable g) (goal.H-IsAlwaysCallable g) g.T.AtomicValue.target g.E.Fn l.call.asking l.call.carried)

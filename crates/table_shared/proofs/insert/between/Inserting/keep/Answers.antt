@@ -1,6 +1,7 @@
 use Rattle.std.proofs.Common.{◌∙◌, ap, refl, sym}
 use Rattle.table_shared.specs.Carried.{met_in, value_in}
 use Rattle.table_shared.proofs.Between.{accepts, holds_value}
+use Rattle.table_shared.proofs.Stepping.{steps_unmet}
 use Rattle.table_shared.proofs.insert.between.Inserting.keep.Goals as goal
 
 pub unreachable-requires : goal.unreachable-requires
@@ -14,10 +15,4 @@ invariant_of-self g c =
     record { between = accepts b c.args.next c.args.target c.in-Value.value c.requires.phase c.requires.found (b.stems c.in-Value.value (ap value_in (sym c.in-Value.ensures.value))) }
 
 pub returns-clause-steps : goal.returns-clause-steps
-returns-clause-steps g c = record {
-  went = c.requires.went;
-  there = λ e. absurd (cc);
-  same = refl;
-  met = λ some. absurd (some (ap met_in (sym c.in-Value.ensures.value)));
-  heard = λ _. c.requires.accepted;
-}
+returns-clause-steps g c = steps_unmet g.E.Fn _ _ _ c.requires.went (λ e. absurd (cc)) refl (ap met_in (sym c.in-Value.ensures.value)) c.requires.accepted

@@ -1,14 +1,11 @@
-use Rattle.std.proofs.Common.{◌≡◌, ◌∙◌, ap, refl, subst, sym, true, Some}
+use Rattle.std.proofs.Common.{◌≡◌, ◌∙◌, ap, refl, subst, sym, true}
 use Rattle.std.specs.Fn.{FnReturnsAtPair}
 use Rattle.table_terms.specs.Hashes.{bits_of}
-use Rattle.table_turns.specs.Steps.{passed}
-use Rattle.table_core.specs.declared.call.Answer.TheVariants.{Holds}
 use Rattle.table_shared.specs.declared.insert.between.Carried.TheVariants.{Value}
 use Rattle.table_shared.specs.Carried.{met_in, value_in}
-use Rattle.table_shared.specs.Reads.{AtAlone, StepTells}
-use Rattle.table_shared.proofs.Alone.{at_accepted, at_passed, at_vacant}
+use Rattle.table_shared.proofs.Alone.{accepted_given, at_vacant, passed_given}
 use Rattle.table_shared.proofs.Between.{has_back, holds_value, loses, wins, within}
-use Rattle.table_shared.proofs.Stepping.{steps_again}
+use Rattle.table_shared.proofs.Stepping.{steps_again, steps_unmet}
 use Rattle.table_shared.proofs.insert.between.Inserting.put.Goals as goal
 
 pub unreachable-requires : goal.unreachable-requires
@@ -74,25 +71,13 @@ keep-requires g c =
     }
 
 pub returns-in-Won-clause-steps : goal.returns-in-Won-clause-steps
-returns-in-Won-clause-steps g c = record {
-  went = c.in-Won.ensures.puts.0;
-  there = λ e. absurd (cc);
-  same = refl;
-  met = λ some. absurd (some (ap met_in (sym c.in-Value.ensures.value)));
-  heard = λ _. tt;
-}
+returns-in-Won-clause-steps g c = steps_unmet g.E.Fn _ _ _ c.in-Won.ensures.puts.0 (λ e. absurd (cc)) refl (ap met_in (sym c.in-Value.ensures.value)) tt
 
 pub returns-in-Won-clause-alone : goal.returns-in-Won-clause-alone
 returns-in-Won-clause-alone g c = λ _. at_vacant c.args.self.now.walked c.in-Some.generation c.args.self.now.state.index c.in-Some.is _ c.in-Won.ensures.tells.0
 
 pub returns-in-Refused-clause-steps : goal.returns-in-Refused-clause-steps
-returns-in-Refused-clause-steps g c = record {
-  went = c.in-Refused.ensures.puts.0;
-  there = λ e. absurd (cc);
-  same = refl;
-  met = λ some. absurd (some (ap met_in (sym c.in-Value.ensures.value)));
-  heard = λ _. tt;
-}
+returns-in-Refused-clause-steps g c = steps_unmet g.E.Fn _ _ _ c.in-Refused.ensures.puts.0 (λ e. absurd (cc)) refl (ap met_in (sym c.in-Value.ensures.value)) tt
 
 pub returns-in-Refused-clause-alone : goal.returns-in-Refused-clause-alone
 returns-in-Refused-clause-alone g c = λ no. absurd (no refl)
@@ -103,10 +88,7 @@ returns-in-Passed-clause-steps g c = steps_again g.E.Fn c.args.self.now _ _ _ re
 pub returns-in-Passed-clause-alone : goal.returns-in-Passed-clause-alone
 returns-in-Passed-clause-alone g c =
     let i = c.args.self.now in
-    let target = g.T.AtomicValue.target in
-    let given : c.in-Value.value ≡ i.asking.given.value = i.between.stems c.in-Value.value (ap value_in (sym c.in-Value.ensures.value)) in
-    λ _. rw c.pass.ensures.answer (subst (λ v. AtAlone i.walked i.state.index (StepTells target (FnReturnsAtPair g.E.Fn i.asking.eq (target v)) (bits_of i.state.hash) (passed c.in-Passed.asked) (met_in c.pass.new.self.carried))) given
-    (at_passed i.walked c.in-Some.generation i.state.index c.in-Some.is target (FnReturnsAtPair g.E.Fn i.asking.eq (target c.in-Value.value)) (bits_of i.state.hash) _ _ c.in-Passed.asked (met_in c.pass.new.self.carried) c.in-Passed.ensures.tells))
+    λ _. rw c.pass.ensures.answer (passed_given i.walked c.in-Some.generation i.state.index c.in-Some.is g.T.AtomicValue.target g.E.Fn i.asking.eq c.in-Value.value i.asking.given.value (i.between.stems c.in-Value.value (ap value_in (sym c.in-Value.ensures.value))) (bits_of i.state.hash) _ _ c.in-Passed.asked (met_in c.pass.new.self.carried) c.in-Passed.ensures.tells)
 
 pub returns-in-Met-clause-steps : goal.returns-in-Met-clause-steps
 returns-in-Met-clause-steps g c = steps_again g.E.Fn c.args.self.now _ _ _ refl refl (ap (λ v. Value v) c.in-Met.ensures.puts.2 ∙ c.in-Value.ensures.value) c.keep.ensures.steps
@@ -114,7 +96,4 @@ returns-in-Met-clause-steps g c = steps_again g.E.Fn c.args.self.now _ _ _ refl 
 pub returns-in-Met-clause-alone : goal.returns-in-Met-clause-alone
 returns-in-Met-clause-alone g c =
     let i = c.args.self.now in
-    let target = g.T.AtomicValue.target in
-    let given : c.in-Value.value ≡ i.asking.given.value = i.between.stems c.in-Value.value (ap value_in (sym c.in-Value.ensures.value)) in
-    λ _. rw (c.keep.ensures.answer, c.keep.ensures.kept) (subst (λ v. AtAlone i.walked i.state.index (StepTells target (FnReturnsAtPair g.E.Fn i.asking.eq (target v)) (bits_of i.state.hash) (Holds true) (Some c.in-Met.target))) given
-    (at_accepted i.walked c.in-Some.generation i.state.index c.in-Some.is target (FnReturnsAtPair g.E.Fn i.asking.eq (target c.in-Value.value)) (bits_of i.state.hash) _ _ c.in-Met.target c.in-Met.ensures.tells))
+    λ _. rw (c.keep.ensures.answer, c.keep.ensures.kept) (accepted_given i.walked c.in-Some.generation i.state.index c.in-Some.is g.T.AtomicValue.target g.E.Fn i.asking.eq c.in-Value.value i.asking.given.value (i.between.stems c.in-Value.value (ap value_in (sym c.in-Value.ensures.value))) (bits_of i.state.hash) _ _ c.in-Met.target c.in-Met.ensures.tells)

@@ -1,12 +1,10 @@
-use Rattle.std.proofs.Common.{◌≡◌, ap, refl, subst, true, Some}
+use Rattle.std.proofs.Common.{◌≡◌, ap, refl, subst, true}
 use Rattle.std.specs.Fn.{FnReturnsAtPair}
 use Rattle.table_terms.specs.Hashes.{bits_of}
-use Rattle.table_turns.specs.Steps.{passed}
-use Rattle.table_core.specs.declared.call.Answer.TheVariants.{Empty, Holds}
+use Rattle.table_core.specs.declared.call.Answer.TheVariants.{Empty}
 use Rattle.table_core.specs.declared.call.Phase.TheVariants.{Probe}
 use Rattle.table_shared.specs.Carried.{met_in, value_in}
-use Rattle.table_shared.specs.Reads.{AtAlone, StepTells}
-use Rattle.table_shared.proofs.Alone.{at_accepted, at_empty, at_passed}
+use Rattle.table_shared.proofs.Alone.{accepted_given, at_empty, passed_given}
 use Rattle.table_shared.proofs.Between.{carries, finds_empty, holds_value, passes_probed, taken, within}
 use Rattle.table_shared.proofs.Stepping.{carries_on}
 use Rattle.table_shared.proofs.Takes.{accepts_entry}
@@ -67,15 +65,9 @@ returns-in-Empty-clause-alone g c = at_empty c.args.self.now.walked c.in-Some.ge
 pub returns-in-Passed-clause-alone : goal.returns-in-Passed-clause-alone
 returns-in-Passed-clause-alone g c =
     let i = c.args.self.now in
-    let target = g.T.AtomicValue.target in
-    let given : c.in-Value.value ≡ i.asking.given.value = i.between.stems c.in-Value.value (ap value_in c.in-Value.is) in
-    rw c.pass.ensures.answer (subst (λ v. AtAlone i.walked i.state.index (StepTells target (FnReturnsAtPair g.E.Fn i.asking.eq (target v)) (bits_of i.state.hash) (passed c.in-Passed.asked) (met_in c.pass.new.self.carried))) given
-    (at_passed i.walked c.in-Some.generation i.state.index c.in-Some.is target (FnReturnsAtPair g.E.Fn i.asking.eq (target c.in-Value.value)) (bits_of i.state.hash) _ _ c.in-Passed.asked (met_in c.pass.new.self.carried) c.in-Passed.ensures.seen))
+    rw c.pass.ensures.answer (passed_given i.walked c.in-Some.generation i.state.index c.in-Some.is g.T.AtomicValue.target g.E.Fn i.asking.eq c.in-Value.value i.asking.given.value (i.between.stems c.in-Value.value (ap value_in c.in-Value.is)) (bits_of i.state.hash) _ _ c.in-Passed.asked (met_in c.pass.new.self.carried) c.in-Passed.ensures.seen)
 
 pub returns-in-Met-clause-alone : goal.returns-in-Met-clause-alone
 returns-in-Met-clause-alone g c =
     let i = c.args.self.now in
-    let target = g.T.AtomicValue.target in
-    let given : c.in-Value.value ≡ i.asking.given.value = i.between.stems c.in-Value.value (ap value_in c.in-Value.is) in
-    rw (c.keep.ensures.answer, c.keep.ensures.kept) (subst (λ v. AtAlone i.walked i.state.index (StepTells target (FnReturnsAtPair g.E.Fn i.asking.eq (target v)) (bits_of i.state.hash) (Holds true) (Some c.in-Met.target))) given
-    (at_accepted i.walked c.in-Some.generation i.state.index c.in-Some.is target (FnReturnsAtPair g.E.Fn i.asking.eq (target c.in-Value.value)) (bits_of i.state.hash) _ _ c.in-Met.target c.in-Met.ensures.seen))
+    rw (c.keep.ensures.answer, c.keep.ensures.kept) (accepted_given i.walked c.in-Some.generation i.state.index c.in-Some.is g.T.AtomicValue.target g.E.Fn i.asking.eq c.in-Value.value i.asking.given.value (i.between.stems c.in-Value.value (ap value_in c.in-Value.is)) (bits_of i.state.hash) _ _ c.in-Met.target c.in-Met.ensures.seen)
