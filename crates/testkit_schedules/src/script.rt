@@ -6,8 +6,14 @@
 use std::alloc::{AllocError, Global};
 use std::num::ParseIntError;
 
+/// The steps of a call that finds no generation, makes the first one and loads it.
+const FIRST: &str = "share C; load C; free C; own C; check C ok; show C; free C; share C; load C";
+
+/// The steps of a call that places its value in an empty bucket.
+const GO: &str = "share C; load C; read C n; put C n ok; add C; free C; size C";
+
 /// Why a schedule has no lines.
-#[derive(Clone, Copy, Debug, PartialEq, Eq)]
+#[derive(Clone, Copy, Debug)]
 pub enum NoLines {
     NoMemory,
     /// A number is missing.
@@ -39,8 +45,8 @@ pub fn lines_of(alloc: Global, parts: &[&str]) -> Result<String, NoLines> {
 pub fn push_events(input: &mut String, part: &str) -> Result<(), NoLines> {
     for event in part.split("; ") {
         match event.split_once(' ') {
-            Some(("first", numbers)) => push_first(input, numbers)?,
-            Some(("go", numbers)) => push_go(input, numbers)?,
+            Some(("first", numbers)) => push_insert(input, numbers, FIRST)?,
+            Some(("go", numbers)) => push_insert(input, numbers, GO)?,
             Some(("copies", numbers)) => push_copies(input, numbers)?,
             _ => push_times(input, event)?,
         }
@@ -48,32 +54,14 @@ pub fn push_events(input: &mut String, part: &str) -> Result<(), NoLines> {
     Ok(())
 }
 
-/// The lines of a call that finds no generation, makes the first one and loads it.
-fn push_first(input: &mut String, numbers: &str) -> Result<(), NoLines> {
+/// The lines of the insert of these numbers, and of the steps of its call, C.
+fn push_insert(input: &mut String, numbers: &str, steps: &str) -> Result<(), NoLines> {
     let (call, _) = numbers.split_once(' ').ok_or(NoLines::NoNumber)?;
-    writeln!(
-        input,
-        "insert {numbers}\nshare {call}\nload {call}\nfree {call}"
-    )?;
-    writeln!(
-        input,
-        "own {call}\ncheck {call} ok\nshow {call}\nfree {call}"
-    )?;
-    writeln!(input, "share {call}\nload {call}")?;
-    Ok(())
-}
-
-/// The lines of a call that places its value in an empty bucket.
-fn push_go(input: &mut String, numbers: &str) -> Result<(), NoLines> {
-    let (call, _) = numbers.split_once(' ').ok_or(NoLines::NoNumber)?;
-    writeln!(
-        input,
-        "insert {numbers}\nshare {call}\nload {call}\nread {call} n"
-    )?;
-    writeln!(
-        input,
-        "put {call} n ok\nadd {call}\nfree {call}\nsize {call}"
-    )?;
+    writeln!(input, "insert {numbers}")?;
+    for step in steps.split("; ") {
+        let (word, answers) = step.split_once('C').unwrap_or((step, ""));
+        writeln!(input, "{word}{call}{answers}")?;
+    }
     Ok(())
 }
 

@@ -9,20 +9,19 @@ pub const LOST_TO_AN_EQUAL: &str =
     "first 1 10 0; read 1 n; insert 2 11 0; share 2; load 2; read 2 n; \
     put 1 n ok; put 2 y ok; add 1; free 1; free 2; size 1; size 2";
 
-/// Seven values, none of which wants growth.
-const SEVEN: &str = "first 1 10 0; read 1 n; put 1 n ok; add 1; free 1; size 1; \
-    go 2 11 1; go 3 12 2; go 4 13 3; go 5 14 4; go 6 15 5; go 7 16 6";
+/// One value.
+const ONE: &str = "first 1 10 0; read 1 n; put 1 n ok; add 1; free 1; size 1";
 
-/// Nine more, each of which is refused the growth that it wants.
-const NINE_WITHOUT_GROWTH: &str = "go 8 17 7; own 8; check 8 no; free 8; \
+/// Six more, none of which wants growth.
+const SIX: &str = "go 2 11 1; go 3 12 2; go 4 13 3; go 5 14 4; go 6 15 5; go 7 16 6";
+
+/// Nine more, each of which is refused the growth that it wants, and two calls that find all 16 buckets set.
+const TWO_AT_A_FULL_GENERATION: &str = "go 8 17 7; own 8; check 8 no; free 8; \
     go 9 18 8; own 9; check 9 no; free 9; go 10 19 9; own 10; check 10 no; free 10; \
     go 11 20 10; own 11; check 11 no; free 11; go 12 21 11; own 12; check 12 no; free 12; \
     go 13 22 12; own 13; check 13 no; free 13; go 14 23 13; own 14; check 14 no; free 14; \
-    go 15 24 14; own 15; check 15 no; free 15; go 16 25 15; own 16; check 16 no; free 16";
-
-/// Two calls find all 16 buckets set.
-const TWO_AT_A_FULL_GENERATION: &str =
-    "insert 17 26 0; share 17; load 17; 16 times read 17 n; free 17; \
+    go 15 24 14; own 15; check 15 no; free 15; go 16 25 15; own 16; check 16 no; free 16; \
+    insert 17 26 0; share 17; load 17; 16 times read 17 n; free 17; \
     insert 18 27 0; share 18; load 18; 16 times read 18 n; free 18";
 
 /// Call 17 makes the generation of 32 buckets.
@@ -87,7 +86,8 @@ pub const SCHEDULES: [Row; 21] = [
     (
         16,
         &[
-            SEVEN,
+            ONE,
+            SIX,
             "go 8 17 7; lookup 20 8; load 20; own 8; check 8 ok; copies 8 8; show 8; free 8",
             "go 9 18 8; read 20 n; lookup 21 8; load 21; read 21 y; b",
         ],
@@ -97,10 +97,7 @@ pub const SCHEDULES: [Row; 21] = [
     // The same bucket with other bits of the hash.
     (
         16,
-        &[
-            "first 1 10 0; read 1 n; put 1 n ok; add 1; free 1; size 1",
-            "lookup 2 0x100000000; load 2; read 2 y; read 2 n; b",
-        ],
+        &[ONE, "lookup 2 0x100000000; load 2; read 2 y; read 2 n; b"],
         "1 placed 10\n2 none\n16\n",
     ),
     (16, &["walk 1; load 1; b"], "1 walk []\n0\n"),
@@ -112,7 +109,7 @@ pub const SCHEDULES: [Row; 21] = [
     // A walk of seven.
     (
         16,
-        &[SEVEN, "walk 20; load 20; 16 times read 20 y"],
+        &[ONE, SIX, "walk 20; load 20; 16 times read 20 y"],
         "1 placed 10\n2 placed 11\n3 placed 12\n4 placed 13\n5 placed 14\n6 placed 15\n7 placed 16\n\
             20 walk [10, 11, 12, 13, 14, 15, 16]\n",
     ),
@@ -136,7 +133,7 @@ pub const SCHEDULES: [Row; 21] = [
     (
         16,
         &[
-            "first 1 10 0; read 1 n; put 1 n ok; add 1; free 1; size 1",
+            ONE,
             "go 2 11 1; go 3 12 2; go 4 13 3; go 5 14 4; go 6 15 5",
             "insert 7 16 6; share 7; load 7; read 7 n; put 7 n ok; add 7",
             "insert 8 17 7; share 8; load 8; read 8 n; put 8 n ok; add 8",
@@ -150,8 +147,8 @@ pub const SCHEDULES: [Row; 21] = [
     (
         16,
         &[
-            SEVEN,
-            NINE_WITHOUT_GROWTH,
+            ONE,
+            SIX,
             TWO_AT_A_FULL_GENERATION,
             GROWTH_TO_32,
             "own 18; check 18 ok; copies 18 16; show 18; free 18; b",
@@ -166,8 +163,8 @@ pub const SCHEDULES: [Row; 21] = [
     (
         16,
         &[
-            SEVEN,
-            NINE_WITHOUT_GROWTH,
+            ONE,
+            SIX,
             TWO_AT_A_FULL_GENERATION,
             GROWTH_TO_32,
             "own 18; check 18 no; free 18; share 18; load 18; 17 times read 18 n; put 18 n ok; add 18",
@@ -181,8 +178,8 @@ pub const SCHEDULES: [Row; 21] = [
     (
         16,
         &[
-            SEVEN,
-            NINE_WITHOUT_GROWTH,
+            ONE,
+            SIX,
             TWO_AT_A_FULL_GENERATION,
             "lookup 19 0; load 19; 15 times read 19 n; walk 20; load 20; 15 times read 20 n",
             "len 21; load 21; size 21; read 19 n; read 20 n; b",
