@@ -47,6 +47,21 @@ pub fn read(home: &Home, name: Option<BlockName<Number>>) -> Option<u64>
 }
 
 impl<A: Low + Copy> Pair<A> {
+    ghost use Rattle.test_tied.specs.Places.{AreLaid};
+
+    /// Two words of the book of this token.
+    fn of(home: Home, alloc: A, start: Token, first: Word<A>, second: Word<A>) -> Pair<A>
+        requires { AreLaid home.id alloc start.book start.log first second }
+    {
+        Pair {
+            home,
+            alloc,
+            start,
+            first,
+            second,
+        }
+    }
+
     /// Both are null.
     pub fn new(alloc: A) -> Pair<A> {
         let home = Home::new();
@@ -55,13 +70,7 @@ impl<A: Low + Copy> Pair<A> {
         let first = Word::new(&alloc, &home, &mut pen);
         let mut pen = pens.take();
         let second = Word::new(&alloc, &home, &mut pen);
-        Pair {
-            home,
-            alloc,
-            start,
-            first,
-            second,
-        }
+        Pair::of(home, alloc, start, first, second)
     }
 
     /// The first is made with the number, and the second with the name of its block.
@@ -81,13 +90,7 @@ impl<A: Low + Copy> Pair<A> {
         let mut pen = pens.take();
         let mut seen = start.again();
         let second = Word::of_name::<Places>(name, &alloc, &mut pen, &mut seen);
-        Some(Pair {
-            home,
-            alloc,
-            start,
-            first,
-            second,
-        })
+        Some(Pair::of(home, alloc, start, first, second))
     }
 
     /// Offers a number to the first word.
