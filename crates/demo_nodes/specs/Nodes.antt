@@ -26,10 +26,4 @@ module _ {V : Type 0} (shape : V → Shape) where
   hash_by_shape a = shape_hash (shape a)
 
   pub shape_lawful : IsLaw same_by_shape hash_by_shape
-  shape_lawful = record {
-    reflexive = λ a. grind (arith, common_steps);
-    symmetric = λ a b h. grind (arith, common_steps);
-    transitive = λ a b c h k. grind (arith, common_steps);
-    small = λ a. grind (arith, common_steps);
-    agrees = λ a b h. grind (arith, common_steps);
-  }
+  shape_lawful = grind (arith, common_steps)

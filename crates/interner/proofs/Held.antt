@@ -1,9 +1,7 @@
 -- What the table's clauses say of the numbers that an interner holds.
-use Rattle.std.proofs.Common.{◌≡◌, ℕ, ◌+◌, ◌-◌, ◌<◌, ◌++◌, Bool, true, false, List, [], ◌∷◌, Option, Some, None, Result, Ok, Err, length, map, refl, sym, ap, ◌∙◌, arith, zero, suc, inl, inr}
+use Rattle.std.proofs.Common.{◌≡◌, ℕ, ◌+◌, ◌-◌, ◌<◌, ◌++◌, Bool, List, [], ◌∷◌, Option, Some, None, Result, Ok, Err, length, sym, ap, ◌∙◌, arith, inl, inr}
 use Rattle.std.specs.Prelude.{slice_get, Contains}
-use Rattle.std.specs.Bool.{Decides}
 use Rattle.std.specs.Str.{bytes_eq}
-use Rattle.std.proofs.lemmas.Bool.{false≢true}
 use Rattle.std.proofs.lemmas.List.{length-map, map_push, length-append}
 use Rattle.std.proofs.lemmas.List.Sorted.{Contains-permutation}
 use Rattle.std.proofs.lemmas.Option.{slice_get-map, slice_get-get_or}
@@ -13,17 +11,8 @@ use Rattle.table_held.specs.Table.{HeldTable, Place, IsLawful, entries, entry_at
 use Rattle.table_held.specs.Held.{ShowsAt, IsLawfulInsert, IsLawfulLookup, LookupReplies, PlacesAsList, LooksUpAsList, InsertAnswers, equal}
 use Rattle.interner.specs.Texts.{same_by_text, hash_by_text, HasNumber, greatest_number}
 use Rattle.interner.specs.Kept.{TellsText, HashesText, AreNumbered, IsKept}
+use Rattle.interner.proofs.Among.{equal_both_ways, not_among}
 use Rattle.interner.proofs.Numbers.{among_texts, push_cases, different_push}
-
--- answers to one question asked both ways are the same
-same_answer : (a b : List ℕ) (p q : Bool) → Decides p (a ≡ b) → Decides q (b ≡ a) → p ≡ q
-same_answer a b true true one other = refl
-same_answer a b false false one other = refl
-same_answer a b true false one other = sym (other.1 (sym (one.0 refl)))
-same_answer a b false true one other = one.1 (sym (other.0 refl))
-
-equal_both_ways : (a b : List ℕ) → bytes_eq a b ≡ bytes_eq b a
-equal_both_ways a b = same_answer a b _ _ (bytes_eq-Decides a b) (bytes_eq-Decides b a)
 
 module _ {T V : Type 0} (target : T → V) (text : V → List ℕ) (number : V → ℕ) (hash : List ℕ → ℕ) where
   abbrev text_of : T → List ℕ
@@ -36,14 +25,6 @@ module _ {T V : Type 0} (target : T → V) (text : V → List ℕ) (number : V �
       let numbered : number (target e) ≡ k + 1 = are.numbered k e at in
       let before : number (target e) - 1 ≡ k = omega arith in
       (omega arith, rw (before, ← are.texts_are, slice_get-map text_of M k, at))
-
-  -- where none of these has the text, it is not among their texts
-  not_among : (M : List T) (x : List ℕ) → ((e : T) → Contains M e → bytes_eq (text_of e) x ≡ false) → ¬ Contains (map text_of M) x
-  not_among [] x none (k, below, is) = omega (arith, below)
-  not_among (e ∷ M) x none (zero, below, is) =
-      false≢true (sym (none e (0, omega arith, refl)) ∙ (bytes_eq-Decides (text_of e) x).1 is)
-  not_among (e ∷ M) x none (suc k, below, is) =
-      not_among M x (λ f (j, in_range, at). none f (suc j, omega arith, at)) (k, omega arith, is)
 
   -- the test "has this text", and its look-up
   abbrev pub has_text : List ℕ → V → Bool
@@ -74,7 +55,7 @@ module _ {T V : Type 0} (target : T → V) (text : V → List ℕ) (number : V �
         → Answers (equal target (same_by_text text) (hash_by_text text hash)) kept.held.0 (Lookup (λ e. has_text x (target e))) reply kept.held.0 → ShowsNumber x shown
     shows x None reply replies answers =
         let told = rw replies at answers in
-        rw (← kept.held.2.texts_are) (not_among kept.held.0 x told.0)
+        rw (← kept.held.2.texts_are) (not_among text_of kept.held.0 x told.0)
     shows x (Some v) reply (e, shown_is, replies) answers =
         let told = rw replies at answers in
         let has : HasNumber texts (text_of e) (number (target e)) = has_number texts kept.held.0 e kept.held.2 told.0.0 in

@@ -1,2 +1,3 @@
+pub mod Among
 mod Numbers
 mod Held

@@ -1,5 +1,5 @@
 -- What the table's clauses say of the lines that it holds.
-use Rattle.std.proofs.Common.{append_assoc, ◌≡◌, ℕ, zero, suc, ◌++◌, Bool, true, false, List, [], ◌∷◌, Option, Some, None, Ok, map, arith, refl, sym, ◌∙◌, ap}
+use Rattle.std.proofs.Common.{append_assoc, ◌≡◌, ℕ, ◌++◌, Bool, true, false, List, [], ◌∷◌, Option, Some, None, Ok, map, refl, sym, ◌∙◌, ap}
 use Rattle.std.specs.Prelude.{Contains, ◌↔◌, IsTrue, is_some}
 use Rattle.std.specs.Str.{bytes_eq}
 use Rattle.std.proofs.lemmas.Bool.{false≢true}
@@ -10,6 +10,7 @@ use Rattle.table_held.specs.Table.{HeldTable, Place, entries, entry_at}
 use Rattle.table_held.specs.Held.{ShowsAt, IsLawfulInsert, PlacesAsList, InsertReplies, equal, LooksUpAsList, LookupReplies, IsLawfulLookup}
 use Rattle.table_terms.specs.ListObject.{ListReply, Placed, Found, Insert, Lookup, Answers}
 use Rattle.interner.specs.Hashes.{mixed_hash}
+use Rattle.interner.proofs.Among.{equal_both_ways, not_among}
 use Rattle.tool_text_lines.specs.Hashes.{same_by_bytes, hash_by_bytes}
 use Rattle.std.specs.Io.KnownBytes.{Appends}
 use Rattle.std.proofs.KnownBytes.{Appends-trans}
@@ -24,22 +25,6 @@ module _ {T V : Type 0} (target : T → V) (bytes : V → List ℕ) where
   -- the bytes of an element are among the bytes of all
   has_bytes : (M : List T) (e : T) → Contains M e → Contains (map bytes_of M) (bytes_of e)
   has_bytes M e (k, below, is) = (k, rw length-map below, get_or-map bytes_of M k e ∙ ap bytes_of is)
-
-  -- where none of these has the bytes, they are not among theirs
-  not_among : (M : List T) (x : List ℕ) → ((e : T) → Contains M e → bytes_eq (bytes_of e) x ≡ false) → ¬ Contains (map bytes_of M) x
-  not_among [] x none (k, below, is) = omega (arith, below)
-  not_among (e ∷ M) x none (zero, below, is) =
-      false≢true (sym (none e (0, omega arith, refl)) ∙ (bytes_eq-Decides (bytes_of e) x).1 is)
-  not_among (e ∷ M) x none (suc k, below, is) =
-      not_among M x (λ f (j, in_range, at). none f (suc j, omega arith, at)) (k, omega arith, is)
-
-  -- the same, where the bytes are asked first
-  not_among_from : (M : List T) (x : List ℕ) → ((e : T) → Contains M e → bytes_eq x (bytes_of e) ≡ false) → ¬ Contains (map bytes_of M) x
-  not_among_from [] x none (k, below, is) = omega (arith, below)
-  not_among_from (e ∷ M) x none (zero, below, is) =
-      false≢true (sym (none e (0, omega arith, refl)) ∙ (bytes_eq-Decides x (bytes_of e)).1 (sym is))
-  not_among_from (e ∷ M) x none (suc k, below, is) =
-      not_among_from M x (λ f (j, in_range, at). none f (suc j, omega arith, at)) (k, omega arith, is)
 
   -- the test "has these bytes"
   abbrev has : List ℕ → V → Bool
@@ -59,7 +44,7 @@ module _ {T V : Type 0} (target : T → V) (bytes : V → List ℕ) where
       → IsTrue (is_some shown) ↔ Contains (map bytes_of M) x
   shown_among M x reply None replies answers =
       let told = rw replies at answers in
-      let none = not_among M x told.0 in
+      let none = not_among bytes_of M x told.0 in
       (λ no. absurd (false≢true no), λ among. absurd (none among))
   shown_among M x reply (Some v) (e, shown_is, replies) answers =
       let told = rw replies at answers in
@@ -85,7 +70,7 @@ module _ {T V : Type 0} (target : T → V) (bytes : V → List ℕ) where
     placed None s h = absurd s
     placed (Some e) s h =
         let told = rw s at h in
-        let none : ¬ Contains (firsts lines) (bytes_of value) = rw is at (not_among_from M (bytes_of value) told.0) in
+        let none : ¬ Contains (firsts lines) (bytes_of value) = rw is at (not_among bytes_of M (bytes_of value) (λ e among. equal_both_ways (bytes_of e) (bytes_of value) ∙ told.0 e among)) in
         let new : ¬ Contains lines (bytes_of value) = λ known. none (Contains_in_firsts lines (bytes_of value) known) in
         ap (map bytes_of) told.2 ∙ map_push bytes_of M value ∙ ap (λ ls. ls ++ bytes_of value ∷ []) is ∙ sym (firsts_new lines (bytes_of value) new)
 
