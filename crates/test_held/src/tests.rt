@@ -9,10 +9,10 @@ mod refusals;
 mod runs;
 mod values;
 
-use pairs::{Pair, Pairs, Told, assert_shown, assert_size, assert_told};
+use pairs::{Pair, Pairs, Told};
+use std::fmt::Debug;
 use std::process::Abort;
 use std::test::Fail;
-use table_held::raw::HeldRawTable;
 
 /// Pairs in a first generation, and what their inserts are told. (15, 9) lies beyond the last bucket, in the first free
 /// one from the front.
@@ -33,46 +33,47 @@ const LOOKUPS: [(Pair, bool); 5] = [
     ((1, 1), false),
 ];
 
-/// Two numbers are the same.
-fn assert_same(rt: &impl Abort, got: u64, expected: u64) {
+/// Both are the same.
+fn assert_same<X: PartialEq + Debug + Drop>(rt: &impl Abort, got: X, expected: X) {
     assert_eq!(rt; got, expected);
 }
 
 #[test]
 fn a_table_without_entries(rt: HostRuntime) {
-    let table: Pairs = HeldRawTable::new(rt.alloc());
-    assert_size(&rt, &table, 0, 0);
+    let pairs = Pairs::new(rt.alloc());
+    pairs.assert_size(&rt, 0, 0);
+    pairs.assert_shown(&rt, (0, 1), false);
+    let table = pairs.table;
     assert!(rt; table.is_empty_alone());
-    assert_same(&rt, table.buckets_alone() as u64, 0);
-    assert_shown(&rt, &table, (0, 1), false);
-    assert_same(&rt, table.iter_alone().count() as u64, 0);
-    assert_same(&rt, table.into_iter().count() as u64, 0);
+    assert_same(&rt, table.buckets_alone(), 0);
+    assert_same(&rt, table.iter_alone().count(), 0);
+    assert_same(&rt, table.into_iter().count(), 0);
 }
 
 #[test]
 fn answers_of_a_first_generation(rt: HostRuntime) -> Result<(), Fail> {
-    let mut table: Pairs = HeldRawTable::new(rt.alloc());
+    let mut pairs = Pairs::new(rt.alloc());
     for (pair, told) in INSERTS {
-        assert_told(&rt, &mut table, rt.alloc(), pair, told)?;
+        pairs.assert_told(&rt, pair, told)?;
     }
     for (pair, is_entry) in LOOKUPS {
-        assert_shown(&rt, &table, pair, is_entry);
+        pairs.assert_shown(&rt, pair, is_entry);
     }
-    assert_size(&rt, &table, 3, 16);
+    pairs.assert_size(&rt, 3, 16);
     Ok(())
 }
 
 #[test]
 fn a_hundred_values_of_one_hash(rt: HostRuntime) -> Result<(), Fail> {
-    let mut table: Pairs = HeldRawTable::new(rt.alloc());
+    let mut pairs = Pairs::new(rt.alloc());
     for number in 0..100 {
         let pair = (0, number);
-        assert_told(&rt, &mut table, rt.alloc(), pair, Told::Placed(pair))?;
+        pairs.assert_told(&rt, pair, Told::Placed(pair))?;
     }
-    assert_size(&rt, &table, 100, 256);
-    assert_same(&rt, table.buckets_alone() as u64, 496);
+    pairs.assert_size(&rt, 100, 256);
+    assert_same(&rt, pairs.table.buckets_alone(), 496);
     for number in 0..101 {
-        assert_shown(&rt, &table, (0, number), number < 100);
+        pairs.assert_shown(&rt, (0, number), number < 100);
     }
     Ok(())
 }

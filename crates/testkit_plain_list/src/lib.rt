@@ -36,6 +36,13 @@ impl<T: AtomicValue> PlainList<T> {
         }
     }
 
+    /// The values, in the order in which they came.
+    pub fn values(&self) -> &[T]
+        ensures { result.now ≡ self.now }
+    {
+        self.values.as_slice()
+    }
+
     /// Appends the value, unless one is accepted as equal; and its index, or that of the equal one.
     fn insert<E: Fn(&T::Target, &T::Target) -> bool>(
         &mut self,

@@ -1,10 +1,10 @@
 //! Each block that a table asks for is given back once.
 use super::assert_same;
-use super::pairs::{End, Pair, Pairs, assert_end, assert_size, insert};
+use super::pairs::{End, Pair, Pairs};
 use std::alloc::{AllocError, Global};
 use std::process::Abort;
 use std::test::Fail;
-use table_held::raw::{HeldRawTable, IntoIter};
+use table_held::raw::IntoIter;
 use testkit_refusing::{Refusing, Rule};
 
 /// Entries of a table, and the blocks that it holds at least: one for each entry, and two for each
@@ -41,11 +41,11 @@ fn table_of<'a>(
     alloc: Global,
     entries: u64,
 ) -> Result<Counted<'a>, AllocError> {
-    let mut table = HeldRawTable::new(heap);
+    let mut pairs = Pairs::of(heap, alloc);
     for number in 0..entries {
-        assert_end(rt, &mut table, alloc, number, End::Placed)?;
+        pairs.assert_end(rt, number, End::Placed)?;
     }
-    Ok(table)
+    Ok(pairs)
 }
 
 /// A heap that refuses nothing.
@@ -55,8 +55,11 @@ fn ample(alloc: Global) -> Refusing<Global> {
 
 /// So many blocks were granted, and so many given back.
 fn assert_blocks(rt: &impl Abort, heap: &Refusing<Global>, granted: u64, given_back: u64) {
-    assert_same(rt, heap.granted(), granted);
-    assert_same(rt, heap.given_back(), given_back);
+    assert_same(
+        rt,
+        (heap.granted(), heap.given_back()),
+        (granted, given_back),
+    );
 }
 
 /// What is dropped here holds at least so many blocks, and gives back all.
@@ -78,28 +81,22 @@ fn take(rt: &impl Abort, heap: &Refusing<Global>, values: &mut Values<'_>, taken
 /// So many values are taken out of a table of so many entries, each with a block, and the rest is dropped.
 fn assert_taken(rt: &impl Abort, alloc: Global, entries: u64, taken: u64) -> Result<(), Fail> {
     let heap = ample(alloc);
-    let mut values = table_of(rt, &heap, alloc, entries)?.into_iter();
+    let mut values = table_of(rt, &heap, alloc, entries)?.table.into_iter();
     assert!(rt; heap.granted().saturating_sub(heap.given_back()) >= entries);
     take(rt, &heap, &mut values, taken);
     assert_gives_back(rt, &heap, values, entries.saturating_sub(taken));
     Ok(())
 }
 
-/// Twenty inserts.
-fn insert_twenty(table: &mut Counted<'_>, alloc: Global) -> Result<(), AllocError> {
-    for number in 0..20 {
-        insert(table, alloc, (number, number))?;
-    }
-    Ok(())
-}
-
 /// Twenty inserts, of which one meets the refusal, and the end of their table.
 fn assert_refused_once(rt: &impl Abort, alloc: Global, rule: Rule) -> Result<(), AllocError> {
     let heap = Refusing::new(alloc, rule);
-    let mut table: Counted<'_> = HeldRawTable::new(&heap);
-    insert_twenty(&mut table, alloc)?;
+    let mut pairs = Pairs::of(&heap, alloc);
+    for number in 0..20 {
+        pairs.insert((number, number))?;
+    }
     assert_same(rt, heap.refusals_left(), 0);
-    assert_gives_back(rt, &heap, table, 19);
+    assert_gives_back(rt, &heap, pairs, 19);
     Ok(())
 }
 
@@ -139,11 +136,11 @@ fn a_request_refused(rt: HostRuntime) -> Result<(), Fail> {
 #[test]
 fn a_generation_without_entries(rt: HostRuntime) -> Result<(), Fail> {
     let heap = Refusing::new(rt.alloc(), Rule::new(0, 31, 0, 1));
-    let mut table: Counted<'_> = HeldRawTable::new(&heap);
-    insert(&mut table, rt.alloc(), (1, 1))?;
-    assert_size(&rt, &table, 0, 16);
+    let mut pairs = Pairs::of(&heap, rt.alloc());
+    pairs.insert((1, 1))?;
+    pairs.assert_size(&rt, 0, 16);
     assert_blocks(&rt, &heap, 2, 0);
-    drop(table);
+    drop(pairs);
     assert_blocks(&rt, &heap, 2, 2);
     Ok(())
 }

@@ -25,28 +25,6 @@ fn places<V: AtomicValue<Target = Counting>>(
     matches!(&told, Ok((_, None)))
 }
 
-/// So many of the values were never dropped, and so many once.
-fn assert_never_and_once(rt: &impl Abort, drops: &Drops, never: u64, once: u64) {
-    assert_same(rt, drops.dropped(0), never);
-    assert_same(rt, drops.dropped(1), once);
-}
-
-/// How many values were never dropped and how many once: while both are there, then without the first, and in the end
-/// without either.
-fn assert_as_dropped<F: Drop, L: Drop>(
-    rt: &impl Abort,
-    drops: &Drops,
-    (first, last): (F, L),
-    expected: [(u64, u64); 3],
-) {
-    let [with_both, with_last, without] = expected;
-    assert_never_and_once(rt, drops, with_both.0, with_both.1);
-    drop(first);
-    assert_never_and_once(rt, drops, with_last.0, with_last.1);
-    drop(last);
-    assert_never_and_once(rt, drops, without.0, without.1);
-}
-
 /// A table of so many values that count their drops there, with this capacity then.
 fn table_of(
     rt: &impl Abort,
@@ -59,7 +37,7 @@ fn table_of(
     for number in 0..numbers {
         assert!(rt; places(&mut table, number, drops.counting(number)?));
     }
-    assert_same(rt, table.capacity_alone() as u64, capacity as u64);
+    assert_same(rt, table.capacity_alone(), capacity);
     Ok(table)
 }
 
@@ -75,7 +53,7 @@ fn assert_rest_dropped(
     let kept = (rest.next(), rest.next());
     assert!(rt; kept.0.is_some() && kept.1.is_some());
     let counts = [(values, 0), (2, values.saturating_sub(2)), (0, values)];
-    assert_as_dropped(rt, &drops, (rest, kept), counts);
+    assert_same(rt, drops.as_dropped(rest, kept), counts);
     Ok(())
 }
 
@@ -97,10 +75,14 @@ fn values_in_the_block_are_dropped_once(rt: HostRuntime) -> Result<(), Fail> {
     // an equal value comes back
     let again = Drops::new(rt.alloc(), 8)?;
     assert!(rt; !places(&mut table, 7, InPlace(again.value(7)?)));
-    assert_never_and_once(&rt, &again, 7, 1);
+    assert_same(&rt, again.never_and_once(), (7, 1));
     let mut rest = table.into_iter();
     let kept = rest.next();
-    assert_as_dropped(&rt, &drops, (rest, kept), [(40, 0), (1, 39), (0, 40)]);
+    assert_same(
+        &rt,
+        drops.as_dropped(rest, kept),
+        [(40, 0), (1, 39), (0, 40)],
+    );
     Ok(())
 }
 
@@ -114,7 +96,7 @@ fn an_owning_iterator_stays_at_its_end(rt: HostRuntime) -> Result<(), Fail> {
     for _again in 0..3 {
         assert!(rt; rest.next().is_none());
     }
-    assert_never_and_once(&rt, &drops, 0, 20);
+    assert_same(&rt, drops.never_and_once(), (0, 20));
     Ok(())
 }
 
@@ -126,7 +108,11 @@ fn the_end_of_a_table_drops_each_value(rt: HostRuntime) -> Result<(), Fail> {
     let mut walk = table.iter_alone();
     assert!(rt; walk.next().is_some());
     drop(walk);
-    assert_as_dropped(&rt, &drops, ((), table), [(40, 0), (40, 0), (0, 40)]);
+    assert_same(
+        &rt,
+        drops.as_dropped((), table),
+        [(40, 0), (40, 0), (0, 40)],
+    );
     Ok(())
 }
 
@@ -136,7 +122,7 @@ fn a_value_that_is_found_comes_back(rt: HostRuntime) -> Result<(), Fail> {
     let mut table: Countings = HeldRawTable::new(rt.alloc());
     assert!(rt; places(&mut table, 7, first.counting(7)?));
     assert!(rt; !places(&mut table, 7, again.counting(7)?));
-    assert_never_and_once(&rt, &again, 7, 1);
-    assert_as_dropped(&rt, &first, ((), table), [(8, 0), (8, 0), (7, 1)]);
+    assert_same(&rt, again.never_and_once(), (7, 1));
+    assert_same(&rt, first.as_dropped((), table), [(8, 0), (8, 0), (7, 1)]);
     Ok(())
 }

@@ -1,11 +1,10 @@
 //! Memory that is refused: what is told, what the table keeps, and when growth comes after all.
 use super::assert_same;
-use super::pairs::{End, Pairs, assert_end, assert_placed, assert_shown, assert_size};
+use super::pairs::{End, Pairs};
 use std::alloc::{AllocError, Allocator, Global};
 use std::ops::Range;
 use std::process::Abort;
 use std::test::Fail;
-use table_held::raw::HeldRawTable;
 use testkit_refusing::{Refusing, Rule};
 
 /// A block of an entry takes fewer bytes, and all else that a table asks for more.
@@ -94,29 +93,15 @@ const NO_BLOCK: &[Step] = &[
     Step::Has(9, 32),
 ];
 
-/// These numbers are placed, and the capacity is the same after each.
-fn assert_placed_within<A: Allocator + Copy>(
-    rt: &impl Abort,
-    table: &mut Pairs<A>,
-    alloc: Global,
-    numbers: Range<u64>,
-    capacity: usize,
-) -> Result<(), AllocError> {
-    for number in numbers {
-        assert_placed(rt, table, alloc, number, capacity)?;
-    }
-    Ok(())
-}
-
 /// The pairs of these numbers and themselves are entries, or aren't.
 fn assert_all_shown<A: Allocator + Copy>(
     rt: &impl Abort,
-    table: &Pairs<A>,
+    pairs: &Pairs<A>,
     numbers: Range<u64>,
     is_entry: bool,
 ) {
     for number in numbers {
-        assert_shown(rt, table, (number, number), is_entry);
+        pairs.assert_shown(rt, (number, number), is_entry);
     }
 }
 
@@ -124,24 +109,17 @@ fn assert_all_shown<A: Allocator + Copy>(
 fn take<A: Allocator>(
     rt: &impl Abort,
     heap: &Refusing<A>,
-    table: &mut Pairs<&Refusing<A>>,
-    alloc: Global,
+    pairs: &mut Pairs<&Refusing<A>>,
     step: Step,
 ) -> Result<(), AllocError> {
     match step {
-        Step::Places(first, end, capacity) => assert_placed_within(
-            rt,
-            table,
-            alloc,
-            first..end,
-            capacity,
-        )?,
-        Step::Ends(number, end) => assert_end(rt, table, alloc, number, end)?,
+        Step::Places(first, end, capacity) => pairs.assert_placed(rt, first..end, capacity)?,
+        Step::Ends(number, end) => pairs.assert_end(rt, number, end)?,
         Step::Has(entries, capacity) => {
             assert_same(rt, heap.refusals_left(), 0);
-            assert_size(rt, table, entries, capacity);
+            pairs.assert_size(rt, entries, capacity);
         }
-        Step::Shows(first, end, is_entry) => assert_all_shown(rt, table, first..end, is_entry),
+        Step::Shows(first, end, is_entry) => assert_all_shown(rt, pairs, first..end, is_entry),
     }
     Ok(())
 }
@@ -153,9 +131,9 @@ fn take_all<A: Allocator>(
     alloc: Global,
     steps: &[Step],
 ) -> Result<(), AllocError> {
-    let mut table: Pairs<&Refusing<A>> = HeldRawTable::new(heap);
+    let mut pairs = Pairs::of(heap, alloc);
     for step in steps {
-        take(rt, heap, &mut table, alloc, *step)?;
+        take(rt, heap, &mut pairs, *step)?;
     }
     Ok(())
 }

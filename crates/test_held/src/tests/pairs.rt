@@ -2,15 +2,13 @@
 use super::assert_same;
 use std::alloc::{AllocError, Allocator, Global};
 use std::cell::Cell;
+use std::ops::Range;
 use std::process::Abort;
 use table_held::raw::HeldRawTable;
 use table_terms::law::PairLaw;
 
 /// A number that is the hash where a law is kept, and another one.
 pub type Pair = (u64, u64);
-
-/// A table of pairs.
-pub type Pairs<A = Global> = HeldRawTable<Box<Pair>, A>;
 
 /// How an insert ended: with the entry that is shown and the pair that comes back.
 #[derive(Clone, Copy, PartialEq)]
@@ -100,95 +98,6 @@ impl Closures {
             Hashing::Anew => self.hash_asks.get(),
         }
     }
-
-    /// Inserts a pair under a hash of the caller's. An Err is the memory of the pair itself.
-    pub fn insert<A: Allocator + Copy>(
-        &self,
-        table: &mut Pairs<A>,
-        alloc: Global,
-        given: u64,
-        pair: Pair,
-    ) -> Result<Told, AllocError> {
-        let value = Box::new(alloc, pair)?;
-        Ok(
-            match table.insert_alone::<PairLaw, _, _>(
-                given,
-                value,
-                |a: &Pair, b: &Pair| self.eq(a, b),
-                |a: &Pair| self.hash(a),
-            ) {
-                Ok((shown, None)) => Told::Placed(*shown),
-                Ok((shown, Some(back))) => Told::Found(*shown, *back),
-                Err(back) => Told::Refused(*back),
-            },
-        )
-    }
-
-    /// Looks a pair up under a hash of the caller's.
-    pub fn lookup<A: Allocator + Copy>(
-        &self,
-        table: &Pairs<A>,
-        given: u64,
-        pair: Pair,
-    ) -> Option<Pair> {
-        table
-            .lookup_alone::<PairLaw, _>(given, |entry: &Pair| self.eq(entry, &pair))
-            .copied()
-    }
-}
-
-/// Inserts a pair, with lawful closures. An Err is the memory of the pair itself.
-pub fn insert<A: Allocator + Copy>(
-    table: &mut Pairs<A>,
-    alloc: Global,
-    pair: Pair,
-) -> Result<Told, AllocError> {
-    Closures::lawful().insert(table, alloc, pair.0, pair)
-}
-
-/// The insert of the pair, under a hash of the caller's, is told so.
-pub fn assert_told_at<A: Allocator + Copy>(
-    rt: &impl Abort,
-    closures: &Closures,
-    table: &mut Pairs<A>,
-    alloc: Global,
-    given: u64,
-    pair: Pair,
-    expected: Told,
-) -> Result<(), AllocError> {
-    let told = closures.insert(table, alloc, given, pair)?;
-    assert!(rt; told == expected, "{} at {given}", pair.1);
-    Ok(())
-}
-
-/// The insert of the pair is told so.
-pub fn assert_told<A: Allocator + Copy>(
-    rt: &impl Abort,
-    table: &mut Pairs<A>,
-    alloc: Global,
-    pair: Pair,
-    expected: Told,
-) -> Result<(), AllocError> {
-    assert_told_at(
-        rt,
-        &Closures::lawful(),
-        table,
-        alloc,
-        pair.0,
-        pair,
-        expected,
-    )
-}
-
-/// The insert of the pair of the number and itself ends so, and shows or gives back that pair.
-pub fn assert_end<A: Allocator + Copy>(
-    rt: &impl Abort,
-    table: &mut Pairs<A>,
-    alloc: Global,
-    number: u64,
-    end: End,
-) -> Result<(), AllocError> {
-    assert_told(rt, table, alloc, (number, number), told_of(number, end))
 }
 
 /// What an insert of the pair of the number and itself is told that ends so.
@@ -201,49 +110,121 @@ pub fn told_of(number: u64, end: End) -> Told {
     }
 }
 
-/// So many entries, in a current generation of so many buckets.
-pub fn assert_size<A: Allocator + Copy>(
-    rt: &impl Abort,
-    table: &Pairs<A>,
-    entries: usize,
-    capacity: usize,
-) {
-    assert_same(rt, table.len_alone() as u64, entries as u64);
-    assert_same(rt, table.capacity_alone() as u64, capacity as u64);
-}
-
-/// The pair of the number and itself is placed, as the next one, and the capacity is this then.
-pub fn assert_placed<A: Allocator + Copy>(
-    rt: &impl Abort,
-    table: &mut Pairs<A>,
+/// A table of pairs, and where the blocks of its pairs are asked for.
+#[derive(Drop)]
+pub struct Pairs<A: Allocator + Copy = Global> {
+    pub table: HeldRawTable<Box<Pair>, A>,
     alloc: Global,
-    number: u64,
-    capacity: usize,
-) -> Result<(), AllocError> {
-    assert_end(rt, table, alloc, number, End::Placed)?;
-    assert_size(rt, table, (number as usize).saturating_add(1), capacity);
-    Ok(())
 }
 
-/// The look-up of the pair, under a hash of the caller's, shows this.
-pub fn assert_shown_at<A: Allocator + Copy>(
-    rt: &impl Abort,
-    table: &Pairs<A>,
-    given: u64,
-    pair: Pair,
-    expected: Option<Pair>,
-) {
-    let shown = Closures::lawful().lookup(table, given, pair);
-    assert!(rt; shown == expected, "{} at {given}", pair.1);
+impl Pairs<Global> {
+    /// The table without entries, of ample memory.
+    pub fn new(alloc: Global) -> Self {
+        Pairs::of(alloc, alloc)
+    }
 }
 
-/// The look-up of the pair shows it, or nothing.
-pub fn assert_shown<A: Allocator + Copy>(
-    rt: &impl Abort,
-    table: &Pairs<A>,
-    pair: Pair,
-    is_entry: bool,
-) {
-    let expected = if is_entry { Some(pair) } else { None };
-    assert_shown_at(rt, table, pair.0, pair, expected);
+impl<A: Allocator + Copy> Pairs<A> {
+    /// The table without entries, of this memory.
+    pub fn of(memory: A, alloc: Global) -> Self {
+        Pairs {
+            table: HeldRawTable::new(memory),
+            alloc,
+        }
+    }
+
+    /// Inserts a pair under a hash of the caller's. An Err is the memory of the pair itself.
+    pub fn insert_by(
+        &mut self,
+        closures: &Closures,
+        given: u64,
+        pair: Pair,
+    ) -> Result<Told, AllocError> {
+        let value = Box::new(self.alloc, pair)?;
+        Ok(
+            match self.table.insert_alone::<PairLaw, _, _>(
+                given,
+                value,
+                |a: &Pair, b: &Pair| closures.eq(a, b),
+                |a: &Pair| closures.hash(a),
+            ) {
+                Ok((shown, None)) => Told::Placed(*shown),
+                Ok((shown, Some(back))) => Told::Found(*shown, *back),
+                Err(back) => Told::Refused(*back),
+            },
+        )
+    }
+
+    /// Inserts a pair, with lawful closures. An Err is the memory of the pair itself.
+    pub fn insert(&mut self, pair: Pair) -> Result<Told, AllocError> {
+        self.insert_by(&Closures::lawful(), pair.0, pair)
+    }
+
+    /// Looks a pair up under a hash of the caller's.
+    pub fn lookup_by(&self, closures: &Closures, given: u64, pair: Pair) -> Option<Pair> {
+        self.table
+            .lookup_alone::<PairLaw, _>(given, |entry: &Pair| closures.eq(entry, &pair))
+            .copied()
+    }
+
+    /// The insert of the pair, under a hash of the caller's, is told so.
+    pub fn assert_told_by(
+        &mut self,
+        rt: &impl Abort,
+        closures: &Closures,
+        given: u64,
+        pair: Pair,
+        expected: Told,
+    ) -> Result<(), AllocError> {
+        let told = self.insert_by(closures, given, pair)?;
+        assert!(rt; told == expected, "{} at {given}", pair.1);
+        Ok(())
+    }
+
+    /// The insert of the pair is told so.
+    pub fn assert_told(
+        &mut self,
+        rt: &impl Abort,
+        pair: Pair,
+        expected: Told,
+    ) -> Result<(), AllocError> {
+        self.assert_told_by(rt, &Closures::lawful(), pair.0, pair, expected)
+    }
+
+    /// The insert of the pair of the number and itself ends so, and shows or gives back that pair.
+    pub fn assert_end(&mut self, rt: &impl Abort, number: u64, end: End) -> Result<(), AllocError> {
+        self.assert_told(rt, (number, number), told_of(number, end))
+    }
+
+    /// The pairs of these numbers and themselves are placed, each as the next one, and the capacity is this after each.
+    pub fn assert_placed(
+        &mut self,
+        rt: &impl Abort,
+        numbers: Range<u64>,
+        capacity: usize,
+    ) -> Result<(), AllocError> {
+        for number in numbers {
+            self.assert_end(rt, number, End::Placed)?;
+            self.assert_size(rt, (number as usize).saturating_add(1), capacity);
+        }
+        Ok(())
+    }
+
+    /// So many entries, in a current generation of so many buckets.
+    pub fn assert_size(&self, rt: &impl Abort, entries: usize, capacity: usize) {
+        let size = (self.table.len_alone(), self.table.capacity_alone());
+        assert_same(rt, size, (entries, capacity));
+    }
+
+    /// The look-up of the pair, under a hash of the caller's, shows this.
+    pub fn assert_shown_at(&self, rt: &impl Abort, given: u64, pair: Pair, expected: Option<Pair>) {
+        let shown = self.lookup_by(&Closures::lawful(), given, pair);
+        assert!(rt; shown == expected, "{} at {given}", pair.1);
+    }
+
+    /// The look-up of the pair shows it, or nothing.
+    pub fn assert_shown(&self, rt: &impl Abort, pair: Pair, is_entry: bool) {
+        let expected = if is_entry { Some(pair) } else { None };
+        self.assert_shown_at(rt, pair.0, pair, expected);
+    }
 }

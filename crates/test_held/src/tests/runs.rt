@@ -1,16 +1,19 @@
-//! Generated runs, held against the slow list reply by reply.
+//! Generated runs, held against the plain list reply by reply.
 use super::assert_same;
-use super::pairs::{Pair, Pairs, Told, assert_shown, assert_shown_at, assert_size, insert};
-use crate::slow_list::SlowList;
+use super::pairs::{Pair, Pairs, Told};
 use rand_core::{Rng, SeedableRng};
 use rand_xoshiro::SplitMix64;
 use std::alloc::{AllocError, Allocator, Global};
 use std::process::Abort;
 use std::test::Fail;
-use table_held::raw::HeldRawTable;
-use table_terms::insertion::Insertion;
+use table_held::{AtomicValue, InPlace};
+use table_runs::alone::AloneTable;
 use table_terms::law::PairLaw;
+use testkit_plain_list::PlainList;
 use testkit_refusing::{Refusing, Rule};
+
+/// The plain list of pairs that a table stands for.
+type PairList = PlainList<InPlace<Pair>>;
 
 /// Hashes some of which share a bucket or their eight bits.
 const HASHES: [u64; 7] = [0, 1, 15, 16, 1 << 32, 1 << 40, u64::MAX];
@@ -29,15 +32,48 @@ fn draw_pair(numbers: &mut SplitMix64) -> Pair {
     (HASHES.get(index).copied().unwrap_or(0), draw(numbers, 12))
 }
 
+/// Equal pairs.
+fn same(a: &Pair, b: &Pair) -> bool {
+    a == b
+}
+
+/// The hash of a pair.
+fn hash(pair: &Pair) -> u64 {
+    pair.0
+}
+
+/// What an insert by the place form is told.
+fn place<T: AtomicValue<Target = Pair>, B: AloneTable<T, PairLaw>>(
+    table: &mut B,
+    value: T,
+) -> Told {
+    let pair = *value.deref();
+    let (place, back) = match table.place_alone(pair.0, value, &same, &hash) {
+        Ok(placed) => placed,
+        Err(back) => return Told::Refused(*back.deref()),
+    };
+    let shown = *table.target_at(place);
+    match back {
+        None => Told::Placed(shown),
+        Some(back) => Told::Found(shown, *back.deref()),
+    }
+}
+
+/// The pair that a look-up in the list shows.
+fn listed(list: &PairList, pair: Pair) -> Option<Pair> {
+    AloneTable::<InPlace<Pair>, PairLaw>::lookup_alone(
+        list,
+        pair.0,
+        |entry: &Pair| *entry == pair,
+    ).copied()
+}
+
 /// Whether the list tells the same of a pair that the table was handed: it may refuse where a request was refused and no
 /// entry is equal.
-fn agrees(list: &mut SlowList, pair: Pair, told: Told, refused: bool) -> bool {
+fn agrees(list: &mut PairList, pair: Pair, told: Told, refused: bool) -> bool {
     match told {
-        Told::Refused(back) => refused && back == pair && list.lookup(pair).is_none(),
-        Told::Placed(shown) => { shown == pair && matches!(list.insert(pair), Insertion::Placed) }
-        Told::Found(shown, back) => {
-            shown == pair && back == pair && matches!(list.insert(pair), Insertion::Found)
-        }
+        Told::Refused(back) => refused && back == pair && listed(list, pair).is_none(),
+        _ => told == place(list, InPlace(pair)),
     }
 }
 
@@ -49,16 +85,16 @@ fn assert_same_pairs(rt: &impl Abort, one: &[Pair], other: &[Pair]) {
 /// A table and the list that it stands for.
 #[derive(Drop)]
 struct Both<A: Allocator + Copy> {
-    table: Pairs<A>,
-    list: SlowList,
+    pairs: Pairs<A>,
+    list: PairList,
     alloc: Global,
 }
 
 impl<A: Allocator + Copy> Both<A> {
     fn new(table_alloc: A, alloc: Global) -> Self {
         Both {
-            table: HeldRawTable::new(table_alloc),
-            list: SlowList::new(alloc),
+            pairs: Pairs::of(table_alloc, alloc),
+            list: PairList::new(alloc),
             alloc,
         }
     }
@@ -66,8 +102,8 @@ impl<A: Allocator + Copy> Both<A> {
     /// Inserts the pair into both. `refusals` is how many requests the table's heap is still going to refuse.
     fn insert(&mut self, rt: &impl Abort, heap: &Refusing<Global>, pair: Pair) -> Result<(), Fail> {
         let before = heap.refusals_left();
-        let capacity = self.table.capacity_alone();
-        let told = insert(&mut self.table, self.alloc, pair)?;
+        let capacity = self.pairs.table.capacity_alone();
+        let told = self.pairs.insert(pair)?;
         let refused = heap.refusals_left() < before;
         assert!(rt; agrees(&mut self.list, pair, told, refused));
         self.assert_grown(rt, capacity, refused);
@@ -76,23 +112,35 @@ impl<A: Allocator + Copy> Both<A> {
 
     /// Where no request was refused, a generation of which half was set has grown.
     fn assert_grown(&self, rt: &impl Abort, capacity: usize, refused: bool) {
-        let wanted = 2 * (self.list.len() as u128) >= capacity as u128;
-        assert!(rt; refused || !wanted || self.table.capacity_alone() > capacity);
+        let wanted = 2 * (self.length() as u128) >= capacity as u128;
+        assert!(rt; refused || !wanted || self.pairs.table.capacity_alone() > capacity);
     }
 
     fn lookup(&self, rt: &impl Abort, pair: Pair) {
-        assert_shown_at(rt, &self.table, pair.0, pair, self.list.lookup(pair));
+        self.pairs
+            .assert_shown_at(rt, pair.0, pair, listed(&self.list, pair));
+    }
+
+    /// How many entries the list has.
+    fn length(&self) -> usize {
+        self.list.values().len()
     }
 
     fn count(&self, rt: &impl Abort) {
-        assert_same(rt, self.table.len_alone() as u64, self.list.len() as u64);
-        assert!(rt; self.table.is_empty_alone() == (self.list.len() == 0));
+        let counted = (
+            self.pairs.table.len_alone(),
+            self.pairs.table.is_empty_alone(),
+        );
+        assert_same(rt, counted, (self.length(), self.length() == 0));
     }
 
     fn walk(&self, rt: &impl Abort) -> Result<(), Fail> {
-        let mut walked = walk(&self.table, self.alloc)?;
+        let mut walked = walk(&self.pairs, self.alloc)?;
         walked.sort_unstable();
-        let mut expected = Vec::from_slice(self.alloc, self.list.walk())?;
+        let mut expected = Vec::new(self.alloc);
+        for value in self.list.values() {
+            expected.push(value.0)?;
+        }
         expected.sort_unstable();
         assert_same_pairs(rt, walked.as_slice(), expected.as_slice());
         Ok(())
@@ -107,23 +155,23 @@ impl<A: Allocator + Copy> Both<A> {
         tries: u64,
     ) -> Result<(), Fail> {
         for _tried in 0..tries {
-            if self.list.lookup(pair).is_none() {
+            if listed(&self.list, pair).is_none() {
                 self.insert(rt, heap, pair)?;
             }
         }
-        assert_shown(rt, &self.table, pair, true);
+        self.pairs.assert_shown(rt, pair, true);
         self.lookup(rt, pair);
         Ok(())
     }
 }
 
 /// The pairs of a table, in the order of its walk.
-fn walk<A: Allocator + Copy>(table: &Pairs<A>, alloc: Global) -> Result<Vec<Pair>, AllocError> {
-    let mut pairs = Vec::new(alloc);
-    for pair in table {
-        pairs.push(*pair)?;
+fn walk<A: Allocator + Copy>(pairs: &Pairs<A>, alloc: Global) -> Result<Vec<Pair>, AllocError> {
+    let mut walked = Vec::new(alloc);
+    for pair in &pairs.table {
+        walked.push(*pair)?;
     }
-    Ok(pairs)
+    Ok(walked)
 }
 
 /// So many calls that a seed draws.
@@ -187,28 +235,14 @@ fn each_request_of_memory_refused_in_turn(rt: HostRuntime) -> Result<(), Fail> {
     Ok(())
 }
 
-/// Equal pairs.
-fn same(a: &Pair, b: &Pair) -> bool {
-    a == b
-}
-
-/// The hash of a pair.
-fn hash(pair: &Pair) -> u64 {
-    pair.0
-}
-
-/// Places the pair by the place form of insert.
-fn place(table: &mut Pairs, alloc: Global, pair: Pair) -> Result<Told, AllocError> {
-    let value = Box::new(alloc, pair)?;
-    let (place, back) = match table.place_alone::<PairLaw, _, _>(pair.0, value, &same, &hash) {
-        Ok(placed) => placed,
-        Err(back) => return Ok(Told::Refused(*back)),
-    };
-    let shown = *table.target_at(place);
-    Ok(match back {
-        None => Told::Placed(shown),
-        Some(back) => Told::Found(shown, *back),
-    })
+/// The entries, the buckets of the current generation, and those of all.
+fn sizes(pairs: &Pairs) -> [usize; 3] {
+    let table = &pairs.table;
+    [
+        table.len_alone(),
+        table.capacity_alone(),
+        table.buckets_alone(),
+    ]
 }
 
 /// Two tables have the same entries in the same order, and the same buckets.
@@ -218,13 +252,7 @@ fn assert_alike(
     one: &Pairs,
     other: &Pairs,
 ) -> Result<(), AllocError> {
-    assert_same(rt, one.len_alone() as u64, other.len_alone() as u64);
-    assert_same(
-        rt,
-        one.capacity_alone() as u64,
-        other.capacity_alone() as u64,
-    );
-    assert_same(rt, one.buckets_alone() as u64, other.buckets_alone() as u64);
+    assert_same(rt, sizes(one), sizes(other));
     assert_same_pairs(
         rt,
         walk(one, alloc)?.as_slice(),
@@ -241,22 +269,22 @@ fn assert_inserts_alike(
     placed: &mut Pairs,
     pair: Pair,
 ) -> Result<(), AllocError> {
-    assert!(rt; insert(shown, alloc, pair)? == place(placed, alloc, pair)?);
+    let value = Box::new(alloc, pair)?;
+    assert!(rt; shown.insert(pair)? == place(&mut placed.table, value));
     assert_alike(rt, alloc, shown, placed)
 }
 
 /// The table shows each of the pairs.
 fn assert_all_shown(rt: &impl Abort, table: &Pairs, pairs: &[Pair]) {
     for pair in pairs {
-        assert_shown(rt, table, *pair, true);
+        table.assert_shown(rt, *pair, true);
     }
 }
 
 #[test]
 fn both_forms_of_insert_leave_the_same_table(rt: HostRuntime) -> Result<(), Fail> {
     let mut numbers = SplitMix64::seed_from_u64(1);
-    let mut shown: Pairs = HeldRawTable::new(rt.alloc());
-    let mut placed: Pairs = HeldRawTable::new(rt.alloc());
+    let (mut shown, mut placed) = (Pairs::new(rt.alloc()), Pairs::new(rt.alloc()));
     let mut pairs = Vec::new(rt.alloc());
     for number in 0..128 {
         let pair = (draw_pair(&mut numbers).0, number);
@@ -268,6 +296,6 @@ fn both_forms_of_insert_leave_the_same_table(rt: HostRuntime) -> Result<(), Fail
         }
         assert_all_shown(&rt, &shown, pairs.as_slice());
     }
-    assert_size(&rt, &shown, 128, 512);
+    shown.assert_size(&rt, 128, 512);
     Ok(())
 }

@@ -48,9 +48,9 @@ fn assert_told<L: Law<T>, T: Number, V: AtomicValue<Target = T>>(
     rt: &impl Abort,
     table: &mut HeldRawTable<V>,
     value: V,
-    number: u64,
     is_placed: bool,
 ) {
+    let number = value.deref().number();
     match table.insert_alone::<L, _, _>(
         hash_number(number),
         value,
@@ -109,26 +109,17 @@ fn values_show_their_targets(rt: HostRuntime) -> Result<(), Fail> {
 }
 
 #[test]
-fn a_hundred_boxes(rt: HostRuntime) -> Result<(), Fail> {
-    let mut table: HeldRawTable<Box<u16>> = HeldRawTable::new(rt.alloc());
+fn a_hundred_boxes_and_ten_shared_values(rt: HostRuntime) -> Result<(), Fail> {
+    let mut boxes: HeldRawTable<Box<u16>> = HeldRawTable::new(rt.alloc());
     for number in 0..100u16 {
-        let value = Box::new(rt.alloc(), number)?;
-        assert_told::<NumberLaw, _, _>(&rt, &mut table, value, u64::from(number), true);
+        assert_told::<NumberLaw, _, _>(&rt, &mut boxes, Box::new(rt.alloc(), number)?, true);
     }
-    assert_same(&rt, table.len_alone() as u64, 100);
-    Ok(())
-}
-
-#[test]
-fn ten_shared_values_handed_out(rt: HostRuntime) -> Result<(), Fail> {
-    let mut table: HeldRawTable<Arc<u16>> = HeldRawTable::new(rt.alloc());
+    let mut shared: HeldRawTable<Arc<u16>> = HeldRawTable::new(rt.alloc());
     for number in 0..10u16 {
-        let value = Arc::new(rt.alloc(), number)?;
-        assert_told::<NumberLaw, _, _>(&rt, &mut table, value, u64::from(number), true);
+        assert_told::<NumberLaw, _, _>(&rt, &mut shared, Arc::new(rt.alloc(), number)?, true);
     }
-    let (values, bits) = bits_of(table);
-    assert_same(&rt, values, 10);
-    assert_same(&rt, bits, 0b11_1111_1111);
+    assert_same(&rt, boxes.len_alone(), 100);
+    assert_same(&rt, bits_of(shared), (10, 0b11_1111_1111));
     Ok(())
 }
 
@@ -137,7 +128,7 @@ fn narrow_numbers_are_found(rt: HostRuntime) -> Result<(), Fail> {
     let mut table: HeldRawTable<NonZeroU32> = HeldRawTable::new(rt.alloc());
     for number in 1..10_000u32 {
         let value = NonZeroU32::new(number).ok_or("zero")?;
-        assert_told::<NumberLaw, _, _>(&rt, &mut table, value, u64::from(number), true);
+        assert_told::<NumberLaw, _, _>(&rt, &mut table, value, true);
     }
     assert_all_shown::<NumberLaw, _, _>(&rt, &table, 1..10_000);
     Ok(())
@@ -147,8 +138,7 @@ fn narrow_numbers_are_found(rt: HostRuntime) -> Result<(), Fail> {
 fn a_million_numbers(rt: HostRuntime) -> Result<(), Fail> {
     let mut table: HeldRawTable<InPlace<u32>> = HeldRawTable::new(rt.alloc());
     for number in 0..1_000_000u32 {
-        let value = InPlace(number);
-        assert_told::<NumberLaw, _, _>(&rt, &mut table, value, u64::from(number), true);
+        assert_told::<NumberLaw, _, _>(&rt, &mut table, InPlace(number), true);
     }
     assert_all_shown::<NumberLaw, _, _>(&rt, &table, 0..1_000_000);
     assert_same(&rt, table.iter_alone().count() as u64, 1_000_000);
@@ -161,7 +151,7 @@ fn wide_numbers_come_back(rt: HostRuntime) -> Result<(), Fail> {
     assert!(rt; is_first_capacity(64) && !is_first_capacity(48));
     let mut table: HeldRawTable<NonZeroU64> = HeldRawTable::with_first_capacity(rt.alloc(), 64);
     for is_placed in [true, false] {
-        assert_told::<NumberLaw, _, _>(&rt, &mut table, NonZeroU64::MAX, u64::MAX, is_placed);
+        assert_told::<NumberLaw, _, _>(&rt, &mut table, NonZeroU64::MAX, is_placed);
     }
     assert_same(&rt, table.capacity_alone() as u64, 64);
     assert_same(&rt, table.buckets_alone() as u64, 64);
