@@ -3,20 +3,17 @@ mod held;
 mod keys;
 mod laws;
 mod memory;
+mod over;
 mod sharded;
 mod shared;
 
+ghost use Rattle.std.specs.Iterator.{IsFinite};
+
 use std::alloc::{AllocError, Allocator, Global};
+use std::fmt::Debug;
 use std::process::Abort;
 use table_sets::{AtomicValue, HeldSet, Inserted, NumberLaw, SetLaw, Shown, TextLaw};
-
-/// What an insert is told, whatever the type of the values.
-#[derive(Clone, Copy, PartialEq)]
-enum Told {
-    Placed,
-    Found,
-    Refused,
-}
+use testkit_counting::numbers::Told;
 
 /// Boxed texts.
 type Texts<A> = HeldSet<Box<String<A>, A>, TextLaw, A>;
@@ -66,32 +63,48 @@ fn insert_box<A: Allocator + Copy>(
     Ok(told_of(set, Box::new(alloc, number)?))
 }
 
-/// What an insert that shows its entry is told, if it shows this number; a refused one shows none.
-fn shown_answer<T: AtomicValue<Target = u64>>(shown: Shown<&u64, T>, number: u64) -> Option<Told> {
-    let (told, entry) = match shown {
-        Shown::Placed(entry) => (Told::Placed, *entry),
-        Shown::Found(entry, _) => (Told::Found, *entry),
-        Shown::Refused(_) => return Some(Told::Refused),
-    };
-    if entry == number { Some(told) } else { None }
+/// What an insert of the number is told that shows its entry.
+fn told_by<T: AtomicValue<Target = u64>>(shown: Shown<&u64, T>, number: u64) -> Told {
+    match shown {
+        Shown::Placed(entry) if *entry == number => Told::Placed,
+        Shown::Found(entry, back) if *entry == number && *back.deref() == number => Told::Found,
+        Shown::Refused(back) if *back.deref() == number => Told::Refused,
+        _ => Told::Wrong,
+    }
 }
 
-/// An insert that shows its entry is told so, and shows this number.
-fn assert_shown<T: AtomicValue<Target = u64>>(
-    rt: &impl Abort,
-    shown: Shown<&u64, T>,
-    number: u64,
-    expected: Told,
-) {
-    assert!(rt;
-        shown_answer(shown, number) == Some(expected),
-        "at {number}"
-    );
-}
-
-/// Two numbers are the same.
-fn assert_same(rt: &impl Abort, got: u64, expected: u64) {
+/// Both are the same.
+fn assert_same<X: PartialEq + Debug + Drop>(rt: &impl Abort, got: X, expected: X) {
     assert_eq!(rt; got, expected);
+}
+
+/// The sum of the numbers that a walk shows.
+fn sum_shown<'a, I: Iterator<Item = &'a u64> + Drop>(walk: I) -> u64
+    requires can { I.can_next walk }
+    requires ends { IsFinite (I.remaining walk) }
+{
+    let mut sum = 0u64;
+    for number in walk {
+        sum = sum.wrapping_add(*number);
+    }
+    sum
+}
+
+/// The sum of the numbers of the values that a set hands out.
+fn sum_handed<T: AtomicValue<Target = u64>, I: Iterator<Item = T> + Drop>(values: I) -> u64
+    requires can { I.can_next values }
+    requires ends { IsFinite (I.remaining values) }
+{
+    let mut sum = 0u64;
+    for value in values {
+        sum = sum.wrapping_add(*value.deref());
+    }
+    sum
+}
+
+/// The numbers from 1 to 20 have the sum 210, by each way of walking over them.
+fn assert_sums(rt: &impl Abort, sums: [u64; 3]) {
+    assert_same(rt, sums, [210; 3]);
 }
 
 /// A boxed text.

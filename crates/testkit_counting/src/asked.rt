@@ -46,8 +46,10 @@ pub fn hash<N: Numbered>(entry: &N) -> u64 {
 
 /// What the closures of a caller answer, by the numbers of what they are asked about.
 pub trait Asked {
-    /// Whether the new one is equal to the entry.
-    fn agrees(&self, new: u64, entry: u64) -> bool;
+    /// Whether the new one is equal to the entry: each number to itself alone, where no other answer is given.
+    fn agrees(&self, new: u64, entry: u64) -> bool {
+        new == entry
+    }
 
     /// The hash.
     fn hash(&self, number: u64) -> u64;

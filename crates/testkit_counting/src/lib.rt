@@ -4,13 +4,16 @@
 ghost use Rattle.std.specs.Prelude.{◌≡◌};
 
 pub mod asked;
+pub mod made;
 pub mod numbers;
 pub mod tally;
 
+use crate::asked::{hash, same};
 use std::alloc::{AllocError, Global};
 use std::sync::Arc;
 use std::sync::atomic::{AtomicU64, Ordering};
-use table_terms::law::Law;
+use table_runs::alone::AloneTable;
+use table_terms::law::{Law, hash_number};
 
 /// A number, with the count of its drops.
 pub struct Counting {
@@ -56,6 +59,19 @@ impl Drops {
     /// The same in a box.
     pub fn counting(&self, number: u64) -> Result<Box<Counting>, AllocError> {
         Ok(Box::new(self.alloc, self.value(number)?)?)
+    }
+
+    /// Places the first so many numbers in a table that one owner holds alone. A value that isn't placed is dropped.
+    pub fn place_in<B: AloneTable<Box<Counting>, CountingLaw>>(
+        &self,
+        table: &mut B,
+        numbers: u64,
+    ) -> Result<(), AllocError> {
+        for number in 0..numbers {
+            let value = self.counting(number)?;
+            let _told = table.place_alone(hash_number(number), value, &same, &hash);
+        }
+        Ok(())
     }
 
     /// How many of the numbers were dropped so often.

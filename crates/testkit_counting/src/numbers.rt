@@ -1,9 +1,11 @@
 //! Tables of numbers that threads share.
+use crate::asked::Numbered;
 use crate::tally::{Tally, Work, at_once};
 use std::alloc::{AllocError, Global};
 use std::ops::Range;
 use std::sync::Wait;
 use std::thread::Threads;
+use table_generations::atomic_value::AtomicValue;
 
 /// What an insert is told.
 #[derive(Clone, Copy, Debug, PartialEq, Eq)]
@@ -18,11 +20,28 @@ pub enum Told {
     Wrong,
 }
 
-/// A table of numbers.
-pub trait Numbers {
+/// What an insert of this number tells, by the entry that it shows and the value that comes back.
+pub fn told_by<T: AtomicValue>(answer: Result<(&T::Target, Option<T>), T>, number: u64) -> Told
+where
+    T::Target: Numbered,
+{
+    match answer {
+        Ok((shown, None)) if shown.number() == number => Told::Placed,
+        Ok((shown, Some(back))) if shown.number() == number && back.deref().number() == number =>
+            Told::Found,
+        Err(back) if back.deref().number() == number => Told::Refused,
+        _ => Told::Wrong,
+    }
+}
+
+/// A table that threads insert numbers into.
+pub trait Inserts {
     /// What an insert of the number is told.
     fn insert<R: Wait>(&self, rt: &R, number: u64) -> Told;
+}
 
+/// A table that shows its numbers too.
+pub trait Numbers: Inserts {
     /// Whether a look-up shows the number.
     fn contains(&self, number: u64) -> bool;
 
@@ -34,7 +53,7 @@ pub trait Numbers {
 }
 
 /// What inserts of the numbers are told, one after the other.
-pub fn fill<R: Wait, T: Numbers>(rt: &R, table: &T, numbers: Range<u64>) -> Tally {
+pub fn fill<R: Wait, T: Inserts>(rt: &R, table: &T, numbers: Range<u64>) -> Tally {
     let mut tally = Tally::NONE;
     for number in numbers {
         tally = tally.with(table.insert(rt, number));
@@ -49,7 +68,7 @@ struct Filling<'a, T> {
     parts: &'a [(u64, u64)],
 }
 
-impl<'a, T: Numbers> Work for Filling<'a, T> {
+impl<'a, T: Inserts> Work for Filling<'a, T> {
     fn work<R: Wait>(&self, rt: &R, thread: u64) -> Tally {
         match self.parts.get(thread as usize) {
             Some((from, to)) => fill(rt, self.table, *from..*to),
@@ -59,7 +78,7 @@ impl<'a, T: Numbers> Work for Filling<'a, T> {
 }
 
 /// A thread for each part inserts its numbers, from one on up to another: what all are told together.
-pub fn fill_at_once<R: Threads + Wait + Sync, T: Numbers + Sync>(
+pub fn fill_at_once<R: Threads + Wait + Sync, T: Inserts + Sync>(
     rt: &R,
     table: &T,
     alloc: Global,
@@ -139,4 +158,20 @@ fn refused_before<R: Wait, T: Numbers>(rt: &R, table: &T, number: u64) -> Option
             Some(1),
         _ => None,
     }
+}
+
+/// How many refusals so many runs tell of together, of which each lets one request more pass than the one before; None where a
+/// run tells of none. `refused` makes the run in which so many requests pass.
+pub fn refused_in_turn<R: Wait, F: Fn(&R, u64) -> Option<u64>>(
+    rt: &R,
+    runs: u64,
+    refused: F,
+) -> Option<u64>
+    requires { F.IsAlwaysCallable refused }
+{
+    let mut sum = 0u64;
+    for passing in 0..runs {
+        sum = sum.wrapping_add(refused(rt, passing)?);
+    }
+    Some(sum)
 }

@@ -6,7 +6,7 @@ use std::thread;
 use std::thread::Threads;
 
 /// How many inserts were told what.
-#[derive(Clone, Copy)]
+#[derive(Clone, Copy, Debug, PartialEq, Eq)]
 pub struct Tally {
     pub placed: u64,
     pub found: u64,
@@ -20,6 +20,15 @@ impl Tally {
         found: 0,
         other: 0,
     };
+
+    /// So many that were told Placed, so many Found, and none anything else.
+    pub fn of(placed: u64, found: u64) -> Tally {
+        Tally {
+            placed,
+            found,
+            other: 0,
+        }
+    }
 
     /// With one insert more.
     pub fn with(mut self, told: Told) -> Tally {
@@ -39,11 +48,6 @@ impl Tally {
             found: self.found.wrapping_add(more.found),
             other: self.other.wrapping_add(more.other),
         }
-    }
-
-    /// The counts in a row.
-    pub fn counts(self) -> [u64; 3] {
-        [self.placed, self.found, self.other]
     }
 }
 

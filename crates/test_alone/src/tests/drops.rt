@@ -1,12 +1,11 @@
 //! Each value over eight shards is dropped once.
 use super::makers::eight_shards;
+use super::numbers::assert_same;
 use lock_free_hashtable::sharded::HeldShardedTable;
 use std::alloc::{AllocError, Global};
 use std::process::Abort;
 use std::test::Fail;
-use table_terms::law::hash_number;
-use testkit_counting::asked::{hash, same};
-use testkit_counting::{Counting, CountingLaw, Drops};
+use testkit_counting::{Counting, Drops};
 
 type Countings = HeldShardedTable<Box<Counting>, 8>;
 
@@ -18,22 +17,9 @@ fn filled(
     numbers: u64,
 ) -> Result<Countings, AllocError> {
     let mut table = eight_shards(alloc);
-    for number in 0..numbers {
-        let value = drops.counting(number)?;
-        let _told = table.place_alone::<CountingLaw, _, _>(
-            hash_number(number),
-            value,
-            &same,
-            &hash,
-        );
-    }
+    drops.place_in(&mut table, numbers)?;
     assert!(rt; table.len_alone() as u64 == numbers);
     Ok(table)
-}
-
-/// How many values were never dropped, and how many once, at three times.
-fn assert_dropped<R: Abort>(rt: &R, seen: [(u64, u64); 3], expected: [(u64, u64); 3]) {
-    assert_eq!(rt; seen, expected);
 }
 
 #[test]
@@ -42,7 +28,7 @@ fn an_owning_walk_that_ends_early_drops_the_rest(rt: HostRuntime) -> Result<(), 
     let mut rest = filled(&rt, rt.alloc(), &drops, 10)?.into_iter();
     let kept = [rest.next(), rest.next(), rest.next()];
     let seen = drops.as_dropped(rest, kept);
-    assert_dropped(&rt, seen, [(10, 0), (3, 7), (0, 10)]);
+    assert_same(&rt, seen, [(10, 0), (3, 7), (0, 10)]);
     Ok(())
 }
 
@@ -52,6 +38,6 @@ fn a_walk_drops_nothing_and_the_end_of_a_table_each_value(rt: HostRuntime) -> Re
     let table = filled(&rt, rt.alloc(), &drops, 40)?;
     assert!(rt; table.iter_alone().next().is_some());
     let seen = drops.as_dropped((), table);
-    assert_dropped(&rt, seen, [(40, 0), (40, 0), (0, 40)]);
+    assert_same(&rt, seen, [(40, 0), (40, 0), (0, 40)]);
     Ok(())
 }

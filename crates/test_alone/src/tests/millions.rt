@@ -1,6 +1,6 @@
 //! A million numbers over sixteen shards.
 use super::makers::sixteen_shards;
-use super::numbers::{Numbers, assert_counted, count_shown, fill};
+use super::numbers::{Numbers, assert_same, count_shown, fill};
 use std::alloc::Global;
 
 const MILLION: u64 = 1_000_000;
@@ -21,9 +21,9 @@ fn a_million_numbers_over_sixteen_shards(rt: HostRuntime) {
     let mut table: SixteenShards = sixteen_shards(rt.alloc());
     let placed = fill(&mut table, rt.alloc(), MILLION);
     let (found, length) = (count_shown(&table, MILLION), table.len_alone() as u64);
-    assert_counted(
+    assert_same(
         &rt,
-        [placed, found, length, walk_length(&table)].as_slice(),
-        [MILLION, MILLION, MILLION, MILLION].as_slice(),
+        [placed, found, length, walk_length(&table)],
+        [MILLION, MILLION, MILLION, MILLION],
     );
 }

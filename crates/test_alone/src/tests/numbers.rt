@@ -1,10 +1,11 @@
 //! Numbers in a table over shards that one owner holds alone, each equal to itself alone.
 use lock_free_hashtable::sharded::HeldShardedTable;
 use std::alloc::{Allocator, Global};
+use std::fmt::Debug;
 use std::process::Abort;
 use table_terms::law::{NumberLaw, hash_number};
 use testkit_counting::asked::{hash, same};
-use testkit_counting::numbers::Told;
+use testkit_counting::numbers::{Told, told_by};
 
 /// A table of boxed numbers over so many shards.
 pub type Numbers<const SHARDS: usize, A> = HeldShardedTable<Box<u64>, SHARDS, A>;
@@ -23,6 +24,21 @@ pub fn insert<const SHARDS: usize, A: Allocator + Copy>(
         Ok((_, Some(back))) if *back == number => Told::Found,
         Err(back) if *back == number => Told::Refused,
         _ => Told::Wrong,
+    }
+}
+
+/// What `insert_alone` tells of the number, which shows it.
+pub fn show<const SHARDS: usize, A: Allocator + Copy>(
+    table: &mut Numbers<SHARDS, A>,
+    alloc: Global,
+    number: u64,
+) -> Told {
+    match Box::new(alloc, number) {
+        Ok(value) => told_by(
+            table.insert_alone::<NumberLaw, _, _>(hash_number(number), value, same, hash),
+            number,
+        ),
+        Err(_) => Told::Wrong,
     }
 }
 
@@ -70,7 +86,7 @@ pub fn holds<const SHARDS: usize, A: Allocator + Copy>(
     table.len_alone() as u64 == count && count_shown(table, count) == count
 }
 
-/// These counts are seen.
-pub fn assert_counted<R: Abort>(rt: &R, seen: &[u64], expected: &[u64]) {
+/// Both are the same.
+pub fn assert_same<X: PartialEq + Debug + Drop>(rt: &impl Abort, seen: X, expected: X) {
     assert_eq!(rt; seen, expected);
 }

@@ -1,54 +1,84 @@
 //! Memory that is refused to tables over shards, and to lists of calls.
 use super::makers::two_shards_of;
-use super::numbers::{Numbers, insert};
-use super::runs::{Step, Told, calls, list_tells, run_numbers, told_by_all};
+use super::numbers::{Numbers, assert_same, holds, insert, show};
+use super::runs::{Step, Told as Reply, calls, list_tells, run_numbers, told_by_all};
 use lock_free_hashtable::raw::HeldRawTable;
 use std::alloc::{AllocError, Global};
 use std::process::Abort;
 use std::test::Fail;
-use testkit_counting::numbers as told;
+use testkit_counting::numbers::{Told, refused_in_turn};
 use testkit_refusing::{Refusing, Rule};
 
 /// How many runs are made, of which each lets one request more pass than the one before.
-pub(super) const RUNS: u64 = 100;
+const RUNS: u64 = 100;
 
 /// A request was refused in more than seventeen of the runs, and not in all.
-pub(super) fn assert_requests(rt: &impl Abort, refused: u64) {
+fn assert_requests(rt: &impl Abort, refused: Option<u64>) {
+    let refused = refused.unwrap_or(0);
     assert!(rt;
         17 < refused && refused < RUNS,
         "{refused} requests were made"
     );
 }
 
-/// Inserts the number, which is placed by the second try at the latest, and is counted then.
-fn is_placed(table: &mut Numbers<2, &Refusing<Global>>, alloc: Global, number: u64) -> bool {
-    let mut answer = insert(table, alloc, number);
-    if answer == told::Told::Refused {
-        answer = insert(table, alloc, number);
-    }
-    answer == told::Told::Placed && table.len_alone() as u64 == number.wrapping_add(1)
+/// How a number is inserted.
+#[derive(Clone, Copy)]
+enum Form {
+    /// By `place_alone`.
+    Places,
+    /// By `insert_alone`, which shows it.
+    Shows,
 }
 
-/// Seventeen numbers and a repeat of the fifth, where the request after so many is refused. Each is placed at once or at
-/// its second try. Whether a request was refused.
-fn assert_all_placed(rt: &impl Abort, alloc: Global, passing: u64) -> bool {
+/// What an insert of the number is told.
+fn insert_by(
+    form: Form,
+    table: &mut Numbers<2, &Refusing<Global>>,
+    alloc: Global,
+    number: u64,
+) -> Told {
+    match form {
+        Form::Places => insert(table, alloc, number),
+        Form::Shows => show(table, alloc, number),
+    }
+}
+
+/// Inserts the number, which is placed by the second try at the latest. A number that is refused comes back, and the others
+/// stay.
+fn is_placed(
+    form: Form,
+    table: &mut Numbers<2, &Refusing<Global>>,
+    alloc: Global,
+    number: u64,
+) -> bool {
+    let mut told = insert_by(form, table, alloc, number);
+    if told == Told::Refused && holds(table, number) {
+        told = insert_by(form, table, alloc, number);
+    }
+    told == Told::Placed && holds(table, number.wrapping_add(1))
+}
+
+/// Seventeen numbers and the fifth of them again, where the request after so many is refused. Each is placed, and the fifth is
+/// found. Whether a request was refused.
+fn assert_all_placed(rt: &impl Abort, alloc: Global, form: Form, passing: u64) -> bool {
     let heap = Refusing::new(alloc, Rule::new(0, usize::MAX, passing, 1));
     let mut table = two_shards_of(&heap);
     for number in 0..17u64 {
-        assert!(rt; is_placed(&mut table, alloc, number), "{number}");
+        assert!(rt; is_placed(form, &mut table, alloc, number), "{number}");
     }
-    let is_found = insert(&mut table, alloc, 4) == told::Told::Found;
-    assert!(rt; is_found && table.len_alone() == 17);
+    let is_found = insert_by(form, &mut table, alloc, 4) == Told::Found;
+    assert!(rt; is_found && holds(&table, 17));
     heap.refusals_left() == 0
 }
 
 #[test]
 fn each_request_of_two_shards_refused(rt: HostRuntime) {
-    let mut refused = 0u64;
-    for passing in 0..RUNS {
-        refused = refused.wrapping_add(u64::from(assert_all_placed(&rt, rt.alloc(), passing)));
+    for form in [Form::Places, Form::Shows] {
+        let refused = |rt: &HostRuntime, passing: u64| -> Option<u64> {
+            Some(u64::from(assert_all_placed(rt, rt.alloc(), form, passing)))
+        };
+        assert_requests(&rt, refused_in_turn(&rt, RUNS, refused));
     }
-    assert_requests(&rt, refused);
 }
 
 const STEPS: [Step; 4] = [Step::Insert(1), Step::Insert(1), Step::Lookup(1), Step::Len];
@@ -63,7 +93,7 @@ fn no_room_for_replies(rt: HostRuntime) -> Result<(), Fail> {
         Ok(_) => 0,
         Err(back) => back.len(),
     };
-    assert_eq!(rt; (back, table.len_alone()), (4, 0));
+    assert_same(&rt, (back, table.len_alone()), (4, 0));
     Ok(())
 }
 
@@ -78,8 +108,8 @@ fn inserts(alloc: Global) -> Result<Vec<Step>, AllocError> {
 }
 
 /// Whether the step is an insert whose value came back alone.
-fn is_refused(step: Step, told: Told) -> bool {
-    matches!((step, told), (Step::Insert(number), Told::Refused(back)) if number == back)
+fn is_refused(step: Step, told: Reply) -> bool {
+    matches!((step, told), (Step::Insert(number), Reply::Refused(back)) if number == back)
 }
 
 /// What was told is what a list tells, but where an insert was refused: how many numbers the list then has.
@@ -87,7 +117,7 @@ fn assert_told_or_refused(
     rt: &impl Abort,
     alloc: Global,
     steps: &[Step],
-    told: &[Told],
+    told: &[Reply],
 ) -> Result<usize, AllocError> {
     let mut list = Vec::new(alloc);
     for (step, told) in steps.iter().zip(told) {
@@ -136,11 +166,9 @@ fn assert_run_refused(rt: &impl Abort, alloc: Global, passing: u64) -> Result<bo
 }
 
 #[test]
-fn each_request_of_a_list_of_calls_refused(rt: HostRuntime) -> Result<(), Fail> {
-    let mut refused = 0u64;
-    for passing in 0..RUNS {
-        refused = refused.wrapping_add(u64::from(assert_run_refused(&rt, rt.alloc(), passing)?));
-    }
-    assert_requests(&rt, refused);
-    Ok(())
+fn each_request_of_a_list_of_calls_refused(rt: HostRuntime) {
+    let refused = |rt: &HostRuntime, passing: u64| -> Option<u64> {
+        Some(u64::from(assert_run_refused(rt, rt.alloc(), passing).ok()?))
+    };
+    assert_requests(&rt, refused_in_turn(&rt, RUNS, refused));
 }

@@ -1,40 +1,13 @@
 //! What an insert into shards shows at once, and what it leaves, beside `place_alone` of the same numbers.
-use super::makers::{eight_shards, one_shard, two_shards, two_shards_of};
-use super::numbers::{Numbers, assert_counted, holds, insert};
-use super::refusals::{RUNS, assert_requests};
+use super::makers::{eight_shards, one_shard, two_shards};
+use super::numbers::{Numbers, assert_same, holds, insert, show};
 use super::walks::walked;
-use std::alloc::{AllocError, Allocator, Global};
+use std::alloc::{AllocError, Global};
 use std::process::Abort;
 use std::test::Fail;
-use table_terms::law::{NumberLaw, hash_number};
-use testkit_counting::asked::{hash, same};
+use table_terms::law::NumberLaw;
+use testkit_counting::asked::hash;
 use testkit_counting::numbers::Told;
-use testkit_refusing::{Refusing, Rule};
-
-/// What an insert of a number tells by what it shows and what comes back.
-fn told_by(answer: Result<(&u64, Option<Box<u64>>), Box<u64>>, number: u64) -> Told {
-    match answer {
-        Ok((shown, None)) if *shown == number => Told::Placed,
-        Ok((shown, Some(back))) if *shown == number && *back == number => Told::Found,
-        Err(back) if *back == number => Told::Refused,
-        _ => Told::Wrong,
-    }
-}
-
-/// What an insert of the number is told that shows it.
-fn show<const SHARDS: usize, A: Allocator + Copy>(
-    table: &mut Numbers<SHARDS, A>,
-    alloc: Global,
-    number: u64,
-) -> Told {
-    match Box::new(alloc, number) {
-        Ok(value) => told_by(
-            table.insert_alone::<NumberLaw, _, _>(hash_number(number), value, same, hash),
-            number,
-        ),
-        Err(_) => Told::Wrong,
-    }
-}
 
 /// The tables have the same entries in the same order, and as many buckets.
 fn are_alike<const SHARDS: usize>(
@@ -91,37 +64,6 @@ fn leaves_what_place_alone_leaves(rt: HostRuntime) -> Result<(), Fail> {
     Ok(())
 }
 
-/// Shows the number, which is placed by the second try at the latest. A number that is refused comes back, and the others stay.
-fn is_placed(table: &mut Numbers<2, &Refusing<Global>>, alloc: Global, number: u64) -> bool {
-    let mut told = show(table, alloc, number);
-    if told == Told::Refused && holds(table, number) {
-        told = show(table, alloc, number);
-    }
-    told == Told::Placed && holds(table, number.wrapping_add(1))
-}
-
-/// Shows seventeen numbers and the fifth of them again, where the request after so many is refused. Each is placed, and the fifth
-/// is found. Whether a request was refused.
-fn assert_all_shown(rt: &impl Abort, alloc: Global, passing: u64) -> bool {
-    let heap = Refusing::new(alloc, Rule::new(0, usize::MAX, passing, 1));
-    let mut table = two_shards_of(&heap);
-    for number in 0..17u64 {
-        assert!(rt; is_placed(&mut table, alloc, number), "{number}");
-    }
-    let is_found = show(&mut table, alloc, 4) == Told::Found;
-    assert!(rt; is_found && holds(&table, 17));
-    heap.refusals_left() == 0
-}
-
-#[test]
-fn each_request_of_an_insert_that_shows_refused(rt: HostRuntime) {
-    let mut refused = 0u64;
-    for passing in 0..RUNS {
-        refused = refused.wrapping_add(u64::from(assert_all_shown(&rt, rt.alloc(), passing)));
-    }
-    assert_requests(&rt, refused);
-}
-
 /// No value.
 const NONE: u64 = u64::MAX;
 
@@ -153,7 +95,7 @@ fn shows_an_entry_of_its_own_shard(rt: HostRuntime) -> Result<(), Fail> {
     let mut table: Numbers<2, Global> = two_shards(rt.alloc());
     for (hash_of, number, expected) in CARELESS {
         let shown = show_careless(&mut table, hash_of, Box::new(rt.alloc(), number)?);
-        assert_counted(&rt, shown.as_slice(), expected.as_slice());
+        assert_same(&rt, shown, expected);
     }
     assert!(rt; table.len_alone() == 2);
     Ok(())

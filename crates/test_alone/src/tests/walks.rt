@@ -1,6 +1,6 @@
 //! Walks over eight shards, by reference and by value.
 use super::makers::eight_shards;
-use super::numbers::{Numbers, assert_counted, fill};
+use super::numbers::{Numbers, assert_same, fill};
 use std::alloc::{AllocError, Global};
 use std::process::Abort;
 use std::test::Fail;
@@ -39,19 +39,14 @@ fn handed_out(table: EightShards, alloc: Global) -> Result<Vec<u64>, AllocError>
 /// The numbers are the first so many, each once.
 fn assert_each_once<R: Abort>(rt: &R, numbers: Vec<u64>, count: u64) {
     let (length, first) = count_first(numbers);
-    assert_counted(rt, [length, first].as_slice(), [count, count].as_slice());
-}
-
-/// A walk or a table by value is so long, as it says.
-fn assert_length<R: Abort>(rt: &R, said: (usize, Option<usize>), length: usize) {
-    assert_eq!(rt; said, (length, Some(length)));
+    assert_same(rt, [length, first], [count, count]);
 }
 
 #[test]
 fn walks_give_a_thousand_numbers_once_each(rt: HostRuntime) -> Result<(), Fail> {
     let table = filled(&rt, rt.alloc(), 1000);
     assert!(rt; table.len_alone() == 1000 && !table.is_empty_alone());
-    assert_length(&rt, table.iter_alone().size_hint(), 1000);
+    assert_same(&rt, table.iter_alone().size_hint(), (1000, Some(1000)));
     assert_each_once(&rt, walked(&table, rt.alloc())?, 1000);
     assert_each_once(&rt, handed_out(table, rt.alloc())?, 1000);
     let ten = filled(&rt, rt.alloc(), 10);
@@ -60,25 +55,23 @@ fn walks_give_a_thousand_numbers_once_each(rt: HostRuntime) -> Result<(), Fail> 
 }
 
 #[test]
-fn a_walk_stays_at_its_end(rt: HostRuntime) {
+fn walks_stay_at_their_ends(rt: HostRuntime) {
     let table = filled(&rt, rt.alloc(), 20);
     let mut walk = table.iter_alone();
-    let mut steps = 0u64;
-    for _step in 0..20 {
-        steps = steps.wrapping_add(u64::from(walk.next().is_some()));
-    }
-    assert!(rt; steps == 20 && walk.next().is_none() && walk.next().is_none());
-}
-
-#[test]
-fn an_owning_walk_stays_at_its_end(rt: HostRuntime) {
-    let mut walk = filled(&rt, rt.alloc(), 20).into_iter();
-    assert_length(&rt, walk.size_hint(), 20);
-    let mut steps = 0u64;
-    for _step in 0..20 {
-        steps = steps.wrapping_add(u64::from(walk.next().is_some()));
-    }
-    assert!(rt; steps == 20 && walk.next().is_none() && walk.next().is_none());
+    let steps = walk.by_ref().count();
+    assert_same(
+        &rt,
+        (steps, walk.next().is_none(), walk.next().is_none()),
+        (20, true, true),
+    );
+    let mut values = table.into_iter();
+    assert_same(&rt, values.size_hint(), (20, Some(20)));
+    let steps = values.by_ref().count();
+    assert_same(
+        &rt,
+        (steps, values.next().is_none(), values.next().is_none()),
+        (20, true, true),
+    );
 }
 
 #[test]

@@ -1,7 +1,7 @@
 //! The set that one owner holds alone.
 use super::{
-    Numbers, Told, assert_numbers, assert_placed_once, assert_same, assert_shown, assert_told,
-    insert_box,
+    Numbers, assert_numbers, assert_placed_once, assert_same, assert_sums, assert_told, insert_box,
+    sum_handed, sum_shown, told_by,
 };
 use std::alloc::{AllocError, Global};
 use std::num::{NonZeroU32, NonZeroU64};
@@ -9,6 +9,7 @@ use std::ops::Range;
 use std::process::Abort;
 use std::test::Fail;
 use table_sets::{HeldSet, InPlace, Inserted, NumberLaw};
+use testkit_counting::numbers::Told;
 
 /// Numbers in place.
 type InPlaces = HeldSet<InPlace<u64>, NumberLaw>;
@@ -65,32 +66,22 @@ fn the_entry_is_shown(rt: HostRuntime) {
     let mut set: InPlaces = HeldSet::new(rt.alloc());
     for expected in [Told::Placed, Told::Found] {
         for number in 0..20 {
-            assert_shown(&rt, set.insert_and_show(InPlace(number)), number, expected);
+            assert_same(
+                &rt,
+                told_by(set.insert_and_show(InPlace(number)), number),
+                expected,
+            );
         }
     }
     assert_same(&rt, set.len() as u64, 20);
 }
 
-/// The numbers from 1 to 20 have the sum 210, by each way of walking over them.
 #[test]
 fn walks(rt: HostRuntime) -> Result<(), Fail> {
     let mut set: Numbers<Global> = HeldSet::new(rt.alloc());
     insert_all(&rt, &mut set, rt.alloc(), 1..21, Told::Placed)?;
-    let mut by_iter = 0u64;
-    for entry in set.iter() {
-        by_iter = by_iter.wrapping_add(*entry);
-    }
-    let mut by_loop = 0u64;
-    for entry in &set {
-        by_loop = by_loop.wrapping_add(*entry);
-    }
-    let mut by_value = 0u64;
-    for value in set {
-        by_value = by_value.wrapping_add(*value);
-    }
-    for sum in [by_iter, by_loop, by_value] {
-        assert_same(&rt, sum, 210);
-    }
+    let (by_iter, by_loop) = (sum_shown(set.iter()), sum_shown((&set).into_iter()));
+    assert_sums(&rt, [by_iter, by_loop, sum_handed(set.into_iter())]);
     Ok(())
 }
 

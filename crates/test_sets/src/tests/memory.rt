@@ -1,9 +1,10 @@
 //! Each request for memory refused in turn.
-use super::{Numbers, Told, assert_numbers, assert_same, insert_box};
-use std::alloc::Global;
+use super::{Numbers, assert_numbers, assert_same, insert_box};
+use std::alloc::{AllocError, Global};
 use std::process::Abort;
 use std::test::Fail;
 use table_sets::{HeldSet, Shown};
+use testkit_counting::numbers::{Told, refused_in_turn};
 use testkit_refusing::{Refusing, Rule};
 
 /// How many numbers are inserted: a growth from 16 buckets to 32 lies among them.
@@ -15,7 +16,7 @@ const TOLD: u64 = NUMBERS + 2;
 
 /// Inserts the numbers, each again after a refusal, where one request after `passing` many is refused: how many inserts
 /// were refused.
-fn refused_inserts(rt: &impl Abort, alloc: Global, passing: u64) -> Result<u64, Fail> {
+fn refused_inserts(rt: &impl Abort, alloc: Global, passing: u64) -> Result<u64, AllocError> {
     let memory = Refusing::new(alloc, Rule::new(0, usize::MAX, passing, 1));
     let mut set: Numbers<&Refusing<Global>> = HeldSet::new(&memory);
     let mut refused = 0u64;
@@ -32,13 +33,9 @@ fn refused_inserts(rt: &impl Abort, alloc: Global, passing: u64) -> Result<u64, 
 }
 
 #[test]
-fn each_request_refused_in_turn(rt: HostRuntime) -> Result<(), Fail> {
-    let mut refused = 0u64;
-    for passing in 0..40u64 {
-        refused = refused.wrapping_add(refused_inserts(&rt, rt.alloc(), passing)?);
-    }
-    assert_same(&rt, refused, TOLD);
-    Ok(())
+fn each_request_refused_in_turn(rt: HostRuntime) {
+    let refused = |rt: &HostRuntime, passing: u64| refused_inserts(rt, rt.alloc(), passing).ok();
+    assert_same(&rt, refused_in_turn(&rt, 40, refused), Some(TOLD));
 }
 
 /// A value that is refused comes back, by the insert that shows its entry too; one that is found needs no memory.

@@ -2,15 +2,15 @@
 use lock_free_hashtable::AtomicValue;
 use lock_free_hashtable::sharded::ShardedLockFreeRawTable;
 use std::alloc::{AllocError, Allocator, Global};
+use std::fmt::Debug;
 use std::process::Abort;
 use std::sync::Wait;
 use table_cell::Low;
 use table_terms::law::hash_number;
 use testkit_counting::asked;
 use testkit_counting::asked::Numbered;
-pub(crate) use testkit_counting::numbers::{Numbers, Told};
-use testkit_counting::numbers::{count_first, seen, those_below};
-use testkit_counting::tally::Tally;
+use testkit_counting::numbers::{count_first, told_by};
+pub(crate) use testkit_counting::numbers::{Inserts, Numbers, Told};
 
 /// A table of boxed numbers over so many shards.
 pub(crate) type Table<const SHARDS: usize, A> = ShardedLockFreeRawTable<Box<u64>, SHARDS, A>;
@@ -25,21 +25,9 @@ pub(crate) fn insert_at<R: Wait, T: AtomicValue, const SHARDS: usize, A: Low + C
 where
     T::Target: Numbered,
 {
-    let target = value.deref();
-    let number = target.number();
-    match table.insert(
-        rt,
-        hash,
-        value,
-        asked::same::<T::Target>,
-        asked::hash::<T::Target>,
-    ) {
-        Ok((shown, None)) if shown.number() == number => Told::Placed,
-        Ok((shown, Some(back))) if shown.number() == number && back.deref().number() == number =>
-            Told::Found,
-        Err(back) if back.deref().number() == number => Told::Refused,
-        _ => Told::Wrong,
-    }
+    let number = value.deref().number();
+    let (eq, hash_fn) = (asked::same::<T::Target>, asked::hash::<T::Target>);
+    told_by(table.insert(rt, hash, value, eq, hash_fn), number)
 }
 
 /// A table of boxed numbers over shards, each number under its own hash, whatever the number of shards and their memory.
@@ -93,11 +81,13 @@ pub(crate) struct Sharded<'a, T> {
     pub alloc: Global,
 }
 
-impl<'a, T: OverShards> Numbers for Sharded<'a, T> {
+impl<'a, T: OverShards> Inserts for Sharded<'a, T> {
     fn insert<R: Wait>(&self, rt: &R, number: u64) -> Told {
         self.table.insert_of(rt, self.alloc, number)
     }
+}
 
+impl<'a, T: OverShards> Numbers for Sharded<'a, T> {
     fn contains(&self, number: u64) -> bool {
         self.table.has(number)
     }
@@ -111,23 +101,9 @@ impl<'a, T: OverShards> Numbers for Sharded<'a, T> {
     }
 }
 
-/// These counts are seen.
-pub(crate) fn assert_counted<R: Abort>(rt: &R, seen: &[u64], expected: &[u64]) {
+/// Both are the same.
+pub(crate) fn assert_same<X: PartialEq + Debug + Drop>(rt: &impl Abort, seen: X, expected: X) {
     assert_eq!(rt; seen, expected);
-}
-
-/// So many inserts were told Placed, so many Found, and none anything else.
-pub(crate) fn assert_tally<R: Abort>(rt: &R, told: Tally, placed: u64, found: u64) {
-    assert_counted(rt, told.counts().as_slice(), [placed, found, 0].as_slice());
-}
-
-/// Asserts that the entries are the numbers below `count`, each once.
-pub(crate) fn assert_entries<R: Abort, T: Numbers>(rt: &R, table: &T, count: u64) {
-    assert_counted(
-        rt,
-        seen(table, count).as_slice(),
-        those_below(count).as_slice(),
-    );
 }
 
 /// Asserts that the table hands out the numbers below `count`, each once, and nothing after.
@@ -144,10 +120,6 @@ pub(crate) fn assert_handed(
     }
     let stays = values.next().is_none();
     let (length, first) = count_first(handed);
-    assert_counted(
-        rt,
-        [length, first, u64::from(stays)].as_slice(),
-        [count, count, 1].as_slice(),
-    );
+    assert_same(rt, [length, first, u64::from(stays)], [count, count, 1]);
     Ok(())
 }

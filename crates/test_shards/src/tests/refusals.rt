@@ -1,10 +1,9 @@
 //! Each request for memory of two shards refused in turn.
 use super::made::two;
-use super::numbers::{Sharded, assert_counted};
-use std::alloc::Global;
+use super::numbers::{Sharded, assert_same};
 use std::process::Abort;
 use std::sync::Wait;
-use testkit_counting::numbers::refused_inserts;
+use testkit_counting::numbers::{refused_in_turn, refused_inserts};
 use testkit_refusing::{Refusing, Rule};
 
 /// How many numbers are inserted: each shard grows from 16 buckets to 32.
@@ -17,36 +16,21 @@ const TOLD: u64 = NUMBERS + 2 * 6;
 
 /// How many of the inserts were refused, where one request after `passing` many is refused. In the end each block was given
 /// back.
-fn refused<R: Wait + Abort>(rt: &R, alloc: Global, passing: u64) -> Option<u64> {
+fn refused<R: Wait + Abort + AllocGlobal>(rt: &R, passing: u64) -> Option<u64> {
+    let alloc = rt.alloc();
     let memory = Refusing::new(alloc, Rule::new(0, usize::MAX, passing, 1));
     let table = two(&memory);
-    let told = refused_inserts(
-        rt,
-        &Sharded {
-            table: &table,
-            alloc,
-        },
-        NUMBERS,
-    );
+    let numbers = Sharded {
+        table: &table,
+        alloc,
+    };
+    let told = refused_inserts(rt, &numbers, NUMBERS);
     drop(table);
-    assert_counted(
-        rt,
-        [memory.given_back()].as_slice(),
-        [memory.granted()].as_slice(),
-    );
+    assert_same(rt, memory.given_back(), memory.granted());
     told
-}
-
-/// How many inserts of sixty runs were refused, of which each lets one request more pass than the one before.
-fn refused_in_turn<R: Wait + Abort>(rt: &R, alloc: Global) -> Option<u64> {
-    let mut sum = 0u64;
-    for passing in 0..60 {
-        sum = sum.wrapping_add(refused(rt, alloc, passing)?);
-    }
-    Some(sum)
 }
 
 #[test]
 fn each_request_refused_in_turn(rt: HostRuntime) {
-    assert_eq!(rt; refused_in_turn(&rt, rt.alloc()), Some(TOLD));
+    assert_same(&rt, refused_in_turn(&rt, 60, refused), Some(TOLD));
 }

@@ -1,6 +1,6 @@
 //! One entry in one shard: every call asks the shard of its hash alone, or all of them.
 use super::made::{eight, eight_of, one};
-use super::numbers::{Table, Told, assert_counted, insert_at};
+use super::numbers::{Table, Told, assert_same, insert_at};
 use lock_free_hashtable::raw::is_first_capacity;
 use std::alloc::{AllocError, Allocator, Global};
 use std::process::Abort;
@@ -51,7 +51,7 @@ fn assert_shown_in<R: Abort>(rt: &R, table: &Table<8, Global>, shard: u64, end: 
         } else {
             [NONE, 0]
         };
-        assert_counted(rt, seen.as_slice(), expected.as_slice());
+        assert_same(rt, seen, expected);
     }
 }
 
@@ -67,16 +67,15 @@ fn assert_alone_in<R: Abort + Wait>(
     let was_empty = table.is_empty();
     let is_placed = insert_at(rt, table, hash_in(shard, end), value) == Told::Placed;
     let [first, second] = first_two(table);
-    assert_counted(
+    assert_same(
         rt,
         [
             u64::from(was_empty && is_placed && !table.is_empty()),
             table.len() as u64,
             first,
             second,
-        ]
-        .as_slice(),
-        [1, 1, number, NONE].as_slice(),
+        ],
+        [1, 1, number, NONE],
     );
     assert_shown_in(rt, table, shard, end, number);
 }
@@ -104,7 +103,7 @@ fn assert_lies_in<R: Abort + Wait>(
 ) -> Result<(), AllocError> {
     let table: Table<8, Global> = eight(alloc);
     assert_alone_in(rt, &table, shard, end, Box::new(alloc, end)?);
-    assert_counted(rt, handed_two(table).as_slice(), [end, NONE].as_slice());
+    assert_same(rt, handed_two(table), [end, NONE]);
     Ok(())
 }
 
@@ -137,7 +136,7 @@ fn assert_taken<R: Abort + Wait>(rt: &R, table: &Table<1, Global>, hash: u64, va
         table.len() as u64,
         table.shard(0).len() as u64,
     ];
-    assert_counted(rt, seen.as_slice(), [1, number, number, number].as_slice());
+    assert_same(rt, seen, [1, number, number, number]);
 }
 
 #[test]
@@ -148,11 +147,7 @@ fn one_shard_takes_every_hash(rt: HostRuntime) -> Result<(), Fail> {
         assert_taken(&rt, &table, hash, Box::new(rt.alloc(), number)?);
     }
     let walked = table.iter().count() as u64;
-    assert_counted(
-        &rt,
-        [walked, count_handed(table)].as_slice(),
-        [3, 3].as_slice(),
-    );
+    assert_same(&rt, [walked, count_handed(table)], [3, 3]);
     Ok(())
 }
 
@@ -171,7 +166,7 @@ fn each_shard_has_the_first_capacity(rt: HostRuntime) -> Result<(), Fail> {
         let table = eight_of(rt.alloc(), WIDE);
         assert_alone_in(&rt, &table, shard, 5, Box::new(rt.alloc(), shard)?);
         let buckets = buckets_at(&table, hash_in(shard, 5));
-        assert_counted(&rt, [buckets].as_slice(), [WIDE as u64].as_slice());
+        assert_same(&rt, buckets, WIDE as u64);
     }
     Ok(())
 }

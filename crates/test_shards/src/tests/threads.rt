@@ -1,7 +1,8 @@
 //! Threads that insert at once over sixteen shards.
 use super::made::sixteen;
-use super::numbers::{Sharded, assert_entries, assert_tally};
-use testkit_counting::numbers::fill_at_once;
+use super::numbers::{Sharded, assert_same};
+use testkit_counting::numbers::{fill_at_once, seen, those_below};
+use testkit_counting::tally::Tally;
 
 /// The numbers of four threads, each from one on up to another.
 const PARTS: [(u64, u64); 4] = [
@@ -22,6 +23,6 @@ fn a_million_numbers_of_four_threads(rt: HostRuntime) {
         alloc,
     };
     let told = fill_at_once(&rt, &numbers, alloc, PARTS.as_slice());
-    assert_tally(&rt, told, MILLION, 0);
-    assert_entries(&rt, &numbers, MILLION);
+    assert_same(&rt, told, Tally::of(MILLION, 0));
+    assert_same(&rt, seen(&numbers, MILLION), those_below(MILLION));
 }

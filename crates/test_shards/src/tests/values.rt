@@ -1,6 +1,6 @@
 //! Values over eight shards whose drops are counted.
 use super::made::eight;
-use super::numbers::{Told, insert_at};
+use super::numbers::{Told, assert_same, insert_at};
 use lock_free_hashtable::sharded::ShardedLockFreeRawTable;
 use std::alloc::{AllocError, Global};
 use std::process::Abort;
@@ -29,11 +29,6 @@ fn filled<R: Wait + Abort>(rt: &R, alloc: Global, drops: &Drops) -> Result<Table
     Ok(table)
 }
 
-/// How many values were never dropped, and how many once, at three times.
-fn assert_dropped<R: Abort>(rt: &R, seen: [(u64, u64); 3], expected: [(u64, u64); 3]) {
-    assert_eq!(rt; seen, expected);
-}
-
 /// So many values are taken out of a table, and the rest is dropped; those go last.
 fn assert_taken<R: Wait + Abort>(rt: &R, alloc: Global, taken: u64) -> Result<(), AllocError> {
     let drops = Drops::new(alloc, VALUES)?;
@@ -46,7 +41,7 @@ fn assert_taken<R: Wait + Abort>(rt: &R, alloc: Global, taken: u64) -> Result<()
     }
     let left = VALUES.wrapping_sub(taken);
     let expected = [(VALUES, 0), (taken, left), (0, VALUES)];
-    assert_dropped(rt, drops.as_dropped(values, kept), expected);
+    assert_same(rt, drops.as_dropped(values, kept), expected);
     Ok(())
 }
 
@@ -63,6 +58,6 @@ fn the_end_of_a_table_drops_each_value_once(rt: HostRuntime) -> Result<(), Fail>
     let drops = Drops::new(rt.alloc(), VALUES)?;
     let table = filled(&rt, rt.alloc(), &drops)?;
     let expected = [(VALUES, 0), (VALUES, 0), (0, VALUES)];
-    assert_dropped(&rt, drops.as_dropped((), table), expected);
+    assert_same(&rt, drops.as_dropped((), table), expected);
     Ok(())
 }

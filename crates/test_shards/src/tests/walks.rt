@@ -1,8 +1,6 @@
 //! A thousand numbers over eight shards: found, walked and handed out.
 use super::made::{eight, eight_held};
-use super::numbers::{
-    Numbers, Sharded, Table, Told, assert_counted, assert_entries, assert_handed, assert_tally,
-};
+use super::numbers::{Inserts, Sharded, Table, Told, assert_handed, assert_same};
 use lock_free_hashtable::sharded::HeldShardedTable;
 use std::alloc::{AllocError, Global};
 use std::process::Abort;
@@ -10,7 +8,8 @@ use std::sync::Wait;
 use std::test::Fail;
 use table_terms::law::{NumberLaw, hash_number};
 use testkit_counting::asked::{hash, same};
-use testkit_counting::numbers::fill;
+use testkit_counting::numbers::{fill, seen, those_below};
+use testkit_counting::tally::Tally;
 
 /// How many numbers there are.
 const NUMBERS: u64 = 1000;
@@ -27,10 +26,14 @@ fn assert_filled_on<R: Abort + Wait>(
         table: &table,
         alloc,
     };
-    assert_entries(rt, &numbers, from);
-    assert_tally(rt, fill(rt, &numbers, 0..from), 0, from);
-    assert_tally(rt, fill(rt, &numbers, from..to), to.wrapping_sub(from), 0);
-    assert_entries(rt, &numbers, to);
+    assert_same(rt, seen(&numbers, from), those_below(from));
+    assert_same(rt, fill(rt, &numbers, 0..from), Tally::of(0, from));
+    assert_same(
+        rt,
+        fill(rt, &numbers, from..to),
+        Tally::of(to.wrapping_sub(from), 0),
+    );
+    assert_same(rt, seen(&numbers, to), those_below(to));
     assert_handed(rt, table, alloc, to)
 }
 
@@ -86,9 +89,5 @@ fn a_number_lies_in_the_shard_of_its_hash(rt: HostRuntime) {
     for number in 0..NUMBERS {
         lengthened = lengthened.wrapping_add(u64::from(lengthens(&rt, &numbers, number)));
     }
-    assert_counted(
-        &rt,
-        [lengthened, lengths(&table)].as_slice(),
-        [NUMBERS, NUMBERS].as_slice(),
-    );
+    assert_same(&rt, [lengthened, lengths(&table)], [NUMBERS, NUMBERS]);
 }

@@ -1,9 +1,9 @@
 //! One thread on a shared table.
-use super::numbers::{Boxed, Numbers, Told, assert_entries, assert_tally};
+use super::numbers::{Boxed, Inserts, Numbers, Told, assert_same};
 use std::alloc::Global;
 use std::sync::Wait;
 use testkit_counting::asked::Lawful;
-use testkit_counting::numbers::fill;
+use testkit_counting::numbers::{fill, seen, those_below};
 use testkit_counting::tally::Tally;
 
 /// More than seven growths' worth.
@@ -12,7 +12,7 @@ const NUMBERS: u64 = 2000;
 #[test]
 fn a_table_without_entries(rt: HostRuntime) {
     let table: Boxed<Global> = Boxed::new(rt.alloc(), rt.alloc(), Lawful::Spread);
-    assert_entries(&rt, &table, 0);
+    assert_same(&rt, seen(&table, 0), those_below(0));
 }
 
 /// Inserts the numbers, each of which no look-up may find before: what the inserts are told.
@@ -30,14 +30,14 @@ fn fill_anew<R: Wait>(rt: &R, table: &Boxed<Global>) -> Tally {
 #[test]
 fn numbers_over_growth(rt: HostRuntime) {
     let table: Boxed<Global> = Boxed::new(rt.alloc(), rt.alloc(), Lawful::Spread);
-    assert_tally(&rt, fill_anew(&rt, &table), NUMBERS, 0);
-    assert_tally(&rt, fill(&rt, &table, 0..NUMBERS), 0, NUMBERS);
-    assert_entries(&rt, &table, NUMBERS);
+    assert_same(&rt, fill_anew(&rt, &table), Tally::of(NUMBERS, 0));
+    assert_same(&rt, fill(&rt, &table, 0..NUMBERS), Tally::of(0, NUMBERS));
+    assert_same(&rt, seen(&table, NUMBERS), those_below(NUMBERS));
 }
 
 #[test]
 fn different_values_of_one_hash(rt: HostRuntime) {
     let table: Boxed<Global> = Boxed::new(rt.alloc(), rt.alloc(), Lawful::At(7));
-    assert_tally(&rt, fill(&rt, &table, 0..50), 50, 0);
-    assert_entries(&rt, &table, 50);
+    assert_same(&rt, fill(&rt, &table, 0..50), Tally::of(50, 0));
+    assert_same(&rt, seen(&table, 50), those_below(50));
 }

@@ -1,5 +1,5 @@
 //! Closures that keep no law, in rows whose end is known.
-use super::numbers::{assert_counted, assert_tally, handed, insert_at};
+use super::numbers::{assert_same, handed, insert_at};
 use lock_free_hashtable::raw::LockFreeRawTable;
 use std::alloc::{AllocError, Global};
 use std::process::Abort;
@@ -121,10 +121,10 @@ fn assert_handed<R: Abort>(
 ) -> Result<(), AllocError> {
     let counted = table.len() as u64;
     let numbers = handed(table, alloc)?;
-    assert_counted(
+    assert_same(
         rt,
-        [counted, numbers.len() as u64, count_given(numbers)].as_slice(),
-        [placed, placed, placed].as_slice(),
+        [counted, numbers.len() as u64, count_given(numbers)],
+        [placed, placed, placed],
     );
     Ok(())
 }
@@ -148,7 +148,7 @@ fn assert_kept<R: Abort + Threads + Wait + Sync>(
         alloc,
     };
     let told = at_once(rt, alloc, THREADS as usize, &giving);
-    assert_tally(rt, told, placed, ALL.wrapping_sub(placed));
+    assert_same(rt, told, Tally::of(placed, ALL.wrapping_sub(placed)));
     assert_handed(rt, table, alloc, placed)?;
     Ok(careless.asked.load(Ordering::SeqCst))
 }

@@ -1,8 +1,5 @@
 //! What the count of a table says while threads insert, and what they are told where a generation is full.
-use super::numbers::{
-    Boxed, Numbers, Told, assert_counted, assert_entries, assert_tally, assert_told, insert_at,
-    walk_length,
-};
+use super::numbers::{Boxed, Inserts, Numbers, Told, assert_same, assert_told, walk_length};
 use super::waits::look_for;
 use std::alloc::Global;
 use std::process::Abort;
@@ -12,7 +9,7 @@ use std::thread::Threads;
 use table_cell::Low;
 use table_terms::law::hash_number;
 use testkit_counting::asked::{Asked, Lawful};
-use testkit_counting::numbers::{fill, fill_at_once};
+use testkit_counting::numbers::{fill, fill_at_once, seen, those_below};
 use testkit_counting::tally::{Tally, Work, at_once};
 use testkit_refusing::{Refusing, Rule};
 
@@ -85,11 +82,7 @@ const FOUND_BY_THE_LOSER: Meeting = Meeting {
 
 /// So many entries are counted and walked, in a current generation of so many buckets.
 fn assert_size<R: Abort, A: Low + Copy>(rt: &R, table: &Boxed<A>, entries: u64, buckets: u64) {
-    assert_counted(
-        rt,
-        table.size().as_slice(),
-        [entries, entries, buckets].as_slice(),
-    );
+    assert_same(rt, table.size(), [entries, entries, buckets]);
 }
 
 /// Both numbers of each pair are offered at once: what all inserts are told.
@@ -114,19 +107,19 @@ fn assert_meets<R: Abort + Threads + Wait + Sync>(rt: &R, alloc: Global, meeting
     let heap = Refusing::new(&growth, Rule::new(BLOCK, BLOCK, 0, 1).paired(pairs, LOOKS));
     let table: Boxed<&Memory<'_>> = Boxed::new(&heap, alloc, meeting.lawful);
     assert_told(rt, &table, 0, Told::Refused);
-    assert_entries(rt, &table, 0);
+    assert_same(rt, seen(&table, 0), those_below(0));
     assert_size(rt, &table, 0, 16);
     growth.refuse(0, meeting.refused);
     let told = offer_all(rt, &table, alloc, meeting.pairs);
     let found = (2 * pairs).wrapping_sub(meeting.placed);
-    assert_tally(rt, told, meeting.placed, found);
-    assert_counted(
-        rt,
-        [heap.went_alone(), growth.refusals_left()].as_slice(),
-        [0, 0].as_slice(),
-    );
+    assert_same(rt, told, Tally::of(meeting.placed, found));
+    assert_same(rt, [heap.went_alone(), growth.refusals_left()], [0, 0]);
     assert_size(rt, &table, meeting.placed, meeting.buckets);
-    assert_entries(rt, &table, meeting.placed);
+    assert_same(
+        rt,
+        seen(&table, meeting.placed),
+        those_below(meeting.placed),
+    );
 }
 
 #[test]
@@ -158,7 +151,7 @@ fn full<'m, R: Abort + Wait>(
     let table = Boxed::new(heap, alloc, Lawful::Spread);
     assert_told(rt, &table, 0, Told::Placed);
     heap.refuse(0, u64::MAX);
-    assert_tally(rt, fill(rt, &table, 1..16), 15, 0);
+    assert_same(rt, fill(rt, &table, 1..16), Tally::of(15, 0));
     table
 }
 
@@ -180,7 +173,7 @@ fn a_full_generation_grows_for_a_new_number(rt: HostRuntime) {
     let table = full(&rt, &heap, rt.alloc());
     heap.refuse(0, 0);
     assert_told(&rt, &table, 16, Told::Placed);
-    assert_entries(&rt, &table, 17);
+    assert_same(&rt, seen(&table, 17), those_below(17));
     assert_size(&rt, &table, 17, 64);
 }
 
@@ -224,9 +217,9 @@ fn an_entry_is_counted_once_it_is_there(rt: HostRuntime) {
         begun: AtomicU64::new(0),
     };
     assert_told(&rt, &looked.table, 7, Told::Refused);
-    assert_tally(&rt, at_once(&rt, rt.alloc(), 2, &looked), 2, 0);
-    assert_counted(&rt, [heap.went_alone()].as_slice(), [0].as_slice());
-    assert_entries(&rt, &looked.table, 2);
+    assert_same(&rt, at_once(&rt, rt.alloc(), 2, &looked), Tally::of(2, 0));
+    assert_same(&rt, heap.went_alone(), 0);
+    assert_same(&rt, seen(&looked.table, 2), those_below(2));
 }
 
 /// A table into which two threads insert the same numbers while a third one watches, and what is seen meanwhile.
@@ -237,15 +230,10 @@ struct Watched {
     miscounts: AtomicU64,
     /// How many threads have inserted all that they have.
     done: AtomicU64,
-    alloc: Global,
 }
 
 /// While a growth copies, the count of the table has to be that of its entries.
 impl Asked for Watched {
-    fn agrees(&self, new: u64, entry: u64) -> bool {
-        new == entry
-    }
-
     fn hash(&self, number: u64) -> u64 {
         if self.table.table.len() as u64 != walk_length(&self.table.table) {
             self.miscounts.fetch_add(1, Ordering::SeqCst);
@@ -255,19 +243,11 @@ impl Asked for Watched {
 }
 
 impl Watched {
-    /// Inserts the number.
-    fn insert<R: Wait>(&self, rt: &R, number: u64) -> Told {
-        match Box::new(self.alloc, number) {
-            Ok(value) => insert_at(rt, &self.table.table, hash_number(number), value, self),
-            Err(_) => Told::Wrong,
-        }
-    }
-
     /// Inserts every number from 1 on, and then says that it is done.
     fn fill<R: Wait>(&self, rt: &R) -> Tally {
         let mut tally = Tally::NONE;
         for number in 1..NUMBERS {
-            tally = tally.with(self.insert(rt, number));
+            tally = tally.with(self.table.insert_asking(rt, number, self));
         }
         self.done.fetch_add(1, Ordering::SeqCst);
         tally
@@ -307,17 +287,12 @@ fn assert_counts<R: Abort + Threads + Wait + Sync>(rt: &R, alloc: Global) {
         table: Boxed::new(alloc, alloc, Lawful::Spread),
         miscounts: AtomicU64::new(0),
         done: AtomicU64::new(0),
-        alloc,
     };
     assert_told(rt, &watched.table, 0, Told::Placed);
     let new = NUMBERS - 1;
-    assert_tally(rt, at_once(rt, alloc, 3, &watched), new, new);
-    assert_counted(
-        rt,
-        [watched.miscounts.load(Ordering::SeqCst)].as_slice(),
-        [0].as_slice(),
-    );
-    assert_entries(rt, &watched.table, NUMBERS);
+    assert_same(rt, at_once(rt, alloc, 3, &watched), Tally::of(new, new));
+    assert_same(rt, watched.miscounts.load(Ordering::SeqCst), 0);
+    assert_same(rt, seen(&watched.table, NUMBERS), those_below(NUMBERS));
 }
 
 #[test]

@@ -1,6 +1,6 @@
 //! Each value is dropped once: those that came back, those that are taken out at the end, and the rest.
 use super::countings::{Counted, opened, paired};
-use super::numbers::{assert_counted, assert_tally};
+use super::numbers::assert_same;
 use lock_free_hashtable::raw::LockFreeRawTable;
 use std::alloc::{AllocError, Global};
 use std::process::Abort;
@@ -76,9 +76,9 @@ fn assert_ends(
     let count = kept.len() as u64;
     let [(_, with_all), (_, with_kept), (_, at_end)] = drops.as_dropped(rest, kept);
     let all = gone.wrapping_add(CLASSES);
-    assert_counted(
+    assert_same(
         rt,
-        [entries, length, count, before, with_all, with_kept, at_end].as_slice(),
+        [entries, length, count, before, with_all, with_kept, at_end],
         [
             CLASSES,
             CLASSES,
@@ -87,14 +87,9 @@ fn assert_ends(
             gone,
             all.wrapping_sub(taken),
             all,
-        ]
-        .as_slice(),
+        ],
     );
-    assert_counted(
-        rt,
-        [heap.given_back()].as_slice(),
-        [heap.granted()].as_slice(),
-    );
+    assert_same(rt, heap.given_back(), heap.granted());
     Ok(())
 }
 
@@ -110,7 +105,7 @@ fn assert_grown<R: Abort + Threads + Wait + Sync>(
         drops: Drops::new(alloc, 4 * CLASSES)?,
     };
     let told = fill_at_once(rt, alloc, &counted, 0, CLASSES, 4);
-    assert_tally(rt, told, CLASSES, 3 * CLASSES);
+    assert_same(rt, told, Tally::of(CLASSES, 3 * CLASSES));
     assert_ends(rt, alloc, &heap, counted, taken, 3 * CLASSES)
 }
 
@@ -125,34 +120,26 @@ fn assert_lost<R: Abort + Threads + Wait + Sync>(
     let counted = opened(rt, &heap, Drops::new(alloc, 4 * CLASSES)?, 3);
     let before = heap.granted();
     let told = fill_at_once(rt, alloc, &counted, 0, LOST, 2);
-    assert_tally(rt, told, LOST, LOST);
-    assert_counted(
+    assert_same(rt, told, Tally::of(LOST, LOST));
+    assert_same(
         rt,
         [
             heap.went_alone(),
             heap.granted().wrapping_sub(before),
             heap.given_back(),
             counted.table.len() as u64,
-        ]
-        .as_slice(),
-        [0, 2 * LOST, LOST, LOST].as_slice(),
+        ],
+        [0, 2 * LOST, LOST, LOST],
     );
     let told = fill_at_once(rt, alloc, &counted, LOST, CLASSES, 1);
-    assert_tally(rt, told, CLASSES - LOST, 0);
+    assert_same(rt, told, Tally::of(CLASSES - LOST, 0));
     assert_ends(rt, alloc, &heap, counted, taken, LOST + 1)
 }
 
 #[test]
-fn values_over_growth(rt: HostRuntime) -> Result<(), Fail> {
+fn values_over_growth_and_of_lost_exchanges(rt: HostRuntime) -> Result<(), Fail> {
     for taken in TAKEN {
         assert_grown(&rt, rt.alloc(), taken)?;
-    }
-    Ok(())
-}
-
-#[test]
-fn values_of_lost_exchanges(rt: HostRuntime) -> Result<(), Fail> {
-    for taken in TAKEN {
         assert_lost(&rt, rt.alloc(), taken)?;
     }
     Ok(())

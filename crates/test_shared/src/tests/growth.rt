@@ -1,9 +1,7 @@
 //! When a table grows, what its one count of entries says in each generation, and what is kept of an entry over growth.
 ghost use Rattle.table_terms.specs.Capacities.{IsFirstCapacity};
 
-use super::numbers::{
-    Boxed, Numbers, Told, assert_counted, assert_entries, assert_tally, insert_and_show, shown,
-};
+use super::numbers::{Boxed, Inserts, Told, assert_same, insert_and_show, shown};
 use lock_free_hashtable::raw::{HeldRawTable, LockFreeRawTable, Share, is_first_capacity};
 use std::alloc::{AllocError, Global};
 use std::process::Abort;
@@ -13,7 +11,8 @@ use std::test::Fail;
 use std::thread::Threads;
 use table_terms::law::{NumberLaw, hash_number};
 use testkit_counting::asked::{Lawful, Numbered, hash, same};
-use testkit_counting::numbers::fill_at_once;
+use testkit_counting::numbers::{fill_at_once, seen, those_below};
+use testkit_counting::tally::Tally;
 
 /// How many numbers are placed one by one.
 const PLACED: u64 = 256;
@@ -49,10 +48,10 @@ fn assert_placed<R: Abort + Wait>(rt: &R, table: &Boxed<Global>, number: u64) {
     let placed = table.insert(rt, number) == Told::Placed;
     let [counted, shown, buckets] = table.size();
     let entries = number.wrapping_add(1);
-    assert_counted(
+    assert_same(
         rt,
-        [u64::from(placed), counted, shown, buckets].as_slice(),
-        [1, entries, entries, buckets_for(entries)].as_slice(),
+        [u64::from(placed), counted, shown, buckets],
+        [1, entries, entries, buckets_for(entries)],
     );
 }
 
@@ -100,18 +99,17 @@ fn assert_filled_on<R: Abort + Threads + Wait + Sync>(
     let [counted, _, _] = table.size();
     let told = fill_at_once(rt, &table, alloc, [(0, after), (0, after)].as_slice());
     let [_, _, buckets] = table.size();
-    assert_tally(
+    assert_same(
         rt,
         told,
-        after.wrapping_sub(before),
-        after.wrapping_add(before),
+        Tally::of(after.wrapping_sub(before), after.wrapping_add(before)),
     );
-    assert_counted(
+    assert_same(
         rt,
-        [counted, expected.len_alone() as u64, buckets].as_slice(),
-        [before, after, expected.capacity_alone() as u64].as_slice(),
+        [counted, expected.len_alone() as u64, buckets],
+        [before, after, expected.capacity_alone() as u64],
     );
-    assert_entries(rt, &table, after);
+    assert_same(rt, seen(&table, after), those_below(after));
     Ok(())
 }
 
@@ -163,11 +161,7 @@ fn assert_kept(rt: &impl Abort, table: &Marks, number: u64, kept: &Marked) {
         Some(shown) => shown.mark.load(Ordering::SeqCst),
         None => 0,
     };
-    assert_counted(
-        rt,
-        [kept.number, mark].as_slice(),
-        [number, left].as_slice(),
-    );
+    assert_same(rt, [kept.number, mark], [number, left]);
 }
 
 /// The targets that are shown where the numbers are placed.

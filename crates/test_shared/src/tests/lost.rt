@@ -1,7 +1,7 @@
 //! Exchanges that are lost for sure: two threads ask for the block of an entry, each for the same empty bucket, and neither is
 //! answered before the other has asked.
 use super::countings::{Counted, opened, paired};
-use super::numbers::{assert_counted, assert_tally, walk_length};
+use super::numbers::{assert_same, walk_length};
 use std::alloc::{AllocError, Global};
 use std::process::Abort;
 use std::sync::Wait;
@@ -59,9 +59,9 @@ fn assert_met<R: Abort + Threads + Wait + Sync>(
         hash,
     };
     let found = 2u64.wrapping_sub(placed);
-    assert_tally(rt, at_once(rt, alloc, 2, &offer), placed, found);
+    assert_same(rt, at_once(rt, alloc, 2, &offer), Tally::of(placed, found));
     let Counted { table, drops } = counted;
-    assert_counted(
+    assert_same(
         rt,
         [
             heap.went_alone(),
@@ -70,15 +70,14 @@ fn assert_met<R: Abort + Threads + Wait + Sync>(
             table.len() as u64,
             walk_length(&table),
             drops.dropped(1),
-        ]
-        .as_slice(),
-        [0, blocks, 1, placed, placed, found.wrapping_add(1)].as_slice(),
+        ],
+        [0, blocks, 1, placed, placed, found.wrapping_add(1)],
     );
     drop(table);
-    assert_counted(
+    assert_same(
         rt,
-        [drops.dropped(0), drops.dropped(1), heap.given_back()].as_slice(),
-        [5, 3, heap.granted()].as_slice(),
+        [drops.dropped(0), drops.dropped(1), heap.given_back()],
+        [5, 3, heap.granted()],
     );
     Ok(())
 }

@@ -1,14 +1,13 @@
 //! Values in tables that threads share, told apart by their numbers.
+use lock_free_hashtable::AtomicValue;
 use lock_free_hashtable::raw::{LockFreeRawTable, Low};
-use lock_free_hashtable::{AtomicValue, InPlace};
 use std::alloc::{AllocError, Allocator, Global};
-use std::num::NonZeroU32;
+use std::fmt::Debug;
 use std::process::Abort;
-use std::sync::{Arc, Wait};
+use std::sync::Wait;
 use testkit_counting::asked::{Asked, Lawful, Numbered};
-pub(crate) use testkit_counting::numbers::{Numbers, Told};
-use testkit_counting::numbers::{seen, those_below};
-use testkit_counting::tally::Tally;
+use testkit_counting::made::Made;
+pub(crate) use testkit_counting::numbers::{Inserts, Numbers, Told};
 
 /// What an insert of the value under this hash is told, and the target that it shows.
 pub(crate) fn insert_and_show<'a, R: Wait, T: AtomicValue, A: Low + Copy, L: Asked>(
@@ -68,36 +67,6 @@ where
     table.lookup(hash, |entry: &T::Target| entry.number() == number)
 }
 
-/// Values that are made of a number.
-pub(crate) trait Made: AtomicValue {
-    /// The value of this number; None where there is no memory for it, or no such value.
-    fn made(alloc: Global, number: u64) -> Option<Self>;
-}
-
-impl Made for Box<u64> {
-    fn made(alloc: Global, number: u64) -> Option<Self> {
-        Box::new(alloc, number).ok()
-    }
-}
-
-impl Made for Arc<u16> {
-    fn made(alloc: Global, number: u64) -> Option<Self> {
-        Arc::new(alloc, u16::try_from(number).ok()?).ok()
-    }
-}
-
-impl Made for NonZeroU32 {
-    fn made(_alloc: Global, number: u64) -> Option<Self> {
-        NonZeroU32::new(u32::try_from(number.wrapping_add(1)).ok()?)
-    }
-}
-
-impl Made for InPlace<u64> {
-    fn made(_alloc: Global, number: u64) -> Option<Self> {
-        Some(InPlace(number))
-    }
-}
-
 /// A shared table of values that are made of numbers.
 #[derive(Drop)]
 pub(crate) struct Shared<T: AtomicValue, A: Allocator + Copy = Global> {
@@ -145,23 +114,32 @@ pub(crate) fn walk_length<T: AtomicValue, A: Allocator + Copy>(
     table.iter().count() as u64
 }
 
-impl<T: Made, A: Low + Copy> Numbers for Shared<T, A>
+impl<T: Made, A: Low + Copy> Shared<T, A>
+where
+    T::Target: Numbered,
+{
+    /// What an insert of the number is told, where the table is given these answers.
+    pub(crate) fn insert_asking<R: Wait, L: Asked>(&self, rt: &R, number: u64, asked: &L) -> Told {
+        match T::made(self.alloc, number) {
+            Some(value) => insert_at(rt, &self.table, self.lawful.hash(number), value, asked),
+            None => Told::Wrong,
+        }
+    }
+}
+
+impl<T: Made, A: Low + Copy> Inserts for Shared<T, A>
 where
     T::Target: Numbered,
 {
     fn insert<R: Wait>(&self, rt: &R, number: u64) -> Told {
-        match T::made(self.alloc, number) {
-            Some(value) => insert_at(
-                rt,
-                &self.table,
-                self.lawful.hash(number),
-                value,
-                &self.lawful,
-            ),
-            None => Told::Wrong,
-        }
+        self.insert_asking(rt, number, &self.lawful)
     }
+}
 
+impl<T: Made, A: Low + Copy> Numbers for Shared<T, A>
+where
+    T::Target: Numbered,
+{
     fn contains(&self, number: u64) -> bool {
         match shown(&self.table, self.lawful.hash(number), number) {
             Some(found) => found.number() == number,
@@ -197,26 +175,12 @@ where
     Ok(numbers)
 }
 
-/// These counts are seen.
-pub(crate) fn assert_counted<R: Abort>(rt: &R, seen: &[u64], expected: &[u64]) {
+/// Both are the same.
+pub(crate) fn assert_same<X: PartialEq + Debug + Drop>(rt: &impl Abort, seen: X, expected: X) {
     assert_eq!(rt; seen, expected);
 }
 
-/// So many inserts were told Placed, so many Found, and none anything else.
-pub(crate) fn assert_tally<R: Abort>(rt: &R, told: Tally, placed: u64, found: u64) {
-    assert_counted(rt, told.counts().as_slice(), [placed, found, 0].as_slice());
-}
-
-/// Asserts that the entries are the numbers below `count`, each once.
-pub(crate) fn assert_entries<R: Abort, T: Numbers>(rt: &R, table: &T, count: u64) {
-    assert_counted(
-        rt,
-        seen(table, count).as_slice(),
-        those_below(count).as_slice(),
-    );
-}
-
 /// Inserts the number, which is told so.
-pub(crate) fn assert_told<R: Abort + Wait, T: Numbers>(rt: &R, table: &T, number: u64, told: Told) {
+pub(crate) fn assert_told<R: Abort + Wait, T: Inserts>(rt: &R, table: &T, number: u64, told: Told) {
     assert_eq!(rt; table.insert(rt, number), told, "{number}");
 }

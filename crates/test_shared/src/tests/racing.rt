@@ -1,11 +1,12 @@
 //! Threads that insert at once.
-use super::numbers::{Boxed, assert_entries, assert_tally};
+use super::numbers::{Boxed, assert_same};
 use std::alloc::Global;
 use std::process::Abort;
 use std::sync::Wait;
 use std::thread::Threads;
 use testkit_counting::asked::Lawful;
-use testkit_counting::numbers::fill_at_once;
+use testkit_counting::numbers::{fill_at_once, seen, those_below};
+use testkit_counting::tally::Tally;
 
 /// How many numbers there are where a table grows.
 const NUMBERS: u64 = 6000;
@@ -16,9 +17,9 @@ fn equal_values_at_once(rt: HostRuntime) {
     for number in 0..300u64 {
         let part = (number, number.wrapping_add(1));
         let told = fill_at_once(&rt, &table, rt.alloc(), [part, part].as_slice());
-        assert_tally(&rt, told, 1, 1);
+        assert_same(&rt, told, Tally::of(1, 1));
     }
-    assert_entries(&rt, &table, 300);
+    assert_same(&rt, seen(&table, 300), those_below(300));
 }
 
 /// Each thread inserts the numbers from a first one of its own on. All of them are placed once, and found by the other threads:
@@ -30,8 +31,12 @@ fn assert_filled<R: Abort + Threads + Wait + Sync>(
     found: u64,
 ) {
     let table: Boxed<Global> = Boxed::new(alloc, alloc, Lawful::Spread);
-    assert_tally(rt, fill_at_once(rt, &table, alloc, parts), NUMBERS, found);
-    assert_entries(rt, &table, NUMBERS);
+    assert_same(
+        rt,
+        fill_at_once(rt, &table, alloc, parts),
+        Tally::of(NUMBERS, found),
+    );
+    assert_same(rt, seen(&table, NUMBERS), those_below(NUMBERS));
 }
 
 #[test]

@@ -1,9 +1,9 @@
 //! Each request for memory refused in turn.
-use super::numbers::Boxed;
+use super::numbers::{Boxed, assert_same};
 use std::alloc::Global;
 use std::sync::Wait;
 use testkit_counting::asked::Lawful;
-use testkit_counting::numbers::refused_inserts;
+use testkit_counting::numbers::{refused_in_turn, refused_inserts};
 use testkit_refusing::{Refusing, Rule};
 
 /// How many numbers are inserted: a growth from 16 buckets to 32 lies among them.
@@ -15,22 +15,13 @@ const NUMBERS: u64 = 17;
 const TOLD: u64 = NUMBERS + 6;
 
 /// How many of the inserts were refused, where one request after `passing` many is refused.
-fn refused<R: Wait>(rt: &R, alloc: Global, passing: u64) -> Option<u64> {
-    let memory = Refusing::new(alloc, Rule::new(0, usize::MAX, passing, 1));
-    let table: Boxed<&Refusing<Global>> = Boxed::new(&memory, alloc, Lawful::Spread);
+fn refused<R: Wait + AllocGlobal>(rt: &R, passing: u64) -> Option<u64> {
+    let memory = Refusing::new(rt.alloc(), Rule::new(0, usize::MAX, passing, 1));
+    let table: Boxed<&Refusing<Global>> = Boxed::new(&memory, rt.alloc(), Lawful::Spread);
     refused_inserts(rt, &table, NUMBERS)
-}
-
-/// How many inserts of forty runs were refused, of which each lets one request more pass than the one before.
-fn refused_in_turn<R: Wait>(rt: &R, alloc: Global) -> Option<u64> {
-    let mut sum = 0u64;
-    for passing in 0..40 {
-        sum = sum.wrapping_add(refused(rt, alloc, passing)?);
-    }
-    Some(sum)
 }
 
 #[test]
 fn each_request_refused_in_turn(rt: HostRuntime) {
-    assert_eq!(rt; refused_in_turn(&rt, rt.alloc()), Some(TOLD));
+    assert_same(&rt, refused_in_turn(&rt, 40, refused), Some(TOLD));
 }

@@ -1,5 +1,5 @@
 //! Threads that give values at once: none is lost or there twice.
-use super::numbers::assert_counted;
+use super::numbers::assert_same;
 use std::alloc::Global;
 use std::process::Abort;
 use std::sync::Wait;
@@ -61,11 +61,7 @@ fn lawful_closures(rt: HostRuntime) {
             seed: each,
         };
         let account = assert_round(&rt, rt.alloc(), round);
-        assert_counted(
-            &rt,
-            [account.placed, account.refused].as_slice(),
-            [different, 0].as_slice(),
-        );
+        assert_same(&rt, [account.placed, account.refused], [different, 0]);
     }
 }
 
@@ -79,11 +75,7 @@ fn one_thread_loses_no_exchange(rt: HostRuntime) {
         seed: 1,
     };
     let account = assert_round(&rt, rt.alloc(), round);
-    assert_counted(
-        &rt,
-        [account.placed, account.given_back].as_slice(),
-        [3000, 0].as_slice(),
-    );
+    assert_same(&rt, [account.placed, account.given_back], [3000, 0]);
 }
 
 /// Values were placed; and in rounds whose closures keep no law some were found and none was refused, in others some were
@@ -101,15 +93,14 @@ fn closures_that_lie_and_memory_refused_at_random(rt: HostRuntime) {
         let account = assert_round(&rt, rt.alloc(), round);
         let is_careless = matches!(kind, Kind::Careless);
         let is_found = account.found > 0 || !is_careless;
-        assert_counted(
+        assert_same(
             &rt,
             [
                 account.placed.min(1),
                 u64::from(is_found),
                 account.refused.min(1),
-            ]
-            .as_slice(),
-            [1, 1, u64::from(!is_careless)].as_slice(),
+            ],
+            [1, 1, u64::from(!is_careless)],
         );
     }
 }

@@ -1,5 +1,5 @@
 //! The allocator of these tests: requests that are refused by lot, that are refused from now on, and that wait for one another.
-use super::numbers::assert_counted;
+use super::numbers::assert_same;
 use std::alloc::{AllocError, Allocator, Global};
 use std::sync::atomic::{AtomicU64, Ordering};
 use std::thread;
@@ -49,20 +49,18 @@ fn so_many_are_refused_by_lot(rt: HostRuntime) {
         let refused = count_refused(&heap, REQUESTS);
         let is_within = least <= refused && refused <= most;
         let counts = [heap.refusals_left(), heap.granted()];
-        assert_counted(
+        assert_same(
             &rt,
             [
                 u64::from(is_within && grants(&heap, 16)),
                 counts[0],
                 counts[1],
-            ]
-            .as_slice(),
+            ],
             [
                 1,
                 u64::MAX.wrapping_sub(refused),
                 REQUESTS.wrapping_sub(refused),
-            ]
-            .as_slice(),
+            ],
         );
     }
 }
@@ -71,10 +69,10 @@ fn so_many_are_refused_by_lot(rt: HostRuntime) {
 fn a_lot_refuses_no_more_than_the_rule(rt: HostRuntime) {
     let rule = Rule::new(8, 8, 0, 7).drawn(1, 3);
     let heap = Refusing::new(rt.alloc(), rule);
-    assert_counted(
+    assert_same(
         &rt,
-        [count_refused(&heap, REQUESTS), heap.refusals_left()].as_slice(),
-        [7, 0].as_slice(),
+        [count_refused(&heap, REQUESTS), heap.refusals_left()],
+        [7, 0],
     );
 }
 
@@ -101,10 +99,10 @@ fn requests_are_refused_from_now_on(rt: HostRuntime) {
     for (passing, refused, answers) in ANSWERS {
         heap.refuse(passing, refused);
         let left = heap.refusals_left();
-        assert_counted(
+        assert_same(
             &rt,
-            [left, count_answered(&heap, answers)].as_slice(),
-            [refused, answers.len() as u64].as_slice(),
+            [left, count_answered(&heap, answers)],
+            [refused, answers.len() as u64],
         );
     }
 }
@@ -139,10 +137,6 @@ fn the_first_of_a_pair_goes_on_alone(rt: HostRuntime) {
     let heap = Refusing::new(rt.alloc(), Rule::new(8, 8, 0, 0).paired(2, 10));
     for alone in [1u64, 1, 2, 2, 2, 2] {
         let granted = grants(&heap, 16) && grants(&heap, 8);
-        assert_counted(
-            &rt,
-            [u64::from(granted), heap.went_alone()].as_slice(),
-            [1, alone].as_slice(),
-        );
+        assert_same(&rt, [u64::from(granted), heap.went_alone()], [1, alone]);
     }
 }

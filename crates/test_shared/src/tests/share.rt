@@ -1,5 +1,5 @@
 //! A table held alone that is shared: what it shows, what is set through `&` beside that, and that each value is dropped once.
-use super::numbers::assert_counted;
+use super::numbers::assert_same;
 use lock_free_hashtable::raw::{HeldRawTable, LockFreeRawTable, Share};
 use std::alloc::{AllocError, Global};
 use std::process::Abort;
@@ -8,9 +8,8 @@ use table_cell::Missed;
 use table_generations::fixed::shared::Look;
 use table_terms::law::hash_number;
 use table_terms::probe::bits_of_hash;
-use testkit_counting::asked::{hash, same};
 use testkit_counting::numbers::count_first;
-use testkit_counting::{Counting, CountingLaw, Drops};
+use testkit_counting::{Counting, Drops};
 use testkit_refusing::{Refusing, Rule};
 
 type Memory<'a> = &'a Refusing<Global>;
@@ -25,15 +24,7 @@ const TABLES: [(u64, u64); 6] = [(0, 0), (1, 0), (1, 1), (7, 9), (20, 0), (40, 2
 /// A table held alone into which the first numbers were placed.
 fn held<'a>(heap: Memory<'a>, entries: u64, drops: &Drops) -> Result<Held<'a>, AllocError> {
     let mut table = HeldRawTable::new(heap);
-    for number in 0..entries {
-        let value = drops.counting(number)?;
-        let _told = table.place_alone::<CountingLaw, _, _>(
-            hash_number(number),
-            value,
-            &same,
-            &hash,
-        );
-    }
+    drops.place_in(&mut table, entries)?;
     Ok(table)
 }
 
@@ -80,11 +71,7 @@ fn walked(table: &Shared<'_>, alloc: Global) -> Result<Vec<u64>, AllocError> {
 /// These are the first numbers, each once.
 fn assert_first(rt: &impl Abort, seen: Vec<u64>, numbers: u64) {
     let (length, first) = count_first(seen);
-    assert_counted(
-        rt,
-        [length, first].as_slice(),
-        [numbers, numbers].as_slice(),
-    );
+    assert_same(rt, [length, first], [numbers, numbers]);
 }
 
 /// What a table hands out, and nothing after its end: how many values it said, and their numbers.
@@ -111,11 +98,7 @@ fn assert_ended(
 ) -> Result<(), AllocError> {
     if is_handed {
         let (length, stays, seen) = handed_to_the_end(table, alloc)?;
-        assert_counted(
-            rt,
-            [length, u64::from(stays)].as_slice(),
-            [numbers, 1].as_slice(),
-        );
+        assert_same(rt, [length, u64::from(stays)], [numbers, 1]);
         assert_first(rt, seen, numbers);
     }
     Ok(())
@@ -139,16 +122,16 @@ fn assert_shared(
     let (length, is_empty) = (table.len() as u64, table.is_empty());
     let set = set_more(&table, entries, all, &drops)?;
     assert_first(rt, walked(&table, alloc)?, all);
-    assert_counted(
+    assert_same(
         rt,
-        [length, u64::from(is_empty), set, drops.dropped(0)].as_slice(),
-        [entries, u64::from(entries == 0), more, all].as_slice(),
+        [length, u64::from(is_empty), set, drops.dropped(0)],
+        [entries, u64::from(entries == 0), more, all],
     );
     assert_ended(rt, table, alloc, all, is_handed)?;
-    assert_counted(
+    assert_same(
         rt,
-        [drops.dropped(1), heap.granted(), heap.given_back()].as_slice(),
-        [all, before.wrapping_add(more), heap.granted()].as_slice(),
+        [drops.dropped(1), heap.granted(), heap.given_back()],
+        [all, before.wrapping_add(more), heap.granted()],
     );
     Ok(())
 }

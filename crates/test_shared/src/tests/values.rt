@@ -1,7 +1,5 @@
 //! Values of other kinds in a table that threads share, and many of them.
-use super::numbers::{
-    Boxed, Made, Numbers, Shared, Told, assert_counted, assert_entries, assert_tally, handed,
-};
+use super::numbers::{Boxed, Inserts, Numbers, Shared, Told, assert_same, handed};
 use lock_free_hashtable::InPlace;
 use std::alloc::{AllocError, Global};
 use std::num::NonZeroU32;
@@ -9,7 +7,8 @@ use std::process::Abort;
 use std::sync::{Arc, Wait};
 use std::test::Fail;
 use testkit_counting::asked::{Lawful, Numbered};
-use testkit_counting::numbers::{count_first, fill};
+use testkit_counting::made::Made;
+use testkit_counting::numbers::{count_first, fill, seen, those_below};
 use testkit_counting::tally::{Tally, Work, at_once};
 
 /// The numbers below `count`, as values of this kind: each is placed and found, the walk shows them, and the table hands them out.
@@ -22,10 +21,10 @@ where
     T::Target: Numbered,
 {
     let table: Shared<T> = Shared::new(alloc, alloc, Lawful::Spread);
-    assert_tally(rt, fill(rt, &table, 0..count), count, 0);
-    assert_entries(rt, &table, count);
+    assert_same(rt, fill(rt, &table, 0..count), Tally::of(count, 0));
+    assert_same(rt, seen(&table, count), those_below(count));
     let (values, first) = count_first(handed(table.table, alloc)?);
-    assert_counted(rt, [values, first].as_slice(), [count, count].as_slice());
+    assert_same(rt, [values, first], [count, count]);
     Ok(())
 }
 
@@ -75,6 +74,10 @@ fn what_a_joined_thread_inserted_is_found(rt: HostRuntime) {
             table: &table,
             inserts,
         };
-        assert_tally(&rt, at_once(&rt, rt.alloc(), 2, &joined), placed, found);
+        assert_same(
+            &rt,
+            at_once(&rt, rt.alloc(), 2, &joined),
+            Tally::of(placed, found),
+        );
     }
 }

@@ -1,5 +1,5 @@
 //! An insert that waits for the lock while another thread grows the table.
-use super::numbers::{Boxed, Numbers, Told, assert_entries, assert_tally, insert_at};
+use super::numbers::{Boxed, Inserts, assert_same};
 use std::alloc::Global;
 use std::process::Abort;
 use std::sync::Wait;
@@ -7,7 +7,7 @@ use std::sync::atomic::{AtomicU64, Ordering};
 use std::thread::Threads;
 use table_terms::law::hash_number;
 use testkit_counting::asked::{Asked, Lawful};
-use testkit_counting::numbers::fill;
+use testkit_counting::numbers::{Told, fill, seen, those_below};
 use testkit_counting::tally::{Tally, Work, at_once};
 
 /// The first number by which a table grows that has all below it.
@@ -28,7 +28,6 @@ struct Growing {
     table: Boxed<Global>,
     copies: AtomicU64,
     inserts: AtomicU64,
-    alloc: Global,
 }
 
 /// Looks until the sign is there.
@@ -42,10 +41,6 @@ pub(crate) fn look_for(sign: &AtomicU64) {
 
 /// The growth is told the hash of a number once the other thread has had the time to come to the lock.
 impl Asked for Growing {
-    fn agrees(&self, new: u64, entry: u64) -> bool {
-        new == entry
-    }
-
     fn hash(&self, number: u64) -> u64 {
         if self.copies.swap(1, Ordering::SeqCst) == 0 {
             look_for(&self.inserts);
@@ -58,14 +53,6 @@ impl Asked for Growing {
 }
 
 impl Growing {
-    /// Inserts the number by which the table grows.
-    fn insert_late<R: Wait>(&self, rt: &R) -> Told {
-        match Box::new(self.alloc, GROWS) {
-            Ok(value) => insert_at(rt, &self.table.table, hash_number(GROWS), value, self),
-            Err(_) => Told::Wrong,
-        }
-    }
-
     /// Inserts the next number while the other thread copies.
     fn insert_meanwhile<R: Wait>(&self, rt: &R) -> Told {
         look_for(&self.copies);
@@ -77,7 +64,7 @@ impl Growing {
 impl Work for Growing {
     fn work<R: Wait>(&self, rt: &R, thread: u64) -> Tally {
         Tally::NONE.with(if thread == 0 {
-            self.insert_late(rt)
+            self.table.insert_asking(rt, GROWS, self)
         } else {
             self.insert_meanwhile(rt)
         })
@@ -90,11 +77,14 @@ fn assert_waits<R: Abort + Threads + Wait + Sync>(rt: &R, alloc: Global) {
         table: Boxed::new(alloc, alloc, Lawful::Spread),
         copies: AtomicU64::new(0),
         inserts: AtomicU64::new(0),
-        alloc,
     };
-    assert_tally(rt, fill(rt, &growing.table, 0..GROWS), GROWS, 0);
-    assert_tally(rt, at_once(rt, alloc, 2, &growing), 2, 0);
-    assert_entries(rt, &growing.table, GROWS.wrapping_add(2));
+    assert_same(rt, fill(rt, &growing.table, 0..GROWS), Tally::of(GROWS, 0));
+    assert_same(rt, at_once(rt, alloc, 2, &growing), Tally::of(2, 0));
+    assert_same(
+        rt,
+        seen(&growing.table, GROWS.wrapping_add(2)),
+        those_below(GROWS.wrapping_add(2)),
+    );
 }
 
 #[test]
