@@ -139,21 +139,7 @@ impl<T: AtomicValue, L: SetLaw<T::Target>, B: InsertTable<T>> SetOver<T, L, B> {
         if let Some(entry) = self.get_by_hash(hash, value.deref()) {
             return Shown::Found(entry, value);
         }
-        self.insert_by_hash(rt, hash, value)
-    }
-
-    /// An insert of a value that was looked for.
-    fn insert_by_hash<R: Wait>(&self, rt: &R, hash: u64, value: T) -> Shown<&T::Target, T>
-        requires { hash ≡ L.hash_of (T.target value) }
-        ensures { ShowsSame T.target L.same value result }
-    {
-        let eq = |new: &T::Target, entry: &T::Target| L::is_same(new, entry);
-        let hash_fn = |entry: &T::Target| L::hash(entry);
-        match self.table.insert(rt, hash, value, eq, hash_fn) {
-            Ok((entry, None)) => Shown::Placed(entry),
-            Ok((entry, Some(value))) => Shown::Found(entry, value),
-            Err(value) => Shown::Refused(value),
-        }
+        self.table.insert::<L, R>(rt, hash, value)
     }
 }
 

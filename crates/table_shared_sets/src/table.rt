@@ -1,16 +1,15 @@
 //! The table that a set stands on: one raw table, or several shards.
-ghost use Rattle.std.specs.Prelude.{IfSome, true};
-ghost use Rattle.std.specs.Fn.{FnReturnsAt, FnReturnsAtPair};
-ghost use Rattle.table_shared.specs.Inserts.{Places, Finds, GivesBack};
+ghost use Rattle.std.specs.Prelude.{◌≡◌, IfSome, true};
+ghost use Rattle.std.specs.Fn.{FnReturnsAt};
+ghost use Rattle.table_shared_sets.specs.Inserts.{ShowsSame};
 
 mod raw;
 mod sharded;
 
 use std::sync::Wait;
-use table_sets::AtomicValue;
+use table_sets::{AtomicValue, SetLaw, Shown};
 
-/// A table that threads share, asked by hashes and closures. Any number of threads may call it at any time; no call here
-/// takes a lock or memory.
+/// A table that threads share. Any number of threads may call it at any time; no call here takes a lock or memory.
 pub trait SetTable<T: AtomicValue> {
     /// The target of an entry that the test accepts, or None.
     fn lookup<F: Fn(&T::Target) -> bool>(&self, hash: u64, test: F) -> Option<&T::Target>
@@ -21,28 +20,25 @@ pub trait SetTable<T: AtomicValue> {
     fn len(&self) -> usize;
 
     /// Whether no entry is counted.
-    fn is_empty(&self) -> bool;
+    fn is_empty(&self) -> bool {
+        self.len() == 0
+    }
 }
 
 /// A table that threads insert into.
 pub trait InsertTable<T: AtomicValue>: SetTable<T> {
-    /// Inserts the value, unless an entry is accepted as equal, and shows the target of the entry: see
+    /// Inserts the value, unless an entry is the same by the law `L`, and shows the target of the entry: see
     /// `LockFreeRawTable::insert`. Where it is refused, the value comes back, and isn't in the table then.
     ///
-    /// It may wait for a lock, so no closure may insert into the same table.
-    fn insert<R: Wait, E: Fn(&T::Target, &T::Target) -> bool, H: Fn(&T::Target) -> u64>(
+    /// It may wait for a lock, so the law may not insert into the same table.
+    fn insert<L: SetLaw<T::Target>, R: Wait>(
         &self,
         rt: &R,
         hash: u64,
         value: T,
-        eq: E,
-        hash_fn: H,
-    ) -> Result<(&T::Target, Option<T>), T>
-        requires eq_callable { E.IsAlwaysCallable eq }
-        requires hash_callable { H.IsAlwaysCallable hash_fn }
-        ensures placed { Places T.target value result }
-        ensures found { Finds (FnReturnsAtPair E.Fn eq (T.target value)) result }
-        ensures back { GivesBack value result };
+    ) -> Shown<&T::Target, T>
+        requires of_value { hash ≡ L.hash_of (T.target value) }
+        ensures shows { ShowsSame T.target L.same value result };
 }
 
 /// A table whose entries are walked over.

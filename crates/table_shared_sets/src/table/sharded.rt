@@ -1,11 +1,12 @@
 //! Several shards below a set.
 
+use crate::table::raw::insert_by_law;
 use crate::table::{InsertTable, SetTable, WalkTable};
 use lock_free_hashtable::raw::Low;
 use lock_free_hashtable::sharded::{Iter, ShardedLockFreeRawTable};
 use std::alloc::Allocator;
 use std::sync::Wait;
-use table_sets::AtomicValue;
+use table_sets::{AtomicValue, SetLaw, Shown};
 
 impl<T: AtomicValue, const SHARDS: usize, A: Allocator + Copy> SetTable<T>
     for ShardedLockFreeRawTable<T, SHARDS, A> {
@@ -16,23 +17,17 @@ impl<T: AtomicValue, const SHARDS: usize, A: Allocator + Copy> SetTable<T>
     fn len(&self) -> usize {
         self.len()
     }
-
-    fn is_empty(&self) -> bool {
-        self.is_empty()
-    }
 }
 
 impl<T: AtomicValue, const SHARDS: usize, A: Low + Copy> InsertTable<T>
     for ShardedLockFreeRawTable<T, SHARDS, A> {
-    fn insert<R: Wait, E: Fn(&T::Target, &T::Target) -> bool, H: Fn(&T::Target) -> u64>(
+    fn insert<L: SetLaw<T::Target>, R: Wait>(
         &self,
         rt: &R,
         hash: u64,
         value: T,
-        eq: E,
-        hash_fn: H,
-    ) -> Result<(&T::Target, Option<T>), T> {
-        self.insert(rt, hash, value, eq, hash_fn)
+    ) -> Shown<&T::Target, T> {
+        insert_by_law::<T, L, A, R>(self.shard(hash), rt, hash, value)
     }
 }
 
