@@ -11,6 +11,7 @@ use std::alloc::{Allocator, Global};
 use std::io;
 use std::io::{ErrorKind, Read, Write};
 use std::process::Abort;
+use std::test::Fail;
 use tool_text_lines::program::run_over;
 use tool_text_lines::texts::TextFiles;
 
@@ -113,6 +114,16 @@ fn run_on<A: Allocator + Copy, I: Read + Drop>(
         output,
         messages,
     }
+}
+
+/// So many different lines, a number on each, and hyphens up to so many bytes.
+fn numbered_lines(heap: Global, count: u64, bytes: usize) -> Result<String, Fail> {
+    let mut text = String::new(heap);
+    for n in 0..count {
+        let line = format!(in heap; "{n:-<bytes$}\n")?;
+        text.push_str(line.as_str())?;
+    }
+    Ok(text)
 }
 
 /// Asserts what bytes were written.

@@ -1,5 +1,5 @@
 //! How often the system is asked: input is read, and output is written, a block at a time.
-use super::{DEDUP, WORDS, assert_status, run_writing};
+use super::{DEDUP, WORDS, assert_status, numbered_lines, run_writing};
 use std::alloc::Global;
 use std::cell::Cell;
 use std::io;
@@ -13,7 +13,7 @@ const READ: usize = 65536;
 /// The bytes that are kept of the output.
 const WRITTEN: usize = 16384;
 
-/// How many lines the input has.
+/// How many lines the input has, each of some hundred bytes.
 const LINES: u64 = 1_500;
 
 /// Adds to a number that a test reads afterwards.
@@ -55,16 +55,6 @@ impl Write for CountedWrites<'_> {
     }
 }
 
-/// So many different lines of some hundred bytes, a number on each.
-fn many_lines(heap: Global) -> Result<String, Fail> {
-    let mut text = String::new(heap);
-    for n in 0..LINES {
-        let line = format!(in heap; "{n:-<100}\n")?;
-        text.push_str(line.as_str())?;
-    }
-    Ok(text)
-}
-
 /// Asserts that a tool asks at most once for each block of its input and its output, and once or twice for the ends.
 fn assert_by_blocks(rt: &impl Abort, heap: Global, tool: &str, text: &str) {
     let (reads, writes, written) = (Cell::new(0), Cell::new(0), Cell::new(0));
@@ -85,7 +75,7 @@ fn assert_by_blocks(rt: &impl Abort, heap: Global, tool: &str, text: &str) {
 
 #[test]
 fn input_and_output_go_by_blocks(rt: HostRuntime) -> Result<(), Fail> {
-    let text = many_lines(rt.alloc())?;
+    let text = numbered_lines(rt.alloc(), LINES, 100)?;
     for tool in [WORDS, DEDUP] {
         assert_by_blocks(&rt, rt.alloc(), tool, text.as_str());
     }

@@ -1,5 +1,5 @@
 //! Memory that is refused.
-use super::{DEDUP, WORDS, assert_ended, assert_status, run_on};
+use super::{DEDUP, WORDS, assert_ended, assert_status, numbered_lines, run_on};
 use std::alloc::Global;
 use std::process::Abort;
 use std::test::Fail;
@@ -45,15 +45,8 @@ fn requests_of(rt: &impl Abort, heap: Global, tool: &str, all: &[u8]) -> u64 {
 /// How many different lines the long text has.
 const DIFFERENT: usize = 9;
 
-/// Different lines, each of more bytes than the first block of an arena has.
-fn long_lines(heap: Global) -> Result<String, Fail> {
-    let mut text = String::new(heap);
-    for n in 0..DIFFERENT {
-        let line = format!(in heap; "{n:-<600}\n")?;
-        text.push_str(line.as_str())?;
-    }
-    Ok(text)
-}
+/// The bytes of each of them, more than the first block of an arena has.
+const LONG: usize = 600;
 
 /// Runs `dedup` over different lines while each request after so many is refused, and says how many it has written. They are the
 /// first ones, each whole, and all of them where the run ends well.
@@ -70,7 +63,7 @@ fn lines_before(rt: &impl Abort, heap: Global, text: &[u8], granted: u64) -> usi
 
 #[test]
 fn each_line_before_the_one_without_memory_is_written(rt: HostRuntime) -> Result<(), Fail> {
-    let text = long_lines(rt.alloc())?;
+    let text = numbered_lines(rt.alloc(), DIFFERENT as u64, LONG)?;
     let (mut most, mut parts): (usize, usize) = (0, 0);
     for granted in 0..ENOUGH {
         let lines = lines_before(&rt, rt.alloc(), text.as_bytes(), granted);

@@ -1,48 +1,10 @@
 //! The words that the program was called with.
 use super::{Ended, Shelf, USAGE, assert_ended};
 use std::alloc::{Allocator, Global};
-use std::env::FillError;
 use std::process::Abort;
-use std::rt::Env;
 use testkit_refusing::{Refusing, Rule};
+use testkit_streams::Called;
 use tool_text_lines::program::run_program;
-
-/// The arguments that the tools are called with, the program's name first, and the memory that they are put into.
-#[derive(Clone, Copy)]
-struct Called<A> {
-    arguments: &'static [&'static [u8]],
-    alloc: A,
-}
-
-impl<A> Env for Called<A> {
-    fn arg(&self, i: usize, buf: &mut [u8]) -> Result<usize, FillError> {
-        let Some(argument) = self.arguments.get(i) else {
-            return Err(FillError::NotPresent);
-        };
-        let count = argument.len();
-        if count > buf.len() {
-            return Err(FillError::TooLong);
-        }
-        buf[..count].copy_from_slice(argument);
-        Ok(count)
-    }
-
-    fn var(&self, _name: &str, _buf: &mut [u8]) -> Result<usize, FillError> {
-        Err(FillError::NotPresent)
-    }
-
-    fn var_at(&self, _i: usize, _buf: &mut [u8]) -> Result<usize, FillError> {
-        Err(FillError::NotPresent)
-    }
-}
-
-impl<A: Allocator + Copy> Alloc for Called<A> {
-    type A = A;
-
-    fn alloc(&self) -> A {
-        self.alloc
-    }
-}
 
 /// Arguments, what they print, what they say, and the status.
 type Row = (&'static [&'static [u8]], &'static str, &'static str, u8);

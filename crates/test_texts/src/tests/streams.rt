@@ -7,33 +7,7 @@ use std::io;
 use std::io::{ErrorKind, Read, Write};
 use std::process::Abort;
 use std::test::Fail;
-
-/// A reader over memory that gives so many bytes at a call, is interrupted before each, and fails at a later call.
-#[derive(Drop)]
-struct Failing<'a> {
-    rest: &'a [u8],
-    at_once: usize,
-    is_interrupted: bool,
-    calls_left: u64,
-}
-
-impl Read for Failing<'_> {
-    fn read(&mut self, buf: &mut [u8]) -> io::Result<usize> {
-        self.is_interrupted = !self.is_interrupted;
-        if self.is_interrupted {
-            return Err(io::Error::from(ErrorKind::Interrupted));
-        }
-        if self.calls_left == 0 {
-            return Err(io::Error::from(ErrorKind::Other));
-        }
-        self.calls_left -= 1;
-        let count = self.at_once.min(buf.len()).min(self.rest.len());
-        let (now, later) = self.rest.split_at(count);
-        buf[..count].copy_from_slice(now);
-        self.rest = later;
-        Ok(count)
-    }
-}
+use testkit_streams::Failing;
 
 const INPUT: &[u8] = b"one\ntwo\none\n\nthree\ntwo";
 
@@ -50,12 +24,7 @@ fn deduped_of(bytes: usize) -> &'static [u8] {
 
 /// Asserts what `dedup` writes where so many reads are given and the next one fails, if it is made.
 fn assert_given(rt: &impl Abort, heap: Global, at_once: usize, given: usize, fails: bool) {
-    let input = Failing {
-        rest: INPUT,
-        at_once,
-        is_interrupted: false,
-        calls_left: given as u64,
-    };
+    let input = Failing::new(INPUT, at_once, given as u64).interrupted();
     let ended = run_on(heap, DEDUP, heap, input);
     let wanted = deduped_of(given.saturating_mul(at_once));
     let (messages, status) = if fails {
@@ -87,12 +56,7 @@ fn a_reader_that_fails_at_each_call(rt: HostRuntime) {
 #[test]
 fn words_of_a_reader_that_fails_are_not_written(rt: HostRuntime) {
     for given in 0..5 {
-        let input = Failing {
-            rest: INPUT,
-            at_once: 7,
-            is_interrupted: false,
-            calls_left: given,
-        };
+        let input = Failing::new(INPUT, 7, given).interrupted();
         let ended = run_on(rt.alloc(), WORDS, rt.alloc(), input);
         assert_ended(&rt, &ended, b"", "words: read failed\n", 1);
     }
