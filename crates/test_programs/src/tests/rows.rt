@@ -224,39 +224,49 @@ fn placed_lines(text: &mut String, count: u64) -> Result<(), Fail> {
     Ok(())
 }
 
-/// A first capacity; then, after so many distinct inserts: the capacity and the buckets of all generations.
-type Growth = (&'static str, &'static [(u64, u64, u64)]);
+/// The insert by which a table grows: how many there are then; and the capacity and the buckets of all generations after the one
+/// before it, and after it.
+type Growth = (u64, [u64; 2], [u64; 2]);
 
-const GROWTHS: [Growth; 2] = [
+/// A first capacity, and the first growths from there.
+const GROWTHS: [(&str, &[Growth]); 2] = [
     (
         "16",
         &[
-            (7, 16, 16),
-            (8, 32, 48),
-            (15, 32, 48),
-            (16, 64, 112),
-            (31, 64, 112),
-            (32, 128, 240),
+            (8, [16, 16], [32, 48]),
+            (16, [32, 48], [64, 112]),
+            (32, [64, 112], [128, 240]),
         ],
     ),
     (
         "32",
-        &[(15, 32, 32), (16, 64, 96), (31, 64, 96), (32, 128, 224)],
+        &[(16, [32, 32], [64, 96]), (32, [64, 96], [128, 224])],
     ),
 ];
 
-/// Inserts, and asks after some of them for the capacity and the buckets.
-fn push_growth(
+/// Inserts up to so many, and asks for the capacity and the buckets.
+fn push_sizes(
     input: &mut String,
     wanted: &mut String,
-    steps: &[(u64, u64, u64)],
+    from: u64,
+    to: u64,
+    sizes: [u64; 2],
 ) -> Result<(), Fail> {
+    insert_lines(input, from, to)?;
+    placed_lines(wanted, to.saturating_sub(from))?;
+    writeln!(input, "c\nb")?;
+    let [capacity, buckets] = sizes;
+    writeln!(wanted, "{capacity}\n{buckets}")?;
+    Ok(())
+}
+
+/// Inserts, and asks just before each growth and after it.
+fn push_growths(input: &mut String, wanted: &mut String, growths: &[Growth]) -> Result<(), Fail> {
     let mut done = 0;
-    for (count, capacity, buckets) in steps {
-        insert_lines(input, done, *count)?;
-        placed_lines(wanted, count.saturating_sub(done))?;
-        writeln!(input, "c\nb")?;
-        writeln!(wanted, "{capacity}\n{buckets}")?;
+    for (count, before, after) in growths {
+        let last = count.saturating_sub(1);
+        push_sizes(input, wanted, done, last, *before)?;
+        push_sizes(input, wanted, last, *count, *after)?;
         done = *count;
     }
     Ok(())
@@ -264,10 +274,10 @@ fn push_growth(
 
 #[test]
 fn a_table_grows_at_half_of_its_buckets(rt: HostRuntime) -> Result<(), Fail> {
-    for (first, steps) in &GROWTHS {
+    for (first, growths) in &GROWTHS {
         let mut input = String::new(rt.alloc());
         let mut wanted = String::new(rt.alloc());
-        push_growth(&mut input, &mut wanted, steps)?;
+        push_growths(&mut input, &mut wanted, growths)?;
         assert_prints(&rt, &["calls", first], input.as_str(), wanted.as_str());
     }
     Ok(())

@@ -7,49 +7,7 @@ use std::process::Abort;
 use std::sync::Wait;
 use std::test::Fail;
 use std::thread::Threads;
-
-/// A reader over memory that gives so many bytes at a call, and fails at a later call.
-#[derive(Drop)]
-struct Failing<'a> {
-    rest: &'a [u8],
-    at_once: usize,
-    calls_left: u64,
-    /// How many calls are interrupted, one before each that gives bytes.
-    interruptions: u64,
-    is_interrupted: bool,
-}
-
-impl<'a> Failing<'a> {
-    /// A reader that gives so many bytes at each of so many calls.
-    fn new(rest: &'a [u8], at_once: usize, calls_left: u64) -> Failing<'a> {
-        Failing {
-            rest,
-            at_once,
-            calls_left,
-            interruptions: 0,
-            is_interrupted: false,
-        }
-    }
-}
-
-impl Read for Failing<'_> {
-    fn read(&mut self, buf: &mut [u8]) -> io::Result<usize> {
-        self.is_interrupted = !self.is_interrupted && self.interruptions > 0;
-        if self.is_interrupted {
-            self.interruptions -= 1;
-            return Err(io::Error::from(ErrorKind::Interrupted));
-        }
-        if self.calls_left == 0 {
-            return Err(io::Error::from(ErrorKind::Other));
-        }
-        self.calls_left -= 1;
-        let count = self.at_once.min(buf.len()).min(self.rest.len());
-        let (now, later) = self.rest.split_at(count);
-        buf[..count].copy_from_slice(now);
-        self.rest = later;
-        Ok(count)
-    }
-}
+use testkit_streams::Failing;
 
 const INPUT: &str = "i 0 1\ni 0 1\nl 0 1\nn\nw\n";
 
@@ -95,8 +53,7 @@ fn a_reader_that_fails_at_each_call(rt: HostRuntime) -> Result<(), Fail> {
 
 /// Asserts that all replies are printed where each read is interrupted first.
 fn assert_interrupted<R: Threads + Wait + AllocGlobal + Abort + Sync>(rt: &R, at_once: usize) {
-    let mut reader = Failing::new(INPUT.as_bytes(), at_once, u64::MAX);
-    reader.interruptions = u64::MAX;
+    let reader = Failing::new(INPUT.as_bytes(), at_once, u64::MAX).interrupted();
     let ended = run_on(rt, rt.alloc(), &[], reader);
     assert_ended(
         rt,

@@ -1,50 +1,12 @@
 //! The words that the program was called with.
 use super::{Ended, assert_ended};
 use std::alloc::Allocator;
-use std::env::FillError;
 use std::process::Abort;
-use std::rt::Env;
 use std::sync::Wait;
 use std::thread::Threads;
 use testkit_refusing::{Refusing, Rule};
+use testkit_streams::Called;
 use tool_commands::program::run_program;
-
-/// An environment whose arguments are these, the program's name first, and the memory for them.
-#[derive(Clone, Copy)]
-struct Called<A> {
-    arguments: &'static [&'static [u8]],
-    alloc: A,
-}
-
-impl<A> Env for Called<A> {
-    fn arg(&self, i: usize, buf: &mut [u8]) -> Result<usize, FillError> {
-        let Some(argument) = self.arguments.get(i) else {
-            return Err(FillError::NotPresent);
-        };
-        let count = argument.len();
-        if count > buf.len() {
-            return Err(FillError::TooLong);
-        }
-        buf[..count].copy_from_slice(argument);
-        Ok(count)
-    }
-
-    fn var(&self, _name: &str, _buf: &mut [u8]) -> Result<usize, FillError> {
-        Err(FillError::NotPresent)
-    }
-
-    fn var_at(&self, _i: usize, _buf: &mut [u8]) -> Result<usize, FillError> {
-        Err(FillError::NotPresent)
-    }
-}
-
-impl<A: Allocator + Copy> Alloc for Called<A> {
-    type A = A;
-
-    fn alloc(&self) -> A {
-        self.alloc
-    }
-}
 
 /// Arguments, what they print over the same lines, and the status.
 type Row = (&'static [&'static [u8]], &'static str, &'static str, u8);
