@@ -74,41 +74,94 @@ impl NumberValue for InPlace<u64> {
     }
 }
 
-/// A set of numbers that one owner holds alone, kept as `V`.
-#[derive(Drop)]
-pub struct NumberSet<V: NumberValue> {
-    table: HeldRawTable<V>,
-    alloc: Global,
+/// A table of numbers, of which each is kept as a value of its own.
+pub trait NumberTable {
+    /// What a number is kept as.
+    type Value: NumberValue;
+
+    /// The empty table.
+    fn empty(alloc: Global) -> Self;
+
+    /// Whether the number is an entry.
+    fn has(&self, number: u64) -> bool;
 }
 
-impl<V: NumberValue> KeySet for NumberSet<V> {
-    type Means = Global;
+/// A table of numbers that one owner holds alone.
+pub trait HeldTable: NumberTable {
+    /// Whether this value of the number was placed: the number is new, and memory was there.
+    fn place(&mut self, number: u64, value: Self::Value) -> bool;
+}
 
-    fn empty(alloc: Global) -> Self {
-        NumberSet {
-            table: HeldRawTable::new(alloc),
+/// The set of the numbers in a table, and the memory for their values.
+#[derive(Drop)]
+pub struct Numbers<T> {
+    pub(crate) table: T,
+    pub(crate) alloc: Global,
+}
+
+impl<T: NumberTable> Numbers<T> {
+    /// The empty set.
+    pub(crate) fn new(alloc: Global) -> Self {
+        Numbers {
+            table: T::empty(alloc),
             alloc,
         }
     }
+}
+
+impl<T: HeldTable> KeySet for Numbers<T> {
+    type Means = Global;
+
+    fn empty(alloc: Global) -> Self {
+        Numbers::new(alloc)
+    }
 
     fn insert(&mut self, number: u64) -> bool {
-        let Ok(value) = V::of(self.alloc, number) else {
-            return false;
-        };
-        matches!(
-            self.table.insert_alone::<NumberLaw, _, _>(
-                hash_number(number),
-                value,
-                |new: &u64, entry: &u64| *new == *entry,
-                |entry: &u64| hash_number(*entry),
-            ),
-            Ok((_, None))
-        )
+        match T::Value::of(self.alloc, number) {
+            Ok(value) => self.table.place(number, value),
+            Err(_) => false,
+        }
     }
 
     fn contains(&self, number: u64) -> bool {
-        self.table
-            .lookup_alone::<NumberLaw, _>(hash_number(number), |entry: &u64| *entry == number)
+        self.table.has(number)
+    }
+}
+
+/// Whether two numbers are equal, as a table asks.
+pub(crate) fn is_same(new: &u64, entry: &u64) -> bool {
+    *new == *entry
+}
+
+/// The hash of a number, as a table asks for it.
+pub(crate) fn hash_of(entry: &u64) -> u64 {
+    hash_number(*entry)
+}
+
+/// The numbers in a raw table, kept as `V`.
+pub type NumberSet<V> = Numbers<HeldRawTable<V>>;
+
+impl<V: NumberValue> NumberTable for HeldRawTable<V> {
+    type Value = V;
+
+    fn empty(alloc: Global) -> Self {
+        HeldRawTable::new(alloc)
+    }
+
+    fn has(&self, number: u64) -> bool {
+        self.lookup_alone::<NumberLaw, _>(hash_number(number), |entry: &u64| *entry == number)
             .is_some()
+    }
+}
+
+impl<V: NumberValue> HeldTable for HeldRawTable<V> {
+    fn place(&mut self, number: u64, value: V) -> bool {
+        let placed = self.insert_alone::<NumberLaw, _, _>(
+            hash_number(number),
+            value,
+            is_same,
+            hash_of,
+        );
+        matches!(placed, Ok((_, None)))
     }
 }

@@ -8,20 +8,15 @@ use table_core::event::Event;
 use table_core::state::{NoMemory, State};
 use testkit_schedules::load::{Hashes, INSERTS, LOOKUPS, load_events};
 
-/// Runs a group of measurements. A group that is not known is refused.
+/// Runs the group `one`: the time of an event, each number its own hash. Another group is refused.
 pub fn measure_schedules<R: Print + Eprint + Clock + AllocGlobal>(
     rt: &R,
     report: &Report<'_>,
     group: &str,
 ) -> io::Result<()> {
-    match group {
-        "one" => measure_one(rt, report),
-        _ => refuse_words(rt),
+    if group != "one" {
+        return refuse_words(rt);
     }
-}
-
-/// The time of an event, each number its own hash.
-fn measure_one<R: Print + Clock + AllocGlobal>(rt: &R, report: &Report<'_>) -> io::Result<()> {
     let events = load_events(rt.alloc(), Hashes::Own)?;
     let mut state = State::new(rt.alloc());
     let start = Instant::now(rt)?;

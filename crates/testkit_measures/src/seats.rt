@@ -72,7 +72,7 @@ fn measure_one<R: Print + Clock + Threads + Sync + AllocGlobal>(
     requires { IsSeatOf table.now seat }
 {
     let start = Instant::now(rt)?;
-    let placed = insert_spread(table, &mut seat, 0, COUNT);
+    let placed = insert_keys(table, &mut seat, 0, COUNT, spread);
     report.time(rt, "a_ins1", start, placed, COUNT, COUNT)?;
 
     let start = Instant::now(rt)?;
@@ -96,7 +96,13 @@ fn measure_seq<R: Print + Clock>(
     requires { IsSeatOf table.now seat }
 {
     let start = Instant::now(rt)?;
-    let placed = insert_in_order(table, &mut seat);
+    let placed = insert_keys(
+        table,
+        &mut seat,
+        0,
+        COUNT,
+        |index: u64| index.wrapping_add(1),
+    );
     report.time(rt, "seq_ins1", start, placed, COUNT, COUNT)?;
 
     let start = Instant::now(rt)?;
@@ -136,7 +142,7 @@ fn count_part(table: &NumberTable<Global>, part: Part, work: Work) -> u64
     let from = worker * (COUNT / THREADS);
     match work {
         Work::Same => insert_same(table, &mut seat),
-        Work::Inserts => insert_spread(table, &mut seat, from, COUNT / THREADS),
+        Work::Inserts => insert_keys(table, &mut seat, from, COUNT / THREADS, spread),
         Work::Hits => count_spread(table, &mut seat, START + from * STRIDE, 0),
     }
 }
@@ -144,7 +150,7 @@ fn count_part(table: &NumberTable<Global>, part: Part, work: Work) -> u64
 /// Each workload once, counted and not timed.
 pub fn check_seats<R: Print + Threads + Sync + AllocGlobal>(rt: &R) -> io::Result<()> {
     let (table, mut seat) = NumberTable::new(rt.alloc(), WORDS)?;
-    let placed = insert_spread(&table, &mut seat, 0, COUNT);
+    let placed = insert_keys(&table, &mut seat, 0, COUNT, spread);
     let hits = count_spread(&table, &mut seat, START, 0);
     let found = count_spread(&table, &mut seat, START, ABSENT);
     println!(rt; "seats spread: {placed} placed, {hits} hits, {found} of the absent found")
@@ -179,31 +185,24 @@ fn parts_for(
     Ok(parts)
 }
 
-/// How many of so many spread keys, from this one on, were placed.
-fn insert_spread(table: &NumberTable<Global>, seat: &mut Seat, from: u64, count: u64) -> u64
-    requires { (from + count ≤ COUNT) × IsSeatOf table.now seat.old }
+/// How many of so many keys, from the one of this index on, were placed.
+fn insert_keys<K: Fn(u64) -> u64>(
+    table: &NumberTable<Global>,
+    seat: &mut Seat,
+    from: u64,
+    count: u64,
+    key_at: K,
+) -> u64
+    requires callable { K.IsAlwaysCallable key_at }
+    requires fits { from + count ≤ COUNT }
+    requires seat { IsSeatOf table.now seat.old }
     ensures seat { IsSeatOf table.now seat.new }
     ensures placed { length (own_numbers seat.new) ≡ length (own_numbers seat.old) + result }
     ensures at_most { result ≤ count }
 {
     let mut placed = 0u64;
     for index in from..from + count {
-        if insert_key(table, seat, spread(index)) {
-            placed += 1;
-        }
-    }
-    placed
-}
-
-/// How many of the keys 1, 2, 3, .. were placed.
-fn insert_in_order(table: &NumberTable<Global>, seat: &mut Seat) -> u64
-    requires { IsSeatOf table.now seat.old }
-    ensures seat { IsSeatOf table.now seat.new }
-    ensures placed { length (own_numbers seat.new) ≡ length (own_numbers seat.old) + result }
-{
-    let mut placed = 0u64;
-    for index in 0..COUNT {
-        if insert_key(table, seat, index + 1) {
+        if insert_key(table, seat, key_at(index)) {
             placed += 1;
         }
     }
@@ -218,7 +217,7 @@ fn insert_same(table: &NumberTable<Global>, seat: &mut Seat) -> u64
 {
     let mut placed = 0u64;
     for _round in 0..ROUNDS {
-        placed += insert_spread(table, seat, 0, SAME);
+        placed += insert_keys(table, seat, 0, SAME, spread);
     }
     placed
 }

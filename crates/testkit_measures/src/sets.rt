@@ -1,64 +1,50 @@
-//! The sets whose law is in their type, held by one owner and shared by threads, as sets of numbers.
+//! The sets whose law is in their type, held by one owner and shared by threads, as tables of numbers.
 
-use crate::numbers::{KeySet, NumberValue};
-use crate::shared::SharedKeys;
+use crate::numbers::{HeldTable, NumberTable, NumberValue, Numbers};
+use crate::shared::SharedTable;
 use std::alloc::Global;
 use std::sync::Wait;
 use table_sets::{HeldSet, Inserted, NumberLaw, Shown};
 use table_shared_sets::SharedSet;
 
-/// A `HeldSet` of numbers kept as `V`.
-#[derive(Drop)]
-pub struct HeldSetKeys<V: NumberValue> {
-    set: HeldSet<V, NumberLaw>,
-    alloc: Global,
-}
+/// The numbers in a `HeldSet`, kept as `V`.
+pub type HeldSetKeys<V> = Numbers<HeldSet<V, NumberLaw>>;
 
-impl<V: NumberValue> KeySet for HeldSetKeys<V> {
-    type Means = Global;
+impl<V: NumberValue> NumberTable for HeldSet<V, NumberLaw> {
+    type Value = V;
 
     fn empty(alloc: Global) -> Self {
-        HeldSetKeys {
-            set: HeldSet::new(alloc),
-            alloc,
-        }
+        HeldSet::new(alloc)
     }
 
-    fn insert(&mut self, number: u64) -> bool {
-        match V::of(self.alloc, number) {
-            Ok(value) => matches!(self.set.insert(value), Inserted::Placed),
-            Err(_) => false,
-        }
-    }
-
-    fn contains(&self, number: u64) -> bool {
-        self.set.contains(&number)
+    fn has(&self, number: u64) -> bool {
+        self.contains(&number)
     }
 }
 
-/// A `SharedSet` of numbers kept as `V`.
-#[derive(Drop)]
-pub struct SharedSetKeys<V: NumberValue> {
-    set: SharedSet<V, NumberLaw>,
-    alloc: Global,
+impl<V: NumberValue> HeldTable for HeldSet<V, NumberLaw> {
+    fn place(&mut self, _number: u64, value: V) -> bool {
+        matches!(self.insert(value), Inserted::Placed)
+    }
 }
 
-impl<V: NumberValue + Send + Sync> SharedKeys for SharedSetKeys<V> {
+/// The numbers in a `SharedSet`, kept as `V`.
+pub type SharedSetKeys<V> = Numbers<SharedSet<V, NumberLaw>>;
+
+impl<V: NumberValue + Send + Sync> NumberTable for SharedSet<V, NumberLaw> {
+    type Value = V;
+
     fn empty(alloc: Global) -> Self {
-        SharedSetKeys {
-            set: SharedSet::new(alloc),
-            alloc,
-        }
+        SharedSet::new(alloc)
     }
 
-    fn insert<R: Wait>(&self, rt: &R, number: u64) -> bool {
-        match V::of(self.alloc, number) {
-            Ok(value) => matches!(self.set.insert(rt, value), Shown::Placed(_)),
-            Err(_) => false,
-        }
+    fn has(&self, number: u64) -> bool {
+        self.contains(&number)
     }
+}
 
-    fn contains(&self, number: u64) -> bool {
-        self.set.contains(&number)
+impl<V: NumberValue + Send + Sync> SharedTable for SharedSet<V, NumberLaw> {
+    fn place<R: Wait>(&self, rt: &R, _number: u64, value: V) -> bool {
+        matches!(self.insert(rt, value), Shown::Placed(_))
     }
 }

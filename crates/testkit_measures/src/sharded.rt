@@ -1,9 +1,9 @@
 //! Measurements of tables over sixteen shards: one that is held alone, and one that threads share.
 
 use crate::held::{count_once, measure_one};
-use crate::numbers::{COUNT, KeySet};
+use crate::numbers::{COUNT, HeldTable, NumberTable, Numbers, hash_of, is_same};
 use crate::report::{Report, refuse_words};
-use crate::shared::{MOST, SharedKeys, Work, count_work, insert_spread, measure_work};
+use crate::shared::{MOST, SharedTable, Work, count_work, insert_spread, measure_work};
 use lock_free_hashtable::sharded::{HeldShardedTable, ShardedLockFreeRawTable};
 use std::alloc::Global;
 use std::io;
@@ -15,80 +15,54 @@ use table_terms::law::{NumberLaw, hash_number};
 /// How many shards there are.
 const SHARDS: usize = 16;
 
-/// A set of boxed numbers over shards that one owner holds alone.
-#[derive(Drop)]
-struct ShardSet {
-    table: HeldShardedTable<Box<u64>, SHARDS>,
-    alloc: Global,
-}
+/// The boxed numbers in a table over shards that one owner holds alone.
+type ShardSet = Numbers<HeldShardedTable<Box<u64>, SHARDS>>;
 
-impl KeySet for ShardSet {
-    type Means = Global;
+impl NumberTable for HeldShardedTable<Box<u64>, SHARDS> {
+    type Value = Box<u64>;
 
     fn empty(alloc: Global) -> Self {
-        ShardSet {
-            table: HeldShardedTable::new(alloc),
-            alloc,
-        }
+        HeldShardedTable::new(alloc)
     }
 
-    fn insert(&mut self, number: u64) -> bool {
-        let Ok(value) = Box::new(self.alloc, number) else {
-            return false;
-        };
-        matches!(
-            self.table.place_alone::<NumberLaw, _, _>(
-                hash_number(number),
-                value,
-                &|new: &u64, entry: &u64| *new == *entry,
-                &|entry: &u64| hash_number(*entry),
-            ),
-            Ok((_, None))
-        )
-    }
-
-    fn contains(&self, number: u64) -> bool {
-        self.table
-            .lookup_alone::<NumberLaw, _>(hash_number(number), |entry: &u64| *entry == number)
+    fn has(&self, number: u64) -> bool {
+        self.lookup_alone::<NumberLaw, _>(hash_number(number), |entry: &u64| *entry == number)
             .is_some()
     }
 }
 
-/// A set of boxed numbers over shards that threads share.
-#[derive(Drop)]
-struct SharedShards {
-    table: ShardedLockFreeRawTable<Box<u64>, SHARDS>,
-    alloc: Global,
+impl HeldTable for HeldShardedTable<Box<u64>, SHARDS> {
+    fn place(&mut self, number: u64, value: Box<u64>) -> bool {
+        let placed = self.place_alone::<NumberLaw, _, _>(
+            hash_number(number),
+            value,
+            &is_same,
+            &hash_of,
+        );
+        matches!(placed, Ok((_, None)))
+    }
 }
 
-impl SharedKeys for SharedShards {
+/// The boxed numbers in a table over shards that threads share.
+type SharedShards = Numbers<ShardedLockFreeRawTable<Box<u64>, SHARDS>>;
+
+impl NumberTable for ShardedLockFreeRawTable<Box<u64>, SHARDS> {
+    type Value = Box<u64>;
+
     fn empty(alloc: Global) -> Self {
-        SharedShards {
-            table: ShardedLockFreeRawTable::new(alloc),
-            alloc,
-        }
+        ShardedLockFreeRawTable::new(alloc)
     }
 
-    fn insert<R: Wait>(&self, rt: &R, number: u64) -> bool {
-        let Ok(value) = Box::new(self.alloc, number) else {
-            return false;
-        };
-        matches!(
-            self.table.insert(
-                rt,
-                hash_number(number),
-                value,
-                |new: &u64, entry: &u64| *new == *entry,
-                |entry: &u64| hash_number(*entry),
-            ),
-            Ok((_, None))
-        )
-    }
-
-    fn contains(&self, number: u64) -> bool {
-        self.table
-            .lookup(hash_number(number), |entry: &u64| *entry == number)
+    fn has(&self, number: u64) -> bool {
+        self.lookup(hash_number(number), |entry: &u64| *entry == number)
             .is_some()
+    }
+}
+
+impl SharedTable for ShardedLockFreeRawTable<Box<u64>, SHARDS> {
+    fn place<R: Wait>(&self, rt: &R, number: u64, value: Box<u64>) -> bool {
+        let placed = self.insert(rt, hash_number(number), value, is_same, hash_of);
+        matches!(placed, Ok((_, None)))
     }
 }
 
@@ -99,7 +73,7 @@ pub fn measure_sharded<R: Print + Eprint + Clock + Files + Threads + Wait + Sync
     group: &str,
 ) -> io::Result<()> {
     match group {
-        "one" => measure_one(rt, report, &mut ShardSet::empty(rt.alloc())),
+        "one" => measure_one(rt, report, &mut ShardSet::new(rt.alloc())),
         "same" => measure_work::<R, SharedShards>(rt, report, Work::Same, None),
         "hit" => measure_work::<R, SharedShards>(rt, report, Work::Hits, None),
         _ => refuse_words(rt),
@@ -108,11 +82,11 @@ pub fn measure_sharded<R: Print + Eprint + Clock + Files + Threads + Wait + Sync
 
 /// Spread keys once, counted and not timed.
 pub fn check_sharded<R: Print + Threads + Wait + Sync + AllocGlobal>(rt: &R) -> io::Result<()> {
-    let (placed, hits, found) = count_once(&mut ShardSet::empty(rt.alloc()));
+    let (placed, hits, found) = count_once(&mut ShardSet::new(rt.alloc()));
     let misses = COUNT.saturating_sub(found);
     println!(rt; "sharded spread: {placed} placed, {hits} hits, {misses} misses")?;
 
-    let set = SharedShards::empty(rt.alloc());
+    let set = SharedShards::new(rt.alloc());
     let placed = insert_spread(rt, &set, 0, COUNT);
     let hits = count_work(rt, rt.alloc(), &set, Work::Hits, MOST)?;
     println!(rt; "sharded by four: {placed} placed, {hits} hits")

@@ -1,7 +1,9 @@
 //! Measurements of the table that threads share, with one thread to four.
 
 use crate::held::{count_once, measure_one, measure_seq};
-use crate::numbers::{COUNT, KeySet, NumberValue, spread, total, turn};
+use crate::numbers::{
+    COUNT, KeySet, NumberTable, NumberValue, Numbers, hash_of, is_same, spread, total, turn,
+};
 use crate::report::{Report, refuse_words};
 use crate::sizes::measure_sizes;
 use std::alloc::{AllocError, Global};
@@ -71,41 +73,46 @@ pub trait SharedKeys {
     fn contains(&self, number: u64) -> bool;
 }
 
-/// A set of numbers that threads share, kept as `V`.
-#[derive(Drop)]
-pub struct SharedNumbers<V: NumberValue> {
-    table: LockFreeRawTable<V>,
-    alloc: Global,
+/// A table of numbers that threads share.
+pub trait SharedTable: NumberTable {
+    /// Whether this value of the number was placed: the number is new, and memory was there.
+    fn place<R: Wait>(&self, rt: &R, number: u64, value: Self::Value) -> bool;
 }
 
-impl<V: NumberValue + Send + Sync> SharedKeys for SharedNumbers<V> {
+impl<T: SharedTable> SharedKeys for Numbers<T> {
     fn empty(alloc: Global) -> Self {
-        SharedNumbers {
-            table: LockFreeRawTable::new(alloc),
-            alloc,
-        }
+        Numbers::new(alloc)
     }
 
     fn insert<R: Wait>(&self, rt: &R, number: u64) -> bool {
-        let Ok(value) = V::of(self.alloc, number) else {
-            return false;
-        };
-        matches!(
-            self.table.insert(
-                rt,
-                hash_number(number),
-                value,
-                |new: &u64, entry: &u64| *new == *entry,
-                |entry: &u64| hash_number(*entry),
-            ),
-            Ok((_, None))
-        )
+        T::Value::of(self.alloc, number).is_ok_and(|value| self.table.place(rt, number, value))
     }
 
     fn contains(&self, number: u64) -> bool {
-        self.table
-            .lookup(hash_number(number), |entry: &u64| *entry == number)
+        self.table.has(number)
+    }
+}
+
+/// The numbers in a raw table that threads share, kept as `V`.
+pub type SharedNumbers<V> = Numbers<LockFreeRawTable<V>>;
+
+impl<V: NumberValue + Send + Sync> NumberTable for LockFreeRawTable<V> {
+    type Value = V;
+
+    fn empty(alloc: Global) -> Self {
+        LockFreeRawTable::new(alloc)
+    }
+
+    fn has(&self, number: u64) -> bool {
+        self.lookup(hash_number(number), |entry: &u64| *entry == number)
             .is_some()
+    }
+}
+
+impl<V: NumberValue + Send + Sync> SharedTable for LockFreeRawTable<V> {
+    fn place<R: Wait>(&self, rt: &R, number: u64, value: V) -> bool {
+        let placed = self.insert(rt, hash_number(number), value, is_same, hash_of);
+        matches!(placed, Ok((_, None)))
     }
 }
 
