@@ -1,11 +1,13 @@
 //! A table that is a plain list, scanned from its front: slow, and plainly right. Lists of calls run on it as they do on
-//! the hash tables.
+//! the hash tables. Module `told` says what they are told.
 #![tactic(auto)]
 
 ghost use Rattle.std.specs.Prelude.{◌≡◌, [], IfSome, IfNone};
 ghost use Rattle.std.specs.Fn.{FnReturnsAt, FnReturnsAtPair};
 ghost use Rattle.table_held.specs.Shown.{FindsOne};
 ghost use Rattle.testkit_plain_list.specs.Plain.{Finds, RefusesEach, Inserts};
+
+pub mod told;
 
 use std::alloc::Global;
 use std::marker::Model;

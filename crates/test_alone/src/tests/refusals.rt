@@ -1,12 +1,13 @@
 //! Memory that is refused to tables over shards, and to lists of calls.
 use super::makers::two_shards_of;
 use super::numbers::{Numbers, assert_same, holds, insert, show};
-use super::runs::{Step, Told as Reply, calls, list_tells, run_numbers, told_by_all};
+use super::runs::{Step, calls, list_tells, run_numbers, told_by_all};
 use lock_free_hashtable::raw::HeldRawTable;
 use std::alloc::{AllocError, Global};
 use std::process::Abort;
 use std::test::Fail;
 use testkit_counting::numbers::{Told, refused_in_turn};
+use testkit_plain_list::told::Told as Reply;
 use testkit_refusing::{Refusing, Rule};
 
 /// How many runs are made, of which each lets one request more pass than the one before.

@@ -9,6 +9,7 @@ use std::process::Abort;
 use std::test::Fail;
 use table_terms::law::{NumberLaw, hash_number};
 use testkit_plain_list::PlainList;
+use testkit_plain_list::told::{Told, told_by};
 
 /// A call with numbers.
 #[derive(Clone, Copy)]
@@ -16,17 +17,6 @@ pub enum Step {
     Insert(u64),
     Lookup(u64),
     Len,
-}
-
-/// What a call is told: numbers in place of boxes.
-#[derive(Clone, Copy, PartialEq, Eq)]
-pub enum Told {
-    Placed(u64),
-    Found(u64, u64),
-    Refused(u64),
-    Some(u64),
-    None,
-    Len(usize),
 }
 
 /// The calls of these steps, each with the hash of its number.
@@ -51,17 +41,6 @@ pub fn calls<A: Allocator + Copy>(
         calls.push(call)?;
     }
     Ok(calls)
-}
-
-fn told_by(reply: &Reply<Box<u64>>) -> Told {
-    match reply {
-        Reply::Placed(shown) => Told::Placed(*shown),
-        Reply::Found(shown, back) => Told::Found(*shown, **back),
-        Reply::Refused(back) => Told::Refused(**back),
-        Reply::Some(shown) => Told::Some(*shown),
-        Reply::None => Told::None,
-        Reply::Len(count) => Told::Len(*count),
-    }
 }
 
 /// What these replies tell.

@@ -5,6 +5,7 @@ use lock_free_hashtable::InPlace;
 use lock_free_hashtable::alone::Reply;
 use std::process::Abort;
 use std::test::Fail;
+use testkit_plain_list::told::{Told, told_by};
 
 /// In the shards 0, 1, 2 and 3 of four.
 const LOW: u64 = 7;
@@ -28,17 +29,6 @@ const ASKS: [Ask; 10] = [
     Ask::Count,
 ];
 
-/// What a call is told, with the word in place of a value that comes back.
-#[derive(Clone, Copy, Debug, PartialEq, Eq)]
-enum Told {
-    Placed(u64),
-    Found(u64, u64),
-    Refused(u64),
-    Some(u64),
-    None,
-    Len(usize),
-}
-
 const TOLD: [Told; 10] = [
     Told::Len(0),
     Told::None,
@@ -51,17 +41,6 @@ const TOLD: [Told; 10] = [
     Told::Some(HIGH),
     Told::Len(4),
 ];
-
-fn told_by(reply: &Reply<InPlace<u64>>) -> Told {
-    match reply {
-        Reply::Placed(shown) => Told::Placed(*shown),
-        Reply::Found(shown, back) => Told::Found(*shown, back.0),
-        Reply::Refused(back) => Told::Refused(back.0),
-        Reply::Some(shown) => Told::Some(*shown),
-        Reply::None => Told::None,
-        Reply::Len(count) => Told::Len(*count),
-    }
-}
 
 fn assert_told(rt: &impl Abort, replies: &[Reply<InPlace<u64>>]) {
     assert_eq!(rt; replies.len(), TOLD.len());
