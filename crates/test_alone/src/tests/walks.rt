@@ -1,4 +1,6 @@
 //! Walks over eight shards, by reference and by value.
+ghost use Rattle.std.specs.Iterator.{IsFinite};
+
 use super::makers::eight_shards;
 use super::numbers::{Numbers, assert_same, fill};
 use std::alloc::{AllocError, Global};
@@ -54,11 +56,23 @@ fn walks_give_a_thousand_numbers_once_each(rt: HostRuntime) -> Result<(), Fail> 
     Ok(())
 }
 
+/// How many steps a walk has.
+fn count_steps<T: Drop, I: Iterator<Item = T> + Drop>(walk: &mut I) -> u64
+    requires can { I.can_next walk.old }
+    requires ends { IsFinite (I.remaining walk.old) }
+{
+    let mut steps = 0u64;
+    for _value in walk {
+        steps = steps.wrapping_add(1);
+    }
+    steps
+}
+
 #[test]
 fn walks_stay_at_their_ends(rt: HostRuntime) {
     let table = filled(&rt, rt.alloc(), 20);
     let mut walk = table.iter_alone();
-    let steps = walk.by_ref().count();
+    let steps = count_steps(&mut walk);
     assert_same(
         &rt,
         (steps, walk.next().is_none(), walk.next().is_none()),
@@ -66,7 +80,7 @@ fn walks_stay_at_their_ends(rt: HostRuntime) {
     );
     let mut values = table.into_iter();
     assert_same(&rt, values.size_hint(), (20, Some(20)));
-    let steps = values.by_ref().count();
+    let steps = count_steps(&mut values);
     assert_same(
         &rt,
         (steps, values.next().is_none(), values.next().is_none()),
