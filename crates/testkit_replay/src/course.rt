@@ -6,7 +6,7 @@ use crate::fault::Fault;
 use crate::item::Item;
 use crate::replay::{Replay, Turn, any_request, run_schedule};
 use crate::running::{Schedule, Stepped};
-use crate::schedules::{Ask, Cut, Drawn};
+use crate::schedules::{Ask, Cut, Drawn, Plotted};
 use crate::script::{Manner, Script};
 use std::alloc::Global;
 use table_core::call::Phase;
@@ -48,7 +48,7 @@ pub fn run_course(
     let script = Script::new(manner, seed);
     match course {
         Course::Drawn { refuses } => {
-            let mut drawn = Drawn::new(&script, refuses);
+            let mut drawn = Plotted::new(Drawn::new(&script, refuses));
             run_schedule(alloc, first, any_request(), &script, &mut drawn)
         }
         Course::Cut {
@@ -57,7 +57,7 @@ pub fn run_course(
             steps,
             most,
         } => {
-            let mut cut = Cut::new(hashes, asks, steps, most);
+            let mut cut = Plotted::new(Cut::new(hashes, asks, steps, most));
             run_schedule(alloc, first, any_request(), &script, &mut cut)
         }
         Course::Events { events, classes } => {

@@ -10,7 +10,7 @@ pub struct Item {
 }
 
 /// What an insert or a look-up is told, by the numbers of the values.
-#[derive(Clone, Copy, Debug, PartialEq, Eq)]
+#[derive(Clone, Copy, Debug, PartialEq)]
 pub enum Said {
     /// Its value is an entry now.
     Placed(u64),

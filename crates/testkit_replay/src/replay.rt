@@ -1,4 +1,5 @@
 //! What a schedule does on a table and on the machine: what the table tells is what the machine tells.
+ghost use Rattle.std.specs.Prelude.{◌≡◌};
 ghost use Rattle.table_terms.specs.Capacities.{IsFirstCapacity};
 
 use crate::events::event_taken;
@@ -39,13 +40,7 @@ pub(crate) fn run_schedule<S: Schedule>(
 {
     let memory = Refusing::new(alloc, rule);
     let table = new_table(&memory, first);
-    let ground = Ground {
-        alloc,
-        first,
-        memory: &memory,
-        table: &table,
-    };
-    let mut replay = Replay::new(ground, script);
+    let mut replay = Replay::new(Ground::new(alloc, first, &memory, &table), script);
     let mut calls = Calls::new(
         alloc,
         &table,
@@ -63,6 +58,25 @@ pub(crate) struct Ground<'a, 'm> {
     pub(crate) first: u64,
     pub(crate) memory: &'m Refusing<Global>,
     pub(crate) table: &'a Table<'m>,
+}
+
+impl<'a, 'm> Ground<'a, 'm> {
+    /// This table in this memory.
+    pub(crate) fn new(
+        alloc: Global,
+        first: u64,
+        memory: &'m Refusing<Global>,
+        table: &'a Table<'m>,
+    ) -> Self
+        ensures { result.first ≡ first }
+    {
+        Ground {
+            alloc,
+            first,
+            memory,
+            table,
+        }
+    }
 }
 
 /// What a table is to do next.
@@ -133,7 +147,7 @@ impl<'a, 'm> Replay<'a, 'm> {
     pub(crate) fn begin(&mut self, ask: Ask) -> Result<Turn, Fault> {
         let number = self.calls.len() as u64;
         match ask {
-            Ask::Insert { class, hash } => self.insert(
+            Ask::Insert(class, hash) => self.insert(
                 number,
                 Item {
                     number,
@@ -141,7 +155,7 @@ impl<'a, 'm> Replay<'a, 'm> {
                     hash,
                 },
             ),
-            Ask::Lookup { class, hash } => self.lookup(number, class, hash),
+            Ask::Lookup(class, hash) => self.lookup(number, class, hash),
         }
     }
 

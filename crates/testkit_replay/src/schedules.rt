@@ -13,31 +13,31 @@ const CLASSES: u64 = 60;
 /// What a call asks.
 #[derive(Clone, Copy)]
 pub enum Ask {
-    Insert { class: u64, hash: u64 },
-    Lookup { class: u64, hash: u64 },
+    /// An insert of a value of this class and this hash.
+    Insert(u64, u64),
+    /// A look-up of this class and this hash.
+    Lookup(u64, u64),
 }
 
-/// The hash of a class. Some classes share a bucket, and some of those the eight bits.
-pub fn hash_of(class: u64) -> u64 {
-    (class % 24) | ((class & 3) << 32)
+/// A class that is drawn, and its hash. Some classes share a bucket, and some of those the eight bits.
+pub(crate) fn draw_class(script: &Script) -> (u64, u64) {
+    let class = script.draw(CLASSES);
+    (class, (class % 24) | ((class & 3) << 32))
 }
 
 /// A look-up of a class that is drawn, or an insert: two of three, or all where no look-up is asked for.
 fn draw_ask(script: &Script, lookups: bool) -> Ask {
-    let class = script.draw(CLASSES);
-    let hash = hash_of(class);
+    let (class, hash) = draw_class(script);
     if lookups && script.draw(3) == 0 {
-        Ask::Lookup { class, hash }
+        Ask::Lookup(class, hash)
     } else {
-        Ask::Insert { class, hash }
+        Ask::Insert(class, hash)
     }
 }
 
-/// What steps are taken before the next call begins.
+/// Which steps are taken before the next call begins.
 #[derive(Clone, Copy)]
 enum Goal {
-    /// None.
-    Reached,
     /// Those of the call at a place, as long as it moves.
     Stop,
     /// Those of all calls in turn, from a place on, each until it is blocked or ends.
@@ -46,7 +46,7 @@ enum Goal {
 
 /// Steps on the way to a goal: at which call it is, and how many are left at most.
 #[derive(Clone, Copy)]
-struct Way {
+pub(crate) struct Way {
     goal: Goal,
     index: usize,
     left: u64,
@@ -65,7 +65,6 @@ impl Way {
     /// Whether there are more steps.
     fn goes_on(&self, replay: &Replay<'_, '_>) -> Result<bool, Fault> {
         match self.goal {
-            Goal::Reached => Ok(false),
             Goal::Stop => Ok(self.left != 0),
             Goal::AllEnd if replay.all_ended() => Ok(false),
             Goal::AllEnd if self.left == 0 => Err(Fault::Unfinished),
@@ -80,7 +79,7 @@ impl Way {
             return;
         }
         if let Goal::Stop = self.goal {
-            self.goal = Goal::Reached;
+            self.left = 0;
         }
         self.index = self.index.saturating_add(1);
         if begun <= self.index {
@@ -91,10 +90,45 @@ impl Way {
 
 /// No steps.
 const ARRIVED: Way = Way {
-    goal: Goal::Reached,
+    goal: Goal::Stop,
     index: 0,
     left: 0,
 };
+
+/// Which calls begin, and on which ways they go.
+pub(crate) trait Plot {
+    /// The next turn where no step is left. With it the calls may set out on a way.
+    fn advance(&mut self, replay: &mut Replay<'_, '_>, way: &mut Way) -> Result<Turn, Fault>;
+}
+
+/// The schedule of a plot, in which each way is gone before the next turn.
+#[derive(Drop)]
+pub(crate) struct Plotted<P: Plot> {
+    plot: P,
+    way: Way,
+}
+
+impl<P: Plot> Plotted<P> {
+    /// No step yet.
+    pub(crate) fn new(plot: P) -> Plotted<P> {
+        Plotted { plot, way: ARRIVED }
+    }
+}
+
+impl<P: Plot> Schedule for Plotted<P> {
+    fn next(&mut self, replay: &mut Replay<'_, '_>) -> Result<Turn, Fault> {
+        if self.way.goes_on(replay)? {
+            return Ok(replay.step_refused(self.way.index, 0, 0));
+        }
+        self.way = ARRIVED;
+        self.plot.advance(replay, &mut self.way)
+    }
+
+    fn hear(&mut self, replay: &mut Replay<'_, '_>, stepped: Stepped) -> Result<(), Fault> {
+        self.way.hear(stepped.took, replay.begun());
+        replay.follow(stepped)
+    }
+}
 
 /// How far a schedule has come that is drawn.
 #[derive(Clone, Copy)]
@@ -117,7 +151,6 @@ pub(crate) struct Drawn<'s> {
     script: &'s Script,
     refuses: bool,
     stage: Stage,
-    way: Way,
     /// The place of the first call of those that go step by step.
     first: usize,
 }
@@ -129,13 +162,24 @@ impl<'s> Drawn<'s> {
             script,
             refuses,
             stage: Stage::Fill(script.draw(41)),
-            way: ARRIVED,
             first: 0,
         }
     }
 
-    /// The next turn where no step is left.
-    fn advance(&mut self, replay: &mut Replay<'_, '_>) -> Result<Turn, Fault> {
+    /// A step of one of the last calls, which is drawn.
+    fn wander(&self, replay: &mut Replay<'_, '_>) -> Turn {
+        let calls = replay.begun().saturating_sub(self.first) as u64;
+        let index = self.first.saturating_add(self.script.draw(calls) as usize);
+        if self.refuses && self.script.draw(4) == 0 {
+            replay.step_refused(index, self.script.draw(6), 1)
+        } else {
+            replay.step_refused(index, 0, 0)
+        }
+    }
+}
+
+impl Plot for Drawn<'_> {
+    fn advance(&mut self, replay: &mut Replay<'_, '_>, way: &mut Way) -> Result<Turn, Fault> {
         match self.stage {
             Stage::Fill(0) => {
                 self.first = replay.begun();
@@ -144,7 +188,7 @@ impl<'s> Drawn<'s> {
             }
             Stage::Fill(left) => {
                 self.stage = Stage::Fill(left.saturating_sub(1));
-                self.way = Way::to_ends(replay.begun(), STEPS);
+                *way = Way::to_ends(replay.begun(), STEPS);
                 replay.begin(draw_ask(self.script, false))
             }
             Stage::Begin(0) => {
@@ -165,37 +209,11 @@ impl<'s> Drawn<'s> {
             }
             Stage::Finish => {
                 self.stage = Stage::Over;
-                self.way = Way::to_ends(self.first, STEPS);
+                *way = Way::to_ends(self.first, STEPS);
                 Ok(Turn::Nothing)
             }
             Stage::Over => replay.end(),
         }
-    }
-
-    /// A step of one of the last calls, which is drawn.
-    fn wander(&self, replay: &mut Replay<'_, '_>) -> Turn {
-        let calls = replay.begun().saturating_sub(self.first) as u64;
-        let index = self.first.saturating_add(self.script.draw(calls) as usize);
-        if self.refuses && self.script.draw(4) == 0 {
-            replay.step_refused(index, self.script.draw(6), 1)
-        } else {
-            replay.step_refused(index, 0, 0)
-        }
-    }
-}
-
-impl Schedule for Drawn<'_> {
-    fn next(&mut self, replay: &mut Replay<'_, '_>) -> Result<Turn, Fault> {
-        if self.way.goes_on(replay)? {
-            return Ok(replay.step_refused(self.way.index, 0, 0));
-        }
-        self.way = ARRIVED;
-        self.advance(replay)
-    }
-
-    fn hear(&mut self, replay: &mut Replay<'_, '_>, stepped: Stepped) -> Result<(), Fault> {
-        self.way.hear(stepped.took, replay.begun());
-        replay.follow(stepped)
     }
 }
 
@@ -206,10 +224,8 @@ pub(crate) struct Cut<'c> {
     hashes: &'c [u64],
     asks: (Ask, Ask),
     steps: (u64, u64),
-    /// How many more steps the two calls take at most.
-    left: u64,
-    way: Way,
-    /// How many of its ways it has begun since both calls did.
+    most: u64,
+    /// How many of its ways the two calls have set out on.
     part: u64,
 }
 
@@ -224,58 +240,47 @@ impl<'c> Cut<'c> {
             hashes,
             asks,
             steps,
-            left: most,
-            way: ARRIVED,
+            most,
             part: 0,
         }
     }
 
-    /// The next turn where no step is left.
-    fn advance(&mut self, replay: &mut Replay<'_, '_>) -> Result<Turn, Fault> {
+    /// The next way of the two calls. None: they were on the last one.
+    fn next_way(&mut self) -> Option<Way> {
+        let first = self.hashes.len();
+        let (ahead, second_ahead) = self.steps;
+        let (goal, index, left) = match self.part {
+            0 => (Goal::Stop, first, ahead),
+            1 => (Goal::Stop, first.saturating_add(1), second_ahead),
+            2 => (
+                Goal::AllEnd,
+                first,
+                self.most.saturating_sub(ahead).saturating_sub(second_ahead),
+            ),
+            _ => return None,
+        };
+        self.part = self.part.saturating_add(1);
+        Some(Way { goal, index, left })
+    }
+}
+
+impl Plot for Cut<'_> {
+    fn advance(&mut self, replay: &mut Replay<'_, '_>, way: &mut Way) -> Result<Turn, Fault> {
         let begun = replay.begun();
         if let Some(hash) = self.hashes.get(begun) {
-            self.way = Way::to_ends(begun, STEPS);
-            return replay.begin(Ask::Insert {
-                class: begun as u64,
-                hash: *hash,
-            });
+            *way = Way::to_ends(begun, STEPS);
+            return replay.begin(Ask::Insert(begun as u64, *hash));
         }
         match begun.saturating_sub(self.hashes.len()) {
             0 => replay.begin(self.asks.0),
             1 => replay.begin(self.asks.1),
-            _ => self.go_on(replay),
+            _ => match self.next_way() {
+                Some(next) => {
+                    *way = next;
+                    Ok(Turn::Nothing)
+                }
+                None => replay.end(),
+            },
         }
-    }
-
-    /// The next way of the two calls.
-    fn go_on(&mut self, replay: &mut Replay<'_, '_>) -> Result<Turn, Fault> {
-        let first = self.hashes.len();
-        let (goal, index, left) = match self.part {
-            0 => (Goal::Stop, first, self.steps.0),
-            1 => (Goal::Stop, first.saturating_add(1), self.steps.1),
-            2 => (Goal::AllEnd, first, self.left),
-            _ => return replay.end(),
-        };
-        self.way = Way { goal, index, left };
-        self.part = self.part.saturating_add(1);
-        Ok(Turn::Nothing)
-    }
-}
-
-impl Schedule for Cut<'_> {
-    fn next(&mut self, replay: &mut Replay<'_, '_>) -> Result<Turn, Fault> {
-        if self.way.goes_on(replay)? {
-            return Ok(replay.step_refused(self.way.index, 0, 0));
-        }
-        self.way = ARRIVED;
-        self.advance(replay)
-    }
-
-    fn hear(&mut self, replay: &mut Replay<'_, '_>, stepped: Stepped) -> Result<(), Fault> {
-        if self.part != 0 {
-            self.left = self.left.saturating_sub(1);
-        }
-        self.way.hear(stepped.took, replay.begun());
-        replay.follow(stepped)
     }
 }

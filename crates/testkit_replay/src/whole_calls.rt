@@ -21,13 +21,18 @@ use std::alloc::Global;
 use std::sync::Wait;
 use testkit_refusing::{Refusing, Rule};
 
-/// A whole call that no other call runs inside of. Of its requests for memory the first few are granted, and so many of the
-/// next are refused.
+/// Of a call's requests for memory, how many are granted first, and how many of the next are refused.
+pub type Refusals = (u64, u64);
+
+/// A whole call that doesn't run inside of another one, and what is refused to it.
+pub type Top = (Ask, Refusals);
+
+/// Whole calls, one after the other.
 #[derive(Clone, Copy)]
-pub struct Top {
-    pub ask: Ask,
-    pub passing: u64,
-    pub refused: u64,
+pub struct Tops<'c> {
+    /// So many inserts come first. Each has the number of its call for its class and its hash, and nothing is refused to it.
+    pub filled: u64,
+    pub then: &'c [Top],
 }
 
 /// What runs on a table without a generation.
@@ -36,7 +41,7 @@ pub enum Plan<'c> {
     /// So many calls that are drawn, and calls inside of their closures that are drawn.
     Drawn { tops: u64, refuses: bool },
     /// These calls. Inside of the first closure that the last of them asks, others run.
-    Worked { tops: &'c [Top], inside: &'c [Ask] },
+    Worked { tops: Tops<'c>, inside: &'c [Ask] },
 }
 
 /// Runs whole calls, and compares what they do with the machine. What each call is told, in the order in which they end.
@@ -52,12 +57,7 @@ pub fn run_whole<R: Wait>(
 {
     let memory = Refusing::new(alloc, any_request());
     let table = new_table(&memory, first);
-    let ground = Ground {
-        alloc,
-        first,
-        memory: &memory,
-        table: &table,
-    };
+    let ground = Ground::new(alloc, first, &memory, &table);
     let marks = run_plan(rt, ground, &Script::new(manner, seed), plan)?;
     follow(alloc, first, any_request(), marks.as_slice())?;
     told_in(alloc, marks.as_slice())

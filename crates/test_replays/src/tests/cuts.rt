@@ -4,6 +4,7 @@ use std::process::Abort;
 use testkit_replay::course::{Course, run_course};
 use testkit_replay::fault::Fault;
 use testkit_replay::schedules::Ask;
+use testkit_replay::schedules::Ask::{Insert, Lookup};
 use testkit_replay::script::Manner;
 
 /// The hashes of the entries, and what two calls ask.
@@ -11,43 +12,18 @@ type Start = (&'static [u64], (Ask, Ask));
 
 const STARTS: [Start; 5] = [
     // Equal values, one of which is first at the bucket.
-    (&[1], (INSERT_OF_0, INSERT_OF_0)),
+    (&[1], (Insert(100, 0), Insert(100, 0))),
     // Other values of one hash: one goes on to another bucket.
-    (&[1], (INSERT_OF_0, OTHER_OF_0)),
+    (&[1], (Insert(100, 0), Insert(101, 0))),
     // No generation: one makes it.
-    (&[], (INSERT_OF_0, INSERT_OF_0)),
+    (&[], (Insert(100, 0), Insert(100, 0))),
     // Both want growth, or one is told of it by the other.
-    (&SEVEN, (INSERT_OF_7, INSERT_OF_8)),
+    (&SEVEN, (Insert(107, 7), Insert(108, 8))),
     // A look-up beside the insert of its value, and beside growth.
-    (&SEVEN, (INSERT_OF_7, LOOKUP_OF_7)),
+    (&SEVEN, (Insert(107, 7), Lookup(107, 7))),
 ];
 
 const SEVEN: [u64; 7] = [0, 1, 2, 3, 4, 5, 6];
-
-const INSERT_OF_0: Ask = Ask::Insert {
-    class: 100,
-    hash: 0,
-};
-
-const OTHER_OF_0: Ask = Ask::Insert {
-    class: 101,
-    hash: 0,
-};
-
-const INSERT_OF_7: Ask = Ask::Insert {
-    class: 107,
-    hash: 7,
-};
-
-const INSERT_OF_8: Ask = Ask::Insert {
-    class: 108,
-    hash: 8,
-};
-
-const LOOKUP_OF_7: Ask = Ask::Lookup {
-    class: 107,
-    hash: 7,
-};
 
 /// Up to so many steps each call takes before the other.
 const AHEAD: u64 = 24;

@@ -1,163 +1,65 @@
 //! Two whole calls at once: an exchange that an insert loses, and an insert that waits while a growth copies.
-use super::whole::{
-    INSERT_1_AT_0, INSERT_2_AT_0, INSERT_3, INSERT_7, INSERT_8_AT_0, TOP_INSERT_0, TOP_INSERT_1,
-    TOP_INSERT_2, TOP_INSERT_3, TOP_INSERT_4, TOP_INSERT_5, TOP_INSERT_6,
-};
+use super::whole::{REFUSED, assert_told};
 use std::alloc::Global;
 use std::process::Abort;
 use std::sync::Wait;
 use std::thread::Threads;
 use table_terms::capacity::is_first_capacity;
 use testkit_replay::item::Said;
+use testkit_replay::item::Said::{Found, Placed, Refused};
 use testkit_replay::schedules::Ask;
-use testkit_replay::whole_calls::Top;
+use testkit_replay::schedules::Ask::Insert;
 use testkit_replay::whole_calls::meeting::{Meeting, run_meeting};
+use testkit_replay::whole_calls::{Top, Tops};
 
 /// How often each row is run.
 const ROUNDS: u64 = 20;
 
 /// An insert whose block is refused: the table has its first generation then.
-const OPENING: Top = Top {
-    ask: INSERT_3,
-    passing: 0,
-    refused: 1,
+const OPENING: Tops<'static> = Tops {
+    filled: 0,
+    then: &[(Insert(3, 3), REFUSED)],
 };
 
-/// Their hash has other eight bits, and the same first bucket.
-const INSERT_1_WITH_OTHER_BITS: Ask = Ask::Insert {
-    class: 1,
-    hash: 1 << 32,
+/// Seven entries: with one more the table grows.
+const SEVEN: Tops<'static> = Tops {
+    filled: 7,
+    then: &[],
 };
-
-const INSERT_2_WITH_OTHER_BITS: Ask = Ask::Insert {
-    class: 2,
-    hash: 1 << 32,
-};
-
-/// Its first bucket is the 17th of 32, and the first of 16.
-const INSERT_8_AT_16: Ask = Ask::Insert { class: 8, hash: 16 };
 
 /// What calls are told, in the order in which they end.
 type Told = &'static [(u64, Said)];
 
-/// Two inserts at one empty bucket of a table without entries, and what all calls are told: if the first wins it, and if the
-/// second does.
-const AT_ONE_BUCKET: [((Ask, Ask), Told, Told); 4] = [
+/// What all calls are told of which the last two insert different values: if the first wins, and if the second does.
+const BOTH_PLACED: (Told, Told) = (
+    &[(0, Refused(0)), (1, Placed(1)), (2, Placed(2))],
+    &[(0, Refused(0)), (2, Placed(2)), (1, Placed(1))],
+);
+
+/// The same of equal values: the loser's comes back beside the winner's.
+const ONE_FOUND: (Told, Told) = (
+    &[(0, Refused(0)), (1, Placed(1)), (2, Found(1, 2))],
+    &[(0, Refused(0)), (2, Placed(2)), (1, Found(2, 1))],
+);
+
+/// Two inserts at one empty bucket of a table without entries, and what all calls are told.
+const AT_ONE_BUCKET: [((Ask, Ask), (Told, Told)); 4] = [
     // Another value of the same hash: who loses goes on to the next bucket.
-    (
-        (INSERT_1_AT_0, INSERT_2_AT_0),
-        &[
-            (0, Said::Refused(0)),
-            (1, Said::Placed(1)),
-            (2, Said::Placed(2)),
-        ],
-        &[
-            (0, Said::Refused(0)),
-            (2, Said::Placed(2)),
-            (1, Said::Placed(1)),
-        ],
-    ),
-    // An equal one: the loser's comes back beside the winner's.
-    (
-        (INSERT_1_AT_0, INSERT_1_AT_0),
-        &[
-            (0, Said::Refused(0)),
-            (1, Said::Placed(1)),
-            (2, Said::Found(1, 2)),
-        ],
-        &[
-            (0, Said::Refused(0)),
-            (2, Said::Placed(2)),
-            (1, Said::Found(2, 1)),
-        ],
-    ),
-    // One of other bits: nobody is asked about it, also where it would be equal.
-    (
-        (INSERT_1_AT_0, INSERT_2_WITH_OTHER_BITS),
-        &[
-            (0, Said::Refused(0)),
-            (1, Said::Placed(1)),
-            (2, Said::Placed(2)),
-        ],
-        &[
-            (0, Said::Refused(0)),
-            (2, Said::Placed(2)),
-            (1, Said::Placed(1)),
-        ],
-    ),
-    (
-        (INSERT_1_AT_0, INSERT_1_WITH_OTHER_BITS),
-        &[
-            (0, Said::Refused(0)),
-            (1, Said::Placed(1)),
-            (2, Said::Placed(2)),
-        ],
-        &[
-            (0, Said::Refused(0)),
-            (2, Said::Placed(2)),
-            (1, Said::Placed(1)),
-        ],
-    ),
+    ((Insert(1, 0), Insert(2, 0)), BOTH_PLACED),
+    ((Insert(1, 0), Insert(1, 0)), ONE_FOUND),
+    // One of other bits, and of the same first bucket: nobody is asked about it, also where it would be equal.
+    ((Insert(1, 0), Insert(2, 1 << 32)), BOTH_PLACED),
+    ((Insert(1, 0), Insert(1, 1 << 32)), BOTH_PLACED),
 ];
 
-/// Seven entries: with one more the table grows.
-const SEVEN: [Top; 7] = [
-    TOP_INSERT_0,
-    TOP_INSERT_1,
-    TOP_INSERT_2,
-    TOP_INSERT_3,
-    TOP_INSERT_4,
-    TOP_INSERT_5,
-    TOP_INSERT_6,
-];
-
-/// Inserts that begin while a growth copies, and what all calls are told.
-const AT_THE_LOCK: [(Ask, Told); 3] = [
-    // Its first bucket is empty in the new generation. In the old one an entry is there.
-    (
-        INSERT_8_AT_16,
-        &[
-            (0, Said::Placed(0)),
-            (1, Said::Placed(1)),
-            (2, Said::Placed(2)),
-            (3, Said::Placed(3)),
-            (4, Said::Placed(4)),
-            (5, Said::Placed(5)),
-            (6, Said::Placed(6)),
-            (7, Said::Placed(7)),
-            (8, Said::Placed(8)),
-        ],
-    ),
+/// Inserts that begin while a growth copies, and what they are told.
+const AT_THE_LOCK: [(Ask, Said); 3] = [
+    // Its first bucket is the 17th of 32, which is empty, and the first of 16, where an entry is.
+    (Insert(8, 16), Placed(8)),
     // It asks about each entry that was copied.
-    (
-        INSERT_8_AT_0,
-        &[
-            (0, Said::Placed(0)),
-            (1, Said::Placed(1)),
-            (2, Said::Placed(2)),
-            (3, Said::Placed(3)),
-            (4, Said::Placed(4)),
-            (5, Said::Placed(5)),
-            (6, Said::Placed(6)),
-            (7, Said::Placed(7)),
-            (8, Said::Placed(8)),
-        ],
-    ),
+    (Insert(8, 0), Placed(8)),
     // Its equal was copied.
-    (
-        INSERT_3,
-        &[
-            (0, Said::Placed(0)),
-            (1, Said::Placed(1)),
-            (2, Said::Placed(2)),
-            (3, Said::Placed(3)),
-            (4, Said::Placed(4)),
-            (5, Said::Placed(5)),
-            (6, Said::Placed(6)),
-            (7, Said::Placed(7)),
-            (8, Said::Found(3, 8)),
-        ],
-    ),
+    (Insert(3, 3), Found(3, 8)),
 ];
 
 /// Two inserts lose an exchange to one another, as the machine does.
@@ -169,20 +71,17 @@ fn assert_at_one_bucket<R: Abort + Threads + Wait + Sync>(
 ) {
     let (first_wins, second_wins) = expected;
     assert!(rt; is_first_capacity(16));
-    match run_meeting(rt, alloc, 16, &[OPENING], Meeting::Bucket, asks) {
-        Ok(told) => {
-            let is_told = told.as_slice() == first_wins || told.as_slice() == second_wins;
-            assert!(rt; is_told, "{told:?}");
-        }
-        Err(fault) => assert!(rt; false, "{fault:?} {first_wins:?}"),
-    }
+    let run = run_meeting(rt, alloc, 16, OPENING, Meeting::Bucket, asks);
+    let told = run.expect(rt, "no fault");
+    let is_told = told.as_slice() == first_wins || told.as_slice() == second_wins;
+    assert!(rt; is_told, "{told:?} {first_wins:?}");
 }
 
 #[test]
 fn an_exchange_that_is_lost(rt: HostRuntime) {
-    for (asks, first_wins, second_wins) in &AT_ONE_BUCKET {
+    for (asks, expected) in &AT_ONE_BUCKET {
         for _round in 0..ROUNDS {
-            assert_at_one_bucket(&rt, rt.alloc(), *asks, (*first_wins, *second_wins));
+            assert_at_one_bucket(&rt, rt.alloc(), *asks, *expected);
         }
     }
 }
@@ -192,13 +91,11 @@ fn assert_at_the_lock<R: Abort + Threads + Wait + Sync>(
     rt: &R,
     alloc: Global,
     ask: Ask,
-    expected: Told,
+    expected: Said,
 ) {
     assert!(rt; is_first_capacity(16));
-    match run_meeting(rt, alloc, 16, &SEVEN, Meeting::Lock, (INSERT_7, ask)) {
-        Ok(told) => assert_eq!(rt; told.as_slice(), expected),
-        Err(fault) => assert!(rt; false, "{fault:?} {expected:?}"),
-    }
+    let run = run_meeting(rt, alloc, 16, SEVEN, Meeting::Lock, (Insert(7, 7), ask));
+    assert_told(rt, run, 8, &[(8, expected)]);
 }
 
 #[test]

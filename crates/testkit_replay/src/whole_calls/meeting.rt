@@ -12,7 +12,7 @@ use crate::schedules::Ask;
 use crate::script::{Manner, Script};
 use crate::whole_calls::trace::{Mark, Sight};
 use crate::whole_calls::whole::{Inside, Lock, Whole, run_alone, run_plan};
-use crate::whole_calls::{Plan, Top, follow, told_in};
+use crate::whole_calls::{Plan, Tops, follow, told_in};
 use std::alloc::Global;
 use std::sync::Wait;
 use std::sync::atomic::{AtomicU64, Ordering};
@@ -152,13 +152,13 @@ impl<'w, 'm> Place<'w, 'm> {
     fn run_all<R: Threads + Wait + Sync>(
         &self,
         rt: &R,
-        tops: &[Top],
+        tops: Tops<'_>,
         meeting: Meeting,
         asks: (Ask, Ask),
     ) -> Result<Vec<Mark>, Fault> {
         let plan = Plan::Worked { tops, inside: &[] };
         let mut marks = run_plan(rt, self.ground, &Script::new(Manner::Lawful, 0), plan)?;
-        let calls = tops.len() as u64;
+        let calls = tops.filled.saturating_add(tops.then.len() as u64);
         let numbers = (calls, calls.saturating_add(1));
         let (one, other) = self.run_both(rt, numbers, meeting, asks)?;
         let (one, other) = (one.as_slice(), other.as_slice());
@@ -191,7 +191,7 @@ pub fn run_meeting<R: Threads + Wait + Sync>(
     rt: &R,
     alloc: Global,
     first: u64,
-    tops: &[Top],
+    tops: Tops<'_>,
     meeting: Meeting,
     asks: (Ask, Ask),
 ) -> Result<Vec<(u64, Said)>, Fault>
@@ -201,12 +201,7 @@ pub fn run_meeting<R: Threads + Wait + Sync>(
     let table = new_table(&memory, first);
     let signs = Signs::new();
     let place = Place {
-        ground: Ground {
-            alloc,
-            first,
-            memory: &memory,
-            table: &table,
-        },
+        ground: Ground::new(alloc, first, &memory, &table),
         signs: &signs,
     };
     let marks = place.run_all(rt, tops, meeting, asks)?;

@@ -7,7 +7,7 @@ use std::alloc::Global;
 use std::cell::{Cell, RefCell};
 
 /// What a table shows: its count, its buckets, and a number that is made of its entries in their order.
-#[derive(Clone, Copy, PartialEq, Eq)]
+#[derive(Clone, Copy, PartialEq)]
 pub struct Sight {
     length: u64,
     buckets: u64,

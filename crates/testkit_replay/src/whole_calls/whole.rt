@@ -3,15 +3,12 @@ use crate::fault::{Fault, granted};
 use crate::item::{Item, Said};
 use crate::replay::Ground;
 use crate::running::Table;
-use crate::schedules::{Ask, hash_of};
+use crate::schedules::{Ask, draw_class};
 use crate::script::{Manner, Script};
 use crate::whole_calls::trace::{Mark, Sight, Trace};
-use crate::whole_calls::{Plan, Top};
+use crate::whole_calls::{Plan, Refusals, Top, Tops};
 use std::cell::Cell;
 use std::sync::Wait;
-
-/// How many classes there are to draw from.
-const CLASSES: u64 = 60;
 
 /// A table, what its closures answer, what notes the calls on it, and the calls that run inside the first closure that is asked
 /// once they are due. Without those, some that are drawn run inside of closures.
@@ -98,12 +95,11 @@ impl<'w, 'n, 'm> Scene<'w, 'n, 'm> {
 
     /// A call that is drawn: two of three insert, where an insert may run.
     fn ask_drawn(&self, lock: Lock) -> Ask {
-        let class = self.script.draw(CLASSES);
-        let hash = hash_of(class);
+        let (class, hash) = draw_class(self.script);
         if self.script.draw(3) == 0 || !self.may_insert(lock) {
-            Ask::Lookup { class, hash }
+            Ask::Lookup(class, hash)
         } else {
-            Ask::Insert { class, hash }
+            Ask::Insert(class, hash)
         }
     }
 
@@ -114,17 +110,15 @@ impl<'w, 'n, 'm> Scene<'w, 'n, 'm> {
         } else {
             0
         };
-        Top {
-            ask: self.ask_drawn(Lock::Free),
-            passing: self.script.draw(4),
-            refused,
-        }
+        let ask = self.ask_drawn(Lock::Free);
+        (ask, (self.script.draw(4), refused))
     }
 
-    /// Of the requests of this call the first few are granted, and so many of the next are refused.
-    fn refuse(&self, top: Top) {
-        self.ground.memory.refuse(top.passing, top.refused);
-        self.trace.note(Mark::Refuses(top.passing, top.refused));
+    /// This is refused to the next call.
+    fn refuse(&self, refusals: Refusals) {
+        let (passing, refused) = refusals;
+        self.ground.memory.refuse(passing, refused);
+        self.trace.note(Mark::Refuses(passing, refused));
     }
 }
 
@@ -197,7 +191,7 @@ impl<'w, 'n, 'm, R: Wait> Whole<'w, 'n, 'm, R> {
     pub(crate) fn call<I: Inside>(&self, ask: Ask, lock: Lock, inside: &I) -> Result<(), Fault> {
         let number = self.scene.trace.begin(ask);
         let said = match ask {
-            Ask::Insert { class, hash } => self.insert(
+            Ask::Insert(class, hash) => self.insert(
                 Item {
                     number,
                     class,
@@ -206,7 +200,7 @@ impl<'w, 'n, 'm, R: Wait> Whole<'w, 'n, 'm, R> {
                 lock.inside_insert(),
                 inside,
             )?,
-            Ask::Lookup { class, hash } => self.lookup(number, class, hash, lock, inside),
+            Ask::Lookup(class, hash) => self.lookup(number, class, hash, lock, inside),
         };
         self.scene.trace.note(Mark::Told(number, said));
         Ok(())
@@ -259,8 +253,9 @@ impl<'w, 'n, 'm, R: Wait> Whole<'w, 'n, 'm, R> {
 
     /// A call that no other call runs around.
     fn run_top(&self, top: Top) -> Result<(), Fault> {
-        self.scene.refuse(top);
-        self.call(top.ask, Lock::Free, &Cutting)?;
+        let (ask, refusals) = top;
+        self.scene.refuse(refusals);
+        self.call(ask, Lock::Free, &Cutting)?;
         self.scene.look_after(Ok(()));
         Ok(())
     }
@@ -279,9 +274,12 @@ impl<'w, 'n, 'm, R: Wait> Whole<'w, 'n, 'm, R> {
     }
 
     /// These calls. With the last of them those are due that run inside a closure.
-    fn run_worked(&self, tops: &[Top]) -> Result<(), Fault> {
-        let mut left = tops.len();
-        for top in tops {
+    fn run_worked(&self, tops: Tops<'_>) -> Result<(), Fault> {
+        for number in 0..tops.filled {
+            self.run_top((Ask::Insert(number, number), (0, 0)))?;
+        }
+        let mut left = tops.then.len();
+        for top in tops.then {
             left = left.saturating_sub(1);
             self.scene.due.set(left == 0);
             self.run_top(*top)?;
