@@ -102,6 +102,16 @@ impl<'s, V: Drop, L: SetLaw<V>, A: Low + Copy> Caller<'s, V, L, A> {
     }
 }
 
+/// What an insert of the number is told that ended so.
+pub(crate) fn told_of(ended: Placing<'_, u64>, number: u64) -> Told {
+    match ended {
+        Placing::Placed(entry) if *entry == number => Told::Placed,
+        Placing::Found(entry, back) if *entry == number && back == number => Told::Found,
+        Placing::Full(back) | Placing::NoMemory(back) if back == number => Told::Refused,
+        _ => Told::Wrong,
+    }
+}
+
 /// What an insert of the number is told.
 pub(crate) fn insert<A: Low + Copy, R: Wait>(
     rt: &R,
@@ -110,12 +120,7 @@ pub(crate) fn insert<A: Low + Copy, R: Wait>(
 ) -> Told
     ensures { caller.new.set ≡ caller.old.set }
 {
-    match caller.insert(rt, number) {
-        Placing::Placed(entry) if *entry == number => Told::Placed,
-        Placing::Found(entry, back) if *entry == number && back == number => Told::Found,
-        Placing::Full(back) | Placing::NoMemory(back) if back == number => Told::Refused,
-        _ => Told::Wrong,
-    }
+    told_of(caller.insert(rt, number), number)
 }
 
 /// The caller finds each number below this one, and not this one.

@@ -2,14 +2,14 @@
 ghost use Rattle.std.specs.Prelude.{◌≡◌, IfSome};
 ghost use Rattle.std.specs.Int.{IsPowerOfTwo};
 
-use super::caller::{Heap, assert_none_out, counted};
+use super::caller::{Heap, assert_none_out, counted, told_of};
 use std::alloc::Global;
 use std::marker::{Send, Sync};
 use std::process::Abort;
 use std::sync::Wait;
 use std::thread::{Threads, join};
 use table_cell::Low;
-use table_growing_shards::{Ends, Placing, ShardedGrowingSet, ShardedKnown};
+use table_growing_shards::{Ends, ShardedGrowingSet, ShardedKnown};
 use table_sets::NumberLaw;
 use testkit_counting::numbers::Told;
 use testkit_refusing::{Refusing, Rule};
@@ -22,24 +22,6 @@ type Numbers<const SHARDS: usize, A> = ShardedGrowingSet<u64, NumberLaw, SHARDS,
 
 /// What is known of it.
 type Knows<const SHARDS: usize, A> = ShardedKnown<u64, NumberLaw, SHARDS, A>;
-
-/// What an insert of the number is told.
-fn insert<const SHARDS: usize, A: Low + Copy, R: Wait>(
-    rt: &R,
-    set: &Numbers<SHARDS, A>,
-    known: &mut Knows<SHARDS, A>,
-    number: u64,
-) -> Told
-    requires { known.old.of ≡ set.now }
-    ensures { known.new.of ≡ set.now }
-{
-    match set.insert(rt, known, number) {
-        Placing::Placed(entry) if *entry == number => Told::Placed,
-        Placing::Found(entry, back) if *entry == number && back == number => Told::Found,
-        Placing::Full(back) | Placing::NoMemory(back) if back == number => Told::Refused,
-        _ => Told::Wrong,
-    }
-}
 
 /// Each number below this one is found, and this one isn't.
 fn has<const SHARDS: usize, A: Low + Copy>(
@@ -71,7 +53,7 @@ fn insert_at_last<const SHARDS: usize, A: Low + Copy, R: Wait>(
     ensures { known.new.of ≡ set.now }
 {
     for _refused in 0..refused {
-        let told = insert(rt, set, known, number);
+        let told = told_of(set.insert(rt, known, number), number);
         if told != Told::Refused {
             return told;
         }
@@ -79,7 +61,7 @@ fn insert_at_last<const SHARDS: usize, A: Low + Copy, R: Wait>(
             return Told::Wrong;
         }
     }
-    insert(rt, set, known, number)
+    told_of(set.insert(rt, known, number), number)
 }
 
 /// Inserts the numbers from the first one on and below the other one. False: one was refused too often, or it went wrong.
