@@ -44,13 +44,19 @@ pub fn find<V, L: SetLaw<V>, A: Low + Copy>(
     set.get(&mut mine, value).is_some()
 }
 
+/// A set of numbers.
+pub type Numbers<A> = GrowingSet<u64, NumberLaw, A>;
+
+/// What a thread knows of it.
+pub type KnownNumbers<A> = Known<u64, NumberLaw, A>;
+
 /// Sees to it that the numbers below `count` are in the set: so many, and it grows. None: memory was refused.
 pub fn put_below<A: Low + Copy, R: Wait>(
     rt: &R,
-    set: &GrowingSet<u64, NumberLaw, A>,
-    known: Known<u64, NumberLaw, A>,
+    set: &Numbers<A>,
+    known: KnownNumbers<A>,
     count: u64,
-) -> Option<Known<u64, NumberLaw, A>>
+) -> Option<KnownNumbers<A>>
     requires of { known.of ≡ set.now }
     ensures { IfSome result (λ k. KnowsMore known k) }
 {
@@ -64,8 +70,8 @@ pub fn put_below<A: Low + Copy, R: Wait>(
 /// A number that is known to be there is found once the numbers below `count` are there too, whatever the set grew meanwhile.
 pub fn outlast<A: Low + Copy, R: Wait>(
     rt: &R,
-    set: &GrowingSet<u64, NumberLaw, A>,
-    known: Known<u64, NumberLaw, A>,
+    set: &Numbers<A>,
+    known: KnownNumbers<A>,
     number: u64,
     count: u64,
 ) -> Option<bool>
@@ -81,7 +87,7 @@ pub fn outlast<A: Low + Copy, R: Wait>(
 /// memory was refused.
 pub fn tell<A: Low + Copy + Send + Sync, R: Threads + Wait + Sync>(
     rt: &R,
-    set: &GrowingSet<u64, NumberLaw, A>,
+    set: &Numbers<A>,
     a: u64,
     b: u64,
     more: u64,
@@ -92,12 +98,12 @@ pub fn tell<A: Low + Copy + Send + Sync, R: Threads + Wait + Sync>(
     let two = set.known();
     let (one, two) = join(
         rt,
-        || -> Option<Known<u64, NumberLaw, A>>
+        || -> Option<KnownNumbers<A>>
             requires { one.of ≡ set.now }
             ensures of { IfSome result (λ k. k.of ≡ set.entry.now) }
             ensures there { IfSome result (λ k. IsThere same_number k.history a) }
         { put(rt, set, one, a) },
-        || -> Option<Known<u64, NumberLaw, A>>
+        || -> Option<KnownNumbers<A>>
             requires { two.of ≡ set.now }
             ensures of { IfSome result (λ k. k.of ≡ set.entry.now) }
             ensures there { IfSome result (λ k. IsThere same_number k.history b) }

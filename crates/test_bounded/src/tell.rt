@@ -1,6 +1,5 @@
 //! Two threads place a value each, and who was told of both finds both.
 ghost use Rattle.std.specs.Prelude.{◌≡◌, true, IfSome};
-ghost use Rattle.table_terms.specs.Laws.{same_number};
 ghost use Rattle.test_bounded.specs.Told.{Has};
 
 use std::marker::{Send, Sync};
@@ -49,24 +48,9 @@ pub fn tell<A: Low + Copy + Send + Sync, R: Threads + Sync>(
 ) -> Option<(bool, bool)>
     ensures { IfSome result (λ r. (r.0 ≡ true) × (r.1 ≡ true)) }
 {
-    let one = set.known();
-    let two = set.known();
-    let (one, two) = join(
-        rt,
-        || -> Option<Known<u64, NumberLaw>>
-            requires { one.of ≡ set.now }
-            ensures of { IfSome result (λ k. k.of ≡ set.entry.now) }
-            ensures there { IfSome result (λ k. Has same_number k.history a) }
-        { put(set, one, a) },
-        || -> Option<Known<u64, NumberLaw>>
-            requires { two.of ≡ set.now }
-            ensures of { IfSome result (λ k. k.of ≡ set.entry.now) }
-            ensures there { IfSome result (λ k. Has same_number k.history b) }
-        { put(set, two, b) },
-    );
+    let (one, two) = join(rt, || put(set, set.known(), a), || put(set, set.known(), b));
     let mut known = one?;
-    let other = two?;
-    known.learn(&other);
+    known.learn(&two?);
     let first = find(set, &known, &a);
     let second = find(set, &known, &b);
     Some((first, second))
