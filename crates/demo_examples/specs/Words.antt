@@ -13,13 +13,7 @@ abbrev pub word_hash : ℕ → ℕ
 word_hash a = a % 2 ^ 64
 
 pub words_lawful : IsLaw same_word word_hash
-words_lawful = record {
-  reflexive = λ a. grind (arith, common_steps);
-  symmetric = λ a b h. grind (arith, common_steps);
-  transitive = λ a b c h k. grind (arith, common_steps);
-  small = λ a. grind (arith, common_steps);
-  agrees = λ a b h. grind (arith, common_steps);
-}
+words_lawful = grind (arith, common_steps)
 
 -- the table is lawful for words, which its values lead to
 abbrev pub HoldsWords : {T : Type 0} → (T → ℕ) → HeldTable T → Type 0

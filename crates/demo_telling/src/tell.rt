@@ -1,7 +1,8 @@
 //! Two threads place a value each while the set grows, and who was told of both finds both.
 ghost use Rattle.std.specs.Prelude.{◌≡◌, true, IfSome};
 ghost use Rattle.table_terms.specs.Laws.{same_number};
-ghost use Rattle.table_growing.specs.Known.{KnowsMore};
+ghost use Rattle.table_bounded.specs.History.{IsCarried};
+ghost use Rattle.table_bounded.specs.Sets.{KnowsMore};
 ghost use Rattle.demo_telling.specs.Told.{IsThere};
 
 use std::marker::{Send, Sync};
@@ -19,7 +20,7 @@ pub fn put<V: Drop, L: SetLaw<V>, A: Low + Copy, R: Wait>(
     value: V,
 ) -> Option<Known<V, L, A>>
     requires of { known.of ≡ set.now }
-    ensures more { IfSome result (λ k. KnowsMore known k) }
+    ensures more { IfSome result (λ k. KnowsMore IsCarried known k) }
     ensures there { IfSome result (λ k. IsThere L.same k.history value) }
 {
     let mut known = known;
@@ -58,7 +59,7 @@ pub fn put_below<A: Low + Copy, R: Wait>(
     count: u64,
 ) -> Option<KnownNumbers<A>>
     requires of { known.of ≡ set.now }
-    ensures { IfSome result (λ k. KnowsMore known k) }
+    ensures { IfSome result (λ k. KnowsMore IsCarried known k) }
 {
     let mut known = known;
     for number in 0..count {

@@ -14,7 +14,7 @@ use Rattle.table_tied.specs.Tied.{Lasting}
 use Rattle.table_bounded.specs.declared.event.Event.{Event}
 use Rattle.table_bounded.specs.declared.event.Stored.{Stored}
 use Rattle.table_bounded.specs.declared.event.Stored.TheVariants.{Entry, Closed}
-use Rattle.table_bounded.specs.History.{event, Has, IsUntouched, HasSize, size_of, IsFull, IsStored, History, Stands, IsFree, stored_then, entries, NonePasses, HasPassed, Reaches, Fits, IsReached}
+use Rattle.table_bounded.specs.History.{event, Has, IsUntouched, HasSize, size_of, IsFull, IsStored, History, Stands, IsFree, IsEntry, stored_then, entries, NonePasses, HasPassed, Reaches, Fits, IsReached}
 
 pub false_unless : {b : Bool} → (b ≡ true → ⊥) → b ≡ false
 false_unless {b} never = elim (cases_Bool b) [
@@ -169,8 +169,8 @@ module _ {V : Type 0} where
 
     -- a probe for a hash that ends at an empty bucket, or after a whole turn, shows that no entry of that hash passes the test
     pub none_beyond : (n k h : ℕ) (test : V → Bool) (log : History V) → HasSize n log → IsReached same hash log → ((v : V) → test v ≡ true → hash v ≡ h) → HasPassed n log test h k
-        → (k < n → IsFree log (bucket_at n h k)) → NonePasses test log
-    none_beyond n k h test log size r hashes passed stop p v there = false_unless (λ passes.
+        → (k < n → IsFree log (bucket_at n h k)) → NonePasses test (IsEntry log)
+    none_beyond n k h test log size r hashes passed stop v (p, there) = false_unless (λ passes.
         let is : hash v ≡ h = hashes v passes in let x = reached_at n p v log size r there in elim (cases_lt x.0 k) [
           | inl before ↦
               (let z = passed x.0 before in let place : bucket_at n h x.0 ≡ p = ap (λ (a : ℕ). bucket_at n a x.0) (sym is) ∙ x.2 in

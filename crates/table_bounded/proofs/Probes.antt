@@ -6,7 +6,7 @@ use base.Growing.{prefix_trans}
 use Rattle.table_terms.specs.Laws.{IsLaw}
 use Rattle.table_terms.specs.Probes.{bucket_at}
 use Rattle.table_bounded.specs.declared.event.Stored.TheVariants.{Entry}
-use Rattle.table_bounded.specs.History.{History, Stands, IsFree, IsUntouched, HasSize, NonePasses, Reaches, IsReached, Adds}
+use Rattle.table_bounded.specs.History.{History, Stands, IsFree, IsUntouched, HasSize, IsEntry, NonePasses, Reaches, IsReached, Adds}
 use Rattle.table_bounded.specs.Sets.{SetView, Goes, IsPlaced}
 use Rattle.table_bounded.proofs.Histories.{size_on, untouched_free, passed_on, passed_more, none_beyond}
 
@@ -34,12 +34,12 @@ module _ {V : Type 0} (test : V → Bool) (t : SetView) (h : ℕ) where
 
   module _ (same : V → V → Bool) (hash : V → ℕ) (agrees : (v : V) → test v ≡ true → hash v ≡ h) where
     -- the probe ends at an empty bucket
-    pub goes_none : (old log new : History V) (index tried : ℕ) → Goes test t h old index tried log → IsPrefix log new → HasSize t.size new → IsReached same hash new → IsFree new index → NonePasses test new
+    pub goes_none : (old log new : History V) (index tried : ℕ) → Goes test t h old index tried log → IsPrefix log new → HasSize t.size new → IsReached same hash new → IsFree new index → NonePasses test (IsEntry new)
     goes_none old log new index tried go more size reached free = none_beyond same hash t.size tried h test new size reached agrees (passed_on t.size tried h test log new more go.passed)
         (λ lt. subst (IsFree new) (sym go.at) free)
 
     -- the probe ends after a whole turn
-    pub goes_round : (old log : History V) (index tried : ℕ) → Goes test t h old index tried log → t.size ≤ tried → HasSize t.size log → IsReached same hash log → NonePasses test log
+    pub goes_round : (old log : History V) (index tried : ℕ) → Goes test t h old index tried log → t.size ≤ tried → HasSize t.size log → IsReached same hash log → NonePasses test (IsEntry log)
     goes_round old log index tried go all size reached = none_beyond same hash t.size tried h test log size reached agrees go.passed (λ lt. absurd (omega arith))
 
 module _ {V : Type 0} (same : V → V → Bool) (hash : V → ℕ) (t : SetView) (v : V) where
@@ -47,7 +47,7 @@ module _ {V : Type 0} (same : V → V → Bool) (hash : V → ℕ) (t : SetView)
   goes_reaches old log index tried go inside = (tried, inside, go.at, go.passed)
 
   -- the value was placed at the end of the probe
-  pub goes_placed : (law : IsLaw same hash) (old log new : History V) (index tried : ℕ) → Goes (same v) t (hash v) old index tried log → HasSize t.size log → Adds same hash (Entry v) index log new → IsPlaced same v old new
+  pub goes_placed : (law : IsLaw same hash) (old log new : History V) (index tried : ℕ) → Goes (same v) t (hash v) old index tried log → HasSize t.size log → Adds same hash (Entry v) index log new → IsPlaced same IsPrefix v old new
   goes_placed law old log new index tried go size adds = let mid : History V = adds.0 in record {
     place = index;
     before = mid;

@@ -13,19 +13,19 @@ use Rattle.table_tied.specs.Tied.{Sets, Looks}
 use Rattle.table_bounded.specs.declared.event.Event.{Event}
 use Rattle.table_bounded.specs.declared.event.Stored.{Stored}
 use Rattle.table_bounded.specs.declared.event.Stored.TheVariants.{Entry, Closed}
-use Rattle.table_bounded.specs.History.{event, Has, IsUntouched, HasSize, History, entries, NonePasses, Reaches, Fits, IsKept, Adds, Lacks}
+use Rattle.table_bounded.specs.History.{event, Has, IsUntouched, HasSize, History, entries, IsEntry, NonePasses, Reaches, Fits, IsKept, Adds, Lacks}
 use Rattle.table_bounded.proofs.Rows.{row_adds, row_first}
 use Rattle.table_bounded.proofs.Histories.{nothing_first, size_agrees, size_on, has_push, untouched_free, entries_push, entries_closed, among_stands, reaches_on, fits_on, none_beyond}
 
 module _ {V : Type 0} (same : V → V → Bool) (hash : V → ℕ) (law : IsLaw same hash) where
   -- where a probe for the value ends at an empty bucket, nothing is the same
-  none_yet : (cs : List Cell) (log : History V) (p : ℕ) (v : V) → IsKept same hash cs log → IsUntouched log p → Reaches same hash (length cs) log v p → NonePasses (same v) log
+  none_yet : (cs : List Cell) (log : History V) (p : ℕ) (v : V) → IsKept same hash cs log → IsUntouched log p → Reaches same hash (length cs) log v p → NonePasses (same v) (IsEntry log)
   none_yet cs log p v t free at = none_beyond same hash (length cs) at.0 (hash v) (same v) log t.size (cs, t) (λ w is. sym (law.agrees v w is)) at.3 (λ lt. untouched_free log (bucket_at (length cs) (hash v) at.0) (subst (IsUntouched log) (sym at.2) free))
 
   -- what is stored in an empty bucket where it fits leaves the entries apart
   apart_push : (cs : List Cell) (log : History V) (p : ℕ) (s : Stored V) → IsKept same hash cs log → IsUntouched log p → Fits same hash (length cs) log s p → AllApart same (entries (log ++ event p (Some s) ∷ []))
-  apart_push cs log p (Entry v) t free fits = let none : NonePasses (same v) log = none_yet cs log p v t free fits in
-      subst (AllApart same) (sym (entries_push log p v)) (apart_more (λ (u : V). u) same hash law (entries log) t.apart v (λ w among. let s = among_stands log w among in none s.0 w s.1))
+  apart_push cs log p (Entry v) t free fits = let none : NonePasses (same v) (IsEntry log) = none_yet cs log p v t free fits in
+      subst (AllApart same) (sym (entries_push log p v)) (apart_more (λ (u : V). u) same hash law (entries log) t.apart v (λ w among. none w (among_stands log w among)))
   apart_push cs log p Closed t free fits = subst (AllApart same) (sym (entries_closed log p)) t.apart
 
   -- something is stored in an empty bucket where it fits

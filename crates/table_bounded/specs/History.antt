@@ -69,13 +69,17 @@ module _ {V : Type 0} where
   entries [] = []
   entries (e ∷ es) = stored_then e.value (entries es)
 
-  -- no entry passes the test
-  abbrev pub NonePasses : (V → Bool) → History V → Type 0
-  NonePasses test log = (p : ℕ) (v : V) → Stands log p v → test v ≡ false
+  -- v was placed in some bucket
+  abbrev pub IsEntry : History V → V → Type 0
+  IsEntry log v = (p : ℕ) × Stands log p v
 
-  -- an entry that passes the test
-  abbrev pub Passes : (V → Bool) → History V → V → Type 0
-  Passes test log v = (test v ≡ true) × ((p : ℕ) × Stands log p v)
+  -- of the values that are known, none passes the test
+  abbrev pub NonePasses : (V → Bool) → (V → Type 0) → Type 0
+  NonePasses test IsKnown = (v : V) → IsKnown v → test v ≡ false
+
+  -- one that is known, and that passes the test
+  abbrev pub Passes : (V → Bool) → (V → Type 0) → V → Type 0
+  Passes test IsKnown v = (test v ≡ true) × IsKnown v
 
   -- each entry of the one is an entry of the other
   abbrev pub IsCarried : History V → History V → Type 0

@@ -12,7 +12,7 @@ use Rattle.table_bounded.specs.declared.placing.Claim.{Claim}
 use Rattle.table_bounded.specs.declared.placing.Claim.TheVariants as claim
 use Rattle.table_bounded.specs.declared.placing.Placing.{Placing}
 use Rattle.table_bounded.specs.declared.placing.Placing.TheVariants as placing
-use Rattle.table_bounded.specs.History.{event, History, Has, IsUntouched, Stands, HasSize, size_of, NonePasses, Passes, HasPassed, IsReached, Adds}
+use Rattle.table_bounded.specs.History.{event, History, Has, IsUntouched, Stands, HasSize, IsEntry, NonePasses, Passes, HasPassed, IsReached, Adds}
 
 -- which set it is, and how many buckets it has
 pub record SetView : Type 0 where
@@ -23,16 +23,16 @@ abbrev pub set_view : Book → ℕ → SetView
 set_view b n = record { book = b; size = n }
 
 -- of which set a thread knows, and the history that it has seen
-pub record KnownView (V : Type 0) : Type 0 where
-  pub of : SetView
-  pub history : History V
+pub record KnownView (S H : Type 0) : Type 0 where
+  pub of : S
+  pub history : H
 
-abbrev pub known_view : {V : Type 0} → Book → History V → KnownView V
-known_view b log = record { of = set_view b (size_of log); history = log }
+abbrev pub known_view : {S H : Type 0} → S → H → KnownView S H
+known_view s log = record { of = s; history = log }
 
--- from one to the other nothing is forgotten
-abbrev pub KnowsMore : {V : Type 0} → KnownView V → KnownView V → Type 0
-KnowsMore old new = (new.of ≡ old.of) × IsPrefix old.history new.history
+-- it is of the same set, and the history that was seen before goes on to the one seen later
+abbrev pub KnowsMore : {S H : Type 0} → (H → H → Type 0) → KnownView S H → KnownView S H → Type 0
+KnowsMore GoesOn old new = (new.of ≡ old.of) × GoesOn old.history new.history
 
 -- which generation it is, how many buckets it has, the home of its blocks, the history that it was made with, and which
 -- buckets' blocks belong to an earlier generation
@@ -141,26 +141,32 @@ module _ {V : Type 0} (same : V → V → Bool) where
     pub all : HasOwn lent old taken
     pub apart : AllApart same taken
 
-  -- the value is placed behind all that was known, and nothing before it is the same
-  pub record IsPlaced (v : V) (old new : History V) : Type 0 where
-    pub place : ℕ
-    pub before : History V
-    pub known : IsPrefix old before
-    pub none : NonePasses (same v) before
-    pub then : new ≡ before ++ event place (Some (Entry v)) ∷ []
+  -- what an insert answers, by how the value is placed and which values are known after
+  abbrev pub InsertTells : V → Type 0 → (V → Type 0) → Placing V → Type 0
+  InsertTells v Placed IsKnown (placing.Placed e) = (e.now ≡ v) × Placed
+  InsertTells v Placed IsKnown (placing.Found e back) =
+      (back ≡ v) × Passes (same v) IsKnown e.now
+  InsertTells v Placed IsKnown (placing.Full back) = (back ≡ v) × NonePasses (same v) IsKnown
+  InsertTells v Placed IsKnown (placing.NoMemory back) = (back ≡ v) × NonePasses (same v) IsKnown
 
-  -- what an insert answers, by the histories that its caller knew before and knows after
-  abbrev pub Inserts : V → History V → History V → Placing V → Type 0
-  Inserts v old new (placing.Placed e) = (e.now ≡ v) × IsPlaced v old new
-  Inserts v old new (placing.Found e back) = (back ≡ v) × Passes (same v) new e.now
-  Inserts v old new (placing.Full back) = (back ≡ v) × NonePasses (same v) new
-  Inserts v old new (placing.NoMemory back) = (back ≡ v) × NonePasses (same v) new
+  module _ (GoesOn : History V → History V → Type 0) where
+    -- the value is placed in a history that the known one goes on to, and nothing before it is the same
+    pub record IsPlaced (v : V) (old new : History V) : Type 0 where
+      pub place : ℕ
+      pub before : History V
+      pub known : GoesOn old before
+      pub none : NonePasses (same v) (IsEntry before)
+      pub then : new ≡ before ++ event place (Some (Entry v)) ∷ []
+
+    -- what an insert answers, by the histories that its caller knew before and knows after
+    abbrev pub Inserts : V → History V → History V → Placing V → Type 0
+    Inserts v old new r = InsertTells v (IsPlaced v old new) (IsEntry new) r
 
 module _ {V : Type 0} (test : V → Bool) where
-  -- what a look-up shows, by the history that its caller knows after
-  abbrev pub Finds : History V → Option (Bor V) → Type 0
-  Finds log (Some e) = Passes test log e.now
-  Finds log None = NonePasses test log
+  -- what a look-up shows, by which values its caller knows after
+  abbrev pub Finds : (V → Type 0) → Option (Bor V) → Type 0
+  Finds IsKnown (Some e) = Passes test IsKnown e.now
+  Finds IsKnown None = NonePasses test IsKnown
 
   -- a probe for this hash that began at the history `old` has passed this many buckets
   pub record Goes (t : SetView) (h : ℕ) (old : History V) (index tried : ℕ)

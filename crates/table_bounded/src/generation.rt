@@ -3,18 +3,18 @@ ghost use Rattle.std.specs.Prelude.{◌≡◌, ◌<◌, [], IfOk, MatchOption, S
 ghost use Rattle.std.specs.Int.{IsPowerOfTwo};
 ghost use mathlib.Core.List.{IsPrefix};
 ghost use Rattle.table_bounded.specs.declared.event.Stored.TheVariants.{Entry};
-ghost use Rattle.table_bounded.specs.History.{Stands, Has, IsFree, IsFull, IsUntouched, Reaches};
+ghost use Rattle.table_bounded.specs.History.{Stands, Has, IsEntry, IsFree, IsFull, IsUntouched, Reaches};
 ghost use Rattle.table_bounded.specs.Sets.{IsOf, Claims, Inserts, IsFullBy, Finds};
 
 use crate::event::Stored;
 use crate::placing::{Claim, Placing};
 use crate::rule::{SetRule, Token, Word, settle};
-use crate::sought::{MetBy, SameAs, Sought};
+use crate::sought::Sought;
 use logbook::Start;
 use std::alloc::AllocError;
-use std::marker::{Model, PhantomData};
+use std::marker::Model;
 use table_cell::{Home, Low};
-use table_sets::{KeyLaw, SetLaw};
+use table_sets::SetLaw;
 use table_terms::probe::{first_bucket, next_bucket};
 use table_tied::BlockName;
 
@@ -140,7 +140,7 @@ impl<V, L: SetLaw<V>, A: Low + Copy> Generation<V, L, A> {
     }
 
     /// What is sought, if it is an entry.
-    fn seek<'a, S: Sought<V, L>>(
+    pub fn seek<'a, S: Sought<V, L>>(
         &'a self,
         home: &'a Home,
         seen: &mut Token<V, L>,
@@ -150,7 +150,7 @@ impl<V, L: SetLaw<V>, A: Low + Copy> Generation<V, L, A> {
         requires home { home.now.id ≡ self.now.home }
         ensures of { IsOf L.same L.hash_of self.now.of seen.new.book seen.new.log }
         ensures longer { IsPrefix seen.old.log seen.new.log }
-        ensures finds { Finds (S.accepts sought.now) seen.new.log result }
+        ensures finds { Finds (S.accepts sought.now) (IsEntry seen.new.log) result }
     {
         let count = self.buckets();
         let mut index = first_bucket(sought.hash(), count);
@@ -164,43 +164,6 @@ impl<V, L: SetLaw<V>, A: Low + Copy> Generation<V, L, A> {
             index = next_bucket(index, count);
         }
         None
-    }
-
-    /// An entry that is the same as the target.
-    pub fn find<'a>(&'a self, home: &'a Home, seen: &mut Token<V, L>, target: &V) -> Option<&'a V>
-        requires of { IsOf L.same L.hash_of self.now.of seen.old.book seen.old.log }
-        requires home { home.now.id ≡ self.now.home }
-        ensures of { IsOf L.same L.hash_of self.now.of seen.new.book seen.new.log }
-        ensures longer { IsPrefix seen.old.log seen.new.log }
-        ensures finds { Finds (L.same target.now) seen.new.log result }
-    {
-        let same = SameAs {
-            target,
-            law: PhantomData,
-        };
-        self.seek(home, seen, &same)
-    }
-
-    /// An entry that meets the key.
-    pub fn find_by_key<'a, K>(
-        &'a self,
-        home: &'a Home,
-        seen: &mut Token<V, L>,
-        key: &K,
-    ) -> Option<&'a V>
-    where
-        L: KeyLaw<K, V>,
-        requires of { IsOf L.same L.hash_of self.now.of seen.old.book seen.old.log }
-        requires home { home.now.id ≡ self.now.home }
-        ensures of { IsOf L.same L.hash_of self.now.of seen.new.book seen.new.log }
-        ensures longer { IsPrefix seen.old.log seen.new.log }
-        ensures finds { Finds (L.meets key.now) seen.new.log result }
-    {
-        let met = MetBy {
-            key,
-            law: PhantomData,
-        };
-        self.seek(home, seen, &met)
     }
 }
 
@@ -253,7 +216,7 @@ impl<V: Drop, L: SetLaw<V>, A: Low + Copy> Generation<V, L, A> {
         requires home { home.now.id ≡ self.now.home }
         ensures of { IsOf L.same L.hash_of self.now.of seen.new.book seen.new.log }
         ensures longer { IsPrefix seen.old.log seen.new.log }
-        ensures told { Inserts L.same value seen.old.log seen.new.log result }
+        ensures told { Inserts L.same IsPrefix value seen.old.log seen.new.log result }
         ensures full { IsFullBy L.same L.hash_of self.now.of.size value seen.new.log result }
     {
         let count = self.buckets();

@@ -18,12 +18,12 @@ pub struct Known<V, L: SetLaw<V>> {
 }
 
 impl<V, L: SetLaw<V>> Model for Known<V, L> {
-    ghost use Rattle.table_bounded.specs.History.{size_of, HasSize, IsReached};
-    ghost use Rattle.table_bounded.specs.Sets.{KnownView, known_view};
+    ghost use Rattle.table_bounded.specs.History.{History, size_of, HasSize, IsReached};
+    ghost use Rattle.table_bounded.specs.Sets.{SetView, set_view, KnownView, known_view};
 
-    ghost Value = { KnownView V };
+    ghost Value = { KnownView SetView (History V) };
 
-    ghost view = { λ k. known_view k.seen.book k.seen.log };
+    ghost view = { λ k. known_view (set_view k.seen.book (size_of k.seen.log)) k.seen.log };
 
     ghost invariant = { λ k. HasSize (size_of k.seen.log) k.seen.log
         × IsReached L.same L.hash_of k.seen.log };
@@ -42,7 +42,7 @@ impl<V, L: SetLaw<V>> Known<V, L> {
     /// From now on this one knows what the other one of the same set does.
     pub fn learn(&mut self, other: &Known<V, L>)
         requires { other.now.of ≡ self.old.of }
-        ensures mine { KnowsMore self.old self.new }
+        ensures mine { KnowsMore IsPrefix self.old self.new }
         ensures others { IsPrefix other.now.history self.new.history }
     {
         self.seen.learn(&other.seen)

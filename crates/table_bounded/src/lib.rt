@@ -21,3 +21,4 @@ pub use known::Known;
 pub use placing::Placing;
 pub use rule::{SetRule, Token};
 pub use set::BoundedSet;
+pub use sought::{MetBy, SameAs, Sought};

@@ -1,12 +1,15 @@
 //! The set of a fixed size.
 ghost use Rattle.std.specs.Prelude.{◌≡◌, IfOk, IfErr};
 ghost use Rattle.std.specs.Int.{IsPowerOfTwo};
+ghost use mathlib.Core.List.{IsPrefix};
 ghost use Rattle.table_terms.specs.Laws.{AllApart};
+ghost use Rattle.table_bounded.specs.History.{IsEntry};
 ghost use Rattle.table_bounded.specs.Sets.{KnowsMore, HasAll, WerePlaced, Inserts, IsFullBy, Finds};
 
 use crate::generation::Generation;
 use crate::known::Known;
 use crate::placing::Placing;
+use crate::sought::{MetBy, SameAs};
 use crate::words::{drop_values, take_values};
 use std::alloc::{AllocError, Global};
 use std::marker::Model;
@@ -76,10 +79,11 @@ impl<V, L: SetLaw<V>, A: Low + Copy> BoundedSet<V, L, A> {
     /// nothing but what is known.
     pub fn get(&self, known: &mut Known<V, L>, target: &V) -> Option<&V>
         requires of { known.old.of ≡ self.now }
-        ensures known { KnowsMore known.old known.new }
-        ensures finds { Finds (L.same target.now) known.new.history result }
+        ensures known { KnowsMore IsPrefix known.old known.new }
+        ensures finds { Finds (L.same target.now) (IsEntry known.new.history) result }
     {
-        self.generation.find(&self.home, &mut known.seen, target)
+        self.generation
+            .seek(&self.home, &mut known.seen, &SameAs { target })
     }
 
     /// An entry that meets the key, or None: then none does that its caller knew of. It takes no memory and changes nothing but
@@ -88,11 +92,11 @@ impl<V, L: SetLaw<V>, A: Low + Copy> BoundedSet<V, L, A> {
     where
         L: KeyLaw<K, V>,
         requires of { known.old.of ≡ self.now }
-        ensures known { KnowsMore known.old known.new }
-        ensures finds { Finds (L.meets key.now) known.new.history result }
+        ensures known { KnowsMore IsPrefix known.old known.new }
+        ensures finds { Finds (L.meets key.now) (IsEntry known.new.history) result }
     {
         self.generation
-            .find_by_key(&self.home, &mut known.seen, key)
+            .seek(&self.home, &mut known.seen, &MetBy { key })
     }
 }
 
@@ -105,8 +109,8 @@ impl<V: Drop, L: SetLaw<V>, A: Low + Copy> BoundedSet<V, L, A> {
     /// back, and `known` has learned what the call met.
     pub fn insert(&self, known: &mut Known<V, L>, value: V) -> Placing<'_, V>
         requires of { known.old.of ≡ self.now }
-        ensures known { KnowsMore known.old known.new }
-        ensures told { Inserts L.same value known.old.history known.new.history result }
+        ensures known { KnowsMore IsPrefix known.old known.new }
+        ensures told { Inserts L.same IsPrefix value known.old.history known.new.history result }
         ensures full { IsFullBy L.same L.hash_of self.now.size value known.new.history result }
     {
         self.generation.place(&self.home, &mut known.seen, value)
@@ -116,7 +120,7 @@ impl<V: Drop, L: SetLaw<V>, A: Low + Copy> BoundedSet<V, L, A> {
     /// among them, and it knows of each. It takes one block of memory. Where that is refused, the set comes back as it was.
     pub fn into_values(self, known: &mut Known<V, L>) -> Result<Vec<V, A>, Self>
         requires of { known.old.of ≡ self }
-        ensures known { KnowsMore known.old known.new }
+        ensures known { KnowsMore IsPrefix known.old known.new }
         ensures placed { IfOk result (λ values. WerePlaced known.new.history values.items) }
         ensures all { IfOk result (λ values. HasAll known.old.history values.items) }
         ensures apart { IfOk result (λ values. AllApart L.same values.items) }

@@ -2,11 +2,10 @@
 ghost use Rattle.std.specs.Prelude.{◌≡◌, ℕ, Bool, true};
 ghost use Rattle.std.proofs.Common.{sym};
 
-use std::marker::PhantomData;
 use table_sets::{KeyLaw, SetLaw};
 
 /// What a look-up looks for: a hash, and a test that no entry of another hash passes.
-pub(crate) trait Sought<V, L: SetLaw<V>> {
+pub trait Sought<V, L: SetLaw<V>> {
     ghost accepts: { Self → V → Bool };
 
     ghost sought_hash: { Self → ℕ };
@@ -24,12 +23,11 @@ pub(crate) trait Sought<V, L: SetLaw<V>> {
 
 /// An entry that is the same as a target.
 #[derive(Drop)]
-pub(crate) struct SameAs<'a, V, L> {
-    pub(crate) target: &'a V,
-    pub(crate) law: PhantomData<L>,
+pub struct SameAs<'a, V> {
+    pub target: &'a V,
 }
 
-impl<V, L: SetLaw<V>> Sought<V, L> for SameAs<'_, V, L> {
+impl<V, L: SetLaw<V>> Sought<V, L> for SameAs<'_, V> {
     ghost accepts = { λ s. L.same s.target.now };
 
     ghost sought_hash = { λ s. L.hash_of s.target.now };
@@ -47,12 +45,11 @@ impl<V, L: SetLaw<V>> Sought<V, L> for SameAs<'_, V, L> {
 
 /// An entry that meets a key.
 #[derive(Drop)]
-pub(crate) struct MetBy<'a, K, L> {
-    pub(crate) key: &'a K,
-    pub(crate) law: PhantomData<L>,
+pub struct MetBy<'a, K> {
+    pub key: &'a K,
 }
 
-impl<K, V, L: KeyLaw<K, V>> Sought<V, L> for MetBy<'_, K, L> {
+impl<K, V, L: KeyLaw<K, V>> Sought<V, L> for MetBy<'_, K> {
     ghost accepts = { λ s. L.meets s.key.now };
 
     ghost sought_hash = { λ s. L.key_hash s.key.now };

@@ -1,23 +1,25 @@
 -- What is known of a generation goes over to the next one.
-use Rattle.std.proofs.Common.{◌≡◌, ℕ, Bool, sym, ap, subst, ◌∙◌, arith, inl, inr}
+use Rattle.std.proofs.Common.{◌≡◌, ℕ, Bool, Some, sym, ap, subst, ◌∙◌, arith, inl, inr}
+use Rattle.std.proofs.lemmas.List.Elements.{Contains-push}
 use mathlib.Core.List.{IsPrefix}
 use Rattle.table_bounded.specs.declared.event.Stored.TheVariants.{Entry}
-use Rattle.table_bounded.specs.History.{History, Has, HasSize, NonePasses, size_of, IsCarried, IsReached, Stands}
+use Rattle.table_bounded.specs.History.{History, event, Has, HasSize, IsEntry, NonePasses, size_of, IsCarried, IsReached, Stands}
 use Rattle.table_bounded.proofs.Histories.{has_on, stands_on, size_on, size_is, full_says}
 use Rattle.table_growing.specs.Chain.{Chain, SlotView, IsReachedChain, IsHeir}
-use Rattle.table_growing.specs.Known.{GrowingView, growing_view, KnownView, known_view, KnowsMore, IsAt, IsFurther}
+use Rattle.table_growing.specs.Known.{GrowingView, growing_view, GrowingKnownView, IsAt, IsFurther}
 use Rattle.logbook.specs.Pages.{Book}
 use Rattle.table_bounded.specs.declared.placing.Placing.{Placing}
 use Rattle.table_bounded.specs.declared.placing.Placing.TheVariants as placing
-use Rattle.table_bounded.specs.Sets.{IsOf, IsSpent, IsFullBy}
-use Rattle.table_bounded.specs.Sets as bounded
-use Rattle.table_growing.specs.Known as growing
+use Rattle.table_bounded.specs.Sets.{known_view, KnowsMore, IsOf, IsPlaced, Inserts, IsSpent, IsFullBy}
 use Rattle.table_growing.proofs.Chains.{home_in_chain}
 use Rattle.std.specs.Prelude.{List}
 
 module _ {V : Type 0} where
   pub carried_trans : (a b c : History V) → IsCarried a b → IsCarried b c → IsCarried a c
   carried_trans a b c one other p v there = let mid = one p v there in other mid.0 v mid.1
+
+  pub knows_trans : (a b c : GrowingKnownView V) → KnowsMore IsCarried a b → KnowsMore IsCarried b c → KnowsMore IsCarried a c
+  knows_trans a b c one other = (other.0 ∙ one.0, carried_trans a.history b.history c.history one.1 other.1)
 
   pub carried_longer : (a b : History V) → IsPrefix a b → IsCarried a b
   carried_longer a b on p v there = (p, stands_on a b p v on there)
@@ -67,8 +69,9 @@ module _ {V : Type 0} (same : V → V → Bool) (hash : V → ℕ) where
     one_generation j other_b other is at other_at = let one : at.slot ≡ other_at.slot = at.reached.1.row.once j at.slot other_at.slot (subst (λ (n : ℕ). Has chain n at.slot) is at.shown) other_at.shown in
         at.of.0 ∙ (ap (λ (s : SlotView V). s.of.of.book) one ∙ sym other_at.of.0)
 
-    pub knows_more : (k : KnownView V) (old_cb : Book) (old_chain : Chain V) (old new : History V) → known_view old_cb old_chain old ≡ k → k.of ≡ g → IsAt same hash g i cb chain b log → IsCarried old new → KnowsMore k (known_view cb chain new)
-    knows_more k old_cb old_chain old new is of at carried = (sym (at_known at) ∙ sym of, subst (λ (h : History V). IsCarried h new) (ap (λ (v : KnownView V). v.history) is) carried)
+    pub knows_more : (k : GrowingKnownView V) (old_cb : Book) (old_chain : Chain V) (old new : History V) → known_view (growing_view old_cb (size_of old_chain)) old ≡ k → k.of ≡ g → IsAt same hash g i cb chain b log → IsCarried old new
+        → KnowsMore IsCarried k (known_view (growing_view cb (size_of chain)) new)
+    knows_more k old_cb old_chain old new is of at carried = (sym (at_known at) ∙ sym of, subst (λ (h : History V). IsCarried h new) (ap (λ (v : GrowingKnownView V). v.history) is) carried)
 
 pub same_number : (mine theirs one two : ℕ) → IsFurther mine theirs one → IsFurther theirs one two → one ≡ two
 same_number mine theirs one two first second = elim second.2 [
@@ -77,43 +80,36 @@ same_number mine theirs one two first second = elim second.2 [
 ]
 
 module _ {V : Type 0} (same : V → V → Bool) where
-  -- what a generation answers, by what was known before it was come to
-  pub places_here : (r : Placing V) (v : V) (old mid new : History V) → IsCarried old mid → bounded.Inserts same v mid new r → growing.Inserts same v old new r
-  places_here (placing.Placed e) v old mid new carried (is, it) = (
-    is,
-    record {
-      place = it.place;
-      before = it.before;
-      known = carried_trans old mid it.before carried (carried_longer mid it.before it.known);
-      none = it.none;
-      then = it.then;
-    },
-  )
-  places_here (placing.Found e back) v old mid new carried told = told
-  places_here (placing.Full back) v old mid new carried told = told
-  places_here (placing.NoMemory back) v old mid new carried told = told
+  -- what was known before is carried to what was known at the insert
+  placed_from : (GoesOn : History V → History V → Type 0) → ((a b : History V) → GoesOn a b → IsCarried a b) → (v : V) (old mid new : History V) → IsCarried old mid → IsPlaced same GoesOn v mid new → IsPlaced same IsCarried v old new
+  placed_from GoesOn carries v old mid new carried it = record {
+    place = it.place;
+    before = it.before;
+    known = carried_trans old mid it.before carried (carries mid it.before it.known);
+    none = it.none;
+    then = it.then;
+  }
 
-  pub places_from : (r : Placing V) (v w : V) (old mid new : History V) → w ≡ v → IsCarried old mid → growing.Inserts same w mid new r → growing.Inserts same v old new r
-  places_from r v w old mid new is carried told = subst (λ (x : V). growing.Inserts same x old new r) is (go r told)
-    where
-      go : (r : Placing V) → growing.Inserts same w mid new r → growing.Inserts same w old new r
-      go (placing.Placed e) (is, it) = (
-        is,
-        record {
-          place = it.place;
-          before = it.before;
-          known = carried_trans old mid it.before carried it.known;
-          none = it.none;
-          then = it.then;
-        },
-      )
-      go (placing.Found e back) told = told
-      go (placing.Full back) told = told
-      go (placing.NoMemory back) told = told
+  -- what was placed is an entry
+  pub placed_is_entry : (v : V) (old new : History V) → IsPlaced same IsCarried v old new → IsEntry new v
+  placed_is_entry v old new it = (it.place, subst (λ (log : History V). Stands log it.place v) (sym it.then) (Contains-push it.before (event it.place (Some (Entry v)))))
+
+  inserts_from : (GoesOn : History V → History V → Type 0) → ((a b : History V) → GoesOn a b → IsCarried a b) → (r : Placing V) (v : V) (old mid new : History V) → IsCarried old mid → Inserts same GoesOn v mid new r → Inserts same IsCarried v old new r
+  inserts_from GoesOn carries (placing.Placed e) v old mid new carried (is, it) = (is, placed_from GoesOn carries v old mid new carried it)
+  inserts_from GoesOn carries (placing.Found e back) v old mid new carried told = told
+  inserts_from GoesOn carries (placing.Full back) v old mid new carried told = told
+  inserts_from GoesOn carries (placing.NoMemory back) v old mid new carried told = told
+
+  -- what a generation answers, by what was known before it was come to
+  pub places_here : (r : Placing V) (v : V) (old mid new : History V) → IsCarried old mid → Inserts same IsPrefix v mid new r → Inserts same IsCarried v old new r
+  places_here r v old mid new carried told = inserts_from IsPrefix carried_longer r v old mid new carried told
+
+  pub places_from : (r : Placing V) (v w : V) (old mid new : History V) → w ≡ v → IsCarried old mid → Inserts same IsCarried w mid new r → Inserts same IsCarried v old new r
+  places_from r v w old mid new is carried told = subst (λ (x : V). Inserts same IsCarried x old new r) is (inserts_from IsCarried (λ a b on. on) r w old mid new carried told)
 
 -- nothing known is the same as the value, and no bucket is left for it
 abbrev pub IsLeft : {V : Type 0} → (V → V → Bool) → (V → ℕ) → V → History V → Type 0
-IsLeft same hash v log = NonePasses (same v) log × IsSpent same hash (size_of log) v log
+IsLeft same hash v log = NonePasses (same v) (IsEntry log) × IsSpent same hash (size_of log) v log
 
 -- how an insert answers, by the number of buckets that its history begins with
 pub full_by_history : {V : Type 0} (same : V → V → Bool) (hash : V → ℕ) (n : ℕ) (v : V) (log : History V) (r : Placing V) → HasSize n log → IsFullBy same hash n v log r → IsFullBy same hash (size_of log) v log r

@@ -1,8 +1,8 @@
 //! Inserts into a set that grows.
 ghost use Rattle.std.specs.Prelude.{◌≡◌};
 ghost use Rattle.table_bounded.specs.History.{size_of, IsCarried};
-ghost use Rattle.table_bounded.specs.Sets.{IsFullBy};
-ghost use Rattle.table_growing.specs.Known.{KnowsMore, IsAt, Inserts};
+ghost use Rattle.table_bounded.specs.Sets.{KnowsMore, Inserts, IsFullBy};
+ghost use Rattle.table_growing.specs.Known.{IsAt};
 
 use crate::chain::GENERATIONS;
 use crate::cursor::Cursor;
@@ -22,7 +22,8 @@ impl<V: Drop, L: SetLaw<V>, A: Low + Copy> GrowingSet<V, L, A> {
         ensures at { IsAt L.same L.hash_of self.now cursor.new.number cursor.new.chain.book
             cursor.new.chain.log cursor.new.entries.book cursor.new.entries.log }
         ensures carried { IsCarried cursor.old.entries.log cursor.new.entries.log }
-        ensures told { Inserts L.same value cursor.old.entries.log cursor.new.entries.log result }
+        ensures told { Inserts L.same IsCarried value cursor.old.entries.log
+            cursor.new.entries.log result }
         ensures full { IsFullBy L.same L.hash_of (size_of cursor.new.entries.log) value
             cursor.new.entries.log result }
     {
@@ -49,7 +50,8 @@ impl<V: Drop, L: SetLaw<V>, A: Low + Copy> GrowingSet<V, L, A> {
         ensures at { IsAt L.same L.hash_of self.now cursor.new.number cursor.new.chain.book
             cursor.new.chain.log cursor.new.entries.book cursor.new.entries.log }
         ensures carried { IsCarried cursor.old.entries.log cursor.new.entries.log }
-        ensures told { Inserts L.same value cursor.old.entries.log cursor.new.entries.log result }
+        ensures told { Inserts L.same IsCarried value cursor.old.entries.log
+            cursor.new.entries.log result }
         ensures full { IsFullBy L.same L.hash_of (size_of cursor.new.entries.log) value
             cursor.new.entries.log result }
     {
@@ -83,8 +85,8 @@ impl<V: Drop, L: SetLaw<V>, A: Low + Copy> GrowingSet<V, L, A> {
     /// the set full until it has grown.
     pub fn insert<R: Wait>(&self, rt: &R, known: &mut Known<V, L, A>, value: V) -> Placing<'_, V>
         requires of { known.old.of ≡ self.now }
-        ensures known { KnowsMore known.old known.new }
-        ensures told { Inserts L.same value known.old.history known.new.history result }
+        ensures known { KnowsMore IsCarried known.old known.new }
+        ensures told { Inserts L.same IsCarried value known.old.history known.new.history result }
         ensures full { IsFullBy L.same L.hash_of (size_of known.new.history) value
             known.new.history result }
     {

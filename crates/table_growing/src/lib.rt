@@ -16,4 +16,4 @@ mod slot;
 
 pub use known::Known;
 pub use set::GrowingSet;
-pub use table_bounded::Placing;
+pub use table_bounded::{MetBy, Placing, SameAs, Sought};

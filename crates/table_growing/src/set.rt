@@ -3,10 +3,10 @@ ghost use Rattle.std.specs.Prelude.{◌≡◌, ◌+◌, ◌<◌, IfOk, IfErr, Ma
 ghost use Rattle.std.specs.Int.{IsPowerOfTwo};
 ghost use mathlib.Core.List.{IsPrefix};
 ghost use Rattle.table_terms.specs.Laws.{AllApart};
-ghost use Rattle.table_bounded.specs.History.{Has, IsUntouched, IsCarried};
-ghost use Rattle.table_bounded.specs.Sets.{IsOf, Finds, HasAll, WerePlaced};
+ghost use Rattle.table_bounded.specs.History.{Has, IsEntry, IsUntouched, IsCarried};
+ghost use Rattle.table_bounded.specs.Sets.{KnowsMore, IsOf, Finds, HasAll, WerePlaced};
 ghost use Rattle.table_growing.specs.Chain.{generations, IsReachedChain};
-ghost use Rattle.table_growing.specs.Known.{KnowsMore, IsAt, IsFurther};
+ghost use Rattle.table_growing.specs.Known.{IsAt, IsFurther};
 
 use crate::chain::{ChainRule, ChainToken, GENERATIONS, SlotWord, settle_chain};
 use crate::cursor::Cursor;
@@ -18,6 +18,7 @@ use std::marker::Model;
 use std::sync::Mutex;
 use std::sync::atomic::AtomicUsize;
 use std::sync::atomic::Ordering::SeqCst;
+use table_bounded::{MetBy, SameAs, Sought};
 use table_cell::{Home, Low};
 use table_sets::{KeyLaw, SetLaw};
 
@@ -176,16 +177,26 @@ impl<V, L: SetLaw<V>, A: Low + Copy> GrowingSet<V, L, A> {
         slot
     }
 
+    /// What is sought, or None: then no entry is it that its caller knew of. It takes no lock and no memory, and changes nothing
+    /// but what is known.
+    pub fn seek<S: Sought<V, L>>(&self, known: &mut Known<V, L, A>, sought: &S) -> Option<&V>
+        requires of { known.old.of ≡ self.now }
+        ensures known { KnowsMore IsCarried known.old known.new }
+        ensures finds { Finds (S.accepts sought.now) (IsEntry known.new.history) result }
+    {
+        let slot = self.newest(&mut known.cursor);
+        slot.generation()
+            .seek(&self.home, &mut known.cursor.entries, sought)
+    }
+
     /// The entry that is the same as the target, or None: then none is that its caller knew of. It takes no lock and no memory,
     /// and changes nothing but what is known.
     pub fn get(&self, known: &mut Known<V, L, A>, target: &V) -> Option<&V>
         requires of { known.old.of ≡ self.now }
-        ensures known { KnowsMore known.old known.new }
-        ensures finds { Finds (L.same target.now) known.new.history result }
+        ensures known { KnowsMore IsCarried known.old known.new }
+        ensures finds { Finds (L.same target.now) (IsEntry known.new.history) result }
     {
-        let slot = self.newest(&mut known.cursor);
-        slot.generation()
-            .find(&self.home, &mut known.cursor.entries, target)
+        self.seek(known, &SameAs { target })
     }
 
     /// An entry that meets the key, or None: then none does that its caller knew of. It takes no lock and no memory, and changes
@@ -194,12 +205,10 @@ impl<V, L: SetLaw<V>, A: Low + Copy> GrowingSet<V, L, A> {
     where
         L: KeyLaw<K, V>,
         requires of { known.old.of ≡ self.now }
-        ensures known { KnowsMore known.old known.new }
-        ensures finds { Finds (L.meets key.now) known.new.history result }
+        ensures known { KnowsMore IsCarried known.old known.new }
+        ensures finds { Finds (L.meets key.now) (IsEntry known.new.history) result }
     {
-        let slot = self.newest(&mut known.cursor);
-        slot.generation()
-            .find_by_key(&self.home, &mut known.cursor.entries, key)
+        self.seek(known, &MetBy { key })
     }
 
     /// Moves the cursor to this generation, which was shown, unless it is there or beyond.
@@ -242,7 +251,7 @@ impl<V, L: SetLaw<V>, A: Low + Copy> GrowingSet<V, L, A> {
     pub fn learn(&self, known: &mut Known<V, L, A>, other: &Known<V, L, A>)
         requires mine { known.old.of ≡ self.now }
         requires theirs { other.now.of ≡ self.now }
-        ensures mine { KnowsMore known.old known.new }
+        ensures mine { KnowsMore IsCarried known.old known.new }
         ensures theirs { IsCarried other.now.history known.new.history }
     {
         self.join(&mut known.cursor, other.cursor.again());
@@ -254,7 +263,7 @@ impl<V: Drop, L: SetLaw<V>, A: Low + Copy> GrowingSet<V, L, A> {
     /// among them, and it knows of each. It takes one block of memory. Where that is refused, the set comes back as it was.
     pub fn into_values(self, known: &mut Known<V, L, A>) -> Result<Vec<V, A>, Self>
         requires of { known.old.of ≡ self }
-        ensures known { KnowsMore known.old known.new }
+        ensures known { KnowsMore IsCarried known.old known.new }
         ensures placed { IfOk result (λ values. WerePlaced known.new.history values.items) }
         ensures all { IfOk result (λ values. HasAll known.old.history values.items) }
         ensures apart { IfOk result (λ values. AllApart L.same values.items) }

@@ -3,8 +3,9 @@ use Rattle.std.proofs.Common.{◌≡◌, ◌≢◌, ℕ, ◌+◌, ◌<◌, ◌�
 use Rattle.std.proofs.Math.Seq.{get_or-append_seam}
 use Rattle.std.proofs.lemmas.Bool.{cases_eq}
 use Rattle.std.proofs.lemmas.List.{drop_more, get_or_append_left, length_push, length-drop}
+use Rattle.table_bounded.specs.Sets.{KnowsMore}
 use Rattle.table_growing.specs.Known.{GrowingView}
-use Rattle.table_growing_shards.specs.Shards.{ShardedKnownView, Learns, KnowsMore, EndsAs}
+use Rattle.table_growing_shards.specs.Shards.{ShardedKnownView, AreCarried, EndsAs}
 use Rattle.table_growing_shards.proofs.Shards.{knows_trans}
 
 -- the next shard is the one at its number
@@ -23,7 +24,7 @@ module _ (ss rest more : List GrowingView) (i : ℕ) (s : GrowingView) (left : r
 
 module _ {V : Type 0} (same : V → V → Bool) {C : Type 0} (items : C → List V) where
   -- how a shard ended, by what was known before that, and by what is known later
-  ends_on : (a b c d : ShardedKnownView V) (ss : List GrowingView) (i : ℕ) (r : Result C GrowingView) → Learns a b → Learns c d → EndsAs items same b c ss i r → EndsAs items same a d ss i r
+  ends_on : (a b c d : ShardedKnownView V) (ss : List GrowingView) (i : ℕ) (r : Result C GrowingView) → AreCarried a.history b.history → AreCarried c.history d.history → EndsAs items same b c ss i r → EndsAs items same a d ss i r
   ends_on a b c d ss i (Ok values) before after it = record {
     placed = λ v among. let s = it.placed v among in after i s.0 v s.1;
     all = λ p v there. let s = before i p v there in it.all s.0 v s.1;
@@ -33,7 +34,7 @@ module _ {V : Type 0} (same : V → V → Bool) {C : Type 0} (items : C → List
 
   -- the shards below i have ended, and the others are left
   pub record HasEnded (i : ℕ) (old now : ShardedKnownView V) (ss rest : List GrowingView) (ends : List (Result C GrowingView)) : Type 0 where
-    pub more : KnowsMore old now
+    pub more : KnowsMore AreCarried old now
     pub left : rest ≡ drop i ss
     pub few : i ≤ length ss
     pub count : length ends ≡ i
@@ -48,7 +49,7 @@ module _ {V : Type 0} (same : V → V → Bool) {C : Type 0} (items : C → List
     each = λ j d lt. absurd (omega (arith, lt));
   }
 
-  pub ended_one : (i : ℕ) (old now next : ShardedKnownView V) (ss rest more : List GrowingView) (s : GrowingView) (ends later : List (Result C GrowingView)) (r : Result C GrowingView) → HasEnded i old now ss rest ends → rest ≡ s ∷ more → KnowsMore now next → EndsAs items same now next ss i r → later ≡ ends ++ r ∷ []
+  pub ended_one : (i : ℕ) (old now next : ShardedKnownView V) (ss rest more : List GrowingView) (s : GrowingView) (ends later : List (Result C GrowingView)) (r : Result C GrowingView) → HasEnded i old now ss rest ends → rest ≡ s ∷ more → KnowsMore AreCarried now next → EndsAs items same now next ss i r → later ≡ ends ++ r ∷ []
       → HasEnded (i + 1) old next ss more later
   ended_one i old now next ss rest more s ends later r so step knows it is = record {
     more = knows_trans old now next so.more knows;

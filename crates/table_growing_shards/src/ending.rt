@@ -1,6 +1,7 @@
 //! The end of a set of several shards: each of them is handed out, or its values.
 ghost use Rattle.std.specs.Prelude.{◌≡◌, ◌<◌, ℕ, IfOk, IfErr, length, slice_index_or};
-ghost use Rattle.table_growing_shards.specs.Shards.{sharded_view, KnowsMore, EndsAs};
+ghost use Rattle.table_bounded.specs.Sets.{KnowsMore};
+ghost use Rattle.table_growing_shards.specs.Shards.{sharded_view, AreCarried, EndsAs};
 
 use crate::known::ShardedKnown;
 use crate::set::ShardedGrowingSet;
@@ -19,7 +20,7 @@ fn end_shard<V: Drop, L: SetLaw<V>, A: Low + Copy>(
 ) -> Result<Vec<V, A>, GrowingSet<V, L, A>>
     requires inside { number < length tokens.old }
     requires of { slice_index_or (sharded_view tokens.old).of number shard ≡ shard }
-    ensures known { KnowsMore (sharded_view tokens.old) (sharded_view tokens.new) }
+    ensures known { KnowsMore AreCarried (sharded_view tokens.old) (sharded_view tokens.new) }
     ensures ends { EndsAs (λ values. values.items) L.same (sharded_view tokens.old)
         (sharded_view tokens.new) (sharded_view tokens.old).of number result }
 {
@@ -35,7 +36,7 @@ impl<V: Drop, L: SetLaw<V>, const SHARDS: usize, A: Low + Copy> ShardedGrowingSe
         known: &mut ShardedKnown<V, L, SHARDS, A>,
     ) -> Result<Ends<V, L, A>, Self>
         requires of { known.old.of ≡ self }
-        ensures known { KnowsMore known.old known.new }
+        ensures known { KnowsMore AreCarried known.old known.new }
         ensures count { IfOk result (λ ends. length ends.items ≡ SHARDS) }
         ensures each { IfOk result (λ ends. (i : ℕ) (d : _) → i < SHARDS
             → EndsAs (λ values. values.items) L.same known.old known.new self i

@@ -1,6 +1,8 @@
 //! Inserts into a set of several shards.
 ghost use Rattle.std.specs.Prelude.{◌≡◌};
-ghost use Rattle.table_growing_shards.specs.Shards.{KnowsMore, Inserts, IsFullBy};
+ghost use Rattle.table_bounded.specs.History.{size_of};
+ghost use Rattle.table_bounded.specs.Sets.{KnowsMore, IsFullBy};
+ghost use Rattle.table_growing_shards.specs.Shards.{AreCarried, history_for, InsertsInShard};
 
 use crate::known::ShardedKnown;
 use crate::set::ShardedGrowingSet;
@@ -25,9 +27,10 @@ impl<V: Drop, L: SetLaw<V>, const SHARDS: usize, A: Low + Copy> ShardedGrowingSe
         value: V,
     ) -> Placing<'_, V>
         requires of { known.old.of ≡ self.now }
-        ensures known { KnowsMore known.old known.new }
-        ensures told { Inserts L.hash_of L.same value known.old known.new result }
-        ensures full { IsFullBy L.hash_of L.same value known.new result }
+        ensures known { KnowsMore AreCarried known.old known.new }
+        ensures told { InsertsInShard L.hash_of L.same value known.old known.new result }
+        ensures full { let log = history_for L.hash_of known.new value in
+            IsFullBy L.same L.hash_of (size_of log) value log result }
     {
         let shard = ShardedGrowingSet::<V, L, SHARDS, A>::shard_of(L::hash(&value));
         let tokens = known.shards.as_mut_slice();

@@ -1,14 +1,15 @@
 //! The set of several shards.
 ghost use Rattle.std.specs.Prelude.{◌≡◌, ◌<◌, length};
 ghost use Rattle.std.specs.Int.{IsPowerOfTwo};
-ghost use Rattle.table_growing_shards.specs.Shards.{shard_of as number_of_shard, Learns, KnowsMore, Finds};
+ghost use Rattle.table_bounded.specs.Sets.{KnowsMore, Finds};
+ghost use Rattle.table_growing_shards.specs.Shards.{shard_of as number_of_shard, AreCarried, Knows};
 
 use crate::known::ShardedKnown;
 use std::alloc::{AllocError, Global};
 use std::array;
 use std::marker::Model;
 use table_cell::Low;
-use table_growing::{GrowingSet, Known};
+use table_growing::{GrowingSet, Known, MetBy, SameAs, Sought};
 use table_sets::{KeyLaw, SetLaw};
 
 /// A set of values that threads share through `&`, over `SHARDS` sets that grow. A value lies in the shard of its hash. No two of
@@ -67,16 +68,30 @@ impl<V, L: SetLaw<V>, const SHARDS: usize, A: Low + Copy> ShardedGrowingSet<V, L
         self.len() == 0
     }
 
+    /// What is sought, or None: then no entry is it that its caller knew of. It asks the shard of the hash alone. It takes no lock
+    /// and no memory, and changes nothing but what is known.
+    fn seek<S: Sought<V, L>>(
+        &self,
+        known: &mut ShardedKnown<V, L, SHARDS, A>,
+        sought: &S,
+    ) -> Option<&V>
+        requires of { known.old.of ≡ self.now }
+        ensures known { KnowsMore AreCarried known.old known.new }
+        ensures finds { Finds (S.accepts sought.now) (Knows L.hash_of known.new) result }
+    {
+        let shard = ShardedGrowingSet::<V, L, SHARDS, A>::shard_of(sought.hash());
+        let tokens = known.shards.as_mut_slice();
+        self.shards[shard].seek(&mut tokens[shard], sought)
+    }
+
     /// The entry that is the same as the target, or None: then none is that its caller knew of. It asks the shard of the target's
     /// hash alone. It takes no lock and no memory, and changes nothing but what is known.
     pub fn get(&self, known: &mut ShardedKnown<V, L, SHARDS, A>, target: &V) -> Option<&V>
         requires of { known.old.of ≡ self.now }
-        ensures known { KnowsMore known.old known.new }
-        ensures finds { Finds L.hash_of (L.same target.now) known.new result }
+        ensures known { KnowsMore AreCarried known.old known.new }
+        ensures finds { Finds (L.same target.now) (Knows L.hash_of known.new) result }
     {
-        let shard = ShardedGrowingSet::<V, L, SHARDS, A>::shard_of(L::hash(target));
-        let tokens = known.shards.as_mut_slice();
-        self.shards[shard].get(&mut tokens[shard], target)
+        self.seek(known, &SameAs { target })
     }
 
     /// An entry that meets the key, or None: then none does that its caller knew of. It asks the shard of the key's hash alone. It
@@ -85,12 +100,10 @@ impl<V, L: SetLaw<V>, const SHARDS: usize, A: Low + Copy> ShardedGrowingSet<V, L
     where
         L: KeyLaw<K, V>,
         requires of { known.old.of ≡ self.now }
-        ensures known { KnowsMore known.old known.new }
-        ensures finds { Finds L.hash_of (L.meets key.now) known.new result }
+        ensures known { KnowsMore AreCarried known.old known.new }
+        ensures finds { Finds (L.meets key.now) (Knows L.hash_of known.new) result }
     {
-        let shard = ShardedGrowingSet::<V, L, SHARDS, A>::shard_of(L::hash_key(key));
-        let tokens = known.shards.as_mut_slice();
-        self.shards[shard].get_by_key(&mut tokens[shard], key)
+        self.seek(known, &MetBy { key })
     }
 
     /// From now on `known` knows what the other one of the same set does.
@@ -101,8 +114,8 @@ impl<V, L: SetLaw<V>, const SHARDS: usize, A: Low + Copy> ShardedGrowingSet<V, L
     )
         requires mine { known.old.of ≡ self.now }
         requires theirs { other.now.of ≡ self.now }
-        ensures mine { KnowsMore known.old known.new }
-        ensures theirs { Learns other.now known.new }
+        ensures mine { KnowsMore AreCarried known.old known.new }
+        ensures theirs { AreCarried other.now.history known.new.history }
     {
         let mine = known.shards.as_mut_slice();
         let theirs = other.shards.as_slice();

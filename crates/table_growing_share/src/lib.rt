@@ -2,8 +2,9 @@
 #![tactic(auto)]
 
 ghost use Rattle.std.specs.Prelude.{◌≡◌, IfOk, IfErr};
-ghost use Rattle.table_growing.specs.Known.{KnowsMore};
-ghost use Rattle.table_growing_share.specs.Taken.{TakesIn};
+ghost use Rattle.table_bounded.specs.History.{IsCarried};
+ghost use Rattle.table_bounded.specs.Sets.{KnowsMore};
+ghost use Rattle.table_growing_share.specs.Taken.{TakesIn, GivesBack};
 
 use std::alloc::AllocError;
 use std::sync::Wait;
@@ -21,16 +22,25 @@ pub fn insert_all<V: Drop, L: SetLaw<V>, A: Low + Copy, R: Wait>(
     values: &mut Vec<V, A>,
 )
     requires of { known.old.of ≡ set.now }
-    ensures known { KnowsMore known.old known.new }
+    ensures known { KnowsMore IsCarried known.old known.new }
     ensures taken { TakesIn L.same known.new.history values.old.items values.new.items }
 {
     while let Some(value) = values.pop() {
-        match set.insert(rt, known, value) {
-            Placing::Placed(_) => {}
-            Placing::Found(_, _) => {}
-            Placing::Full(back) => return values.push_reserved(back),
-            Placing::NoMemory(back) => return values.push_reserved(back),
+        if let Some(back) = refused(set.insert(rt, known, value)) {
+            return values.push_reserved(back);
         }
+    }
+}
+
+/// The value of an insert that was refused.
+fn refused<V: Drop>(placing: Placing<'_, V>) -> Option<V>
+    ensures { GivesBack placing result }
+{
+    match placing {
+        Placing::Placed(_) => None,
+        Placing::Found(_, _) => None,
+        Placing::Full(back) => Some(back),
+        Placing::NoMemory(back) => Some(back),
     }
 }
 

@@ -1,12 +1,13 @@
 use Rattle.std.proofs.Common.{length}
-use Rattle.table_growing.specs.Known.{KnowsMore}
+use Rattle.table_bounded.specs.History.{IsCarried}
+use Rattle.table_bounded.specs.Sets.{KnowsMore}
 use Rattle.table_growing_share.specs.Taken.{TakesIn}
 use Rattle.table_growing_share.proofs.insert_all.Given as goal
 
 -- what was taken is known
 abbrev pub invariant-loop-value : goal.invariant-loop-value
 invariant-loop-value g l = record {
-  more : KnowsMore l.fn.known l.known;
+  more : KnowsMore IsCarried l.fn.known l.known;
   taken : TakesIn g.L.Law.same l.known.history l.fn.values.items l.values.items;
 }
 

@@ -4,15 +4,10 @@ use Rattle.table_growing.specs.Known.{IsAt}
 use Rattle.table_growing.proofs.Carried.{IsLeft}
 use Rattle.table_growing.proofs.set.GrowingSet.insert_at.Given as goal
 
-pub record IsUnderWay (A B C D : Type 0) : Type 0 where
-  pub at : A
-  pub carried : B
-  pub value : C
-  pub none : D
-
 abbrev pub invariant-loop-tried : goal.invariant-loop-tried
-invariant-loop-tried g l =
-    IsUnderWay (IsAt g.L.Law.same g.L.Law.hash_of l.self l.cursor.number l.cursor.chain.book l.cursor.chain.log l.cursor.entries.book l.cursor.entries.log)
-    (IsCarried l.fn.cursor.entries.log l.cursor.entries.log)
-    (l.value ≡ l.fn.value)
-    ((l._tried ≡ 0) ⊎ IsLeft g.L.Law.same g.L.Law.hash_of l.fn.value l.cursor.entries.log)
+invariant-loop-tried g l = record {
+  at : IsAt g.L.Law.same g.L.Law.hash_of l.self l.cursor.number l.cursor.chain.book l.cursor.chain.log l.cursor.entries.book l.cursor.entries.log;
+  carried : IsCarried l.fn.cursor.entries.log l.cursor.entries.log;
+  value : l.value ≡ l.fn.value;
+  none : (l._tried ≡ 0) ⊎ IsLeft g.L.Law.same g.L.Law.hash_of l.fn.value l.cursor.entries.log;
+}

@@ -2,7 +2,7 @@ use Rattle.std.proofs.Common.{◌≡◌, ◌∙◌, ℕ, ap, subst}
 use Rattle.logbook.specs.Pages.{Book}
 use Rattle.table_bounded.specs.History.{History}
 use Rattle.table_bounded.specs.Sets.{HasAll}
-use Rattle.table_growing.specs.Known.{GrowingView, growing_view, KnownView, IsAt}
+use Rattle.table_growing.specs.Known.{GrowingView, growing_view, GrowingKnownView, IsAt}
 use Rattle.table_growing.proofs.Carried.{knows_more, carried_trans}
 use Rattle.table_growing.proofs.set.GrowingSet.into_values.Goals as goal
 
@@ -23,5 +23,5 @@ returns-clause-known g c = let cursor = c.take_values.new.cursor in
     (carried_trans c.known.inside.cursor.entries.log c.room.new.cursor.entries.log cursor.entries.log c.room.ensures.carried c.take_values.ensures.carried)
 
 pub returns-clause-all : goal.returns-clause-all
-returns-clause-all g c = subst (λ (log : History g.row.V.Denot). HasAll log c.take_values.result.items) (ap (λ (k : KnownView g.row.V.Denot). k.history) c.known.view_is)
+returns-clause-all g c = subst (λ (log : History g.row.V.Denot). HasAll log c.take_values.result.items) (ap (λ (k : GrowingKnownView g.row.V.Denot). k.history) c.known.view_is)
     (λ p v there. let r = c.room.ensures.carried p v there in c.take_values.ensures.all.all r.0 v r.1)

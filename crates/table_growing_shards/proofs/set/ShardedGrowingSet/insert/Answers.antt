@@ -1,33 +1,21 @@
-use Rattle.std.proofs.Common.{◌≡◌, ◌∙◌, sym, ap, length}
-use Rattle.table_growing_shards.proofs.Made.{hash_within}
-use Rattle.table_growing_shards.proofs.Shards.{asks_one, knows_one, inserts_one, inserts_by_token, full_by_token}
+use Rattle.std.proofs.Common.{sym}
+use Rattle.table_growing_shards.proofs.Shards.{asks_shard, knows_shard, inserts_shard, full_shard}
 use Rattle.table_growing_shards.proofs.set.ShardedGrowingSet.insert.Goals as goal
 
 pub insert-requires : goal.insert-requires
-insert-requires g c =
-    let ks = c.as_mut_slice-tokens.result.now in let long : length ks ≡ g.row.SHARDS = ap length c.as_mut_slice-tokens.ensures.value ∙ c.known.invariant in
-    record {
-      of = asks_one ks c.known.inside.shards c.args.known.now c.as_mut_slice-tokens.ensures.value c.known.view_is c.self.inside.shards.items c.args.self.now c.shard_of-shard.result c.index-tokens-shard.result c.index.result.now c.requires.of c.self.view_is
-          (hash_within g.row.SHARDS c.shard_of-shard.result ks c.self.invariant.0 long c.shard_of-shard.ensures.inside) c.index.ensures;
-    }
+insert-requires g c = record {
+  of = asks_shard g.row.SHARDS c.hash.result c.shard_of-shard.result c.as_mut_slice-tokens.result.now c.known.inside.shards c.args.known.now c.self.invariant.0 c.known.invariant c.as_mut_slice-tokens.ensures.value c.known.view_is c.shard_of-shard.ensures.is c.shard_of-shard.ensures.inside
+      c.self.inside.shards.items c.args.self.now c.index-tokens-shard.result c.index.result.now c.requires.of c.self.view_is c.index.ensures;
+}
 
 pub returns-clause-known : goal.returns-clause-known
-returns-clause-known g c =
-    let ks = c.as_mut_slice-tokens.result.now in let long : length ks ≡ g.row.SHARDS = ap length c.as_mut_slice-tokens.ensures.value ∙ c.known.invariant in
-    knows_one ks c.known.inside.shards c.args.known.now c.as_mut_slice-tokens.ensures.value c.known.view_is c.shard_of-shard.result c.index-tokens-shard.result c.insert.new.known
-    (hash_within g.row.SHARDS c.shard_of-shard.result ks c.self.invariant.0 long c.shard_of-shard.ensures.inside) c.insert.ensures.known
+returns-clause-known g c = knows_shard g.row.SHARDS c.hash.result c.shard_of-shard.result c.as_mut_slice-tokens.result.now c.known.inside.shards c.args.known.now c.self.invariant.0 c.known.invariant c.as_mut_slice-tokens.ensures.value c.known.view_is c.shard_of-shard.ensures.is c.shard_of-shard.ensures.inside
+    c.index-tokens-shard.result c.insert.new.known c.insert.ensures.known
 
 pub returns-clause-told : goal.returns-clause-told
-returns-clause-told g c =
-    let ks = c.as_mut_slice-tokens.result.now in let long : length ks ≡ g.row.SHARDS = ap length c.as_mut_slice-tokens.ensures.value ∙ c.known.invariant in
-    inserts_one ks c.known.inside.shards c.args.known.now c.as_mut_slice-tokens.ensures.value c.known.view_is g.L.Law.hash_of g.L.Law.same c.args.value c.shard_of-shard.result c.insert.new.known c.insert.result
-    (inserts_by_token g.row.SHARDS c.hash.result c.shard_of-shard.result ks c.index-tokens-shard.result c.insert.new.known long c.shard_of-shard.ensures.is
-    (hash_within g.row.SHARDS c.shard_of-shard.result ks c.self.invariant.0 long c.shard_of-shard.ensures.inside)
-    g.L.Law.hash_of g.L.Law.same g.L.Law.lawful c.args.value (sym c.hash.ensures) c.insert.result c.insert.ensures.told)
+returns-clause-told g c = inserts_shard g.row.SHARDS c.hash.result c.shard_of-shard.result c.as_mut_slice-tokens.result.now c.known.inside.shards c.args.known.now c.self.invariant.0 c.known.invariant c.as_mut_slice-tokens.ensures.value c.known.view_is c.shard_of-shard.ensures.is c.shard_of-shard.ensures.inside
+    c.index-tokens-shard.result c.insert.new.known g.L.Law.hash_of g.L.Law.same g.L.Law.lawful c.args.value (sym c.hash.ensures) c.insert.result c.insert.ensures.told
 
 pub returns-clause-full : goal.returns-clause-full
-returns-clause-full g c =
-    let ks = c.as_mut_slice-tokens.result.now in let long : length ks ≡ g.row.SHARDS = ap length c.as_mut_slice-tokens.ensures.value ∙ c.known.invariant in
-    full_by_token g.row.SHARDS c.hash.result c.shard_of-shard.result ks c.index-tokens-shard.result c.insert.new.known long c.shard_of-shard.ensures.is
-    (hash_within g.row.SHARDS c.shard_of-shard.result ks c.self.invariant.0 long c.shard_of-shard.ensures.inside)
-    g.L.Law.hash_of g.L.Law.same g.L.Law.lawful c.args.value (sym c.hash.ensures) c.insert.result c.insert.ensures.full
+returns-clause-full g c = full_shard g.row.SHARDS c.hash.result c.shard_of-shard.result c.as_mut_slice-tokens.result.now c.known.inside.shards c.args.known.now c.self.invariant.0 c.known.invariant c.as_mut_slice-tokens.ensures.value c.known.view_is c.shard_of-shard.ensures.is c.shard_of-shard.ensures.inside
+    c.index-tokens-shard.result c.insert.new.known g.L.Law.hash_of g.L.Law.same g.L.Law.lawful c.args.value (sym c.hash.ensures) c.insert.result c.insert.ensures.full

@@ -1,7 +1,8 @@
 use Rattle.std.proofs.Common.{◌≡◌, ◌∙◌, List, sym, ap, subst, length, get_or, arith}
 use Rattle.std.specs.Vec.Iter.{into_iter_items}
+use Rattle.table_bounded.specs.Sets.{KnowsMore}
 use Rattle.table_growing.specs.Known.{GrowingView}
-use Rattle.table_growing_shards.specs.Shards.{ShardedKnownView, sharded_view, KnowsMore, EndsAs}
+use Rattle.table_growing_shards.specs.Shards.{ShardedKnownView, sharded_view, AreCarried, EndsAs}
 use Rattle.table_growing_shards.proofs.Endings.{inside, next_is, ended_none, ended_one, all_ended}
 use Rattle.table_growing_shards.proofs.set.ShardedGrowingSet.into_values.Goals as goal
 
@@ -34,7 +35,7 @@ loop-shard-preserved g c =
     }
 
 pub returns-clause-known : goal.returns-clause-known
-returns-clause-known g c = subst (λ (k : ShardedKnownView g.row.V.Denot). KnowsMore k (sharded_view c.loop-shard.tokens)) (ap sharded_view c.as_mut_slice-tokens.ensures.value ∙ c.known.view_is) c.loop-shard.invariant.ended.more
+returns-clause-known g c = subst (λ (k : ShardedKnownView g.row.V.Denot). KnowsMore AreCarried k (sharded_view c.loop-shard.tokens)) (ap sharded_view c.as_mut_slice-tokens.ensures.value ∙ c.known.view_is) c.loop-shard.invariant.ended.more
 
 pub returns-clause-count : goal.returns-clause-count
 returns-clause-count g c =
