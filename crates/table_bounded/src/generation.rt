@@ -139,7 +139,7 @@ impl<V, L: SetLaw<V>, A: Low + Copy> Generation<V, L, A> {
         }
     }
 
-    /// What is sought, if it is an entry.
+    /// What is sought, or None: then no entry is it that its caller knew of. It takes no memory and changes nothing but what is known.
     pub fn seek<'a, S: Sought<V, L>>(
         &'a self,
         home: &'a Home,

@@ -14,7 +14,7 @@ pub trait Sought<V, L: SetLaw<V>> {
     fn hash(&self) -> u64
         ensures { result ≡ sought_hash self.now };
 
-    /// Whether this is it.
+    /// Whether the entry is it.
     fn is(&self, entry: &V) -> bool
         ensures { result ≡ accepts self.now entry.now };
 

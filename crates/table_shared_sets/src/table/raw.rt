@@ -1,6 +1,4 @@
 //! One raw table below a set.
-ghost use Rattle.std.specs.Prelude.{◌≡◌};
-ghost use Rattle.table_shared_sets.specs.Inserts.{ShowsSame};
 
 use crate::table::{InsertTable, SetTable, WalkTable};
 use lock_free_hashtable::raw::{Iter, LockFreeRawTable, Low};
@@ -18,25 +16,6 @@ impl<T: AtomicValue, A: Allocator + Copy> SetTable<T> for LockFreeRawTable<T, A>
     }
 }
 
-/// Inserts the value into a raw table by the law.
-pub(super) fn insert_by_law<'a, T: AtomicValue, L: SetLaw<T::Target>, A: Low + Copy, R: Wait>(
-    table: &'a LockFreeRawTable<T, A>,
-    rt: &R,
-    hash: u64,
-    value: T,
-) -> Shown<&'a T::Target, T>
-    requires { hash ≡ L.hash_of (T.target value) }
-    ensures { ShowsSame T.target L.same value result }
-{
-    let eq = |new: &T::Target, entry: &T::Target| L::is_same(new, entry);
-    let hash_fn = |entry: &T::Target| L::hash(entry);
-    match table.insert(rt, hash, value, eq, hash_fn) {
-        Ok((entry, None)) => Shown::Placed(entry),
-        Ok((entry, Some(value))) => Shown::Found(entry, value),
-        Err(value) => Shown::Refused(value),
-    }
-}
-
 impl<T: AtomicValue, A: Low + Copy> InsertTable<T> for LockFreeRawTable<T, A> {
     fn insert<L: SetLaw<T::Target>, R: Wait>(
         &self,
@@ -44,7 +23,13 @@ impl<T: AtomicValue, A: Low + Copy> InsertTable<T> for LockFreeRawTable<T, A> {
         hash: u64,
         value: T,
     ) -> Shown<&T::Target, T> {
-        insert_by_law::<T, L, A, R>(self, rt, hash, value)
+        let eq = |new: &T::Target, entry: &T::Target| L::is_same(new, entry);
+        let hash_fn = |entry: &T::Target| L::hash(entry);
+        match self.insert(rt, hash, value, eq, hash_fn) {
+            Ok((entry, None)) => Shown::Placed(entry),
+            Ok((entry, Some(value))) => Shown::Found(entry, value),
+            Err(value) => Shown::Refused(value),
+        }
     }
 }
 

@@ -1,6 +1,5 @@
 //! Several shards below a set.
 
-use crate::table::raw::insert_by_law;
 use crate::table::{InsertTable, SetTable, WalkTable};
 use lock_free_hashtable::raw::Low;
 use lock_free_hashtable::sharded::{Iter, ShardedLockFreeRawTable};
@@ -27,7 +26,13 @@ impl<T: AtomicValue, const SHARDS: usize, A: Low + Copy> InsertTable<T>
         hash: u64,
         value: T,
     ) -> Shown<&T::Target, T> {
-        insert_by_law::<T, L, A, R>(self.shard(hash), rt, hash, value)
+        let eq = |new: &T::Target, entry: &T::Target| L::is_same(new, entry);
+        let hash_fn = |entry: &T::Target| L::hash(entry);
+        match self.insert(rt, hash, value, eq, hash_fn) {
+            Ok((entry, None)) => Shown::Placed(entry),
+            Ok((entry, Some(value))) => Shown::Found(entry, value),
+            Err(value) => Shown::Refused(value),
+        }
     }
 }
 

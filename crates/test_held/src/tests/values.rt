@@ -119,6 +119,7 @@ fn a_hundred_boxes_and_ten_shared_values(rt: HostRuntime) -> Result<(), Fail> {
         assert_told::<NumberLaw, _, _>(&rt, &mut shared, Arc::new(rt.alloc(), number)?, true);
     }
     assert_same(&rt, boxes.len_alone(), 100);
+    assert_all_shown::<NumberLaw, _, _>(&rt, &boxes, 0..100);
     assert_same(&rt, bits_of(shared), (10, 0b11_1111_1111));
     Ok(())
 }
