@@ -34,7 +34,7 @@ pub fn insert_all<V: Drop, L: SetLaw<V>, A: Low + Copy, R: Wait>(
 
 /// The value of an insert that was refused.
 fn refused<V: Drop>(placing: Placing<'_, V>) -> Option<V>
-    ensures { GivesBack placing result }
+    ensures { GivesBack placing.entry result }
 {
     match placing {
         Placing::Placed(_) => None,
