@@ -4,6 +4,8 @@ ghost use Rattle.tool_call_texts.specs.Arguments.{NamesCommand, IsRunnable, IsFa
 ghost use Rattle.tool_call_texts.specs.Faults.{status_of};
 ghost use Rattle.tool_call_texts.specs.declared.arguments.Command.{Command as CommandOf};
 ghost use Rattle.tool_call_texts.specs.declared.faults.Fault.{Fault as FaultOf};
+ghost use Rattle.table_terms.specs.Capacities.{IsFirstCapacity};
+ghost use Rattle.tool_streams.specs.Faults.{IsCountedFromOne};
 
 use crate::gate::{Gates, ProgramGates};
 use crate::jobs::Crew;
@@ -13,6 +15,7 @@ use crate::shards::run_shards;
 use crate::stores::RawPairs;
 use crate::stress::run_stress;
 use lock_free_hashtable::raw::Low;
+use std::alloc::Allocator;
 use std::convert::AsStr;
 use std::io::{Read, Write};
 use std::rt::Env;
@@ -22,7 +25,7 @@ use tool_call_texts::arguments::{Command, parse_command};
 use tool_call_texts::faults::Fault;
 use tool_call_texts::schedules::Schedule;
 use tool_streams::arguments::read_words;
-use tool_streams::faults::StreamFault;
+use tool_streams::faults::{LineFault, StreamFault};
 use tool_streams::line_command::take_lines;
 use tool_streams::messages::end_with;
 use tool_streams::output::Output;
@@ -103,15 +106,13 @@ fn run_command<
     let mut output = Output::new(output);
     let ended = match command {
         Command::Calls { first } => {
-            let mut table = PairTable::new(alloc, RawPairs::new(alloc, first));
-            take_lines(&mut table, &mut lines, &mut output).map_err(Fault::from)
+            run_calls(alloc, first, &mut lines, &mut output).map_err(Fault::from)
         }
         Command::Shards { shards, first } => {
             run_shards(&alloc, shards, first, &mut lines, &mut output).map_err(Fault::from)
         }
         Command::Core { first } => {
-            let mut schedule = Schedule::new(alloc, first);
-            take_lines(&mut schedule, &mut lines, &mut output).map_err(Fault::from)
+            run_core(alloc, first, &mut lines, &mut output).map_err(Fault::from)
         }
         Command::Stress { threads, jobs } => {
             let crew = Crew::new(threads, WORKER_STACK);
@@ -124,4 +125,32 @@ fn run_command<
     };
     output.flush().map_err(|_error| StreamFault::WriteFailed)?;
     ended
+}
+
+/// Answers the lines of the input on a table held alone, whose first generation will have `first` buckets.
+fn run_calls<A: Allocator + Copy, I: Read, O: Write>(
+    alloc: A,
+    first: usize,
+    lines: &mut ShortLines<I>,
+    output: &mut Output<O>,
+) -> Result<(), LineFault>
+    requires { IsFirstCapacity first }
+    ensures counted { IfErr result IsCountedFromOne }
+{
+    let mut table = PairTable::new(alloc, RawPairs::new(alloc, first));
+    take_lines(&mut table, lines, output)
+}
+
+/// Takes the events of the input on the machine of a table whose first generation will have `first` buckets.
+fn run_core<A: Allocator + Copy, I: Read, O: Write>(
+    alloc: A,
+    first: usize,
+    lines: &mut ShortLines<I>,
+    output: &mut Output<O>,
+) -> Result<(), LineFault>
+    requires { IsFirstCapacity first }
+    ensures counted { IfErr result IsCountedFromOne }
+{
+    let mut schedule = Schedule::new(alloc, first);
+    take_lines(&mut schedule, lines, output)
 }

@@ -7,7 +7,7 @@ use crate::pairs::PairTable;
 use crate::stores::ShardedPairs;
 use std::alloc::Allocator;
 use std::io::{Read, Write};
-use tool_call_texts::arguments::ShardCount::{self, Eight, Four, One, Sixteen, Two};
+use tool_call_texts::arguments::ShardCount;
 use tool_streams::faults::LineFault;
 use tool_streams::line_command::take_lines;
 use tool_streams::output::Output;
@@ -27,11 +27,36 @@ pub fn run_shards<A: Allocator + Copy, I: Read, O: Write>(
     ensures counted { IfErr result IsCountedFromOne }
 {
     match shards {
-        One => run_over::<1, &A, I, O>(alloc, ShardedPairs::new(alloc, first), lines, output),
-        Two => run_over::<2, &A, I, O>(alloc, ShardedPairs::new(alloc, first), lines, output),
-        Four => run_over::<4, &A, I, O>(alloc, ShardedPairs::new(alloc, first), lines, output),
-        Eight => run_over::<8, &A, I, O>(alloc, ShardedPairs::new(alloc, first), lines, output),
-        Sixteen => run_over::<16, &A, I, O>(alloc, ShardedPairs::new(alloc, first), lines, output),
+        ShardCount::One => run_over::<1, &A, I, O>(
+            alloc,
+            ShardedPairs::new(alloc, first),
+            lines,
+            output,
+        ),
+        ShardCount::Two => run_over::<2, &A, I, O>(
+            alloc,
+            ShardedPairs::new(alloc, first),
+            lines,
+            output,
+        ),
+        ShardCount::Four => run_over::<4, &A, I, O>(
+            alloc,
+            ShardedPairs::new(alloc, first),
+            lines,
+            output,
+        ),
+        ShardCount::Eight => run_over::<8, &A, I, O>(
+            alloc,
+            ShardedPairs::new(alloc, first),
+            lines,
+            output,
+        ),
+        ShardCount::Sixteen => run_over::<16, &A, I, O>(
+            alloc,
+            ShardedPairs::new(alloc, first),
+            lines,
+            output,
+        ),
     }
 }
 
