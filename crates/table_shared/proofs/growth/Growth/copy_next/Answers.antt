@@ -6,8 +6,8 @@ use Rattle.table_shared.proofs.growth.Growth.copy_next.Goals as goal
 
 pub invariant_of-self-in-Some-name_at : goal.invariant_of-self-in-Some-name_at
 invariant_of-self-in-Some-name_at g c =
-    let w = c.loop-self.invariant.under_way in
-    let at : c.loop-self.self-inside.from ≡ Some c.in-Some.from = c.loop-self.invariant.from_is ∙ c.in-Some.is in
+    let w = c.loop-self.invariant.2 in
+    let at : c.loop-self.self-inside.from ≡ Some c.in-Some.from = c.loop-self.invariant.0.1 ∙ c.in-Some.is in
     let behind = rw at at w.behind in
     let one_home = c.insert_unique.ensures.home in
     let (is, alone) = seen_name c.in-Some.from.now.from c.in-Some.from.now.home (content_at c.in-Some.from.now.contents c.loop-self.self-inside.copied) _ _ c.in-Some-name_at.name c.entry.result.now
@@ -26,15 +26,15 @@ pub returns-in-Some-name_at-clause-copies : goal.returns-in-Some-name_at-clause-
 returns-in-Some-name_at-clause-copies g c =
     let (is, alone) = seen_name c.in-Some.from.now.from c.in-Some.from.now.home (content_at c.in-Some.from.now.contents c.loop-self.self-inside.copied) _ _ c.in-Some-name_at.name c.entry.result.now
     c.in-Some-name_at.ensures.seen (rw c.as_ref.ensures at c.entry.ensures) in
-    rw (← c.self.view_is, ← c.loop-self.invariant.built_is, c.in-Some.is) (
+    rw (← c.self.view_is, ← c.loop-self.invariant.0.2, c.in-Some.is) (
       c.loop-self.self-inside.copied,
       c.entry.result.now,
       c.hash_fn-hash.result,
       record {
-        on = c.loop-self.invariant.on;
+        on = c.loop-self.invariant.1.on;
         within = (let below = c.loop-self-test.true in let long = c.capacity.ensures in omega arith);
         passed = refl {a = c.loop-self.self-inside.copied + 1};
-        skipped = rw c.in-Some.is at c.loop-self.invariant.skipped;
+        skipped = rw c.in-Some.is at c.loop-self.invariant.1.skipped;
         alone = alone;
         asked = record { shown = c.deref.result; shows = c.deref.ensures; says = record { met = c.hash_fn-hash.ensures } };
         put = rw is at c.insert_unique.ensures.put;
