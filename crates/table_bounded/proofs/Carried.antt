@@ -60,32 +60,30 @@ module _ {V : Type 0} (same : V → V → Bool) (hash : V → ℕ) where
               (λ (ne : q ≢ done). let r = t.all q u (omega (arith, lt, ne)) at in (r.0, r.1, still_gone pens k r.0 here_pens r.2, stands_on log new r.0 u on r.3));
         }
 
-    -- the next bucket of the old history has no entry
-    pub none_there : (old log : History V) (done : ℕ) (ws : List (TiedView A)) (pens : List (Option Pen)) (b : Book) → IsFree old done → IsUnderWay same hash a h n old done ws pens b log → IsUnderWay same hash a h n old (done + 1) ws pens b log
-    none_there old log done ws pens b free t = record {
+    -- what was carried from one history is what was carried from another, or from more of it, that has no other entries
+    carried_from : (old more log : History V) (done further : ℕ) (ws : List (TiedView A)) (pens : List (Option Pen)) (b : Book) → IsUnderWay same hash a h n old done ws pens b log
+        → ((k : ℕ) → CameFrom old done log k → CameFrom more further log k) → ((q : ℕ) (v : V) → q < further → Stands more q v → (q < done) × Stands old q v) → IsUnderWay same hash a h n more further ws pens b log
+    carried_from old more log done further ws pens b t came there = record {
       words = t.words;
       rights = t.rights;
       power = t.power;
       size = t.size;
       reached = t.reached;
       free = t.free;
-      made = λ q d lt none. let m = t.made q d lt none in let c = m.1 in (m.0, (c.0, c.1, (c.2.0, omega (arith, c.2.1), c.2.2)));
-      all = λ q u lt at. t.all q u (dite (ℕ_discrete q done) (λ (e : q ≡ done). absurd (free u (subst (λ (i : ℕ). Stands old i u) e at))) (λ (ne : q ≢ done). omega (arith, lt, ne))) at;
+      made = λ q d lt none. let m = t.made q d lt none in (m.0, came q m.1);
+      all = λ q v lt at. let o = there q v lt at in t.all q v o.0 o.1;
     }
+
+    -- the next bucket of the old history has no entry
+    pub none_there : (old log : History V) (done : ℕ) (ws : List (TiedView A)) (pens : List (Option Pen)) (b : Book) → IsFree old done → IsUnderWay same hash a h n old done ws pens b log → IsUnderWay same hash a h n old (done + 1) ws pens b log
+    none_there old log done ws pens b free t = carried_from old old log done (done + 1) ws pens b t (λ k c. (c.0, c.1, (c.2.0, omega (arith, c.2.1), c.2.2)))
+        (λ q u lt at. (dite (ℕ_discrete q done) (λ (e : q ≡ done). absurd (free u (subst (λ (i : ℕ). Stands old i u) e at))) (λ (ne : q ≢ done). omega (arith, lt, ne)), at))
 
     -- a full history that got longer has the entries that it had
     pub old_longer : (old more log : History V) (m done : ℕ) (ws : List (TiedView A)) (pens : List (Option Pen)) (b : Book) → IsFull m old → HasSize m old → IsPrefix old more → IsReached same hash more
         → IsUnderWay same hash a h n old done ws pens b log → IsUnderWay same hash a h n more done ws pens b log
-    old_longer old more log m done ws pens b full size on reached t = record {
-      words = t.words;
-      rights = t.rights;
-      power = t.power;
-      size = t.size;
-      reached = t.reached;
-      free = t.free;
-      made = λ q d lt none. let r = t.made q d lt none in let c = r.1 in (r.0, (c.0, c.1, (c.2.0, c.2.1, stands_on old more c.2.0 c.0 on c.2.2)));
-      all = λ q u lt at. t.all q u lt (full_says same hash m q (Entry u) old more full size on reached at);
-    }
+    old_longer old more log m done ws pens b full size on reached t = carried_from old more log done done ws pens b t (λ k c. (c.0, c.1, (c.2.0, c.2.1, stands_on old more c.2.0 c.0 on c.2.2)))
+        (λ q u lt at. (lt, full_says same hash m q (Entry u) old more full size on reached at))
 
     -- a probe for an entry of the next bucket, past buckets that entries were carried to, comes to this one
     pub reaches_next : (law : IsLaw same hash) (old log : History V) (done tried index hashed : ℕ) (ws : List (TiedView A)) (pens : List (Option Pen)) (b : Book) (v : V) → hashed ≡ hash v → tried < n → index ≡ bucket_at n hashed tried → IsReached same hash old
