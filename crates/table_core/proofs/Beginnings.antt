@@ -4,7 +4,7 @@ use Rattle.std.specs.Prelude.{◌==◌}
 use Rattle.std.specs.List.{slice_get}
 use Rattle.table_core.specs.Replies.{Reply, ReplyPlaced, ReplyFound, ReplyRefused, ReplySome, ReplyNone, ReplyLen, ReplyWalk, Finished}
 use Rattle.table_core.specs.Generations.{Table, bucket_in}
-use Rattle.table_core.specs.Phases.{about, first_phase}
+use Rattle.table_core.specs.Phases.{ALookup, ALength, AWalk, about}
 use Rattle.table_core.specs.Calls.{Call, starts, is_done}
 use Rattle.table_core.specs.Machine.{World, empty, walked_gen, refused, found_entry, reply_of_outcome, Act, acts, after, run}
 use Rattle.table_core.specs.History.{begun_by, beginnings}
@@ -26,9 +26,9 @@ use Rattle.table_core.proofs.FewReads.{other_number, unused_do_nothing, begins_o
 use Rattle.table_core.proofs.Pasts.{turn_after, beginnings_append, beginnings_snoc, by_snoc}
 use Rattle.table_core.proofs.Callings.{row_not_done}
 
--- the phase in which a call in this one began
+-- the phase in which a call in this one began; where any call can be in it, that of an insert
 abbrev opening : Phase → Phase
-opening p = first_phase (about p).caller
+opening p = elim (about p).caller [ ALookup ↦ LookLoad | ALength ↦ LenLoad | AWalk ↦ WalkLoad | _ ↦ WantShared ]
 
 row_opening : (w : World) (c : Call) {p : Phase} {x : Event} {a : Answer} {r : CallState} {ls : List ℕ} {t : Table} {q : Option Reply} → Row w c p x a r ls t q → (opening r.phase ≡ opening p) ⊎ (is_done r.phase ≡ true)
 row_opening w c (looks_none _ _) = inr refl

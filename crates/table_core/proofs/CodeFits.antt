@@ -9,7 +9,7 @@ use Rattle.table_terms.specs.Capacities.{IsFirstCapacity}
 use Rattle.table_core.specs.Calls.{Call, fits, stands_at_bucket, holds_shared, decided, decide}
 use Rattle.table_core.specs.Machine.{World, empty, finds, finds_in, walked_gen, happens, list_in, changed, call_after, reply}
 use Rattle.table_core.specs.History.{replies, placed}
-use Rattle.table_core.specs.Steps.{Row, loads, reads_empty, meets, turns, turns_unasked, goes_on, goes_on_unasked, memory_refused, puts, loses_meets, loses_turns, loses_turns_unasked, loses_goes_on, loses_goes_on_unasked, adds, large, small, len_size, begins_first, begins_next, copies, looks, look_empty, look_meets, look_turns, look_turns_unasked, look_goes_on, look_goes_on_unasked, len_loads, walk_loads, walk_skips_last, walk_takes_last, walk_skips, walk_takes}
+use Rattle.table_core.specs.Steps.{Row, loads, puts, adds, begins_first, begins_next, copies, looks, len_loads, walk_loads}
 use Rattle.table_core.specs.Reached.{IsReached, CanChange, moved, reply_to}
 use Rattle.table_core.specs.declared.event.Event.{Event}
 use Rattle.table_core.specs.declared.event.Event.TheVariants.{Read}
@@ -51,33 +51,13 @@ fits_row w c (loads n g h) e s k = loaded_fits w g s h
 fits_row w c (looks n g h) e s k = loaded_fits w g s h
 fits_row w c (len_loads n g h) e s k = loaded_fits w g s h
 fits_row w c (walk_loads n g h) e s k = loaded_fits w g s h
-fits_row w c (reads_empty _ _ _) e s k = probe_fits w c Probe e refl k
-fits_row w c (meets _ _ _ _ _) e s k = probe_fits w c Probe e refl k
-fits_row w c (turns _ _ _ _ _ _) e s k = probe_fits w c Probe e refl k
-fits_row w c (turns_unasked _ _ _ _ _ _) e s k = probe_fits w c Probe e refl k
-fits_row w c (goes_on _ _ _ _ _ _) e s k = probe_fits w c Probe e refl k
-fits_row w c (goes_on_unasked _ _ _ _ _ _) e s k = probe_fits w c Probe e refl k
-fits_row w c (memory_refused _ _) e s k = probe_fits w c AtEmpty e refl k
-fits_row w c (puts _ _ _) e s k = probe_fits w c AtEmpty e refl k
-fits_row w c (loses_meets _ _ _ _ _) e s k = probe_fits w c AtEmpty e refl k
-fits_row w c (loses_turns _ _ _ _ _ _) e s k = probe_fits w c AtEmpty e refl k
-fits_row w c (loses_turns_unasked _ _ _ _ _ _) e s k = probe_fits w c AtEmpty e refl k
-fits_row w c (loses_goes_on _ _ _ _ _ _) e s k = probe_fits w c AtEmpty e refl k
-fits_row w c (loses_goes_on_unasked _ _ _ _ _ _) e s k = probe_fits w c AtEmpty e refl k
-fits_row w c (look_empty _ _ _) e s k = probe_fits w c LookProbe e refl k
-fits_row w c (look_meets _ _ _ _ _) e s k = probe_fits w c LookProbe e refl k
-fits_row w c (look_turns _ _ _ _ _ _) e s k = probe_fits w c LookProbe e refl k
-fits_row w c (look_turns_unasked _ _ _ _ _ _) e s k = probe_fits w c LookProbe e refl k
-fits_row w c (look_goes_on _ _ _ _ _ _) e s k = probe_fits w c LookProbe e refl k
-fits_row w c (look_goes_on_unasked _ _ _ _ _ _) e s k = probe_fits w c LookProbe e refl k
-fits_row w c (adds _) e s k = k.stands (ap is_placed e)
-fits_row w c (large _ g _ _) e s k = size_fits w c AskSize e refl k
-fits_row w c (small _ g _ _) e s k = size_fits w c AskSize e refl k
-fits_row w c (len_size _ g _) e s k = size_fits w c LenSize e refl k
-fits_row w c (walk_skips_last _ _ _ _) e s k = walk_fits w c e k
-fits_row w c (walk_takes_last _ _ _ _ _) e s k = walk_fits w c e k
-fits_row w c (walk_skips _ _ _ _) e s k = walk_fits w c e k
-fits_row w c (walk_takes _ _ _ _ _) e s k = walk_fits w c e k
+fits_row w c {p = Probe} _ e s k = probe_fits w c Probe e refl k
+fits_row w c {p = AtEmpty} _ e s k = probe_fits w c AtEmpty e refl k
+fits_row w c {p = LookProbe} _ e s k = probe_fits w c LookProbe e refl k
+fits_row w c {p = Placed} _ e s k = k.stands (ap is_placed e)
+fits_row w c {p = AskSize} _ e s k = size_fits w c AskSize e refl k
+fits_row w c {p = LenSize} _ e s k = size_fits w c LenSize e refl k
+fits_row w c {p = WalkAt} _ e s k = walk_fits w c e k
 fits_row w c _ e s k = refl
 
 -- an entry that its call has still to count

@@ -1,5 +1,5 @@
 -- The parts of the invariant, each under its name. Each part is kept by every turn; the files beside this one prove it.
-use Rattle.std.proofs.Common.{ℕ, ◌≡◌, ◌+◌, ◌*◌, ◌<◌, ◌≤◌, ◌⊎◌, List, [], ◌∷◌, Bool, true, false, Some, None, length, take}
+use Rattle.std.proofs.Common.{ℕ, ◌≡◌, ◌+◌, ◌*◌, ◌<◌, ◌≤◌, ◌⊎◌, List, [], ◌∷◌, Bool, true, false, Option, Some, None, length, take}
 use Rattle.std.specs.Prelude.{◌==◌}
 use Rattle.std.specs.List.{slice_get}
 use Rattle.table_core.proofs.Weights.{weigh}
@@ -7,13 +7,13 @@ use Rattle.table_core.specs.Replies.{Finished}
 use Rattle.table_core.specs.Generations.{Gen, Build, Table, bucket, current, gen_of, bucket_in, entries_of}
 use Rattle.table_terms.specs.Hashes.{bits_of}
 use Rattle.table_terms.specs.Probes.{bucket_at}
-use Rattle.table_core.specs.Phases.{about, can_meet, asks_for_entry}
-use Rattle.table_core.specs.Calls.{Call, stands_at_bucket}
+use Rattle.table_core.specs.Phases.{AnInsert, ALookup, Either, about, can_meet}
+use Rattle.table_core.specs.Calls.{Call, stands_at_bucket, is_pending}
 use Rattle.table_core.specs.Machine.{World}
 use Rattle.table_core.specs.History.{back, picks}
 use Rattle.table_core.specs.declared.generation.Entry.{Entry}
 use Rattle.table_core.specs.declared.call.Phase.{Phase}
-use Rattle.table_core.specs.declared.call.Phase.TheVariants.{Placed, LeaveOk, LeaveGrow, AskSize, WantOwned, Owned, Building, LeaveOwned, LeaveFailed, LenSize, WalkAt, Done}
+use Rattle.table_core.specs.declared.call.Phase.TheVariants.{Placed, LeaveOk, LeaveGrow, AskSize, LenSize, WalkAt, Done}
 use Rattle.table_core.specs.declared.call.Outcome.{Outcome}
 use Rattle.table_core.specs.declared.call.Outcome.TheVariants.{Pending, New, Existing}
 use Rattle.table_core.proofs.Locks.{Locked}
@@ -105,25 +105,27 @@ pub record Valued (w : World) : Type 0 where
 abbrev pub probing : Phase → Bool
 probing p = can_meet (about p).next
 
--- a call that probes: its generation, its bucket, and the set buckets that it has passed
-pub record Probing (gens : List Gen) (c : Call) : Type 0 where
+-- the generation that a call walks, and its capacity, as the call knows them
+pub record Walked (gens : List Gen) (w : Option ℕ) (n : ℕ) : Type 0 where
   pub number : ℕ
   pub gen : Gen
-  pub walked : c.state.walked ≡ Some number
+  pub walked : w ≡ Some number
   pub got : slice_get gens number ≡ Some gen
-  pub capacity : c.state.capacity ≡ gen.capacity
-  pub index : c.state.index ≡ bucket_at gen.capacity c.state.hash c.state.seen
-  pub below : c.state.seen < gen.capacity
-  pub passed : (j : ℕ) → j < c.state.seen → IsSet gen.entries (bucket_at gen.capacity c.state.hash j)
+  pub capacity : n ≡ gen.capacity
+
+-- a call that probes: its generation, its bucket, and the set buckets that it has passed
+pub record Probing (gens : List Gen) (c : Call) : Type 0 where
+  pub of : Walked gens c.state.walked c.state.capacity
+  pub open of use *
+  pub index : c.state.index ≡ bucket_at of.gen.capacity c.state.hash c.state.seen
+  pub below : c.state.seen < of.gen.capacity
+  pub passed : (j : ℕ) → j < c.state.seen → IsSet of.gen.entries (bucket_at of.gen.capacity c.state.hash j)
 
 -- a call that walks: its generation, and a bucket of it
 pub record Walking (gens : List Gen) (c : Call) : Type 0 where
-  pub number : ℕ
-  pub gen : Gen
-  pub walked : c.state.walked ≡ Some number
-  pub got : slice_get gens number ≡ Some gen
-  pub capacity : c.state.capacity ≡ gen.capacity
-  pub below : c.state.index < gen.capacity
+  pub of : Walked gens c.state.walked c.state.capacity
+  pub open of use *
+  pub below : c.state.index < of.gen.capacity
 
 abbrev pub is_walking : Phase → Bool
 is_walking WalkAt = true
@@ -132,12 +134,8 @@ is_walking _ = false
 -- an insert without an outcome, in a phase that it reaches from LeaveGrow
 abbrev pub wants_growth : Phase → Outcome → Bool
 wants_growth LeaveGrow o = true
-wants_growth WantOwned Pending = true
-wants_growth Owned Pending = true
-wants_growth Building Pending = true
-wants_growth LeaveOwned Pending = true
-wants_growth LeaveFailed Pending = true
-wants_growth _ o = false
+wants_growth Done o = false
+wants_growth p o = elim (about p).outcome [ Either ↦ is_pending o | _ ↦ false ]
 
 -- it has found no generation, or every bucket of its generation set
 pub record Turned (gens : List Gen) (c : Call) : Type 0 where
@@ -201,9 +199,9 @@ pub record Reached (l : Law) (g : Gen) : Type 0 where
 pub record Missed (l : Law) (c : Call) (g : Gen) (n : ℕ) : Type 0 where
   pub none : (j : ℕ) (e : Entry) → j < n → bucket g.entries (bucket_at g.capacity c.state.hash j) ≡ Some e → accepts l c e.value ≡ false
 
--- a call in a phase that it has before its reply
+-- an insert or a look-up, in a phase that it has before its reply
 abbrev pub is_asking : Phase → Bool
-is_asking p = asks_for_entry (about p).caller
+is_asking p = elim (about p).caller [ AnInsert ↦ true | ALookup ↦ true | _ ↦ false ]
 
 pub record Judged (l : Law) (gens : List Gen) (c : Call) : Type 0 where
   -- what the call accepts has its hash

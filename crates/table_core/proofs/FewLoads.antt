@@ -5,7 +5,7 @@ use Rattle.std.specs.List.{slice_get}
 use Rattle.table_core.proofs.Weights.{count_of, count_by-count_of}
 use Rattle.table_core.specs.Replies.{Reply, Finished}
 use Rattle.table_core.specs.Generations.{Gen, Build, Table, count, current, is_current}
-use Rattle.table_core.specs.Phases.{about, loads_next}
+use Rattle.table_core.specs.Phases.{Loads, about}
 use Rattle.table_core.specs.Calls.{Call, starts, holds_owned, is_pending}
 use Rattle.table_core.specs.Machine.{World, empty, show_built, Act, Goes, acts, after}
 use Rattle.table_core.specs.History.{replies, placed, loaded_by, generations_loaded}
@@ -46,7 +46,7 @@ own_loaded c _ n e = refl
 abbrev may_load : Phase → Outcome → Bool
 may_load WantShared o = true
 may_load LeaveOwned o = is_pending o
-may_load p o = loads_next (about p).next
+may_load p o = elim (about p).next [ Loads ↦ true | _ ↦ false ]
 
 -- what a call has loaded lies behind the n-th generation, or it is the one that it walks; and it lies behind where the call may load
 record Behind (n : ℕ) (s : CallState) (ls : List ℕ) : Type 0 where

@@ -5,7 +5,7 @@ use Rattle.std.specs.List.{slice_get}
 use Rattle.table_core.specs.Replies.{Reply, Finished}
 use Rattle.table_core.specs.Generations.{Gen, Table, fill, count, last_of, change_at, change}
 use Rattle.table_terms.specs.Hashes.{bits_of}
-use Rattle.table_core.specs.Phases.{HasOutcome, No, Yes, Either, about, is_insert, can_be_other, stands}
+use Rattle.table_core.specs.Phases.{AnInsert, HasOutcome, No, Yes, Either, about, is_insert, stands}
 use Rattle.table_core.specs.Calls.{Call, starts, holds_shared, holds_owned, is_pending}
 use Rattle.table_core.specs.Machine.{World, empty, place, Act}
 use Rattle.table_core.specs.Steps.{Row, loads, reads_empty, meets, goes_on, goes_on_unasked, puts, loses_meets, loses_goes_on, loses_goes_on_unasked, adds, shows, starts_over, tries_again, look_meets, Opens, opens_insert, opens_lookup, opens_len, opens_walk, left}
@@ -34,10 +34,14 @@ abbrev pub may_find : HasOutcome → Outcome → Bool
 may_find h (New _) = false
 may_find h o = may_have h o
 
+-- whether a look-up, a length or a walk can be in a phase
+abbrev pub can_be_other : Phase → Bool
+can_be_other p = elim (about p).caller [ AnInsert ↦ false | _ ↦ true ]
+
 -- which outcomes an insert (true) or another call may have in a phase
 abbrev pub fitting : Bool → Phase → Outcome → Bool
 fitting true p o = is_insert p && may_have (about p).outcome o
-fitting false p o = can_be_other (about p).caller && may_find (about p).outcome o
+fitting false p o = can_be_other p && may_find (about p).outcome o
 
 -- a test that passes for each kind and outcome
 abbrev pub Each : (Bool → Outcome → Bool) → Type 0

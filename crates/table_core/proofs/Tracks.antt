@@ -22,21 +22,22 @@ use Rattle.std.proofs.lemmas.Nat.{mod_below}
 use Rattle.std.specs.Option.{is_some}
 use Rattle.table_core.proofs.Turns.{Turn, rests, opens, takes}
 use Rattle.table_core.proofs.Standing.{fitting, CallOk, CallsOk, implies, imply}
-use Rattle.table_core.proofs.Facts.{IsSet, AllGrew, AllSeated, is_placed, measuring, probing, Probing, Walking, is_walking, wants_growth, Turned, Met, Tracked, AllTracked}
+use Rattle.table_core.proofs.Facts.{IsSet, AllGrew, AllSeated, is_placed, measuring, Walked, probing, Probing, Walking, is_walking, wants_growth, Turned, Met, Tracked, AllTracked}
 use Rattle.table_core.proofs.Contents.{row_grew, fit_at, order, bucket_some}
 use Rattle.std.proofs.Math.Nat.{mod-add-mod}
 
 -- Generations that have grown
 
+abbrev walked_grown : (gens now : List Gen) (w : Option ℕ) (k : ℕ) → AllGrew gens now → Walked gens w k → Walked now w k
+walked_grown gens now w k g p =
+    let n = g.each p.number p.gen p.got in
+    record { number = p.number; gen = n.0; walked = p.walked; got = n.1; capacity = p.capacity ∙ sym n.2.capacity }
+
 pub probing_grown : (gens now : List Gen) (c : Call) → AllGrew gens now → Probing gens c → Probing now c
 probing_grown gens now c g p =
     let n = g.each p.number p.gen p.got in
     record {
-      number = p.number;
-      gen = n.0;
-      walked = p.walked;
-      got = n.1;
-      capacity = p.capacity ∙ sym n.2.capacity;
+      of = walked_grown gens now _ _ g p.of;
       index = rw n.2.capacity p.index;
       below = rw n.2.capacity p.below;
       passed = λ j lt. ((p.passed j lt).0, rw n.2.capacity (n.2.kept _ _ (p.passed j lt).1));
@@ -54,7 +55,7 @@ at_bucket gens c p =
 pub walking_grown : (gens now : List Gen) (c : Call) → AllGrew gens now → Walking gens c → Walking now c
 walking_grown gens now c g p =
     let n = g.each p.number p.gen p.got in
-    record { number = p.number; gen = n.0; walked = p.walked; got = n.1; capacity = p.capacity ∙ sym n.2.capacity; below = rw n.2.capacity p.below }
+    record { of = walked_grown gens now _ _ g p.of; below = rw n.2.capacity p.below }
 
 pub turned_grown : (gens now : List Gen) (c : Call) → AllGrew gens now → Turned gens c → Turned now c
 turned_grown gens now c g t = record {
@@ -84,14 +85,14 @@ tracked_grown gens now c g t = record {
 
 -- A call that moves
 
+-- a call that loads walks the current generation
+abbrev walked_now : (t : Table) (g : Gen) → current t ≡ Some g → Walked t.gens (Some (length t.gens - 1)) g.capacity
+walked_now t g h = record { number = length t.gens - 1; gen = g; walked = refl; got = h; capacity = refl }
+
 -- a probe at its first bucket
 pub probing_first : (t : Table) (c : Call) (g : Gen) (on : Phase) (ls : List ℕ) → current t ≡ Some g → 0 < g.capacity → Probing t.gens (left c (probes on c.state (length t.gens - 1) g.capacity) ls)
 probing_first t c g on ls h pos = record {
-  number = length t.gens - 1;
-  gen = g;
-  walked = refl;
-  got = h;
-  capacity = refl;
+  of = walked_now t g h;
   index = let z : c.state.hash ≡ c.state.hash + 0 = omega arith in ap (λ x. x % g.capacity) z;
   below = pos;
   passed = λ j lt. absurd (omega arith);
@@ -111,11 +112,7 @@ index_after capacity hash seen = mod-add-mod (hash + seen) capacity 1 ∙ ap (λ
 -- one bucket further
 pub probing_on : (w : World) (c : Call) (on : Phase) (ls : List ℕ) (e : Entry) → bucket_of w.table c.state ≡ Some e → nat_lt (c.state.seen + 1) c.state.capacity ≡ true → Probing w.table.gens c → Probing w.table.gens (left c (next_bucket on c.state) ls)
 probing_on w c on ls e b lt p = record {
-  number = p.number;
-  gen = p.gen;
-  walked = p.walked;
-  got = p.got;
-  capacity = p.capacity;
+  of = p.of;
   index = rw (p.capacity, p.index) (index_after p.gen.capacity c.state.hash c.state.seen);
   below = let l : c.state.seen + 1 < c.state.capacity = ltb-true (c.state.seen + 1) c.state.capacity lt in rw p.capacity at l;
   passed = passed_more p.gen c.state.hash c.state.seen e (probe_bucket w c e p b) p.passed;
@@ -130,7 +127,7 @@ probing_row w c (loses_goes_on _ _ e b f lt) s q z = probing_on w c Probe _ e b 
 probing_row w c (loses_goes_on_unasked _ _ e b f lt) s q z = probing_on w c Probe _ e b lt (q refl)
 probing_row w c (look_goes_on _ _ e b f lt) s q z = probing_on w c LookProbe _ e b lt (q refl)
 probing_row w c (look_goes_on_unasked _ _ e b f lt) s q z = probing_on w c LookProbe _ e b lt (q refl)
-probing_row w c (reads_empty _ _ _) s q z = let o = q refl in record { number = o.number; gen = o.gen; walked = o.walked; got = o.got; capacity = o.capacity; index = o.index; below = o.below; passed = o.passed }
+probing_row w c (reads_empty _ _ _) s q z = let o = q refl in record { of = o.of; index = o.index; below = o.below; passed = o.passed }
 probing_row w c _ s q z = absurd (cc)
 
 -- a value has come into the bucket of its call's probe
@@ -155,10 +152,10 @@ measures_row w c (len_loads _ g h) s q o m z = (s.gens _ g h).roomy
 measures_row w c _ s q o m z = absurd (cc)
 
 pub walking_on : (w : World) (c : Call) (r : CallState) (ls : List ℕ) → r ≡ record c.state { phase = WalkAt; index = c.state.index + 1 } → nat_lt (c.state.index + 1) c.state.capacity ≡ true → Walking w.table.gens c → Walking w.table.gens (left c r ls)
-walking_on w c r ls e lt p = rw e (record { number = p.number; gen = p.gen; walked = p.walked; got = p.got; capacity = p.capacity; below = let l : c.state.index + 1 < c.state.capacity = ltb-true (c.state.index + 1) c.state.capacity lt in rw p.capacity at l })
+walking_on w c r ls e lt p = rw e (record { of = p.of; below = let l : c.state.index + 1 < c.state.capacity = ltb-true (c.state.index + 1) c.state.capacity lt in rw p.capacity at l })
 
 pub walking_row : (w : World) (c : Call) {p : Phase} {x : Event} {a : Answer} {r : CallState} {ls : List ℕ} {t : Table} {q : Option Reply} → Row w c p x a r ls t q → AllSeated w → (is_walking p ≡ true → Walking w.table.gens c) → is_walking r.phase ≡ true → Walking w.table.gens (left c r ls)
-walking_row w c (walk_loads n g h) s q z = record { number = length w.table.gens - 1; gen = g; walked = refl; got = h; capacity = refl; below = (s.gens _ g h).roomy }
+walking_row w c (walk_loads n g h) s q z = record { of = walked_now w.table g h; below = (s.gens _ g h).roomy }
 walking_row w c (walk_skips _ _ _ lt) s q z = walking_on w c _ _ refl lt (q refl)
 walking_row w c (walk_takes _ _ _ _ lt) s q z = walking_on w c _ _ refl lt (q refl)
 walking_row w c _ s q z = absurd (cc)

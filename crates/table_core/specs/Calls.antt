@@ -3,7 +3,7 @@ use Rattle.std.specs.Prelude.{ℕ, ◌+◌, ◌/◌, ◌%◌, ◌==◌, ◌&&◌
 use Rattle.std.specs.Prelude.{true, false, Option, Some, None, List, [], ◌∷◌}
 use Rattle.std.specs.List.{find, list_any}
 use Rattle.std.specs.Option.{option_map}
-use Rattle.table_core.specs.Phases.{is_shared, is_alone, about}
+use Rattle.table_core.specs.Phases.{Shares, Owns, about}
 use Rattle.table_core.specs.declared.call.Phase.{Phase}
 use Rattle.table_core.specs.declared.call.Phase.TheVariants.{WantShared, Shared, Probe, AtEmpty}
 use Rattle.table_core.specs.declared.call.Phase.TheVariants.{Placed, LeaveOk, LeaveGrow}
@@ -109,11 +109,11 @@ is_finished (Some c) = is_done c.state.phase
 
 -- whether a call in this phase holds the lock shared
 abbrev pub holds_shared : Phase → Bool
-holds_shared p = is_shared (about p).lock
+holds_shared p = elim (about p).lock [ Shares ↦ true | _ ↦ false ]
 
 -- whether a call in this phase holds the lock exclusively
 abbrev pub holds_owned : Phase → Bool
-holds_owned p = is_alone (about p).lock
+holds_owned p = elim (about p).lock [ Owns ↦ true | _ ↦ false ]
 
 -- one of these calls holds the lock exclusively
 abbrev pub is_owned : List Call → Bool
@@ -151,15 +151,18 @@ passes on turned s =
 abbrev pub finds_entry : Phase → CallState → CallState
 finds_entry p s = record s { phase = p; outcome = Existing s.index }
 
+-- at a set bucket: it accepts the entry, and goes to the phase `found`, or passes it
+abbrev pub at_set_bucket : Phase → Phase → Phase → CallState → Bool → CallState
+at_set_bucket found on turned s true = finds_entry found s
+at_set_bucket found on turned s false = passes on turned s
+
 -- an insert at a set bucket
 abbrev pub insert_meets : CallState → Bool → CallState
-insert_meets s true = finds_entry LeaveOk s
-insert_meets s false = passes Probe LeaveGrow s
+insert_meets s accepted = at_set_bucket LeaveOk Probe LeaveGrow s accepted
 
 -- a look-up at a set bucket
 abbrev pub lookup_meets : CallState → Bool → CallState
-lookup_meets s true = finds_entry Done s
-lookup_meets s false = passes LookProbe Done s
+lookup_meets s accepted = at_set_bucket Done LookProbe Done s accepted
 
 -- a walk goes on to the next bucket, until there is none
 abbrev pub walk_passes : CallState → CallState

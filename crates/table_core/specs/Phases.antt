@@ -18,51 +18,11 @@ pub data Caller : Type 0 where
   AWalk : Caller
   AnyCall : Caller
 
--- an insert can be in it
-abbrev pub can_insert : Caller → Bool
-can_insert AnInsert = true
-can_insert AnyCall = true
-can_insert _ = false
-
--- a look-up can be in it
-abbrev pub can_look : Caller → Bool
-can_look ALookup = true
-can_look AnyCall = true
-can_look _ = false
-
--- a look-up, a length or a walk can be in it
-abbrev pub can_be_other : Caller → Bool
-can_be_other AnInsert = false
-can_be_other _ = true
-
--- it asks for an entry: an insert or a look-up that hasn't ended
-abbrev pub asks_for_entry : Caller → Bool
-asks_for_entry AnInsert = true
-asks_for_entry ALookup = true
-asks_for_entry _ = false
-
--- the phase in which such a call begins; for any call, that of an insert
-abbrev pub first_phase : Caller → Phase
-first_phase ALookup = LookLoad
-first_phase ALength = LenLoad
-first_phase AWalk = WalkLoad
-first_phase _ = WantShared
-
 -- how a call holds the table's lock: not at all, shared, or alone
 pub data Lock : Type 0 where
   Free : Lock
   Shares : Lock
   Owns : Lock
-
--- whether it shares it
-abbrev pub is_shared : Lock → Bool
-is_shared Shares = true
-is_shared _ = false
-
--- whether it holds it alone
-abbrev pub is_alone : Lock → Bool
-is_alone Owns = true
-is_alone _ = false
 
 -- what a call does next
 pub data Next : Type 0 where
@@ -84,15 +44,10 @@ pub data Next : Type 0 where
   Builds : Next
   -- it releases the lock
   Leaves : Next
-  -- it puts the entry of a bucket into its list
+  -- it puts the entry of a bucket, if any, into its list
   Lists : Next
   -- it has ended
   Ends : Next
-
--- it loads the current generation
-abbrev pub loads_next : Next → Bool
-loads_next Loads = true
-loads_next _ = false
 
 -- it reads a bucket of its probe
 abbrev pub reads : Next → Bool
@@ -120,21 +75,11 @@ goes_on Waits = false
 goes_on Ends = false
 goes_on _ = true
 
--- whether a call has an outcome
+-- whether a call has an outcome, as `CallState.outcome` has it: any but `Pending`
 pub data HasOutcome : Type 0 where
   No : HasOutcome
   Yes : HasOutcome
   Either : HasOutcome
-
--- it has none yet
-abbrev pub has_none : HasOutcome → Bool
-has_none No = true
-has_none _ = false
-
--- it has one
-abbrev pub has_one : HasOutcome → Bool
-has_one Yes = true
-has_one _ = false
 
 -- what is said of a phase
 pub record About : Type 0 where
@@ -144,7 +89,7 @@ pub record About : Type 0 where
   pub lock : Lock
   -- what it does next
   pub next : Next
-  -- whether it has an outcome
+  -- whether its state has an outcome
   pub outcome : HasOutcome
 
 -- the table: what is said of each phase
@@ -173,7 +118,7 @@ about Done = record { caller = AnyCall; lock = Free; next = Ends; outcome = Eith
 
 -- whether an insert can be in this phase
 abbrev pub is_insert : Phase → Bool
-is_insert p = can_insert (about p).caller
+is_insert p = elim (about p).caller [ AnInsert ↦ true | AnyCall ↦ true | _ ↦ false ]
 
 -- whether an insert in this phase stands at a bucket
 abbrev pub stands : Phase → Bool

@@ -1,7 +1,7 @@
 //! Where an answer takes a call: the table of events as code.
 ghost use Rattle.std.specs.Prelude.{◌≡◌, true, Some, None, nat_lt, ◌/◌, ◌%◌, ◌+◌, ◌<◌, if◌then◌else◌};
 ghost use Rattle.table_core.specs.Calls.{decide as after_answer, stands_at_bucket, to, probes, passes, finds_entry};
-ghost use Rattle.table_core.specs.Calls.{insert_meets, lookup_meets, walk_passes, growth_ends, growth_fails};
+ghost use Rattle.table_core.specs.Calls.{at_set_bucket, insert_meets, lookup_meets, walk_passes, growth_ends, growth_fails};
 
 use crate::call::Answer::*;
 use crate::call::Phase::*;
@@ -99,6 +99,19 @@ fn after_empty_load(state: CallState) -> CallState
     }
 }
 
+/// A call that has this generation.
+#[inline(always)]
+fn in_generation(state: CallState, phase: Phase, number: u64, capacity: u64) -> CallState
+    ensures { result ≡ record state { phase = phase; walked = Some number; capacity = capacity } }
+{
+    CallState {
+        phase,
+        walked: Some(number),
+        capacity,
+        ..state
+    }
+}
+
 /// A probe from the bucket of its hash.
 #[inline(always)]
 fn probe(state: CallState, phase: Phase, number: u64, capacity: u64) -> CallState
@@ -108,12 +121,9 @@ fn probe(state: CallState, phase: Phase, number: u64, capacity: u64) -> CallStat
         return state;
     }
     CallState {
-        phase,
-        walked: Some(number),
-        capacity,
         index: remainder(state.hash, capacity),
         seen: 0,
-        ..state
+        ..in_generation(state, phase, number, capacity)
     }
 }
 
@@ -162,18 +172,34 @@ fn accept_here(state: CallState, phase: Phase) -> CallState
     }
 }
 
+/// A call at a set bucket: it accepts the entry, or passes it.
+#[inline(always)]
+fn after_met(state: CallState, accepted: bool, found: Phase, on: Phase, turned: Phase) -> CallState
+    ensures { result ≡ (if stands_at_bucket state then at_set_bucket found on turned state accepted else state) }
+{
+    if !stands(state) {
+        state
+    } else if accepted {
+        accept_here(state, found)
+    } else {
+        pass(state, on, turned)
+    }
+}
+
 /// An insert at a set bucket.
 #[inline(always)]
 fn after_insert_met(state: CallState, accepted: bool) -> CallState
     ensures { result ≡ (if stands_at_bucket state then insert_meets state accepted else state) }
 {
-    if !stands(state) {
-        state
-    } else if accepted {
-        accept_here(state, Phase::LeaveOk)
-    } else {
-        pass(state, Phase::Probe, Phase::LeaveGrow)
-    }
+    after_met(state, accepted, LeaveOk, Probe, LeaveGrow)
+}
+
+/// A look-up at a set bucket.
+#[inline(always)]
+fn after_lookup_met(state: CallState, accepted: bool) -> CallState
+    ensures { result ≡ (if stands_at_bucket state then lookup_meets state accepted else state) }
+{
+    after_met(state, accepted, Done, LookProbe, Done)
 }
 
 /// An insert whose value is counted.
@@ -217,20 +243,6 @@ fn after_length_size(state: CallState) -> CallState
     in_phase(state, Phase::Done)
 }
 
-/// A look-up at a set bucket.
-#[inline(always)]
-fn after_lookup_met(state: CallState, accepted: bool) -> CallState
-    ensures { result ≡ (if stands_at_bucket state then lookup_meets state accepted else state) }
-{
-    if !stands(state) {
-        state
-    } else if accepted {
-        accept_here(state, Phase::Done)
-    } else {
-        pass(state, Phase::LookProbe, Phase::Done)
-    }
-}
-
 /// A length that has its generation.
 #[inline(always)]
 fn after_length_load(state: CallState, number: u64, capacity: u64) -> CallState
@@ -239,12 +251,7 @@ fn after_length_load(state: CallState, number: u64, capacity: u64) -> CallState
     if capacity == 0 {
         return state;
     }
-    CallState {
-        phase: Phase::LenSize,
-        walked: Some(number),
-        capacity,
-        ..state
-    }
+    in_generation(state, Phase::LenSize, number, capacity)
 }
 
 /// A walk that has its generation.
@@ -256,11 +263,8 @@ fn after_walk_load(state: CallState, number: u64, capacity: u64) -> CallState
         return state;
     }
     CallState {
-        phase: Phase::WalkAt,
-        walked: Some(number),
-        capacity,
         index: 0,
-        ..state
+        ..in_generation(state, Phase::WalkAt, number, capacity)
     }
 }
 

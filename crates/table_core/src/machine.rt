@@ -153,10 +153,8 @@ fn tell_lookup<A: Allocator + Copy>(
     if !accepted {
         return Some(Reply::None);
     }
-    match bucket_of(table, state) {
-        Some(entry) => Some(Reply::Some(entry.value)),
-        None => None,
-    }
+    let entry = bucket_of(table, state)?;
+    Some(Reply::Some(entry.value))
 }
 
 /// What a call, other than a walk at a bucket, is told that ends by an answer.

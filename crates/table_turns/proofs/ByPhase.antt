@@ -1,30 +1,40 @@
 -- What each step does, by the phase in which it is taken.
-use Rattle.std.proofs.Common.{◌≡◌, ◌<◌, ◌+◌, ℕ, refl, sym, subst, Bool, true, false, nat_lt, arith, rules}
+use Rattle.std.proofs.Common.{◌≡◌, ◌<◌, ◌+◌, ℕ, refl, sym, ap, subst, ◌∙◌, Bool, true, false, nat_lt, arith, rules}
 use Rattle.std.specs.Prelude.{if◌then◌else◌, ◌&&◌, ◌%◌, ◌⊎◌, ◌≢◌}
 use Rattle.std.proofs.Common.{inl, inr}
 use Rattle.std.proofs.lemmas.Bool.{ltb-true, lt-ltb}
 use Rattle.std.proofs.Math.Nat.{mod-lt}
 use Rattle.table_core.specs.declared.call.Phase.{Phase}
-use Rattle.table_core.specs.declared.call.Phase.TheVariants.{WantShared, Shared, Probe, AtEmpty, LeaveOk, LeaveGrow, LeaveRefused, AskSize, WantOwned, Building, LeaveOwned, LeaveFailed, LookLoad, LookProbe, Done}
+use Rattle.table_core.specs.declared.call.Phase.TheVariants.{WantShared, Shared, Probe, AtEmpty, Placed, LeaveOk, LeaveGrow, LeaveRefused, AskSize, WantOwned, Building, LeaveOwned, LeaveFailed, LookLoad, LookProbe, Done}
 use Rattle.table_core.specs.declared.call.Outcome.{Outcome}
 use Rattle.table_core.specs.declared.call.Outcome.TheVariants.{Pending, New, Existing}
 use Rattle.table_core.specs.declared.call.Answer.TheVariants.{Loaded, Holds, Empty}
 use Rattle.table_core.specs.declared.call.CallState.{CallState}
 use Rattle.table_core.specs.Calls.{decided, fits, to, passes, probes, stands_at_bucket, is_pending, finds_entry}
-use Rattle.table_core.specs.Phases.{Free}
+use Rattle.table_core.specs.Phases.{Free, Owns}
 use Rattle.table_turns.specs.Phases.{Inserts, Meets, MeetsEntry, ReadsBucket, AtBucket, Hopes, Walks, Leaves, lock_in, left, left_in, reached, reached_by}
 use Rattle.table_turns.specs.Steps.{LeavesWith, Leaving, Passing, Starting, LookingPast, passed, released}
 
 -- The release of a lock
 
--- an insert goes to a phase in which it holds no lock, stands at no bucket and builds nothing, and
--- reaches there what its phase before said
-leaving : (p q : Phase) → (s : CallState) → Inserts q → lock_in q ≡ Free → (AtBucket q → ⊥) → q ≢ Building → (Walks q → Walks p) → (Walks q → nat_lt 0 s.capacity ≡ true) → (Hopes q → s.outcome ≡ Pending) → reached q s.outcome ≡ reached p s.outcome → Leaving (to p s) (to q s)
-leaving p q s i l a b w c h r = record {
+-- an insert that holds no lock stands at no bucket
+at_no_bucket : (q : Phase) → lock_in q ≡ Free → AtBucket q → ⊥
+at_no_bucket Probe l a = absurd (cc)
+at_no_bucket AtEmpty l a = absurd (cc)
+at_no_bucket Placed l a = absurd (cc)
+at_no_bucket _ l a = a
+
+-- and builds nothing
+not_building : (q : Phase) → lock_in q ≡ Free → q ≢ Building
+not_building q l e = let owns : Owns ≡ Free = ap lock_in (sym e) ∙ l in absurd (cc)
+
+-- an insert goes to a phase in which it holds no lock, and reaches there what its phase before said
+leaving : (p q : Phase) → (s : CallState) → Inserts q → lock_in q ≡ Free → (Walks q → Walks p) → (Walks q → nat_lt 0 s.capacity ≡ true) → (Hopes q → s.outcome ≡ Pending) → reached q s.outcome ≡ reached p s.outcome → Leaving (to p s) (to q s)
+leaving p q s i l w c h r = record {
   inserts = i;
   lock = l;
-  at_no_bucket = a;
-  not_building = b;
+  at_no_bucket = at_no_bucket q l;
+  not_building = not_building q l;
   walks = w;
   wide = c;
   pending = h;
@@ -34,11 +44,11 @@ leaving p q s i l a b w c h r = record {
 
 -- an insert that ends
 to_done : (p : Phase) → (s : CallState) → reached p s.outcome ≡ reached_by s.outcome → Leaving (to p s) (to Done s)
-to_done p s e = leaving p Done s refl refl (λ x. x) (search rules) (λ x. absurd x) (λ x. absurd x) (λ x. absurd x) (sym e)
+to_done p s e = leaving p Done s refl refl (λ x. absurd x) (λ x. absurd x) (λ x. absurd x) (sym e)
 
 -- an insert that starts over
 to_start : (p : Phase) → (s : CallState) → reached p s.outcome ≡ reached_by s.outcome → s.outcome ≡ Pending → Leaving (to p s) (to WantShared s)
-to_start p s e o = leaving p WantShared s refl refl (λ x. x) (search rules) (λ x. absurd x) (λ x. absurd x) (λ x. o) (sym e)
+to_start p s e o = leaving p WantShared s refl refl (λ x. absurd x) (λ x. absurd x) (λ x. o) (sym e)
 
 -- growth is over
 by_end : (o : Outcome) → (s : CallState) → s.outcome ≡ o → Leaving (to LeaveOwned s) (if is_pending o then to WantShared s else to Done s)
@@ -54,8 +64,8 @@ by_failure (New i) b s e = to_done LeaveFailed s refl
 by_failure (Existing i) b s e = to_done LeaveFailed s refl
 
 leaves_in : (p : Phase) → (s : CallState) → (b : Bool) → Leaves p → LeavesWith (to p s) → Leaving (to p s) (decided p (to p s) (released p b))
-leaves_in LeaveOk s b l w = leaving LeaveOk AskSize s refl refl (λ x. x) (search rules) (λ x. tt) w.1 (λ x. absurd x) refl
-leaves_in LeaveGrow s b l w = leaving LeaveGrow WantOwned s refl refl (λ x. x) (search rules) (λ x. absurd x) (λ x. absurd x) (λ x. absurd x) refl
+leaves_in LeaveOk s b l w = leaving LeaveOk AskSize s refl refl (λ x. tt) w.1 (λ x. absurd x) refl
+leaves_in LeaveGrow s b l w = leaving LeaveGrow WantOwned s refl refl (λ x. absurd x) (λ x. absurd x) (λ x. absurd x) refl
 leaves_in LeaveRefused s b l w = to_done LeaveRefused s refl
 leaves_in LeaveOwned s b l w = by_end s.outcome s refl
 leaves_in LeaveFailed s b l w = by_failure s.outcome b s refl

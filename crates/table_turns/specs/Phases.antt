@@ -1,7 +1,7 @@
 -- What the phase of a running call says: of its lock, of its outcome, and of the bucket at which it stands.
-use Rattle.std.specs.Prelude.{◌≡◌, ℕ, ◌+◌, ◌-◌, ◌^◌, Bool, true, ◌&&◌, ◌||◌, T}
-use Rattle.table_core.specs.Phases.{Lock, about, is_insert, can_look, can_meet, reads, leaves}
-use Rattle.table_core.specs.Phases.{goes_on, stands, has_none, has_one}
+use Rattle.std.specs.Prelude.{◌≡◌, ℕ, ◌+◌, ◌-◌, ◌^◌, Bool, true, false, ◌&&◌, ◌||◌, T}
+use Rattle.table_core.specs.Phases.{ALookup, AnyCall, Lock, No, Yes, about, is_insert, can_meet}
+use Rattle.table_core.specs.Phases.{reads, leaves, goes_on, stands}
 use Rattle.table_core.specs.declared.call.Phase.{Phase}
 use Rattle.table_core.specs.declared.call.Phase.TheVariants.{Placed, LookLoad, LookProbe}
 use Rattle.table_core.specs.declared.call.Outcome.{Outcome}
@@ -38,12 +38,12 @@ AtBucket p = T (stands p)
 
 -- an insert in this phase has no outcome yet
 abbrev pub Hopes : Phase → Type 0
-Hopes p = T (is_insert p && has_none (about p).outcome)
+Hopes p = T (is_insert p && elim (about p).outcome [ No ↦ true | _ ↦ false ])
 
 -- an insert in this phase goes on with the generation that it loaded: it stands at a bucket of it, or
 -- it has an outcome
 abbrev pub Walks : Phase → Type 0
-Walks p = T (stands p || (is_insert p && has_one (about p).outcome))
+Walks p = T (stands p || (is_insert p && elim (about p).outcome [ Yes ↦ true | _ ↦ false ]))
 
 -- an insert in this phase releases its lock
 abbrev pub Leaves : Phase → Type 0
@@ -76,7 +76,7 @@ reached _ o = reached_by o
 
 -- whether a look-up can be in this phase
 abbrev pub is_look : Phase → Bool
-is_look p = can_look (about p).caller
+is_look p = elim (about p).caller [ ALookup ↦ true | AnyCall ↦ true | _ ↦ false ]
 
 -- a look-up can be in this phase
 abbrev pub Looks : Phase → Type 0
