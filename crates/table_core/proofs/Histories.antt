@@ -22,7 +22,7 @@ use Rattle.std.proofs.Common.{append_assoc}
 use Rattle.std.specs.Option.{is_some}
 use Rattle.table_core.specs.ListObject.{Answers}
 use Rattle.table_core.specs.Law.{Law, IsLawful}
-use Rattle.table_core.specs.Lists.{asked, answered, is_list_reply, is_moment, may_be_refused, is_refusal, IsRight}
+use Rattle.table_core.specs.Lists.{asked, is_list_reply, is_moment, may_be_refused, is_refusal, IsRight}
 use Rattle.table_core.proofs.Pasts.{after_snoc, has_later_append, placed_snoc}
 use Rattle.table_core.proofs.Standing.{fitting, Each, of_each, implies, imply, pending_of}
 use Rattle.table_core.proofs.Facts.{in_table, probing, is_asking}
@@ -77,10 +77,10 @@ placed_or_none c _ = inl refl
 
 pub data StandsHere (l : Law) (f : ℕ) (s : List Event) (h : List Finished) (v : List ℕ) : Type 0 where
   nothing : h ≡ [] → v ≡ [] → StandsHere l f s h v
-  one : (r : Finished) → h ≡ r ∷ [] → Answers l.equal (placed (empty f) s) (asked l r) (answered r.reply) (placed (empty f) s ++ v) → StandsHere l f s h v
+  one : (r : Finished) → h ≡ r ∷ [] → Answers l.equal (placed (empty f) s) (asked l r) r.reply (placed (empty f) s ++ v) → StandsHere l f s h v
 
 -- the put of a value is its moment
-pub put_answer : (l : Law) (f : ℕ) → IsFirstCapacity f → (s : List Event) (x : Event) (c : Call) (a : Answer) (v : ℕ) → IsLawful l f s → acts (after f s) x ≡ Some (Goes c a) → a ≡ Won → c.value ≡ Some v → Answers l.equal (placed (empty f) s) (asked l (say c.number (ReplyPlaced v))) (answered (ReplyPlaced v)) (placed (empty f) s ++ option_to_list c.value)
+pub put_answer : (l : Law) (f : ℕ) → IsFirstCapacity f → (s : List Event) (x : Event) (c : Call) (a : Answer) (v : ℕ) → IsLawful l f s → acts (after f s) x ≡ Some (Goes c a) → a ≡ Won → c.value ≡ Some v → Answers l.equal (placed (empty f) s) (asked l (say c.number (ReplyPlaced v))) (ReplyPlaced v) (placed (empty f) s ++ option_to_list c.value)
 put_answer l f i s x c a v u h e k =
     let t = took_after f s x c a h in
     let p = won_row (after f s) c t.row e in
@@ -156,11 +156,11 @@ lawful_till l f s x xs inner rest last y e h u =
     let v : IsLawful l f ((s ++ x ∷ inner) ++ rest) = subst (λ z. IsLawful l f z) q u in
     subst (λ z. IsLawful l f z) e (lawful_before l (s ++ x ∷ inner) rest (empty f) v)
 
-pub answer_at : (l : Law) (f : ℕ) (r : Finished) (m : List Event) (x : Event) (b : List Event) (y : Event) → m ≡ b → x ≡ y → Answers l.equal (placed (empty f) b) (asked l r) (answered r.reply) (placed (empty f) (b ++ y ∷ [])) → Answers l.equal (placed (empty f) m) (asked l r) (answered r.reply) (placed (empty f) (m ++ x ∷ []))
+pub answer_at : (l : Law) (f : ℕ) (r : Finished) (m : List Event) (x : Event) (b : List Event) (y : Event) → m ≡ b → x ≡ y → Answers l.equal (placed (empty f) b) (asked l r) r.reply (placed (empty f) (b ++ y ∷ [])) → Answers l.equal (placed (empty f) m) (asked l r) r.reply (placed (empty f) (m ++ x ∷ []))
 answer_at l f r m x b y e g k = rw (e, g) k
 
 -- at the moment of its reply a call has the list object's answer
-pub answer_here : (l : Law) (f : ℕ) → IsFirstCapacity f → (s : List Event) (x : Event) (xs : List Event) (c : Call) (a : Answer) (r : Finished) → IsLawful l f (s ++ x ∷ xs) → acts (after f s) x ≡ Some (Goes c a) → fate (after f s) (x ∷ xs) c.number ≡ Some r → is_moment r.reply c.state.phase a ≡ true → (is_refusal r.reply ≡ true → has_later may_be_refused (happens (after f s) x) xs c.number ≡ false) → Answers l.equal (placed (empty f) s) (asked l r) (answered r.reply) (placed (empty f) s ++ placed_by (Some (Goes c a)))
+pub answer_here : (l : Law) (f : ℕ) → IsFirstCapacity f → (s : List Event) (x : Event) (xs : List Event) (c : Call) (a : Answer) (r : Finished) → IsLawful l f (s ++ x ∷ xs) → acts (after f s) x ≡ Some (Goes c a) → fate (after f s) (x ∷ xs) c.number ≡ Some r → is_moment r.reply c.state.phase a ≡ true → (is_refusal r.reply ≡ true → has_later may_be_refused (happens (after f s) x) xs c.number ≡ false) → Answers l.equal (placed (empty f) s) (asked l r) r.reply (placed (empty f) s ++ placed_by (Some (Goes c a)))
 answer_here l f i s x xs c a r u h e m z =
     let t = ending f s x xs c.number r e in
     let g = t.0 in
@@ -172,8 +172,8 @@ answer_here l f i s x xs c a r u h e m z =
     let y3 = or_parts _ _ (sym (has_later_append may_be_refused g.inner g.rest (after f (s ++ x ∷ [])) c.number) ∙ y2) in
     subst (λ n. has_later may_be_refused (after f (s ++ x ∷ [])) g.inner n ≡ false) (sym t.1) y3.0) in
     let w = same_moment f i r.reply r.call s x g.inner k.at.before k.at.event k.at.rest c k.at.call a k.at.found eq h (sym t.1) m early k.at.taken k.at.own k.moment k.last (cut s x g.inner k.at.before k.at.event k.at.rest eq) in
-    let ans : Answers l.equal (placed (empty f) s) (asked l r) (answered r.reply) (placed (empty f) (s ++ x ∷ [])) = answer_at l f r s x k.at.before k.at.event w.before w.event k.answer in
-    subst (λ v. Answers l.equal (placed (empty f) s) (asked l r) (answered r.reply) v) (placed_snoc f s x ∙ ap (λ o. placed (empty f) s ++ placed_by o) h) ans
+    let ans : Answers l.equal (placed (empty f) s) (asked l r) r.reply (placed (empty f) (s ++ x ∷ [])) = answer_at l f r s x k.at.before k.at.event w.before w.event k.answer in
+    subst (λ v. Answers l.equal (placed (empty f) s) (asked l r) r.reply v) (placed_snoc f s x ∙ ap (λ o. placed (empty f) s ++ placed_by o) h) ans
 
 -- A call that has placed its value is told so
 

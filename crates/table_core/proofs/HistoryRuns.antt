@@ -20,7 +20,7 @@ use Rattle.std.proofs.Common.{append_assoc}
 use Rattle.std.proofs.lemmas.Bool.{eqb-true}
 use Rattle.table_core.specs.ListObject.{Answers, IsListRun}
 use Rattle.table_core.specs.Law.{Law, IsLawful}
-use Rattle.table_core.specs.Lists.{asked, answered, placed_here, stands_here, history_at, history, is_moment, may_be_refused, is_refusal}
+use Rattle.table_core.specs.Lists.{asked, placed_here, stands_here, history_at, history, is_moment, may_be_refused, is_refusal}
 use Rattle.table_core.proofs.Pasts.{append-none, after_snoc, placed_snoc}
 use Rattle.table_core.proofs.Facts.{in_table}
 use Rattle.table_core.proofs.Contents.{fit_at}
@@ -83,7 +83,7 @@ pub stands_none : (l : Law) (f : ℕ) → IsFirstCapacity f → (s : List Event)
 stands_none l f i s x c a u h (inl e) = rw e (nothing refl refl)
 stands_none l f i s x c a u h (inr k) =
     let g = put_answer l f i s x c a k.0 u h k.1 k.2 in
-    let z : Answers l.equal (placed (empty f) s) (asked l (say c.number (ReplyPlaced k.0))) (answered (ReplyPlaced k.0)) (placed (empty f) s ++ k.0 ∷ []) = subst (λ o. Answers l.equal (placed (empty f) s) (asked l (say c.number (ReplyPlaced k.0))) (answered (ReplyPlaced k.0)) (placed (empty f) s ++ option_to_list o)) k.2 g in
+    let z : Answers l.equal (placed (empty f) s) (asked l (say c.number (ReplyPlaced k.0))) (ReplyPlaced k.0) (placed (empty f) s ++ k.0 ∷ []) = subst (λ o. Answers l.equal (placed (empty f) s) (asked l (say c.number (ReplyPlaced k.0))) (ReplyPlaced k.0) (placed (empty f) s ++ option_to_list o)) k.2 g in
     rw k.3 (one (say c.number (ReplyPlaced k.0)) refl z)
 
 pub placed_stands : (t : Reply) (p : Phase) (a : Answer) (later : Bool) (u : ℕ) → t ≡ ReplyPlaced u → p ≡ AtEmpty → a ≡ Won → (is_moment t p a && not (is_refusal t && later)) ≡ false → ⊥
@@ -116,9 +116,9 @@ stands_act l f i s x xs (Some (Goes c a)) u h = stands_goes l f i s x xs c a _ u
 -- The history is a run
 
 abbrev RunsFrom : Law → ℕ → List Event → List Event → Type 0
-RunsFrom l f s es = IsListRun l.equal (placed (empty f) s) (map (asked l) (history (after f s) es)) (map (λ r. answered r.reply) (history (after f s) es)) (placed (empty f) (s ++ es))
+RunsFrom l f s es = IsListRun l.equal (placed (empty f) s) (map (asked l) (history (after f s) es)) (map (λ r. r.reply) (history (after f s) es)) (placed (empty f) (s ++ es))
 
-pub run_cons : (l : Law) (f : ℕ) (s : List Event) (x : Event) (xs : List Event) (h : List Finished) (v : List ℕ) → StandsHere l f s h v → placed (empty f) (s ++ x ∷ []) ≡ placed (empty f) s ++ v → (rest : List Finished) → IsListRun l.equal (placed (empty f) (s ++ x ∷ [])) (map (asked l) rest) (map (λ r. answered r.reply) rest) (placed (empty f) (s ++ x ∷ xs)) → IsListRun l.equal (placed (empty f) s) (map (asked l) (h ++ rest)) (map (λ r. answered r.reply) (h ++ rest)) (placed (empty f) (s ++ x ∷ xs))
+pub run_cons : (l : Law) (f : ℕ) (s : List Event) (x : Event) (xs : List Event) (h : List Finished) (v : List ℕ) → StandsHere l f s h v → placed (empty f) (s ++ x ∷ []) ≡ placed (empty f) s ++ v → (rest : List Finished) → IsListRun l.equal (placed (empty f) (s ++ x ∷ [])) (map (asked l) rest) (map (λ r. r.reply) rest) (placed (empty f) (s ++ x ∷ xs)) → IsListRun l.equal (placed (empty f) s) (map (asked l) (h ++ rest)) (map (λ r. r.reply) (h ++ rest)) (placed (empty f) (s ++ x ∷ xs))
 run_cons l f s x xs h v (nothing e k) p rest n =
     let q : placed (empty f) (s ++ x ∷ []) ≡ placed (empty f) s = p ∙ (ap (λ z. placed (empty f) s ++ z) k ∙ append-none (placed (empty f) s)) in
     rw e (rw q at n)
@@ -129,8 +129,8 @@ runs_from l f i [] s u = rw append-none refl
 runs_from l f i (x ∷ xs) s u =
     let assoc = append_assoc s (x ∷ []) xs in
     let n : RunsFrom l f (s ++ x ∷ []) xs = runs_from l f i xs (s ++ x ∷ []) (subst (λ z. IsLawful l f z) (sym assoc) u) in
-    let n2 : IsListRun l.equal (placed (empty f) (s ++ x ∷ [])) (map (asked l) (history (after f (s ++ x ∷ [])) xs)) (map (λ r. answered r.reply) (history (after f (s ++ x ∷ [])) xs)) (placed (empty f) (s ++ x ∷ xs)) = subst (λ z. IsListRun l.equal (placed (empty f) (s ++ x ∷ [])) (map (asked l) (history (after f (s ++ x ∷ [])) xs)) (map (λ r. answered r.reply) (history (after f (s ++ x ∷ [])) xs)) (placed (empty f) z)) assoc n in
-    let n3 : IsListRun l.equal (placed (empty f) (s ++ x ∷ [])) (map (asked l) (history (happens (after f s) x) xs)) (map (λ r. answered r.reply) (history (happens (after f s) x) xs)) (placed (empty f) (s ++ x ∷ xs)) = subst (λ z. IsListRun l.equal (placed (empty f) (s ++ x ∷ [])) (map (asked l) (history z xs)) (map (λ r. answered r.reply) (history z xs)) (placed (empty f) (s ++ x ∷ xs))) (after_snoc f s x) n2 in
+    let n2 : IsListRun l.equal (placed (empty f) (s ++ x ∷ [])) (map (asked l) (history (after f (s ++ x ∷ [])) xs)) (map (λ r. r.reply) (history (after f (s ++ x ∷ [])) xs)) (placed (empty f) (s ++ x ∷ xs)) = subst (λ z. IsListRun l.equal (placed (empty f) (s ++ x ∷ [])) (map (asked l) (history (after f (s ++ x ∷ [])) xs)) (map (λ r. r.reply) (history (after f (s ++ x ∷ [])) xs)) (placed (empty f) z)) assoc n in
+    let n3 : IsListRun l.equal (placed (empty f) (s ++ x ∷ [])) (map (asked l) (history (happens (after f s) x) xs)) (map (λ r. r.reply) (history (happens (after f s) x) xs)) (placed (empty f) (s ++ x ∷ xs)) = subst (λ z. IsListRun l.equal (placed (empty f) (s ++ x ∷ [])) (map (asked l) (history z xs)) (map (λ r. r.reply) (history z xs)) (placed (empty f) (s ++ x ∷ xs))) (after_snoc f s x) n2 in
     run_cons l f s x xs (history_at (after f s) x xs (acts (after f s) x)) (placed_at (after f s) x) (stands_act l f i s x xs (acts (after f s) x) u refl) (placed_snoc f s x) (history (happens (after f s) x) xs) n3
 
 -- What stands in the history

@@ -170,8 +170,8 @@ abbrev TellsLength : World → Call → Phase → Event → ℕ → Type 0
 TellsLength w c p x k = ((current w.table ≡ None) × (k ≡ 0) × (x ≡ Load (number_of x))) ⊎ ((p ≡ LenSize) × ((g : Gen) × (walked_gen w.table c.state ≡ Some g) × (k ≡ g.size)))
 
 row_told : (w : World) (c : Call) {p : Phase} {x : Event} {a : Answer} {r : CallState} {ls : List ℕ} {t : Table} {q : Option Reply} → Row w c p x a r ls t q → (k : ℕ) → q ≡ Some (ReplyLen k) → TellsLength w c p x k
-row_told w c (len_none n e) k h = inl (e, (let z : ReplyLen 0 ≡ ReplyLen k = cc in let y : 0 ≡ k = cc in sym y), refl)
-row_told w c (len_size n g e) k h = inr (refl, (g, e, (let z : ReplyLen g.size ≡ ReplyLen k = cc in let y : g.size ≡ k = cc in sym y)))
+row_told w c (len_none n e) k h = inl (e, (let y : 0 ≡ k = cc in sym y), refl)
+row_told w c (len_size n g e) k h = inr (refl, (g, e, (let y : g.size ≡ k = cc in sym y)))
 row_told w c (leaves_refused n) k h = absurd (refused_no_length c.value k h)
 row_told w c (gives_up n e d) k h = absurd (refused_no_length c.value k h)
 row_told w c (small n g e d) k h = absurd (told_no_length c.state.outcome w.table c.state c.value k h)

@@ -32,7 +32,7 @@ use Rattle.table_core.specs.Law.{Law, UsesBy, ActsBy, IsLawful}
 use Rattle.table_core.specs.Law.{accepts}
 use Rattle.table_core.specs.Values.{Ends, entry_named}
 use Rattle.table_core.specs.Bound.{one_if}
-use Rattle.table_core.specs.Lists.{asked, answered, is_list_reply, is_refusal, is_moment, may_be_refused, Meets, IsRight}
+use Rattle.table_core.specs.Lists.{asked, is_list_reply, is_refusal, is_moment, may_be_refused, Meets, IsRight}
 use Rattle.table_core.proofs.Locks.{le_one}
 use Rattle.table_core.proofs.Turns.{Turn, rests, opens, takes}
 use Rattle.table_core.proofs.Pasts.{append-none, turn_after, placed_snoc, by_snoc, taken_now, taken_later, after_taken, later_snoc}
@@ -51,31 +51,31 @@ say n t = record { call = n; reply = t }
 
 -- What the list object answers
 
-pub answer_none : (l : Law) (m : List ℕ) (n : ℕ) → AcceptsNone (l.test n) m → Answers l.equal m (asked l (say n ReplyNone)) (answered ReplyNone) (m ++ [])
+pub answer_none : (l : Law) (m : List ℕ) (n : ℕ) → AcceptsNone (l.test n) m → Answers l.equal m (asked l (say n ReplyNone)) ReplyNone (m ++ [])
 answer_none l m n h = (h, append-none m)
 
-pub answer_some : (l : Law) (m : List ℕ) (n e : ℕ) → Contains m e → l.test n e ≡ true → Answers l.equal m (asked l (say n (ReplySome e))) (answered (ReplySome e)) (m ++ [])
+pub answer_some : (l : Law) (m : List ℕ) (n e : ℕ) → Contains m e → l.test n e ≡ true → Answers l.equal m (asked l (say n (ReplySome e))) (ReplySome e) (m ++ [])
 answer_some l m n e c h = ((c, h), append-none m)
 
-pub answer_found : (l : Law) (m : List ℕ) (n e v : ℕ) → Contains m e → l.equal v e ≡ true → Answers l.equal m (asked l (say n (ReplyFound e v))) (answered (ReplyFound e v)) (m ++ [])
+pub answer_found : (l : Law) (m : List ℕ) (n e v : ℕ) → Contains m e → l.equal v e ≡ true → Answers l.equal m (asked l (say n (ReplyFound e v))) (ReplyFound e v) (m ++ [])
 answer_found l m n e v c h = ((c, h), refl, append-none m)
 
-pub answer_refused : (l : Law) (m : List ℕ) (n v : ℕ) → AcceptsNone (l.equal v) m → Answers l.equal m (asked l (say n (ReplyRefused v))) (answered (ReplyRefused v)) (m ++ [])
+pub answer_refused : (l : Law) (m : List ℕ) (n v : ℕ) → AcceptsNone (l.equal v) m → Answers l.equal m (asked l (say n (ReplyRefused v))) (ReplyRefused v) (m ++ [])
 answer_refused l m n v h = (h, refl, append-none m)
 
-pub answer_placed : (l : Law) (m : List ℕ) (n v : ℕ) → AcceptsNone (l.equal v) m → Answers l.equal m (asked l (say n (ReplyPlaced v))) (answered (ReplyPlaced v)) (m ++ v ∷ [])
+pub answer_placed : (l : Law) (m : List ℕ) (n v : ℕ) → AcceptsNone (l.equal v) m → Answers l.equal m (asked l (say n (ReplyPlaced v))) (ReplyPlaced v) (m ++ v ∷ [])
 answer_placed l m n v h = (h, refl, refl)
 
 -- Moments
 
 -- an event that is a reply's moment
-pub right_here : (l : Law) (f : ℕ) (s : List Event) (x : Event) (r : Finished) (c : Call) (a : Answer) → acts (after f s) x ≡ Some (Goes c a) → c.number ≡ r.call → is_moment r.reply c.state.phase a ≡ true → Meets r.reply (bucket_of (after f s).table c.state) → Answers l.equal (placed (empty f) s) (asked l r) (answered r.reply) (placed (empty f) s ++ placed_by (Some (Goes c a))) → IsRight l f (s ++ x ∷ []) r
+pub right_here : (l : Law) (f : ℕ) (s : List Event) (x : Event) (r : Finished) (c : Call) (a : Answer) → acts (after f s) x ≡ Some (Goes c a) → c.number ≡ r.call → is_moment r.reply c.state.phase a ≡ true → Meets r.reply (bucket_of (after f s).table c.state) → Answers l.equal (placed (empty f) s) (asked l r) r.reply (placed (empty f) s ++ placed_by (Some (Goes c a))) → IsRight l f (s ++ x ∷ []) r
 right_here l f s x r c a h e m b w = record {
   at = taken_now f s x r.call c a h e;
   moment = m;
   last = λ q. refl;
   meets = b;
-  answer = (let z : placed (empty f) (s ++ x ∷ []) ≡ placed (empty f) s ++ placed_by (Some (Goes c a)) = placed_snoc f s x ∙ ap (λ o. placed (empty f) s ++ placed_by o) h in subst (λ n. Answers l.equal (placed (empty f) s) (asked l r) (answered r.reply) n) (sym z) w);
+  answer = (let z : placed (empty f) (s ++ x ∷ []) ≡ placed (empty f) s ++ placed_by (Some (Goes c a)) = placed_snoc f s x ∙ ap (λ o. placed (empty f) s ++ placed_by o) h in subst (λ n. Answers l.equal (placed (empty f) s) (asked l r) r.reply n) (sym z) w);
 }
 
 -- a moment stays the reply's, unless the call may be refused once more
@@ -185,8 +185,8 @@ not_try c p a n e h = let z : may_be_refused c.state.phase a ≡ false = ap (λ 
 pub value_none : (l : Law) (c : Call) (v : ℕ) (m : List ℕ) → c.value ≡ Some v → weigh (λ u. one_if (accepts l c u)) m ≡ 0 → AcceptsNone (l.equal v) m
 value_none l c v m e z = none_in (l.equal v) m (rw e at z)
 
-pub place_answer : (l : Law) (m : List ℕ) (c : Call) (v : ℕ) → c.value ≡ Some v → weigh (λ u. one_if (accepts l c u)) m ≡ 0 → Answers l.equal m (asked l (say c.number (ReplyPlaced v))) (answered (ReplyPlaced v)) (m ++ option_to_list c.value)
-place_answer l m c v e z = subst (λ o. Answers l.equal m (asked l (say c.number (ReplyPlaced v))) (answered (ReplyPlaced v)) (m ++ option_to_list o)) (sym e) (answer_placed l m c.number v (value_none l c v m e z))
+pub place_answer : (l : Law) (m : List ℕ) (c : Call) (v : ℕ) → c.value ≡ Some v → weigh (λ u. one_if (accepts l c u)) m ≡ 0 → Answers l.equal m (asked l (say c.number (ReplyPlaced v))) (ReplyPlaced v) (m ++ option_to_list c.value)
+place_answer l m c v e z = subst (λ o. Answers l.equal m (asked l (say c.number (ReplyPlaced v))) (ReplyPlaced v) (m ++ option_to_list o)) (sym e) (answer_placed l m c.number v (value_none l c v m e z))
 
 pub moment_placed : (v : ℕ) (p : Phase) → p ≡ AtEmpty → is_moment (ReplyPlaced v) p Won ≡ true
 moment_placed v p e = rw e refl
@@ -285,7 +285,7 @@ none_at_failure l f s i c g gc e p cu h iv o =
     none_placed l (after f s) (placed (empty f) s) c g h iv.holding (misses_at_turn l c g g.capacity (iv.seated.gens q.0 g q.2) (o.gens q.0 g q.2) (j.turned w q.0 g q.1 q.2) (j.hash (ap is_asking e)) (omega arith))
 
 pub refused_now : (l : Law) (f : ℕ) (s : List Event) (x : Event) (c : Call) (a : Answer) (v : ℕ) → acts (after f s) x ≡ Some (Goes c a) → c.value ≡ Some v → is_moment (ReplyRefused v) c.state.phase a ≡ true → placed_by (Some (Goes c a)) ≡ [] → weigh (λ u. one_if (accepts l c u)) (placed (empty f) s) ≡ 0 → IsRight l f (s ++ x ∷ []) (say c.number (ReplyRefused v))
-refused_now l f s x c a v h w m n z = right_here l f s x (say c.number (ReplyRefused v)) c a h refl m (meets_none (ReplyRefused v) _ refl) (subst (λ b. Answers l.equal (placed (empty f) s) (asked l (say c.number (ReplyRefused v))) (answered (ReplyRefused v)) (placed (empty f) s ++ b)) (sym n) (answer_refused l (placed (empty f) s) c.number v (value_none l c v (placed (empty f) s) w z)))
+refused_now l f s x c a v h w m n z = right_here l f s x (say c.number (ReplyRefused v)) c a h refl m (meets_none (ReplyRefused v) _ refl) (subst (λ b. Answers l.equal (placed (empty f) s) (asked l (say c.number (ReplyRefused v))) (ReplyRefused v) (placed (empty f) s ++ b)) (sym n) (answer_refused l (placed (empty f) s) c.number v (value_none l c v (placed (empty f) s) w z)))
 
 pub refused_failed : (l : Law) (f : ℕ) (s : List Event) (x : Event) (i : ℕ) (c : Call) (g : Gen) → current (after f s).table ≡ Some g → Here l f s x c Failed i → c.state.phase ≡ Owned → InvAfter f s → LawOk l (after f s) → (v : ℕ) → c.value ≡ Some v → may_refuse LeaveFailed c.state.outcome (is_current (after f s).table.gens c.state.walked) ≡ true → IsRight l f (s ++ x ∷ []) (say c.number (ReplyRefused v))
 refused_failed l f s x i c g cu h e iv o v w z =

@@ -3,13 +3,9 @@ use Rattle.std.specs.Prelude.{ℕ, ◌==◌, ◌&&◌, ◌≡◌, ◌≢◌, ◌
 use Rattle.std.specs.Prelude.{count_by}
 use Rattle.std.specs.Prelude.{not, Option, Some, None, List, [], ◌∷◌, ◌++◌, map, Contains}
 use Rattle.std.specs.List.{list_any, list_all}
-use Rattle.table_core.specs.ListObject.{ListCall, ListReply, Answers, IsListRun}
+use Rattle.table_core.specs.ListObject.{ListCall, Answers, IsListRun}
 use Rattle.table_core.specs.ListObject.{Insert as AskInsert, Lookup as AskLookup}
 use Rattle.table_core.specs.ListObject.{Length as AskLength, Walk as AskWalk}
-use Rattle.table_core.specs.ListObject.{Placed as AnswerPlaced, Found as AnswerFound}
-use Rattle.table_core.specs.ListObject.{Refused as AnswerRefused, Shown as AnswerShown}
-use Rattle.table_core.specs.ListObject.{Absent as AnswerAbsent, Counted as AnswerCounted}
-use Rattle.table_core.specs.ListObject.{Walked as AnswerWalked}
 use Rattle.table_core.specs.Bags.{SameBag}
 use Rattle.table_core.specs.Replies.{Reply, ReplyPlaced, ReplyFound, ReplyRefused, ReplySome}
 use Rattle.table_core.specs.Replies.{ReplyNone, ReplyLen, ReplyWalk, Finished}
@@ -30,7 +26,7 @@ use Rattle.table_core.specs.declared.call.Phase.TheVariants.{LookProbe}
 use Rattle.table_core.specs.declared.call.Answer.{Answer}
 use Rattle.table_core.specs.declared.call.Answer.TheVariants.{Empty, Holds, Won, Failed}
 
--- The list object's words for what a call asks and is told
+-- The list object's words for what a call asks
 
 -- what a call asks that is told this: a look-up asks by its test
 abbrev pub asked_for : Law → ℕ → Reply → ListCall ℕ
@@ -46,16 +42,6 @@ asked_for l n (ReplyWalk es) = AskWalk
 abbrev pub asked : Law → Finished → ListCall ℕ
 asked l r = asked_for l r.call r.reply
 
--- the reply in the words of the list object
-abbrev pub answered : Reply → ListReply ℕ
-answered (ReplyPlaced v) = AnswerPlaced v
-answered (ReplyFound e v) = AnswerFound e v
-answered (ReplyRefused v) = AnswerRefused v
-answered (ReplySome e) = AnswerShown e
-answered ReplyNone = AnswerAbsent
-answered (ReplyLen k) = AnswerCounted k
-answered (ReplyWalk es) = AnswerWalked es
-
 -- the reply of an insert or a look-up
 abbrev pub is_list_reply : Reply → Bool
 is_list_reply (ReplyLen _) = false
@@ -70,8 +56,8 @@ is_refusal _ = false
 -- Moments
 
 -- the moment of a reply: the load of a None, the read of a Some, the put of a Placed, the read or
--- put that met the
--- entry of a Found, and of a Refused the read of an empty bucket or the failed check
+-- put that met the entry of a Found, and of a Refused the read of an empty bucket or the failed
+-- check
 abbrev pub is_moment : Reply → Phase → Answer → Bool
 is_moment ReplyNone LookLoad a = true
 is_moment (ReplySome e) LookProbe (Holds true) = true
@@ -100,7 +86,7 @@ pub record IsRight (l : Law) (f : ℕ) (s : List Event) (r : Finished) : Type 0 
   pub last : is_refusal r.reply ≡ true →
       has_later may_be_refused (after f (at.before ++ at.event ∷ [])) at.rest r.call ≡ false
   pub meets : Meets r.reply (bucket_then f s r.call at)
-  pub answer : Answers l.equal (placed (empty f) at.before) (asked l r) (answered r.reply)
+  pub answer : Answers l.equal (placed (empty f) at.before) (asked l r) r.reply
       (placed (empty f) (at.before ++ at.event ∷ []))
 
 -- each finished insert and look-up is right: what its reply says was asked is what its own call
@@ -162,7 +148,7 @@ pub record IsInOrder (f : ℕ) (s more : List Event) : Type 0 where
 pub record IsOneHistory (l : Law) (f : ℕ) (s : List Event) : Type 0 where
   -- the history is a run of the list object, which ends with what was placed
   pub run : IsListRun l.equal [] (map (asked l) (history (empty f) s))
-      (map (λ r. answered r.reply) (history (empty f) s)) (placed (empty f) s)
+      (map (λ r. r.reply) (history (empty f) s)) (placed (empty f) s)
   -- each finished insert and look-up stands in it
   pub each : (r : Finished) → Contains (replies (empty f) s) r → is_list_reply r.reply ≡ true →
       Contains (history (empty f) s) r
