@@ -1,3 +1,5 @@
+pub mod Ajar
+pub mod Calls
 pub mod Homes
 pub mod Marks
 pub mod Moves

@@ -3,16 +3,19 @@
 --     renames      a name becomes a view: a new lifetime stands beside the home's
 --     lend_out, take_back, comes_home      a block is lent for the home and a new lifetime; who has that lifetime's whole
 --       token has the block back at once, and who has the right to it has it once the home has ended
+--     keeps        a word that is known to be set keeps what was lent to it
 --     learns       a note comes to know the value of a word that is set
 --     remembers    a word is set to what a note of it knows
 --     settles      a view becomes a name, and gives its part of the token up
+--     shows_block  by a `&` to the home it shows its block
 --     reads        a load of a shared word shows a view of its block
 --     offers       an exchange of a shared word
 use Rattle.std.specs.Prelude.{is_some, IsSome}
 use Rattle.std.proofs.Common.{◌≡◌, ℕ, Bool, true, false, List, [], ◌∷◌, ◌++◌, Option, Some, None, refl, sym, subst, lit<}
 use seplogic.Ra.Ura.{Ura}
 use mir.Raw.{raw as bare}
-use mir.Syntax.{Ty}
+use mir.Syntax.{Ty, named as lifetime}
+use mir.Val.{vptr}
 use base.Share
 use base.Stored.{Gv}
 use base.Fraction.{full_share}
@@ -20,12 +23,14 @@ use base.Logic.{SProp, ent, sep, ex, emp, guard, upd_i, id⊢}
 use base.Fml.{Lft, Share, Fml, ftrue, ffalse, fsep, fex, fobs, fauth, fres, flft, fdead, fbor, Incl-refl, Incl-trans}
 use base.Before.{before}
 use types.Logic.{Logic, sem}
-use types.Kit.{Item, Goal, Seq, learn, settle, ‵, ◌⊛◌, raw, some, given, later, mean, ◌$◌, ◌∵◌, !, qed, by, move, keep, drop, split, split3, group, fsplit, fsplit3, fjoin, fjoin3, fpick, fpack, rewrite, check, show, frame, assume, suffices, done, use0, use1, use2, updating, await, now}
+use types.Kit.{Item, Goal, Seq, learn, settle, ‵, ◌⊛◌, raw, some, given, later, mean, ◌$◌, ◌∵◌, !, qed, by, move, keep, drop, split, split3, group, fsplit, fsplit3, fjoin, fjoin3, fpick, fpack, rewrite, feq_i, check, show, frame, assume, suffices, done, use0, use1, use2, updating, await, now}
 use types.Tokens.{res_dup, lft_new, lft_end, bor_new, lent_back, bor_fracture}
 use types.Na.{before-Incl, before_lent}
 use contract.BorrowLft.{◌⊑◌, meet_⊑_left, meet_⊑_right}
 use denote.RattleType.{RattleType}
 use denote.Memory.{lone}
+use denote.Opens.{hide}
+use denote.Ref.{ShrRef}
 use denote.RawPtr.{Ptr, block_ptr, null_ptr, lies_at, Testable}
 use denote.Steps.{nothing}
 use denote.Param.Laws.{Laws}
@@ -101,11 +106,22 @@ module _ {M : Type 1} {𝓤 : Ura M} (𝓛 : Logic 𝓤) (R : RattleType) (L : L
   comes_home p x ν = qed 𝓛 (‵ (fdead home) ∷ ‵ (right R k h true p x ν) ∷ []) ∵ updating ! $
       use1 𝓛 (‵ (fdead (ν ∷ home))) (𝓛.lfts.dead-incl (ν ∷ home) home (meet_⊑_right (ν ∷ []) home)) $ lent_back ! tt $ now ! $ done !
 
+  pub keeps : (i : ℕ) (y : Bool) (Q : R.Denot → Type 0) (b o : ℕ) (x : R.Denot) (ν : ℕ) → Q x
+      → ⟦ fsep (view R h (block_ptr b o) (x, ν, full_share)) (right R k h y (block_ptr b o) x ν) ⟧ ⊢ ⟦ kept R k h i y (Some x) Q (block_ptr b o) ⟧
+  keeps i y Q b o x ν so = let p : Ptr = block_ptr b o in qed 𝓛 (‵ (fsep (view R h p (x, ν, full_share)) (right R k h y p x ν)) ∷ []) ∵ fsplit ! $
+      nothing ! $ fpack ! (Q x) (λ _. ftrue) so $ move ! (1 ∷ 2 ∷ 0 ∷ []) $ fjoin3 ! $ fpack ! (Loan R) (held R k h i y (Some x) Q p) (x, ν, full_share) $ nothing ! $ fjoin ! $ done !
+
   pub settles : (p : Ptr) (s : Loan R) → ⟦ view R h p s ⟧ ⊢ H.⇛ ⟦ named R h p s.0 ⟧
   settles p s = let ν : Lft = s.1 ∷ [] in let both : Lft = s.1 ∷ home in
       qed 𝓛 (‵ (view R h p s) ∷ []) ∵ updating ! $ fsplit ! $ bor_new ! tt home $ bor_fracture ! tt (λ q. flft ν q) s.2 $ move ! (1 ∷ []) $ drop ! $
       use0 𝓛 (‵ (before both both)) (before-Incl 𝓛 both both (Incl-refl both)) $ move ! (1 ∷ 0 ∷ []) $ use2 𝓛 (‵ (before home both)) (before_lent 𝓛 home ν both) $
       use2 𝓛 (‵ (named R h p s.0)) ((of_block p s.0).mono M 𝓤 𝓛 home both) $ now ! $ done !
+
+  pub shows_block : (κ : Lft) (b o : ℕ) (s : Loan R)
+      → ⟦ before κ home ⟧ ∗ ⟦ view R h (block_ptr b o) s ⟧ ⊢ H.⇛ ⟦ (ShrRef (lifetime 0) κ R).own_val (record { ref_ptr = (b, o); now = s.0 }) (vptr b o ∷ []) ⟧
+  shows_block κ b o s = let p : Ptr = block_ptr b o in qed 𝓛 (‵ (before κ home) ∷ ‵ (view R h p s) ∷ []) ∵ updating ! $ move ! (1 ∷ []) $
+      use1 𝓛 (later (‵ (named R h p s.0))) (settles p s) $ await ! tt $ move ! (1 ∷ 0 ∷ []) $ use2 𝓛 (‵ (lent_at R p s.0 κ)) (lasts κ p s.0) $
+      fsplit ! $ drop ! $ hide ! $ feq_i ! _ (vptr b o ∷ []) _ refl $ fjoin ! $ now ! $ done !
 
   halved : (p : Ptr) (s : Loan R) → ⟦ view R h p s ⟧ ⊢ ⟦ view R h p (s.0, s.1, Share.left s.2) ⟧ ∗ ⟦ view R h p (s.0, s.1, Share.right s.2) ⟧
   halved p s = let ν : Lft = s.1 ∷ [] in let both : Lft = s.1 ∷ home in let V : Fml = lent_at R p s.0 both in

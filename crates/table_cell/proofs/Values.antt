@@ -3,13 +3,14 @@
 --     name_out, name_in      a name is what its home lends at a block
 --     loose_in, loose_out, loose_at      a loose block is the block and the right to free it
 --     word_out, word_in      the fields of a word are a pointer cell and a mark
+--     word_made      a word is its fields, and what is kept beside its address
 use Rattle.std.proofs.Common.{◌≡◌, ℕ, List, [], ◌∷◌, ◌++◌, refl, ap, ◌∙◌, subst}
 use mathlib.Core.Bool.{true, ◌&&◌}
 use lib.Dec.{T}
 use seplogic.Ra.Ura.{Ura}
 use mir.Raw.{raw as bare}
 use mir.Syntax.{Ty}
-use mir.Val.{Val, vptr, vstruct, vcons, vnil, of_list}
+use mir.Val.{Val, vptr, vstruct, vcons, vnil, of_list, has_ty}
 use base.Logic.{ent, emp, never, fst∗}
 use types.Logic.{Logic, sem}
 use types.Kit.{Item, Goal, Seq, Step, step, ‵, ◌$◌, move, drop, fsplit, fsplit3, fjoin, fjoin3, fpick, fpack, rewrite, feq_i, feq_l, use0}
@@ -29,10 +30,15 @@ use Rattle.core.proofs.cell.Inside.{Good, one}
 use Rattle.core.proofs.atomic.Steps.{Ptr-Good}
 use denote.Param.Laws.{Laws}
 use Rattle.table_cell.proofs.loose_block.LooseBlock.TheLaws.{lowers}
-use Rattle.table_cell.specs.Words.{freeable}
+use Rattle.std.specs.Sync.Atomic.Pointer.{atomic_ptr_holding}
+use Rattle.core.specs.contracts.atomic.ptr.AtomicPtr as atomic
+use Rattle.table_cell.specs.Words.{WordView, Shows, freeable, kept}
+use Rattle.table_cell.specs.declared.home.Homed.{Ghosts as HomedGhosts}
 use Rattle.table_cell.specs.contracts.loose_block.LooseBlock as loose
 use Rattle.table_cell.specs.contracts.name.Name as name
-use base.Fml.{Fml}
+use Rattle.table_cell.specs.contracts.word.Word as word
+use Rattle.table_cell.specs.contracts.word.Word.TheInside as inside
+use base.Fml.{Fml, ftrue, fsep}
 
 -- a mark, a struct of one field, and a struct of a field and a mark
 abbrev pub void : Val
@@ -132,3 +138,20 @@ module _ (P Y : RattleType) where
         drop t $ rewrite t 0 (λ (ws : List Val). ‵ (P.own_val x ws)) w.1 refl $ move t (1 ∷ []) $ drop t $
         k w.0 w.2 (subst (λ (ms : List Val). us ≡ vstruct (of_list ((w.0 ∷ []) ++ (ms ++ []))) ∷ []) j.1.0
         (subst (λ (ws : List Val). us ≡ vstruct (of_list (ws ++ (vss.1.0 ++ []))) ∷ []) w.1 e))))))
+
+module _ (R Y : RattleType) (f : HomedGhosts R.Denot) (g : Ghosts Y.Denot) where
+  abbrev pub Word : RattleType
+  Word = word.the_row R Y f g
+
+  abbrev Cell : RattleType
+  Cell = atomic.the_row R
+
+  pub word_good : (v : Val) → Good (layout Cell) v → Good (layout Word) (marked v)
+  word_good v good = (marked_typed (has_ty (layout Cell) v) good.0, (good.1, (tt, tt)))
+
+  pub word_made : {M : Type 1} {𝓤 : Ura M} {𝓛 : Logic 𝓤} {K : Type 0} {Γ : List (Item 𝓤)} {G : Goal 𝓤 𝓛.H} → K → (w : WordView Y.Denot R.Denot) (p : Ptr) (v : Val) → Good (layout Cell) v
+      → Step K 𝓛 (‵ (Word.own_val w (marked v ∷ [])) ∷ Γ) G
+      (‵ ((WithMark Cell Y).own_val (atomic_ptr_holding p, (record {}, tt)) (marked v ∷ [])) ∷ ‵ (kept R (g.dealloc_token w.from) w.home w.id w.owning w.value (Shows f.fits w) p) ∷ Γ) G
+  word_made t w p v good = step (λ rest. let Fields : Ptr → Fml = λ s. (inside.the_row R Y f g).own_val (record { inner = atomic_ptr_holding s; marker = record {} }) (marked v ∷ []) in
+      fjoin t $ fpack t Ptr (λ s. fsep (Fields s) (kept R (g.dealloc_token w.from) w.home w.id w.owning w.value (Shows f.fits w) s)) p $
+      nothing t $ fpack t (Typed Word.mir (marked v ∷ [])) (λ _. ftrue) (word_good v good, tt) $ fjoin t $ rest)

@@ -1,20 +1,21 @@
--- The machine values of a name and of a low block, and what they own, taken apart and put together. Assumes `Logic`.
+-- The machine values of a name, of a low block and of a word, and what they own, taken apart and put together. Assumes `Logic`.
 --     name_out, name_in      a name is an address that may be compared with null, and what its home lends there
 --     low_out, low_in        a low block is that, and the right to free the block
+--     tied_made              a word is its fields, and what stands beside its address
 use Rattle.std.proofs.Common.{◌≡◌, ℕ, List, [], ◌∷◌, ◌++◌, refl, ap, ◌∙◌, subst}
 use seplogic.Ra.Ura.{Ura}
 use mir.Raw.{raw as bare}
-use mir.Val.{Val, vptr, vstruct, of_list}
+use mir.Val.{Val, vptr, vstruct, of_list, has_ty}
 use base.Logic.{never, fst∗}
-use base.Fml.{Fml}
+use base.Fml.{Fml, ftrue, fsep}
 use types.Logic.{Logic, sem}
-use types.Kit.{Item, Goal, Seq, Step, step, ‵, ◌$◌, move, drop, fsplit, fsplit3, fjoin, fpick, feq_l, use0}
+use types.Kit.{Item, Goal, Seq, Step, step, ‵, ◌$◌, move, drop, fsplit, fsplit3, fjoin, fpick, fpack, feq_l, use0}
 use denote.RattleType.{RattleType}
-use denote.Laws.{Is, shows}
+use denote.Laws.{Is, Typed, shows}
 use denote.Memory.{lone, shared_of}
 use denote.RawPtr.{Ptr, block_ptr, null_ptr, block_of, count_of, ptr_val, in_a_block, Testable}
 use denote.Shadow.{makes_shadow}
-use denote.Steps.{peeks}
+use denote.Steps.{nothing, peeks}
 use denote.Param.{layout}
 use denote.Param.Laws.{Laws}
 use denote.Struct.Lending.{lent_at}
@@ -22,13 +23,19 @@ use denote.Struct.Struct.{Struct}
 use denote.Struct.Tuple.{Tuple}
 use denote.Struct.Owning.{shape}
 use Rattle.core.specs.declared.alloc.Allocator.{Ghosts}
+use Rattle.core.specs.contracts.atomic.ptr.AtomicPtr as atomic
 use Rattle.core.proofs.atomic.Steps.{Ptr-Good}
 use Rattle.core.proofs.cell.Inside.{Good}
+use Rattle.std.specs.Sync.Atomic.Pointer.{atomic_ptr_holding}
+use Rattle.logbook.specs.declared.tokens.Rule.{Ghosts as RuleGhosts}
 use Rattle.table_cell.specs.Words.{freeable}
-use Rattle.table_cell.proofs.Values.{void, alone, marked, marked_typed}
-use Rattle.table_tied.specs.Tied.{named_low, freeable_low}
+use Rattle.table_cell.proofs.Values.{void, alone, marked, marked_typed, WithMark}
+use Rattle.table_tied.specs.Tied.{TiedView, named_low, freeable_low, counted}
+use Rattle.table_tied.specs.declared.stands.Stands.{Ghosts as StandsGhosts}
 use Rattle.table_tied.specs.contracts.block_name.BlockName as name
 use Rattle.table_tied.specs.contracts.low_block.LowBlock as low
+use Rattle.table_tied.specs.contracts.word.TiedWord as word
+use Rattle.table_tied.specs.contracts.word.TiedWord.TheInside as inside
 use Rattle.table_tied.proofs.low_block.LowBlock.TheLaws.{lowers}
 
 module _ (R : RattleType) where
@@ -72,6 +79,23 @@ module _ (R Y : RattleType) (g : Ghosts Y.Denot) where
       low_out t next = peeks t LowBlock (Is LowBlock) (shows 𝓛 LowBlock) d vs (λ is. fsplit t $ drop t $ fsplit t $ fpick t (λ tested. drop t $
           in_a_block t d.at (λ p. freeable R (g.dealloc_token d.from) p d.value) (fst∗ 𝓤 (never 𝓤) (sem 𝓛 (g.dealloc_token d.from (bare (lone R.mir)) null_ptr))) (λ b o at.
           next b o at ((lowers R Y g L LY).val_is d vs is ∙ ap (λ (p : Ptr). marked (ptr_val p) ∷ []) at) (subst Testable at tested))))
+
+module _ (R Y E P : RattleType) (st : StandsGhosts R.Denot E.Denot) (g : Ghosts Y.Denot) (rl : RuleGhosts P.Denot E.Denot ℕ) where
+  abbrev pub Tied : RattleType
+  Tied = word.the_row R Y E P st g rl
+
+  abbrev Cell : RattleType
+  Cell = atomic.the_row R
+
+  pub tied_good : (v : Val) → Good (layout Cell) v → Good (layout Tied) (marked v)
+  tied_good v good = (marked_typed (has_ty (layout Cell) v) good.0, (good.1, (tt, tt)))
+
+  pub tied_made : {K : Type 0} {M : Type 1} {𝓤 : Ura M} {𝓛 : Logic 𝓤} {Γ : List (Item 𝓤)} {G : Goal 𝓤 𝓛.H} → K → (w : TiedView Y.Denot) (p : Ptr) (v : Val) → Good (layout Cell) v
+      → Step K 𝓛 (‵ (Tied.own_val w (marked v ∷ [])) ∷ Γ) G
+      (‵ ((WithMark Cell (Tuple (Y ∷ E ∷ P ∷ []))).own_val (atomic_ptr_holding p, (record {}, tt)) (marked v ∷ [])) ∷ ‵ (counted E.coded.code R (g.dealloc_token w.from) w.home w.owning st.stands w.book w.key p) ∷ Γ) G
+  tied_made t w p v good = step (λ rest. let Fields : Ptr → Fml = λ s. (inside.the_row R Y E P st g rl).own_val (record { inner = atomic_ptr_holding s; marker = record {} }) (marked v ∷ []) in
+      fjoin t $ fpack t Ptr (λ s. fsep (Fields s) (counted E.coded.code R (g.dealloc_token w.from) w.home w.owning st.stands w.book w.key s)) p $
+      nothing t $ fpack t (Typed Tied.mir (marked v ∷ [])) (λ _. ftrue) (tied_good v good, tt) $ fjoin t $ rest)
 
 -- a pair is taken apart
 module _ (P Q : RattleType) {K : Type 0} {M : Type 1} {𝓤 : Ura M} {𝓛 : Logic 𝓤} {Γ : List (Item 𝓤)} {G : Goal 𝓤 𝓛.H} where

@@ -35,6 +35,7 @@ use Rattle.table_cell.specs.Notes.{Agrees, learnt}
 use Rattle.table_cell.specs.Words.{Shows, tested}
 use Rattle.table_cell.specs.contracts.word.Word as word
 use Rattle.table_cell.proofs.Moves as moves
+use Rattle.table_cell.proofs.Ajar as behind
 use Rattle.table_cell.proofs.Notes as notes
 use Rattle.table_cell.proofs.Notes.{Note}
 use Rattle.table_cell.proofs.Values.{alone, Name, name_in}
@@ -59,7 +60,7 @@ name_if_set_spec 𝓤 𝓛 𝓜 𝓡 wired T A L LA f fd g d dd homed alloc glue
     let κs = z.0.0 in let qs = z.0.1 in let Post : Val → SProp 𝓤 = (walk_of 𝓛 En hs c).post z in let Out : RattleType = type_at En.signature.result κs in
     let wd = z.0.3.0.now in let h = wd.home in let a = wd.from in let b : ℕ = z.0.3.0.ref_ptr.0 in let o : ℕ = z.0.3.0.ref_ptr.1 in let κ : Lft = κs.0 in let q : Share = qs.0 in
     let m = z.0.3.1.0 in let mb : ℕ = m.ref_ptr.0 in let mo : ℕ = m.ref_ptr.1 in let n₀ = m.now in let j = n₀.known in let κn : Lft = κs.1.0 in let qn : Share = qs.1.0 in
-    let at_note = z.0.4.1.0 in let lent : (Note R).Denot → Fml = λ n. notes.lent R κn qn m n at_note in
+    let at_note = z.0.4.1.0 in let lent : (Note R).Denot → Fml = λ n. behind.lent (notes.the_note R) κn qn m n at_note in
     let κT = κs.1.1.0 in let rest = ‵ (flft κs.1.1.1.0 qs.1.1.1.0) ⊛ ‵ ftrue in let Unset : Type 0 = wd.value ≡ None in let Of : Type 0 = n₀.of ≡ wd.id in
     let k = g.dealloc_token a in let Q : R.Denot → Type 0 = Shows f.fits wd in let none = moves.unknown 𝓛 R LR k h wd.id wd.owning wd.value Q j in
     qed 𝓛 (((‵ (flft κ q) ⊛ ‵ (flft κn qn) ⊛ ‵ (flft κT qs.1.1.0) ⊛ rest) ⊛ ‵ (owns (types_at En.signature.params κs) z.0.3 z.0.4)) ∷ raw (fact 𝓤 (κT ⊑ T.lives)) ∷ raw (fact 𝓤 (κs.1.1.1.0 ⊑ A.lives)) ∷ (raw (fact 𝓤 Unset) ⊛ raw (fact 𝓤 Of)) ∷ []) ∵
@@ -69,7 +70,7 @@ name_if_set_spec 𝓤 𝓛 𝓜 𝓡 wired T A L LA f fd g d dd homed alloc glue
     begins ! fn (λ i. are.0.0 i ++ (are.1.0.0 i ++ [])) $ alloc_all ! (λ l. pass_all ! refl ((tt, tt), ((tt, tt), tt)) $ let Ev = env fn.locals l in
     -- [the note; before α; the word; its fields; nothing; the tokens]
     move ! (5 ∷ []) $ split3 ! $ move ! (2 ∷ []) $ split ! $ move ! (4 ∷ 3 ∷ []) $
-    use2 𝓛 (later (‵ (learnt R n₀.of j) ⊛ ‵ (notes.ajar R κn qn m))) (notes.opens_up R κn qn m 𝓛 at_note) $ await ! tt $ split ! $ rewrite ! 0 (λ (i : ℕ). ‵ (learnt R i j)) same refl $
+    use2 𝓛 (later (‵ (learnt R n₀.of j) ⊛ ‵ (behind.ajar (notes.the_note R) κn qn m))) (behind.opens_up (notes.the_note R) κn qn m 𝓛 at_note) $ await ! tt $ split ! $ rewrite ! 0 (λ (i : ℕ). ‵ (learnt R i j)) same refl $
     -- [what the note knows; the rest of it; T's token; the other tokens; κ's token; before α; the word; its fields; nothing]
     move ! (5 ∷ 4 ∷ []) $ use2 𝓛 (later (some (In 𝓛 𝓜 𝓡 κ α q))) (goes_in 𝓛 𝓜 𝓡 κ α q) $ await ! tt $ pick ! (λ s. split3 ! $
     -- [half of κ's token; α's token; what is owed for it; what the note knows; the rest of it; T's token; the other tokens; the word; its fields; nothing]
@@ -82,7 +83,7 @@ name_if_set_spec 𝓤 𝓛 𝓜 𝓡 wired T A L LA f fd g d dd homed alloc glue
     (lands_last ! refl (Ptr-Good null_ptr) $ exec ! 𝓣.C 𝓣.Λ Ev (after 1 fn.body) (at_ret Ev Post) $ fsplit3 ! $ move ! (0 ∷ 1 ∷ 3 ∷ []) $ use3 𝓛 (later (‵ (flft κ q))) (comes_back 𝓛 𝓜 𝓡 κ α q s) $ await ! tt $
     move ! (1 ∷ []) $ fpick ! (λ _. fpick ! (λ knew. let n : (Note R).Denot = notes.knowing R n₀ None in let Told : Type 0 = (j ≡ None) × (n.known ≡ None) in
     -- [what the note knows; κ's token; the rest of the note; T's token; the other tokens; nothing]
-    move ! (0 ∷ 2 ∷ []) $ use2 𝓛 (later (‵ (lent n) ⊛ ‵ (flft κn qn))) (notes.shuts R κn qn m 𝓛 at_note None are.1.0.0) $ await ! tt $ split ! $
+    move ! (0 ∷ 2 ∷ []) $ use2 𝓛 (later (‵ (lent n) ⊛ ‵ (flft κn qn))) (behind.shuts (notes.the_note R) κn qn m 𝓛 at_note n are.1.0.0) $ await ! tt $ split ! $
     sets ! (of_opd ! (get ! refl)) refl (Ptr-Good null_ptr) $ sets ! (bin ! (get ! refl) (lit ! tt) tt) refl (tt, tt) $ first ! $ branches ! (get ! refl)
     (λ _. sets ! (agg ! (and_then ! (lit ! tt) (no_more !))) refl (tt, (record { fits = lit< tt }, tt)) $
     use0 𝓛 (‵ (Out.own_val option.None (live 0 vnil ∷ []))) (none_of 𝓛 (Name R)) $
@@ -97,7 +98,7 @@ name_if_set_spec 𝓤 𝓛 𝓜 𝓡 wired T A L LA f fd g d dd homed alloc glue
     rewrite ! 0 (λ (v : Option R.Denot). ‵ (moves.told 𝓛 R LR k h wd.id v j t.0)) unset refl $ fsplit ! $ move ! (1 ∷ []) $ fpick ! (λ agrees. drop ! $ rewrite ! 0 (λ (i : ℕ). ‵ (learnt R i (Some t.0))) (sym same) refl $
     let x : R.Denot = t.0 in let n : (Note R).Denot = notes.knowing R n₀ (Some x) in let Shown : Type 0 = (h ≡ h) × Shows f.fits wd x in let Told : Type 0 = (n.known ≡ Some x) × Agrees j x in
     -- [what the note knows; the view; κ's token; the rest of the note; T's token; the other tokens; nothing]
-    move ! (0 ∷ 3 ∷ []) $ use2 𝓛 (later (‵ (lent n) ⊛ ‵ (flft κn qn))) (notes.shuts R κn qn m 𝓛 at_note (Some x) are.1.0.0) $ await ! tt $ split ! $ move ! (2 ∷ []) $
+    move ! (0 ∷ 3 ∷ []) $ use2 𝓛 (later (‵ (lent n) ⊛ ‵ (flft κn qn))) (behind.shuts (notes.the_note R) κn qn m 𝓛 at_note n are.1.0.0) $ await ! tt $ split ! $ move ! (2 ∷ []) $
     use1 𝓛 (later (‵ (lent_at R p x (h ∷ [])))) (moves.settles 𝓛 R LR k h p t) $ await ! tt $
     let r : (Name R).Denot = record { at = p; home = h; value = x } in let v : Val = live 1 (vcons (alone (vptr pb po)) vnil) in let good : Good (layout Out) v = (tt, (record { fits = lit< tt }, ((tt, tt), tt))) in
     sets ! (of_opd ! (get ! refl)) refl (tt, tt) $ sets ! (bin ! (get ! refl) (lit ! tt) (tests_null p low)) refl (tt, tt) $ first ! $ branches ! (get ! refl) (λ wrong. absurd wrong) (λ _. skips ! $ exec ! 𝓣.C 𝓣.Λ Ev (after 4 fn.body) (at_ret Ev Post) $

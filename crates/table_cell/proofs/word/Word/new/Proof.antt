@@ -1,79 +1,54 @@
 -- `new` makes a null pointer.
-use Rattle.std.proofs.Common.{◌≡◌, true, Option, None, List, [], ◌∷◌, ◌++◌, refl, ap}
+use Rattle.std.proofs.Common.{◌≡◌, true, Option, None, [], ◌∷◌, ◌++◌, refl}
 use mir.Syntax.{a_type, dcons, dnil}
-use mir.Val.{Val, vnull, vptr, has_ty}
 use mir.MapTy.{inst_fn}
-use base.Logic.{SProp, emp, id⊢}
-use base.Fml.{ftrue, fsep, flft}
-use types.Kit.{‵, raw, ◌⊛◌, some, later, ◌$◌, ◌∵◌, !, qed, by, move, keep, drop, split, split3, join, fjoin, fpack, pick, use0, use1, await, rewrite, feq_i}
+use base.Logic.{emp}
+use base.Fml.{Lft, Share, ftrue, flft}
+use types.Kit.{‵, raw, ◌⊛◌, ◌$◌, ◌∵◌, !, qed, by, move, keep, split, split3, join, fjoin, fpack, use0}
 use types.Run.{lit, no_more, and_then, returns}
 use types.ByLocal.{alloc_all, pass_all, free_all, look_at, get, sets, lands_as}
 use types.Part.{agg}
 use contract.Monad.{fact, fact_i}
 use contract.BorrowLft.{◌⊑◌}
-use contract.Running.{tables}
 use denote.Exit.{yes}
 use denote.RattleType.{RattleType, owns}
-use denote.Laws.{Is, Typed, shows}
-use denote.Signature.{types_at, type_at, plain}
+use denote.Signature.{types_at, plain}
 use denote.Builtin.{RefOf}
-use denote.RawPtr.{Ptr, null_ptr}
-use denote.Steps.{nothing, only, heard, peeks}
-use denote.Param.{param, layout, bounded}
-use denote.Param.Laws.{param_laws}
-use denote.Triple.Clauses.{Lasts, lasts}
-use denote.Triple.Spec.{triple_of}
-use denote.Triple.Call.{calls_at}
-use denote.Triple.Walked.{Stays, stay_dropped, walk_of, Goes-dropped}
-use Rattle.std.specs.Sync.Atomic.Pointer.{atomic_ptr_value, atomic_ptr_holding}
-use Rattle.core.specs.contracts.atomic.ptr.AtomicPtr as atomic
-use Rattle.core.proofs.atomic.ptr.AtomicPtr.TheLaws as atomic_laws
-use Rattle.core.proofs.atomic.Steps.{fm}
-use Rattle.core.proofs.cell.Inside.{Good, one}
+use denote.RawPtr.{null_ptr}
+use denote.Steps.{nothing, heard}
+use denote.Param.{param, bounded}
+use denote.Triple.Walked.{Stays, stay_dropped, Goes-dropped}
 use Rattle.table_cell.proofs.Walks.{begins}
 use Rattle.std.proofs.raw_atomic.Walks.{proved_at, leaves}
 use types.Tokens.{name_new}
 use Rattle.table_cell.specs.Notes.{code as coded}
-use Rattle.table_cell.specs.Words.{WordView, Shows, blank, kept}
+use Rattle.table_cell.specs.Words.{WordView, blank}
 use Rattle.table_cell.specs.contracts.home.Home as home
-use Rattle.table_cell.specs.contracts.word.Word.TheInside as inside
-use Rattle.table_cell.proofs.Values.{marked, marked_typed, word_in}
+use Rattle.table_cell.proofs.Calls.{makes_cell}
+use Rattle.table_cell.proofs.Values.{marked, word_good, word_made}
 use Rattle.table_cell.specs.contracts.word.Word.new.{ended, clauses}
 use Rattle.table_cell.specs.contracts.word.Word.new.Key.{name as #self}
 use Rattle.table_cell.proofs.word.Word.new.Statement.{statement}
 use Rattle.table_cell.proofs.word.Word.new.Code as code
-use Rattle.core.specs.contracts.atomic.ptr.AtomicPtr.new as callee
 use Rattle.core.proofs.atomic.ptr.AtomicPtr.new.Met.{met}
 
 pub new_spec : {M : Type 1} → statement M
 new_spec 𝓤 𝓛 𝓜 𝓡 wired T A L LA f fd g d dd homed alloc glued =
-    let H = 𝓛.H in let 𝓣 = tables 𝓤 H 𝓜 𝓡 𝓡.env in let R : RattleType = param 0 T in let LR = param_laws 0 T L in let Y : RattleType = param 1 A in let En = ended T A f fd g d dd in let c = clauses T A f fd g d dd 𝓛 𝓜.mem 𝓡.returns in
-    let inst = bounded (a_type ∷ a_type ∷ []) (T, (A, tt)) (dcons fd (dcons d (dcons dd dnil))) in let fn = inst_fn inst code.function in let P : RattleType = atomic.the_row R in let LP = atomic_laws.the_row_laws R LR in
+    let R : RattleType = param 0 T in let Y : RattleType = param 1 A in let En = ended T A f fd g d dd in let c = clauses T A f fd g d dd 𝓛 𝓜.mem 𝓡.returns in
+    let inst = bounded (a_type ∷ a_type ∷ []) (T, (A, tt)) (dcons fd (dcons d (dcons dd dnil))) in let fn = inst_fn inst code.function in
     let ref = RefOf (0 ∷ []) tt (plain (λ _. Y)) (λ _. tt) in let at_home = RefOf (1 ∷ []) tt (plain (λ _. home.the_row)) (λ _. tt) in let hs : Stays En.signature.params En.kept = (stay_dropped ref yes, (stay_dropped at_home yes, tt)) in
-    proved_at 𝓛 En hs c 𝓜 𝓡 (Goes-dropped 𝓛 4 ref yes (λ κs x f. refl), (Goes-dropped 𝓛 4 at_home yes (λ κs x f. refl), tt)) (#self inst) fn (code.unfolded 𝓤 H 𝓜 𝓡 wired (T, (A, tt)) fd d dd) (λ z are.
-    let κs = z.0.0 in let qs = z.0.1 in let Post : Val → SProp 𝓤 = (walk_of 𝓛 En hs c).post z in let Out : RattleType = type_at En.signature.result κs in
-    let a = z.0.3.0.now in let h = z.0.3.1.0.now.id in let args : List Val = vptr z.0.3.0.ref_ptr.0 z.0.3.0.ref_ptr.1 ∷ vptr z.0.3.1.0.ref_ptr.0 z.0.3.1.0.ref_ptr.1 ∷ [] in
-    let κT = κs.1.1.0 in let qT = qs.1.1.0 in let tok = ‵ (flft κT qT) ⊛ ‵ ftrue in let rest = ‵ (flft κs.1.1.1.0 qs.1.1.1.0) ⊛ ‵ ftrue in
-    let unknown : Option R.Denot = None in
-    let m = triple_of 𝓛 (callee.signature T) (callee.spec T 𝓛 𝓜.mem 𝓡.returns) in let y : m.Ghost = (((κT, tt), (qT, tt), tt, (null_ptr, tt), (vnull ∷ [], tt)), tt) in
+    proved_at 𝓛 En hs c 𝓜 𝓡 (Goes-dropped 𝓛 4 ref yes (λ κs x f. refl), (Goes-dropped 𝓛 4 at_home yes (λ κs x f. refl), tt)) (#self inst) fn (code.unfolded 𝓤 𝓛.H 𝓜 𝓡 wired (T, (A, tt)) fd d dd) (λ z are.
+    let κs = z.0.0 in let qs = z.0.1 in let a = z.0.3.0.now in let h = z.0.3.1.0.now.id in let unknown : Option R.Denot = None in
+    let κT : Lft = κs.1.1.0 in let qT : Share = qs.1.1.0 in let rest = ‵ (flft κs.1.1.1.0 qs.1.1.1.0) ⊛ ‵ ftrue in
     qed 𝓛 (((‵ (flft κs.0 qs.0) ⊛ ‵ (flft κs.1.0 qs.1.0) ⊛ ‵ (flft κT qT) ⊛ rest) ⊛ ‵ (owns (types_at En.signature.params κs) z.0.3 z.0.4)) ∷ raw (fact 𝓤 (κT ⊑ T.lives)) ∷ raw (fact 𝓤 (κs.1.1.1.0 ⊑ A.lives)) ∷ ‵ ftrue ∷ []) ∵
     move ! (1 ∷ []) $ heard ! (κT ⊑ T.lives) (λ within. keep ! (0 ∷ []) $ split ! $ split3 ! $ move ! (2 ∷ []) $ split ! $ keep ! (0 ∷ 1 ∷ 2 ∷ 3 ∷ []) $
     begins ! fn (λ i. are.0.0 i ++ (are.1.0.0 i ++ [])) $ alloc_all ! (λ l. pass_all ! refl ((tt, tt), ((tt, tt), tt)) $
     -- [T's token; the other tokens; two tokens]
-    nothing ! $ move ! (1 ∷ 0 ∷ []) $ join ! $ nothing ! $ feq_i ! (List Val) (vnull ∷ []) (vnull ∷ []) refl $ fjoin ! $ move ! (1 ∷ 0 ∷ []) $ join ! $
-    nothing ! $ use0 𝓛 (raw (fact 𝓤 (κT ⊑ T.lives))) (fact_i 𝓤 (κT ⊑ T.lives) (emp 𝓤) within) $ join ! $ move ! (1 ∷ 0 ∷ []) $ join ! $ use1 𝓛 (raw (m.pre y)) (id⊢ 𝓤 _) $
-    calls_at ! (fm 𝓛 𝓜 𝓡) m (met 𝓤 𝓛 𝓜 𝓡 (code.calls-core::atomic::ptr::AtomicPtr::new 𝓡.env wired) T L) y (and_then ! (lit ! tt) (no_more !)) (λ u.
-    use1 𝓛 (later (some (λ (r : P.Denot). (tok ⊛ ‵ (P.own_val r (u ∷ []))) ⊛ some (λ (ls : Lasts (callee.ended T) (κT, tt) y.0.3). ‵ (lasts (callee.ended T) (κT, tt) y.0.3 ls) ⊛ raw (fact 𝓤 (atomic_ptr_value r ≡ null_ptr)))))) (id⊢ 𝓤 (m.post y u)) $
-    await ! tt $ pick ! (λ r'. split ! $ move ! (1 ∷ []) $ pick ! (λ _. split ! $ drop ! $ heard ! (atomic_ptr_value r' ≡ null_ptr) (λ empty. split ! $ move ! (1 ∷ []) $
-    peeks ! P (Is P) (shows 𝓛 P) r' (u ∷ []) (λ is. let v = one (layout P) (u ∷ []) ((LP.lawful 𝓛).typed r' (u ∷ []) is) in let w : Val = marked v.0 in
-    let good : Good (layout Out) w = (marked_typed (has_ty (layout P) v.0) v.2.0, (v.2.1, (tt, tt))) in
-    rewrite ! 0 (λ (us : List Val). ‵ (P.own_val r' us)) v.1 refl $ rewrite ! 0 (λ (p : Ptr). ‵ (P.own_val (atomic_ptr_holding p) (v.0 ∷ []))) empty refl $ lands_as ! (ap only v.1) refl v.2 $
-    word_in P Y (atomic_ptr_holding null_ptr) ! v.0 $
-    -- [the fields; T's tokens; the other tokens; two tokens]
-    name_new ! tt (coded R unknown) (λ i. let r : WordView Y.Denot R.Denot = record { from = a; home = h; id = i; owning = true; value = unknown } in let Told : Type 0 = (a ≡ a) × (h ≡ h) × (r.owning ≡ true) × (unknown ≡ unknown) in
-    fjoin ! $ fpack ! (unknown ≡ None) (λ _. blank R i unknown) refl $ move ! (1 ∷ 0 ∷ []) $ fjoin ! $
-    fpack ! Ptr (λ p. fsep ((inside.the_row R Y f g).own_val (record { inner = atomic_ptr_holding p; marker = record {} }) (w ∷ [])) (kept R (g.dealloc_token a) h i true unknown (Shows f.fits r) p)) null_ptr $
-    nothing ! $ fpack ! (Typed Out.mir (w ∷ [])) (λ _. ftrue) (good, tt) $ fjoin ! $
-    sets ! (agg ! (no_more !)) refl (tt, tt) $ sets ! (agg ! (and_then ! (get ! refl) (and_then ! (get ! refl) (no_more !)))) refl good $
-    move ! (1 ∷ []) $ split ! $ move ! (0 ∷ 3 ∷ []) $ join ! $ move ! (4 ∷ 0 ∷ []) $ join ! $ move ! (3 ∷ 0 ∷ []) $ join ! $ use0 𝓛 (raw (fact 𝓤 Told)) (fact_i 𝓤 Told (emp 𝓤) (refl, refl, refl, refl)) $ nothing ! $ nothing ! $ fjoin ! $ nothing ! $ fjoin ! $
-    returns ! (look_at ! 0 refl) $ free_all ! refl $ keep ! (2 ∷ 0 ∷ 4 ∷ 1 ∷ []) $ by ! (leaves 𝓛 En hs c z w r (tt, (tt, tt)) (tt, (tt, tt))))))))))))
+    makes_cell 𝓛 𝓜 𝓡 T L κT qT null_ptr Y ! (met 𝓤 𝓛 𝓜 𝓡 (code.calls-core::atomic::ptr::AtomicPtr::new 𝓡.env wired) T L) within (and_then ! (lit ! tt) (no_more !)) (λ v good. lands_as ! refl refl good $
+    name_new ! tt (coded R unknown) (λ i. let made : WordView Y.Denot R.Denot = record { from = a; home = h; id = i; owning = true; value = unknown } in
+    fjoin ! $ fpack ! (unknown ≡ None) (λ _. blank R i unknown) refl $ move ! (1 ∷ 0 ∷ []) $ word_made R Y f g ! made null_ptr v good $
+    sets ! (agg ! (no_more !)) refl (tt, tt) $ sets ! (agg ! (and_then ! (get ! refl) (and_then ! (get ! refl) (no_more !)))) refl (word_good R Y f g v good) $
+    -- [the word; T's token; the other tokens; two tokens]
+    let Told : Type 0 = (a ≡ a) × (h ≡ h) × (made.owning ≡ true) × (unknown ≡ unknown) in
+    move ! (1 ∷ 2 ∷ []) $ join ! $ move ! (3 ∷ 0 ∷ []) $ join ! $ move ! (2 ∷ 0 ∷ []) $ join ! $ use0 𝓛 (raw (fact 𝓤 Told)) (fact_i 𝓤 Told (emp 𝓤) (refl, refl, refl, refl)) $ nothing ! $ nothing ! $ fjoin ! $ nothing ! $ fjoin ! $
+    returns ! (look_at ! 0 refl) $ free_all ! refl $ keep ! (2 ∷ 0 ∷ 3 ∷ 1 ∷ []) $ by ! (leaves 𝓛 En hs c z (marked v) made (tt, (tt, tt)) (tt, (tt, tt))))))))

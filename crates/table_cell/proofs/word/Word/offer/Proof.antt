@@ -6,17 +6,17 @@ use mir.Val.{Val, vnull, vptr, vcons, vnil}
 use base.Fraction.{full_share, left, right}
 use base.Logic.{SProp, emp, id⊢, never}
 use prog.Wp.{Wp, after_seq, at_return}
-use types.Kit.{‵, raw, ◌⊛◌, some, later, mean, runs, at_ret, any_q, Sq, ◌$◌, ◌∵◌, !, qed, by, move, drop, split, split3, join, fsplit, fsplit3, fjoin, fpick, pick, use0, use1, use2, use3, await, rewrite, feq_i, feq_l}
+use types.Kit.{‵, raw, ◌⊛◌, some, later, mean, runs, at_ret, any_q, Sq, ◌$◌, ◌∵◌, !, qed, by, move, drop, split, split3, group, join, fsplit, fsplit3, fjoin, fpick, pick, use0, use1, use2, use3, await, rewrite}
 use types.Run.{stop, fld, addr, lit, of_opd, no_more, and_then, first, blocks, exec, Calls-last, returns, switches_on}
 use types.ByLocal.{alloc_all, pass_all, free_all, look_at, get, get_in, get_tag, through, sets, sets_last, lands_last, env, holding, forget_but, is as equals}
 use types.Match.{live, vrt, in_variant}
 use denote.RattleType.{RattleType, owns}
-use denote.Triple.Clauses.{Lasts, lasts}
 use denote.Triple.Walked.{Stays, stay_dropped, stay_ref, walk_of, Goes-dropped, Goes-ref}
 use Rattle.std_alloc.proofs.ResultValues.{and_tt}
 use Rattle.std.proofs.raw_atomic.Walks.{proved_at, leaves}
 use Rattle.table_cell.specs.Notes.{Agrees, learnt}
 use Rattle.table_cell.proofs.Values.{marked, pair_of, pair_in, Loose, loose_good, loose_at, loose_in}
+use Rattle.table_cell.proofs.Calls.{asks_low}
 use Rattle.table_cell.proofs.Walks.{begins, In, goes_in, comes_back, LentOut, lends_block}
 use Rattle.table_cell.specs.contracts.word.Word.offer as f
 use Rattle.table_cell.specs.Words.{Loan, view}
@@ -34,12 +34,10 @@ use denote.Exit.{yes, no}
 use denote.Signature.{types_at, type_at, plain}
 use denote.Builtin.{RefOf}
 use denote.RawPtr.{Ptr, block_ptr, null_ptr, ptr_val}
-use denote.Opens.{unhide, hide}
-use denote.Steps.{nothing, only, heard}
+use denote.Opens.{unhide}
+use denote.Steps.{nothing, heard}
 use denote.Param.{param, layout, bounded}
 use denote.Param.Laws.{param_laws}
-use denote.Struct.Lending.{lent_at}
-use denote.Triple.Spec.{triple_of}
 use Rattle.core.proofs.alloc.Calls.{Goes-blank}
 use Rattle.core.proofs.alloc.Shapes.{after}
 use Rattle.core.proofs.atomic.Steps.{fm}
@@ -50,11 +48,9 @@ use Rattle.table_cell.proofs.Moves as moves
 use mir.Syntax.{Body, named as lifetime}
 use mir.Raw.{raw as bare}
 use types.Na.{before_dup}
-use denote.Builtin.{unit}
 use denote.Memory.{lone}
 use denote.Ref.{ShrRef}
 use denote.RawPtr.{in_a_block}
-use denote.Triple.Call.{calls_at_last}
 use Rattle.core.specs.contracts.option.Option as options
 use Rattle.core.specs.declared.option.Option.TheVariants as option
 use Rattle.core.specs.declared.result.Result.TheVariants.{Ok, Err}
@@ -65,10 +61,10 @@ use Rattle.std.proofs.raw_atomic.PtrCalls as calls
 use Rattle.std.proofs.raw_atomic.PtrMethods as methods
 use Rattle.std.proofs.raw_atomic.Calls.{seq_cst}
 use Rattle.std.proofs.raw_atomic.PtrCalls.{seq_cst_good}
+use Rattle.table_cell.proofs.Ajar as behind
 use Rattle.table_cell.proofs.Notes as notes
 use Rattle.table_cell.proofs.Notes.{Note}
-use Rattle.table_cell.specs.contracts.low.Low.show_low as shower
-use Rattle.table_cell.specs.Words.{Shows, freeable, testable}
+use Rattle.table_cell.specs.Words.{Shows, freeable}
 
 agrees_unset : {X : Type 0} {v : Option X} (x : X) → v ≡ None → Agrees v x
 agrees_unset {X} {v} x e = subst (λ (u : Option X). Agrees u x) (sym e) tt
@@ -87,7 +83,7 @@ offer_spec 𝓤 𝓛 𝓜 𝓡 wired T A L LA h_fits fd gl dl g d dd homed shows
     let κ : Lft = y.0.0.0 in let q : Share = y.0.1.0 in let κn : Lft = y.0.0.1.0 in let qn : Share = y.0.1.1.0 in let κT : Lft = y.0.0.1.1.0 in let qT : Share = y.0.1.1.1.0 in
     let κA : Lft = y.0.0.1.1.1.0 in let qA : Share = y.0.1.1.1.1.0 in let rest = ‵ (flft κA qA) ⊛ ‵ ftrue in
     let wd = y.0.3.0.now in let h = wd.home in let b : ℕ = y.0.3.0.ref_ptr.0 in let o : ℕ = y.0.3.0.ref_ptr.1 in let l₀ = y.0.3.1.1.0 in let x = l₀.value in let k = g.dealloc_token wd.from in
-    let m = y.0.3.1.1.1.0 in let at_note = y.0.4.1.1.1.0 in let i = wd.id in let j = m.now.known in let lent : (Note R).Denot → Fml = λ n. notes.lent R κn qn m n at_note in
+    let m = y.0.3.1.1.1.0 in let at_note = y.0.4.1.1.1.0 in let i = wd.id in let j = m.now.known in let lent : (Note R).Denot → Fml = λ n. behind.lent (notes.the_note R) κn qn m n at_note in
     let Fits : Type 0 = (y.0.3.1.0.now.id ≡ h) × (l₀.from ≡ wd.from) × h_fits.fits x h in let Unset : Type 0 = (wd.owning ≡ true) × (wd.value ≡ None) in let Of : Type 0 = m.now.of ≡ i in
     let Q : R.Denot → Type 0 = Shows h_fits.fits wd in let Ref : RattleType = ShrRef (lifetime 0) κ R in let Out : RattleType = type_at En.signature.result y.0.0 in
     let Post : Val → SProp 𝓤 = (walk_of 𝓛 En stayed c).post y in let Said : R.Denot → Back.Denot → Type 0 = λ z back. MatchOption back ((z ≡ x) × (j ≡ None)) (λ l. (l.value ≡ x) × (l.from ≡ l₀.from)) in
@@ -102,19 +98,13 @@ offer_spec 𝓤 𝓛 𝓜 𝓡 wired T A L LA h_fits fd gl dl g d dd homed shows
     first ! $ blocks ! $ sets ! (of_opd ! (get ! refl)) refl (tt, tt) $ sets ! (of_opd ! (get ! refl)) refl (tt, tt) $
     -- [the block; before the home; before α; the word; its fields; the note; the tokens]
     fsplit ! $ move ! (7 ∷ []) $ split3 ! $ move ! (2 ∷ []) $ split ! $ move ! (10 ∷ 3 ∷ []) $
-    use2 𝓛 (later (‵ (learnt R m.now.of j) ⊛ ‵ (notes.ajar R κn qn m))) (notes.opens_up R κn qn m 𝓛 at_note) $ await ! tt $ split ! $ rewrite ! 0 (λ (i : ℕ). ‵ (learnt R i j)) same refl $
+    use2 𝓛 (later (‵ (learnt R m.now.of j) ⊛ ‵ (behind.ajar (notes.the_note R) κn qn m))) (behind.opens_up (notes.the_note R) κn qn m 𝓛 at_note) $ await ! tt $ split ! $ rewrite ! 0 (λ (i : ℕ). ‵ (learnt R i j)) same refl $
     move ! (4 ∷ 2 ∷ 3 ∷ 5 ∷ 6 ∷ 7 ∷ 8 ∷ 9 ∷ 10 ∷ []) $
     -- [κ's token; T's token; the other tokens; the memory; the right; before the home; before α; the word; its fields; what the note knows; the rest of it]
-    let shows = triple_of 𝓛 (shower.signature A) (shower.spec A gl dl g d dd 𝓛 𝓜.mem 𝓡.returns) in let free = k (bare (lone R.mir)) new in
-    let asked : shows.Ghost = (((κA, tt), (qA, tt), tt, (new, tt), (vptr nb no' ∷ [], tt)), (wd.from, bare (lone R.mir))) in
-    nothing ! $ feq_i ! _ (vptr nb no' ∷ []) _ refl $ fjoin ! $ move ! (3 ∷ 0 ∷ []) $ join ! $
-    use0 𝓛 (raw (fact 𝓤 (κA ⊑ A.lives))) (fact_i 𝓤 (κA ⊑ A.lives) (emp 𝓤) within_A) $ move ! (0 ∷ 5 ∷ []) $ join ! $ move ! (1 ∷ 0 ∷ []) $ join ! $ use1 𝓛 (raw (shows.pre asked)) (id⊢ 𝓤 _) $
-    calls_at_last ! (fm 𝓛 𝓜 𝓡) shows (shows_low.show_low dd) asked (and_then ! (get ! refl) (no_more !)) (λ u₀.
-    use1 𝓛 (later (some (λ (r : Unit {0}). (rest ⊛ ‵ (unit.own_val r (u₀ ∷ []))) ⊛ some (λ (end : Lasts (shower.ended A gl dl g d dd) (κA, tt) asked.0.3). ‵ (lasts (shower.ended A gl dl g d dd) (κA, tt) asked.0.3 end) ⊛ ‵ (fsep (testable new) free)))))
-    (id⊢ 𝓤 _) $ await ! tt $ pick ! (λ r. split ! $ move ! (1 ∷ []) $ pick ! (λ _. split ! $ drop ! $ fsplit ! $ fpick ! (λ low. drop ! $ move ! (1 ∷ []) $ split ! $ move ! (1 ∷ []) $ feq_l ! (λ none.
-    lands_last ! refl (subst (Good (layout unit)) (sym (ap only none)) (tt, tt)) $ exec ! 𝓣.C 𝓣.Λ Ev (after 3 fn.body) (at_ret Ev Post) $
-    -- [the other tokens; the right; κ's token; T's token; the memory; before the home; ..]
-    move ! (4 ∷ 1 ∷ []) $ fjoin ! $ move ! (4 ∷ []) $ use1 𝓛 (‵ (before κ (h ∷ [])) ⊛ ‵ (before κ (h ∷ []))) (before_dup 𝓛 κ (h ∷ [])) $ split ! $
+    move ! (2 ∷ 4 ∷ []) $ asks_low 𝓛 𝓜 𝓡 A gl dl g d dd κA qA new wd.from (bare (lone R.mir)) ! (shows_low.show_low dd) within_A (and_then ! (get ! refl) (no_more !)) $ fpick ! (λ low. drop ! $
+    lands_last ! refl (tt, tt) $ exec ! 𝓣.C 𝓣.Λ Ev (after 3 fn.body) (at_ret Ev Post) $
+    -- [the right; the other tokens; κ's token; T's token; the memory; before the home; ..]
+    move ! (4 ∷ 0 ∷ []) $ fjoin ! $ move ! (4 ∷ []) $ use1 𝓛 (‵ (before κ (h ∷ [])) ⊛ ‵ (before κ (h ∷ []))) (before_dup 𝓛 κ (h ∷ [])) $ split ! $
     -- [before the home, twice; the block; the other tokens; κ's token; T's token; before α; the word; its fields; what the note knows; the rest of it]
     move ! (2 ∷ 5 ∷ []) $ join ! $ move ! (1 ∷ 4 ∷ 0 ∷ []) $ use3 𝓛 (later (LentOut 𝓛 𝓜 𝓡 R LR k h κ q κT qT new x)) (lends_block 𝓛 𝓜 𝓡 R LR k h κ q κT qT new x within) $ await ! tt $ pick ! (λ ν. split3 ! $
     -- [my block; κ's token; T's token; before the home; the other tokens; before α; ..]
@@ -126,20 +116,19 @@ offer_spec 𝓤 𝓛 𝓜 𝓡 wired T A L LA h_fits fd gl dl g d dd homed shows
     let won : Ptr → Fml = λ p. fsep (flft κ (left q)) (wins p) in let lost : Ptr → Fml = λ p. fsep (flft κ (left q)) (loses p) in
     let arms : Body = head (after 5 fn.body) in let After = any_q (after_seq 𝓤 𝓛.H (Wp 𝓤 𝓛.H 𝓣.C 𝓣.Λ Ev (after 6 fn.body) (at_return 𝓤 𝓛.H Ev Post)) (at_return 𝓤 𝓛.H Ev Post)) in
     let ends : (pb po : ℕ) (t : Loan R) (back : Back.Denot) (v : Val) → Good (layout Back) v → Agrees j t.0 → Said t.0 back
-    → Sq 𝓛 (‵ (learnt R i (Some t.0)) ∷ ‵ (view R h (block_ptr pb po) t) ∷ ‵ (Back.own_val back (v ∷ [])) ∷ ‵ (flft κ q) ∷ ‵ (flft κT qT) ∷ ‵ (before κ (h ∷ [])) ∷ rest ∷ ‵ (notes.ajar R κn qn m)
+    → Sq 𝓛 (‵ (learnt R i (Some t.0)) ∷ ‵ (view R h (block_ptr pb po) t) ∷ ‵ (Back.own_val back (v ∷ [])) ∷ ‵ (flft κ q) ∷ ‵ (flft κT qT) ∷ ‵ (before κ (h ∷ [])) ∷ rest ∷ ‵ (behind.ajar (notes.the_note R) κn qn m)
     ∷ holding 𝓛 Ev ((20, pair_of (vptr pb po) v) ∷ [])) (runs 𝓣.C 𝓣.Λ Ev (after 6 fn.body) (at_ret Ev Post)) = λ pb po t back v v_good agrees said.
     let p : Ptr = block_ptr pb po in let n : (Note R).Denot = notes.knowing R m.now (Some t.0) in let Known : Type 0 = (n.known ≡ Some t.0) × Agrees j t.0 in
     let pair : Val = pair_of (vptr pb po) v in let good : Good (layout Out) pair = (and_tt _ v_good.0, (tt, (v_good.1, tt))) in let shown : Ref.Denot = record { ref_ptr = (pb, po); now = t.0 } in
     rewrite ! 0 (λ (i : ℕ). ‵ (learnt R i (Some t.0))) (sym same) refl $ move ! (0 ∷ 7 ∷ []) $
-    use2 𝓛 (later (‵ (lent n) ⊛ ‵ (flft κn qn))) (notes.shuts R κn qn m 𝓛 at_note (Some t.0) are.1.1.1.0.0) $ await ! tt $ split ! $ move ! (2 ∷ []) $
+    use2 𝓛 (later (‵ (lent n) ⊛ ‵ (flft κn qn))) (behind.shuts (notes.the_note R) κn qn m 𝓛 at_note n are.1.1.1.0.0) $ await ! tt $ split ! $ move ! (2 ∷ []) $
     -- [the view; the note; its token; what comes back; κ's token; T's token; before the home; the other tokens]
-    use1 𝓛 (later (‵ (lent_at R p t.0 (h ∷ [])))) (moves.settles 𝓛 R LR k h p t) $ await ! tt $ move ! (6 ∷ 0 ∷ []) $ use2 𝓛 (‵ (lent_at R p t.0 κ)) (moves.lasts 𝓛 R LR k h κ p t.0) $ fsplit ! $ drop ! $ hide ! $
+    move ! (6 ∷ 0 ∷ []) $ use2 𝓛 (later (‵ (Ref.own_val shown (vptr pb po ∷ [])))) (moves.shows_block 𝓛 R LR k h κ pb po t) $ await ! tt $
     sets ! (of_opd ! (get ! refl)) refl good $ sets ! (of_opd ! (get_in ! (fld ! refl (stop !)) (sub ! 0 refl (whole !)))) refl (tt, tt) $ sets ! (of_opd ! (get_in ! (fld ! refl (stop !)) (sub ! 1 refl (whole !)))) refl v_good $
     first ! $ blocks ! $ sets_last ! (addr ! (through ! refl (stop !))) refl (tt, tt) $ exec ! 𝓣.C 𝓣.Λ Ev (after 10 fn.body) (at_ret Ev Post) $
     sets ! (of_opd ! (get ! refl)) refl (tt, tt) $ sets ! (of_opd ! (get ! refl)) refl v_good $ sets ! (agg ! (and_then ! (get ! refl) (and_then ! (get ! refl) (no_more !)))) refl good $
-    feq_i ! _ (vptr pb po ∷ []) _ refl $ fjoin ! $ move ! (0 ∷ 3 ∷ []) $ pair_in Ref Back ! shown back (vptr pb po) v $
-    -- [the pair; the note; its token; κ's token; T's token; the other tokens]
-    move ! (4 ∷ 5 ∷ []) $ join ! $ move ! (3 ∷ 0 ∷ []) $ join ! $ move ! (3 ∷ 0 ∷ []) $ join ! $
+    move ! (0 ∷ 3 ∷ []) $ pair_in Ref Back ! shown back (vptr pb po) v $ move ! (3 ∷ 2 ∷ 4 ∷ 5 ∷ []) $ group ! 4 $
+    -- [the lifetimes' tokens; the pair; the note]
     use0 𝓛 (raw (fact 𝓤 (Said t.0 back))) (fact_i 𝓤 (Said t.0 back) (emp 𝓤) said) $ use0 𝓛 (raw (fact 𝓤 Known)) (fact_i 𝓤 Known (emp 𝓤) (refl, agrees)) $ join ! $
     use0 𝓛 (raw (fact 𝓤 (m.now.of ≡ m.now.of))) (fact_i 𝓤 (m.now.of ≡ m.now.of) (emp 𝓤) refl) $ join ! $
     move ! (3 ∷ []) $ nothing ! $ move ! (1 ∷ 0 ∷ []) $ fjoin ! $ nothing ! $ fjoin ! $ nothing ! $ fjoin ! $ nothing ! $ fjoin ! $
@@ -177,4 +166,4 @@ offer_spec 𝓤 𝓛 𝓜 𝓡 wired T A L LA h_fits fd gl dl g d dd homed shows
     sets_last ! (agg ! (and_then ! (get ! refl) (and_then ! (get ! refl) (no_more !)))) refl (tt, (tt, (good.1, tt))) $
     exec ! 𝓣.C 𝓣.Λ Ev (after 6 fn.body) (at_ret Ev Post) $ forget_but ! Ev (20 ∷ []) refl $
     move ! (2 ∷ []) $ use1 𝓛 (‵ (Back.own_val (option.Some mine) (live 1 (vcons at_mine vnil) ∷ []))) (Some-of 𝓛 Lr mine at_mine) $ move ! (1 ∷ 2 ∷ 0 ∷ []) $
-    ends pb po t (option.Some mine) (live 1 (vcons at_mine vnil)) good agrees (refl, refl)))))))))))))))))))))))
+    ends pb po t (option.Some mine) (live 1 (vcons at_mine vnil)) good agrees (refl, refl)))))))))))))))))))

@@ -1,47 +1,47 @@
 -- The box goes whole into the call that takes it apart. Its allocator then shows that the address may be compared with null.
-use Rattle.std.proofs.Common.{◌≡◌, List, [], ◌∷◌, ◌++◌, refl, sym, ap, ◌∙◌, subst}
+use Rattle.std.proofs.Common.{◌≡◌, List, [], ◌∷◌, ◌++◌, refl, ap, ◌∙◌}
 use mir.Raw.{raw as bare}
 use mir.Syntax.{a_type, dcons, dnil}
 use mir.MapTy.{inst_fn}
 use mir.Val.{Val, vptr, vstruct, of_list}
 use base.Logic.{SProp, emp, id⊢, never, fst∗}
-use base.Fml.{Lft, Share, ftrue, fsep, flft}
+use base.Fml.{Lft, Share, ftrue, flft}
 use types.Logic.{sem}
-use types.Kit.{‵, raw, ◌⊛◌, some, later, at_ret, ◌$◌, ◌∵◌, !, qed, by, move, keep, drop, split, split3, join, fsplit, fjoin, fpick, fpack, pick, rewrite, use0, use1, await, feq_i, feq_l}
+use types.Kit.{‵, raw, ◌⊛◌, some, later, at_ret, ◌$◌, ◌∵◌, !, qed, by, move, keep, drop, split, split3, join, fsplit, fjoin, pick, rewrite, use0, use1, await, feq_l}
 use types.Run.{stop, fld, of_opd, no_more, and_then, first, blocks, exec, returns}
 use types.ByLocal.{alloc_all, pass_all, free_all, look_at, get, get_in, sets, lands_as, lands_last, env}
 use types.Part.{agg, sub, whole as whole_of}
 use contract.BorrowLft.{◌⊑◌}
 use contract.Monad.{fact, fact_i}
 use contract.Running.{tables}
-use denote.Builtin.{RawPtr, unit}
+use denote.Builtin.{RawPtr}
 use denote.Exit.{no}
 use denote.Laws.{Is, shows}
 use denote.RattleType.{RattleType, owns}
 use denote.Signature.{types_at, plain}
 use denote.Memory.{lone}
-use denote.RawPtr.{Ptr, block_ptr, null_ptr, ptr_val, in_a_block, Testable}
+use denote.RawPtr.{Ptr, block_ptr, null_ptr, ptr_val, in_a_block}
 use denote.Steps.{nothing, only, heard, peeks}
 use denote.Param.{param, layout, bounded}
 use denote.Param.Laws.{param_laws}
 use denote.Struct.Tuple.{Tuple}
 use denote.Triple.Clauses.{Lasts, lasts}
 use denote.Triple.Spec.{triple_of}
-use denote.Triple.Call.{calls_at, calls_at_last}
+use denote.Triple.Call.{calls_at}
 use denote.Triple.Walked.{Stays, stay_dropped, walk_of}
 use Rattle.core.proofs.alloc.Calls.{Goes-blank}
 use Rattle.core.proofs.alloc.Shapes.{after}
 use Rattle.core.proofs.atomic.Steps.{fm}
-use Rattle.core.proofs.cell.Inside.{Good, one}
+use Rattle.core.proofs.cell.Inside.{one}
 use Rattle.std.proofs.raw_atomic.Walks.{proved_at, leaves}
 use Rattle.std_alloc.proofs.ResultValues.{and_tt}
 use Rattle.std_alloc.proofs.boxed.Box.TheLaws.{the_row_laws as box_laws}
 use Rattle.std_alloc.proofs.boxed.Box.into_raw_with_allocator.Met as apart
 use Rattle.std_alloc.specs.contracts.boxed.Box as boxes
 use Rattle.std_alloc.specs.contracts.boxed.Box.into_raw_with_allocator as takes_apart
-use Rattle.table_cell.specs.Words.{testable, freeable}
-use Rattle.table_cell.specs.contracts.low.Low.show_low as shower
+use Rattle.table_cell.specs.Words.{freeable}
 use Rattle.table_cell.proofs.Values.{marked, pair_of, pair_in}
+use Rattle.table_cell.proofs.Calls.{asks_low}
 use Rattle.table_cell.proofs.Walks.{begins}
 use Rattle.table_tied.specs.contracts.low_block.LowBlock.of as f
 use Rattle.table_tied.proofs.Blocks.{LowBlock, low_good, low_in, pair_out}
@@ -72,25 +72,20 @@ of_spec 𝓤 𝓛 𝓜 𝓡 wired T A L LA gl dl g d dx dd shows_low allocator t
     move ! (1 ∷ []) $ split ! $ move ! (1 ∷ []) $ pair_out RawPtr Y ! r (u ∷ []) (λ vs ws whole. feq_l ! (λ at. rewrite ! 0 (λ (s : A.Denot). ‵ (Y.own_val s ws)) same refl $
     peeks ! Y (Is Y) (shows 𝓛 Y) a ws (λ typed. let h = one (layout Y) ws (((param_laws 1 A LA).lawful 𝓛).typed a ws typed) in rewrite ! 0 (λ (us : List Val). ‵ (Y.own_val a us)) h.1 refl $
     -- [the allocator; the tokens; the block]
-    let taken : Val = pair_of (vptr b o) h.0 in let freely = g.dealloc_token a (bare (lone R.mir)) p in let rest = ‵ (flft κA qA) ⊛ ‵ ftrue in let made : Val = pair_of (marked (vptr b o)) h.0 in
+    let taken : Val = pair_of (vptr b o) h.0 in let made : Val = pair_of (marked (vptr b o)) h.0 in
     let block : (LowBlock R Y g).Denot = record { at = p; of = record {}; value = of_box.value; from = a } in
-    let shows = triple_of 𝓛 (shower.signature A) (shower.spec A gl dl g d dd 𝓛 𝓜.mem 𝓡.returns) in let asked : shows.Ghost = (((κA, tt), (qA, tt), tt, (p, tt), (vptr b o ∷ [], tt)), (a, bare (lone R.mir))) in
     lands_as ! (ap only (whole ∙ (λ i. vstruct (of_list ((at ∙ ap (λ (q : Ptr). ptr_val q ∷ []) lies) i ++ (h.1 i ++ []))) ∷ []))) refl (and_tt _ h.2.0, (tt, (h.2.1, tt))) $
     sets ! (of_opd ! (get_in ! (fld ! refl (stop !)) (sub ! 0 refl (whole_of !)))) refl (tt, tt) $ sets ! (of_opd ! (get_in ! (fld ! refl (stop !)) (sub ! 1 refl (whole_of !)))) refl h.2 $
     first ! $ blocks ! $ sets ! (of_opd ! (get ! refl)) refl (tt, tt) $ move ! (1 ∷ []) $ split3 ! $ move ! (4 ∷ []) $ fsplit ! $ move ! (3 ∷ 4 ∷ []) $ join ! $
     -- [A's tokens; the memory; the right; T's token; the allocator]
-    nothing ! $ feq_i ! _ (vptr b o ∷ []) _ refl $ fjoin ! $ move ! (1 ∷ 0 ∷ []) $ join ! $ use0 𝓛 (raw (fact 𝓤 (κA ⊑ A.lives))) (fact_i 𝓤 (κA ⊑ A.lives) (emp 𝓤) within) $
-    move ! (0 ∷ 3 ∷ []) $ join ! $ move ! (1 ∷ 0 ∷ []) $ join ! $ use1 𝓛 (raw (shows.pre asked)) (id⊢ 𝓤 _) $
-    calls_at_last ! (fm 𝓛 𝓜 𝓡) shows (shows_low.show_low dd) asked (and_then ! (get ! refl) (no_more !)) (λ u.
-    use1 𝓛 (later (some (λ (r : Unit {0}). (rest ⊛ ‵ (unit.own_val r (u ∷ []))) ⊛ some (λ (end : Lasts (shower.ended A gl dl g d dd) (κA, tt) asked.0.3). ‵ (lasts (shower.ended A gl dl g d dd) (κA, tt) asked.0.3 end) ⊛ ‵ (fsep (testable p) freely)))))
-    (id⊢ 𝓤 _) $ await ! tt $ pick ! (λ r. split ! $ move ! (1 ∷ []) $ pick ! (λ _. split ! $ drop ! $ fsplit ! $ fpick ! (λ low. drop ! $ move ! (1 ∷ []) $ split ! $ move ! (1 ∷ []) $ feq_l ! (λ none.
-    lands_last ! refl (subst (Good (layout unit)) (sym (ap only none)) (tt, tt)) $ exec ! 𝓣.C 𝓣.Λ Ev (after 5 fn.body) (at_ret Ev Post) $
-    -- [A's tokens; the right; the memory; T's token; the allocator]
-    move ! (2 ∷ 1 ∷ []) $ fjoin ! $ nothing ! $ fpack ! (Testable p) (λ _. ftrue) low $ fjoin ! $ low_in R Y g ! p a of_box.value $ move ! (0 ∷ 3 ∷ []) $ pair_in (LowBlock R Y g) Y ! block a (marked (vptr b o)) h.0 $
+    move ! (0 ∷ 2 ∷ []) $ asks_low 𝓛 𝓜 𝓡 A gl dl g d dd κA qA p a (bare (lone R.mir)) ! (shows_low.show_low dd) within (and_then ! (get ! refl) (no_more !)) $
+    lands_last ! refl (tt, tt) $ exec ! 𝓣.C 𝓣.Λ Ev (after 5 fn.body) (at_ret Ev Post) $
+    -- [that it may be compared; the right; A's tokens; the memory; T's token; the allocator]
+    move ! (3 ∷ 1 ∷ []) $ fjoin ! $ move ! (1 ∷ 0 ∷ []) $ fjoin ! $ low_in R Y g ! p a of_box.value $ move ! (0 ∷ 3 ∷ []) $ pair_in (LowBlock R Y g) Y ! block a (marked (vptr b o)) h.0 $
     sets ! (agg ! (no_more !)) refl (tt, tt) $ sets ! (agg ! (and_then ! (get ! refl) (and_then ! (get ! refl) (no_more !)))) refl (low_good R Y g p) $ sets ! (of_opd ! (get ! refl)) refl h.2 $
     sets ! (agg ! (and_then ! (get ! refl) (and_then ! (get ! refl) (no_more !)))) refl (and_tt _ h.2.0, ((low_good R Y g p).1, (h.2.1, tt))) $
     -- [the pair; A's tokens; T's token]
     let Value : Type 0 = of_box.value ≡ of_box.value in let From : Type 0 = a ≡ a in
     move ! (2 ∷ 1 ∷ []) $ join ! $ use0 𝓛 (raw (fact 𝓤 From)) (fact_i 𝓤 From (emp 𝓤) refl) $ use0 𝓛 (raw (fact 𝓤 From)) (fact_i 𝓤 From (emp 𝓤) refl) $ join ! $
     use0 𝓛 (raw (fact 𝓤 Value)) (fact_i 𝓤 Value (emp 𝓤) refl) $ join ! $ nothing ! $ nothing ! $ fjoin ! $
-    returns ! (look_at ! 0 refl) $ free_all ! refl $ keep ! (2 ∷ 0 ∷ 3 ∷ 1 ∷ []) $ by ! (leaves 𝓛 En spent c z made (block, a) ((tt, (tt, tt)), tt) (tt, tt)))))))))))))))))))
+    returns ! (look_at ! 0 refl) $ free_all ! refl $ keep ! (2 ∷ 0 ∷ 3 ∷ 1 ∷ []) $ by ! (leaves 𝓛 En spent c z made (block, a) ((tt, (tt, tt)), tt) (tt, tt))))))))))))))

@@ -10,7 +10,7 @@ use base.Logic.{SProp, emp, id⊢, never}
 use base.Fml.{Lft, Share, Fml, ftrue, ffalse, fsep, flft}
 use base.Before.{before}
 use prog.Wp.{Wp, after_seq, at_return}
-use types.Kit.{‵, raw, ◌⊛◌, some, later, mean, runs, at_ret, any_q, Sq, ◌$◌, ◌∵◌, !, qed, by, move, keep, drop, split, split3, join, fsplit, fsplit3, fjoin, fpick, fpack, pick, use0, use1, use2, use3, await, rewrite, feq_i}
+use types.Kit.{‵, raw, ◌⊛◌, some, later, mean, runs, at_ret, any_q, Sq, ◌$◌, ◌∵◌, !, qed, by, move, keep, drop, split, split3, group, join, fsplit, fsplit3, fjoin, fpick, fpack, pick, use0, use1, use2, use3, await, rewrite}
 use types.Run.{stop, fld, addr, lit, of_opd, no_more, and_then, first, blocks, exec, Calls-last, returns, switches_on}
 use types.ByLocal.{alloc_all, pass_all, free_all, look_at, get, get_in, get_tag, through, sets, sets_last, lands_last, env, holding, forget_but, is as equals}
 use types.Match.{live, vrt, in_variant}
@@ -21,7 +21,7 @@ use contract.BorrowLft.{◌⊑◌}
 use contract.Running.{tables}
 use denote.Builtin.{RefOf, u64}
 use denote.Exit.{yes, no}
-use denote.Opens.{unhide, hide}
+use denote.Opens.{unhide}
 use denote.Param.{param, layout, bounded}
 use denote.Param.Laws.{param_laws}
 use denote.RattleType.{RattleType, owns}
@@ -29,7 +29,6 @@ use denote.RawPtr.{Ptr, block_ptr, null_ptr, ptr_val, in_a_block, Testable}
 use denote.Ref.{ShrRef}
 use denote.Signature.{types_at, type_at, plain}
 use denote.Steps.{nothing, heard}
-use denote.Struct.Lending.{lent_at}
 use denote.Triple.Walked.{Stays, stay_dropped, stay_ref, walk_of, Goes-dropped, Goes-ref}
 use Rattle.core.specs.contracts.option.Option as options
 use Rattle.core.specs.declared.option.Option.TheVariants as option
@@ -57,6 +56,7 @@ use Rattle.table_tied.specs.Tied.{Lasting, Sets}
 use Rattle.table_tied.specs.contracts.word.TiedWord as word
 use Rattle.table_tied.specs.contracts.word.TiedWord.exchange as f
 use Rattle.table_tied.proofs.Blocks.{LowBlock, low_good, low_in, low_out}
+use Rattle.table_cell.proofs.Ajar as behind
 use Rattle.table_tied.proofs.Borrowed as tokens
 use Rattle.table_tied.proofs.Borrowed.{Seen}
 use Rattle.table_tied.proofs.Steps as steps
@@ -79,7 +79,7 @@ exchange_spec 𝓤 𝓛 𝓜 𝓡 wired T A E P N L LA LE LP LN st sd gl dl g gd
     let rest = ‵ (flft κs.1.1.1.0 qs.1.1.1.0) ⊛ ‵ (flft κs.1.1.1.1.0 qs.1.1.1.1.0) ⊛ ‵ (flft κs.1.1.1.1.1.0 qs.1.1.1.1.1.0) ⊛ ‵ (flft κs.1.1.1.1.1.1.0 qs.1.1.1.1.1.1.0) ⊛ ‵ ftrue in
     let wd = z.0.3.0.now in let h : ℕ = wd.home in let k = g.dealloc_token wd.from in let bk : Book = wd.book in let key : ℕ = wd.key in let b : ℕ = z.0.3.0.ref_ptr.0 in let o : ℕ = z.0.3.0.ref_ptr.1 in
     let l₀ = z.0.3.1.1.0 in let x = l₀.value in let m = z.0.3.1.1.1.0 in let n₀ = m.now in let j : List E'.Denot = n₀.log in let at_seen = z.0.4.1.1.1.0 in
-    let rule : Rules E'.Denot = rules rl.holds rl.shows rl.keeps in let saw : Book → List E'.Denot → Fml = λ bk log. seen_owns E'.coded.code rule bk n₀.names log in let ajar : Fml = tokens.seen_ajar E' u64 P' rl κn qn m in
+    let rule : Rules E'.Denot = rules rl.holds rl.shows rl.keeps in let saw : Book → List E'.Denot → Fml = λ bk log. seen_owns E'.coded.code rule bk n₀.names log in let ajar : Fml = behind.ajar (tokens.the_seen E' u64 P' rl) κn qn m in
     let Fits : Type 0 = (z.0.3.1.0.now.id ≡ h) × (l₀.from ≡ wd.from) in let Of : Type 0 = n₀.book ≡ bk in let Lasts : Type 0 = Lasting st.stands in let Law : Type 0 = Sets rl.holds rl.shows st.stands le.set key x j in
     let Ref : RattleType = ShrRef (lifetime 0) κ R in let Out : RattleType = type_at En.signature.result κs in let Post : Val → SProp 𝓤 = (walk_of 𝓛 En stayed c).post z in
     let Same : Type 0 = (n₀.book ≡ n₀.book) × (n₀.names ≡ n₀.names) in let Won : R.Denot → Back.Denot → Type 0 = λ s back. IfNone back (s ≡ x) in
@@ -96,7 +96,7 @@ exchange_spec 𝓤 𝓛 𝓜 𝓡 wired T A E P N L LA LE LP LN st sd gl dl g gd
     sets ! (of_opd ! (get_in ! (fld ! refl (stop !)) (sub ! 0 refl (whole !)))) refl (tt, tt) $ sets ! (of_opd ! (get_in ! (fld ! refl (stop !)) (sub ! 1 refl (whole !)))) refl (tt, tt) $
     -- [the block; before the home; before α; the word; its fields; the token; the lifetimes' tokens]
     move ! (6 ∷ []) $ split3 ! $ move ! (2 ∷ []) $ split ! $ move ! (9 ∷ 3 ∷ []) $
-    use2 𝓛 (later (‵ (saw n₀.book j) ⊛ ‵ ajar)) (tokens.opens_seen E' u64 P' rl κn qn m 𝓛 at_seen) $ await ! tt $ split ! $ rewrite ! 0 (λ (w : Book). ‵ (saw w j)) same refl $
+    use2 𝓛 (later (‵ (saw n₀.book j) ⊛ ‵ ajar)) (behind.opens_up (tokens.the_seen E' u64 P' rl) κn qn m 𝓛 at_seen) $ await ! tt $ split ! $ rewrite ! 0 (λ (w : Book). ‵ (saw w j)) same refl $
     -- [what is seen; the rest of the token; T's token; the other tokens; κ's token; the block; before the home; before α; the word; its fields]
     move ! (6 ∷ []) $ use1 𝓛 (‵ (before κ (h ∷ [])) ⊛ ‵ (before κ (h ∷ []))) (before_dup 𝓛 κ (h ∷ [])) $ split ! $ move ! (7 ∷ 4 ∷ []) $ join ! $ move ! (1 ∷ 6 ∷ 0 ∷ []) $
     use3 𝓛 (later (LentOut 𝓛 𝓜 𝓡 R LR k h κ q κT qT new x)) (lends_block 𝓛 𝓜 𝓡 R LR k h κ q κT qT new x within) $ await ! tt $ pick ! (λ ν. split3 ! $
@@ -113,15 +113,14 @@ exchange_spec 𝓤 𝓛 𝓜 𝓡 wired T A E P N L LA LE LP LN st sd gl dl g gd
     let p : Ptr = block_ptr pb po in let n : Sn.Denot = tokens.seen_to E' u64 P' rl n₀ log in let Stood : Type 0 = st.stands t.0 key log in
     let pair : Val = pair_of (vptr pb po) v in let good : Good (layout Out) pair = (and_tt _ v_good.0, (tt, (v_good.1, tt))) in let shown : Ref.Denot = record { ref_ptr = (pb, po); now = t.0 } in
     rewrite ! 0 (λ (w : Book). ‵ (saw w log)) (sym same) refl $ move ! (0 ∷ 6 ∷ []) $
-    use2 𝓛 (later (‵ (tokens.seen_lent E' u64 P' rl κn qn m n at_seen) ⊛ ‵ (flft κn qn))) (tokens.shuts_seen E' u64 P' rl κn qn m 𝓛 at_seen n are.1.1.1.0.0) $ await ! tt $ split ! $ move ! (2 ∷ []) $
+    use2 𝓛 (later (‵ (behind.lent (tokens.the_seen E' u64 P' rl) κn qn m n at_seen) ⊛ ‵ (flft κn qn))) (behind.shuts (tokens.the_seen E' u64 P' rl) κn qn m 𝓛 at_seen n are.1.1.1.0.0) $ await ! tt $ split ! $ move ! (2 ∷ []) $
     -- [the view; the token; its lifetime's token; what comes back; κ's token; T's token; before the home; the other tokens]
-    use1 𝓛 (later (‵ (lent_at R p t.0 (h ∷ [])))) (moves.settles 𝓛 R LR k h p t) $ await ! tt $ move ! (6 ∷ 0 ∷ []) $ use2 𝓛 (‵ (lent_at R p t.0 κ)) (moves.lasts 𝓛 R LR k h κ p t.0) $ fsplit ! $ drop ! $ hide ! $
+    move ! (6 ∷ 0 ∷ []) $ use2 𝓛 (later (‵ (Ref.own_val shown (vptr pb po ∷ [])))) (moves.shows_block 𝓛 R LR k h κ pb po t) $ await ! tt $
     sets ! (of_opd ! (get ! refl)) refl good $ sets ! (of_opd ! (get_in ! (fld ! refl (stop !)) (sub ! 0 refl (whole !)))) refl (tt, tt) $ sets ! (of_opd ! (get_in ! (fld ! refl (stop !)) (sub ! 1 refl (whole !)))) refl v_good $
     first ! $ blocks ! $ sets_last ! (addr ! (through ! refl (stop !))) refl (tt, tt) $ exec ! 𝓣.C 𝓣.Λ Ev (after 9 fn.body) (at_ret Ev Post) $
     sets ! (of_opd ! (get ! refl)) refl (tt, tt) $ sets ! (of_opd ! (get ! refl)) refl v_good $ sets ! (agg ! (and_then ! (get ! refl) (and_then ! (get ! refl) (no_more !)))) refl good $
-    feq_i ! _ (vptr pb po ∷ []) _ refl $ fjoin ! $ move ! (0 ∷ 3 ∷ []) $ pair_in Ref Back ! shown back (vptr pb po) v $
-    -- [the pair; the token; its lifetime's token; κ's token; T's token; the other tokens]
-    move ! (4 ∷ 5 ∷ []) $ join ! $ move ! (3 ∷ 0 ∷ []) $ join ! $ move ! (3 ∷ 0 ∷ []) $ join ! $
+    move ! (0 ∷ 3 ∷ []) $ pair_in Ref Back ! shown back (vptr pb po) v $ move ! (3 ∷ 2 ∷ 4 ∷ 5 ∷ []) $ group ! 4 $
+    -- [the lifetimes' tokens; the pair; the token]
     use0 𝓛 (raw (fact 𝓤 (Hands back))) (fact_i 𝓤 (Hands back) (emp 𝓤) hands) $ use0 𝓛 (raw (fact 𝓤 (Set back log))) (fact_i 𝓤 (Set back log) (emp 𝓤) set) $ join ! $
     use0 𝓛 (raw (fact 𝓤 (Won t.0 back))) (fact_i 𝓤 (Won t.0 back) (emp 𝓤) won) $ join ! $ use0 𝓛 (raw (fact 𝓤 Stood)) (fact_i 𝓤 Stood (emp 𝓤) standing) $ join ! $
     use0 𝓛 (raw (fact 𝓤 (IsPrefix j log))) (fact_i 𝓤 (IsPrefix j log) (emp 𝓤) onward) $ join ! $ use0 𝓛 (raw (fact 𝓤 Same)) (fact_i 𝓤 Same (emp 𝓤) (refl, refl)) $ join ! $

@@ -50,6 +50,7 @@ use Rattle.table_tied.specs.Tied.{Lasting, Looks, counted}
 use Rattle.table_tied.specs.contracts.word.TiedWord as word
 use Rattle.table_tied.specs.contracts.word.TiedWord.into_low as f
 use Rattle.table_tied.proofs.Blocks.{LowBlock, low_good, low_in, where_it_lies}
+use Rattle.table_cell.proofs.Ajar as behind
 use Rattle.table_tied.proofs.Borrowed as tokens
 use Rattle.table_tied.proofs.Borrowed.{Seen}
 use Rattle.table_tied.proofs.Steps as steps
@@ -70,7 +71,7 @@ into_low_spec 𝓤 𝓛 𝓜 𝓡 wired T A E P N L LA LE LP LN st sd g gd rl rd
     let κ : Lft = κs.0 in let q : Share = qs.0 in let κn : Lft = κs.1.0 in let qn : Share = qs.1.0 in let κT : Lft = κs.1.1.0 in let qT : Share = qs.1.1.0 in let tok = ‵ (flft κT qT) ⊛ ‵ ftrue in
     let rest = ‵ (flft κs.1.1.1.0 qs.1.1.1.0) ⊛ ‵ (flft κs.1.1.1.1.0 qs.1.1.1.1.0) ⊛ ‵ (flft κs.1.1.1.1.1.0 qs.1.1.1.1.1.0) ⊛ ‵ (flft κs.1.1.1.1.1.1.0 qs.1.1.1.1.1.1.0) ⊛ ‵ ftrue in
     let wd = z.0.3.0 in let a = wd.from in let h : ℕ = wd.home in let k = g.dealloc_token a in let bk : Book = wd.book in let key : ℕ = wd.key in let m = z.0.3.1.1.0 in let n₀ = m.now in let j : List E'.Denot = n₀.log in let at_seen = z.0.4.1.1.0 in
-    let rule : Rules E'.Denot = rules rl.holds rl.shows rl.keeps in let saw : Book → List E'.Denot → Fml = λ bk log. seen_owns E'.coded.code rule bk n₀.names log in let ajar : Fml = tokens.seen_ajar E' u64 P' rl κn qn m in
+    let rule : Rules E'.Denot = rules rl.holds rl.shows rl.keeps in let saw : Book → List E'.Denot → Fml = λ bk log. seen_owns E'.coded.code rule bk n₀.names log in let ajar : Fml = behind.ajar (tokens.the_seen E' u64 P' rl) κn qn m in
     let Counted : Ptr → Fml = counted E'.coded.code R k h wd.owning st.stands bk key in let Owns : Type 0 = (z.0.3.1.0.now.id ≡ h) × (wd.owning ≡ true) in
     let Of : Type 0 = n₀.book ≡ bk in let Stay : Type 0 = Lasting st.stands in let Law : Type 0 = Looks rl.holds le.null key j in let Same : Type 0 = (n₀.book ≡ n₀.book) × (n₀.names ≡ n₀.names) in
     let Null : Out.Denot → List E'.Denot → Type 0 = λ r log. IfNone r (le.null key j log) in let From : Out.Denot → Type 0 = λ r. IfSome r (λ l. l.from ≡ a) in
@@ -82,7 +83,7 @@ into_low_spec 𝓤 𝓛 𝓜 𝓡 wired T A E P N L LA LE LP LN st sd g gd rl rd
     move ! (1 ∷ []) $ fsplit ! $ drop ! $ unhide ! $ fsplit ! $ drop ! $ rewrite ! 0 (λ (i : ℕ). ‵ (fdead (i ∷ []))) ended.0 refl $ move ! (1 ∷ []) $ fsplit ! $ fpick ! (λ laid. drop ! $ fpick ! (λ p. fsplit ! $
     word_out At Noted (atomic_ptr_holding p) ! refl lawful z.0.4.0 (λ v v_good is. let passed : call.Ghost = (((κT, tt), (qT, tt), tt, (atomic_ptr_holding p, tt), (v ∷ [], tt)), tt) in
     move ! (3 ∷ []) $ fsplit ! $ move ! (1 ∷ []) $ drop ! $ move ! (0 ∷ 7 ∷ []) $
-    use2 𝓛 (later (‵ (saw n₀.book j) ⊛ ‵ ajar)) (tokens.opens_seen E' u64 P' rl κn qn m 𝓛 at_seen) $
+    use2 𝓛 (later (‵ (saw n₀.book j) ⊛ ‵ ajar)) (behind.opens_up (tokens.the_seen E' u64 P' rl) κn qn m 𝓛 at_seen) $
     begins ! fn (λ i. is i ++ (are.1.0.0 i ++ (are.1.1.0.0 i ++ []))) $ alloc_all ! (λ l. pass_all ! refl ((subst (Typed W.mir) is laid).0, ((tt, tt), ((tt, tt), tt))) $ let Ev = env fn.locals l in
     await ! tt $ split ! $ rewrite ! 0 (λ (w : Book). ‵ (saw w j)) same refl $
     -- [what is seen; the rest of the token; the pointer; beside it; the home's end; T's token; the other tokens; κ's token]
@@ -95,7 +96,7 @@ into_low_spec 𝓤 𝓛 𝓜 𝓡 wired T A E P N L LA LE LP LN st sd g gd rl rd
     move ! (1 ∷ 3 ∷ []) $ where_it_lies ! p
     (λ at. rewrite ! 1 (λ (s : Ptr). ‵ (Counted s)) at refl $ use2 𝓛 (later (‵ (steps.SawOn 𝓛 E'.coded rule bk n₀.names R LR k h wd.owning st.stands key j (le.null key j)))) (steps.is_null 𝓛 E'.coded rule bk n₀.names R LR k h wd.owning st.stands key j le.null law) $ await ! tt $
     fpick ! (λ log. fsplit ! $ fpick ! (λ so. drop ! $ rewrite ! 0 (λ (w : Book). ‵ (saw w log)) (sym same) refl $ let n : Sn.Denot = tokens.seen_to E' u64 P' rl n₀ log in let answer : Out.Denot = option.None in
-    move ! (0 ∷ 2 ∷ []) $ use2 𝓛 (later (‵ (tokens.seen_lent E' u64 P' rl κn qn m n at_seen) ⊛ ‵ (flft κn qn))) (tokens.shuts_seen E' u64 P' rl κn qn m 𝓛 at_seen n are.1.1.0.0) $ await ! tt $ split ! $ move ! (3 ∷ []) $ drop ! $
+    move ! (0 ∷ 2 ∷ []) $ use2 𝓛 (later (‵ (behind.lent (tokens.the_seen E' u64 P' rl) κn qn m n at_seen) ⊛ ‵ (flft κn qn))) (behind.shuts (tokens.the_seen E' u64 P' rl) κn qn m 𝓛 at_seen n are.1.1.0.0) $ await ! tt $ split ! $ move ! (3 ∷ []) $ drop ! $
     lands_as ! (ap only e ∙ ap ptr_val held ∙ ap ptr_val at) refl (Ptr-Good null_ptr) $ sets ! (bin ! (get ! refl) (lit ! tt) tt) refl (tt, tt) $ first ! $ branches ! (get ! refl)
     (λ _. sets ! (agg ! (and_then ! (lit ! tt) (no_more !))) refl (tt, (record { fits = lit< tt }, tt)) $ use0 𝓛 (‵ (Out.own_val answer (live 0 vnil ∷ []))) (none_of 𝓛 Lb) $
     -- [the answer; the token; its lifetime's token; T's tokens; the other tokens; κ's token]
@@ -110,7 +111,7 @@ into_low_spec 𝓤 𝓛 𝓜 𝓡 wired T A E P N L LA LE LP LN st sd g gd rl rd
     move ! (1 ∷ []) $ fpick ! (λ log. fsplit ! $ fpick ! (λ so. drop ! $ rewrite ! 0 (λ (w : Book). ‵ (saw w log)) (sym same) refl $ let n : Sn.Denot = tokens.seen_to E' u64 P' rl n₀ log in
     let block : Lb.Denot = record { at = q; of = record {}; value = x; from = a } in let answer : Out.Denot = option.Some block in let at_block : Val = marked (vptr b o) in
     let good : Good (layout Out) (live 1 (vcons at_block vnil)) = (tt, (record { fits = lit< tt }, ((tt, (tt, tt)), tt))) in
-    move ! (0 ∷ 3 ∷ []) $ use2 𝓛 (later (‵ (tokens.seen_lent E' u64 P' rl κn qn m n at_seen) ⊛ ‵ (flft κn qn))) (tokens.shuts_seen E' u64 P' rl κn qn m 𝓛 at_seen n are.1.1.0.0) $ await ! tt $ split ! $
+    move ! (0 ∷ 3 ∷ []) $ use2 𝓛 (later (‵ (behind.lent (tokens.the_seen E' u64 P' rl) κn qn m n at_seen) ⊛ ‵ (flft κn qn))) (behind.shuts (tokens.the_seen E' u64 P' rl) κn qn m 𝓛 at_seen n are.1.1.0.0) $ await ! tt $ split ! $
     move ! (2 ∷ []) $ nothing ! $ fpack ! (Testable q) (λ _. ftrue) low $ fjoin ! $
     lands_as ! (ap only e ∙ ap ptr_val held ∙ ap ptr_val at) refl (tt, tt) $ sets ! (bin ! (get ! refl) (lit ! tt) (tests_null q low)) refl (tt, tt) $ first ! $ branches ! (get ! refl)
     (λ wrong. absurd wrong) (λ _. skips ! $ exec ! 𝓣.C 𝓣.Λ Ev (after 5 fn.body) (at_ret Ev Post) $ sets ! (agg ! (no_more !)) refl (tt, tt) $

@@ -46,6 +46,7 @@ use Rattle.table_tied.specs.Tied.{Lasting, Looks}
 use Rattle.table_tied.specs.contracts.word.TiedWord as word
 use Rattle.table_tied.specs.contracts.word.TiedWord.look as f
 use Rattle.table_tied.proofs.Blocks.{BlockName, name_in}
+use Rattle.table_cell.proofs.Ajar as behind
 use Rattle.table_tied.proofs.Borrowed as tokens
 use Rattle.table_tied.proofs.Borrowed.{Seen}
 use Rattle.table_tied.proofs.Steps as steps
@@ -64,7 +65,7 @@ look_spec 𝓤 𝓛 𝓜 𝓡 wired T A E P N L LA LE LP LN st sd g gd rl rd dd 
     let κs = z.0.0 in let qs = z.0.1 in let Post : Val → SProp 𝓤 = (walk_of 𝓛 En stayed c).post z in let Out : RattleType = type_at En.signature.result κs in
     let wd = z.0.3.0.now in let h : ℕ = wd.home in let k = g.dealloc_token wd.from in let bk : Book = wd.book in let key : ℕ = wd.key in let b : ℕ = z.0.3.0.ref_ptr.0 in let o : ℕ = z.0.3.0.ref_ptr.1 in
     let κ : Lft = κs.0 in let q : Share = qs.0 in let κn : Lft = κs.1.0 in let qn : Share = qs.1.0 in let m = z.0.3.1.0 in let n₀ = m.now in let j : List E'.Denot = n₀.log in let at_seen = z.0.4.1.0 in
-    let rule : Rules E'.Denot = rules rl.holds rl.shows rl.keeps in let saw : Book → List E'.Denot → Fml = λ bk log. seen_owns E'.coded.code rule bk n₀.names log in let ajar : Fml = tokens.seen_ajar E' u64 P' rl κn qn m in
+    let rule : Rules E'.Denot = rules rl.holds rl.shows rl.keeps in let saw : Book → List E'.Denot → Fml = λ bk log. seen_owns E'.coded.code rule bk n₀.names log in let ajar : Fml = behind.ajar (tokens.the_seen E' u64 P' rl) κn qn m in
     let rest = ‵ (flft κs.1.1.1.0 qs.1.1.1.0) ⊛ ‵ (flft κs.1.1.1.1.0 qs.1.1.1.1.0) ⊛ ‵ (flft κs.1.1.1.1.1.0 qs.1.1.1.1.1.0) ⊛ ‵ (flft κs.1.1.1.1.1.1.0 qs.1.1.1.1.1.1.0) ⊛ ‵ ftrue in
     let Of : Type 0 = n₀.book ≡ bk in let Lasts : Type 0 = Lasting st.stands in let Law : Type 0 = Looks rl.holds le.null key j in
     let Same : Type 0 = (n₀.book ≡ n₀.book) × (n₀.names ≡ n₀.names) in let Null : Out.Denot → List E'.Denot → Type 0 = λ r log. IfNone r (le.null key j log) in
@@ -76,7 +77,7 @@ look_spec 𝓤 𝓛 𝓜 𝓡 wired T A E P N L LA LE LP LN st sd g gd rl rd dd 
     -- [before α; the word; its fields; the token; nothing; the lifetimes' tokens]
     move ! (3 ∷ []) $ begins ! fn (λ i. are.0.0 i ++ (are.1.0.0 i ++ [])) $ alloc_all ! (λ l. pass_all ! refl ((tt, tt), ((tt, tt), tt)) $ let Ev = env fn.locals l in
     move ! (5 ∷ []) $ split3 ! $ move ! (2 ∷ []) $ split ! $ move ! (4 ∷ 3 ∷ []) $
-    use2 𝓛 (later (‵ (saw n₀.book j) ⊛ ‵ ajar)) (tokens.opens_seen E' u64 P' rl κn qn m 𝓛 at_seen) $ await ! tt $ split ! $ rewrite ! 0 (λ (w : Book). ‵ (saw w j)) same refl $
+    use2 𝓛 (later (‵ (saw n₀.book j) ⊛ ‵ ajar)) (behind.opens_up (tokens.the_seen E' u64 P' rl) κn qn m 𝓛 at_seen) $ await ! tt $ split ! $ rewrite ! 0 (λ (w : Book). ‵ (saw w j)) same refl $
     -- [what is seen; the rest of the token; T's token; the other tokens; κ's token; before α; the word; its fields; nothing]
     move ! (5 ∷ 4 ∷ []) $ use2 𝓛 (later (some (In 𝓛 𝓜 𝓡 κ α q))) (goes_in 𝓛 𝓜 𝓡 κ α q) $ await ! tt $ pick ! (λ s. split3 ! $
     -- [half of κ's token; α's token; what is owed for it; what is seen; the rest of the token; T's token; the other tokens; the word; its fields; nothing]
@@ -89,7 +90,7 @@ look_spec 𝓤 𝓛 𝓜 𝓡 wired T A E P N L LA LE LP LN st sd g gd rl rd dd 
     (lands_last ! refl (Ptr-Good null_ptr) $ exec ! 𝓣.C 𝓣.Λ Ev (after 1 fn.body) (at_ret Ev Post) $ fsplit3 ! $ move ! (0 ∷ 1 ∷ 3 ∷ []) $ use3 𝓛 (later (‵ (flft κ q))) (comes_back 𝓛 𝓜 𝓡 κ α q s) $ await ! tt $
     move ! (1 ∷ []) $ fpick ! (λ log. fsplit ! $ fpick ! (λ so. drop ! $ rewrite ! 0 (λ (w : Book). ‵ (saw w log)) (sym same) refl $ let n : Sn.Denot = tokens.seen_to E' u64 P' rl n₀ log in let r : Out.Denot = option.None in
     -- [what is seen; κ's token; the rest of the token; T's token; the other tokens; nothing]
-    move ! (0 ∷ 2 ∷ []) $ use2 𝓛 (later (‵ (tokens.seen_lent E' u64 P' rl κn qn m n at_seen) ⊛ ‵ (flft κn qn))) (tokens.shuts_seen E' u64 P' rl κn qn m 𝓛 at_seen n are.1.0.0) $ await ! tt $ split ! $
+    move ! (0 ∷ 2 ∷ []) $ use2 𝓛 (later (‵ (behind.lent (tokens.the_seen E' u64 P' rl) κn qn m n at_seen) ⊛ ‵ (flft κn qn))) (behind.shuts (tokens.the_seen E' u64 P' rl) κn qn m 𝓛 at_seen n are.1.0.0) $ await ! tt $ split ! $
     sets ! (of_opd ! (get ! refl)) refl (Ptr-Good null_ptr) $ sets ! (bin ! (get ! refl) (lit ! tt) tt) refl (tt, tt) $ first ! $ branches ! (get ! refl)
     (λ _. sets ! (agg ! (and_then ! (lit ! tt) (no_more !))) refl (tt, (record { fits = lit< tt }, tt)) $ use0 𝓛 (‵ (Out.own_val r (live 0 vnil ∷ []))) (none_of 𝓛 (BlockName R)) $
     -- [the answer; the token; its lifetime's token; κ's token; T's token; the other tokens; nothing]
@@ -103,7 +104,7 @@ look_spec 𝓤 𝓛 𝓜 𝓡 wired T A E P N L LA LE LP LN st sd g gd rl rd dd 
     let x : R.Denot = t.0 in let n : Sn.Denot = tokens.seen_to E' u64 P' rl n₀ log in let name : (BlockName R).Denot = record { at = p; home = h; value = x } in let r : Out.Denot = option.Some name in
     let answer : Val = live 1 (vcons (alone (vptr pb po)) vnil) in let good : Good (layout Out) answer = (tt, (record { fits = lit< tt }, ((tt, tt), tt))) in
     -- [what is seen; the view; κ's token; the rest of the token; T's token; the other tokens; nothing]
-    move ! (0 ∷ 3 ∷ []) $ use2 𝓛 (later (‵ (tokens.seen_lent E' u64 P' rl κn qn m n at_seen) ⊛ ‵ (flft κn qn))) (tokens.shuts_seen E' u64 P' rl κn qn m 𝓛 at_seen n are.1.0.0) $ await ! tt $ split ! $ move ! (2 ∷ []) $
+    move ! (0 ∷ 3 ∷ []) $ use2 𝓛 (later (‵ (behind.lent (tokens.the_seen E' u64 P' rl) κn qn m n at_seen) ⊛ ‵ (flft κn qn))) (behind.shuts (tokens.the_seen E' u64 P' rl) κn qn m 𝓛 at_seen n are.1.0.0) $ await ! tt $ split ! $ move ! (2 ∷ []) $
     use1 𝓛 (later (‵ (lent_at R p x (h ∷ [])))) (moves.settles 𝓛 R LR k h p t) $ await ! tt $ nothing ! $ fpack ! (Testable p) (λ _. ftrue) low $ fjoin ! $
     sets ! (of_opd ! (get ! refl)) refl (tt, tt) $ sets ! (bin ! (get ! refl) (lit ! tt) (tests_null p low)) refl (tt, tt) $ first ! $ branches ! (get ! refl) (λ wrong. absurd wrong) (λ _. skips ! $ exec ! 𝓣.C 𝓣.Λ Ev (after 4 fn.body) (at_ret Ev Post) $
     sets ! (agg ! (and_then ! (get ! refl) (no_more !))) refl (tt, (tt, tt)) $ sets ! (agg ! (and_then ! (lit ! tt) (and_then ! (get ! refl) (no_more !)))) refl good $
