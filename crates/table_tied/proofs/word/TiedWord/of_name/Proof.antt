@@ -45,10 +45,9 @@ of_name_spec 𝓤 𝓛 𝓜 𝓡 wired T A E P N L LA LE LP LN st sd g gd rl rd 
     proved_at 𝓛 En spent c 𝓜 𝓡 (Goes-blank 𝓛 8 the_name no (λ κs x w. tt), (Goes-dropped 𝓛 8 the_alloc yes (λ κs x w. refl), (Goes-ref 𝓛 8 1 tt the_pen, (Goes-ref 𝓛 8 2 tt the_seen, tt))))
     (f.Key.name types) fn (code.unfolded 𝓤 𝓛.H 𝓜 𝓡 wired (T, (A, (E, (P, (N, tt))))) sd gd rd dd led) (λ z are.
     let name = z.0.3.0 in let x = name.value in let a = z.0.3.1.0.now in let h : ℕ = name.home in let κs = z.0.0 in let qs = z.0.1 in
-    let made : TiedView Y.Denot = tied_view a h false z.0.3.1.1.0.now.nib.key z.0.3.1.1.0.now.book in let S : born.Start = record {
-    T = T; A = A; E = E; P = P; N = N; laws = L; rule = rl; stands = st.stands; set = le.set; κs = κs; qs = qs;
-    freed = g.dealloc_token a; home = h; owning = false; value = x; pen = z.0.3.1.1.0; token = z.0.3.1.1.1.0; at_pen = z.0.4.1.1.0; at_token = z.0.4.1.1.1.0;
-    } in
+    let made : TiedView Y.Denot = tied_view a h false z.0.3.1.1.0.now.nib.key z.0.3.1.1.0.now.book in
+    let types_of : born.Types = record { T = T; A = A; E = E; P = P; N = N; laws = L; rule = rl; stands = st.stands; set = le.set } in
+    let S : born.Start = record { of = types_of; κs = κs; qs = qs; freed = g.dealloc_token a; home = h; owning = false; value = x; pen = z.0.3.1.1.0; token = z.0.3.1.1.1.0; at_pen = z.0.4.1.1.0; at_token = z.0.4.1.1.1.0 } in
     qed 𝓛 ((born.Tokens S 𝓛 ⊛ ‵ (owns (types_at En.signature.params κs) z.0.3 z.0.4)) ∷ born.Asked S 𝓛 ∷ []) ∵ move ! (1 ∷ []) $ born.asked_for S 𝓛 ! (λ within at_home same law.
     split ! $ move ! (1 ∷ []) $ fsplit3 ! $ move ! (1 ∷ []) $ drop ! $ name_out R ! name z.0.4.0 (λ b o at here low. let p : Ptr = block_ptr b o in
     begins ! fn (λ i. here i ++ (are.1.0.0 i ++ (are.1.1.0.0 i ++ (are.1.1.1.0.0 i ++ [])))) $ alloc_all ! (λ s. pass_all ! refl ((tt, (tt, tt)), ((tt, tt), ((tt, tt), ((tt, tt), tt)))) $

@@ -45,10 +45,9 @@ owning_spec 𝓤 𝓛 𝓜 𝓡 wired T A E P N L LA LE LP LN st sd g gd rl rd d
     (f.Key.name types) fn (code.unfolded 𝓤 𝓛.H 𝓜 𝓡 wired (T, (A, (E, (P, (N, tt))))) sd gd rd dd led) (λ z are.
     let l₀ = z.0.3.1.0 in let x = l₀.value in let a = l₀.from in let h : ℕ = z.0.3.0.now.id in let κs = z.0.0 in let qs = z.0.1 in let k = g.dealloc_token a in
     let κ : Lft = κs.0 in let q : Share = qs.0 in let κT : Lft = κs.1.1.1.0 in let qT : Share = qs.1.1.1.0 in
-    let made : TiedView Y.Denot = tied_view a h true z.0.3.1.1.0.now.nib.key z.0.3.1.1.0.now.book in let S : born.Start = record {
-    T = T; A = A; E = E; P = P; N = N; laws = L; rule = rl; stands = st.stands; set = le.set; κs = κs; qs = qs;
-    freed = k; home = h; owning = true; value = x; pen = z.0.3.1.1.0; token = z.0.3.1.1.1.0; at_pen = z.0.4.1.1.0; at_token = z.0.4.1.1.1.0;
-    } in
+    let made : TiedView Y.Denot = tied_view a h true z.0.3.1.1.0.now.nib.key z.0.3.1.1.0.now.book in
+    let types_of : born.Types = record { T = T; A = A; E = E; P = P; N = N; laws = L; rule = rl; stands = st.stands; set = le.set } in
+    let S : born.Start = record { of = types_of; κs = κs; qs = qs; freed = k; home = h; owning = true; value = x; pen = z.0.3.1.1.0; token = z.0.3.1.1.1.0; at_pen = z.0.4.1.1.0; at_token = z.0.4.1.1.1.0 } in
     qed 𝓛 ((born.Tokens S 𝓛 ⊛ ‵ (owns (types_at En.signature.params κs) z.0.3 z.0.4)) ∷ born.Asked S 𝓛 ∷ []) ∵ move ! (1 ∷ []) $ born.asked_for S 𝓛 ! (λ within at_home same law.
     split ! $ move ! (1 ∷ []) $ fsplit3 ! $ fsplit ! $ drop ! $ unhide ! $ fsplit ! $ drop ! $ move ! (1 ∷ []) $ low_out R Y g LR (param_laws 1 A LA) l₀ z.0.4.1.0 ! (λ b o at here low. let p : Ptr = block_ptr b o in
     begins ! fn (λ i. are.0.0 i ++ (here i ++ (are.1.1.0.0 i ++ (are.1.1.1.0.0 i ++ [])))) $ alloc_all ! (λ s. pass_all ! refl ((tt, tt), (low_good R Y g p, ((tt, tt), ((tt, tt), tt)))) $
