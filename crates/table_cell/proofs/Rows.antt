@@ -5,7 +5,7 @@ use Rattle.std.proofs.lemmas.List.{get_or-map}
 use Rattle.std.proofs.lemmas.List.Elements.{All-head, All-tail, All-get_or}
 use Rattle.table_cell.specs.Words.{WordView}
 use Rattle.table_cell.specs.Contents.{vacant, IsMarked, content_of, bucket_of}
-use Rattle.table_cell.specs.Rows.{content_at, contents_of, AreMarked, WordLies, bucket_at, row_of}
+use Rattle.table_cell.specs.Rows.{RowView, content_at, contents_of, AreMarked, WordLies, bucket_at, row_of, IsRow}
 use Rattle.table_cell.specs.declared.bucket.Entry.{Entry}
 use Rattle.table_cell.specs.declared.bucket.Mark.{Mark}
 use Rattle.table_cell.specs.declared.bucket.Mark.TheVariants.{Vacant, Own, Named}
@@ -24,6 +24,14 @@ module _ {A T : Type 0} where
   length-words [] (w ∷ ws) are = absurd are
   length-words (m ∷ ms) [] are = absurd are
   length-words (m ∷ ms) (w ∷ ws) are = ap suc (length-words ms ws are.1)
+
+  -- an index of a row is one of its marks
+  pub within_marks : {from : A} {home : ℕ} {ms : List Mark} {ws : List (WordView A (Entry T))} {r : RowView A T} (i : ℕ) → IsRow from home ms ws → row_of from home ms ws ≡ r → i < length r.contents → i < length ms
+  within_marks {ms = ms} {ws = ws} i row is within = rw (← is, length-marks ms ws row.marked) at within
+
+  -- and one of its words
+  pub within_words : {from : A} {home : ℕ} {ms : List Mark} {ws : List (WordView A (Entry T))} {r : RowView A T} (i : ℕ) → IsRow from home ms ws → row_of from home ms ws ≡ r → i < length r.contents → i < length ws
+  within_words {ms = ms} {ws = ws} i row is within = rw (← is, length-words ms ws row.marked) at within
 
   -- the mark and the word at an index agree
   pub marked_at : (ms : List Mark) (ws : List (WordView A (Entry T))) (i : ℕ) (m : Mark) (w : WordView A (Entry T)) → AreMarked ms ws → i < length ms

@@ -128,12 +128,17 @@ impl<T: Drop, A: Allocator + Copy> Row<T, A> {
             Ok(block) => block,
             Err(refused) => return Err(Refusal::NoMemory(refused.value.value)),
         };
-        if !matches!(self.marks[index], Mark::Vacant) {
-            return Err(Refusal::Taken(Box::into_inner(block).value));
+        match self.marks[index] {
+            Mark::Vacant => {
+                let bucket = Bucket {
+                    mark: Mark::Own(bits),
+                    word: Word::own(home, LooseBlock::of(block)),
+                };
+                self.put(index, bucket);
+                Ok(())
+            }
+            _ => Err(Refusal::Taken(Box::into_inner(block).value)),
         }
-        self.marks[index] = Mark::Own(bits);
-        self.words[index] = Word::own(home, LooseBlock::of(block));
-        Ok(())
     }
 
     /// Takes the row apart. It takes no memory.

@@ -2,14 +2,14 @@ use Rattle.std.proofs.Common.{arith, sym, ap, ◌∙◌}
 use Rattle.std.proofs.lemmas.List.{map-set}
 use Rattle.std.proofs.lemmas.List.Elements.{All-set}
 use Rattle.table_cell.specs.Rows.{WordLies}
-use Rattle.table_cell.proofs.Rows.{length-marks, length-words, marked_set, content_set}
+use Rattle.table_cell.proofs.Rows.{within_marks, within_words, marked_set, content_set}
 use Rattle.table_cell.proofs.row.Row.put.Goals as goal
 
 pub index_mut-requires : goal.index_mut-requires
-index_mut-requires g c = let below = rw (length-marks c.self.inside.marks.items c.self.inside.words.items c.self.invariant.marked) at (rw (← c.self.view_is) at c.requires.within) in omega arith
+index_mut-requires g c = omega (arith, within_marks c.args.index c.self.invariant c.self.view_is c.requires.within)
 
 pub index_mut-requires-2 : goal.index_mut-requires-2
-index_mut-requires-2 g c = let below = rw (length-words c.self.inside.marks.items c.self.inside.words.items c.self.invariant.marked) at (rw (← c.self.view_is) at c.requires.within) in omega arith
+index_mut-requires-2 g c = omega (arith, within_words c.args.index c.self.invariant c.self.view_is c.requires.within)
 
 pub invariant_of-self : goal.invariant_of-self
 invariant_of-self g c = record {
