@@ -44,31 +44,37 @@ module _ {A V : Type 0} (same : V → V → Bool) (hash : V → ℕ) (a : A) (h 
     reached = reached;
   }
 
-  first_word : (i : ℕ) (w : TiedView A) (rest : List (TiedView A)) → AreFrom a h b i (w ∷ rest) → IsWord a h b i w
-  first_word i w rest words = subst (λ (k : ℕ). IsWord a h b k w) (omega arith) (words 0 w (omega arith))
+module _ {A V : Type 0} {same : V → V → Bool} {hash : V → ℕ} {a : A} {h n : ℕ} {b : Book} {lent : List Bool} {i : ℕ} {w : TiedView A} {all rest : List (TiedView A)} {bk : Book} {log : History V}
+    (next : all ≡ w ∷ rest) (left : Left same hash a h n b lent i all bk log) where
+  words_here : AreFrom a h b i (w ∷ rest)
+  words_here = subst (AreFrom a h b i) next left.words
 
-  first_owns : (i : ℕ) (w : TiedView A) (rest : List (TiedView A)) → OwnFrom lent i (w ∷ rest) → is_lent lent i ≡ false → w.owning ≡ true
-  first_owns i w rest own mine = own 0 w (omega arith) (subst (λ (j : ℕ). is_lent lent j ≡ false) (omega arith) mine)
+  own_here : OwnFrom lent i (w ∷ rest)
+  own_here = subst (OwnFrom lent i) next left.own
+
+  word_here : IsWord a h b i w
+  word_here = subst (λ (k : ℕ). IsWord a h b k w) (omega arith) (words_here 0 w (omega arith))
+
+  pub left_key : w.key ≡ i
+  left_key = word_here.3
 
   -- the next word may be taken apart, unless it is lent
-  pub left_open : (i : ℕ) (w : TiedView A) (all rest : List (TiedView A)) (bk : Book) (log : History V) → all ≡ w ∷ rest → is_lent lent i ≡ false → Left i all bk log → IsOpen a h bk log w
-  left_open i w all rest bk log next mine left =
-      let it : IsWord a h b i w = first_word i w rest (subst (AreFrom a h b i) next left.words) in let key : w.key ≡ i = it.3 in
-      ((it.0, it.1, it.2 ∙ sym left.book, refl), first_owns i w rest (subst (OwnFrom lent i) next left.own) mine, (n, left.size, omega (arith, key, left.count, ap length next)))
+  pub left_open : is_lent lent i ≡ false → IsOpen a h bk log w
+  left_open mine = (
+    (word_here.0, word_here.1, word_here.2 ∙ sym left.book, refl),
+    own_here 0 w (omega arith) (subst (λ (j : ℕ). is_lent lent j ≡ false) (omega arith) mine),
+    (n, left.size, omega (arith, left_key, left.count, ap length next)),
+  )
 
-  pub left_key : (i : ℕ) (w : TiedView A) (all rest : List (TiedView A)) (bk : Book) (log : History V) → all ≡ w ∷ rest → Left i all bk log → w.key ≡ i
-  left_key i w all rest bk log next left = (first_word i w rest (subst (AreFrom a h b i) next left.words)).3
-
-  pub left_next : (i : ℕ) (w : TiedView A) (all rest : List (TiedView A)) (bk bk' : Book) (log new : History V) → all ≡ w ∷ rest → Left i all bk log → bk' ≡ bk → IsPrefix log new → IsReached same hash new → Left (i + 1) rest bk' new
-  left_next i w all rest bk bk' log new next left same_book more reached =
-      let words : AreFrom a h b i (w ∷ rest) = subst (AreFrom a h b i) next left.words in let own : OwnFrom lent i (w ∷ rest) = subst (OwnFrom lent i) next left.own in record {
-        count = omega (arith, left.count, ap length next);
-        words = λ k d lt. subst (λ (j : ℕ). IsWord a h b j (slice_index_or rest k d)) (omega arith) (words (suc k) d (omega (arith, lt)));
-        own = λ k d lt mine. own (suc k) d (omega (arith, lt)) (subst (λ (j : ℕ). is_lent lent j ≡ false) (omega arith) mine);
-        book = same_book ∙ left.book;
-        size = size_on n log new left.size more;
-        reached = reached;
-      }
+  pub left_next : {bk' : Book} (new : History V) → bk' ≡ bk → IsPrefix log new → IsReached same hash new → Left same hash a h n b lent (i + 1) rest bk' new
+  left_next new same_book more reached = record {
+    count = omega (arith, left.count, ap length next);
+    words = λ k d lt. subst (λ (j : ℕ). IsWord a h b j (slice_index_or rest k d)) (omega arith) (words_here (suc k) d (omega (arith, lt)));
+    own = λ k d lt mine. own_here (suc k) d (omega (arith, lt)) (subst (λ (j : ℕ). is_lent lent j ≡ false) (omega arith) mine);
+    book = same_book ∙ left.book;
+    size = size_on n log new left.size more;
+    reached = reached;
+  }
 
 module _ {V : Type 0} (same : V → V → Bool) (hash : V → ℕ) (lent : List Bool) where
   -- the values that came out of the buckets before i, where the history was `start` at first
@@ -86,33 +92,6 @@ module _ {V : Type 0} (same : V → V → Bool) (hash : V → ℕ) (lent : List 
     apart = λ x. omega arith;
   }
 
-  taken_on : (start log new : History V) (i j : ℕ) (values : List V) → i ≤ j → IsPrefix log new → Taken start i log values → (v : V) → Contains values v → (p : ℕ) × (p < j) × (is_lent lent p ≡ false) × Stands new p v
-  taken_on start log new i j values le more taken v among = let s = taken.stood v among in (s.0, omega (arith, s.1, le), s.2, stands_on log new s.0 v more s.3)
-
-  -- nothing comes out of a bucket that is lent, or that has no value
-  pub taken_none : (start log new : History V) (i : ℕ) (values : List V) → IsPrefix log new → (is_lent lent i ≡ false → IsFree new i) → Taken start i log values → Taken start (i + 1) new values
-  taken_none start log new i values more free taken = let on = prefix_trans start log new taken.on more in record {
-    on = on;
-    stood = taken_on start log new i (i + 1) values (omega arith) more taken;
-    all = λ p v lt mine there. dite (ℕ_discrete p i) (λ (is : p ≡ i). absurd (free (subst (λ (q : ℕ). is_lent lent q ≡ false) is mine) v (subst (λ (q : ℕ). Stands new q v) is (stands_on start new p v on there))))
-        (λ (ne : p ≢ i). taken.all p v (omega (arith, lt, ne)) mine there);
-    apart = taken.apart;
-  }
-
-  pub taken_some : (law : IsLaw same hash) (start log new : History V) (i : ℕ) (values : List V) (v : V) → IsPrefix log new → IsReached same hash new → is_lent lent i ≡ false → Stands new i v → Taken start i log values → Taken start (i + 1) new (values ++ v ∷ [])
-  taken_some law start log new i values v more reached mine there taken = let on = prefix_trans start log new taken.on more in record {
-    on = on;
-    stood = λ w among. elim (Contains-push_cases values v w among) [
-      | inl old ↦ taken_on start log new i (i + 1) values (omega arith) more taken w old
-      | inr is ↦ (i, omega arith, mine, subst (Stands new i) is there)
-    ];
-    all = λ p w lt own before. dite (ℕ_discrete p i)
-        (λ (is : p ≡ i). subst (Contains (values ++ v ∷ [])) (same_value same hash new i v w reached there (subst (λ (q : ℕ). Stands new q w) is (stands_on start new p w on before))) (Contains-push values v))
-        (λ (ne : p ≢ i). Contains-append_left values (v ∷ []) w (taken.all p w (omega (arith, lt, ne)) own before));
-    apart = apart_more (λ (u : V). u) same hash law values taken.apart v (λ w among. false_unless (λ is.
-        let s = taken.stood w among in let one : i ≡ s.0 = one_bucket same hash law new i s.0 v w reached there (stands_on log new s.0 w more s.3) is in absurd (omega (arith, one, s.1))));
-  }
-
   -- all words were taken apart
   pub taken_out : (start log : History V) (n i : ℕ) (before after values : List V) → n ≤ i → HasSize n start → IsReached same hash start → after ≡ before ++ values → Taken start i log values → TakesOut same lent start log before after
   taken_out start log n i before after values le size reached behind taken = record {
@@ -121,6 +100,35 @@ module _ {V : Type 0} (same : V → V → Bool) (hash : V → ℕ) (lent : List 
     placed = λ v among. let s = taken.stood v among in (s.0, s.2, s.3);
     all = λ p v there mine. taken.all p v (let lt = has_inside same hash n p (Entry v) start size reached there in omega (arith, lt, le)) mine there;
     apart = taken.apart;
+  }
+
+module _ {V : Type 0} {same : V → V → Bool} {hash : V → ℕ} {lent : List Bool} {start log : History V} {i : ℕ} {values : List V}
+    (new : History V) (more : IsPrefix log new) (taken : Taken same hash lent start i log values) where
+  taken_on : (v : V) → Contains values v → (p : ℕ) × (p < i + 1) × (is_lent lent p ≡ false) × Stands new p v
+  taken_on v among = let s = taken.stood v among in (s.0, omega (arith, s.1), s.2, stands_on log new s.0 v more s.3)
+
+  -- nothing comes out of a bucket that is lent, or that has no value
+  pub taken_none : (is_lent lent i ≡ false → IsFree new i) → Taken same hash lent start (i + 1) new values
+  taken_none free = let on = prefix_trans start log new taken.on more in record {
+    on = on;
+    stood = taken_on;
+    all = λ p v lt mine there. dite (ℕ_discrete p i) (λ (is : p ≡ i). absurd (free (subst (λ (q : ℕ). is_lent lent q ≡ false) is mine) v (subst (λ (q : ℕ). Stands new q v) is (stands_on start new p v on there))))
+        (λ (ne : p ≢ i). taken.all p v (omega (arith, lt, ne)) mine there);
+    apart = taken.apart;
+  }
+
+  pub taken_some : IsLaw same hash → (v : V) → IsReached same hash new → is_lent lent i ≡ false → Stands new i v → Taken same hash lent start (i + 1) new (values ++ v ∷ [])
+  taken_some law v reached mine there = let on = prefix_trans start log new taken.on more in record {
+    on = on;
+    stood = λ w among. elim (Contains-push_cases values v w among) [
+      | inl old ↦ taken_on w old
+      | inr is ↦ (i, omega arith, mine, subst (Stands new i) is there)
+    ];
+    all = λ p w lt own before. dite (ℕ_discrete p i)
+        (λ (is : p ≡ i). subst (Contains (values ++ v ∷ [])) (same_value same hash new i v w reached there (subst (λ (q : ℕ). Stands new q w) is (stands_on start new p w on before))) (Contains-push values v))
+        (λ (ne : p ≢ i). Contains-append_left values (v ∷ []) w (taken.all p w (omega (arith, lt, ne)) own before));
+    apart = apart_more (λ (u : V). u) same hash law values taken.apart v (λ w among. false_unless (λ is.
+        let s = taken.stood w among in let one : i ≡ s.0 = one_bucket same hash law new i s.0 v w reached there (stands_on log new s.0 w more s.3) is in absurd (omega (arith, one, s.1))));
   }
 
 -- where nothing is lent, the generation owns each entry

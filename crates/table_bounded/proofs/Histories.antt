@@ -26,6 +26,10 @@ module _ {S : Type 0} where
   pub has_on : (l m : List (Event S)) (p : ℕ) (s : S) → IsPrefix l m → Has l p s → Has m p s
   has_on l m p s on there = subst (λ (log : List (Event S)). Has log p s) on.1 (Contains-append_left l on.0 (event p (Some s)) there)
 
+  -- the same of a bucket and a thing that were met under other names
+  pub has_here : (l m : List (Event S)) (p q : ℕ) (s t : S) → q ≡ p → t ≡ s → IsPrefix l m → Has l q t → Has m p s
+  has_here l m p q s t key is on there = has_on l m p s on (subst (λ (x : ℕ × S). Has l x.0 x.1) (λ i. (key i, is i)) there)
+
   pub lasting : Lasting {X = S} {E = Event S} (λ s p log. Has log p s)
   lasting s p l m on there = has_on l m p s on there
 

@@ -1,5 +1,5 @@
 -- Words of a generation in a row.
-use Rattle.std.proofs.Common.{◌≡◌, ℕ, ◌<◌, ◌++◌, Bool, true, List, [], ◌∷◌, length, sym, subst, arith, inl, inr}
+use Rattle.std.proofs.Common.{◌≡◌, ℕ, ◌<◌, ◌++◌, Bool, true, List, [], ◌∷◌, length, ap, sym, subst, arith, inl, inr}
 use Rattle.std.specs.Int.{IsPowerOfTwo}
 use Rattle.std.specs.Prelude.{slice_index_or}
 use Rattle.std.proofs.lemmas.Bool.{cases_lt}
@@ -7,7 +7,8 @@ use Rattle.std.proofs.lemmas.Nat.{pow_pos}
 use Rattle.std.proofs.lemmas.List.{get_or_append_left, get_or_push, length-append}
 use Rattle.logbook.specs.Pages.{Book}
 use Rattle.table_tied.specs.Tied.{TiedView}
-use Rattle.table_bounded.specs.Sets.{IsWord, AreWords, OwnTheirs, home_of}
+use Rattle.table_bounded.specs.History.{History}
+use Rattle.table_bounded.specs.Sets.{GenerationView, generation_view, IsWord, AreWords, OwnTheirs, IsLaid, home_of}
 
 -- one more word, with its place as its key
 pub words_push : {A : Type 0} (a : A) (h : ℕ) (b : Book) (ws : List (TiedView A)) (w : TiedView A) → AreWords a h b ws → IsWord a h b (length ws) w → AreWords a h b (ws ++ w ∷ [])
@@ -35,6 +36,8 @@ pub home_is : {A : Type 0} (a : A) (h : ℕ) (b : Book) (ws : List (TiedView A))
 home_is a h b [] words some = absurd (omega arith)
 home_is a h b (w ∷ ws) words some = (words 0 w some).1
 
--- a word that is met at the place k
-pub word_at : {A : Type 0} (a : A) (h : ℕ) (b : Book) (ws : List (TiedView A)) (n k : ℕ) (w : TiedView A) → AreWords a h b ws → length ws ≡ n → k < n → w ≡ slice_index_or ws k w → IsWord a h b k w
-word_at a h b ws n k w words long within is = subst (IsWord a h b k) (sym is) (words k w (omega (arith, within, long)))
+-- a word of a generation that is met at the place k
+pub word_met : {A V : Type 0} {same : V → V → Bool} {hash : V → ℕ} {a : A} {h : ℕ} {b : Book} {log : History V} {lent : List Bool} {ws : List (TiedView A)} (s : GenerationView V) (k : ℕ) (w : TiedView A)
+    → IsLaid same hash a h b log lent ws → generation_view b ws log lent ≡ s → k < s.of.size → w ≡ slice_index_or ws k w → IsWord a h b k w
+word_met {a = a} {h = h} {b = b} {ws = ws} s k w laid view within is = let long : length ws ≡ s.of.size = ap (λ v. v.of.size) view in
+    subst (IsWord a h b k) (sym is) (laid.words k w (omega (arith, within, long)))

@@ -2,7 +2,6 @@
 use Rattle.std.specs.Prelude.{◌≡◌, ℕ, ◌<◌, ◌⊎◌, ◌++◌, Bool, true, false, List, [], ◌∷◌, length, slice_index_or, Contains, Option, Some, None}
 use Rattle.std.specs.Int.{IsPowerOfTwo}
 use Rattle.std.specs.Borrow.{Bor}
-use mathlib.Core.List.{IsPrefix}
 use Rattle.logbook.specs.Pages.{Book}
 use Rattle.table_tied.specs.Tied.{TiedView}
 use Rattle.table_terms.specs.Laws.{AllApart}
@@ -167,11 +166,3 @@ module _ {V : Type 0} (test : V → Bool) where
   abbrev pub Finds : (V → Type 0) → Option (Bor V) → Type 0
   Finds IsKnown (Some e) = Passes test IsKnown e.now
   Finds IsKnown None = NonePasses test IsKnown
-
-  -- a probe for this hash that began at the history `old` has passed this many buckets
-  pub record Goes (t : SetView) (h : ℕ) (old : History V) (index tried : ℕ)
-      (log : History V) : Type 0 where
-    pub longer : IsPrefix old log
-    pub inside : index < t.size
-    pub at : bucket_at t.size h tried ≡ index
-    pub passed : HasPassed t.size log test h tried

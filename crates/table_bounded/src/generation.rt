@@ -3,7 +3,7 @@ ghost use Rattle.std.specs.Prelude.{◌≡◌, ◌<◌, [], IfOk, MatchOption, S
 ghost use Rattle.std.specs.Int.{IsPowerOfTwo};
 ghost use mathlib.Core.List.{IsPrefix};
 ghost use Rattle.table_bounded.specs.declared.event.Stored.TheVariants.{Entry};
-ghost use Rattle.table_bounded.specs.History.{Stands, Has, IsEntry, IsFree, IsFull, IsUntouched, Reaches};
+ghost use Rattle.table_bounded.specs.History.{Has, IsEntry, IsFull, IsUntouched, Reaches};
 ghost use Rattle.table_bounded.specs.Sets.{IsOf, Claims, Inserts, IsFullBy, Finds};
 
 use crate::event::Stored;
@@ -120,25 +120,6 @@ impl<V, L: SetLaw<V>, A: Low + Copy> Generation<V, L, A> {
         Some(self.name_at(seen, index)?.get(home))
     }
 
-    /// The entry of the bucket, if it has one by now.
-    fn look<'a>(&'a self, home: &'a Home, seen: &mut Token<V, L>, index: usize) -> Option<&'a V>
-        requires of { IsOf L.same L.hash_of self.now.of seen.old.book seen.old.log }
-        requires home { home.now.id ≡ self.now.home }
-        requires inside { index < self.now.of.size }
-        ensures of { IsOf L.same L.hash_of self.now.of seen.new.book seen.new.log }
-        ensures longer { IsPrefix seen.old.log seen.new.log }
-        ensures told { MatchOption result (IsFree seen.new.log index)
-            (λ e. Stands seen.new.log index e.now) }
-    {
-        let Some(stored) = self.stored_at(home, seen, index) else {
-            return None;
-        };
-        match stored {
-            Stored::Entry(entry) => Some(entry),
-            Stored::Closed => None,
-        }
-    }
-
     /// What is sought, or None: then no entry is it that its caller knew of. It takes no memory and changes nothing but what is known.
     pub fn seek<'a, S: Sought<V, L>>(
         &'a self,
@@ -155,11 +136,14 @@ impl<V, L: SetLaw<V>, A: Low + Copy> Generation<V, L, A> {
         let count = self.buckets();
         let mut index = first_bucket(sought.hash(), count);
         for _tried in 0..count {
-            let Some(entry) = self.look(home, seen, index) else {
-                return None;
-            };
-            if sought.is(entry) {
-                return Some(entry);
+            match self.stored_at(home, seen, index) {
+                Some(Stored::Entry(entry)) => {
+                    if sought.is(entry) {
+                        return Some(entry);
+                    }
+                }
+                Some(Stored::Closed) => return None,
+                None => return None,
             }
             index = next_bucket(index, count);
         }

@@ -80,13 +80,10 @@ pub(crate) fn take_values<V: Drop, L: SetLaw<V>, A: Low + Copy>(
     ensures count { length result.items ≤ length room.items + length words.items }
 {
     let mut room = room;
-    let count = words.len();
     let mut index = 0;
     for word in words {
         let theirs = lends(&lent, index);
-        if index < count {
-            index += 1;
-        }
+        index += 1;
         if let Some(value) = take_own(word, theirs, closed, alloc, seen) {
             room.push_reserved(value);
         }
@@ -106,13 +103,10 @@ pub(crate) fn drop_values<V: Drop, L: SetLaw<V>, A: Low + Copy>(
         words.items }
 {
     let mut seen = seen;
-    let count = words.len();
     let mut index = 0;
     for word in words {
         let theirs = lends(&lent, index);
-        if index < count {
-            index += 1;
-        }
+        index += 1;
         drop(take_own(word, theirs, closed, alloc, &mut seen));
     }
 }

@@ -1,10 +1,9 @@
-use Rattle.std.proofs.Common.{◌≡◌, ◌∷◌, ◌+◌, ◌++◌, ◌∙◌, [], ℕ, List, length, refl, ap, sym, subst, arith, length-append, append_assoc}
+use Rattle.std.proofs.Common.{◌≡◌, ◌∷◌, ◌++◌, ◌∙◌, [], ℕ, List, length, refl, ap, sym, subst, arith, length-append, append_assoc}
 use Rattle.std.specs.Vec.Iter.{into_iter_items}
 use Rattle.std.proofs.lemmas.List.{append-nil}
 use Rattle.table_bounded.specs.History.{Stands, IsFree}
 use Rattle.table_bounded.proofs.Endings.{left_first, left_open, left_key, left_next, taken_first, taken_none, taken_some, taken_out}
 use Rattle.table_bounded.proofs.words.take_values.Goals as goal
-use Rattle.table_bounded.proofs.words.take_values.Goals.{then-index-count, else-index-count}
 
 pub loop-word-init : goal.loop-word-init
 loop-word-init g c = let same = g.L.Law.same in let hash = g.L.Law.hash_of in let gives = c.into_iter-word-iterator.ensures.into_iter_gives.0 in (
@@ -19,28 +18,22 @@ loop-word-init g c = let same = g.L.Law.same in let hash = g.L.Law.hash_of in le
   },
 )
 
+pub overflow_add-index : goal.overflow_add-index
+overflow_add-index g c = omega (arith, c.loop-word.invariant.1.left.count, ap length c.in-Some.ensures.steps.0, c.args.words.ok.0, c.args.words.ok.1, c.args.words.small)
+
 pub take_own-requires : goal.take_own-requires
-take_own-requires g c = λ mine.
-    let next : into_iter_items c.loop-word.word-iterator ≡ c.in-Some.word ∷ into_iter_items c.next.new.self = c.in-Some.ensures.steps.0 in
-    left_open g.L.Law.same g.L.Law.hash_of c.args.alloc c.args.closed.now.id (length c.args.words.items) c.args.seen.now.book c.args.lent.items c.loop-word.index c.in-Some.word (into_iter_items c.loop-word.word-iterator) (into_iter_items c.next.new.self)
-    c.loop-word.seen.book c.loop-word.seen.log next (sym c.lends-theirs.ensures ∙ mine) c.loop-word.invariant.1.left
+take_own-requires g c = λ mine. left_open c.in-Some.ensures.steps.0 c.loop-word.invariant.1.left (sym c.lends-theirs.ensures ∙ mine)
 
 pub loop-word-preserved-in-Some-take_own : goal.loop-word-preserved-in-Some-take_own
 loop-word-preserved-in-Some-take_own g c =
-    let same = g.L.Law.same in let hash = g.L.Law.hash_of in let told = c.in-Some-take_own.ensures in let inv = c.loop-word.invariant in let i = c.loop-word.index in let lent = c.args.lent.items in
-    let next : into_iter_items c.loop-word.word-iterator ≡ c.in-Some.word ∷ into_iter_items c.next.new.self = c.in-Some.ensures.steps.0 in let n = length c.args.words.items in
-    let step : c.if-index-count.index ≡ i + 1 = elim c.if-index-count.branch [ then-index-count w ↦ w.index-is | else-index-count w ↦ absurd (let h = w.if-index-count.false in omega (arith, h, inv.1.left.count, ap length next, c.len-count.ensures)) ] in
-    let key : c.in-Some.word.key ≡ i = left_key same hash c.args.alloc c.args.closed.now.id n c.args.seen.now.book lent i c.in-Some.word (into_iter_items c.loop-word.word-iterator) (into_iter_items c.next.new.self)
-    c.loop-word.seen.book c.loop-word.seen.log next inv.1.left in
-    let left = left_next same hash c.args.alloc c.args.closed.now.id n c.args.seen.now.book lent i c.in-Some.word (into_iter_items c.loop-word.word-iterator) (into_iter_items c.next.new.self)
-    c.loop-word.seen.book c.take_own.new.seen.book c.loop-word.seen.log c.take_own.new.seen.log next inv.1.left told.book told.longer told.reached in (
-      inv.0 ++ c.in-Some-take_own.value ∷ [],
+    let told = c.in-Some-take_own.ensures in let inv = c.loop-word.invariant in let new = c.take_own.new.seen.log in let value = c.in-Some-take_own.value in
+    let next : into_iter_items c.loop-word.word-iterator ≡ c.in-Some.word ∷ into_iter_items c.next.new.self = c.in-Some.ensures.steps.0 in (
+      inv.0 ++ value ∷ [],
       record {
-        left = rw step left;
-        taken = rw step (taken_some same hash lent g.L.Law.lawful c.args.seen.now.log c.loop-word.seen.log c.take_own.new.seen.log i inv.0 c.in-Some-take_own.value told.longer told.reached
-            (sym c.lends-theirs.ensures ∙ told.told.0) (subst (λ (k : ℕ). Stands c.take_own.new.seen.log k c.in-Some-take_own.value) key told.told.1) inv.1.taken);
-        behind = c.push_reserved.ensures.items ∙ (ap (λ (vs : List g.row.V.Denot). vs ++ c.in-Some-take_own.value ∷ []) inv.1.behind ∙ append_assoc c.args.room.items inv.0 (c.in-Some-take_own.value ∷ []));
-        room = omega (arith, inv.1.room, ap length next, ap length c.push_reserved.ensures.items, length-append c.loop-word.room.items (c.in-Some-take_own.value ∷ []));
+        left = left_next next inv.1.left new told.book told.longer told.reached;
+        taken = taken_some new told.longer inv.1.taken g.L.Law.lawful value told.reached (sym c.lends-theirs.ensures ∙ told.told.0) (subst (λ (k : ℕ). Stands new k value) (left_key next inv.1.left) told.told.1);
+        behind = c.push_reserved.ensures.items ∙ (ap (λ (vs : List g.row.V.Denot). vs ++ value ∷ []) inv.1.behind ∙ append_assoc c.args.room.items inv.0 (value ∷ []));
+        room = omega (arith, inv.1.room, ap length next, ap length c.push_reserved.ensures.items, length-append c.loop-word.room.items (value ∷ []));
         capacity = c.push_reserved.ensures.capacity ∙ inv.1.capacity;
         whole = omega (arith, inv.1.whole, ap length next, c.in-Some.ensures.steps.1);
       },
@@ -48,17 +41,12 @@ loop-word-preserved-in-Some-take_own g c =
 
 pub loop-word-preserved : goal.loop-word-preserved
 loop-word-preserved g c =
-    let same = g.L.Law.same in let hash = g.L.Law.hash_of in let told = c.in_default.ensures in let inv = c.loop-word.invariant in let i = c.loop-word.index in let lent = c.args.lent.items in
-    let next : into_iter_items c.loop-word.word-iterator ≡ c.in-Some.word ∷ into_iter_items c.next.new.self = c.in-Some.ensures.steps.0 in let n = length c.args.words.items in
-    let step : c.if-index-count.index ≡ i + 1 = elim c.if-index-count.branch [ then-index-count w ↦ w.index-is | else-index-count w ↦ absurd (let h = w.if-index-count.false in omega (arith, h, inv.1.left.count, ap length next, c.len-count.ensures)) ] in
-    let key : c.in-Some.word.key ≡ i = left_key same hash c.args.alloc c.args.closed.now.id n c.args.seen.now.book lent i c.in-Some.word (into_iter_items c.loop-word.word-iterator) (into_iter_items c.next.new.self)
-    c.loop-word.seen.book c.loop-word.seen.log next inv.1.left in
-    let left = left_next same hash c.args.alloc c.args.closed.now.id n c.args.seen.now.book lent i c.in-Some.word (into_iter_items c.loop-word.word-iterator) (into_iter_items c.next.new.self)
-    c.loop-word.seen.book c.take_own.new.seen.book c.loop-word.seen.log c.take_own.new.seen.log next inv.1.left told.book told.longer told.reached in (
+    let told = c.in_default.ensures in let inv = c.loop-word.invariant in let new = c.take_own.new.seen.log in
+    let next : into_iter_items c.loop-word.word-iterator ≡ c.in-Some.word ∷ into_iter_items c.next.new.self = c.in-Some.ensures.steps.0 in (
       inv.0,
       record {
-        left = rw step left;
-        taken = rw step (taken_none same hash lent c.args.seen.now.log c.loop-word.seen.log c.take_own.new.seen.log i inv.0 told.longer (λ mine. subst (IsFree c.take_own.new.seen.log) key (told.told (c.lends-theirs.ensures ∙ mine))) inv.1.taken);
+        left = left_next next inv.1.left new told.book told.longer told.reached;
+        taken = taken_none new told.longer inv.1.taken (λ mine. subst (IsFree new) (left_key next inv.1.left) (told.told (c.lends-theirs.ensures ∙ mine)));
         behind = inv.1.behind;
         room = omega (arith, inv.1.room, ap length next);
         capacity = inv.1.capacity;
