@@ -45,7 +45,7 @@ module _ {M : Type 1} {𝓤 : Ura M} (𝓛 : Logic 𝓤) (𝓜 : Model 𝓤 𝓛
   𝓣 = tables 𝓤 H 𝓜 𝓡 𝓡.env
 
   module _ (B : RattleType) (gl : LowGhosts B.Denot) (dl : Dict) (g : Ghosts B.Denot) (d dd : Dict) where
-    abbrev pub Asks : Contract 𝓤
+    abbrev Asks : Contract 𝓤
     Asks = triple_of 𝓛 (shower.signature B) (shower.spec B gl dl g d dd 𝓛 𝓜.mem 𝓡.returns)
 
     module _ (κ : Lft) (q : Share) (p : Ptr) (a : B.Denot) (τ : Ty) where
@@ -53,7 +53,7 @@ module _ {M : Type 1} {𝓤 : Ura M} (𝓛 : Logic 𝓤) (𝓜 : Model 𝓤 𝓛
       Alive = ‵ (flft κ q) ⊛ ‵ ftrue
 
       -- of the block at p, which the allocator a gave for a value of the type τ
-      abbrev pub asked : Asks.Ghost
+      abbrev asked : Asks.Ghost
       asked = (((κ, tt), (q, tt), tt, (p, tt), (ptr_val p ∷ [], tt)), (a, τ))
 
       module _ {K : Type 0} {Γ : List (Item 𝓤)} {E : Env 𝓤 H} {f : Callee} {xs : List Operand} {at : Place} {then : Post 𝓤 H} where
@@ -71,11 +71,11 @@ module _ {M : Type 1} {𝓤 : Ura M} (𝓛 : Logic 𝓤) (𝓜 : Model 𝓤 𝓛
     abbrev Cell : RattleType
     Cell = atomic.the_row (param 0 T)
 
-    abbrev pub Makes : Contract 𝓤
+    abbrev Makes : Contract 𝓤
     Makes = triple_of 𝓛 (maker.signature T) (maker.spec T 𝓛 𝓜.mem 𝓡.returns)
 
     module _ (κ : Lft) (q : Share) (p : Ptr) where
-      abbrev pub made_at : Makes.Ghost
+      abbrev made_at : Makes.Ghost
       made_at = (((κ, tt), (q, tt), tt, (p, tt), (ptr_val p ∷ [], tt)), tt)
 
       module _ (Y : RattleType) {K : Type 0} {Γ : List (Item 𝓤)} {E : Env 𝓤 H} {f : Callee} {xs : List Operand} {at : Place} {rest : Body} {then : Post 𝓤 H} where

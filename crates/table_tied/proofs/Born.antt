@@ -119,7 +119,7 @@ module _ (S : Start) where
   Law = Sets S.of.rule.holds S.of.rule.shows S.of.stands S.of.set key S.value log₀
 
   -- what is so of the log then
-  abbrev pub So : List E.Denot → Type 0
+  abbrev So : List E.Denot → Type 0
   So log = IsPrefix log₀ log × (S.of.stands S.value key log × S.of.set S.value key log₀ log)
 
   abbrev spent : Pen.Denot
@@ -128,10 +128,10 @@ module _ (S : Start) where
   abbrev then : List E.Denot → Token.Denot
   then = seen_to E u64 P S.of.rule S.token.now
 
-  abbrev pub ThePen : Pen.Denot → Fml
+  abbrev ThePen : Pen.Denot → Fml
   ThePen n = behind.lent the_pen κp qp S.pen n S.at_pen
 
-  abbrev pub TheToken : Token.Denot → Fml
+  abbrev TheToken : Token.Denot → Fml
   TheToken n = behind.lent (the_seen E u64 P S.of.rule) κn qn S.token n S.at_token
 
   abbrev Counted : Ptr → Fml
