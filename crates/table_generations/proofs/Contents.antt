@@ -1,9 +1,9 @@
 -- The buckets of a generation: which are set, and what they show.
-use Rattle.std.proofs.Common.{◌≡◌, ℕ, zero, suc, ◌+◌, ◌^◌, ◌<◌, ◌≤◌, inl, inr, List, [], ◌∷◌, ◌++◌, Option, Some, None, length, refl, sym, ap, ◌∙◌, arith, replicate}
+use Rattle.std.proofs.Common.{◌≡◌, ℕ, zero, suc, ◌+◌, ◌^◌, ◌<◌, ◌≤◌, inr, List, [], ◌∷◌, ◌++◌, Option, Some, None, length, refl, sym, ap, ◌∙◌, arith, replicate}
 use Rattle.std.specs.Prelude.{option_map, slice_set}
 use Rattle.std.specs.Int.{IsPowerOfTwo}
 use Rattle.std.proofs.Math.ListN.{get_or-map}
-use Rattle.std.proofs.lemmas.List.{length-append, length-map, length-replicate, length-set, map-set}
+use Rattle.std.proofs.lemmas.List.{length-append, length-map, length-replicate, map-set}
 use Rattle.std.proofs.lemmas.List.Elements.{All-replicate}
 use Rattle.std.proofs.lemmas.List.Sorted.{length_permutation}
 use Rattle.table_cell.specs.Contents.{BucketView, bucket, naming}
@@ -83,24 +83,6 @@ module _ {T : Type 0} where
     counted = rw (shown-replicate {T = T} n, values-replicate {X = Entry T} n) refl;
   }
 
-  -- with an empty bucket set, a generation is one of a size greater by one
-  pub generation_set : (ps : List (Content T)) (size i : ℕ) (p : Content T) (e : Entry T) → IsGeneration ps size → i < length ps
-      → value_at (shown_all ps) i ≡ None → shown p ≡ Some e → IsGeneration (slice_set ps i p) (size + 1)
-  generation_set ps size i p e g lt empty shows =
-      record {
-        powered = elim g.powered [
-          | inl none ↦ absurd (let n : length ps ≡ 0 = ap length none in omega arith)
-          | inr two ↦ inr (rw length-set two)
-        ];
-        fits = rw length-set g.fits;
-        counted = (let more = shown_more ps i p e lt empty shows in let was = g.counted in omega arith);
-      }
-
-  -- a generation with an empty bucket has a size below its capacity
-  pub generation_room : (ps : List (Content T)) (size i : ℕ) (e : Entry T) → IsGeneration ps size → i < length ps → value_at (shown_all ps) i ≡ None → size < length ps
-  generation_room ps size i e g lt empty =
-      let more = shown_more ps i (named e) e lt empty refl in
-      let few = few_shown (slice_set ps i (named e)) in
-      let long : length (slice_set ps i (named e)) ≡ length ps = length-set ps i _ in
-      let was = g.counted in
-      omega arith
+  -- the size of a generation fits
+  pub size_fits : (ps : List (Content T)) (size : ℕ) → IsGeneration ps size → size < 2 ^ 64
+  size_fits ps size g = let few = few_shown ps in let counted = g.counted in let fits = g.fits in omega arith

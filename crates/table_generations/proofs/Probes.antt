@@ -1,14 +1,16 @@
 -- A probe's steps.
-use Rattle.std.proofs.Common.{◌≡◌, ℕ, ◌+◌, ◌<◌, Bool, true, List, Option, refl, sym, ◌∙◌, arith, inl, inr, below_more, length}
-use Rattle.std.specs.Prelude.{None}
+use Rattle.std.proofs.Common.{◌≡◌, ℕ, ◌+◌, ◌<◌, Bool, true, List, Option, Some, refl, sym, ap, ◌∙◌, arith, inl, inr, below_more, length}
+use Rattle.std.specs.Prelude.{None, slice_set}
+use Rattle.std.proofs.lemmas.List.{length-set}
 use Rattle.table_terms.specs.Hashes.{bits_of}
 use Rattle.table_terms.specs.Probes.{bucket_at}
 use Rattle.table_cell.specs.declared.bucket.Entry.{Entry}
-use Rattle.table_generations.specs.Buckets.{Content, vacant, values, value_at, content_at, shown_all}
+use Rattle.table_generations.specs.Generations.{IsGeneration}
+use Rattle.table_generations.specs.Buckets.{Content, vacant, values, value_at, content_at, shown, shown_all}
 use Rattle.table_generations.specs.Probe.{IsAcceptedBy, IsPassedBy, IsPassed, IsVacant, ProbeGives}
 use Rattle.table_generations.specs.declared.fixed.ProbeEnd.{ProbeEnd}
 use Rattle.table_generations.specs.declared.fixed.ProbeEnd.TheVariants.{Accepted, Vacant, Full}
-use Rattle.table_generations.proofs.Contents.{length-shown_all, shown_at, shows_none}
+use Rattle.table_generations.proofs.Contents.{length-shown_all, shown_at, shown_more, shows_none}
 use Rattle.table_generations.proofs.Counts.{full_values}
 
 module _ {T U : Type 0} (target : T → U) (answers : U → Bool → Type 0) (ps : List (Option (Entry T))) (hash : ℕ) where
@@ -51,6 +53,19 @@ module _ {T U : Type 0} (target : T → U) (answers : U → Bool → Type 0) (ha
       let long = length-shown_all ps in
       let within = v.within in
       rw (← long, v.is) (omega arith)
+
+  -- with that bucket set, the generation is one of a size greater by one
+  pub generation_set : (ps : List (Content T)) (size i : ℕ) (p : Content T) (e : Entry T) → IsGeneration ps size → IsVacant target answers (shown_all ps) hash i → shown p ≡ Some e → IsGeneration (slice_set ps i p) (size + 1)
+  generation_set ps size i p e g v shows =
+      let below = vacant_below ps i v in
+      record {
+        powered = elim g.powered [
+          | inl none ↦ absurd (let n : length ps ≡ 0 = ap length none in omega arith)
+          | inr two ↦ inr (rw length-set two)
+        ];
+        fits = rw length-set g.fits;
+        counted = (let more = shown_more ps i p e below v.vacant shows in let was = g.counted in omega arith);
+      }
 
 -- the bucket where a probe ended at an empty one is vacant
 pub vacant_held : {T : Type 0} (ps : List (Content T)) (i : ℕ) → value_at (shown_all ps) i ≡ None → content_at ps i ≡ vacant

@@ -1,7 +1,8 @@
-use Rattle.std.proofs.Common.{arith, refl}
+use Rattle.std.proofs.Common.{refl}
+use Rattle.table_generations.specs.Buckets.{own}
 use Rattle.table_generations.specs.Growth.{entry_of}
-use Rattle.table_generations.proofs.Contents.{generation_set, generation_room}
-use Rattle.table_generations.proofs.Probes.{vacant_below, vacant_held}
+use Rattle.table_generations.proofs.Contents.{size_fits}
+use Rattle.table_generations.proofs.Probes.{generation_set, vacant_below, vacant_held}
 use Rattle.table_generations.proofs.fixed.Generation.insert.Goals as goal
 
 pub place_alone-requires-clause-within : goal.place_alone-requires-clause-within
@@ -9,17 +10,12 @@ place_alone-requires-clause-within g c = vacant_below _ _ c.args.hash c.self.ins
 
 pub overflow_add-self : goal.overflow_add-self
 overflow_add-self g c =
-    let v = rw (← c.self.view_is) at c.in-Vacant.ensures in
-    let below = vacant_below _ _ c.args.hash c.self.inside.row.contents c.in-Vacant.index v in
-    let room = generation_room c.self.inside.row.contents c.self.inside.size c.in-Vacant.index (entry_of c.args.value c.args.hash) c.self.invariant below v.vacant in
-    let fits = c.self.invariant.fits in
-    record { fits = omega arith }
+    let set = generation_set _ _ c.args.hash c.self.inside.row.contents c.self.inside.size c.in-Vacant.index (own (entry_of c.args.value c.args.hash)) _ c.self.invariant (rw (← c.self.view_is) at c.in-Vacant.ensures) refl in
+    record { fits = size_fits _ _ set }
 
 pub invariant_of-self : goal.invariant_of-self
 invariant_of-self g c =
-    let v = rw (← c.self.view_is) at c.in-Vacant.ensures in
-    let below = vacant_below _ _ c.args.hash c.self.inside.row.contents c.in-Vacant.index v in
-    rw c.in-Ok.ensures.placed (generation_set c.self.inside.row.contents c.self.inside.size c.in-Vacant.index _ _ c.self.invariant below v.vacant refl)
+    rw c.in-Ok.ensures.placed (generation_set _ _ c.args.hash c.self.inside.row.contents c.self.inside.size c.in-Vacant.index _ _ c.self.invariant (rw (← c.self.view_is) at c.in-Vacant.ensures) refl)
 
 pub unreachable-requires : goal.unreachable-requires
 unreachable-requires g c =

@@ -1,7 +1,7 @@
 use Rattle.std.proofs.Common.{◌≡◌, true, false, arith, rules}
 use Rattle.table_generations.specs.Buckets.{shown_all}
-use Rattle.table_generations.proofs.Contents.{generation_set, generation_room, length-shown_all, name_shows}
-use Rattle.table_generations.proofs.Probes.{vacant_below, vacant_held, vacant_into, ends_vacant}
+use Rattle.table_generations.proofs.Contents.{length-shown_all, name_shows}
+use Rattle.table_generations.proofs.Probes.{generation_set, vacant_below, vacant_held, vacant_into, ends_vacant}
 use Rattle.table_generations.proofs.fixed.Generation.insert_unique.Goals as goal
 
 pub put-requires-clause-within : goal.put-requires-clause-within
@@ -12,19 +12,14 @@ put-requires-clause-vacant g c = let v = rw (← c.self.view_is) at c.in-Vacant.
 
 pub overflow_add-self : goal.overflow_add-self
 overflow_add-self g c =
-    let v = rw (← c.self.view_is) at c.in-Vacant.ensures in
-    let below = vacant_below _ _ c.args.hash c.self.inside.row.contents c.in-Vacant.index v in
-    let (e, shows, is) = name_shows c.args.name.content c.requires.name in
-    let room = generation_room c.self.inside.row.contents c.self.inside.size c.in-Vacant.index e c.self.invariant below v.vacant in
+    let room = rw (← c.self.view_is) at c.requires.room in
     let fits = c.self.invariant.fits in
     record { fits = omega arith }
 
 pub invariant_of-self : goal.invariant_of-self
 invariant_of-self g c =
-    let v = rw (← c.self.view_is) at c.in-Vacant.ensures in
-    let below = vacant_below _ _ c.args.hash c.self.inside.row.contents c.in-Vacant.index v in
     let (e, shows, is) = name_shows c.args.name.content c.requires.name in
-    rw c.put.ensures.put (generation_set c.self.inside.row.contents c.self.inside.size c.in-Vacant.index c.args.name.content e c.self.invariant below v.vacant shows)
+    rw c.put.ensures.put (generation_set _ _ c.args.hash c.self.inside.row.contents c.self.inside.size c.in-Vacant.index c.args.name.content e c.self.invariant (rw (← c.self.view_is) at c.in-Vacant.ensures) shows)
 
 pub unreachable-requires : goal.unreachable-requires
 unreachable-requires g c =
