@@ -30,47 +30,8 @@ inserted_back g c = inserted _ _ _ _ _ _ _ _ _ _ c.open_alone.ensures.counted (p
 inserted_ok : (g : Over) (c : goal.After-grow_if_wanted g) → Inserted g.T.AtomicValue.target g.L.Law.same g.L.Law.hash_of (FnReturnsAtPair g.E.Fn c.args.eq.now) (FnReturnsAt g.H.Fn c.args.hash_fn.now) c.args.self.now c.args.hash c.args.value (Ok c.in_ok-placed.placed) c.grow_if_wanted.new.self
 inserted_ok g c = inserted _ _ _ _ _ _ _ _ _ _ c.open_alone.ensures.counted (places_ok g c)
 
-pub returns-in_err-placed-clause-keeps : goal.returns-in_err-placed-clause-keeps
-returns-in_err-placed-clause-keeps g c = (inserted_back g c).says.keeps
+pub returns-in_err-placed : goal.returns-in_err-placed
+returns-in_err-placed g c = search (inserted_back g c)
 
-pub returns-in_err-placed-clause-marks : goal.returns-in_err-placed-clause-marks
-returns-in_err-placed-clause-marks g c = (inserted_back g c).says.marks
-
-pub returns-in_err-placed-clause-later : goal.returns-in_err-placed-clause-later
-returns-in_err-placed-clause-later g c = (inserted_back g c).says.later
-
-pub returns-in_err-placed-clause-places : goal.returns-in_err-placed-clause-places
-returns-in_err-placed-clause-places g c = (inserted_back g c).places
-
-pub returns-in_err-placed-clause-counted : goal.returns-in_err-placed-clause-counted
-returns-in_err-placed-clause-counted g c = (inserted_back g c).says.counted
-
-pub returns-in_err-placed-clause-lawful : goal.returns-in_err-placed-clause-lawful
-returns-in_err-placed-clause-lawful g c = (inserted_back g c).says.lawful
-
-pub returns-in_err-placed-clause-as_list : goal.returns-in_err-placed-clause-as_list
-returns-in_err-placed-clause-as_list g c = (inserted_back g c).says.as_list
-
-pub returns-clause-keeps : goal.returns-clause-keeps
-returns-clause-keeps g c = (inserted_ok g c).says.keeps
-
-pub returns-clause-marks : goal.returns-clause-marks
-returns-clause-marks g c = (inserted_ok g c).says.marks
-
-pub returns-clause-later : goal.returns-clause-later
-returns-clause-later g c = (inserted_ok g c).says.later
-
-pub returns-clause-places : goal.returns-clause-places
-returns-clause-places g c = (inserted_ok g c).places
-
-pub returns-clause-counted : goal.returns-clause-counted
-returns-clause-counted g c = (inserted_ok g c).says.counted
-
-pub returns-clause-lawful : goal.returns-clause-lawful
-returns-clause-lawful g c = (inserted_ok g c).says.lawful
-
-pub returns-clause-as_list : goal.returns-clause-as_list
-returns-clause-as_list g c = (inserted_ok g c).says.as_list
-
-pub returns-clause-first : goal.returns-clause-first
-returns-clause-first g c = (inserted_ok g c).first_capacity
+pub returns : goal.returns
+returns g c = search (inserted_ok g c)
