@@ -1,6 +1,6 @@
 -- Where one shard takes a value or gives an answer, so does the table over all shards.
 use Rattle.std.proofs.Common.{◌≡◌, ℕ, zero, suc, ◌+◌, ◌<◌, ◌⊎◌, Bool, false, List, [], ◌∷◌, ◌++◌, Option, Some, None, Result, Ok, Err, length, refl, sym, ap, subst, ◌∙◌, append_assoc, append-nil, arith, inl, inr, set, get_or, map, ltb, replicate, take, ◌≤◌}
-use Rattle.std.specs.Prelude.{Contains, IfOk, IsErrAnd, IsSome, IfNone, min, option_map}
+use Rattle.std.specs.Prelude.{Contains, IfOk, IsErrAnd, IsSome, IfNone, min, option_map, slice_index_or}
 use Rattle.std.specs.Array.{IsFromFnResultFrom}
 use Rattle.std.specs.Fn.{Called}
 use denote.Param.Members.{Mut}
@@ -263,6 +263,14 @@ made_from g P f step ys (suc n) i now is (q, y, at, called, rest) k d low high =
 pub some_shards : (n : ℕ) → IsPowerOfTwo n → 0 < n
 some_shards n (k, is) = rw is (pow_pos k)
 
+-- a hash has a shard
+pub shard_within : {X : Type 0} (n k : ℕ) (ts : List X) → IsPowerOfTwo n → length ts ≡ n → (0 < n → k < n) → k < length ts
+shard_within n k ts power long inside = rw long (inside (some_shards n power))
+
+-- the shard that was read, whatever is past the last one
+pub read_shard : {X : Type 0} (ts : List X) (k : ℕ) (past t : X) → k < length ts → t ≡ get_or ts k t → slice_index_or ts k past ≡ t
+read_shard ts k past t within is = get_or_default ts k past t within ∙ sym is
+
 -- a table without a generation shows nothing
 blank : {X : Type 0} (rows : List (List (Option X))) → rows ≡ [] ∷ [] → (g i : ℕ) → value_at (get_or rows g []) i ≡ None
 blank rows is zero i = rw is refl
@@ -279,14 +287,6 @@ shows_refused target same hash_of back new (Ok shown) refused = absurd refused
 shows_refused target same hash_of back new (Err out) refused = refused
 
 module _ {T : Type 0} where
-  -- a hash has a shard
-  pub shard_within : (n r : ℕ) (ts : List (HeldTable T)) → IsPowerOfTwo n → length ts ≡ n → (0 < n → r < n) → r < length ts
-  shard_within n r ts power long inside = rw long (inside (some_shards n power))
-
-  -- the shard that was read
-  pub read_shard : (ts : List (HeldTable T)) (k : ℕ) (t : HeldTable T) → k < length ts → t ≡ get_or ts k t → shard_at ts k ≡ t
-  read_shard ts k t within is = get_or_default ts k (empty_table 0) t within ∙ sym is
-
   -- where an entry lives at a place, the place is in a shard
   pub place_within : (ts : List (HeldTable T)) (p : ShardPlace) → IsSome (entry_at ts p) → p.shard < length ts
   place_within ts p some = elim (cases_Bool (ltb p.shard (length ts))) [

@@ -1,11 +1,10 @@
--- Shards of a table that threads share: the one of a hash, those that are made or taken out one after another, and a walk over them.
+-- Shards of a table that threads share: those that are made or taken out one after another, and a walk over them.
 use Rattle.std.proofs.Common.{◌≡◌, ℕ, zero, suc, ◌+◌, ◌^◌, ◌<◌, ◌≤◌, List, [], ◌∷◌, ◌++◌, Some, None, length, map, drop, get_or, refl, sym, ap, subst, ◌∙◌, arith, inl, inr, append_assoc}
 use prog.Align.{up-ge}
 use prog.Memory.{up}
 use Rattle.std.specs.Array.{IsFromFnResultFrom, index_steps}
 use Rattle.std.specs.Fn.{Called}
 use denote.Param.Members.{Mut}
-use Rattle.std.specs.Int.{IsPowerOfTwo}
 use Rattle.std.proofs.lemmas.Bool.{cases_eq}
 use Rattle.std.proofs.lemmas.List.{get_or_default, get_or-set_other, length-set, length_push, length-append, drop_more, drop-set, drop-set-lt}
 use Rattle.std.specs.List.{flat_map}
@@ -13,18 +12,8 @@ use Rattle.std.specs.Borrow.{Bor}
 use Rattle.table_shared.specs.Tables.{SharedTable}
 use Rattle.table_shared.specs.Walks as raw
 use Rattle.table_shared.specs.Walks.{WalkView}
-use Rattle.table_shards.specs.SharedShards.{ShardWalk, GoesOn, GivesAt, SharesOne, shard_at, steps_left}
+use Rattle.table_shards.specs.SharedShards.{ShardWalk, GoesOn, GivesAt, SharesOne, steps_left}
 use Rattle.table_held.specs.Table.{HeldTable, empty_table}
-use Rattle.table_shards.proofs.Shards.{some_shards}
-
--- a hash has a shard
-pub hash_within : {X : Type 0} (n k : ℕ) (xs : List X) → IsPowerOfTwo n → length xs ≡ n → (0 < n → k < n) → k < length xs
-hash_within n k xs power long inside = rw long (inside (some_shards n power))
-
-module _ {T : Type 0} where
-  -- the shard that was read
-  pub read_shared : (ts : List (SharedTable T)) (k : ℕ) (t : SharedTable T) → k < length ts → t ≡ get_or ts k t → t ≡ shard_at ts k
-  read_shared ts k t within is = is ∙ get_or_default ts k t (record { first_capacity = 0; home = 0; shared = [] ∷ [] }) within
 
 -- a number that a walk over the numbers below n comes to is a place in a list of n
 pub inside : {X : Type 0} (n i t u : ℕ) (xs : List X) → length xs ≡ n → index_steps n t (Some i) u → i < length xs

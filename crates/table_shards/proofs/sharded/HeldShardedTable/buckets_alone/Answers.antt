@@ -16,7 +16,7 @@ returns g c =
 
 pub loop-shard-preserved : goal.loop-shard-preserved
 loop-shard-preserved g c =
-    let read : shard_at c.as_slice-shard-items.result.now c.loop-shard.shard-index ≡ c.shard-item.result = read_shard c.as_slice-shard-items.result.now c.loop-shard.shard-index c.shard-item.result (omega arith) c.shard-item.is in
+    let read : shard_at c.as_slice-shard-items.result.now c.loop-shard.shard-index ≡ c.shard-item.result = read_shard c.as_slice-shard-items.result.now c.loop-shard.shard-index _ c.shard-item.result (omega arith) c.shard-item.is in
     let few : HasFewBuckets c.shard-item.result = rw (← c.buckets_alone.ensures.all) c.buckets_alone.ensures.linear_in_entries in (
       grind (arith, common_steps),
       λ k within. elim (cases_Bool (ltb k c.loop-shard.shard-index)) [

@@ -15,22 +15,7 @@ pub returns-in_err-place : goal.returns-in_err-place
 returns-in_err-place g c = (
   Err c.in_err-place.field-0.0,
   c.place_alone.new.self,
-  rw (sym (c.as_mut_slice.ensures.value ∙ c.self.view_is)) (record {
-    says = record {
-      keeps = c.in_err-place.ensures.keeps;
-      marks = c.in_err-place.ensures.marks;
-      later = c.in_err-place.ensures.later;
-      counted = c.in_err-place.ensures.counted;
-      lawful = c.in_err-place.ensures.lawful;
-      as_list = c.in_err-place.ensures.as_list;
-    };
-    places = c.in_err-place.ensures.places;
-    home = c.in_err-place.ensures.home;
-    inside = c.in_err-place.ensures.inside;
-    others = c.in_err-place.ensures.others;
-    first = c.in_err-place.ensures.first;
-    long = c.in_err-place.ensures.shards;
-  }),
+  rw (sym (c.as_mut_slice.ensures.value ∙ c.self.view_is)) (search c.in_err-place.ensures),
   shows_refused g.T.AtomicValue.target g.L.Law.same g.L.Law.hash_of c.in_err-place.field-0.0 c.place_alone.new.self c.from_residual.result c.from_residual.ensures.1,
 )
 
@@ -38,21 +23,6 @@ pub returns : goal.returns
 returns g c = (
   Ok (c.in_ok-place.place, c.in_ok-place.back),
   c.place_alone.new.self,
-  rw (sym (c.as_mut_slice.ensures.value ∙ c.self.view_is)) (record {
-    says = record {
-      keeps = c.in_ok-place.ensures.keeps;
-      marks = c.in_ok-place.ensures.marks;
-      later = c.in_ok-place.ensures.later;
-      counted = c.in_ok-place.ensures.counted;
-      lawful = c.in_ok-place.ensures.lawful;
-      as_list = c.in_ok-place.ensures.as_list;
-    };
-    places = c.in_ok-place.ensures.places;
-    home = c.in_ok-place.ensures.home;
-    inside = c.in_ok-place.ensures.inside;
-    others = c.in_ok-place.ensures.others;
-    first = c.in_ok-place.ensures.first;
-    long = c.in_ok-place.ensures.shards;
-  }),
+  rw (sym (c.as_mut_slice.ensures.value ∙ c.self.view_is)) (search c.in_ok-place.ensures),
   (refl, c.target_at.ensures),
 )
