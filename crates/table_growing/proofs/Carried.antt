@@ -10,7 +10,7 @@ use Rattle.table_growing.specs.Known.{GrowingView, growing_view, GrowingKnownVie
 use Rattle.logbook.specs.Pages.{Book}
 use Rattle.table_bounded.specs.declared.placing.Placing.{Placing}
 use Rattle.table_bounded.specs.declared.placing.Placing.TheVariants as placing
-use Rattle.table_bounded.specs.Sets.{known_view, KnowsMore, IsOf, IsPlaced, Inserts, IsSpent, IsFullBy}
+use Rattle.table_bounded.specs.Sets.{SetView, known_view, KnowsMore, IsOf, IsPlaced, Inserts, IsSpent, IsFullBy}
 use Rattle.table_growing.proofs.Chains.{home_in_chain}
 use Rattle.std.specs.Prelude.{List}
 
@@ -81,11 +81,11 @@ same_number mine theirs one two first second = elim second.2 [
 
 module _ {V : Type 0} (same : V → V → Bool) where
   -- what was known before is carried to what was known at the insert
-  placed_from : (GoesOn : History V → History V → Type 0) → ((a b : History V) → GoesOn a b → IsCarried a b) → (v : V) (old mid new : History V) → IsCarried old mid → IsPlaced same GoesOn v mid new → IsPlaced same IsCarried v old new
-  placed_from GoesOn carries v old mid new carried it = record {
+  placed_from : (v : V) (old mid new : History V) → IsCarried old mid → IsPlaced same IsPrefix v mid new → IsPlaced same IsCarried v old new
+  placed_from v old mid new carried it = record {
     place = it.place;
     before = it.before;
-    known = carried_trans old mid it.before carried (carries mid it.before it.known);
+    known = carried_trans old mid it.before carried (carried_longer mid it.before it.known);
     none = it.none;
     then = it.then;
   }
@@ -94,23 +94,37 @@ module _ {V : Type 0} (same : V → V → Bool) where
   pub placed_is_entry : (v : V) (old new : History V) → IsPlaced same IsCarried v old new → IsEntry new v
   placed_is_entry v old new it = (it.place, subst (λ (log : History V). Stands log it.place v) (sym it.then) (Contains-push it.before (event it.place (Some (Entry v)))))
 
-  inserts_from : (GoesOn : History V → History V → Type 0) → ((a b : History V) → GoesOn a b → IsCarried a b) → (r : Placing V) (v : V) (old mid new : History V) → IsCarried old mid → Inserts same GoesOn v mid new r → Inserts same IsCarried v old new r
-  inserts_from GoesOn carries (placing.Placed e) v old mid new carried (is, it) = (is, placed_from GoesOn carries v old mid new carried it)
-  inserts_from GoesOn carries (placing.Found e back) v old mid new carried told = told
-  inserts_from GoesOn carries (placing.Full back) v old mid new carried told = told
-  inserts_from GoesOn carries (placing.NoMemory back) v old mid new carried told = told
+  inserts_from : (r : Placing V) (v : V) (old mid new : History V) → IsCarried old mid → Inserts same IsPrefix v mid new r → Inserts same IsCarried v old new r
+  inserts_from (placing.Placed e) v old mid new carried (is, it) = (is, placed_from v old mid new carried it)
+  inserts_from (placing.Found e back) v old mid new carried told = told
+  inserts_from (placing.Full back) v old mid new carried told = told
+  inserts_from (placing.NoMemory back) v old mid new carried told = told
 
   -- what a generation answers, by what was known before it was come to
-  pub places_here : (r : Placing V) (v : V) (old mid new : History V) → IsCarried old mid → Inserts same IsPrefix v mid new r → Inserts same IsCarried v old new r
-  places_here r v old mid new carried told = inserts_from IsPrefix carried_longer r v old mid new carried told
-
-  pub places_from : (r : Placing V) (v w : V) (old mid new : History V) → w ≡ v → IsCarried old mid → Inserts same IsCarried w mid new r → Inserts same IsCarried v old new r
-  places_from r v w old mid new is carried told = subst (λ (x : V). Inserts same IsCarried x old new r) is (inserts_from IsCarried (λ a b on. on) r w old mid new carried told)
+  places_here : (r : Placing V) (v w : V) (old mid new : History V) → w ≡ v → IsCarried old mid → Inserts same IsPrefix w mid new r → Inserts same IsCarried v old new r
+  places_here r v w old mid new is carried told = subst (λ (x : V). Inserts same IsCarried x old new r) is (inserts_from r w old mid new carried told)
 
 -- nothing known is the same as the value, and no bucket is left for it
 abbrev pub IsLeft : {V : Type 0} → (V → V → Bool) → (V → ℕ) → V → History V → Type 0
 IsLeft same hash v log = NonePasses (same v) (IsEntry log) × IsSpent same hash (size_of log) v log
 
 -- how an insert answers, by the number of buckets that its history begins with
-pub full_by_history : {V : Type 0} (same : V → V → Bool) (hash : V → ℕ) (n : ℕ) (v : V) (log : History V) (r : Placing V) → HasSize n log → IsFullBy same hash n v log r → IsFullBy same hash (size_of log) v log r
-full_by_history same hash n v log r size full = subst (λ (m : ℕ). IsFullBy same hash m v log r) (sym (size_is n log size)) full
+full_by_history : {V : Type 0} (same : V → V → Bool) (hash : V → ℕ) (n : ℕ) (v w : V) (log : History V) (r : Placing V) → w ≡ v → HasSize n log → IsFullBy same hash n w log r → IsFullBy same hash (size_of log) v log r
+full_by_history {V} same hash n v w log r is size full = subst (λ (x : ℕ × V). IsFullBy same hash x.0 x.1 log r) (λ i. (sym (size_is n log size) i, is i)) full
+
+-- an answer of the newest generation, as one of the set: by what was known before the generation was come to
+pub record Answered {V : Type 0} (same : V → V → Bool) (hash : V → ℕ) (g : GrowingView) (i : ℕ) (cb : Book) (chain : Chain V) (b : Book) (v : V) (old log : History V) (r : Placing V) : Type 0 where
+  pub at : IsAt same hash g i cb chain b log
+  pub carried : IsCarried old log
+  pub told : Inserts same IsCarried v old log r
+  pub full : IsFullBy same hash (size_of log) v log r
+
+pub answered : {V : Type 0} (same : V → V → Bool) (hash : V → ℕ) (g : GrowingView) (i : ℕ) (cb b new_b : Book) (chain : Chain V) (v w : V) (old mid near new : History V) (s : SetView) (r : Placing V)
+    → IsAt same hash g i cb chain b near → new_b ≡ b → IsOf same hash s new_b new → w ≡ v → IsCarried old mid → IsCarried mid near → IsPrefix near new → Inserts same IsPrefix w near new r → IsFullBy same hash s.size w new r
+    → Answered same hash g i cb chain new_b v old new r
+answered same hash g i cb b new_b chain v w old mid near new s r at kept of is carried further on told full = let all : IsCarried old near = carried_trans old mid near carried further in record {
+  at = at_more same hash g i cb b chain near new_b new kept on of.2 at;
+  carried = carried_trans old near new all (carried_longer near new on);
+  told = places_here same r v w old near new is all told;
+  full = full_by_history same hash s.size v w new r is of.1 full;
+}

@@ -4,7 +4,7 @@ ghost use mathlib.Core.List.{IsPrefix};
 ghost use Rattle.table_bounded.specs.History.{Has, IsCarried};
 ghost use Rattle.table_bounded.specs.Sets.{IsOf, IsWord, AreWords};
 ghost use Rattle.table_growing.specs.Chain.{generations, Continues, IsReachedChain};
-ghost use Rattle.table_growing.specs.Known.{growing_view, IsAt, OwnAll};
+ghost use Rattle.table_growing.specs.Known.{growing_view, IsCursor, OwnAll};
 ghost use Rattle.table_growing.specs.Ending.{Gathers, AreAll};
 
 use crate::chain::{ChainRule, ChainToken, SlotWord, settle_chain};
@@ -85,18 +85,16 @@ pub(crate) fn take_values<V: Drop, L: SetLaw<V>, A: Low + Copy>(
     cursor: &mut Cursor<V, L, A>,
     room: Vec<V, A>,
 ) -> Vec<V, A>
-    requires at { IsAt L.same L.hash_of (growing_view cursor.old.chain.book closed.now.id)
-        cursor.old.number cursor.old.chain.book cursor.old.chain.log cursor.old.entries.book
-        cursor.old.entries.log }
+    requires at { IsCursor L.same L.hash_of (growing_view cursor.old.chain.book closed.now.id)
+        cursor.old }
     requires count { length words.items ≡ generations }
     requires words { AreWords alloc closed.now.id cursor.old.chain.book words.items }
     requires own { OwnAll words.items }
     requires empty { room.items ≡ [] }
     requires room { (s : _) → Has cursor.old.chain.log cursor.old.number s
         → s.of.of.size * 2 ≤ vec_capacity room }
-    ensures at { IsAt L.same L.hash_of (growing_view cursor.old.chain.book closed.now.id)
-        cursor.new.number cursor.new.chain.book cursor.new.chain.log cursor.new.entries.book
-        cursor.new.entries.log }
+    ensures at { IsCursor L.same L.hash_of (growing_view cursor.old.chain.book closed.now.id)
+        cursor.new }
     ensures carried { IsCarried cursor.old.entries.log cursor.new.entries.log }
     ensures all { AreAll L.same cursor.old.entries.log cursor.new.entries.log result.items }
 {
@@ -117,10 +115,8 @@ impl<V: Drop, L: SetLaw<V>, A: Low + Copy> GrowingSet<V, L, A> {
     /// Place for all values, once the cursor is at the newest generation: each has twice as many buckets as the one before it,
     /// so all of them have less than twice as many as that one.
     pub(crate) fn room(&self, cursor: &mut Cursor<V, L, A>) -> Result<Vec<V, A>, AllocError>
-        requires at { IsAt L.same L.hash_of self.now cursor.old.number cursor.old.chain.book
-            cursor.old.chain.log cursor.old.entries.book cursor.old.entries.log }
-        ensures at { IsAt L.same L.hash_of self.now cursor.new.number cursor.new.chain.book
-            cursor.new.chain.log cursor.new.entries.book cursor.new.entries.log }
+        requires at { IsCursor L.same L.hash_of self.now cursor.old }
+        ensures at { IsCursor L.same L.hash_of self.now cursor.new }
         ensures carried { IsCarried cursor.old.entries.log cursor.new.entries.log }
         ensures empty { IfOk result (λ room. room.items ≡ []) }
         ensures room { IfOk result (λ room. (s : _) → Has cursor.new.chain.log cursor.new.number s

@@ -5,7 +5,7 @@ ghost use Rattle.std.specs.Int.{IsPowerOfTwo};
 ghost use Rattle.table_bounded.specs.Sets.{IsOf, AreWords};
 ghost use Rattle.table_bounded.specs.History.{Has, HasSize};
 ghost use Rattle.table_growing.specs.Chain.{generations, Continues, Joins, IsReachedChain};
-ghost use Rattle.table_growing.specs.Known.{IsAt, OwnAll};
+ghost use Rattle.table_growing.specs.Known.{IsCursor, OwnAll};
 
 use crate::chain::{ChainRule, ChainToken, GENERATIONS, SlotWord};
 use crate::cursor::Cursor;
@@ -160,8 +160,7 @@ impl<V: Drop, L: SetLaw<V>, A: Low + Copy> GrowingSet<V, L, A> {
 
     /// Sees to it that there is a generation behind that of the cursor. It may wait for another thread that does the same.
     pub(crate) fn grow<R: Wait>(&self, rt: &R, cursor: Cursor<V, L, A>) -> Result<(), AllocError>
-        requires { IsAt L.same L.hash_of self.now cursor.number cursor.chain.book cursor.chain.log
-            cursor.entries.book cursor.entries.log }
+        requires { IsCursor L.same L.hash_of self.now cursor }
     {
         let turn = self.growing.lock(rt);
         self.grow_in_turn(&turn, cursor)
@@ -169,8 +168,7 @@ impl<V: Drop, L: SetLaw<V>, A: Low + Copy> GrowingSet<V, L, A> {
 
     /// Grows as `grow` does, unless another thread is at it.
     pub(crate) fn grow_if_free(&self, cursor: Cursor<V, L, A>)
-        requires { IsAt L.same L.hash_of self.now cursor.number cursor.chain.book cursor.chain.log
-            cursor.entries.book cursor.entries.log }
+        requires { IsCursor L.same L.hash_of self.now cursor }
     {
         if let Some(turn) = self.growing.try_lock() {
             let _grown = self.grow_in_turn(&turn, cursor);
@@ -183,8 +181,7 @@ impl<V: Drop, L: SetLaw<V>, A: Low + Copy> GrowingSet<V, L, A> {
         _turn: &MutexGuard<'_, ()>,
         cursor: Cursor<V, L, A>,
     ) -> Result<(), AllocError>
-        requires { IsAt L.same L.hash_of self.now cursor.number cursor.chain.book cursor.chain.log
-            cursor.entries.book cursor.entries.log }
+        requires { IsCursor L.same L.hash_of self.now cursor }
     {
         let mut cursor = cursor;
         let number = cursor.number + 1;

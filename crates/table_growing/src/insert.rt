@@ -2,7 +2,7 @@
 ghost use Rattle.std.specs.Prelude.{◌≡◌};
 ghost use Rattle.table_bounded.specs.History.{size_of, IsCarried};
 ghost use Rattle.table_bounded.specs.Sets.{KnowsMore, Inserts, IsFullBy};
-ghost use Rattle.table_growing.specs.Known.{IsAt};
+ghost use Rattle.table_growing.specs.Known.{IsCursor};
 
 use crate::chain::GENERATIONS;
 use crate::cursor::Cursor;
@@ -15,27 +15,13 @@ use table_cell::Low;
 use table_sets::SetLaw;
 
 impl<V: Drop, L: SetLaw<V>, A: Low + Copy> GrowingSet<V, L, A> {
-    /// Places the value in the newest generation, if a bucket is left for it there.
-    fn place_in_newest(&self, cursor: &mut Cursor<V, L, A>, value: V) -> Placing<'_, V>
-        requires at { IsAt L.same L.hash_of self.now cursor.old.number cursor.old.chain.book
-            cursor.old.chain.log cursor.old.entries.book cursor.old.entries.log }
-        ensures at { IsAt L.same L.hash_of self.now cursor.new.number cursor.new.chain.book
-            cursor.new.chain.log cursor.new.entries.book cursor.new.entries.log }
-        ensures carried { IsCarried cursor.old.entries.log cursor.new.entries.log }
-        ensures told { Inserts L.same IsCarried value cursor.old.entries.log
-            cursor.new.entries.log result }
-        ensures full { IsFullBy L.same L.hash_of (size_of cursor.new.entries.log) value
-            cursor.new.entries.log result }
+    /// Counts the value if it was placed, and grows the set if its generation is half full then and no other thread grows it.
+    fn count(&self, cursor: &Cursor<V, L, A>, placing: &Placing<'_, V>)
+        requires { IsCursor L.same L.hash_of self.now cursor.now }
     {
-        let generation = self.newest(cursor).generation();
-        generation.place(&self.home, &mut cursor.entries, value)
-    }
-
-    /// Counts a value that was placed, and grows the set if its generation is half full then and no other thread grows it.
-    fn count(&self, cursor: &Cursor<V, L, A>)
-        requires { IsAt L.same L.hash_of self.now cursor.now.number cursor.now.chain.book
-            cursor.now.chain.log cursor.now.entries.book cursor.now.entries.log }
-    {
+        if !matches!(placing, Placing::Placed(_)) {
+            return;
+        }
         let mut mine = cursor.again();
         let buckets = self.slot_of(&mut mine).generation().buckets();
         if self.placed.fetch_add(1, SeqCst) >= buckets / 2 {
@@ -45,10 +31,8 @@ impl<V: Drop, L: SetLaw<V>, A: Low + Copy> GrowingSet<V, L, A> {
 
     /// The insert of `insert`.
     fn insert_at<R: Wait>(&self, rt: &R, cursor: &mut Cursor<V, L, A>, value: V) -> Placing<'_, V>
-        requires at { IsAt L.same L.hash_of self.now cursor.old.number cursor.old.chain.book
-            cursor.old.chain.log cursor.old.entries.book cursor.old.entries.log }
-        ensures at { IsAt L.same L.hash_of self.now cursor.new.number cursor.new.chain.book
-            cursor.new.chain.log cursor.new.entries.book cursor.new.entries.log }
+        requires at { IsCursor L.same L.hash_of self.now cursor.old }
+        ensures at { IsCursor L.same L.hash_of self.now cursor.new }
         ensures carried { IsCarried cursor.old.entries.log cursor.new.entries.log }
         ensures told { Inserts L.same IsCarried value cursor.old.entries.log
             cursor.new.entries.log result }
@@ -57,14 +41,13 @@ impl<V: Drop, L: SetLaw<V>, A: Low + Copy> GrowingSet<V, L, A> {
     {
         let mut value = value;
         for _tried in 0..GENERATIONS {
-            match self.place_in_newest(cursor, value) {
-                Placing::Placed(entry) => {
-                    self.count(cursor);
-                    return Placing::Placed(entry);
-                }
-                Placing::Found(entry, back) => return Placing::Found(entry, back),
-                Placing::NoMemory(back) => return Placing::NoMemory(back),
+            let generation = self.newest(cursor).generation();
+            match generation.place(&self.home, &mut cursor.entries, value) {
                 Placing::Full(back) => value = back,
+                ended => {
+                    self.count(cursor, &ended);
+                    return ended;
+                }
             }
             if self.grow(rt, cursor.again()).is_err() {
                 return Placing::Full(value);

@@ -21,16 +21,15 @@ pub struct Known<V, L: SetLaw<V>, A: Low + Copy = Global> {
 impl<V, L: SetLaw<V>, A: Low + Copy> Model for Known<V, L, A> {
     ghost use Rattle.table_bounded.specs.History.{size_of};
     ghost use Rattle.table_bounded.specs.Sets.{known_view};
-    ghost use Rattle.table_growing.specs.Known.{GrowingKnownView, growing_view, IsAt};
+    ghost use Rattle.table_growing.specs.Known.{GrowingKnownView, growing_view, IsCursor};
 
     ghost Value = { GrowingKnownView V };
 
     ghost view = { λ k. known_view (growing_view k.cursor.chain.book (size_of k.cursor.chain.log))
         k.cursor.entries.log };
 
-    ghost invariant = { λ k. IsAt L.same L.hash_of
-        (growing_view k.cursor.chain.book (size_of k.cursor.chain.log)) k.cursor.number
-        k.cursor.chain.book k.cursor.chain.log k.cursor.entries.book k.cursor.entries.log };
+    ghost invariant = { λ k. IsCursor L.same L.hash_of
+        (growing_view k.cursor.chain.book (size_of k.cursor.chain.log)) k.cursor };
 }
 
 impl<V, L: SetLaw<V>, A: Low + Copy> Known<V, L, A> {

@@ -6,7 +6,7 @@ ghost use Rattle.table_terms.specs.Laws.{AllApart};
 ghost use Rattle.table_bounded.specs.History.{Has, IsEntry, IsUntouched, IsCarried};
 ghost use Rattle.table_bounded.specs.Sets.{KnowsMore, IsOf, Finds, HasAll, WerePlaced};
 ghost use Rattle.table_growing.specs.Chain.{generations, IsReachedChain};
-ghost use Rattle.table_growing.specs.Known.{IsAt, IsFurther};
+ghost use Rattle.table_growing.specs.Known.{IsCursor, IsFurther};
 
 use crate::chain::{ChainRule, ChainToken, GENERATIONS, SlotWord, settle_chain};
 use crate::cursor::Cursor;
@@ -48,8 +48,7 @@ impl<V, L: SetLaw<V>, A: Low + Copy> Model for GrowingSet<V, L, A> {
     ghost view = { λ s. growing_view s.start.chain.book s.home.id };
 
     ghost invariant = { λ s. IsGrown L.same L.hash_of s.alloc
-        (growing_view s.start.chain.book s.home.id) s.spine.items s.start.number
-        s.start.chain.book s.start.chain.log s.start.entries.book s.start.entries.log };
+        (growing_view s.start.chain.book s.home.id) s.spine.items s.start };
 }
 
 impl<V, L: SetLaw<V>, A: Low + Copy> GrowingSet<V, L, A> {
@@ -64,8 +63,7 @@ impl<V, L: SetLaw<V>, A: Low + Copy> GrowingSet<V, L, A> {
 
     /// A cursor of the set, at the newest generation as far as that is told.
     fn fresh_cursor(&self) -> Cursor<V, L, A>
-        ensures { IsAt L.same L.hash_of self.now result.number result.chain.book result.chain.log
-            result.entries.book result.entries.log }
+        ensures { IsCursor L.same L.hash_of self.now result }
     {
         let number = self.begin.load(SeqCst);
         if number >= GENERATIONS {
@@ -116,10 +114,8 @@ impl<V, L: SetLaw<V>, A: Low + Copy> GrowingSet<V, L, A> {
 
     /// The generation of the cursor.
     pub(crate) fn slot_of(&self, cursor: &mut Cursor<V, L, A>) -> &Slot<V, L, A>
-        requires at { IsAt L.same L.hash_of self.now cursor.old.number cursor.old.chain.book
-            cursor.old.chain.log cursor.old.entries.book cursor.old.entries.log }
-        ensures at { IsAt L.same L.hash_of self.now cursor.new.number cursor.new.chain.book
-            cursor.new.chain.log cursor.new.entries.book cursor.new.entries.log }
+        requires at { IsCursor L.same L.hash_of self.now cursor.old }
+        ensures at { IsCursor L.same L.hash_of self.now cursor.new }
         ensures number { cursor.new.number ≡ cursor.old.number }
         ensures entries { cursor.new.entries ≡ cursor.old.entries }
         ensures longer { IsPrefix cursor.old.chain.log cursor.new.chain.log }
@@ -133,10 +129,8 @@ impl<V, L: SetLaw<V>, A: Low + Copy> GrowingSet<V, L, A> {
 
     /// Moves the cursor to the next generation, if that was shown by now.
     pub(crate) fn step(&self, cursor: &mut Cursor<V, L, A>) -> Option<&Slot<V, L, A>>
-        requires at { IsAt L.same L.hash_of self.now cursor.old.number cursor.old.chain.book
-            cursor.old.chain.log cursor.old.entries.book cursor.old.entries.log }
-        ensures at { IsAt L.same L.hash_of self.now cursor.new.number cursor.new.chain.book
-            cursor.new.chain.log cursor.new.entries.book cursor.new.entries.log }
+        requires at { IsCursor L.same L.hash_of self.now cursor.old }
+        ensures at { IsCursor L.same L.hash_of self.now cursor.new }
         ensures longer { IsPrefix cursor.old.chain.log cursor.new.chain.log }
         ensures carried { IsCarried cursor.old.entries.log cursor.new.entries.log }
         ensures stays { MatchOption result
@@ -157,10 +151,8 @@ impl<V, L: SetLaw<V>, A: Low + Copy> GrowingSet<V, L, A> {
 
     /// Moves the cursor to the newest generation, and shows it.
     pub(crate) fn newest(&self, cursor: &mut Cursor<V, L, A>) -> &Slot<V, L, A>
-        requires at { IsAt L.same L.hash_of self.now cursor.old.number cursor.old.chain.book
-            cursor.old.chain.log cursor.old.entries.book cursor.old.entries.log }
-        ensures at { IsAt L.same L.hash_of self.now cursor.new.number cursor.new.chain.book
-            cursor.new.chain.log cursor.new.entries.book cursor.new.entries.log }
+        requires at { IsCursor L.same L.hash_of self.now cursor.old }
+        ensures at { IsCursor L.same L.hash_of self.now cursor.new }
         ensures longer { IsPrefix cursor.old.chain.log cursor.new.chain.log }
         ensures carried { IsCarried cursor.old.entries.log cursor.new.entries.log }
         ensures of { IsOf L.same L.hash_of result.now.of.of cursor.new.entries.book
@@ -213,11 +205,9 @@ impl<V, L: SetLaw<V>, A: Low + Copy> GrowingSet<V, L, A> {
 
     /// Moves the cursor to this generation, which was shown, unless it is there or beyond.
     fn go_to(&self, cursor: &mut Cursor<V, L, A>, number: usize)
-        requires at { IsAt L.same L.hash_of self.now cursor.old.number cursor.old.chain.book
-            cursor.old.chain.log cursor.old.entries.book cursor.old.entries.log }
+        requires at { IsCursor L.same L.hash_of self.now cursor.old }
         requires shown { (s : _) × Has cursor.old.chain.log number s }
-        ensures at { IsAt L.same L.hash_of self.now cursor.new.number cursor.new.chain.book
-            cursor.new.chain.log cursor.new.entries.book cursor.new.entries.log }
+        ensures at { IsCursor L.same L.hash_of self.now cursor.new }
         ensures longer { IsPrefix cursor.old.chain.log cursor.new.chain.log }
         ensures carried { IsCarried cursor.old.entries.log cursor.new.entries.log }
         ensures there { IsFurther cursor.old.number number cursor.new.number }
@@ -229,12 +219,9 @@ impl<V, L: SetLaw<V>, A: Low + Copy> GrowingSet<V, L, A> {
 
     /// Brings together what two cursors know, at the further one of their generations.
     fn join(&self, cursor: &mut Cursor<V, L, A>, theirs: Cursor<V, L, A>)
-        requires mine { IsAt L.same L.hash_of self.now cursor.old.number cursor.old.chain.book
-            cursor.old.chain.log cursor.old.entries.book cursor.old.entries.log }
-        requires theirs { IsAt L.same L.hash_of self.now theirs.number theirs.chain.book
-            theirs.chain.log theirs.entries.book theirs.entries.log }
-        ensures at { IsAt L.same L.hash_of self.now cursor.new.number cursor.new.chain.book
-            cursor.new.chain.log cursor.new.entries.book cursor.new.entries.log }
+        requires mine { IsCursor L.same L.hash_of self.now cursor.old }
+        requires theirs { IsCursor L.same L.hash_of self.now theirs }
+        ensures at { IsCursor L.same L.hash_of self.now cursor.new }
         ensures mine { IsCarried cursor.old.entries.log cursor.new.entries.log }
         ensures theirs { IsCarried theirs.entries.log cursor.new.entries.log }
     {

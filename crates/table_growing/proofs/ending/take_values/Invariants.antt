@@ -2,7 +2,7 @@ use Rattle.std.proofs.Common.{◌≡◌, ◌+◌, ◌≤◌, length, vec_capacit
 use Rattle.std.specs.Vec.Iter.{into_iter_items, into_iter_len}
 use mathlib.Core.List.{IsPrefix}
 use Rattle.table_bounded.specs.History.{Has}
-use Rattle.table_growing.specs.Known.{growing_view, IsAt}
+use Rattle.table_growing.specs.Known.{growing_view, IsCursor}
 use Rattle.table_growing.specs.Ending.{Gathers}
 use Rattle.table_growing.proofs.Ends.{LeftFrom}
 use Rattle.table_growing.proofs.ending.take_values.Given as goal
@@ -10,7 +10,7 @@ use Rattle.table_growing.proofs.ending.take_values.Given as goal
 abbrev pub invariant-loop-taken : goal.invariant-loop-taken
 invariant-loop-taken g l = record {
   left : LeftFrom l.alloc l.closed.id l.fn.cursor.chain.book (l._taken + 1) (into_iter_items l.words);
-  at : IsAt g.L.Law.same g.L.Law.hash_of (growing_view l.fn.cursor.chain.book l.closed.id) l.cursor.number l.cursor.chain.book l.cursor.chain.log l.cursor.entries.book l.cursor.entries.log;
+  at : IsCursor g.L.Law.same g.L.Law.hash_of (growing_view l.fn.cursor.chain.book l.closed.id) l.cursor;
   longer : IsPrefix l.fn.cursor.chain.log l.cursor.chain.log;
   shown : Has l.cursor.chain.log l._taken l.slot;
   gathered : Gathers g.L.Law.same l.slot.of.start l.slot.of.lent l.room.items;

@@ -1,45 +1,22 @@
-use Rattle.std.proofs.Common.{subst, arith, inl, inr}
-use Rattle.table_bounded.specs.Sets.{IsSpent}
-use Rattle.table_bounded.specs.History.{size_of}
-use Rattle.table_bounded.specs.declared.placing.Placing.TheVariants.{Placed, Full, NoMemory}
-use Rattle.table_growing.proofs.Carried.{carried_trans, places_from}
+use Rattle.std.proofs.Common.{◌∙◌, sym, ap, arith, inl, inr}
+use Rattle.table_bounded.specs.declared.placing.Placing.TheVariants.{Full}
+use Rattle.table_growing.proofs.Carried.{answered}
 use Rattle.table_growing.proofs.set.GrowingSet.insert_at.Goals as goal
 
-pub returns-in-Placed-clause-carried : goal.returns-in-Placed-clause-carried
-returns-in-Placed-clause-carried g c = carried_trans c.args.cursor.now.entries.log c.loop-tried.cursor.entries.log c.place_in_newest.new.cursor.entries.log c.loop-tried.invariant.carried c.place_in_newest.ensures.carried
+pub returns-in_default : goal.returns-in_default
+returns-in_default g c = let cursor = c.newest.new.cursor in let seen = c.place.new.seen in
+    let a = answered g.L.Law.same g.L.Law.hash_of c.args.self.now cursor.number cursor.chain.book cursor.entries.book seen.book cursor.chain.log c.args.value c.loop-tried.value c.args.cursor.now.entries.log c.loop-tried.cursor.entries.log cursor.entries.log seen.log c.generation-generation.result.now.of c.place.result
+    c.newest.ensures.at (c.place.ensures.of.0 ∙ (ap (λ x. x.of.book) c.generation-generation.ensures ∙ sym c.newest.ensures.of.0)) c.place.ensures.of c.loop-tried.invariant.value c.loop-tried.invariant.carried c.newest.ensures.carried c.place.ensures.longer c.place.ensures.told c.place.ensures.full in record { at = a.at; carried = a.carried; told = a.told; full = a.full }
 
-pub returns-in-Placed-clause-told : goal.returns-in-Placed-clause-told
-returns-in-Placed-clause-told g c = places_from g.L.Law.same (Placed c.in-Placed.entry) c.args.value c.loop-tried.value c.args.cursor.now.entries.log c.loop-tried.cursor.entries.log c.place_in_newest.new.cursor.entries.log
-    c.loop-tried.invariant.value c.loop-tried.invariant.carried c.in-Placed.ensures.told
-
-pub returns-in-Found-clause-carried : goal.returns-in-Found-clause-carried
-returns-in-Found-clause-carried g c = carried_trans c.args.cursor.now.entries.log c.loop-tried.cursor.entries.log c.place_in_newest.new.cursor.entries.log c.loop-tried.invariant.carried c.place_in_newest.ensures.carried
-
-pub returns-in-NoMemory-clause-carried : goal.returns-in-NoMemory-clause-carried
-returns-in-NoMemory-clause-carried g c = carried_trans c.args.cursor.now.entries.log c.loop-tried.cursor.entries.log c.place_in_newest.new.cursor.entries.log c.loop-tried.invariant.carried c.place_in_newest.ensures.carried
-
-pub returns-in-NoMemory-clause-told : goal.returns-in-NoMemory-clause-told
-returns-in-NoMemory-clause-told g c = places_from g.L.Law.same (NoMemory c.in-NoMemory.back) c.args.value c.loop-tried.value c.args.cursor.now.entries.log c.loop-tried.cursor.entries.log c.place_in_newest.new.cursor.entries.log
-    c.loop-tried.invariant.value c.loop-tried.invariant.carried c.in-NoMemory.ensures.told
-
-pub returns-then-is_err-clause-carried : goal.returns-then-is_err-clause-carried
-returns-then-is_err-clause-carried g c = carried_trans c.args.cursor.now.entries.log c.loop-tried.cursor.entries.log c.place_in_newest.new.cursor.entries.log c.loop-tried.invariant.carried c.place_in_newest.ensures.carried
-
-pub returns-then-is_err-clause-told : goal.returns-then-is_err-clause-told
-returns-then-is_err-clause-told g c = places_from g.L.Law.same (Full c.in-Full.back) c.args.value c.loop-tried.value c.args.cursor.now.entries.log c.loop-tried.cursor.entries.log c.place_in_newest.new.cursor.entries.log
-    c.loop-tried.invariant.value c.loop-tried.invariant.carried c.in-Full.ensures.told
-
-pub returns-then-is_err-clause-full : goal.returns-then-is_err-clause-full
-returns-then-is_err-clause-full g c = subst (λ v. IsSpent g.L.Law.same g.L.Law.hash_of (size_of c.place_in_newest.new.cursor.entries.log) v c.place_in_newest.new.cursor.entries.log) c.loop-tried.invariant.value c.in-Full.ensures.full
+pub returns-then-is_err : goal.returns-then-is_err
+returns-then-is_err g c = let cursor = c.newest.new.cursor in let seen = c.place.new.seen in
+    let a = answered g.L.Law.same g.L.Law.hash_of c.args.self.now cursor.number cursor.chain.book cursor.entries.book seen.book cursor.chain.log c.args.value c.loop-tried.value c.args.cursor.now.entries.log c.loop-tried.cursor.entries.log cursor.entries.log seen.log c.generation-generation.result.now.of (Full c.in-Full.back)
+    c.newest.ensures.at (c.place.ensures.of.0 ∙ (ap (λ x. x.of.book) c.generation-generation.ensures ∙ sym c.newest.ensures.of.0)) c.place.ensures.of c.loop-tried.invariant.value c.loop-tried.invariant.carried c.newest.ensures.carried c.place.ensures.longer c.in-Full.ensures.told c.in-Full.ensures.full in record { at = a.at; carried = a.carried; told = a.told; full = a.full }
 
 pub loop-tried-preserved : goal.loop-tried-preserved
-loop-tried-preserved g c = let told = places_from g.L.Law.same (Full c.in-Full.back) c.args.value c.loop-tried.value c.args.cursor.now.entries.log c.loop-tried.cursor.entries.log c.place_in_newest.new.cursor.entries.log
-    c.loop-tried.invariant.value c.loop-tried.invariant.carried c.in-Full.ensures.told in record {
-      at = c.place_in_newest.ensures.at;
-      carried = carried_trans c.args.cursor.now.entries.log c.loop-tried.cursor.entries.log c.place_in_newest.new.cursor.entries.log c.loop-tried.invariant.carried c.place_in_newest.ensures.carried;
-      value = told.0;
-      none = inr (told.1, subst (λ v. IsSpent g.L.Law.same g.L.Law.hash_of (size_of c.place_in_newest.new.cursor.entries.log) v c.place_in_newest.new.cursor.entries.log) c.loop-tried.invariant.value c.in-Full.ensures.full);
-    }
+loop-tried-preserved g c = let cursor = c.newest.new.cursor in let seen = c.place.new.seen in
+    let a = answered g.L.Law.same g.L.Law.hash_of c.args.self.now cursor.number cursor.chain.book cursor.entries.book seen.book cursor.chain.log c.args.value c.loop-tried.value c.args.cursor.now.entries.log c.loop-tried.cursor.entries.log cursor.entries.log seen.log c.generation-generation.result.now.of (Full c.in-Full.back)
+    c.newest.ensures.at (c.place.ensures.of.0 ∙ (ap (λ x. x.of.book) c.generation-generation.ensures ∙ sym c.newest.ensures.of.0)) c.place.ensures.of c.loop-tried.invariant.value c.loop-tried.invariant.carried c.newest.ensures.carried c.place.ensures.longer c.in-Full.ensures.told c.in-Full.ensures.full in record { at = a.at; carried = a.carried; value = a.told.0; none = inr (a.told.1, a.full) }
 
 pub returns-clause-told : goal.returns-clause-told
 returns-clause-told g c = (

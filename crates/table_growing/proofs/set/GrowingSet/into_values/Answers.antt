@@ -2,7 +2,7 @@ use Rattle.std.proofs.Common.{◌≡◌, ◌∙◌, ℕ, ap, subst}
 use Rattle.logbook.specs.Pages.{Book}
 use Rattle.table_bounded.specs.History.{History}
 use Rattle.table_bounded.specs.Sets.{HasAll}
-use Rattle.table_growing.specs.Known.{GrowingView, growing_view, GrowingKnownView, IsAt}
+use Rattle.table_growing.specs.Known.{GrowingView, growing_view, GrowingKnownView, IsCursor}
 use Rattle.table_growing.proofs.Carried.{knows_more, carried_trans}
 use Rattle.table_growing.proofs.set.GrowingSet.into_values.Goals as goal
 
@@ -19,7 +19,7 @@ returns-clause-known g c = let cursor = c.take_values.new.cursor in
     let set : growing_view c.room.new.cursor.chain.book c.close.result.id ≡ c.args.self = this_set c.room.new.cursor.chain.book c.close.result.id c.args.self c.room.ensures.at.set (c.close.ensures ∙ ap (λ (s : GrowingView). s.home) c.self.view_is) in
     knows_more g.L.Law.same g.L.Law.hash_of c.args.self cursor.number cursor.chain.book cursor.entries.book cursor.chain.log cursor.entries.log
     c.args.known.now c.known.inside.cursor.chain.book c.known.inside.cursor.chain.log c.known.inside.cursor.entries.log cursor.entries.log c.known.view_is c.requires.of
-    (subst (λ (s : GrowingView). IsAt g.L.Law.same g.L.Law.hash_of s cursor.number cursor.chain.book cursor.chain.log cursor.entries.book cursor.entries.log) set c.take_values.ensures.at)
+    (subst (λ (s : GrowingView). IsCursor g.L.Law.same g.L.Law.hash_of s cursor) set c.take_values.ensures.at)
     (carried_trans c.known.inside.cursor.entries.log c.room.new.cursor.entries.log cursor.entries.log c.room.ensures.carried c.take_values.ensures.carried)
 
 pub returns-clause-all : goal.returns-clause-all
