@@ -50,7 +50,9 @@ pub fn insert_then_find(
     let is_wanted = |a: &u64| *a == wanted;
     let (place, _) = table.place_alone::<Words, _, _>(wanted, word, &same, &hash)?;
     // A law is a function that does nothing: to call it is to know what it says.
-    inserted_is_found_again::<Box<u64>, Words, _, _, _>(&same, &hash, &is_wanted);
+    inserted_is_found_again::<Box<u64>, Words, HeldRawTable<Box<u64>>, _, _, _>(
+        &same, &hash, &is_wanted,
+    );
     let shown = table.lookup_alone::<Words, _>(wanted, is_wanted).copied();
     Ok(Lookup { place, shown })
 }

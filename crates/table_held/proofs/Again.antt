@@ -7,12 +7,12 @@ use Rattle.std.proofs.lemmas.List.Elements.{Contains-push}
 use Rattle.std.proofs.lemmas.List.Sorted.{IsPermutation-refl, Contains-permutation}
 use Rattle.std.proofs.lemmas.List.Sums.{sum_by-cons}
 use Rattle.table_terms.specs.ListObject.{ListReply, Lookup, Answers}
-use Rattle.table_terms.specs.Laws.{IsLaw, AllApart}
+use Rattle.table_terms.specs.Laws.{IsLaw}
 use Rattle.table_generations.specs.Buckets.{values_of}
 use Rattle.table_cell.specs.declared.bucket.Entry.{Entry}
 use Rattle.table_held.specs.Shown.{Shows, IsEntryAt, IsLawfulInsert, IsLawfulLookup, InsertKeeps, LookupReplies, entries_of, value_of, equal}
 use Rattle.table_held.proofs.Apart.{first_or_other}
-use Rattle.table_held.specs.Again.{LaterIsReflexive, LaterIsTransitive, AnswersLive, FindsAgain}
+use Rattle.table_held.specs.Again.{LaterIsReflexive, LaterIsTransitive, AnswersLive, LawfulIsApart, FindsAgain}
 
 module _ {T : Type 0} (passes : T → Bool) where
   -- how many entries pass
@@ -84,7 +84,7 @@ module _ {X T P : Type 0} (s : Shows X T P) where
         (e, record { lives = lives; among = Contains-permutation _ _ e moved among }, sym (lawful.eq_is e true among accepted))
 
     -- the entry at the place of an insert is found again, where the entries of a lawful table are apart
-    pub found_again : ((t : X) → s.lawful U target same hash_of t → AllApart (λ y (e : Entry T). same y (target e.value)) (s.marked t))
+    pub found_again : LawfulIsApart s target same hash_of
         → (eq : U → U → Bool → Type 0) (rehash : U → ℕ → Type 0) (answers : U → Bool → Type 0) → FindsAgain s target same hash_of eq rehash answers
     found_again apart eq rehash answers x p t later result was is_later looks =
         let named = names_same eq rehash x p was.old t was.hash was.back was.lawful was.inserted.keeps in
@@ -100,5 +100,5 @@ module _ {X T P : Type 0} (s : Shows X T P) where
           named.1.lives,
           named.2,
           shows_the_one target (equal target same hash_of) (entries_of s later) (λ v. same (target x) (target v)) e result told.0 told.1 told.2 now.among named.2
-              (λ v among passed. only_one_passes (λ w. same (target x) (target w)) (s.marked later) v e (apart later looks.lawful (target x)) among now.among passed named.2),
+              (λ v among passed. only_one_passes (λ w. same (target x) (target w)) (s.marked later) v e (apart law later looks.lawful (target x)) among now.among passed named.2),
         )

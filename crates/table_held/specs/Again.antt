@@ -1,5 +1,7 @@
 -- That a place stays good, and that a value that was inserted is found again.
 use Rattle.std.specs.Prelude.{◌≡◌, ℕ, Bool, true, Option, Some, Ok, Contains}
+use Rattle.table_terms.specs.Laws.{IsLaw, AllApart}
+use Rattle.table_cell.specs.declared.bucket.Entry.{Entry}
 use Rattle.table_held.specs.Shown.{Shows, IsEntryAt, IsLater, IsLawfulInsert, InsertKeeps, InsertSays, LooksUpAsList, entries_of, value_of}
 
 module _ {X T P : Type 0} (s : Shows X T P) where
@@ -19,6 +21,12 @@ module _ {X T P : Type 0} (s : Shows X T P) where
       (e : T) × IsEntryAt s new p e
 
   module _ {U : Type 0} (target : T → U) (same : U → U → Bool) (hash_of : U → ℕ) where
+    -- no two entries of a lawful table are the same
+    abbrev pub LawfulIsApart : Type 0
+    LawfulIsApart =
+        IsLaw same hash_of → (t : X) → s.lawful U target same hash_of t
+        → AllApart (λ y (e : Entry T). same y (target e.value)) (s.marked t)
+
     -- a lawful insert of x was not refused: it named this place, and left this table
     pub record WasInserted (eq : U → U → Bool → Type 0) (rehash : U → ℕ → Type 0) (x : T) (p : P)
         (new : X) : Type 0 where

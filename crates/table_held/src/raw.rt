@@ -9,7 +9,6 @@ ghost use Rattle.table_held.specs.Table.{contents_in, shown_rows, AreOfHome};
 
 mod into_iter;
 mod iter;
-pub mod laws;
 mod parts;
 
 use crate::place::Place;

@@ -113,6 +113,15 @@ pub trait AloneTable<T: AtomicValue, L: Law<T::Target>> {
     ghost no_entries_is_lawful: { LawfulWithoutEntries shows T.target };
 }
 
+/// A table held alone that keeps its entries apart: no two of them are the same where it is lawful.
+pub trait KeepsApart<T: AtomicValue, L: Law<T::Target>>: AloneTable<T, L> {
+    ghost use Rattle.table_held.specs.Again.{LawfulIsApart};
+
+    /// It does nothing: to call it is to know what it says.
+    fn entries_are_apart()
+        ensures { LawfulIsApart Self.shows T.target L.same L.hash_of };
+}
+
 /// Inserts the value, and tells what came of it.
 fn reply_insert<
     T: AtomicValue,

@@ -1,6 +1,6 @@
 //! A raw table held alone is a table held alone.
 
-use crate::alone::{AloneTable, Told};
+use crate::alone::{AloneTable, KeepsApart, Told};
 use std::alloc::Allocator;
 use table_generations::atomic_value::{AtomicValue, Law};
 use table_held::place::Place;
@@ -36,4 +36,9 @@ impl<T: AtomicValue, A: Allocator + Copy, L: Law<T::Target>> AloneTable<T, L>
     fn len_alone(&self) -> usize {
         self.len_alone()
     }
+}
+
+impl<T: AtomicValue, A: Allocator + Copy, L: Law<T::Target>> KeepsApart<T, L>
+    for HeldRawTable<T, A> {
+    fn entries_are_apart() {}
 }

@@ -3,7 +3,7 @@
 use crate::sharded::{HeldShardedTable, ShardPlace};
 use std::alloc::Allocator;
 use table_generations::atomic_value::{AtomicValue, Law};
-use table_runs::alone::{AloneTable, Told};
+use table_runs::alone::{AloneTable, KeepsApart, Told};
 
 impl<T: AtomicValue, const SHARDS: usize, A: Allocator + Copy, L: Law<T::Target>> AloneTable<T, L>
     for HeldShardedTable<T, SHARDS, A> {
@@ -35,4 +35,9 @@ impl<T: AtomicValue, const SHARDS: usize, A: Allocator + Copy, L: Law<T::Target>
     fn len_alone(&self) -> usize {
         self.len_alone()
     }
+}
+
+impl<T: AtomicValue, const SHARDS: usize, A: Allocator + Copy, L: Law<T::Target>> KeepsApart<T, L>
+    for HeldShardedTable<T, SHARDS, A> {
+    fn entries_are_apart() {}
 }
