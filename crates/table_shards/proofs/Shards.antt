@@ -296,11 +296,11 @@ module _ {T : Type 0} where
         absurd (false≢true (rw none at some)))
   ]
 
-  pub some_in_shard : (ts : List (HeldTable T)) (p : ShardPlace) (t : HeldTable T) (q : Place) → shard_at ts p.shard ≡ t → q ≡ p.place → IsSome (entry_at ts p) → IsSome (table.entry_at t q)
-  some_in_shard ts p t q read at some = rw (at, ← read) some
+  pub some_in_shard : (ts : List (HeldTable T)) (p : ShardPlace) (t : HeldTable T) → shard_at ts p.shard ≡ t → IsSome (entry_at ts p) → IsSome (table.entry_at t p.place)
+  some_in_shard ts p t read some = rw (← read) some
 
-  pub shows_in_shard : (P : T → Type 0) (ts : List (HeldTable T)) (p : ShardPlace) (t : HeldTable T) (q : Place) → shard_at ts p.shard ≡ t → q ≡ p.place → ShowsAt (table.entry_at t q) P → ShowsAt (entry_at ts p) P
-  shows_in_shard P ts p t q read at shows = rw (read, ← at) shows
+  pub shows_in_shard : (P : T → Type 0) (ts : List (HeldTable T)) (p : ShardPlace) (t : HeldTable T) → shard_at ts p.shard ≡ t → ShowsAt (table.entry_at t p.place) P → ShowsAt (entry_at ts p) P
+  shows_in_shard P ts p t read shows = rw read shows
 
   -- new shards
 

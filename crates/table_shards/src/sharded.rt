@@ -178,8 +178,9 @@ impl<T: AtomicValue, const SHARDS: usize, A: Allocator + Copy> HeldShardedTable<
         requires { IsSome (entry_at self.now place) }
         ensures { ShowsAt (entry_at self.now place) (λ v. result.now ≡ T.target v) }
     {
+        let ShardPlace { shard, place } = place;
         let shards = self.shards.as_slice();
-        shards[place.shard()].target_at(place.place())
+        shards[shard].target_at(place)
     }
 
     /// Inserts the value into the shard of its hash, unless an entry there is accepted as equal, and shows the entry's target.
