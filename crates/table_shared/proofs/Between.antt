@@ -6,7 +6,7 @@ use Rattle.std.proofs.lemmas.Bool.{ltb-true}
 use Rattle.table_generations.specs.Generations.{GenerationView}
 use Rattle.table_core.specs.Calls.{decided, fits, stands_at_bucket, to, is_done, finds_entry, insert_start}
 use Rattle.table_core.specs.declared.call.Answer.{Answer}
-use Rattle.table_core.specs.declared.call.Answer.TheVariants.{Taken}
+use Rattle.table_core.specs.declared.call.Answer.TheVariants.{NoGeneration, Taken}
 use Rattle.table_core.specs.declared.call.CallState.{CallState}
 use Rattle.table_core.specs.declared.call.Outcome.{Outcome}
 use Rattle.table_core.specs.declared.call.Outcome.TheVariants.{Pending, New}
@@ -19,7 +19,7 @@ use Rattle.table_shared.specs.declared.insert.between.Carried.{Carried}
 use Rattle.table_shared.specs.declared.insert.between.Carried.TheVariants.{Gone, Value, Own, Met}
 use Rattle.table_shared.specs.declared.insert.between.Held.{Held}
 use Rattle.table_shared.specs.declared.insert.between.Held.TheVariants as lock
-use Rattle.table_shared.specs.Between.{IsBetween}
+use Rattle.table_shared.specs.Between.{IsBetween, Loads}
 use Rattle.table_shared.specs.Carried.{reach_of, value_in, own_in, lock_of, Wants}
 use Rattle.table_shared.specs.Growths.{GrowthView}
 use Rattle.table_shared.specs.Reads.{Takes}
@@ -316,6 +316,11 @@ module _ {A V X : Type 0} {home : ℕ} {target : V → X} {given : V} {s : CallS
     stems = b.stems;
     owns = b.owns;
   }
+
+  -- an insert that loads the current generation
+  pub loads : (w : Option (Bor (GenerationView A V))) (t : CallState) → s.phase ≡ Shared → Loads home s w t → IsBetween home target given t w growth carried held
+  loads None t at none = finds_none t at (taken Shared NoGeneration s t at none)
+  loads (Some g) t at into = starts t into.number g at (into.insert at) into.starting into.homes
 
   -- an insert that counts its value
   pub counts_value : (t : CallState) → s.phase ≡ Placed → t ≡ record s { phase = LeaveOk; outcome = New s.index } → IsBetween home target given t walked growth carried held

@@ -4,11 +4,13 @@ use Rattle.std.specs.Borrow.{Bor}
 use Rattle.std.specs.Fn.{Shared as SharedFn}
 use Rattle.std.specs.Option.{ForSome}
 use Rattle.table_generations.specs.Generations.{GenerationView}
-use Rattle.table_core.specs.Calls.{stands_at_bucket}
+use Rattle.table_core.specs.Calls.{decided, stands_at_bucket}
+use Rattle.table_core.specs.declared.call.Answer.TheVariants.{NoGeneration}
 use Rattle.table_core.specs.declared.call.CallState.{CallState}
 use Rattle.table_core.specs.declared.call.Outcome.TheVariants.{Pending}
-use Rattle.table_core.specs.declared.call.Phase.TheVariants.{Building, Done, LookProbe}
+use Rattle.table_core.specs.declared.call.Phase.TheVariants.{Building, Done, LookLoad, LookProbe, Probe, Shared}
 use Rattle.table_turns.specs.Phases.{Inserts, AtBucket, Hopes, Looks, Walks, lock_in, reached}
+use Rattle.table_turns.specs.Steps.{Starting}
 use Rattle.table_shared.specs.declared.insert.between.Asking.{Asking}
 use Rattle.table_shared.specs.declared.insert.between.Carried.{Carried}
 use Rattle.table_shared.specs.declared.insert.between.Carried.TheVariants.{Gone}
@@ -59,3 +61,16 @@ pub record IsLooking {A V : Type 0} (home : ℕ) (s : CallState) (walked : Optio
   pub walks : s.phase ≡ LookProbe → walked ≢ None
   pub counts : ForSome walked (λ g. length g.now.contents ≡ s.capacity)
   pub homes : ForSome walked (λ g. g.now.home ≡ home)
+
+-- a call that loads this generation of a table of this home starts its probe in it
+pub record StartsIn {A V : Type 0} (home : ℕ) (s : CallState) (g : GenerationView A V) (t : CallState) : Type 0 where
+  pub number : ℕ
+  pub starting : Starting s t number (length g.contents)
+  pub homes : g.home ≡ home
+  pub insert : s.phase ≡ Shared → t.phase ≡ Probe
+  pub look : s.phase ≡ LookLoad → t.phase ≡ LookProbe
+
+-- a call that loads the current generation starts in it, if there is one
+abbrev pub Loads : {A V : Type 0} → ℕ → CallState → Option (Bor (GenerationView A V)) → CallState → Type 0
+Loads home s None t = t ≡ decided s.phase s NoGeneration
+Loads home s (Some g) t = StartsIn home s g.now t

@@ -1,6 +1,9 @@
 //! The table that threads share.
-ghost use Rattle.std.specs.Prelude.{◌≡◌, ◌<◌, ◌↔◌, IfSome, IsTrue, [], ◌∷◌, length};
+ghost use Rattle.std.specs.Prelude.{◌≡◌, ◌<◌, ◌↔◌, ◌⊎◌, IfSome, IsTrue, [], ◌∷◌, length};
 ghost use Rattle.table_terms.specs.Capacities.{IsFirstCapacity};
+ghost use Rattle.table_core.specs.declared.call.Phase.TheVariants.{Shared, LookLoad};
+ghost use Rattle.table_turns.specs.Steps.{Went};
+ghost use Rattle.table_shared.specs.Between.{Loads};
 ghost use Rattle.table_shared.specs.Lineages.{AreOfHome, shown_in};
 
 use crate::lineage::Lineage;
@@ -10,9 +13,11 @@ use std::alloc::{Allocator, Global};
 use std::marker::Model;
 use std::sync::RwLock;
 use table_cell::Home;
+use table_core::{Answer, CallState};
 use table_generations::atomic_value::AtomicValue;
 use table_generations::fixed::Generation;
 use table_terms::capacity::FIRST_CAPACITY;
+use table_turns::{step, step_loaded};
 use table_values::IntoIter;
 
 /// An insertion-only set that threads share. A look-up takes no lock.
@@ -133,6 +138,22 @@ impl<T: AtomicValue, A: Allocator + Copy> LockFreeRawTable<T, A> {
             number: number as u64,
             generation,
         })
+    }
+
+    /// A call loads the current generation: what it walks then, where it stands, and what it found.
+    pub(crate) fn load(&self, state: CallState) -> (Option<&Generation<T, A>>, CallState, Answer)
+        requires phase { (state.phase ≡ Shared) ⊎ (state.phase ≡ LookLoad) }
+        ensures went { Went state result.1 result.2 }
+        ensures loads { Loads self.now.home state result.0 result.1 }
+    {
+        match self.current() {
+            None => (None, step(state, Answer::NoGeneration), Answer::NoGeneration),
+            Some(Current { number, generation }) => {
+                let capacity = generation.capacity() as u64;
+                let next = step_loaded(state, number, capacity);
+                (Some(generation), next, Answer::Loaded { number, capacity })
+            }
+        }
     }
 
     /// Whether at least half of the buckets of this generation are counted as set.

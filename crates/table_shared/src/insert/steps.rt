@@ -19,7 +19,7 @@ use std::sync::Wait;
 use table_cell::Low;
 use table_core::{Answer, CallState, Phase};
 use table_generations::atomic_value::AtomicValue;
-use table_turns::{passed, released, step, step_loaded, step_released};
+use table_turns::{passed, released, step, step_released};
 
 impl<'a, T: AtomicValue, A: Low + Copy, E, H> Inserting<'a, T, A, E, H>
 where
@@ -42,20 +42,10 @@ where
         ensures { Steps E.Fn self.old result self.new }
     {
         let table: &'a LockFreeRawTable<T, A> = self.table;
-        match table.current() {
-            None => {
-                self.walked = None;
-                self.state = step(self.state, Answer::NoGeneration);
-                Answer::NoGeneration
-            }
-            Some(current) => {
-                let number = current.number;
-                let capacity = current.generation.capacity() as u64;
-                self.walked = Some(current.generation);
-                self.state = step_loaded(self.state, number, capacity);
-                Answer::Loaded { number, capacity }
-            }
-        }
+        let (walked, state, answer) = table.load(self.state);
+        self.walked = walked;
+        self.state = state;
+        answer
     }
 
     /// An entry was passed.

@@ -17,7 +17,7 @@ use std::alloc::Allocator;
 use table_core::{Answer, CallState, Phase};
 use table_generations::atomic_value::AtomicValue;
 use table_generations::fixed::Generation;
-use table_turns::{passed, step, step_loaded};
+use table_turns::passed;
 
 /// A look-up between two steps: where it stands, and the generation that it walks.
 #[derive(Drop)]
@@ -50,20 +50,10 @@ impl<'a, T: AtomicValue, A: Allocator + Copy, F: Fn(&T::Target) -> bool> Looking
         ensures same { self.new.test ≡ self.old.test }
     {
         let table: &'a LockFreeRawTable<T, A> = self.table;
-        match table.current() {
-            None => {
-                self.walked = None;
-                self.state = step(self.state, Answer::NoGeneration);
-                Answer::NoGeneration
-            }
-            Some(current) => {
-                let number = current.number;
-                let capacity = current.generation.capacity() as u64;
-                self.walked = Some(current.generation);
-                self.state = step_loaded(self.state, number, capacity);
-                Answer::Loaded { number, capacity }
-            }
-        }
+        let (walked, state, answer) = table.load(self.state);
+        self.walked = walked;
+        self.state = state;
+        answer
     }
 
     /// The bucket is read. A target that the test accepted is handed out.
