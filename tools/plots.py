@@ -29,6 +29,8 @@ TABLES = {
     "shared-in-place": ("LockFreeRawTable, InPlace", "#1f77b4", "o-"),
     "shared": ("LockFreeRawTable, Box", "#1f77b4", "o--"),
     "shared-set": ("SharedSet, InPlace", "#9467bd", "s-"),
+    "growing": ("GrowingSet, InPlace", "#393b79", "<-"),
+    "growing-shards": ("ShardedGrowingSet, InPlace", "#393b79", "<:"),
     "dashmap": ("dashmap, Box", "#d62728", "x-"),
     "rwlock-HashSet": ("RwLock of a HashSet, Box", "#7f7f7f", "+-"),
     "std-HashSet": ("std HashSet, Box", "#bcbd22", "d-"),

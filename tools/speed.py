@@ -32,7 +32,8 @@ LARGE_ROUNDS = 2
 # The groups of each table in `all`: those that its program knows.
 GROUPS_OF_ALL = {name: ["one", "seq", *SIZES] for name in ("held", "held-in-place", "held-set", "std-HashSet")}
 GROUPS_OF_ALL |= {
-    name: ["one", "seq", *THREADED, *SIZES] for name in ("shared", "shared-in-place", "shared-set", "dashmap", "rwlock-HashSet")
+    name: ["one", "seq", *THREADED, *SIZES]
+    for name in ("shared", "shared-in-place", "shared-set", "growing", "growing-shards", "dashmap", "rwlock-HashSet")
 }
 GROUPS_OF_ALL |= {name: ["one", "seq", "same", "ins"] for name in ("model-direct", "tbb-unordered_set", "libcuckoo", "urcu-lfht-presized")}
 GROUPS_OF_ALL["sharded"] = ["one", "same", "hit"]

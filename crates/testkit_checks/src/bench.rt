@@ -7,6 +7,7 @@ use std::io;
 use std::rt::Clock;
 use std::sync::Wait;
 use std::thread::Threads;
+use testkit_measures::growing::{GrowingKeys, GrowingShards};
 use testkit_measures::held::{check_held, measure_held};
 use testkit_measures::numbers::NumberSet;
 use testkit_measures::report::{Report, refuse_words};
@@ -29,6 +30,10 @@ const SHARED_IN_PLACE: &str = "shared-in-place";
 
 const SHARED_SET: &str = "shared-set";
 
+const GROWING: &str = "growing";
+
+const GROWING_SHARDS: &str = "growing-shards";
+
 const SHARDED: &str = "sharded";
 
 const SEATS: &str = "seats";
@@ -45,6 +50,8 @@ pub fn check_all<R: Print + Threads + Wait + Sync + AllocGlobal>(rt: &R) -> io::
     check_shared::<SharedNumbers<Box<u64>>, R>(rt, SHARED)?;
     check_shared::<SharedNumbers<InPlace<u64>>, R>(rt, SHARED_IN_PLACE)?;
     check_shared::<SharedSetKeys<InPlace<u64>>, R>(rt, SHARED_SET)?;
+    check_shared::<GrowingKeys, R>(rt, GROWING)?;
+    check_shared::<GrowingShards, R>(rt, GROWING_SHARDS)?;
     check_sharded(rt)?;
     check_seats(rt)?;
     check_schedules(rt)?;
@@ -60,7 +67,7 @@ pub fn run_bench<R: Print + Eprint + Clock + Files + Threads + Wait + Sync + All
     match words {
         [] => check_all(rt),
         [word] if word.as_str() == "list" => println!(rt;
-            "{HELD}\n{HELD_IN_PLACE}\n{HELD_SET}\n{SHARED}\n{SHARED_IN_PLACE}\n{SHARED_SET}\n{SHARDED}\n{SEATS}\n{CORE}\n{INTERNER}"
+            "{HELD}\n{HELD_IN_PLACE}\n{HELD_SET}\n{SHARED}\n{SHARED_IN_PLACE}\n{SHARED_SET}\n{GROWING}\n{GROWING_SHARDS}\n{SHARDED}\n{SEATS}\n{CORE}\n{INTERNER}"
         ),
         [name, group] => measure(rt, name.as_str(), group.as_str()),
         [name, group, threads] => measure_threads(
@@ -107,6 +114,8 @@ fn measure_threads<R: Print + Eprint + Clock + Files + Threads + Wait + Sync + A
             rt, &report, group, threads,
         ),
         SHARED_SET => measure_shared::<SharedSetKeys<InPlace<u64>>, R>(rt, &report, group, threads),
+        GROWING => measure_shared::<GrowingKeys, R>(rt, &report, group, threads),
+        GROWING_SHARDS => measure_shared::<GrowingShards, R>(rt, &report, group, threads),
         _ => refuse_words(rt),
     }
 }

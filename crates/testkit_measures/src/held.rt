@@ -1,6 +1,6 @@
 //! Measurements of a set by one thread.
 
-use crate::numbers::{ABSENT, COUNT, KeySet, spread, turn};
+use crate::numbers::{ABSENT, COUNT, Empty, KeySet, spread, turn};
 use crate::report::Report;
 use crate::sizes::measure_sizes;
 use std::alloc::Global;
@@ -14,12 +14,12 @@ const PAGE: u64 = 4096;
 
 /// Runs a group of measurements of a set that one owner holds alone. A group that is not known is refused.
 pub fn measure_held<
-    S: KeySet<Means = Global> + Drop,
+    S: KeySet + Empty<Means = Global> + Drop,
     R: Print + Eprint + Clock + Files + AllocGlobal,
 >(rt: &R, report: &Report<'_>, group: &str) -> io::Result<()> {
     match group {
-        "one" => measure_one(rt, report, &mut S::empty(rt.alloc())),
-        "seq" => measure_seq(rt, report, &mut S::empty(rt.alloc())),
+        "one" => measure_one(rt, report, &mut S::empty(rt.alloc())?),
+        "seq" => measure_seq(rt, report, &mut S::empty(rt.alloc())?),
         _ => measure_sizes::<S, R>(rt, report, group, rt.alloc()),
     }
 }
@@ -33,7 +33,7 @@ pub(crate) fn measure_one<R: Print + Clock + Files + AllocGlobal, S: KeySet>(
     let before = resident_bytes(rt)?;
 
     let start = Instant::now(rt)?;
-    let placed = insert_spread(set, COUNT);
+    let placed = insert_spread(set, 0, COUNT);
     report.time(rt, "a_ins1", start, placed, COUNT, COUNT)?;
 
     let name = report.name;
@@ -42,11 +42,11 @@ pub(crate) fn measure_one<R: Print + Clock + Files + AllocGlobal, S: KeySet>(
     println!(rt; "{name} g_rss {bytes:.2}")?;
 
     let start = Instant::now(rt)?;
-    let hits = count_spread(set, 0);
+    let hits = count_spread(set, 0, 0);
     report.time(rt, "b_hit1", start, hits, COUNT, COUNT)?;
 
     let start = Instant::now(rt)?;
-    let found = count_spread(set, ABSENT);
+    let found = count_spread(set, 0, ABSENT);
     report.time(rt, "c_miss1", start, found, 0, COUNT)
 }
 
@@ -66,31 +66,33 @@ pub(crate) fn measure_seq<R: Print + Clock, S: KeySet>(
 }
 
 /// Each workload once on a set that one owner holds alone, counted and not timed.
-pub fn check_held<S: KeySet<Means = Global> + Drop, R: Print + AllocGlobal>(
+pub fn check_held<S: KeySet + Empty<Means = Global> + Drop, R: Print + AllocGlobal>(
     rt: &R,
     name: &str,
 ) -> io::Result<()> {
-    let (placed, hits, found) = count_once(&mut S::empty(rt.alloc()));
+    let (placed, hits, found) = count_once(&mut S::empty(rt.alloc())?);
     let misses = COUNT.saturating_sub(found);
     println!(rt; "{name} spread: {placed} placed, {hits} hits, {misses} misses")?;
 
-    let mut set = S::empty(rt.alloc());
+    let mut set = S::empty(rt.alloc())?;
     let placed = insert_in_order(&mut set);
-    let hits = count_in_order(&set);
+    let hits = count_in_order(&mut set);
     println!(rt; "{name} in order: {placed} placed, {hits} hits")
 }
 
 /// How many of the spread keys were placed in an empty set, how many of them are entries then, and how many absent ones.
 pub(crate) fn count_once<S: KeySet>(set: &mut S) -> (u64, u64, u64) {
-    let placed = insert_spread(set, COUNT);
-    (placed, count_spread(set, 0), count_spread(set, ABSENT))
+    let placed = insert_spread(set, 0, COUNT);
+    let hits = count_spread(set, 0, 0);
+    (placed, hits, count_spread(set, 0, ABSENT))
 }
 
-/// How many of so many spread keys were placed.
-pub(crate) fn insert_spread<S: KeySet>(set: &mut S, keys: u64) -> u64 {
+/// How many of so many spread keys, from this one on, were placed.
+pub(crate) fn insert_spread<S: KeySet>(set: &mut S, from: u64, count: u64) -> u64 {
     let mut placed = 0u64;
-    for index in 0..keys {
-        placed = placed.wrapping_add(u64::from(set.insert(spread(index))));
+    for index in 0..count {
+        let key = spread(from.wrapping_add(index));
+        placed = placed.wrapping_add(u64::from(set.insert(key)));
     }
     placed
 }
@@ -104,18 +106,18 @@ fn insert_in_order<S: KeySet>(set: &mut S) -> u64 {
     placed
 }
 
-/// How many of the spread keys, taken in another order and so much further on, are entries.
-fn count_spread<S: KeySet>(set: &S, further: u64) -> u64 {
+/// How many of the spread keys, so much further on and taken in another order from its turn `start` on, are entries.
+pub(crate) fn count_spread<S: KeySet>(set: &mut S, start: u64, further: u64) -> u64 {
     let mut found = 0u64;
     for index in 0..COUNT {
-        let key = spread(turn(index).wrapping_add(further));
+        let key = spread(turn(index.wrapping_add(start) % COUNT).wrapping_add(further));
         found = found.wrapping_add(u64::from(set.contains(key)));
     }
     found
 }
 
 /// How many of the keys 0, 1, 2, .., taken in another order, are entries.
-fn count_in_order<S: KeySet>(set: &S) -> u64 {
+fn count_in_order<S: KeySet>(set: &mut S) -> u64 {
     let mut found = 0u64;
     for index in 0..COUNT {
         found = found.wrapping_add(u64::from(set.contains(turn(index))));

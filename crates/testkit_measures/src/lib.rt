@@ -1,6 +1,7 @@
 //! What is measured: the tables, the interner and the machine of all schedules, each workload also counted without a clock.
 #![tactic(auto)]
 
+pub mod growing;
 pub mod held;
 pub mod numbers;
 pub mod report;

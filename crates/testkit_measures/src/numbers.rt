@@ -41,19 +41,22 @@ pub fn total(counts: &[u64]) -> u64 {
     counts.iter().fold(0, |sum, &count| sum.wrapping_add(count))
 }
 
-/// A set of numbers that one owner holds alone.
-pub trait KeySet {
+/// A set that begins empty.
+pub trait Empty {
     /// What a set is made with, and works with.
     type Means: Copy;
 
-    /// The empty set.
-    fn empty(means: Self::Means) -> Self;
+    /// The empty set. Err: memory was refused.
+    fn empty(means: Self::Means) -> Result<Self, AllocError>;
+}
 
+/// A set of numbers, as one thread works with it.
+pub trait KeySet {
     /// Whether the number was placed: it is new, and memory was there.
     fn insert(&mut self, number: u64) -> bool;
 
     /// Whether the number is an entry.
-    fn contains(&self, number: u64) -> bool;
+    fn contains(&mut self, number: u64) -> bool;
 }
 
 /// A number as a table keeps it.
@@ -99,23 +102,16 @@ pub struct Numbers<T> {
     pub(crate) alloc: Global,
 }
 
-impl<T: NumberTable> Numbers<T> {
-    /// The empty set.
-    pub(crate) fn new(alloc: Global) -> Self {
-        Numbers {
-            table: T::empty(alloc),
-            alloc,
-        }
+impl<T: NumberTable> Empty for Numbers<T> {
+    type Means = Global;
+
+    fn empty(alloc: Global) -> Result<Self, AllocError> {
+        let table = T::empty(alloc);
+        Ok(Numbers { table, alloc })
     }
 }
 
 impl<T: HeldTable> KeySet for Numbers<T> {
-    type Means = Global;
-
-    fn empty(alloc: Global) -> Self {
-        Numbers::new(alloc)
-    }
-
     fn insert(&mut self, number: u64) -> bool {
         match T::Value::of(self.alloc, number) {
             Ok(value) => self.table.place(number, value),
@@ -123,7 +119,7 @@ impl<T: HeldTable> KeySet for Numbers<T> {
         }
     }
 
-    fn contains(&self, number: u64) -> bool {
+    fn contains(&mut self, number: u64) -> bool {
         self.table.has(number)
     }
 }

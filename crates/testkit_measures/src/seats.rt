@@ -3,7 +3,7 @@ ghost use Rattle.std.specs.Prelude.{◌≡◌, ◌+◌, ◌*◌, ◌++◌, [], �
 ghost use Rattle.seated.specs.Tables.{IsSeatOf};
 ghost use Rattle.seated.specs.Numbers.{known_pairs, own_numbers, Knows};
 
-use crate::numbers::{ABSENT, COUNT, START, STRIDE, spread, total, turn};
+use crate::numbers::{ABSENT, COUNT, START, STRIDE, spread, total};
 use crate::report::{Report, refuse_words};
 use seated::{NumberAnswer, NumberTable, Seat};
 use std::alloc::{AllocError, Global};
@@ -52,10 +52,17 @@ pub fn measure_seats<R: Print + Eprint + Clock + Threads + Sync + AllocGlobal>(
     report: &Report<'_>,
     group: &str,
 ) -> io::Result<()> {
-    let (table, seat) = NumberTable::new(rt.alloc(), WORDS)?;
+    let (table, mut seat) = NumberTable::new(rt.alloc(), WORDS)?;
     match group {
         "one" => measure_one(rt, report, &table, seat),
-        "seq" => measure_seq(rt, report, &table, seat),
+        "seq" => time_keys(
+            rt,
+            report,
+            &table,
+            &mut seat,
+            ["seq_ins1", "seq_hit1"],
+            &|index: u64| index.wrapping_add(1),
+        ),
         "same" => measure_work(rt, report, &table, seat, Work::Same),
         "ins" => measure_work(rt, report, &table, seat, Work::Inserts),
         _ => refuse_words(rt),
@@ -71,43 +78,36 @@ fn measure_one<R: Print + Clock + Threads + Sync + AllocGlobal>(
 ) -> io::Result<()>
     requires { IsSeatOf table.now seat }
 {
-    let start = Instant::now(rt)?;
-    let placed = insert_keys(table, &mut seat, 0, COUNT, spread);
-    report.time(rt, "a_ins1", start, placed, COUNT, COUNT)?;
+    time_keys(rt, report, table, &mut seat, ["a_ins1", "b_hit1"], &spread)?;
 
     let start = Instant::now(rt)?;
-    let hits = count_spread(table, &mut seat, START, 0);
-    report.time(rt, "b_hit1", start, hits, COUNT, COUNT)?;
-
-    let start = Instant::now(rt)?;
-    let found = count_spread(table, &mut seat, START, ABSENT);
+    let found = count_keys(table, &mut seat, START, &absent);
     report.time(rt, "c_miss1", start, found, 0, COUNT)?;
 
     measure_work(rt, report, table, seat, Work::Hits)
 }
 
-/// The keys 1, 2, 3, .. in one thread.
-fn measure_seq<R: Print + Clock>(
+/// Inserts and hits of these keys in one thread, under these names.
+fn time_keys<R: Print + Clock, K: Fn(u64) -> u64>(
     rt: &R,
     report: &Report<'_>,
     table: &NumberTable<Global>,
-    mut seat: Seat,
+    seat: &mut Seat,
+    names: [&str; 2],
+    key_at: &K,
 ) -> io::Result<()>
-    requires { IsSeatOf table.now seat }
+    requires callable { K.IsAlwaysCallable key_at.now }
+    requires seat { IsSeatOf table.now seat.old }
+    ensures { IsSeatOf table.now seat.new }
 {
+    let [inserts, hits] = names;
     let start = Instant::now(rt)?;
-    let placed = insert_keys(
-        table,
-        &mut seat,
-        0,
-        COUNT,
-        |index: u64| index.wrapping_add(1),
-    );
-    report.time(rt, "seq_ins1", start, placed, COUNT, COUNT)?;
+    let placed = insert_keys(table, seat, 0, COUNT, key_at);
+    report.time(rt, inserts, start, placed, COUNT, COUNT)?;
 
     let start = Instant::now(rt)?;
-    let hits = count_in_order(table, &mut seat);
-    report.time(rt, "seq_hit1", start, hits, COUNT, COUNT)
+    let found = count_keys(table, seat, START, key_at);
+    report.time(rt, hits, start, found, COUNT, COUNT)
 }
 
 /// The time of the work of four threads.
@@ -142,17 +142,17 @@ fn count_part(table: &NumberTable<Global>, part: Part, work: Work) -> u64
     let from = worker * (COUNT / THREADS);
     match work {
         Work::Same => insert_same(table, &mut seat),
-        Work::Inserts => insert_keys(table, &mut seat, from, COUNT / THREADS, spread),
-        Work::Hits => count_spread(table, &mut seat, START + from * STRIDE, 0),
+        Work::Inserts => insert_keys(table, &mut seat, from, COUNT / THREADS, &spread),
+        Work::Hits => count_keys(table, &mut seat, START + from * STRIDE, &spread),
     }
 }
 
 /// Each workload once, counted and not timed.
 pub fn check_seats<R: Print + Threads + Sync + AllocGlobal>(rt: &R) -> io::Result<()> {
     let (table, mut seat) = NumberTable::new(rt.alloc(), WORDS)?;
-    let placed = insert_keys(&table, &mut seat, 0, COUNT, spread);
-    let hits = count_spread(&table, &mut seat, START, 0);
-    let found = count_spread(&table, &mut seat, START, ABSENT);
+    let placed = insert_keys(&table, &mut seat, 0, COUNT, &spread);
+    let hits = count_keys(&table, &mut seat, START, &spread);
+    let found = count_keys(&table, &mut seat, START, &absent);
     println!(rt; "seats spread: {placed} placed, {hits} hits, {found} of the absent found")
 }
 
@@ -191,9 +191,9 @@ fn insert_keys<K: Fn(u64) -> u64>(
     seat: &mut Seat,
     from: u64,
     count: u64,
-    key_at: K,
+    key_at: &K,
 ) -> u64
-    requires callable { K.IsAlwaysCallable key_at }
+    requires callable { K.IsAlwaysCallable key_at.now }
     requires fits { from + count ≤ COUNT }
     requires seat { IsSeatOf table.now seat.old }
     ensures seat { IsSeatOf table.now seat.new }
@@ -217,33 +217,30 @@ fn insert_same(table: &NumberTable<Global>, seat: &mut Seat) -> u64
 {
     let mut placed = 0u64;
     for _round in 0..ROUNDS {
-        placed += insert_keys(table, seat, 0, SAME, spread);
+        placed += insert_keys(table, seat, 0, SAME, &spread);
     }
     placed
 }
 
-/// How many of the spread keys, from so much further on, are found in an order that begins at `start`.
-fn count_spread(table: &NumberTable<Global>, seat: &mut Seat, start: u64, further: u64) -> u64
-    requires { IsSeatOf table.now seat.old }
-    ensures { IsSeatOf table.now seat.new }
-{
-    let mut found = 0u64;
-    for index in 0..COUNT {
-        let turn = (index * STRIDE).wrapping_add(start) % COUNT;
-        let key = spread(turn.wrapping_add(further));
-        found = found.wrapping_add(u64::from(contains_key(table, seat, key)));
-    }
-    found
+/// A key that was not inserted, of this index.
+fn absent(index: u64) -> u64 {
+    spread(index.wrapping_add(ABSENT))
 }
 
-/// How many of the keys 1, 2, 3, .. are found, in another order.
-fn count_in_order(table: &NumberTable<Global>, seat: &mut Seat) -> u64
-    requires { IsSeatOf table.now seat.old }
+/// How many of these keys are found in an order that begins at `start`.
+fn count_keys<K: Fn(u64) -> u64>(
+    table: &NumberTable<Global>,
+    seat: &mut Seat,
+    start: u64,
+    key_at: &K,
+) -> u64
+    requires callable { K.IsAlwaysCallable key_at.now }
+    requires seat { IsSeatOf table.now seat.old }
     ensures { IsSeatOf table.now seat.new }
 {
     let mut found = 0u64;
     for index in 0..COUNT {
-        let key = turn(index) + 1;
+        let key = key_at((index * STRIDE).wrapping_add(start) % COUNT);
         found = found.wrapping_add(u64::from(contains_key(table, seat, key)));
     }
     found

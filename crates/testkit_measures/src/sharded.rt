@@ -1,9 +1,9 @@
 //! Measurements of tables over sixteen shards: one that is held alone, and one that threads share.
 
-use crate::held::{count_once, measure_one};
-use crate::numbers::{COUNT, HeldTable, NumberTable, Numbers, hash_of, is_same};
+use crate::held::{count_once, insert_spread, measure_one};
+use crate::numbers::{COUNT, Empty, HeldTable, NumberTable, Numbers, hash_of, is_same};
 use crate::report::{Report, refuse_words};
-use crate::shared::{MOST, SharedTable, Work, count_work, insert_spread, measure_work};
+use crate::shared::{ByThread, MOST, SharedTable, Work, count_work, measure_work};
 use lock_free_hashtable::sharded::{HeldShardedTable, ShardedLockFreeRawTable};
 use std::alloc::Global;
 use std::io;
@@ -13,7 +13,7 @@ use std::thread::Threads;
 use table_terms::law::{NumberLaw, hash_number};
 
 /// How many shards there are.
-const SHARDS: usize = 16;
+pub(crate) const SHARDS: usize = 16;
 
 /// The boxed numbers in a table over shards that one owner holds alone.
 type ShardSet = Numbers<HeldShardedTable<Box<u64>, SHARDS>>;
@@ -73,7 +73,7 @@ pub fn measure_sharded<R: Print + Eprint + Clock + Files + Threads + Wait + Sync
     group: &str,
 ) -> io::Result<()> {
     match group {
-        "one" => measure_one(rt, report, &mut ShardSet::new(rt.alloc())),
+        "one" => measure_one(rt, report, &mut ShardSet::empty(rt.alloc())?),
         "same" => measure_work::<R, SharedShards>(rt, report, Work::Same, None),
         "hit" => measure_work::<R, SharedShards>(rt, report, Work::Hits, None),
         _ => refuse_words(rt),
@@ -82,12 +82,12 @@ pub fn measure_sharded<R: Print + Eprint + Clock + Files + Threads + Wait + Sync
 
 /// Spread keys once, counted and not timed.
 pub fn check_sharded<R: Print + Threads + Wait + Sync + AllocGlobal>(rt: &R) -> io::Result<()> {
-    let (placed, hits, found) = count_once(&mut ShardSet::new(rt.alloc()));
+    let (placed, hits, found) = count_once(&mut ShardSet::empty(rt.alloc())?);
     let misses = COUNT.saturating_sub(found);
     println!(rt; "sharded spread: {placed} placed, {hits} hits, {misses} misses")?;
 
-    let set = SharedShards::new(rt.alloc());
-    let placed = insert_spread(rt, &set, 0, COUNT);
+    let set = SharedShards::empty(rt.alloc())?;
+    let placed = insert_spread(&mut ByThread::new(rt, &set), 0, COUNT);
     let hits = count_work(rt, rt.alloc(), &set, Work::Hits, MOST)?;
     println!(rt; "sharded by four: {placed} placed, {hits} hits")
 }

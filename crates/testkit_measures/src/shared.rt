@@ -1,12 +1,13 @@
 //! Measurements of the table that threads share, with one thread to four.
 
-use crate::held::{count_once, measure_one, measure_seq};
+use crate::held::{count_once, count_spread, insert_spread, measure_one, measure_seq};
 use crate::numbers::{
-    COUNT, KeySet, NumberTable, NumberValue, Numbers, hash_of, is_same, spread, total, turn,
+    COUNT, Empty, KeySet, NumberTable, NumberValue, Numbers, hash_of, is_same, total,
 };
 use crate::report::{Report, refuse_words};
 use crate::sizes::measure_sizes;
 use std::alloc::{AllocError, Global};
+use std::marker::Model;
 use std::rt::{Clock, Files};
 use std::sync::Wait;
 use std::thread::Threads;
@@ -61,16 +62,46 @@ fn part_for(threads: u64) -> u64 {
     COUNT.checked_div(threads).unwrap_or(COUNT)
 }
 
-/// A set of numbers that threads share.
+/// A set of numbers that threads share, each by what it knows of it.
 pub trait SharedKeys {
-    /// The empty set.
-    fn empty(alloc: Global) -> Self;
+    /// What a thread knows of a set.
+    type Known: Drop + Send;
+
+    /// Of which set it is.
+    ghost is_of: { Self.Known → Self → Type 0 };
+
+    /// What a thread knows of the set before its first call.
+    fn known(&self) -> Self::Known
+        ensures { is_of result self.now };
 
     /// Whether the number was placed: it is new, and memory was there.
-    fn insert<R: Wait>(&self, rt: &R, number: u64) -> bool;
+    fn insert<R: Wait>(&self, rt: &R, known: &mut Self::Known, number: u64) -> bool
+        requires { is_of known.old self.now }
+        ensures { is_of known.new self.now };
 
     /// Whether the number is an entry.
-    fn contains(&self, number: u64) -> bool;
+    fn contains(&self, known: &mut Self::Known, number: u64) -> bool
+        requires { is_of known.old self.now }
+        ensures { is_of known.new self.now };
+}
+
+/// A `&` of a set that threads share, of which each thread has one.
+impl<'a, S: SharedKeys> SharedKeys for &'a S {
+    type Known = S::Known;
+
+    ghost is_of = { λ known set. S.is_of known set.now };
+
+    fn known(&self) -> S::Known {
+        S::known(*self)
+    }
+
+    fn insert<R: Wait>(&self, rt: &R, known: &mut S::Known, number: u64) -> bool {
+        S::insert(*self, rt, known, number)
+    }
+
+    fn contains(&self, known: &mut S::Known, number: u64) -> bool {
+        S::contains(*self, known, number)
+    }
 }
 
 /// A table of numbers that threads share.
@@ -79,16 +110,19 @@ pub trait SharedTable: NumberTable {
     fn place<R: Wait>(&self, rt: &R, number: u64, value: Self::Value) -> bool;
 }
 
+/// Of such a table a thread need know nothing.
 impl<T: SharedTable> SharedKeys for Numbers<T> {
-    fn empty(alloc: Global) -> Self {
-        Numbers::new(alloc)
-    }
+    type Known = ();
 
-    fn insert<R: Wait>(&self, rt: &R, number: u64) -> bool {
+    ghost is_of = { λ known set. Unit {0} };
+
+    fn known(&self) {}
+
+    fn insert<R: Wait>(&self, rt: &R, _known: &mut (), number: u64) -> bool {
         T::Value::of(self.alloc, number).is_ok_and(|value| self.table.place(rt, number, value))
     }
 
-    fn contains(&self, number: u64) -> bool {
+    fn contains(&self, _known: &mut (), number: u64) -> bool {
         self.table.has(number)
     }
 }
@@ -116,49 +150,67 @@ impl<V: NumberValue + Send + Sync> SharedTable for LockFreeRawTable<V> {
     }
 }
 
-/// A set that threads may share, held by one of them.
+/// A set that threads share, or a `&` of it, as one of them works with it.
 #[derive(Drop)]
-struct ByOneThread<'a, S: SharedKeys, R> {
+pub(crate) struct ByThread<'a, S: SharedKeys, R> {
     set: S,
+    known: S::Known,
     rt: &'a R,
 }
 
-impl<'a, S: SharedKeys, R: Wait + AllocGlobal> KeySet for ByOneThread<'a, S, R> {
+impl<'a, S: SharedKeys, R> Model for ByThread<'a, S, R> {
+    ghost Value = { S };
+
+    ghost view = { λ b. b.set };
+
+    ghost invariant = { λ b. S.is_of b.known b.set };
+}
+
+impl<'a, S: SharedKeys, R> ByThread<'a, S, R> {
+    /// Before the first call.
+    pub(crate) fn new(rt: &'a R, set: S) -> Self {
+        let known = set.known();
+        ByThread { set, known, rt }
+    }
+}
+
+impl<'a, S: SharedKeys + Empty<Means = Global>, R: AllocGlobal> Empty for ByThread<'a, S, R> {
     type Means = &'a R;
 
-    fn empty(rt: &'a R) -> Self {
-        ByOneThread {
-            set: S::empty(rt.alloc()),
-            rt,
-        }
+    fn empty(rt: &'a R) -> Result<Self, AllocError> {
+        let set = S::empty(rt.alloc())?;
+        let known = set.known();
+        Ok(ByThread { set, known, rt })
     }
+}
 
+impl<'a, S: SharedKeys, R: Wait> KeySet for ByThread<'a, S, R> {
     fn insert(&mut self, number: u64) -> bool {
-        self.set.insert(self.rt, number)
+        self.set.insert(self.rt, &mut self.known, number)
     }
 
-    fn contains(&self, number: u64) -> bool {
-        self.set.contains(number)
+    fn contains(&mut self, number: u64) -> bool {
+        self.set.contains(&mut self.known, number)
     }
 }
 
 /// Runs a group of measurements of a set that threads share: those of several threads with so many, or with one to four in
 /// turn. A group that is not known is refused, and so is another number of threads, or any with a group of one thread.
 pub fn measure_shared<
-    S: SharedKeys + Sync + Drop,
+    S: SharedKeys + Empty<Means = Global> + Sync + Drop,
     R: Print + Eprint + Clock + Files + Threads + Wait + Sync + AllocGlobal,
 >(rt: &R, report: &Report<'_>, group: &str, threads: Option<&str>) -> io::Result<()> {
     match (group, threads) {
         ("one", None) => {
-            let mut keys = ByOneThread::<'_, S, R>::empty(rt);
-            measure_one(rt, report, &mut keys)?;
-            time_work(rt, report, &keys.set, Work::Hits, MOST)
+            let set = S::empty(rt.alloc())?;
+            measure_one(rt, report, &mut ByThread::new(rt, &set))?;
+            time_work(rt, report, &set, Work::Hits, MOST)
         }
-        ("seq", None) => measure_seq(rt, report, &mut ByOneThread::<'_, S, R>::empty(rt)),
+        ("seq", None) => measure_seq(rt, report, &mut ByThread::<'_, S, R>::empty(rt)?),
         ("same", _) => measure_work::<R, S>(rt, report, Work::Same, threads),
         ("ins", _) => measure_work::<R, S>(rt, report, Work::Inserts, threads),
         ("hit", _) => measure_work::<R, S>(rt, report, Work::Hits, threads),
-        (_, None) => measure_sizes::<ByOneThread<'_, S, R>, R>(rt, report, group, rt),
+        (_, None) => measure_sizes::<ByThread<'_, S, R>, R>(rt, report, group, rt),
         _ => refuse_words(rt),
     }
 }
@@ -166,7 +218,7 @@ pub fn measure_shared<
 /// The work with so many threads, or with one to four in turn, each time in a new set.
 pub(crate) fn measure_work<
     R: Print + Eprint + Clock + Threads + Wait + Sync + AllocGlobal,
-    S: SharedKeys + Sync + Drop,
+    S: SharedKeys + Empty<Means = Global> + Sync + Drop,
 >(rt: &R, report: &Report<'_>, work: Work, threads: Option<&str>) -> io::Result<()> {
     let Some(word) = threads else {
         for threads in 1..=MOST {
@@ -185,11 +237,11 @@ pub(crate) fn measure_work<
 /// The work with so many threads, in a new set.
 fn measure_team<
     R: Print + Clock + Threads + Wait + Sync + AllocGlobal,
-    S: SharedKeys + Sync + Drop,
+    S: SharedKeys + Empty<Means = Global> + Sync + Drop,
 >(rt: &R, report: &Report<'_>, work: Work, threads: u64) -> io::Result<()> {
-    let set = S::empty(rt.alloc());
+    let set = S::empty(rt.alloc())?;
     if let Work::Hits = work {
-        insert_spread(rt, &set, 0, COUNT);
+        let _ = insert_spread(&mut ByThread::new(rt, &set), 0, COUNT);
     }
     time_work(rt, report, &set, work, threads)
 }
@@ -230,54 +282,35 @@ pub(crate) fn count_work<R: Threads + Wait + Sync, S: SharedKeys + Sync>(
 
 /// How many keys one thread places or finds, whose part begins here.
 fn count_part<R: Wait, S: SharedKeys>(rt: &R, set: &S, work: Work, part: u64, from: u64) -> u64 {
+    let mut keys = ByThread::new(rt, set);
     match work {
-        Work::Same => insert_same(rt, set),
-        Work::Inserts => insert_spread(rt, set, from, part),
-        Work::Hits => count_spread(set, from),
+        Work::Same => insert_same(&mut keys),
+        Work::Inserts => insert_spread(&mut keys, from, part),
+        Work::Hits => count_spread(&mut keys, from, 0),
     }
 }
 
 /// Each workload once on a set that threads share, counted and not timed.
-pub fn check_shared<S: SharedKeys + Sync + Drop, R: Print + Threads + Wait + Sync + AllocGlobal>(
-    rt: &R,
-    name: &str,
-) -> io::Result<()> {
-    let mut keys = ByOneThread::<'_, S, R>::empty(rt);
-    let (placed, hits, found) = count_once(&mut keys);
+pub fn check_shared<
+    S: SharedKeys + Empty<Means = Global> + Sync + Drop,
+    R: Print + Threads + Wait + Sync + AllocGlobal,
+>(rt: &R, name: &str) -> io::Result<()> {
+    let set = S::empty(rt.alloc())?;
+    let (placed, hits, found) = count_once(&mut ByThread::new(rt, &set));
     println!(rt; "{name} spread: {placed} placed, {hits} hits, {found} of the absent found")?;
 
-    let hits = count_work(rt, rt.alloc(), &keys.set, Work::Hits, MOST)?;
+    let hits = count_work(rt, rt.alloc(), &set, Work::Hits, MOST)?;
     println!(rt; "{name} by four: {hits} hits")?;
 
-    let placed = count_work(rt, rt.alloc(), &S::empty(rt.alloc()), Work::Same, MOST)?;
+    let placed = count_work(rt, rt.alloc(), &S::empty(rt.alloc())?, Work::Same, MOST)?;
     println!(rt; "{name} by four: {placed} placed")
 }
 
-/// How many of so many spread keys, from this one on, were placed.
-pub(crate) fn insert_spread<R: Wait, S: SharedKeys>(rt: &R, set: &S, from: u64, count: u64) -> u64 {
-    let mut placed = 0u64;
-    for index in 0..count {
-        let key = spread(from.wrapping_add(index));
-        placed = placed.wrapping_add(u64::from(set.insert(rt, key)));
-    }
-    placed
-}
-
 /// How many of the same keys were placed, in all rounds.
-fn insert_same<R: Wait, S: SharedKeys>(rt: &R, set: &S) -> u64 {
+fn insert_same<S: KeySet>(set: &mut S) -> u64 {
     let mut placed = 0u64;
     for _round in 0..ROUNDS {
-        placed = placed.wrapping_add(insert_spread(rt, set, 0, SAME));
+        placed = placed.wrapping_add(insert_spread(set, 0, SAME));
     }
     placed
-}
-
-/// How many of the spread keys, taken in another order from its turn `start` on, are entries.
-fn count_spread<S: SharedKeys>(set: &S, start: u64) -> u64 {
-    let mut found = 0u64;
-    for index in 0..COUNT {
-        let key = spread(turn(index.wrapping_add(start) % COUNT));
-        found = found.wrapping_add(u64::from(set.contains(key)));
-    }
-    found
 }

@@ -1,8 +1,9 @@
 //! Measurements of a set by one thread with fewer keys than a million, and with more.
 
 use crate::held::insert_spread;
-use crate::numbers::{ABSENT, KeySet, START, STRIDE, spread};
+use crate::numbers::{ABSENT, Empty, KeySet, START, STRIDE, spread};
 use crate::report::{Report, refuse_words};
+use std::alloc::AllocError;
 use std::io;
 use std::rt::Clock;
 use std::time::Instant;
@@ -17,7 +18,7 @@ const SIZE_1E5: Size = (100_000, 10, ["ins_1e5", "hit_1e5", "miss_1e5"]);
 const SIZE_1E7: Size = (10_000_000, 1, ["ins_1e7", "hit_1e7", "miss_1e7"]);
 
 /// Runs a group of measurements: so many keys. A group that is not known is refused.
-pub(crate) fn measure_sizes<S: KeySet + Drop, R: Print + Eprint + Clock>(
+pub(crate) fn measure_sizes<S: KeySet + Empty + Drop, R: Print + Eprint + Clock>(
     rt: &R,
     report: &Report<'_>,
     group: &str,
@@ -33,7 +34,7 @@ pub(crate) fn measure_sizes<S: KeySet + Drop, R: Print + Eprint + Clock>(
 
 /// Spread keys, so many a table: inserts into so many tables, each of which is dropped, then hits and misses of one table, over
 /// all its keys as often.
-fn measure_size<S: KeySet + Drop, R: Print + Clock>(
+fn measure_size<S: KeySet + Empty + Drop, R: Print + Clock>(
     rt: &R,
     report: &Report<'_>,
     size: &Size,
@@ -43,33 +44,37 @@ fn measure_size<S: KeySet + Drop, R: Print + Clock>(
     let operations = keys.wrapping_mul(rounds);
 
     let start = Instant::now(rt)?;
-    let placed = fill_tables::<S>(means, keys, rounds);
+    let placed = fill_tables::<S>(means, keys, rounds)?;
     report.time(rt, inserts, start, placed, operations, operations)?;
 
-    let mut set = S::empty(means);
-    let _ = insert_spread(&mut set, keys);
+    let mut set = S::empty(means)?;
+    let _ = insert_spread(&mut set, 0, keys);
 
     let start = Instant::now(rt)?;
-    let found = look_rounds(&set, keys, rounds, 0);
+    let found = look_rounds(&mut set, keys, rounds, 0);
     report.time(rt, hits, start, found, operations, operations)?;
 
     let start = Instant::now(rt)?;
-    let found = look_rounds(&set, keys, rounds, ABSENT);
+    let found = look_rounds(&mut set, keys, rounds, ABSENT);
     report.time(rt, misses, start, found, 0, operations)
 }
 
 /// How many keys were placed, of so many in each of so many tables, which are made and dropped one after the other.
-fn fill_tables<S: KeySet + Drop>(means: S::Means, keys: u64, rounds: u64) -> u64 {
+fn fill_tables<S: KeySet + Empty + Drop>(
+    means: S::Means,
+    keys: u64,
+    rounds: u64,
+) -> Result<u64, AllocError> {
     let mut placed: u64 = 0;
     for _round in 0..rounds {
-        let mut set = S::empty(means);
-        placed = placed.wrapping_add(insert_spread(&mut set, keys));
+        let mut set = S::empty(means)?;
+        placed = placed.wrapping_add(insert_spread(&mut set, 0, keys));
     }
-    placed
+    Ok(placed)
 }
 
 /// How many look-ups of keys so much further on found an entry, in so many rounds over as many keys.
-fn look_rounds<S: KeySet>(set: &S, keys: u64, rounds: u64, further: u64) -> u64 {
+fn look_rounds<S: KeySet>(set: &mut S, keys: u64, rounds: u64, further: u64) -> u64 {
     let mut found: u64 = 0;
     for _round in 0..rounds {
         found = found.wrapping_add(look_all(set, keys, further));
@@ -78,7 +83,7 @@ fn look_rounds<S: KeySet>(set: &S, keys: u64, rounds: u64, further: u64) -> u64 
 }
 
 /// How many look-ups of keys so much further on found an entry. They come in an order that jumps.
-fn look_all<S: KeySet>(set: &S, keys: u64, further: u64) -> u64 {
+fn look_all<S: KeySet>(set: &mut S, keys: u64, further: u64) -> u64 {
     let mut found: u64 = 0;
     for index in 0..keys {
         let at = index.wrapping_mul(STRIDE).wrapping_add(START) % keys;

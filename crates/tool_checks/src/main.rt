@@ -9,6 +9,8 @@
 //!     tool_checks bench shared GROUP                  the table that threads share, by one thread: as the table held alone
 //!     tool_checks bench shared GROUP [THREADS]        by that many threads, of four at most, or by one to four in turn: same,
 //!                                                     ins or hit
+//!     tool_checks bench growing GROUP [THREADS]       the set that grows, and growing-shards it over sixteen shards: as the table
+//!                                                     that threads share
 //!     tool_checks bench sharded GROUP                 tables over sixteen shards: one, held alone; same or hit, shared by one
 //!                                                     to four threads in turn
 //!     tool_checks bench seats GROUP                   the number table of seated threads: one, seq, same or ins
