@@ -34,14 +34,6 @@ const GROWING: &str = "growing";
 
 const GROWING_SHARDS: &str = "growing-shards";
 
-const SHARDED: &str = "sharded";
-
-const SEATS: &str = "seats";
-
-const CORE: &str = "core";
-
-const INTERNER: &str = "interner";
-
 /// Each workload once, counted and not timed.
 pub fn check_all<R: Print + Threads + Wait + Sync + AllocGlobal>(rt: &R) -> io::Result<()> {
     check_held::<NumberSet<Box<u64>>, R>(rt, HELD)?;
@@ -67,7 +59,8 @@ pub fn run_bench<R: Print + Eprint + Clock + Files + Threads + Wait + Sync + All
     match words {
         [] => check_all(rt),
         [word] if word.as_str() == "list" => println!(rt;
-            "{HELD}\n{HELD_IN_PLACE}\n{HELD_SET}\n{SHARED}\n{SHARED_IN_PLACE}\n{SHARED_SET}\n{GROWING}\n{GROWING_SHARDS}\n{SHARDED}\n{SEATS}\n{CORE}\n{INTERNER}"
+            "{HELD}\n{HELD_IN_PLACE}\n{HELD_SET}\n{SHARED}\n{SHARED_IN_PLACE}\n{SHARED_SET}\n\
+            {GROWING}\n{GROWING_SHARDS}\nsharded\nseats\ncore\ninterner"
         ),
         [name, group] => measure(rt, name.as_str(), group.as_str()),
         [name, group, threads] => measure_threads(
@@ -91,10 +84,10 @@ fn measure<R: Print + Eprint + Clock + Files + Threads + Wait + Sync + AllocGlob
         HELD => measure_held::<NumberSet<Box<u64>>, R>(rt, &report, group),
         HELD_IN_PLACE => measure_held::<NumberSet<InPlace<u64>>, R>(rt, &report, group),
         HELD_SET => measure_held::<HeldSetKeys<InPlace<u64>>, R>(rt, &report, group),
-        SHARDED => measure_sharded(rt, &report, group),
-        SEATS => measure_seats(rt, &report, group),
-        CORE => measure_schedules(rt, &report, group),
-        INTERNER => measure_interner(rt, &report, group),
+        "sharded" => measure_sharded(rt, &report, group),
+        "seats" => measure_seats(rt, &report, group),
+        "core" => measure_schedules(rt, &report, group),
+        "interner" => measure_interner(rt, &report, group),
         _ => measure_threads(rt, name, group, None),
     }
 }
