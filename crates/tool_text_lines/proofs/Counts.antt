@@ -104,10 +104,6 @@ more_counted before done different counts word read same is =
     let all : (before ++ done) ++ read ∷ [] ≡ before ++ (done ++ word ∷ []) = append_assoc before done (read ∷ []) ∙ ap (λ w. before ++ (done ++ w ∷ [])) same in
     rw all at is
 
--- words more behind those of a text
-pub more_counts : (before done more different : List (List ℕ)) (counts : List ℕ) → Counts ((before ++ done) ++ more) different counts → Counts (before ++ (done ++ more)) different counts
-more_counts before done more different counts is = rw append_assoc at is
-
 -- what is written of the words that these counts are of
 pub lines_of_counts : (words different : List (List ℕ)) (counts : List ℕ) → Counts words different counts → word_lines 1 different counts ≡ counted words
 lines_of_counts words different counts is = rw (is.in_order, is.counted) refl

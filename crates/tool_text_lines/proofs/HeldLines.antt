@@ -1,5 +1,5 @@
 -- What the table's clauses say of the lines that it holds.
-use Rattle.std.proofs.Common.{append_assoc, ◌≡◌, ℕ, ◌++◌, Bool, true, false, List, [], ◌∷◌, Option, Some, None, Ok, map, refl, sym, ◌∙◌, ap}
+use Rattle.std.proofs.Common.{◌≡◌, ℕ, ◌++◌, Bool, true, false, List, [], ◌∷◌, Option, Some, None, Ok, map, refl, sym, ◌∙◌, ap}
 use Rattle.std.specs.Prelude.{Contains, ◌↔◌, IsTrue, is_some}
 use Rattle.std.specs.Str.{bytes_eq}
 use Rattle.std.proofs.lemmas.Bool.{false≢true}
@@ -15,7 +15,8 @@ use Rattle.tool_text_lines.specs.Hashes.{same_by_bytes, hash_by_bytes}
 use Rattle.std.specs.Io.KnownBytes.{Appends}
 use Rattle.std.proofs.KnownBytes.{Appends-trans}
 use Rattle.tool_text_lines.specs.Firsts.{firsts, deduped, with_break}
-use Rattle.tool_text_lines.specs.Seen.{IsLineTable, HoldsLines, SeesLine, RefusesLine, TakesLine}
+use Rattle.tool_text_lines.specs.Seen.{IsLineTable, HoldsLines, SeesLine, RefusesLine}
+use Rattle.tool_text_lines.specs.Taken.{TakesLines}
 use Rattle.tool_text_lines.proofs.Firsts.{firsts_known, firsts_new, Contains_from_firsts, Contains_in_firsts, deduped_known, deduped_new}
 
 module _ {T V : Type 0} (target : T → V) (bytes : V → List ℕ) where
@@ -122,18 +123,13 @@ module _ {T V : Type 0} (target : T → V) (bytes : V → List ℕ) where
       → ((lines : List (List ℕ)) → HoldsLines target bytes old lines → HoldsLines target bytes new lines) → RefusesLine target bytes old x new
   refuses_new old new x unknown stay lines held = (λ known. false≢true ((unknown lines held).1 known), stay lines held)
 
-  pub takes_known : (old new : HeldTable T) (x : List ℕ) (before : Option (List ℕ)) → SeesLine target bytes old x true new → TakesLine target bytes old x new before before
+  pub takes_known : (old new : HeldTable T) (x : List ℕ) (before : Option (List ℕ)) → SeesLine target bytes old x true new → TakesLines (HoldsLines target bytes) deduped old (x ∷ []) new before before
   takes_known old new x before sees lines start held wrote =
       let told = sees lines held in
       (told.1, (let same = deduped_known lines x (told.0.0 refl) in rw same wrote))
 
-  pub takes_new : (old new : HeldTable T) (x : List ℕ) (before after : Option (List ℕ)) → SeesLine target bytes old x false new → Appends before after (with_break x) → TakesLine target bytes old x new before after
+  pub takes_new : (old new : HeldTable T) (x : List ℕ) (before after : Option (List ℕ)) → SeesLine target bytes old x false new → Appends before after (with_break x) → TakesLines (HoldsLines target bytes) deduped old (x ∷ []) new before after
   takes_new old new x before after sees more lines start held wrote =
       let told = sees lines held in
       let none : ¬ Contains lines x = λ known. false≢true (told.0.1 known) in
       (told.1, (let longer = deduped_new lines x none in rw longer (Appends-trans start before after (deduped lines) (with_break x) wrote more)))
-
-  -- the lines of a text are taken one after another
-  pub takes_more : (t : HeldTable T) (lines done more : List (List ℕ)) (start now : Option (List ℕ))
-      → HoldsLines target bytes t ((lines ++ done) ++ more) × Appends start now (deduped ((lines ++ done) ++ more)) → HoldsLines target bytes t (lines ++ (done ++ more)) × Appends start now (deduped (lines ++ (done ++ more)))
-  takes_more t lines done more start now is = rw append_assoc at is

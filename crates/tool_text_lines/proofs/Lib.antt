@@ -4,3 +4,4 @@ pub mod Counts
 pub mod HeldLines
 pub mod Written
 pub mod ReadTexts
+pub mod Taken

@@ -2,13 +2,14 @@
 use Rattle.std.proofs.Common.{◌≡◌, ℕ, suc, ◌<◌, ◌++◌, Bool, true, false, List, [], ◌∷◌, Option, Some, None, length, refl, sym, ap, ◌∙◌, arith, append_assoc, append-nil, get_or, inl, inr}
 use Rattle.std.specs.Prelude.{IfSome}
 use Rattle.std.specs.Io.KnownBytes.{Keeps}
-use Rattle.std.proofs.lemmas.Bool.{false≢true}
+use Rattle.std.proofs.lemmas.Bool.{false≢true, eqb-true}
+use Rattle.std.proofs.lemmas.Grind.{flat_map-append}
 use Rattle.std.proofs.lemmas.List.{nil_from_length}
-use Rattle.std.specs.List.{filter}
+use Rattle.std.specs.List.{filter, flat_map}
 use Rattle.std.specs.Char.{is_ascii_whitespace}
 use Rattle.std.proofs.lemmas.List.Elements.{filter-append}
 use Rattle.tool_streams.specs.Lines.{is_break, AllAnswer, CutsLine, ReadsLine}
-use Rattle.tool_text_lines.specs.Pieces.{parts_between, is_filled, words_of, without_empty_last, lines_of, BeginsBlank, HasReadLines, HasReadWords}
+use Rattle.tool_text_lines.specs.Pieces.{parts_between, is_filled, words_of, without_empty_last, lines_of, BeginsBlank, HasReadLines}
 
 -- what every byte answers, the bytes behind the first answer too
 rest_answers : (test : ℕ → Bool) (answer : Bool) (byte : ℕ) (bytes : List ℕ) → AllAnswer test answer (byte ∷ bytes) → AllAnswer test answer bytes
@@ -84,9 +85,42 @@ line_in_front text line rest (all, inr (is, some, none)) =
     let parts : parts_between is_break line ≡ line ∷ [] = rw append-nil at whole in
     rw (none, is, parts) (alone line some)
 
-words_in_front : (text line rest : List ℕ) → CutsLine text line rest → words_of text ≡ words_of line ++ words_of rest
-words_in_front text line rest (all, inl is) = ap words_of is ∙ words_on_both_sides line rest
-words_in_front text line rest (all, inr (is, some, none)) = rw (none, is) (sym (append-nil (words_of line)))
+-- an empty last part has no words
+words_without_empty_last : (parts : List (List ℕ)) → flat_map words_of (without_empty_last parts) ≡ flat_map words_of parts
+words_without_empty_last [] = refl
+words_without_empty_last ([] ∷ []) = refl
+words_without_empty_last ((byte ∷ part) ∷ []) = refl
+words_without_empty_last (part ∷ next ∷ parts) = ap (λ ws. words_of part ++ ws) (words_without_empty_last (next ∷ parts))
+
+-- bytes that stand at the front of the first part between line breaks, whatever text follows
+abbrev HasNoBreak : List ℕ → Type 0
+HasNoBreak line = (text part : List ℕ) (parts : List (List ℕ)) → parts_between is_break text ≡ part ∷ parts
+    → parts_between is_break (line ++ text) ≡ (line ++ part) ∷ parts
+
+one_byte_more : (line : List ℕ) (byte : ℕ) → HasNoBreak line → is_break byte ≡ false → HasNoBreak (line ++ byte ∷ [])
+one_byte_more line byte none is text part parts cut =
+    let longer : parts_between is_break (byte ∷ text) ≡ (byte ∷ part) ∷ parts = rw (is, cut) refl in
+    rw (append_assoc line (byte ∷ []) text, append_assoc line (byte ∷ []) part) (none (byte ∷ text) (byte ∷ part) parts longer)
+
+-- the words of a text are those of its parts between line breaks
+words_of_parts : (text line : List ℕ) → HasNoBreak line → flat_map words_of (parts_between is_break (line ++ text)) ≡ words_of (line ++ text)
+words_of_parts [] line none = rw (none [] [] [] refl) (append-nil (words_of (line ++ [])))
+words_of_parts (byte ∷ text) line none = elim (is_break byte) as (λ b. is_break byte ≡ b → flat_map words_of (parts_between is_break (line ++ byte ∷ text)) ≡ words_of (line ++ byte ∷ text)) [
+  | true ↦ λ is.
+      let whole : parts_between is_break (line ++ byte ∷ text) ≡ (line ++ []) ∷ parts_between is_break text = none (byte ∷ text) [] (parts_between is_break text) (rw is refl) in
+      let behind : flat_map words_of (parts_between is_break text) ≡ words_of text = words_of_parts text [] (λ rest part parts cut. cut) in
+      let sides : words_of (line ++ byte ∷ text) ≡ words_of line ++ words_of text = rw (eqb-true byte 10 is) (words_on_both_sides line text) in
+      rw (whole, append-nil line, behind) (sym sides)
+  | false ↦ λ is. rw append_assoc at (words_of_parts text (line ++ byte ∷ []) (one_byte_more line byte none is))
+] refl
+
+-- the words of texts are those of their lines
+pub words_of_lines : (texts : List (List ℕ)) → flat_map words_of (flat_map lines_of texts) ≡ flat_map words_of texts
+words_of_lines [] = refl
+words_of_lines (text ∷ texts) =
+    let of_text : flat_map words_of (lines_of text) ≡ words_of text =
+    words_without_empty_last (parts_between is_break text) ∙ words_of_parts text [] (λ rest part parts cut. cut) in
+    flat_map-append words_of (lines_of text) (flat_map lines_of texts) ∙ rw (of_text, words_of_lines texts) refl
 
 -- one line more is read
 pub one_line_more : (a b c : Option (List ℕ)) (line : List ℕ) (lines : List (List ℕ)) → HasReadLines a b lines → ReadsLine b c line true → HasReadLines a c (lines ++ line ∷ [])
@@ -96,23 +130,11 @@ one_line_more (Some text) (Some behind) None line lines has reads = absurd reads
 one_line_more (Some text) (Some behind) (Some rest) line lines has reads =
     has ∙ ap (λ ls. lines ++ ls) (line_in_front behind line rest reads) ∙ sym (append_assoc lines (line ∷ []) (lines_of rest))
 
-pub more_words : (a b c : Option (List ℕ)) (line : List ℕ) (words : List (List ℕ)) → HasReadWords a b words → ReadsLine b c line true → HasReadWords a c (words ++ words_of line)
-more_words None b c line words has reads = tt
-more_words (Some text) None c line words has reads = absurd has
-more_words (Some text) (Some behind) None line words has reads = absurd reads
-more_words (Some text) (Some behind) (Some rest) line words has reads =
-    has ∙ ap (λ ws. words ++ ws) (words_in_front behind line rest reads) ∙ sym (append_assoc words (words_of line) (words_of rest))
-
 -- nothing is read yet
 pub start_lines : (a b : Option (List ℕ)) → Keeps a b → HasReadLines a b []
 start_lines None b kept = tt
 start_lines (Some text) None kept = absurd kept
 start_lines (Some text) (Some rest) kept = ap lines_of (sym kept)
-
-pub start_words : (a b : Option (List ℕ)) → Keeps a b → HasReadWords a b []
-start_words None b kept = tt
-start_words (Some text) None kept = absurd kept
-start_words (Some text) (Some rest) kept = ap words_of (sym kept)
 
 -- all is read
 pub all_lines : (a b c : Option (List ℕ)) (line : List ℕ) (lines : List (List ℕ)) → HasReadLines a b lines → ReadsLine b c line false → IfSome a (λ text. lines_of text ≡ lines)
@@ -120,12 +142,6 @@ all_lines None b c line lines has reads = tt
 all_lines (Some text) None c line lines has reads = absurd has
 all_lines (Some text) (Some rest) None line lines has reads = absurd reads
 all_lines (Some text) (Some rest) (Some none) line lines has reads = has ∙ ap (λ r. lines ++ lines_of r) reads ∙ append-nil lines
-
-pub all_words : (a b c : Option (List ℕ)) (line : List ℕ) (words : List (List ℕ)) → HasReadWords a b words → ReadsLine b c line false → IfSome a (λ text. words_of text ≡ words)
-all_words None b c line words has reads = tt
-all_words (Some text) None c line words has reads = absurd has
-all_words (Some text) (Some rest) None line words has reads = absurd reads
-all_words (Some text) (Some rest) (Some none) line words has reads = has ∙ ap (λ r. words ++ words_of r) reads ∙ append-nil words
 
 -- the first word, behind blanks
 pub first_word_is : (text blanks rest word behind : List ℕ) → text ≡ blanks ++ rest → AllAnswer is_ascii_whitespace true blanks

@@ -1,7 +1,7 @@
 -- What was written on success, as what was told.
-use Rattle.std.proofs.Common.{Result, Ok, Err, ◌≡◌, ◌+◌, ◌-◌, ◌<◌, ◌++◌, ℕ, List, [], ◌∷◌, Option, Some, None, length, get_or, drop, refl, sym, ap, ◌∙◌, arith, append_assoc}
-use Rattle.std.specs.Prelude.{OnOk, OnErr, IfSome, slice_get}
-use Rattle.std.specs.Io.KnownBytes.{Appends, Keeps}
+use Rattle.std.proofs.Common.{Result, Ok, Err, ◌≡◌, ◌+◌, ◌-◌, ◌<◌, ◌++◌, ℕ, List, [], ◌∷◌, Option, Some, length, get_or, drop, refl, sym, ◌∙◌, arith, append_assoc}
+use Rattle.std.specs.Prelude.{OnOk, OnErr, slice_get}
+use Rattle.std.specs.Io.KnownBytes.{Appends}
 use Rattle.std.proofs.lemmas.List.{drop_more, get_or_read}
 use Rattle.std.proofs.lemmas.Option.{get_or_from_slice_get}
 use Rattle.tool_text_lines.specs.Counts.{word_line, word_lines}
@@ -18,19 +18,6 @@ on_both (Err e) P Q p q = p
 pub on_err_always : {V E : Type 0} (r : Result V E) (P : Type 0) → P → OnErr r P
 on_err_always (Ok v) P p = tt
 on_err_always (Err e) P p = p
-
--- what was kept and then grew, or grew and was then kept
-pub Appends_after_Keeps : (a b c : Option (List ℕ)) (bytes : List ℕ) → Keeps a b → Appends b c bytes → Appends a c bytes
-Appends_after_Keeps None b c bytes kept grown = tt
-Appends_after_Keeps (Some x) None c bytes kept grown = absurd kept
-Appends_after_Keeps (Some x) (Some y) None bytes kept grown = absurd grown
-Appends_after_Keeps (Some x) (Some y) (Some z) bytes kept grown = grown ∙ ap (λ l. l ++ bytes) kept
-
-pub Keeps_after_Appends : (a b c : Option (List ℕ)) (bytes : List ℕ) → Appends a b bytes → Keeps b c → Appends a c bytes
-Keeps_after_Appends None b c bytes grown kept = tt
-Keeps_after_Appends (Some x) None c bytes grown kept = absurd grown
-Keeps_after_Appends (Some x) (Some y) None bytes grown kept = absurd kept
-Keeps_after_Appends (Some x) (Some y) (Some z) bytes grown kept = kept ∙ grown
 
 -- one line of a word more is written
 pub one_line_written : (words : List (List ℕ)) (counts : List ℕ) (n : ℕ) (written all : List ℕ) → n < length words → length counts ≡ length words
@@ -53,9 +40,3 @@ line_is words counts n number word count number_is word_is below count_is =
     let named : get_or words n [] ≡ word = get_or_from_slice_get words n word [] there in
     let counted : count ≡ get_or counts n 0 = get_or_read counts n count below count_is 0 in
     rw (number_is, named, ← counted) refl
-
--- what was written of these parts was written of the text, where its bytes are known
-pub written_of : {X : Type 0} (written : List (List ℕ) → List ℕ) (parts_of : X → List (List ℕ)) (known : Option X) (start now : Option (List ℕ)) (parts : List (List ℕ)) → IfSome known (λ text. parts_of text ≡ parts)
-    → Appends start now (written parts) → IfSome known (λ text. Appends start now (written (parts_of text)))
-written_of written parts_of None start now parts is grown = tt
-written_of written parts_of (Some text) start now parts is grown = rw is grown

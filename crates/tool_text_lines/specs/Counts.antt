@@ -1,9 +1,7 @@
 -- How often words stand in a list, and the lines that say so.
-use Rattle.std.specs.Prelude.{◌≡◌, ℕ, ◌+◌, ◌++◌, List, [], ◌∷◌, Option, map, count_by, codes, decimal}
+use Rattle.std.specs.Prelude.{◌≡◌, ℕ, ◌+◌, ◌++◌, List, [], ◌∷◌, map, count_by, codes, decimal}
 use Rattle.std.specs.Str.{bytes_eq}
 use Rattle.tool_text_lines.specs.Firsts.{firsts}
-use Rattle.tool_text_lines.specs.Pieces.{words_of}
-use Rattle.tool_text_lines.specs.Texts.{ArePartsOf}
 
 -- how often a word stands among these
 abbrev pub occurrences : List (List ℕ) → List ℕ → ℕ
@@ -13,11 +11,6 @@ occurrences words word = count_by (bytes_eq word) words
 pub record Counts (words : List (List ℕ)) (different : List (List ℕ)) (counts : List ℕ) : Type 0 where
   pub in_order : different ≡ firsts words
   pub counted : counts ≡ map (occurrences words) (firsts words)
-
--- counts go on by the words of a text, where its bytes are known, whatever was counted before
-abbrev pub CountsText : Option (List ℕ) → List (List ℕ) → List ℕ → List (List ℕ) → List ℕ → Type 0
-CountsText known different counts later more = (words : List (List ℕ)) × ArePartsOf words_of known words
-    × ((before : List (List ℕ)) → Counts before different counts → Counts (before ++ words) later more)
 
 -- the line of a word: its number, the word and its count
 abbrev pub word_line : ℕ → List ℕ → ℕ → List ℕ

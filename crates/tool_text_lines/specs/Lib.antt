@@ -6,3 +6,4 @@ pub mod Texts
 pub mod Firsts
 pub mod Counts
 pub mod Seen
+pub mod Taken

@@ -43,9 +43,3 @@ abbrev pub HasReadLines : Option (List ℕ) → Option (List ℕ) → List (List
 HasReadLines None new lines = ⊤
 HasReadLines (Some text) None lines = ⊥
 HasReadLines (Some text) (Some rest) lines = lines_of text ≡ lines ++ lines_of rest
-
--- where the bytes are known: these are the words of what was read
-abbrev pub HasReadWords : Option (List ℕ) → Option (List ℕ) → List (List ℕ) → Type 0
-HasReadWords None new words = ⊤
-HasReadWords (Some text) None words = ⊥
-HasReadWords (Some text) (Some rest) words = words_of text ≡ words ++ words_of rest

@@ -1,11 +1,8 @@
 -- The lines that a table holds.
-use Rattle.std.specs.Prelude.{◌≡◌, ◌↔◌, ℕ, ◌++◌, Bool, List, [], ◌∷◌, map, Contains, IsTrue, Option}
+use Rattle.std.specs.Prelude.{◌≡◌, ◌↔◌, ℕ, ◌++◌, Bool, List, [], ◌∷◌, map, Contains, IsTrue}
 use Rattle.table_held.specs.Table.{HeldTable, Stands, IsLawful}
 use Rattle.tool_text_lines.specs.Hashes.{same_by_bytes, hash_by_bytes}
-use Rattle.std.specs.Io.KnownBytes.{Appends}
-use Rattle.tool_text_lines.specs.Firsts.{firsts, deduped}
-use Rattle.tool_text_lines.specs.Pieces.{lines_of}
-use Rattle.tool_text_lines.specs.Texts.{ArePartsOf}
+use Rattle.tool_text_lines.specs.Firsts.{firsts}
 
 module _ {T V : Type 0} (target : T → V) (bytes : V → List ℕ) (t : HeldTable T) where
   -- the table is lawful for lines
@@ -26,21 +23,3 @@ SeesLine target bytes old line seen new = (lines : List (List ℕ)) → HoldsLin
 abbrev pub RefusesLine : {T V : Type 0} → (T → V) → (V → List ℕ) → HeldTable T → List ℕ → HeldTable T → Type 0
 RefusesLine target bytes old line new = (lines : List (List ℕ)) → HoldsLines target bytes old lines
     → ¬ Contains lines line × HoldsLines target bytes new lines
-
--- on all lines that the old table holds, and whatever was written before: what is written of them
--- becomes what is written of them and the line, and the new table holds these
-abbrev pub TakesLine : {T V : Type 0} → (T → V) → (V → List ℕ) → HeldTable T → List ℕ → HeldTable T
-    → Option (List ℕ) → Option (List ℕ) → Type 0
-TakesLine target bytes old line new before after =
-    (lines : List (List ℕ)) (start : Option (List ℕ)) → HoldsLines target bytes old lines
-    → Appends start before (deduped lines)
-    → HoldsLines target bytes new (lines ++ line ∷ []) × Appends start after (deduped (lines ++ line ∷ []))
-
--- the same of the lines of a text, where its bytes are known
-abbrev pub TakesText : {T V : Type 0} → (T → V) → (V → List ℕ) → Option (List ℕ) → HeldTable T → HeldTable T
-    → Option (List ℕ) → Option (List ℕ) → Type 0
-TakesText target bytes known old new before after =
-    (more : List (List ℕ)) × ArePartsOf lines_of known more
-    × ((lines : List (List ℕ)) (start : Option (List ℕ)) → HoldsLines target bytes old lines
-    → Appends start before (deduped lines)
-    → HoldsLines target bytes new (lines ++ more) × Appends start after (deduped (lines ++ more)))

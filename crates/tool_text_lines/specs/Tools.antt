@@ -1,6 +1,10 @@
 -- What the words after the program's name ask for.
 use Rattle.std.specs.Prelude.{◌≡◌, ◌⊎◌, ℕ, List, [], ◌∷◌, if◌then◌else◌, codes}
+use Rattle.std.specs.List.{flat_map}
 use Rattle.std.specs.Str.{bytes_eq}
+use Rattle.tool_text_lines.specs.Pieces.{words_of, lines_of}
+use Rattle.tool_text_lines.specs.Counts.{counted}
+use Rattle.tool_text_lines.specs.Firsts.{deduped}
 use Rattle.tool_text_lines.specs.declared.tool.Tool.{Tool}
 use Rattle.tool_text_lines.specs.declared.tool.Tool.TheVariants.{Words, Dedup}
 use Rattle.tool_text_lines.specs.declared.tool.Request.{Request}
@@ -10,6 +14,11 @@ use Rattle.tool_text_lines.specs.declared.tool.Request.TheVariants.{Help, Run}
 abbrev pub name_of : Tool → List ℕ
 name_of Words = codes "words"
 name_of Dedup = codes "dedup"
+
+-- what a tool writes of these texts
+abbrev pub written_by : Tool → List (List ℕ) → List ℕ
+written_by Words texts = counted (flat_map words_of texts)
+written_by Dedup texts = deduped (flat_map lines_of texts)
 
 -- how the program is called
 abbrev pub usage : List ℕ

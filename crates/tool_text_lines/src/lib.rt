@@ -5,6 +5,7 @@
 
 pub mod dedup;
 pub mod faults;
+pub mod line_tool;
 pub mod program;
 pub mod seen;
 pub mod texts;

@@ -1,14 +1,16 @@
 //! The program, over its words, files and streams.
-ghost use Rattle.std.specs.Prelude.{◌≡◌, ◌⊎◌, ◌++◌, ℕ, List, map, codes};
+ghost use Rattle.std.specs.Prelude.{◌≡◌, ◌⊎◌, ◌++◌, ℕ, List, map, codes, OnOk, IfSome};
 ghost use Rattle.std.specs.Io.KnownBytes.{Appends};
-ghost use Rattle.tool_text_lines.specs.Tools.{AsksTool, AsksHelp, usage};
+ghost use Rattle.tool_text_lines.specs.Tools.{AsksTool, AsksHelp, usage, written_by};
 ghost use Rattle.tool_text_lines.specs.declared.tool.Tool.{Tool as ToolOf};
 
-use crate::dedup::run_dedup;
 use crate::faults::Fault;
+use crate::line_tool::take_texts;
+use crate::seen::Seen;
 use crate::texts::{NamedTexts, OneText, TextFiles, Texts};
 use crate::tool::{Request, Tool, ToolFault, Usage, parse_request};
-use crate::words::run_words;
+use crate::word_counts::WordCounts;
+use bumpalo::Bump;
 use std::alloc::Allocator;
 use std::convert::AsStr;
 use std::io::{Read, Write};
@@ -87,7 +89,7 @@ fn run_over_texts<A: Allocator + Copy, T: Texts + Drop, O: Write, M: Write>(
     ensures status { (result ≡ 0) ⊎ ((result ≡ 1) ⊎ (result ≡ 2)) }
     ensures well { result ≡ 0 → messages.new ≡ messages.old }
 {
-    match run_tool(tool, alloc, &mut texts, output) {
+    match run_buffered(tool, alloc, &mut texts, output) {
         Ok(()) => 0,
         Err(Fault::ReaderGone) => 1,
         Err(fault) => {
@@ -106,21 +108,45 @@ fn blamed(name: Option<&str>, fault: Fault) -> Option<&str> {
 }
 
 /// Runs the tool over the texts. What was kept of the output is sent before a fault too.
-fn run_tool<A: Allocator + Copy, T: Texts, O: Write>(
+fn run_buffered<A: Allocator + Copy, T: Texts, O: Write>(
     tool: Tool,
     alloc: A,
     texts: &mut T,
     output: &mut O,
 ) -> Result<(), Fault> {
     let mut output = Output::new(output);
-    let ended = match tool {
-        Tool::Words => run_words(alloc, texts, &mut output),
-        Tool::Dedup => run_dedup(alloc, texts, &mut output),
-    };
+    let ended = run_tool(tool, alloc, texts, &mut output);
     let flushed = output.flush();
     if output.is_reader_gone() {
         return Err(Fault::ReaderGone);
     }
     flushed.map_err(|_error| StreamFault::WriteFailed)?;
     ended
+}
+
+/// Runs the tool over the texts: `dedup` writes each line that is not equal to one before it, with a line break, as it comes. `words`
+/// reads the texts to their ends, and then writes each different word of them with its number and its count, in the order of first
+/// appearance; where a line is not UTF-8 it writes nothing. Whatever is to be written of the lines that are there is flushed before more
+/// input is waited for.
+pub fn run_tool<A: Allocator + Copy, T: Texts, O: Write>(
+    tool: Tool,
+    alloc: A,
+    texts: &mut T,
+    output: &mut O,
+) -> Result<(), Fault>
+    ensures { OnOk result (IfSome (T.left texts.old) (λ all.
+        Appends (O.contents output.old) (O.contents output.new) (written_by tool all))) }
+{
+    let arena = Bump::new(alloc);
+    match tool {
+        Tool::Words => {
+            let mut words = WordCounts::new(alloc, &arena);
+            take_texts(alloc, &mut words, texts, output)?;
+            words.write_to(output)
+        }
+        Tool::Dedup => {
+            let mut seen = Seen::new(&arena);
+            take_texts(alloc, &mut seen, texts, output)
+        }
+    }
 }

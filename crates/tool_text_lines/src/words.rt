@@ -1,63 +1,30 @@
-//! The tool `words`: each different word of a text with its number and its count.
+//! What the tool `words` does with a line: it counts the words of it.
 ghost use Rattle.std.specs.Prelude.{◌≡◌, ◌<◌, ◌++◌, ◌∷◌, slice_index, List, ℕ, [], true, false, length, OnOk, IfSome, IfNone, Some};
-ghost use Rattle.std.specs.List.{flat_map};
 ghost use Rattle.std.specs.Char.{is_ascii_whitespace};
-ghost use Rattle.std.specs.Io.KnownBytes.{Appends, Keeps};
 ghost use Rattle.tool_streams.specs.Lines.{AllAnswer};
 ghost use Rattle.tool_text_lines.specs.Pieces.{words_of, BeginsBlank};
-ghost use Rattle.tool_text_lines.specs.Counts.{Counts, CountsText, counted};
+ghost use Rattle.tool_text_lines.specs.Counts.{Counts};
 
 use crate::faults::Fault;
-use crate::texts::Texts;
+use crate::line_tool::{LineTool, TextLine};
 use crate::word_counts::WordCounts;
-use bumpalo::Bump;
 use std::alloc::Allocator;
-use std::io::{Read, Write};
-use tool_streams::faults::StreamFault;
-use tool_streams::lines::Lines;
+use std::io::Write;
 
-/// Reads the texts to their ends, and then writes each different word of them with its number and its count, in the order of first
-/// appearance. Where a line is not UTF-8 nothing is written.
-pub fn run_words<A: Allocator + Copy, T: Texts, O: Write>(
-    alloc: A,
-    texts: &mut T,
-    output: &mut O,
-) -> Result<(), Fault>
-    ensures { OnOk result (IfSome (T.left texts.old) (λ all.
-        Appends (O.contents output.old) (O.contents output.new) (counted (flat_map words_of all)))) }
-{
-    let arena = Bump::new(alloc);
-    let mut words = WordCounts::new(alloc, &arena);
-    // Counted only so that the loop has an end.
-    for _text in 0..u64::MAX {
-        let Some(text) = texts.next_text()? else {
-            return words.write_to(output);
-        };
-        count_text(alloc, &mut words, text, output)?;
-    }
-    Err(Fault::Stream(StreamFault::ReadFailed))
-}
+impl<A: Allocator + Copy> LineTool for WordCounts<'_, A> {
+    ghost use Rattle.std.specs.Prelude.{[]};
+    ghost use Rattle.std.specs.List.{flat_map};
+    ghost use Rattle.tool_text_lines.specs.Pieces.{words_of};
+    ghost use Rattle.tool_text_lines.specs.Counts.{Counts};
 
-/// Counts the words of a text. It writes nothing, but flushes the output before a read that may wait.
-fn count_text<A: Allocator + Copy, I: Read + Drop, O: Write>(
-    alloc: A,
-    words: &mut WordCounts<'_, A>,
-    text: I,
-    output: &mut O,
-) -> Result<(), Fault>
-    ensures counts { OnOk result (CountsText (I.remaining text) words.old.interner words.old.counts.items
-        words.new.interner words.new.counts.items) }
-    ensures output { OnOk result (Keeps (O.contents output.old) (O.contents output.new)) }
-{
-    let mut lines = Lines::new(alloc, text)?;
-    // Counted only so that the loop has an end, and to name a line that is not UTF-8.
-    for before in 0..u64::MAX {
-        if !lines.read_line(output)? {
-            return Ok(());
-        }
-        count_words(words, lines.line(), before + 1)?;
+    ghost has_taken = { λ w lines. Counts (flat_map words_of lines) w.interner w.counts.items };
+
+    ghost written = { λ _. [] };
+
+    /// Counts the words of the line. It writes nothing.
+    fn take_line<W: Write>(&mut self, line: TextLine<'_>, _output: &mut W) -> Result<(), Fault> {
+        count_words(self, line.bytes, line.number)
     }
-    Err(Fault::Stream(StreamFault::ReadFailed))
 }
 
 /// Counts the words of a line, the one of this number. A word is a longest run of bytes that are no ASCII whitespace.
