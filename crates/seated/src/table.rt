@@ -38,6 +38,7 @@ impl<A: Allocator + Copy> NumberTable<A> {
     ghost use Rattle.seated.specs.Steps.{IsNext, Claims, Learns};
     ghost use Rattle.seated.specs.Numbers.{known_pairs, own_numbers, Knows, Within, Disjoint, StandIn, Inserts};
     ghost use Rattle.seated.specs.Tables.{word_count, IsSeatOf};
+    ghost use Rattle.seated.specs.Views.{join_of};
 
     /// An empty table of `count` words, a power of two, and its first seat.
     ///
@@ -164,11 +165,22 @@ impl<A: Allocator + Copy> NumberTable<A> {
     {
         let Seat { inner: second } = second;
         let mut seat = first;
-        self.table
-            .shared
-            .join_seat::<TakeIn>(&mut seat.inner, second);
+        self.take_in(&mut seat, second);
         self.table.shared.load::<Read>(&mut seat.inner, 0);
         seat
+    }
+
+    /// The seat takes in another one.
+    fn take_in(&self, seat: &mut Seat, other: atomic_table::Seat<(), View>)
+        requires table { (seat.old.inner.table_id ≡ self.now.table.shared.table_id)
+            × (other.table_id ≡ self.now.table.shared.table_id) }
+        requires slots { other.me.1 ≡ [] }
+        ensures table { seat.new.inner.table_id ≡ seat.old.inner.table_id }
+        ensures me { seat.new.inner.me ≡ (join_of seat.old.inner.me.0 other.me.0, seat.old.inner.me.1) }
+    {
+        self.table
+            .shared
+            .join_seat::<TakeIn>(&mut seat.inner, other);
     }
 
     /// Reads each bucket but the first.
@@ -202,11 +214,11 @@ impl<A: Allocator + Copy> NumberTable<A> {
         let shared = &self.table.shared;
         // With the second's turn in its note, the first's turn gets above it, so that its gift can be told from the second's own.
         let note = shared.split_seat::<CutNote>(&mut second.inner);
-        shared.join_seat::<TakeIn>(&mut first.inner, note);
+        self.take_in(first, note);
         shared.load::<ReadAndRaise>(&mut first.inner, 0);
         self.read_rest(first);
         let gift = shared.split_seat::<CutGift>(&mut first.inner);
-        shared.join_seat::<TakeIn>(&mut second.inner, gift);
+        self.take_in(second, gift);
         shared.load::<ReadAndForget>(&mut second.inner, 0);
         self.read_rest(second);
         Ok(())
