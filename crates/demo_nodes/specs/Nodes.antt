@@ -17,13 +17,5 @@ mixed before more = (before * 31 + more) % 2 ^ 64
 abbrev pub shape_hash : Shape → ℕ
 shape_hash a = number_hash (mixed (mixed a.symbol a.left) a.right)
 
--- values that are compared and hashed by a shape of theirs
-module _ {V : Type 0} (shape : V → Shape) where
-  abbrev pub same_by_shape : V → V → Bool
-  same_by_shape a b = same_shape (shape a) (shape b)
-
-  abbrev pub hash_by_shape : V → ℕ
-  hash_by_shape a = shape_hash (shape a)
-
-  pub shape_lawful : IsLaw same_by_shape hash_by_shape
-  shape_lawful = grind (arith, common_steps)
+pub shape_law : IsLaw same_shape shape_hash
+shape_law = grind (arith, common_steps)

@@ -29,13 +29,14 @@ pub struct Node {
 pub struct NodeLaw;
 
 impl Law<Node> for NodeLaw {
-    ghost use Rattle.demo_nodes.specs.Nodes.{same_by_shape, hash_by_shape, shape_lawful};
+    ghost use Rattle.table_terms.specs.Laws.{same_by, hash_by, lawful_by};
+    ghost use Rattle.demo_nodes.specs.Nodes.{same_shape, shape_hash, shape_law};
 
-    ghost same = { same_by_shape (λ n. n.shape) };
+    ghost same = { same_by same_shape (λ n. n.shape) };
 
-    ghost hash_of = { hash_by_shape (λ n. n.shape) };
+    ghost hash_of = { hash_by shape_hash (λ n. n.shape) };
 
-    ghost lawful = { shape_lawful (λ n. n.shape) };
+    ghost lawful = { lawful_by shape_law (λ n. n.shape) };
 }
 
 /// Mixes one number more into those before.
