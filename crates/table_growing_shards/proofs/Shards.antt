@@ -198,26 +198,37 @@ module _ {V : Type 0} (ks inside : List (GrowingKnownView V)) (now : ShardedKnow
   ends_one items same i d k shard (Err s) within of placed all apart refused = subst (λ (x : GrowingView). get_or now.of i x ≡ x) (sym refused) of
 
 -- The same of a call that goes to the shard of a hash
-module _ {V : Type 0} (n h i : ℕ) (ks inside : List (GrowingKnownView V)) (now : ShardedKnownView V) (power : IsPowerOfTwo n) (whole : length inside ≡ n) (value : ks ≡ inside) (view : sharded_view inside ≡ now)
-    (is : i ≡ shard_of n h) (low : 0 < n → i < n) where
+pub record GoesTo {V : Type 0} (n h i : ℕ) (ks inside : List (GrowingKnownView V)) (now : ShardedKnownView V) : Type 0 where
+  pub power : IsPowerOfTwo n
+  pub whole : length inside ≡ n
+  pub value : ks ≡ inside
+  pub view : sharded_view inside ≡ now
+  pub is : i ≡ shard_of n h
+  pub low : 0 < n → i < n
+
+module _ {V : Type 0} {n h i : ℕ} {ks inside : List (GrowingKnownView V)} {now : ShardedKnownView V} (goes : GoesTo n h i ks inside now) where
   long : length ks ≡ n
-  long = ap length value ∙ whole
+  long = ap length goes.value ∙ goes.whole
 
   there : i < length ks
-  there = hash_within n i ks power long low
+  there = hash_within n i ks goes.power long goes.low
 
   pub asks_shard : (items set_now : List GrowingView) (d : GrowingKnownView V) (e : GrowingView) → now.of ≡ set_now → items ≡ set_now → e ≡ get_or items i e → (get_or ks i d).of ≡ e
-  asks_shard items set_now d e of same read = asks_one ks inside now value view items set_now i d e of same there read
+  asks_shard items set_now d e of same read = asks_one ks inside now goes.value goes.view items set_now i d e of same there read
 
   pub knows_shard : (d k : GrowingKnownView V) → KnowsMore IsCarried (get_or ks i d) k → KnowsMore AreCarried now (sharded_view (set ks i k))
-  knows_shard d k more = knows_one ks inside now value view i d k there more
+  knows_shard d k more = knows_one ks inside now goes.value goes.view i d k there more
 
   pub finds_shard : (d k : GrowingKnownView V) (hash : V → ℕ) (test : V → Bool) → ((v : V) → test v ≡ true → hash v ≡ h) → (r : Option (Bor V)) → Finds test (IsEntry k.history) r → Finds test (Knows hash (sharded_view (set ks i k))) r
-  finds_shard d k hash test agrees r found = finds_by_token n h i ks d k long is there hash test agrees r found
+  finds_shard d k hash test agrees r found = finds_by_token n h i ks d k long goes.is there hash test agrees r found
 
   pub inserts_shard : (d k : GrowingKnownView V) (hash : V → ℕ) (same : V → V → Bool) → IsLaw same hash → (v : V) → hash v ≡ h → (r : Placing V) → Inserts same IsCarried v (get_or ks i d).history k.history r → InsertsInShard hash same v now (sharded_view (set ks i k)) r
-  inserts_shard d k hash same law v hashed r told = inserts_one ks inside now value view hash same v i k r (inserts_by_token n h i ks d k long is there hash same law v hashed r told)
+  inserts_shard d k hash same law v hashed r told = inserts_one ks inside now goes.value goes.view hash same v i k r (inserts_by_token n h i ks d k long goes.is there hash same law v hashed r told)
 
   pub full_shard : (d k : GrowingKnownView V) (hash : V → ℕ) (same : V → V → Bool) → IsLaw same hash → (v : V) → hash v ≡ h → (r : Placing V) → IsFullBy same hash (size_of k.history) v k.history r
       → IsFullBy same hash (size_of (history_for hash (sharded_view (set ks i k)) v)) v (history_for hash (sharded_view (set ks i k)) v) r
-  full_shard d k hash same law v hashed r full = full_by_token n h i ks d k long is there hash same law v hashed r full
+  full_shard d k hash same law v hashed r full = full_by_token n h i ks d k long goes.is there hash same law v hashed r full
+
+-- the call is one of these
+pub goes_to : {V : Type 0} (n h i : ℕ) (ks inside : List (GrowingKnownView V)) (now : ShardedKnownView V) → IsPowerOfTwo n → length inside ≡ n → ks ≡ inside → sharded_view inside ≡ now → i ≡ shard_of n h → (0 < n → i < n) → GoesTo n h i ks inside now
+goes_to n h i ks inside now power whole value view is low = record { power = power; whole = whole; value = value; view = view; is = is; low = low }
