@@ -147,7 +147,11 @@ impl<T: AtomicValue, A: Allocator + Copy> LockFreeRawTable<T, A> {
         ensures loads { Loads self.now.home state result.0 result.1 }
     {
         match self.current() {
-            None => (None, step(state, Answer::NoGeneration), Answer::NoGeneration),
+            None => (
+                None,
+                step(state, Answer::NoGeneration),
+                Answer::NoGeneration,
+            ),
             Some(Current { number, generation }) => {
                 let capacity = generation.capacity() as u64;
                 let next = step_loaded(state, number, capacity);
