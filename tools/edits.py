@@ -150,7 +150,7 @@ def rlib_of(top, crate):
 def functions_of(top, crate):
     """The prover's names of the functions of a crate that is built."""
     with open(rlib_of(top, crate) / "toolchain/mir.json") as file:
-        return [name for name, _ in json.load(file) if "+" not in name.partition("::")[2] and "::fn::" not in name]
+        return [name for name, _ in json.load(file) if "+" not in name.rpartition("::")[2] and "::fn::" not in name]
 
 
 def words_of(top, crate, jobs):
