@@ -12,8 +12,9 @@ use Rattle.std.specs.Borrow.{Bor}
 use Rattle.table_shared.specs.Tables.{SharedTable}
 use Rattle.table_shared.specs.Walks as raw
 use Rattle.table_shared.specs.Walks.{WalkView}
-use Rattle.table_shards.specs.SharedShards.{ShardWalk, GoesOn, GivesAt, SharesOne, steps_left}
+use Rattle.table_shards.specs.SharedShards.{AreEmptyShards, ShardWalk, GoesOn, GivesAt, SharesOne, steps_left}
 use Rattle.table_held.specs.Table.{HeldTable, empty_table}
+use Rattle.table_shards.proofs.Shards.{made_from}
 
 -- a number that a walk over the numbers below n comes to is a place in a list of n
 pub inside : {X : Type 0} (n i t u : ℕ) (xs : List X) → length xs ≡ n → index_steps n t (Some i) u → i < length xs
@@ -51,6 +52,15 @@ made_taking g left R step ys (suc n) i f fits (q, y, at, called, rest) k d e low
       | inl here ↦ rw (here, at.1 e) (one.taken d)
       | inr later ↦ subst (λ x. R x (get_or ys k e)) (one.behind k d (omega arith)) (made_taking g left R step ys n (i + 1) q (omega (arith, one.long)) rest k d e (omega arith) (omega arith))
     ]
+
+module _ {T : Type 0} where
+  -- shards that a closure makes, each without a generation and with this first capacity
+  pub empty_shards_made : {F : Type 0} (g : Mut F (ℕ × Unit {0}) (SharedTable T)) (first : ℕ) (f : F)
+      → ((i : ℕ) (t : SharedTable T) (q : F) → Called g f (i, tt) t q → (q ≡ f) × ((t.first_capacity ≡ first) × (t.shared ≡ [] ∷ [])))
+      → (ts : List (SharedTable T)) (n : ℕ) → length ts ≡ n → IsFromFnResultFrom g f ts 0 n → AreEmptyShards n first ts
+  empty_shards_made g first f step ts n long made =
+      let each = λ (k : ℕ) (d : SharedTable T) (within : k < length ts). made_from g (λ t. (t.first_capacity ≡ first) × (t.shared ≡ [] ∷ [])) f step ts n 0 f refl made k d (omega arith) (omega (arith, within, long)) in
+      record { long = long; capacities = λ k d within. (each k d within).0; empty = λ k d within. (each k d within).1 }
 
 module _ {T : Type 0} where
   -- what is kept of a shard that is shared

@@ -1,5 +1,5 @@
 -- A table over shards that threads share, as its callers see it: the list of its shards.
-use Rattle.std.specs.Prelude.{◌≡◌, ℕ, ◌+◌, ◌*◌, ◌^◌, ◌++◌, List, [], ◌∷◌, Option, Some, None, length, slice_index_or, slice_set}
+use Rattle.std.specs.Prelude.{◌≡◌, ℕ, ◌+◌, ◌*◌, ◌^◌, ◌++◌, List, [], ◌∷◌, All, Option, Some, None, length, slice_index_or, slice_set}
 use Rattle.std.specs.Iterator.{YieldsFirst, Drains}
 use Rattle.std.specs.Borrow.{Bor}
 use Rattle.table_shared.specs.Tables.{SharedTable}
@@ -17,6 +17,12 @@ module _ {T : Type 0} where
   -- the shard of this number; past the last one there is a table without a generation
   abbrev pub shard_at : List (SharedTable T) → ℕ → SharedTable T
   shard_at ts k = slice_index_or ts k (record { first_capacity = 0; home = 0; shared = [] ∷ [] })
+
+  -- so many shards, none of which has a generation, and each of which will have this first capacity
+  pub record AreEmptyShards (shards first : ℕ) (ts : List (SharedTable T)) : Type 0 where
+    pub long : length ts ≡ shards
+    pub capacities : All (λ t. t.first_capacity ≡ first) ts
+    pub empty : All (λ t. t.shared ≡ [] ∷ []) ts
 
   -- a new walk is in the first shard, and all others are ahead
   pub record IsInFirst (ts : List (SharedTable T)) (walk : ShardWalk T) : Type 0 where

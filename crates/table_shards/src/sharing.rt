@@ -1,5 +1,6 @@
 //! A table held alone becomes one that threads share.
 ghost use Rattle.std.specs.Prelude.{◌≡◌};
+ghost use Rattle.table_shards.specs.SharedTables.{IsCurrent};
 
 use std::alloc::Allocator;
 use table_generations::atomic_value::AtomicValue;
@@ -21,6 +22,7 @@ impl<T: AtomicValue, A: Allocator + Copy> Share for HeldRawTable<T, A> {
     fn share(self) -> LockFreeRawTable<T, A>
         ensures first { result.first_capacity ≡ self.first_capacity }
         ensures shared { result.shared ≡ self.generations }
+        ensures current { IsCurrent self.buckets result.shared }
     {
         let HeldParts {
             first_capacity,

@@ -1,8 +1,9 @@
 -- What a set that threads share answers, and what it shows of the set that one owner held.
-use Rattle.std.specs.Prelude.{◌≡◌, ◌++◌, Bool, true, List, [], ◌∷◌, Option}
+use Rattle.std.specs.Prelude.{◌≡◌, Bool, true, List, Option}
 use Rattle.std.specs.Borrow.{Bor}
 use Rattle.table_generations.specs.Buckets.{values, values_of}
 use Rattle.table_cell.specs.declared.bucket.Entry.{Entry}
+use Rattle.table_shards.specs.SharedTables.{IsCurrent}
 use Rattle.table_sets.specs.declared.inserted.Shown.{Shown}
 use Rattle.table_sets.specs.declared.inserted.Shown.TheVariants.{Placed, Found, Refused}
 
@@ -14,9 +15,8 @@ module _ {T U : Type 0} (target : T → U) (same : U → U → Bool) where
   ShowsSame value (Found shown back) = (same (target value) shown.now ≡ true) × (back ≡ value)
   ShowsSame value (Refused back) = back ≡ value
 
--- the last of the generations, the current one, shows these entries
+-- the current one of these generations, the last, shows these entries
 pub record ShowsEntries {T : Type 0} (set : List T) (generations : List (List (Option (Entry T)))) : Type 0 where
-  pub earlier : List (List (Option (Entry T)))
-  pub current : List (Option (Entry T))
-  pub are : generations ≡ earlier ++ current ∷ []
-  pub entries_are : values_of (values current) ≡ set
+  pub buckets : List (Option (Entry T))
+  pub current : IsCurrent buckets generations
+  pub entries_are : values_of (values buckets) ≡ set

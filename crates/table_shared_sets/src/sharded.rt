@@ -1,8 +1,7 @@
 //! The set over several shards that threads share.
-ghost use Rattle.std.specs.Prelude.{◌≡◌, All, [], ◌∷◌, length};
 ghost use Rattle.std.specs.Int.{IsPowerOfTwo};
 ghost use Rattle.table_terms.specs.Capacities.{IsFirstCapacity};
-ghost use Rattle.table_shards.specs.SharedShards.{IsInFirst};
+ghost use Rattle.table_shards.specs.SharedShards.{AreEmptyShards, IsInFirst};
 
 use crate::set::SetOver;
 use lock_free_hashtable::sharded::{Iter, ShardedLockFreeRawTable};
@@ -26,9 +25,7 @@ impl<T: AtomicValue, L: SetLaw<T::Target>, const SHARDS: usize, A: Allocator + C
     /// The empty set; the first generation of each shard will have 16 buckets. It takes no memory.
     pub fn new(alloc: A) -> Self
         requires { IsPowerOfTwo SHARDS }
-        ensures shards { length result ≡ SHARDS }
-        ensures first { All (λ t. t.first_capacity ≡ 16) result }
-        ensures empty { All (λ t. t.shared ≡ [] ∷ []) result }
+        ensures { AreEmptyShards SHARDS 16 result }
     {
         ShardedSet::of_table(ShardedLockFreeRawTable::new(alloc))
     }
@@ -38,9 +35,7 @@ impl<T: AtomicValue, L: SetLaw<T::Target>, const SHARDS: usize, A: Allocator + C
     pub fn with_first_capacity(alloc: A, first_capacity: usize) -> Self
         requires shards { IsPowerOfTwo SHARDS }
         requires first { IsFirstCapacity first_capacity }
-        ensures shards { length result ≡ SHARDS }
-        ensures first { All (λ t. t.first_capacity ≡ first_capacity) result }
-        ensures empty { All (λ t. t.shared ≡ [] ∷ []) result }
+        ensures { AreEmptyShards SHARDS first_capacity result }
     {
         ShardedSet::of_table(ShardedLockFreeRawTable::with_first_capacity(alloc, first_capacity))
     }

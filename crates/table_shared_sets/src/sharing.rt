@@ -2,7 +2,7 @@
 ghost use Rattle.table_shared_sets.specs.Inserts.{ShowsEntries};
 
 use crate::set::SharedSet;
-use lock_free_hashtable::raw::{HeldParts, LockFreeRawTable};
+use lock_free_hashtable::raw::Share;
 use std::alloc::Allocator;
 use table_sets::{AtomicValue, HeldSet, SetLaw};
 
@@ -21,19 +21,6 @@ impl<T: AtomicValue, L: SetLaw<T::Target>, A: Allocator + Copy> ShareSet for Hel
     fn share(self) -> SharedSet<T, L, A>
         ensures { ShowsEntries self result.shared }
     {
-        let HeldParts {
-            first_capacity,
-            home,
-            earlier,
-            current,
-            alloc,
-        } = self.into_table().into_parts();
-        SharedSet::of_table(LockFreeRawTable::of_parts(
-            first_capacity,
-            home,
-            earlier,
-            current,
-            alloc,
-        ))
+        SharedSet::of_table(self.into_table().share())
     }
 }

@@ -1,5 +1,5 @@
 //! A table over shards that threads share.
-ghost use Rattle.std.specs.Prelude.{◌≡◌, ◌<◌, All, IfSome, [], ◌∷◌, true, length};
+ghost use Rattle.std.specs.Prelude.{◌≡◌, ◌<◌, IfSome, true};
 ghost use Rattle.std.specs.Fn.{FnReturnsAt, FnReturnsAtPair};
 ghost use Rattle.std.specs.Int.{IsPowerOfTwo};
 ghost use Rattle.table_terms.specs.Capacities.{IsFirstCapacity};
@@ -55,14 +55,12 @@ impl<T: AtomicValue, const SHARDS: usize, A: Allocator + Copy> ShardedLockFreeRa
     A,
 > {
     ghost use Rattle.table_shards.specs.Shards.{shard_of as number_of_shard};
-    ghost use Rattle.table_shards.specs.SharedShards.{shard_at};
+    ghost use Rattle.table_shards.specs.SharedShards.{shard_at, AreEmptyShards};
 
     /// The empty table; the first generation of each shard will have 16 buckets. It takes no memory.
     pub fn new(alloc: A) -> Self
         requires { IsPowerOfTwo SHARDS }
-        ensures shards { length result ≡ SHARDS }
-        ensures first { All (λ t. t.first_capacity ≡ 16) result }
-        ensures empty { All (λ t. t.shared ≡ [] ∷ []) result }
+        ensures { AreEmptyShards SHARDS 16 result }
     {
         // Not by `with_first_capacity`: no proof shows its caller that so many shards fit in memory.
         let like = LockFreeRawTable::<T, A>::new(alloc);
@@ -75,9 +73,7 @@ impl<T: AtomicValue, const SHARDS: usize, A: Allocator + Copy> ShardedLockFreeRa
     pub fn with_first_capacity(alloc: A, first_capacity: usize) -> Self
         requires shards { IsPowerOfTwo SHARDS }
         requires first { IsFirstCapacity first_capacity }
-        ensures shards { length result ≡ SHARDS }
-        ensures first { All (λ t. t.first_capacity ≡ first_capacity) result }
-        ensures empty { All (λ t. t.shared ≡ [] ∷ []) result }
+        ensures { AreEmptyShards SHARDS first_capacity result }
     {
         let like = LockFreeRawTable::<T, A>::with_first_capacity(alloc, first_capacity);
         let shards = array::from_fn(|_| like.new_like());
