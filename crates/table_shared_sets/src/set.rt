@@ -126,7 +126,7 @@ impl<T: AtomicValue, L: SetLaw<T::Target>, B: SetTable<T>> SetOver<T, L, B> {
     }
 }
 
-impl<T: AtomicValue, L: SetLaw<T::Target>, B: InsertTable<T>> SetOver<T, L, B> {
+impl<T: AtomicValue, L: SetLaw<T::Target>, B: InsertTable<T, L>> SetOver<T, L, B> {
     /// Inserts the value, unless an entry is the same, and shows the target of the entry. It looks up first: a value that is
     /// found takes no lock and no memory.
     ///
@@ -139,7 +139,7 @@ impl<T: AtomicValue, L: SetLaw<T::Target>, B: InsertTable<T>> SetOver<T, L, B> {
         if let Some(entry) = self.get_by_hash(hash, value.deref()) {
             return Shown::Found(entry, value);
         }
-        self.table.insert::<L, R>(rt, hash, value)
+        self.table.insert(rt, hash, value)
     }
 }
 

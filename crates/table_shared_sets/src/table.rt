@@ -1,6 +1,7 @@
 //! The table that a set stands on: one raw table, or several shards.
 ghost use Rattle.std.specs.Prelude.{◌≡◌, IfSome, true};
 ghost use Rattle.std.specs.Fn.{FnReturnsAt};
+ghost use Rattle.table_shared.specs.Inserts.{Places, Finds, GivesBack};
 ghost use Rattle.table_shared_sets.specs.Inserts.{ShowsSame};
 
 mod raw;
@@ -25,20 +26,28 @@ pub trait SetTable<T: AtomicValue> {
     }
 }
 
-/// A table that threads insert into.
-pub trait InsertTable<T: AtomicValue>: SetTable<T> {
-    /// Inserts the value, unless an entry is the same by the law `L`, and shows the target of the entry: see
-    /// `LockFreeRawTable::insert`. Where it is refused, the value comes back, and isn't in the table then.
+/// A table that threads insert into, by the law `L`.
+pub trait InsertTable<T: AtomicValue, L: SetLaw<T::Target>>: SetTable<T> {
+    /// Inserts the value, unless an entry is the same by the law, and answers as `LockFreeRawTable::insert` does.
     ///
     /// It may wait for a lock, so the law may not insert into the same table.
-    fn insert<L: SetLaw<T::Target>, R: Wait>(
-        &self,
-        rt: &R,
-        hash: u64,
-        value: T,
-    ) -> Shown<&T::Target, T>
+    fn place<R: Wait>(&self, rt: &R, hash: u64, value: T) -> Result<(&T::Target, Option<T>), T>
         requires of_value { hash ≡ L.hash_of (T.target value) }
-        ensures shows { ShowsSame T.target L.same value result };
+        ensures placed { Places T.target value result }
+        ensures found { Finds (λ entry told. L.same (T.target value) entry ≡ told) result }
+        ensures back { GivesBack value result };
+
+    /// The same, and shows the target of the entry. Where it is refused, the value comes back, and isn't in the table then.
+    fn insert<R: Wait>(&self, rt: &R, hash: u64, value: T) -> Shown<&T::Target, T>
+        requires of_value { hash ≡ L.hash_of (T.target value) }
+        ensures shows { ShowsSame T.target L.same value result }
+    {
+        match self.place(rt, hash, value) {
+            Ok((entry, None)) => Shown::Placed(entry),
+            Ok((entry, Some(value))) => Shown::Found(entry, value),
+            Err(value) => Shown::Refused(value),
+        }
+    }
 }
 
 /// A table whose entries are walked over.

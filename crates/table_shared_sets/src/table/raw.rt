@@ -4,7 +4,7 @@ use crate::table::{InsertTable, SetTable, WalkTable};
 use lock_free_hashtable::raw::{Iter, LockFreeRawTable, Low};
 use std::alloc::Allocator;
 use std::sync::Wait;
-use table_sets::{AtomicValue, SetLaw, Shown};
+use table_sets::{AtomicValue, SetLaw};
 
 impl<T: AtomicValue, A: Allocator + Copy> SetTable<T> for LockFreeRawTable<T, A> {
     fn lookup<F: Fn(&T::Target) -> bool>(&self, hash: u64, test: F) -> Option<&T::Target> {
@@ -16,20 +16,12 @@ impl<T: AtomicValue, A: Allocator + Copy> SetTable<T> for LockFreeRawTable<T, A>
     }
 }
 
-impl<T: AtomicValue, A: Low + Copy> InsertTable<T> for LockFreeRawTable<T, A> {
-    fn insert<L: SetLaw<T::Target>, R: Wait>(
-        &self,
-        rt: &R,
-        hash: u64,
-        value: T,
-    ) -> Shown<&T::Target, T> {
+impl<T: AtomicValue, L: SetLaw<T::Target>, A: Low + Copy> InsertTable<T, L>
+    for LockFreeRawTable<T, A> {
+    fn place<R: Wait>(&self, rt: &R, hash: u64, value: T) -> Result<(&T::Target, Option<T>), T> {
         let eq = |new: &T::Target, entry: &T::Target| L::is_same(new, entry);
         let hash_fn = |entry: &T::Target| L::hash(entry);
-        match self.insert(rt, hash, value, eq, hash_fn) {
-            Ok((entry, None)) => Shown::Placed(entry),
-            Ok((entry, Some(value))) => Shown::Found(entry, value),
-            Err(value) => Shown::Refused(value),
-        }
+        self.insert(rt, hash, value, eq, hash_fn)
     }
 }
 

@@ -5,7 +5,7 @@ use lock_free_hashtable::raw::Low;
 use lock_free_hashtable::sharded::{Iter, ShardedLockFreeRawTable};
 use std::alloc::Allocator;
 use std::sync::Wait;
-use table_sets::{AtomicValue, SetLaw, Shown};
+use table_sets::{AtomicValue, SetLaw};
 
 impl<T: AtomicValue, const SHARDS: usize, A: Allocator + Copy> SetTable<T>
     for ShardedLockFreeRawTable<T, SHARDS, A> {
@@ -18,21 +18,12 @@ impl<T: AtomicValue, const SHARDS: usize, A: Allocator + Copy> SetTable<T>
     }
 }
 
-impl<T: AtomicValue, const SHARDS: usize, A: Low + Copy> InsertTable<T>
+impl<T: AtomicValue, L: SetLaw<T::Target>, const SHARDS: usize, A: Low + Copy> InsertTable<T, L>
     for ShardedLockFreeRawTable<T, SHARDS, A> {
-    fn insert<L: SetLaw<T::Target>, R: Wait>(
-        &self,
-        rt: &R,
-        hash: u64,
-        value: T,
-    ) -> Shown<&T::Target, T> {
+    fn place<R: Wait>(&self, rt: &R, hash: u64, value: T) -> Result<(&T::Target, Option<T>), T> {
         let eq = |new: &T::Target, entry: &T::Target| L::is_same(new, entry);
         let hash_fn = |entry: &T::Target| L::hash(entry);
-        match self.insert(rt, hash, value, eq, hash_fn) {
-            Ok((entry, None)) => Shown::Placed(entry),
-            Ok((entry, Some(value))) => Shown::Found(entry, value),
-            Err(value) => Shown::Refused(value),
-        }
+        self.insert(rt, hash, value, eq, hash_fn)
     }
 }
 

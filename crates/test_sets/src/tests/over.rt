@@ -22,7 +22,8 @@ struct Filled<'a, T: AtomicValue<Target = u64>, B> {
     alloc: Global,
 }
 
-impl<'a, T: Made + AtomicValue<Target = u64>, B: InsertTable<T>> Inserts for Filled<'a, T, B> {
+impl<'a, T: Made + AtomicValue<Target = u64>, B: InsertTable<T, NumberLaw>> Inserts
+    for Filled<'a, T, B> {
     fn insert<R: Wait>(&self, rt: &R, number: u64) -> Told {
         match T::made(self.alloc, number) {
             Some(value) => told_by(self.set.insert(rt, value), number),
@@ -41,20 +42,18 @@ pub(super) fn assert_no_entries<B: SetTable<InPlace<u64>>>(
 }
 
 /// Inserts the numbers: so many of them are told Placed, and all others Found.
-pub(super) fn assert_fills<R: Wait + Abort, T: Made + AtomicValue<Target = u64>, B: InsertTable<T>>(
-    rt: &R,
-    alloc: Global,
-    set: &NumbersOver<T, B>,
-    numbers: Range<u64>,
-    placed: u64,
-) {
+pub(super) fn assert_fills<
+    R: Wait + Abort,
+    T: Made + AtomicValue<Target = u64>,
+    B: InsertTable<T, NumberLaw>,
+>(rt: &R, alloc: Global, set: &NumbersOver<T, B>, numbers: Range<u64>, placed: u64) {
     let found = numbers.end.wrapping_sub(numbers.start).wrapping_sub(placed);
     let told = fill(rt, &Filled { set, alloc }, numbers);
     assert_same(rt, told, Tally::of(placed, found));
 }
 
 /// Inserts the numbers below this one into a set without entries, twice, and finds each of them.
-pub(super) fn assert_grows<R: Wait + Abort, B: InsertTable<InPlace<u64>>>(
+pub(super) fn assert_grows<R: Wait + Abort, B: InsertTable<InPlace<u64>, NumberLaw>>(
     rt: &R,
     alloc: Global,
     set: &NumbersOver<InPlace<u64>, B>,
@@ -72,7 +71,7 @@ pub(super) fn assert_grows<R: Wait + Abort, B: InsertTable<InPlace<u64>>>(
 /// Two threads insert the same thousand numbers: each is placed by one of them.
 pub(super) fn assert_placed_by_one<
     R: Threads + Wait + Abort + Sync,
-    B: InsertTable<InPlace<u64>> + Sync,
+    B: InsertTable<InPlace<u64>, NumberLaw> + Sync,
 >(rt: &R, alloc: Global, set: &NumbersOver<InPlace<u64>, B>) {
     let parts = [(0, 1000), (0, 1000)];
     let told = fill_at_once(rt, &Filled { set, alloc }, alloc, parts.as_slice());
@@ -81,7 +80,7 @@ pub(super) fn assert_placed_by_one<
 }
 
 /// A text that is placed is shown, and found by its bytes.
-pub(super) fn assert_found_by_key<R: Wait + Abort, B: InsertTable<Box<String>>>(
+pub(super) fn assert_found_by_key<R: Wait + Abort, B: InsertTable<Box<String>, TextLaw>>(
     rt: &R,
     alloc: Global,
     set: &SetOver<Box<String>, TextLaw, B>,
@@ -100,7 +99,7 @@ pub(super) const NUMBERS: u64 = 17;
 
 /// Inserts the numbers into a set of this memory, each again after a refusal: how many inserts were refused. In the end each block
 /// was given back.
-pub(super) fn refused_inserts<R: Wait + Abort, B: InsertTable<Box<u64>> + Drop>(
+pub(super) fn refused_inserts<R: Wait + Abort, B: InsertTable<Box<u64>, NumberLaw> + Drop>(
     rt: &R,
     alloc: Global,
     memory: &Refusing<Global>,
