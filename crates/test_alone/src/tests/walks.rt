@@ -57,7 +57,7 @@ fn walks_give_a_thousand_numbers_once_each(rt: HostRuntime) -> Result<(), Fail> 
 }
 
 /// How many steps a walk has.
-fn count_steps<T: Drop, I: Iterator<Item = T> + Drop>(walk: &mut I) -> u64
+pub(super) fn count_steps<T: Drop, I: Iterator<Item = T> + Drop>(walk: &mut I) -> u64
     requires can { I.can_next walk.old }
     requires ends { IsFinite (I.remaining walk.old) }
 {
