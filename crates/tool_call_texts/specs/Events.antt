@@ -12,15 +12,18 @@ pub data Piece : Type 0 where
   Letters : (letters : List ℕ) → Piece
   Number : (n : ℕ) → Piece
 
+-- yes or no, in these letters
+abbrev pub said_by : List ℕ → List ℕ → Bool → Piece
+said_by yes no true = Letters yes
+said_by yes no false = Letters no
+
 -- what a closure answers
 abbrev pub answer : Bool → Piece
-answer true = Letters (codes "y")
-answer false = Letters (codes "n")
+answer = said_by (codes "y") (codes "n")
 
 -- whether memory is granted
 abbrev pub grant : Bool → Piece
-grant true = Letters (codes "ok")
-grant false = Letters (codes "no")
+grant = said_by (codes "ok") (codes "no")
 
 -- the pieces of an event: its word, its numbers, and what it is answered
 abbrev pub pieces_of : Event → List Piece

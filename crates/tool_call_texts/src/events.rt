@@ -1,6 +1,6 @@
 //! How the lines of `core` are spelled.
 ghost use Rattle.std.specs.Prelude.{◌≡◌, ◌≢◌, ◌∷◌, [], Bool, IfSome, IfNone};
-ghost use Rattle.tool_call_texts.specs.Events.{Letters, Number, answer, grant, pieces_of, SpellsPiece, SpellsPieces};
+ghost use Rattle.tool_call_texts.specs.Events.{Letters, Number, said_by, answer, grant, pieces_of, SpellsPiece, SpellsPieces};
 ghost use Rattle.tool_call_texts.specs.Events.{SpellsAfter, SpellsBehind, SpellsEvent, SpellsScheduleLine};
 ghost use Rattle.tool_call_texts.specs.declared.events.ScheduleLine.{ScheduleLine as LineOf};
 ghost use Rattle.table_core.specs.declared.event.Event.{Event as EventOf};
@@ -131,11 +131,7 @@ fn parse_answer(text: &[u8]) -> Option<bool>
     ensures spelled { IfSome result (λ b. SpellsPiece text.now (answer b)) }
     ensures bad { IfNone result ((b : Bool) → ¬ SpellsPiece text.now (answer b)) }
 {
-    match text {
-        b"y" => Some(true),
-        b"n" => Some(false),
-        _ => None,
-    }
+    parse_either(text, b"y", b"n")
 }
 
 /// Reads whether memory was granted.
@@ -143,9 +139,19 @@ fn parse_grant(text: &[u8]) -> Option<bool>
     ensures spelled { IfSome result (λ b. SpellsPiece text.now (grant b)) }
     ensures bad { IfNone result ((b : Bool) → ¬ SpellsPiece text.now (grant b)) }
 {
-    match text {
-        b"ok" => Some(true),
-        b"no" => Some(false),
-        _ => None,
+    parse_either(text, b"ok", b"no")
+}
+
+/// Reads yes or no, in these letters.
+fn parse_either(text: &[u8], yes: &[u8], no: &[u8]) -> Option<bool>
+    ensures spelled { IfSome result (λ b. SpellsPiece text.now (said_by yes.now no.now b)) }
+    ensures bad { IfNone result ((b : Bool) → ¬ SpellsPiece text.now (said_by yes.now no.now b)) }
+{
+    if text == yes {
+        Some(true)
+    } else if text == no {
+        Some(false)
+    } else {
+        None
     }
 }

@@ -34,17 +34,14 @@ impl<A: Allocator + Copy> Schedule<A> {
 }
 
 impl<A: Allocator + Copy> LineCommand for Schedule<A> {
-    ghost use Rattle.std.specs.Prelude.{IfSome, IfNone};
     ghost use Rattle.tool_call_texts.specs.Events.{SpellsScheduleLine};
     ghost use Rattle.tool_call_texts.specs.Schedules.{world_after, printed};
-    ghost use Rattle.tool_call_texts.specs.declared.events.ScheduleLine.{ScheduleLine as LineOf};
 
     type Line = ScheduleLine;
 
-    fn parse(text: &[u8]) -> Option<ScheduleLine>
-        ensures spelled { IfSome result (SpellsScheduleLine text.now) }
-        ensures bad { IfNone result ((line : LineOf) → ¬ SpellsScheduleLine text.now line) }
-    {
+    ghost spells = { SpellsScheduleLine };
+
+    fn parse(text: &[u8]) -> Option<ScheduleLine> {
         parse_schedule_line(text)
     }
 

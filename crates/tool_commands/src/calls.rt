@@ -12,17 +12,15 @@ use tool_streams::faults::StreamFault;
 use tool_streams::line_command::LineCommand;
 
 impl<A: Allocator + Copy, B: PairStore<A>> LineCommand for PairTable<B, A> {
-    ghost use Rattle.std.specs.Prelude.{ℕ, List, IfSome, IfNone};
+    ghost use Rattle.std.specs.Prelude.{ℕ, List};
     ghost use Rattle.tool_commands.specs.Answered.{AnswersAsPairs};
     ghost use Rattle.tool_call_texts.specs.Spelling.{SpellsLine};
-    ghost use Rattle.tool_call_texts.specs.declared.spelling.Line.{Line as LineOf};
 
     type Line = Line;
 
-    fn parse(text: &[u8]) -> Option<Line>
-        ensures spelled { IfSome result (SpellsLine text.now) }
-        ensures bad { IfNone result ((line : LineOf) → ¬ SpellsLine text.now line) }
-    {
+    ghost spells = { SpellsLine };
+
+    fn parse(text: &[u8]) -> Option<Line> {
         parse_line(text)
     }
 

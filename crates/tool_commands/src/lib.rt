@@ -4,6 +4,7 @@
 pub mod calls;
 pub mod gate;
 pub mod jobs;
+mod lines;
 pub mod pairs;
 pub mod program;
 pub mod seats;

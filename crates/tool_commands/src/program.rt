@@ -4,11 +4,10 @@ ghost use Rattle.tool_call_texts.specs.Arguments.{NamesCommand, IsRunnable, IsFa
 ghost use Rattle.tool_call_texts.specs.Faults.{status_of};
 ghost use Rattle.tool_call_texts.specs.declared.arguments.Command.{Command as CommandOf};
 ghost use Rattle.tool_call_texts.specs.declared.faults.Fault.{Fault as FaultOf};
-ghost use Rattle.table_terms.specs.Capacities.{IsFirstCapacity};
-ghost use Rattle.tool_streams.specs.Faults.{IsCountedFromOne};
 
 use crate::gate::{Gates, ProgramGates};
 use crate::jobs::Crew;
+use crate::lines::run_lines;
 use crate::pairs::PairTable;
 use crate::seats::{WORKER_STACK, run_seats};
 use crate::shards::run_shards;
@@ -24,9 +23,8 @@ use std::thread::Threads;
 use tool_call_texts::arguments::{Command, parse_command};
 use tool_call_texts::faults::Fault;
 use tool_call_texts::schedules::Schedule;
-use tool_streams::arguments::read_words;
-use tool_streams::faults::{LineFault, StreamFault};
-use tool_streams::line_command::take_lines;
+use tool_streams::arguments::words_or_status;
+use tool_streams::faults::StreamFault;
 use tool_streams::messages::end_with;
 use tool_streams::output::Output;
 use tool_streams::short_lines::ShortLines;
@@ -41,10 +39,9 @@ pub fn run_program<
     O: Write,
     M: Write,
 >(rt: &R, env: &E, alloc: A, input: I, output: &mut O, messages: &mut M) -> u8 {
-    match read_words(env) {
-        Ok(Some(words)) => run_words(rt, alloc, words.as_slice(), input, output, messages),
-        Ok(None) => end_with(&Fault::Usage, messages),
-        Err(fault) => end_with(&fault, messages),
+    match words_or_status(env, &Fault::Usage, messages) {
+        Ok(words) => run_words(rt, alloc, words.as_slice(), input, output, messages),
+        Err(status) => status,
     }
 }
 
@@ -106,13 +103,15 @@ fn run_command<
     let mut output = Output::new(output);
     let ended = match command {
         Command::Calls { first } => {
-            run_calls(alloc, first, &mut lines, &mut output).map_err(Fault::from)
+            let mut table = PairTable::new(alloc, RawPairs::new(alloc, first));
+            run_lines(&mut table, &mut lines, &mut output)
         }
         Command::Shards { shards, first } => {
-            run_shards(&alloc, shards, first, &mut lines, &mut output).map_err(Fault::from)
+            run_shards(&alloc, shards, first, &mut lines, &mut output)
         }
         Command::Core { first } => {
-            run_core(alloc, first, &mut lines, &mut output).map_err(Fault::from)
+            let mut schedule = Schedule::new(alloc, first);
+            run_lines(&mut schedule, &mut lines, &mut output)
         }
         Command::Stress { threads, jobs } => {
             let crew = Crew::new(threads, WORKER_STACK);
@@ -125,32 +124,4 @@ fn run_command<
     };
     output.flush().map_err(|_error| StreamFault::WriteFailed)?;
     ended
-}
-
-/// Answers the lines of the input on a table held alone, whose first generation will have `first` buckets.
-fn run_calls<A: Allocator + Copy, I: Read, O: Write>(
-    alloc: A,
-    first: usize,
-    lines: &mut ShortLines<I>,
-    output: &mut Output<O>,
-) -> Result<(), LineFault>
-    requires { IsFirstCapacity first }
-    ensures counted { IfErr result IsCountedFromOne }
-{
-    let mut table = PairTable::new(alloc, RawPairs::new(alloc, first));
-    take_lines(&mut table, lines, output)
-}
-
-/// Takes the events of the input on the machine of a table whose first generation will have `first` buckets.
-fn run_core<A: Allocator + Copy, I: Read, O: Write>(
-    alloc: A,
-    first: usize,
-    lines: &mut ShortLines<I>,
-    output: &mut Output<O>,
-) -> Result<(), LineFault>
-    requires { IsFirstCapacity first }
-    ensures counted { IfErr result IsCountedFromOne }
-{
-    let mut schedule = Schedule::new(alloc, first);
-    take_lines(&mut schedule, lines, output)
 }

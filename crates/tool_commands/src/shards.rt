@@ -1,15 +1,16 @@
 //! The command `shards`: the lines of `calls`, asked of a table over shards held alone.
-ghost use Rattle.std.specs.Prelude.{IfErr};
+ghost use Rattle.std.specs.Prelude.{◌≤◌, IfErr};
+ghost use Rattle.std.specs.Int.{IsPowerOfTwo};
 ghost use Rattle.table_terms.specs.Capacities.{IsFirstCapacity};
-ghost use Rattle.tool_streams.specs.Faults.{IsCountedFromOne};
+ghost use Rattle.tool_call_texts.specs.Faults.{IsInputFault};
 
+use crate::lines::run_lines;
 use crate::pairs::PairTable;
 use crate::stores::ShardedPairs;
 use std::alloc::Allocator;
 use std::io::{Read, Write};
 use tool_call_texts::arguments::ShardCount;
-use tool_streams::faults::LineFault;
-use tool_streams::line_command::take_lines;
+use tool_call_texts::faults::Fault;
 use tool_streams::output::Output;
 use tool_streams::short_lines::ShortLines;
 
@@ -22,53 +23,31 @@ pub fn run_shards<A: Allocator + Copy, I: Read, O: Write>(
     first: usize,
     lines: &mut ShortLines<I>,
     output: &mut Output<O>,
-) -> Result<(), LineFault>
+) -> Result<(), Fault>
     requires { IsFirstCapacity first }
-    ensures counted { IfErr result IsCountedFromOne }
+    ensures fault { IfErr result IsInputFault }
 {
     match shards {
-        ShardCount::One => run_over::<1, &A, I, O>(
-            alloc,
-            ShardedPairs::new(alloc, first),
-            lines,
-            output,
-        ),
-        ShardCount::Two => run_over::<2, &A, I, O>(
-            alloc,
-            ShardedPairs::new(alloc, first),
-            lines,
-            output,
-        ),
-        ShardCount::Four => run_over::<4, &A, I, O>(
-            alloc,
-            ShardedPairs::new(alloc, first),
-            lines,
-            output,
-        ),
-        ShardCount::Eight => run_over::<8, &A, I, O>(
-            alloc,
-            ShardedPairs::new(alloc, first),
-            lines,
-            output,
-        ),
-        ShardCount::Sixteen => run_over::<16, &A, I, O>(
-            alloc,
-            ShardedPairs::new(alloc, first),
-            lines,
-            output,
-        ),
+        ShardCount::One => run_over::<1, A, I, O>(alloc, first, lines, output),
+        ShardCount::Two => run_over::<2, A, I, O>(alloc, first, lines, output),
+        ShardCount::Four => run_over::<4, A, I, O>(alloc, first, lines, output),
+        ShardCount::Eight => run_over::<8, A, I, O>(alloc, first, lines, output),
+        ShardCount::Sixteen => run_over::<16, A, I, O>(alloc, first, lines, output),
     }
 }
 
-/// Answers the lines of the input on this table.
+/// Answers the lines of the input on a table over `SHARDS` shards.
 fn run_over<const SHARDS: usize, A: Allocator + Copy, I: Read, O: Write>(
-    alloc: A,
-    table: ShardedPairs<SHARDS, A>,
+    alloc: &A,
+    first: usize,
     lines: &mut ShortLines<I>,
     output: &mut Output<O>,
-) -> Result<(), LineFault>
-    ensures counted { IfErr result IsCountedFromOne }
+) -> Result<(), Fault>
+    requires shards { IsPowerOfTwo SHARDS }
+    requires few { SHARDS ≤ 16 }
+    requires first { IsFirstCapacity first }
+    ensures fault { IfErr result IsInputFault }
 {
-    let mut table = PairTable::new(alloc, table);
-    take_lines(&mut table, lines, output)
+    let mut table = PairTable::new(alloc, ShardedPairs::<SHARDS, &A>::new(alloc, first));
+    run_lines(&mut table, lines, output)
 }

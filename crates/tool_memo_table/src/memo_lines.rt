@@ -19,11 +19,10 @@ use tool_streams::short_lines::ShortLines;
 impl<A: Allocator + Copy> LineCommand for Memo<A> {
     type Line = u64;
 
+    ghost spells = { Writes 10 20 };
+
     /// A line is 1 to 20 decimal digits, of a number below 2^64.
-    fn parse(text: &[u8]) -> Option<u64>
-        ensures written { IfSome result (Writes 10 20 text.now) }
-        ensures bad { IfNone result ((n : ℕ) → ¬ Writes 10 20 text.now n) }
-    {
+    fn parse(text: &[u8]) -> Option<u64> {
         parse_decimal(text)
     }
 

@@ -1,9 +1,10 @@
 //! The words that a program was called with.
-ghost use Rattle.std.specs.Prelude.{◌≡◌, OnErr};
+ghost use Rattle.std.specs.Prelude.{◌≡◌, ◌⊎◌, IfErr, IsOk, OnErr};
 
-use crate::faults::StreamFault;
+use crate::faults::{RunFault, StreamFault};
+use crate::messages::end_with;
 use std::env;
-use std::io::ErrorKind;
+use std::io::{ErrorKind, Write};
 use std::rt::Env;
 
 /// The words after the program's name. None: one of them is no text.
@@ -18,5 +19,22 @@ pub fn read_words<E: Env + Alloc>(env: &E) -> Result<Option<Vec<String<E::A>, E:
     match words.skip(1).collect(env.alloc()) {
         Ok(words) => Ok(Some(words)),
         Err(_) => Err(StreamFault::NoMemory),
+    }
+}
+
+/// The words after the program's name. Err: the status by which the program ends without them, once its message is written:
+/// of `usage` where one of them is no text.
+pub fn words_or_status<E: Env + Alloc, F: RunFault, M: Write>(
+    env: &E,
+    usage: &F,
+    messages: &mut M,
+) -> Result<Vec<String<E::A>, E::A>, u8>
+    ensures well { IsOk result → messages.new ≡ messages.old }
+    ensures status { IfErr result (λ status. (status ≡ F.status_of usage.now) ⊎ (status ≡ 1)) }
+{
+    match read_words(env) {
+        Ok(Some(words)) => Ok(words),
+        Ok(None) => Err(end_with(usage, messages)),
+        Err(fault) => Err(end_with(&fault, messages)),
     }
 }

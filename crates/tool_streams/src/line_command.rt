@@ -9,11 +9,18 @@ use std::io::{Read, Write};
 
 /// A command whose input is lines.
 pub trait LineCommand {
+    ghost use Rattle.std.specs.Prelude.{List, IfSome, IfNone};
+
     /// What a line asks.
     type Line: Copy;
 
+    /// This text spells the line.
+    ghost spells: { List ℕ → Self.Line → Type 0 };
+
     /// Reads a whole line, without its line break. `None` is a line that is spelled in no way that the command knows.
-    fn parse(text: &[u8]) -> Option<Self::Line>;
+    fn parse(text: &[u8]) -> Option<Self::Line>
+        ensures spelled { IfSome result (spells text.now) }
+        ensures bad { IfNone result ((line : Self.Line) → ¬ spells text.now line) };
 
     /// Does what the line asks, and writes its reply on a line of its own. It reads nothing.
     fn take<W: Write>(&mut self, line: Self::Line, output: &mut W) -> Result<(), StreamFault>

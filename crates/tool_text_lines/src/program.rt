@@ -15,7 +15,7 @@ use std::alloc::Allocator;
 use std::convert::AsStr;
 use std::io::{Read, Write};
 use std::rt::Env;
-use tool_streams::arguments::read_words;
+use tool_streams::arguments::words_or_status;
 use tool_streams::faults::StreamFault;
 use tool_streams::messages::end_with;
 use tool_streams::output::Output;
@@ -29,10 +29,9 @@ pub fn run_program<
     O: Write,
     M: Write,
 >(env: &E, files: &F, alloc: A, input: I, output: &mut O, messages: &mut M) -> u8 {
-    match read_words(env) {
-        Ok(Some(words)) => run_over(files, alloc, words.as_slice(), input, output, messages),
-        Ok(None) => end_with(&Usage, messages),
-        Err(fault) => end_with(&fault, messages),
+    match words_or_status(env, &Usage, messages) {
+        Ok(words) => run_over(files, alloc, words.as_slice(), input, output, messages),
+        Err(status) => status,
     }
 }
 

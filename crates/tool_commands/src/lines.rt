@@ -1,0 +1,20 @@
+//! Commands whose input is lines.
+ghost use Rattle.std.specs.Prelude.{IfErr};
+ghost use Rattle.tool_call_texts.specs.Faults.{IsInputFault};
+
+use std::io::{Read, Write};
+use tool_call_texts::faults::Fault;
+use tool_streams::line_command::{LineCommand, take_lines};
+use tool_streams::output::Output;
+use tool_streams::short_lines::ShortLines;
+
+/// Takes the lines of the input, one by one, until one is spelled in no way or the input ends: see `take_lines`.
+pub(crate) fn run_lines<C: LineCommand, I: Read, O: Write>(
+    command: &mut C,
+    lines: &mut ShortLines<I>,
+    output: &mut Output<O>,
+) -> Result<(), Fault>
+    ensures fault { IfErr result IsInputFault }
+{
+    take_lines(command, lines, output).map_err(Fault::from)
+}
