@@ -14,8 +14,8 @@ pub data Piece : Type 0 where
 
 -- yes or no, in these letters
 abbrev pub said_by : List ℕ → List ℕ → Bool → Piece
-said_by yes no true = Letters yes
-said_by yes no false = Letters no
+said_by one other true = Letters one
+said_by one other false = Letters other
 
 -- what a closure answers
 abbrev pub answer : Bool → Piece
