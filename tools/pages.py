@@ -307,11 +307,15 @@ def sizes():
     return "\n".join(rows)
 
 
+def said_of(file):
+    """The first sentence of what a file of code says of itself, or nothing."""
+    docs = [line[3:].strip() for line in file.read_text().splitlines() if line.startswith("//!")]
+    return re.split(r"(?<=\.) (?=[A-Z])", " ".join(docs).partition("  ")[0], maxsplit=1)[0].rstrip(".")
+
+
 def docs_of(crate):
     """The first sentence of what a crate says of itself."""
-    root = next(file for name in ("lib.rt", "main.rt") if (file := folder_of(crate) / "src" / name).exists())
-    docs = [line[3:].strip() for line in root.read_text().splitlines() if line.startswith("//!")]
-    return re.split(r"(?<=\.) (?=[A-Z])", " ".join(docs).partition("  ")[0], maxsplit=1)[0].rstrip(".")
+    return said_of(next(file for name in ("lib.rt", "main.rt") if (file := folder_of(crate) / "src" / name).exists()))
 
 
 def crate_table():
@@ -332,6 +336,17 @@ def proof_index():
             parts.append(f"### `{crate}`\n\n| File | What it shows |\n|---|---|")
             parts[-1] += "".join(f"\n| `{name}` | {first.removeprefix('-- ').rstrip('.')} |" for name, first in rows)
     return "\n\n".join(parts)
+
+
+def test_index():
+    """What each module of the tests and of their kit has."""
+    rows = ["| Crate | Module | What it has |", "|---|---|---|"]
+    for crate in (crate for crate, _ in crates() if crate.startswith(("test_", "testkit_"))):
+        for file in files_below(crate, "src", ".rt"):
+            module = "::".join(file.relative_to(folder_of(crate) / "src").with_suffix("").parts).removeprefix("tests::")
+            if module not in ("lib", "tests") and said_of(file):
+                rows.append(f"| `{crate}` | `{module}` | {said_of(file)} |")
+    return "\n".join(rows)
 
 
 # The pages
@@ -355,7 +370,8 @@ def with_quotes(text):
 def written_pages():
     """Each page that the tool writes to, as it should be, and what is wrong with what is hand-written."""
     promises = Promises((DOCS / "PROMISES.md").read_text())
-    parts = {"calls": other_calls(promises.sections), "sizes": sizes(), "crates": crate_table(), "proof files": proof_index()}
+    parts = {"calls": other_calls(promises.sections), "sizes": sizes(), "crates": crate_table(), "proof files": proof_index(),
+             "test modules": test_index()}
     pages = {}
     for page in PAGES:
         text = promises.text() if page.name == "PROMISES.md" else page.read_text()
