@@ -1,6 +1,6 @@
 -- The message and the status of each fault, and which faults a command has.
 use Rattle.std.specs.Prelude.{◌≢◌, ℕ, List, ⊤, ◌++◌, codes, decimal}
-use Rattle.tool_streams.specs.Faults.{stream_message, line_message, line_status}
+use Rattle.tool_streams.specs.Faults.{stream_message, line_message, line_status, IsCountedFromOne}
 use Rattle.tool_streams.specs.declared.faults.StreamFault.TheVariants as stream
 use Rattle.tool_streams.specs.declared.faults.LineFault.{LineFault}
 use Rattle.tool_streams.specs.declared.faults.LineFault.TheVariants as line
@@ -32,9 +32,9 @@ status_of NoThread = 1
 status_of GateStuck = 1
 status_of (JobFailed kind job) = 1
 
--- what may go wrong with an input of lines
+-- what may go wrong with an input of lines: a bad line is counted from 1
 abbrev pub IsInputFault : Fault → Type 0
-IsInputFault (BadLine k) = ⊤
+IsInputFault (BadLine k) = IsCountedFromOne (line.BadLine k)
 IsInputFault (Stream fault) = ⊤
 IsInputFault _ = ⊥
 
