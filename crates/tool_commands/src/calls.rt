@@ -1,15 +1,20 @@
 //! The lines of `calls` and `shards`, asked of a table held alone.
 ghost use Rattle.std.specs.Prelude.{◌≡◌, ◌≢◌, ◌++◌, ℕ, List, OnOk, IfErr, codes};
 ghost use Rattle.std.specs.Io.KnownBytes.{Appends};
+ghost use Rattle.tool_call_texts.specs.Faults.{IsInputFault};
 
+use crate::lines::run_lines;
 use crate::pairs::PairTable;
 use crate::stores::PairStore;
 use std::alloc::Allocator;
-use std::io::Write;
+use std::io::{Read, Write};
+use tool_call_texts::faults::Fault;
 use tool_call_texts::replies::{Reply, write_reply};
 use tool_call_texts::spelling::{Line, parse_line};
 use tool_streams::faults::StreamFault;
 use tool_streams::line_command::LineCommand;
+use tool_streams::output::Output;
+use tool_streams::short_lines::ShortLines;
 
 impl<A: Allocator + Copy, B: PairStore<A>> LineCommand for PairTable<B, A> {
     ghost use Rattle.std.specs.Prelude.{ℕ, List};
@@ -49,4 +54,17 @@ impl<A: Allocator + Copy, B: PairStore<A>> LineCommand for PairTable<B, A> {
             },
         }
     }
+}
+
+/// Answers the lines of the input on this table of pairs, whose pairs take their blocks from this memory.
+pub fn run_pairs<A: Allocator + Copy, B: PairStore<A> + Drop, I: Read, O: Write>(
+    alloc: A,
+    store: B,
+    lines: &mut ShortLines<I>,
+    output: &mut Output<O>,
+) -> Result<(), Fault>
+    ensures fault { IfErr result IsInputFault }
+{
+    let mut table = PairTable::new(alloc, store);
+    run_lines(&mut table, lines, output)
 }

@@ -5,10 +5,10 @@ ghost use Rattle.tool_call_texts.specs.Faults.{status_of};
 ghost use Rattle.tool_call_texts.specs.declared.arguments.Command.{Command as CommandOf};
 ghost use Rattle.tool_call_texts.specs.declared.faults.Fault.{Fault as FaultOf};
 
+use crate::calls::run_pairs;
 use crate::gate::{Gates, ProgramGates};
 use crate::jobs::Crew;
 use crate::lines::run_lines;
-use crate::pairs::PairTable;
 use crate::seats::{WORKER_STACK, run_seats};
 use crate::shards::run_shards;
 use crate::stores::RawPairs;
@@ -103,8 +103,8 @@ fn run_command<
     let mut output = Output::new(output);
     let ended = match command {
         Command::Calls { first } => {
-            let mut table = PairTable::new(alloc, RawPairs::new(alloc, first));
-            run_lines(&mut table, &mut lines, &mut output)
+            let store = RawPairs::new(alloc, first);
+            run_pairs(alloc, store, &mut lines, &mut output)
         }
         Command::Shards { shards, first } => {
             run_shards(&alloc, shards, first, &mut lines, &mut output)

@@ -4,8 +4,7 @@ ghost use Rattle.std.specs.Int.{IsPowerOfTwo};
 ghost use Rattle.table_terms.specs.Capacities.{IsFirstCapacity};
 ghost use Rattle.tool_call_texts.specs.Faults.{IsInputFault};
 
-use crate::lines::run_lines;
-use crate::pairs::PairTable;
+use crate::calls::run_pairs;
 use crate::stores::ShardedPairs;
 use std::alloc::Allocator;
 use std::io::{Read, Write};
@@ -15,8 +14,7 @@ use tool_streams::output::Output;
 use tool_streams::short_lines::ShortLines;
 
 /// Answers the lines of the input on a table over so many shards, of which each will have `first` buckets in its first
-/// generation. The memory is borrowed, since a table over shards must be seen to fit in memory, and the size of a borrow is
-/// known.
+/// generation.
 pub fn run_shards<A: Allocator + Copy, I: Read, O: Write>(
     alloc: &A,
     shards: ShardCount,
@@ -28,26 +26,23 @@ pub fn run_shards<A: Allocator + Copy, I: Read, O: Write>(
     ensures fault { IfErr result IsInputFault }
 {
     match shards {
-        ShardCount::One => run_over::<1, A, I, O>(alloc, first, lines, output),
-        ShardCount::Two => run_over::<2, A, I, O>(alloc, first, lines, output),
-        ShardCount::Four => run_over::<4, A, I, O>(alloc, first, lines, output),
-        ShardCount::Eight => run_over::<8, A, I, O>(alloc, first, lines, output),
-        ShardCount::Sixteen => run_over::<16, A, I, O>(alloc, first, lines, output),
+        ShardCount::One => run_pairs(alloc, over::<1, A>(alloc, first), lines, output),
+        ShardCount::Two => run_pairs(alloc, over::<2, A>(alloc, first), lines, output),
+        ShardCount::Four => run_pairs(alloc, over::<4, A>(alloc, first), lines, output),
+        ShardCount::Eight => run_pairs(alloc, over::<8, A>(alloc, first), lines, output),
+        ShardCount::Sixteen => run_pairs(alloc, over::<16, A>(alloc, first), lines, output),
     }
 }
 
-/// Answers the lines of the input on a table over `SHARDS` shards.
-fn run_over<const SHARDS: usize, A: Allocator + Copy, I: Read, O: Write>(
+/// The empty table over `SHARDS` shards. The memory is borrowed, since a table over shards must be seen to fit in memory, and
+/// the size of a borrow is known.
+fn over<const SHARDS: usize, A: Allocator + Copy>(
     alloc: &A,
     first: usize,
-    lines: &mut ShortLines<I>,
-    output: &mut Output<O>,
-) -> Result<(), Fault>
+) -> ShardedPairs<SHARDS, &A>
     requires shards { IsPowerOfTwo SHARDS }
     requires few { SHARDS ≤ 16 }
     requires first { IsFirstCapacity first }
-    ensures fault { IfErr result IsInputFault }
 {
-    let mut table = PairTable::new(alloc, ShardedPairs::<SHARDS, &A>::new(alloc, first));
-    run_lines(&mut table, lines, output)
+    ShardedPairs::new(alloc, first)
 }

@@ -1,5 +1,5 @@
 //! One thread: placed, found, full, refused, found by a key, and the end.
-use super::made::{Fared, Heap, counted, made};
+use super::made::{Fared, Heap, counted, has, made, put};
 use table_bounded::{BoundedSet, Placing};
 use table_sets::TextLaw;
 
@@ -9,12 +9,12 @@ fn a_number_is_placed_once_and_found(rt: HostRuntime) {
     let set = made(&heap, 4).expect(&rt, "a set");
     let mut known = set.known();
     assert_eq!(rt; set.buckets(), 4);
-    assert!(rt; set.get(&mut known, &5).is_none());
-    assert_eq!(rt; Fared::of(set.insert(&mut known, 5)), Fared::Placed(5));
-    assert_eq!(rt; Fared::of(set.insert(&mut known, 5)), Fared::Found(5, 5));
-    assert_eq!(rt; Fared::of(set.insert(&mut known, 6)), Fared::Placed(6));
-    assert!(rt; set.get(&mut known, &5).is_some());
-    assert!(rt; set.get(&mut known, &7).is_none());
+    assert!(rt; !has(&set, &mut known, 5));
+    assert_eq!(rt; put(&set, &mut known, 5), Fared::Placed(5));
+    assert_eq!(rt; put(&set, &mut known, 5), Fared::Found(5, 5));
+    assert_eq!(rt; put(&set, &mut known, 6), Fared::Placed(6));
+    assert!(rt; has(&set, &mut known, 5));
+    assert!(rt; !has(&set, &mut known, 7));
     assert_eq!(rt; (heap.granted(), heap.given_back()), (3, 0));
     drop(set);
     assert_eq!(rt; (heap.granted(), heap.given_back()), (3, 3));
@@ -27,13 +27,13 @@ fn what_has_no_place_comes_back(rt: HostRuntime) {
     assert!(rt; made(&heap, 2).is_none());
     let set = made(&heap, 2).expect(&rt, "a set");
     let mut known = set.known();
-    assert_eq!(rt; Fared::of(set.insert(&mut known, 1)), Fared::Placed(1));
+    assert_eq!(rt; put(&set, &mut known, 1), Fared::Placed(1));
     heap.refuse(0, 1);
-    assert_eq!(rt; Fared::of(set.insert(&mut known, 2)), Fared::NoMemory(2));
-    assert!(rt; set.get(&mut known, &2).is_none());
-    assert_eq!(rt; Fared::of(set.insert(&mut known, 2)), Fared::Placed(2));
-    assert_eq!(rt; Fared::of(set.insert(&mut known, 3)), Fared::Full(3));
-    assert_eq!(rt; Fared::of(set.insert(&mut known, 1)), Fared::Found(1, 1));
+    assert_eq!(rt; put(&set, &mut known, 2), Fared::NoMemory(2));
+    assert!(rt; !has(&set, &mut known, 2));
+    assert_eq!(rt; put(&set, &mut known, 2), Fared::Placed(2));
+    assert_eq!(rt; put(&set, &mut known, 3), Fared::Full(3));
+    assert_eq!(rt; put(&set, &mut known, 1), Fared::Found(1, 1));
     drop(set);
     assert_eq!(rt; heap.granted(), heap.given_back());
 }
@@ -44,10 +44,7 @@ fn the_values_are_handed_out_at_the_end(rt: HostRuntime) {
     let set = made(&heap, 8).expect(&rt, "a set");
     let mut known = set.known();
     for number in 0u64..5 {
-        assert_eq!(rt;
-            Fared::of(set.insert(&mut known, number)),
-            Fared::Placed(number)
-        );
+        assert_eq!(rt; put(&set, &mut known, number), Fared::Placed(number));
     }
     heap.refuse(0, 1);
     let set = set.into_values(&mut known).err().expect(&rt, "the set");

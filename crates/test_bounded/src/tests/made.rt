@@ -1,4 +1,6 @@
 //! Sets of numbers in memory that counts.
+ghost use Rattle.std.specs.Prelude.{◌≡◌};
+
 use std::alloc::Global;
 use table_bounded::{BoundedSet, Known, Placing};
 use table_sets::NumberLaw;
@@ -43,4 +45,20 @@ pub fn made(heap: &Heap, buckets: usize) -> Option<Numbers<'_>> {
     } else {
         None
     }
+}
+
+/// Inserts the number, and says how that ended.
+pub fn put(set: &Numbers<'_>, known: &mut Knows, number: u64) -> Fared
+    requires of { known.old.of ≡ set.now }
+    ensures of { known.new.of ≡ set.now }
+{
+    Fared::of(set.insert(known, number))
+}
+
+/// Whether the number is found.
+pub fn has(set: &Numbers<'_>, known: &mut Knows, number: u64) -> bool
+    requires of { known.old.of ≡ set.now }
+    ensures of { known.new.of ≡ set.now }
+{
+    set.get(known, &number).is_some()
 }

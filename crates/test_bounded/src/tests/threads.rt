@@ -1,5 +1,5 @@
 //! Two threads share a set.
-use super::made::{Fared, Heap, made};
+use super::made::{Fared, Heap, made, put};
 use crate::tell::tell;
 use std::thread;
 use std::thread::Threads;
@@ -11,11 +11,11 @@ fn same(rt: &impl Threads, heap: &Heap) -> bool {
         return false;
     };
     let shared = &set;
-    let put = move || {
+    let insert = move || {
         let mut known = shared.known();
-        Fared::of(shared.insert(&mut known, 7))
+        put(shared, &mut known, 7)
     };
-    let (first, second) = thread::join(rt, put, put);
+    let (first, second) = thread::join(rt, insert, insert);
     let one = first == Fared::Placed(7) && second == Fared::Found(7, 7);
     let other = first == Fared::Found(7, 7) && second == Fared::Placed(7);
     one || other
