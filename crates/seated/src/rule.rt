@@ -1,9 +1,10 @@
 //! The rule of a number table, and the steps that keep it.
 ghost use Rattle.seated.specs.Steps.{Reads, Claims};
-ghost use Rattle.seated.specs.Views.{unchanged};
+ghost use Rattle.seated.specs.Views.{unchanged, newcomer_of, note_of, gift_of};
 
 use crate::seat::View;
 use atomic_table::{Join, Play, Split, TableRule};
+use std::marker::PhantomData;
 
 /// The key is the number of words.
 pub struct NumberRule;
@@ -49,37 +50,41 @@ impl Play<(), View> for Claim {
     ghost then = { Claims };
 }
 
-/// Cuts off a seat that knows nothing.
-pub(crate) struct CutNewcomer;
+/// What can be cut off a seat: the view that it starts with, by the seat's.
+pub(crate) trait Part {
+    ghost use Rattle.seated.specs.declared.seat.View.{View};
 
-impl Split<View> for CutNewcomer {
-    ghost use Rattle.seated.specs.Views.{newcomer_of};
-
-    ghost left = { unchanged };
-
-    ghost right = { newcomer_of };
+    ghost of: { View → View };
 }
 
-/// Cuts off a note of what the seat knows.
-pub(crate) struct CutNote;
+/// Cuts the part off a seat, which keeps its own view.
+pub(crate) struct Cut<P>(PhantomData<P>);
 
-impl Split<View> for CutNote {
-    ghost use Rattle.seated.specs.Views.{note_of};
-
+impl<P: Part> Split<View> for Cut<P> {
     ghost left = { unchanged };
 
-    ghost right = { note_of };
+    ghost right = { P.of };
 }
 
-/// Cuts off a gift: what the seat knows, and what it placed so far.
-pub(crate) struct CutGift;
+/// A seat that knows nothing.
+pub(crate) struct Newcomer;
 
-impl Split<View> for CutGift {
-    ghost use Rattle.seated.specs.Views.{gift_of};
+impl Part for Newcomer {
+    ghost of = { newcomer_of };
+}
 
-    ghost left = { unchanged };
+/// A note of what the seat knows.
+pub(crate) struct Note;
 
-    ghost right = { gift_of };
+impl Part for Note {
+    ghost of = { note_of };
+}
+
+/// A gift: what the seat knows, and what it placed so far.
+pub(crate) struct Gift;
+
+impl Part for Gift {
+    ghost of = { gift_of };
 }
 
 /// Takes in another seat, a note or a gift.

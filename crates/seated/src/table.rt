@@ -3,7 +3,7 @@ ghost use Rattle.std.specs.Prelude.{◌≡◌, ◌<◌, true, length};
 ghost use Rattle.std.specs.Int.{is_power_of_two};
 
 use crate::rule::{
-    Claim, CutGift, CutNewcomer, CutNote, NumberRule, Read, ReadAndForget, ReadAndRaise, TakeIn,
+    Claim, Cut, Gift, Newcomer, Note, NumberRule, Read, ReadAndForget, ReadAndRaise, TakeIn,
 };
 use crate::seat::{NumberAnswer, Seat, View};
 use atomic_table::Table;
@@ -150,7 +150,7 @@ impl<A: Allocator + Copy> NumberTable<A> {
         let second = self
             .table
             .shared
-            .split_seat::<CutNewcomer>(&mut first.inner);
+            .split_seat::<Cut<Newcomer>>(&mut first.inner);
         Ok((first, Seat { inner: second }))
     }
 
@@ -213,11 +213,11 @@ impl<A: Allocator + Copy> NumberTable<A> {
     {
         let shared = &self.table.shared;
         // With the second's turn in its note, the first's turn gets above it, so that its gift can be told from the second's own.
-        let note = shared.split_seat::<CutNote>(&mut second.inner);
+        let note = shared.split_seat::<Cut<Note>>(&mut second.inner);
         self.take_in(first, note);
         shared.load::<ReadAndRaise>(&mut first.inner, 0);
         self.read_rest(first);
-        let gift = shared.split_seat::<CutGift>(&mut first.inner);
+        let gift = shared.split_seat::<Cut<Gift>>(&mut first.inner);
         self.take_in(second, gift);
         shared.load::<ReadAndForget>(&mut second.inner, 0);
         self.read_rest(second);
