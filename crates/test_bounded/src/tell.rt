@@ -25,20 +25,6 @@ pub fn put<V: Drop, L: SetLaw<V>, A: Low + Copy>(
     }
 }
 
-/// Looks for a value that is known to be there.
-pub fn find<V, L: SetLaw<V>, A: Low + Copy>(
-    set: &BoundedSet<V, L, A>,
-    known: &Known<V, L>,
-    value: &V,
-) -> bool
-    requires of { known.now.of ≡ set.now }
-    requires there { Has L.same known.now.history value.now }
-    ensures { result ≡ true }
-{
-    let mut mine = known.again();
-    set.get(&mut mine, value).is_some()
-}
-
 /// Two threads place a number each. Who was told of both finds both. None: the set was full, or memory was refused.
 pub fn tell<A: Low + Copy + Send + Sync, R: Threads + Sync>(
     rt: &R,
@@ -51,7 +37,7 @@ pub fn tell<A: Low + Copy + Send + Sync, R: Threads + Sync>(
     let (one, two) = join(rt, || put(set, set.known(), a), || put(set, set.known(), b));
     let mut known = one?;
     known.learn(&two?);
-    let first = find(set, &known, &a);
-    let second = find(set, &known, &b);
+    let first = set.get(&mut known, &a).is_some();
+    let second = set.get(&mut known, &b).is_some();
     Some((first, second))
 }
