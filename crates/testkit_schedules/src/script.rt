@@ -1,9 +1,9 @@
-//! Schedules in parts, as lines of the program.
+//! Events of schedules, as lines of the program.
 //!
 //! Events have `; ` between them. `first C V H` stands for a call that finds no generation, makes the first one and loads
 //! it, `go C V H` for one that places its value in an empty bucket, `copies C N` for N entries copied with the hashes from
 //! 0 on, and `N times EVENT` for one event again and again.
-use std::alloc::{AllocError, Global};
+use std::alloc::AllocError;
 use std::num::ParseIntError;
 
 /// The steps of a call that finds no generation, makes the first one and loads it.
@@ -32,18 +32,9 @@ impl From<ParseIntError> for NoLines {
     }
 }
 
-/// The lines of the parts of a schedule.
-pub fn lines_of(alloc: Global, parts: &[&str]) -> Result<String, NoLines> {
-    let mut input = String::new(alloc);
-    for part in parts {
-        push_events(&mut input, part)?;
-    }
-    Ok(input)
-}
-
-/// The lines of a part of a schedule.
-pub fn push_events(input: &mut String, part: &str) -> Result<(), NoLines> {
-    for event in part.split("; ") {
+/// The lines of some events.
+pub fn push_events(input: &mut String, events: &str) -> Result<(), NoLines> {
+    for event in events.split("; ") {
         match event.split_once(' ') {
             Some(("first", numbers)) => push_insert(input, numbers, FIRST)?,
             Some(("go", numbers)) => push_insert(input, numbers, GO)?,

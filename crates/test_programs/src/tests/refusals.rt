@@ -63,7 +63,8 @@ impl Schedule {
 fn push_schedule(input: &mut String, alloc: Global, first: u64) -> Result<(), Fail>
     requires { first < 64 }
 {
-    push_events(input, LOST_TO_AN_EQUAL)?;
+    let (events, _printed) = LOST_TO_AN_EQUAL;
+    push_events(input, events)?;
     for k in 3..first + 2 {
         let fills = format!(in alloc;
             "go {k} {} {}; own {k}; check {k} no; free {k}",
@@ -127,7 +128,8 @@ fn push_answers(input: &mut String, alloc: Global, first: u64) -> Result<(), Fai
 fn push_told(told: &mut String, first: u64) -> Result<(), Fail>
     requires { first < 64 }
 {
-    told.push_str("1 placed 10\n2 found 10 back 11\n")?;
+    let (_events, printed) = LOST_TO_AN_EQUAL;
+    told.push_str(printed)?;
     for k in 3..first + 4 {
         writeln!(told, "{k} placed {}", 9 + k)?;
     }

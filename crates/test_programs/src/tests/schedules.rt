@@ -7,8 +7,7 @@ use std::sync::Wait;
 use std::test::Fail;
 use std::thread::Threads;
 use table_terms::capacity::is_first_capacity;
-use testkit_schedules::script::lines_of;
-use testkit_schedules::worked::{Row, SCHEDULES};
+use testkit_schedules::worked::{Row, SCHEDULES, lines_of, printed_by};
 
 /// The program's words that name this first capacity: one of those in the table.
 fn words_for(first: u64) -> &'static [&'static str] {
@@ -23,14 +22,15 @@ fn assert_row<R: Threads + Wait + AllocGlobal + Abort + Sync>(
     rt: &R,
     row: &Row,
 ) -> Result<(), Fail> {
-    let (first, parts, printed) = *row;
-    let input = lines_of(rt.alloc(), parts)?;
-    assert_prints(rt, words_for(first), input.as_str(), printed);
+    let (first, ..) = *row;
+    let input = lines_of(rt.alloc(), row)?;
+    let printed = printed_by(rt.alloc(), row)?;
+    assert_prints(rt, words_for(first), input.as_str(), printed.as_str());
     assert!(rt; is_first_capacity(first));
     let steps = lines_of_steps(rt.alloc(), first, input.as_str())?;
-    assert_eq!(rt; steps.as_str(), printed);
+    assert_eq!(rt; steps.as_str(), printed.as_str());
     let told = lines_of_run(rt.alloc(), first, input.as_str())?;
-    let replies = without_buckets(rt.alloc(), printed)?;
+    let replies = without_buckets(rt.alloc(), printed.as_str())?;
     assert_eq!(rt; told.as_str(), replies.as_str());
     Ok(())
 }

@@ -8,8 +8,7 @@ use table_core::event::Event;
 use table_terms::capacity::is_first_capacity;
 use testkit_replay::course::{Course, run_course};
 use testkit_replay::script::Manner;
-use testkit_schedules::script::lines_of;
-use testkit_schedules::worked::{Row, SCHEDULES};
+use testkit_schedules::worked::{Row, SCHEDULES, lines_of};
 use tool_call_texts::events::{ScheduleLine, parse_schedule_line};
 
 /// The events of these lines, and none for `b`.
@@ -60,16 +59,16 @@ fn assert_followed(
     manner: Manner,
     classes: &[(u64, u64)],
 ) -> Result<(), Fail> {
-    let (first, parts, _printed) = *row;
+    let (first, ..) = *row;
     assert!(rt; is_first_capacity(first));
-    let lines = lines_of(alloc, parts)?;
+    let lines = lines_of(alloc, row)?;
     let events = events_of(alloc, lines.as_str())?;
     let course = Course::Events {
         events: events.as_slice(),
         classes,
     };
     let fault = run_course(alloc, first, manner, 0, course).err();
-    assert!(rt; fault.is_none(), "{fault:?} {parts:?}");
+    assert!(rt; fault.is_none(), "{fault:?} {row:?}");
     Ok(())
 }
 
