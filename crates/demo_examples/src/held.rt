@@ -40,7 +40,8 @@ pub fn insert_then_find(
     requires { HoldsWords (λ b. b.value) table.old }
     ensures holds { HoldsWords (λ b. b.value) table.new }
     ensures later { IsLater table.old table.new }
-    ensures refused { IfErr result (λ back. (back ≡ word) × IsPermutation (entries table.old) (entries table.new)) }
+    ensures refused { IfErr result (λ back. (back ≡ word)
+        × IsPermutation (entries table.old) (entries table.new)) }
     ensures found { IfOk result (λ r. ShowsAt (entry_at table.new r.place)
         (λ entry. (r.shown ≡ Some entry.value) × (entry.value ≡ word.value))) }
 {

@@ -16,7 +16,8 @@ pub fn run_as_list<A: Allocator + Copy>(
     events: &[Event],
 ) -> Result<Vec<Finished<A>, A>, NoMemory>
     ensures told { IfOk result (λ told. told.items ≡ replies (empty 16) events.now) }
-    ensures as_list { IfOk result (λ told. (l : Law) → IsLawful l 16 events.now → RunsAsList l told.items) }
+    ensures as_list { IfOk result (λ told. (l : Law) → IsLawful l 16 events.now
+        → RunsAsList l told.items) }
 {
     // A theorem is a function that does nothing: to call it is to know what it says.
     schedules_are_lists();

@@ -89,7 +89,8 @@ impl<A: Allocator + Copy> NumberTable<A> {
         ensures answer { Inserts (word_count self.now) (non_zero_u64_get v)
             (known_pairs seat.old) (own_numbers seat.old) result
             (known_pairs seat.new) (own_numbers seat.new) }
-        ensures again { Knows (known_pairs seat.old) (non_zero_u64_get v) → result ≡ NumberAnswer.Found }
+        ensures again { Knows (known_pairs seat.old) (non_zero_u64_get v)
+            → result ≡ NumberAnswer.Found }
     {
         let x = v.get();
         let count = self.word_count();
@@ -176,7 +177,10 @@ impl<A: Allocator + Copy> NumberTable<A> {
             × (other.table_id ≡ self.now.table.shared.table_id) }
         requires slots { other.me.1 ≡ [] }
         ensures table { seat.new.inner.table_id ≡ seat.old.inner.table_id }
-        ensures me { seat.new.inner.me ≡ (join_of seat.old.inner.me.0 other.me.0, seat.old.inner.me.1) }
+        ensures me { seat.new.inner.me ≡ (
+          join_of seat.old.inner.me.0 other.me.0,
+          seat.old.inner.me.1,
+        ) }
     {
         self.table
             .shared
@@ -205,8 +209,10 @@ impl<A: Allocator + Copy> NumberTable<A> {
         requires second { IsSeatOf self.now second.old }
         ensures ok { IsOk result }
         ensures seats { IsSeatOf self.now first.new × IsSeatOf self.now second.new }
-        ensures first { Within (known_pairs first.old ++ known_pairs second.old) (known_pairs first.new) }
-        ensures second { Within (known_pairs first.old ++ known_pairs second.old) (known_pairs second.new) }
+        ensures first { Within (known_pairs first.old ++ known_pairs second.old)
+            (known_pairs first.new) }
+        ensures second { Within (known_pairs first.old ++ known_pairs second.old)
+            (known_pairs second.new) }
         ensures first_own { own_numbers first.new ≡ own_numbers first.old }
         ensures second_own { own_numbers second.new ≡ own_numbers second.old }
         ensures apart { Disjoint (own_numbers first.new) (own_numbers second.new) }

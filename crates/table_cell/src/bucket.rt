@@ -134,8 +134,10 @@ impl<T: Drop, A: Allocator + Copy> Bucket<T, A> {
         bits: u8,
     ) -> Result<(), Refusal<T>>
         requires lies { Lies home.now.id alloc self.old }
-        ensures ok { OnOk result ((self.old.content ≡ vacant) × (self.new ≡ bucket alloc home.now.id (own (entry_from value bits)))) }
-        ensures refused { IfErr result (λ r. (self.new ≡ self.old) × HandsBack self.old.content value r) }
+        ensures ok { OnOk result ((self.old.content ≡ vacant)
+            × (self.new ≡ bucket alloc home.now.id (own (entry_from value bits)))) }
+        ensures refused { IfErr result (λ r. (self.new ≡ self.old)
+            × HandsBack self.old.content value r) }
     {
         let block = match Box::new(alloc, Entry { value, bits }) {
             Ok(block) => block,
@@ -171,8 +173,10 @@ impl<T: Drop, A: Allocator + Copy> Bucket<T, A> {
     pub fn take(self, closed: &Closed, alloc: A, note: Note<Entry<T>>) -> Option<T>
         requires lies { Lies closed.now.id alloc self }
         requires of { note.of ≡ self.id }
-        ensures alone { IfSome (shown self.content) (λ _. result ≡ option_map (λ e. e.value) (owned self.content)) }
-        ensures shared { IfNone (shown self.content) (IfSome note.known (λ e. result ≡ Some e.value)) }
+        ensures alone { IfSome (shown self.content)
+            (λ _. result ≡ option_map (λ e. e.value) (owned self.content)) }
+        ensures shared { IfNone (shown self.content)
+            (IfSome note.known (λ e. result ≡ Some e.value)) }
     {
         match self.mark {
             Mark::Own(_) => Some(
@@ -206,7 +210,8 @@ impl<T: Drop, A: Allocator + Copy> Bucket<T, A> {
         requires of { note.of ≡ self.id }
         ensures lies { Lies home.now.id alloc result }
         ensures own { KeepsOwn self.content result.content }
-        ensures shared { IfNone (shown self.content) (IfSome note.known (λ e. result.content ≡ own e)) }
+        ensures shared { IfNone (shown self.content)
+            (IfSome note.known (λ e. result.content ≡ own e)) }
         ensures unnamed { NamesNone result.content }
     {
         match self.mark {
@@ -258,8 +263,12 @@ impl<'a, T: Drop, A: Allocator + Copy> BucketRef<'a, T, A> {
         requires from { self.now.from ≡ alloc }
         requires of { note.old.of ≡ self.now.id }
         ensures of { note.new.of ≡ note.old.of }
-        ensures alone { IfSome (shown self.now.content) (λ e. (result ≡ Some (bucket alloc home.now.id (named e))) × (note.new.known ≡ note.old.known)) }
-        ensures shared { IfNone (shown self.now.content) ((result ≡ option_map (λ e. bucket alloc home.now.id (named e)) note.new.known) × Keeps note.old.known note.new.known) }
+        ensures alone { IfSome (shown self.now.content)
+            (λ e. (result ≡ Some (bucket alloc home.now.id (named e)))
+            × (note.new.known ≡ note.old.known)) }
+        ensures shared { IfNone (shown self.now.content)
+            ((result ≡ option_map (λ e. bucket alloc home.now.id (named e)) note.new.known)
+            × Keeps note.old.known note.new.known) }
     {
         let Mark::Vacant = self.mark else {
             return self.naming(alloc);
@@ -304,8 +313,10 @@ impl<'a, T: Drop, A: Allocator + Copy> BucketRef<'a, T, A> {
         requires home { self.now.home ≡ home.now.id }
         requires of { note.old.of ≡ self.now.id }
         ensures of { note.new.of ≡ note.old.of }
-        ensures alone { IfSome (shown self.now.content) (λ e. (option_copied result ≡ Some e) × (note.new.known ≡ note.old.known)) }
-        ensures shared { IfNone (shown self.now.content) ((option_copied result ≡ note.new.known) × Keeps note.old.known note.new.known) }
+        ensures alone { IfSome (shown self.now.content)
+            (λ e. (option_copied result ≡ Some e) × (note.new.known ≡ note.old.known)) }
+        ensures shared { IfNone (shown self.now.content)
+            ((option_copied result ≡ note.new.known) × Keeps note.old.known note.new.known) }
     {
         match self.mark {
             Mark::Vacant => Some(self.word.name_if_set(note)?.get(home)),
@@ -328,9 +339,11 @@ impl<'a, T: Drop, A: Low + Copy> BucketRef<'a, T, A> {
         requires lies { Lies home.now.id alloc self.now }
         requires of { note.old.of ≡ self.now.id }
         ensures of { note.new.of ≡ note.old.of }
-        ensures ok { IfOk result (λ e. (self.now.content ≡ vacant) × (e.now ≡ entry_from value bits)) }
+        ensures ok { IfOk result (λ e. (self.now.content ≡ vacant)
+            × (e.now ≡ entry_from value bits)) }
         ensures first { IfOk result (λ e. (note.old.known ≡ None) × (note.new.known ≡ Some e.now)) }
-        ensures missed { IfErr result (λ m. Misses self.now.content value note.old.known note.new.known m) }
+        ensures missed { IfErr result (λ m. Misses self.now.content value note.old.known
+            note.new.known m) }
     {
         let block = match Box::new(alloc, Entry { value, bits }) {
             Ok(block) => block,

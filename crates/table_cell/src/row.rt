@@ -119,9 +119,11 @@ impl<T: Drop, A: Allocator + Copy> Row<T, A> {
         requires home { self.old.home ≡ home.now.id }
         requires within { index < length self.old.contents }
         ensures vacant { OnOk result (content_at self.old.contents index ≡ vacant) }
-        ensures placed { OnOk result (self.new.contents ≡ slice_set self.old.contents index (own (entry_from value bits))) }
+        ensures placed { OnOk result (self.new.contents ≡ slice_set self.old.contents index
+            (own (entry_from value bits))) }
         ensures ids { OnOk result (self.new.ids ≡ slice_set self.old.ids index 0) }
-        ensures refused { IfErr result (λ r. (self.new ≡ self.old) × HandsBack (content_at self.old.contents index) value r) }
+        ensures refused { IfErr result (λ r. (self.new ≡ self.old)
+            × HandsBack (content_at self.old.contents index) value r) }
         ensures home { AreOfOneRow self.new self.old }
     {
         let block = match Box::new(self.alloc, Entry { value, bits }) {

@@ -39,7 +39,8 @@ impl<T: Homed, A: Allocator> Move for Word<T, A> {
 impl<T: Homed, A: Allocator> Word<T, A> {
     /// Null. It takes no memory.
     pub fn new(_alloc: &A, _home: &Home) -> Word<T, A>
-        ensures { (result.from ≡ _alloc.now) × (result.home ≡ _home.now.id) × (result.owning ≡ true) × (result.value ≡ None) }
+        ensures { (result.from ≡ _alloc.now) × (result.home ≡ _home.now.id) × (result.owning ≡ true)
+            × (result.value ≡ None) }
     {
         Word {
             inner: AtomicPtr::new(null_mut()),
@@ -92,8 +93,10 @@ impl<T: Homed, A: Allocator> Word<T, A> {
         requires unset { self.now.value ≡ None }
         requires of { note.old.of ≡ self.now.id }
         ensures of { note.new.of ≡ note.old.of }
-        ensures shows { MatchOption result (Unit {0}) (λ n. (n.home ≡ self.now.home) × Shows T.fits self.now n.value) }
-        ensures known { MatchOption result ((note.old.known ≡ None) × (note.new.known ≡ None)) (λ n. (note.new.known ≡ Some n.value) × Agrees note.old.known n.value) }
+        ensures shows { MatchOption result (Unit {0})
+            (λ n. (n.home ≡ self.now.home) × Shows T.fits self.now n.value) }
+        ensures known { MatchOption result ((note.old.known ≡ None) × (note.new.known ≡ None))
+            (λ n. (note.new.known ≡ Some n.value) × Agrees note.old.known n.value) }
     {
         let at = unsafe { self.inner.load::<Brand>(SeqCst) };
         if at.is_null() {
@@ -105,7 +108,8 @@ impl<T: Homed, A: Allocator> Word<T, A> {
     /// The word as one that is set to the value that the note knows. Nothing is read.
     fn known_by(self, note: Note<T>) -> Word<T, A>
         requires { (note.of ≡ self.id) × (self.value ≡ None) × IsSome note.known }
-        ensures same { (result.from ≡ self.from) × (result.home ≡ self.home) × (result.owning ≡ self.owning) }
+        ensures same { (result.from ≡ self.from) × (result.home ≡ self.home)
+            × (result.owning ≡ self.owning) }
         ensures value { (result.value ≡ note.known) × IfSome note.known (λ x. T.fits x self.home) }
     {
         let Note { mark: _ } = note;
@@ -116,9 +120,11 @@ impl<T: Homed, A: Allocator> Word<T, A> {
     pub fn settled(self, note: Note<T>) -> (Word<T, A>, Option<Name<T>>)
         requires unset { self.value ≡ None }
         requires of { note.of ≡ self.id }
-        ensures same { (result.0.from ≡ self.from) × (result.0.home ≡ self.home) × (result.0.owning ≡ self.owning) }
+        ensures same { (result.0.from ≡ self.from) × (result.0.home ≡ self.home)
+            × (result.0.owning ≡ self.owning) }
         ensures null { IfNone result.1 ((result.0 ≡ self) × (note.known ≡ None)) }
-        ensures set { IfSome result.1 (λ n. (result.0.value ≡ Some n.value) × (n.home ≡ self.home) × T.fits n.value self.home × Agrees note.known n.value) }
+        ensures set { IfSome result.1 (λ n. (result.0.value ≡ Some n.value) × (n.home ≡ self.home)
+            × T.fits n.value self.home × Agrees note.known n.value) }
     {
         let mut note = note;
         match self.name_if_set(&mut note) {
@@ -166,12 +172,14 @@ impl<T: Homed, A: Low> Word<T, A> {
         block: LooseBlock<T, A>,
         note: &mut Note<T>,
     ) -> (&'a T, Option<LooseBlock<T, A>>)
-        requires fits { (home.now.id ≡ self.now.home) × (block.from ≡ self.now.from) × T.fits block.value self.now.home }
+        requires fits { (home.now.id ≡ self.now.home) × (block.from ≡ self.now.from)
+            × T.fits block.value self.now.home }
         requires unset { (self.now.owning ≡ true) × (self.now.value ≡ None) }
         requires of { note.old.of ≡ self.now.id }
         ensures of { note.new.of ≡ note.old.of }
         ensures known { (note.new.known ≡ Some result.0.now) × Agrees note.old.known result.0.now }
-        ensures back { MatchOption result.1 ((result.0.now ≡ block.value) × (note.old.known ≡ None)) (λ l. (l.value ≡ block.value) × (l.from ≡ block.from)) }
+        ensures back { MatchOption result.1 ((result.0.now ≡ block.value) × (note.old.known ≡ None))
+            (λ l. (l.value ≡ block.value) × (l.from ≡ block.from)) }
     {
         let LooseBlock { at, allocator } = block;
         unsafe { A::show_low(at as *const u8) };

@@ -114,7 +114,8 @@ impl<A: Allocator + Copy> Call<A> {
     }
 
     fn list_value(&mut self, value: u64) -> Result<(), AllocError>
-        ensures ok { OnOk result (self.new ≡ record self.old { list = self.old.list ++ value ∷ [] }) }
+        ensures ok { OnOk result (self.new ≡ record self.old
+            { list = self.old.list ++ value ∷ [] }) }
         ensures err { OnErr result (self.new ≡ self.old) }
     {
         self.list.push(value)?;
@@ -134,7 +135,8 @@ fn use_value<A: Allocator + Copy>(
     values: &mut HashSet<u64, BuildHasherDefault<FoldHasher>, A>,
     value: Option<u64>,
 ) -> Result<(), AllocError>
-    ensures ok { OnOk result ((v : ℕ) → set.contains nat_eq values.new v ≡ (is_value v value || set.contains nat_eq values.old v)) }
+    ensures ok { OnOk result ((v : ℕ) → set.contains nat_eq values.new v
+        ≡ (is_value v value || set.contains nat_eq values.old v)) }
     ensures err { OnErr result (values.new.keys ≡ values.old.keys) }
 {
     if let Some(value) = value {
@@ -153,7 +155,8 @@ fn state_at<A: Allocator + Copy>(all: &[Call<A>], at: usize) -> CallState
 
 fn set_state_at<A: Allocator + Copy>(all: &mut Vec<Call<A>, A>, at: usize, state: CallState)
     requires { at < vec_len all.old }
-    ensures { (c : SpecCall) → slice_get all.old.items at ≡ Some c → all.new.items ≡ slice_set all.old.items at (record c { state = state }) }
+    ensures { (c : SpecCall) → slice_get all.old.items at ≡ Some c
+        → all.new.items ≡ slice_set all.old.items at (record c { state = state }) }
 {
     let call = &mut all[at];
     call.set_state(state);
@@ -165,7 +168,9 @@ fn list_value_at<A: Allocator + Copy>(
     value: u64,
 ) -> Result<(), AllocError>
     requires { at < vec_len all.old }
-    ensures ok { (c : SpecCall) → slice_get all.old.items at ≡ Some c → OnOk result (all.new.items ≡ slice_set all.old.items at (record c { list = c.list ++ value ∷ [] })) }
+    ensures ok { (c : SpecCall) → slice_get all.old.items at ≡ Some c
+        → OnOk result (all.new.items ≡ slice_set all.old.items at
+        (record c { list = c.list ++ value ∷ [] })) }
     ensures err { OnErr result (all.new.items ≡ all.old.items) }
 {
     let call = &mut all[at];
@@ -175,7 +180,8 @@ fn list_value_at<A: Allocator + Copy>(
 fn take_list_at<A: Allocator + Copy>(all: &mut Vec<Call<A>, A>, at: usize, alloc: A) -> Vec<u64, A>
     requires { at < vec_len all.old }
     ensures list { (c : SpecCall) → slice_get all.old.items at ≡ Some c → result.items ≡ c.list }
-    ensures left { (c : SpecCall) → slice_get all.old.items at ≡ Some c → all.new.items ≡ slice_set all.old.items at (record c { list = [] }) }
+    ensures left { (c : SpecCall) → slice_get all.old.items at ≡ Some c
+        → all.new.items ≡ slice_set all.old.items at (record c { list = [] }) }
 {
     let call = &mut all[at];
     call.take_list(alloc)
@@ -279,7 +285,8 @@ impl<A: Allocator + Copy> Calls<A> {
     /// The next state of the call at a position.
     pub fn set_state(&mut self, at: usize, state: CallState)
         requires { at < length self.old }
-        ensures { (c : SpecCall) → slice_get self.old at ≡ Some c → self.new ≡ slice_set self.old at (record c { state = state }) }
+        ensures { (c : SpecCall) → slice_get self.old at ≡ Some c
+            → self.new ≡ slice_set self.old at (record c { state = state }) }
     {
         let before = state_at(self.all.as_slice(), at).phase;
         set_state_at(&mut self.all, at, state);
@@ -290,7 +297,9 @@ impl<A: Allocator + Copy> Calls<A> {
     /// One value more in the list of the walk at a position.
     pub fn list_value(&mut self, at: usize, value: u64) -> Result<(), AllocError>
         requires { at < length self.old }
-        ensures ok { (c : SpecCall) → slice_get self.old at ≡ Some c → OnOk result (self.new ≡ slice_set self.old at (record c { list = c.list ++ value ∷ [] })) }
+        ensures ok { (c : SpecCall) → slice_get self.old at ≡ Some c
+            → OnOk result (self.new ≡ slice_set self.old at
+            (record c { list = c.list ++ value ∷ [] })) }
         ensures err { OnErr result (self.new ≡ self.old) }
     {
         list_value_at(&mut self.all, at, value)?;
@@ -301,7 +310,8 @@ impl<A: Allocator + Copy> Calls<A> {
     pub fn take_list(&mut self, alloc: A, at: usize) -> Vec<u64, A>
         requires { at < length self.old }
         ensures list { (c : SpecCall) → slice_get self.old at ≡ Some c → result.items ≡ c.list }
-        ensures left { (c : SpecCall) → slice_get self.old at ≡ Some c → self.new ≡ slice_set self.old at (record c { list = [] }) }
+        ensures left { (c : SpecCall) → slice_get self.old at ≡ Some c
+            → self.new ≡ slice_set self.old at (record c { list = [] }) }
     {
         take_list_at(&mut self.all, at, alloc)
     }

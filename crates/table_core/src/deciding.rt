@@ -175,7 +175,8 @@ fn accept_here(state: CallState, phase: Phase) -> CallState
 /// A call at a set bucket: it accepts the entry, or passes it.
 #[inline(always)]
 fn after_met(state: CallState, accepted: bool, found: Phase, on: Phase, turned: Phase) -> CallState
-    ensures { result ≡ (if stands_at_bucket state then at_set_bucket found on turned state accepted else state) }
+    ensures { result ≡ (if stands_at_bucket state then at_set_bucket found on turned state accepted
+        else state) }
 {
     if !stands(state) {
         state
@@ -205,7 +206,8 @@ fn after_lookup_met(state: CallState, accepted: bool) -> CallState
 /// An insert whose value is counted.
 #[inline(always)]
 fn after_count(state: CallState) -> CallState
-    ensures { result ≡ (if stands_at_bucket state then record state { phase = Phase.LeaveOk; outcome = Outcome.New state.index } else state) }
+    ensures { result ≡ (if stands_at_bucket state then record state
+        { phase = Phase.LeaveOk; outcome = Outcome.New state.index } else state) }
 {
     if !stands(state) {
         return state;
@@ -221,7 +223,9 @@ fn after_count(state: CallState) -> CallState
 /// capacity.
 #[inline(always)]
 fn after_insert_size(state: CallState, size: u64) -> CallState
-    ensures { result ≡ (if nat_lt 0 state.capacity then (if nat_lt size (state.capacity / 2) then to Phase.Done state else to Phase.WantOwned state) else state) }
+    ensures { result ≡ (if nat_lt 0 state.capacity then
+        (if nat_lt size (state.capacity / 2) then to Phase.Done state else to Phase.WantOwned state)
+        else state) }
 {
     if state.capacity == 0 {
         state
@@ -246,7 +250,8 @@ fn after_length_size(state: CallState) -> CallState
 /// A length that has its generation.
 #[inline(always)]
 fn after_length_load(state: CallState, number: u64, capacity: u64) -> CallState
-    ensures { result ≡ (if nat_lt 0 capacity then record state { phase = Phase.LenSize; walked = Some number; capacity = capacity } else state) }
+    ensures { result ≡ (if nat_lt 0 capacity then record state
+        { phase = Phase.LenSize; walked = Some number; capacity = capacity } else state) }
 {
     if capacity == 0 {
         return state;
@@ -257,7 +262,8 @@ fn after_length_load(state: CallState, number: u64, capacity: u64) -> CallState
 /// A walk that has its generation.
 #[inline(always)]
 fn after_walk_load(state: CallState, number: u64, capacity: u64) -> CallState
-    ensures { result ≡ (if nat_lt 0 capacity then record state { phase = Phase.WalkAt; walked = Some number; capacity = capacity; index = 0 } else state) }
+    ensures { result ≡ (if nat_lt 0 capacity then record state
+        { phase = Phase.WalkAt; walked = Some number; capacity = capacity; index = 0 } else state) }
 {
     if capacity == 0 {
         return state;

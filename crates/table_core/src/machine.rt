@@ -165,7 +165,8 @@ fn tell_ended<A: Allocator + Copy>(
     answer: Answer,
 ) -> Option<Reply<A>>
     requires { call.now.state.phase ≢ Phase.WalkAt }
-    ensures { option_map reply_of result ≡ last_reply call.now.state.phase table.now call.now answer }
+    ensures { option_map reply_of result ≡ last_reply call.now.state.phase table.now call.now
+        answer }
 {
     match (call.state().phase, answer) {
         (Phase::LeaveRefused, _) => tell_refused(call.value()),
@@ -336,7 +337,8 @@ impl<A: Allocator + Copy> Machine<A> {
 
     /// What an exchange finds there.
     fn put(&self, state: CallState, accepted: bool, granted: bool) -> Answer
-        ensures { result ≡ (if granted then exchanged (bucket_stood_at self.now.table state) state.hash accepted else Answer.MemoryRefused) }
+        ensures { result ≡ (if granted then exchanged (bucket_stood_at self.now.table state)
+            state.hash accepted else Answer.MemoryRefused) }
     {
         if granted {
             exchange(bucket_of(&self.table, state), state.hash, accepted)
@@ -402,7 +404,9 @@ fn list_entry<A: Allocator + Copy>(
     entry: Option<Entry>,
 ) -> Result<(), AllocError>
     requires { at < length calls.old }
-    ensures ok { (c : SpecCall) → slice_get calls.old at ≡ Some c → OnOk result (calls.new ≡ slice_set calls.old at (record c { list = with_entry c.list entry })) }
+    ensures ok { (c : SpecCall) → slice_get calls.old at ≡ Some c
+        → OnOk result (calls.new ≡ slice_set calls.old at
+        (record c { list = with_entry c.list entry })) }
     ensures err { OnErr result (calls.new ≡ calls.old) }
     ensures asks { OnErr result (is_some entry ≡ true) }
 {
@@ -420,8 +424,11 @@ fn end_walk<A: Allocator + Copy>(
     next: CallState,
 ) -> Option<Reply<A>>
     requires { at < length calls.old }
-    ensures left { (c : SpecCall) → slice_get calls.old at ≡ Some c → calls.new ≡ slice_set calls.old at (record c { list = kept_list next.phase c.list; state = next }) }
-    ensures reply { (c : SpecCall) → slice_get calls.old at ≡ Some c → option_map reply_of result ≡ reply_at_end next.phase (Some (ReplyWalk c.list)) }
+    ensures left { (c : SpecCall) → slice_get calls.old at ≡ Some c
+        → calls.new ≡ slice_set calls.old at (record c
+        { list = kept_list next.phase c.list; state = next }) }
+    ensures reply { (c : SpecCall) → slice_get calls.old at ≡ Some c
+        → option_map reply_of result ≡ reply_at_end next.phase (Some (ReplyWalk c.list)) }
 {
     calls.set_state(at, next);
     match next.phase {
@@ -439,9 +446,12 @@ fn walk<A: Allocator + Copy>(
     answer: Answer,
 ) -> Result<Option<Reply<A>>, AllocError>
     requires within { at < length calls.old }
-    requires walking { (c : SpecCall) → slice_get calls.old at ≡ Some c → (c.state.phase ≡ Phase.WalkAt) × (fits c.state.phase c.state answer ≡ true) }
-    ensures ok { (c : SpecCall) → slice_get calls.old at ≡ Some c → OnOk result (calls.new ≡ slice_set calls.old at (call_after table.now c answer)) }
-    ensures reply { (c : SpecCall) → slice_get calls.old at ≡ Some c → IfOk result (λ r. option_map reply_of r ≡ reply table.now c answer) }
+    requires walking { (c : SpecCall) → slice_get calls.old at ≡ Some c
+        → (c.state.phase ≡ Phase.WalkAt) × (fits c.state.phase c.state answer ≡ true) }
+    ensures ok { (c : SpecCall) → slice_get calls.old at ≡ Some c
+        → OnOk result (calls.new ≡ slice_set calls.old at (call_after table.now c answer)) }
+    ensures reply { (c : SpecCall) → slice_get calls.old at ≡ Some c
+        → IfOk result (λ r. option_map reply_of r ≡ reply table.now c answer) }
     ensures err { OnErr result (calls.new ≡ calls.old) }
     ensures asks { OnErr result (takes_memory answer Phase.WalkAt ≡ true) }
 {
@@ -456,10 +466,15 @@ impl<A: Allocator + Copy> Machine<A> {
     fn go(&mut self, at: usize, event: Event) -> Result<Option<Reply<A>>, AllocError>
         requires within { at < length self.old.calls }
         requires reached { IsReached self.old }
-        ensures ok { (c : SpecCall) → slice_get self.old.calls at ≡ Some c → OnOk result (self.new ≡ moved self.old at c event (finds self.old c.state event)) }
-        ensures reply { (c : SpecCall) → slice_get self.old.calls at ≡ Some c → IfOk result (λ r. option_map reply_of r ≡ reply_to self.old c (finds self.old c.state event)) }
+        ensures ok { (c : SpecCall) → slice_get self.old.calls at ≡ Some c
+            → OnOk result (self.new ≡ moved self.old at c event (finds self.old c.state event)) }
+        ensures reply { (c : SpecCall) → slice_get self.old.calls at ≡ Some c
+            → IfOk result (λ r. option_map reply_of r ≡ reply_to self.old c
+            (finds self.old c.state event)) }
         ensures err { OnErr result (self.new ≡ self.old) }
-        ensures asks { (c : SpecCall) → slice_get self.old.calls at ≡ Some c → OnErr result (finding_takes_memory c.state.phase (finds self.old c.state event) ≡ true) }
+        ensures asks { (c : SpecCall) → slice_get self.old.calls at ≡ Some c
+            → OnErr result (finding_takes_memory c.state.phase (finds self.old c.state event)
+            ≡ true) }
     {
         let state = self.calls.get(at).state();
         let Some(answer) = self.answer(state, event) else {
@@ -479,8 +494,11 @@ impl<A: Allocator + Copy> Machine<A> {
 
     /// A call begins, unless its number or its value is used.
     fn begin(&mut self, number: u64, opening: Opening) -> Result<(), AllocError>
-        requires { (holds_shared opening.state.phase ≡ false) × (holds_owned opening.state.phase ≡ false) }
-        ensures ok { OnOk result (self.new ≡ with_call_unless self.old (may_not_begin number opening.value self.old.calls) (new_call number opening.value opening.state)) }
+        requires { (holds_shared opening.state.phase ≡ false)
+            × (holds_owned opening.state.phase ≡ false) }
+        ensures ok { OnOk result (self.new ≡ with_call_unless self.old
+            (may_not_begin number opening.value self.old.calls)
+            (new_call number opening.value opening.state)) }
         ensures err { OnErr result (self.new ≡ self.old) }
         ensures asks { OnErr result (may_not_begin number opening.value self.old.calls ≡ false) }
     {
@@ -548,7 +566,8 @@ struct Opening {
 /// How the call of an event begins, if the event begins one.
 fn opening_of(event: Event) -> Option<Opening>
     ensures opening { result ≡ opening event }
-    ensures unlocked { IfSome result (λ o. (holds_shared o.state.phase ≡ false) × (holds_owned o.state.phase ≡ false)) }
+    ensures unlocked { IfSome result (λ o. (holds_shared o.state.phase ≡ false)
+        × (holds_owned o.state.phase ≡ false)) }
 {
     let (value, state) = match event {
         Event::Insert { value, hash, .. } => (Some(value), CallState::insert(hash)),

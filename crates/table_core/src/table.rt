@@ -104,7 +104,8 @@ fn fill_walked<A: Allocator + Copy>(
     entry: Entry,
 ) -> Result<(), AllocError>
     requires { bucket_in (gen_of generations.old.items walked) entry.index ≡ None }
-    ensures ok { OnOk result (generations.new.items ≡ change generations.old.items walked (λ g. fill g entry)) }
+    ensures ok { OnOk result (generations.new.items ≡ change generations.old.items walked
+        (λ g. fill g entry)) }
     ensures err { OnErr result (generations.new.items ≡ generations.old.items) }
 {
     let Some(number) = walked else {
@@ -118,7 +119,8 @@ fn fill_walked<A: Allocator + Copy>(
 }
 
 fn count_walked<A: Allocator + Copy>(generations: &mut Vec<Generation<A>, A>, walked: Option<u64>)
-    requires { (g : Gen) → gen_of generations.old.items walked ≡ Some g → g.size < length g.entries }
+    requires { (g : Gen) → gen_of generations.old.items walked ≡ Some g
+        → g.size < length g.entries }
     ensures { generations.new.items ≡ change generations.old.items walked count }
 {
     let Some(number) = walked else {
@@ -227,7 +229,8 @@ impl<A: Allocator + Copy> Table<A> {
     pub fn place(&mut self, walked: Option<u64>, entry: Entry) -> Result<(), AllocError>
         requires empty { bucket_in (gen_of self.old.gens walked) entry.index ≡ None }
         requires settled { self.old.building ≡ None }
-        ensures ok { OnOk result (self.new ≡ record self.old { gens = change self.old.gens walked (λ g. fill g entry) }) }
+        ensures ok { OnOk result (self.new ≡ record self.old
+            { gens = change self.old.gens walked (λ g. fill g entry) }) }
         ensures err { OnErr result (self.new ≡ self.old) }
     {
         fill_walked(&mut self.generations, walked, entry)?;
@@ -237,7 +240,8 @@ impl<A: Allocator + Copy> Table<A> {
     /// Counts an entry that was placed.
     pub fn count(&mut self, walked: Option<u64>)
         requires settled { self.old.building ≡ None }
-        requires uncounted { (g : Gen) → gen_of self.old.gens walked ≡ Some g → g.size < length g.entries }
+        requires uncounted { (g : Gen) → gen_of self.old.gens walked ≡ Some g
+            → g.size < length g.entries }
         ensures { self.new ≡ record self.old { gens = change self.old.gens walked count } }
     {
         count_walked(&mut self.generations, walked);
@@ -259,7 +263,8 @@ impl<A: Allocator + Copy> Table<A> {
 
     /// Copies the next entry to the first empty bucket from a hash's own on.
     pub fn copy_next(&mut self, hash: u64) -> Result<(), AllocError>
-        requires { (b : Build) → self.old.building ≡ Some b → bucket b.gen.entries (first_empty b.gen hash) ≡ None }
+        requires { (b : Build) → self.old.building ≡ Some b
+            → bucket b.gen.entries (first_empty b.gen hash) ≡ None }
         ensures ok { OnOk result (self.new ≡ copy_next self.old (next_copied self.old) hash) }
         ensures err { OnErr result (self.new ≡ self.old) }
     {

@@ -66,7 +66,8 @@ fn compare_entry<'a, T: AtomicValue, F: Fn(&T::Target) -> bool>(
     test: &F,
 ) -> Comparison<'a, T>
     requires { F.IsAlwaysCallable test.now }
-    ensures { ComparisonGives T.target (FnReturnsAt F.Fn test.now) entry.now.bits (Some entry.now) result }
+    ensures { ComparisonGives T.target (FnReturnsAt F.Fn test.now) entry.now.bits (Some entry.now)
+        result }
 {
     if test(entry.value.deref()) {
         Comparison::Accepted(entry)
@@ -84,7 +85,8 @@ fn compare_bucket<'a, T: AtomicValue, A: Allocator + Copy, F: Fn(&T::Target) -> 
 ) -> Comparison<'a, T>
     requires home { bucket.now.home ≡ home.now.id }
     requires callable { F.IsAlwaysCallable test.now }
-    ensures { ComparisonGives T.target (FnReturnsAt F.Fn test.now) sought (shown bucket.now.content) result }
+    ensures { ComparisonGives T.target (FnReturnsAt F.Fn test.now) sought (shown bucket.now.content)
+        result }
 {
     match bucket.mark() {
         Mark::Vacant => Comparison::Vacant,
@@ -153,7 +155,8 @@ impl<T: AtomicValue, A: Allocator + Copy> Generation<T, A> {
     /// A bucket that names the entry that the bucket at this index shows. No block is read.
     pub fn naming(&self, index: usize) -> Option<Bucket<T, A>>
         requires { index < length self.now.contents }
-        ensures { result ≡ option_map (bucket self.now.from self.now.home) (naming (content_at self.now.contents index)) }
+        ensures { result ≡ option_map (bucket self.now.from self.now.home)
+            (naming (content_at self.now.contents index)) }
     {
         self.row.at(index).naming(self.row.alloc())
     }
@@ -177,7 +180,8 @@ impl<T: AtomicValue, A: Allocator + Copy> Generation<T, A> {
         requires home { self.now.home ≡ home.now.id }
         requires room { 0 < length self.now.contents }
         requires callable { F.IsAlwaysCallable test.now }
-        ensures { ProbeGives T.target (FnReturnsAt F.Fn test.now) (shown_all self.now.contents) hash result }
+        ensures { ProbeGives T.target (FnReturnsAt F.Fn test.now) (shown_all self.now.contents) hash
+            result }
     {
         let sought = bits_of_hash(hash);
         let capacity = self.row.len();
@@ -204,7 +208,8 @@ impl<T: AtomicValue, A: Allocator + Copy> Generation<T, A> {
         requires home { self.now.home ≡ home.now.id }
         requires room { 0 < length self.now.contents }
         requires callable { E.IsAlwaysCallable eq.now }
-        ensures { ProbeGives T.target (FnReturnsAtPair E.Fn eq.now key.now) (shown_all self.now.contents) hash result }
+        ensures { ProbeGives T.target (FnReturnsAtPair E.Fn eq.now key.now)
+            (shown_all self.now.contents) hash result }
     {
         self.probe(home, hash, &|target: &T::Target| eq(key, target))
     }
@@ -221,7 +226,8 @@ impl<T: AtomicValue, A: Allocator + Copy> Generation<T, A> {
         requires home { self.old.home ≡ home.now.id }
         requires room { 0 < length self.old.contents }
         requires callable { E.IsAlwaysCallable eq.now }
-        ensures inserts { Inserts T.target (FnReturnsAtPair E.Fn eq.now (T.target value)) self.old.contents hash value result self.new.contents }
+        ensures inserts { Inserts T.target (FnReturnsAtPair E.Fn eq.now (T.target value))
+            self.old.contents hash value result self.new.contents }
         ensures size { CountsInsert self.old.size result self.new.size }
         ensures home { AreOfOneHome self.new self.old }
     {

@@ -26,7 +26,8 @@ fn hash_window<T: AtomicValue, A: Allocator + Copy, H: Fn(&T::Target) -> u64>(
     requires home { old.now.home ≡ home.now.id }
     requires place { from ≤ length old.now.contents }
     requires callable { H.IsAlwaysCallable hash_fn.now }
-    ensures { AreHashes T.target (FnReturnsAt H.Fn hash_fn.now) old.now.contents from WINDOW hashes.new }
+    ensures { AreHashes T.target (FnReturnsAt H.Fn hash_fn.now) old.now.contents from WINDOW
+        hashes.new }
 {
     let left = old.capacity() - from;
     let count = left.min(WINDOW);
@@ -56,7 +57,8 @@ fn rehash_one<T: AtomicValue, A: Allocator + Copy>(
     ensures grown { built.new.size ≤ built.old.size + 1 }
     ensures counted { built.new.size ≡ length (shown_entries built.new.contents) }
     ensures names { AllOwnNone built.new.contents }
-    ensures step { PutsShown T.target old.now.contents index hash built.old.contents built.new.contents }
+    ensures step { PutsShown T.target old.now.contents index hash built.old.contents
+        built.new.contents }
 {
     if let Some(name) = old.naming(index) {
         built.insert_unique(home, hash, name);

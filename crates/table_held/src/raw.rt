@@ -66,7 +66,8 @@ fn generation_at<'a, T: AtomicValue, A: Allocator + Copy>(
     generation: usize,
 ) -> &'a Generation<T, A>
     requires { generation ≤ length earlier.now }
-    ensures row { shown_all result.now.contents ≡ slice_index_or (shown_rows (contents_in earlier.now) current.now.contents) generation [] }
+    ensures row { shown_all result.now.contents ≡ slice_index_or
+        (shown_rows (contents_in earlier.now) current.now.contents) generation [] }
     ensures home { (home : ℕ) → AreOfHome home earlier.now current.now → result.now.home ≡ home }
 {
     if generation < earlier.len() {
@@ -143,8 +144,10 @@ impl<T: AtomicValue, A: Allocator + Copy> HeldRawTable<T, A> {
     /// The buckets of all generations together.
     pub fn buckets_alone(&self) -> usize
         ensures all { result ≡ all_buckets self.now }
-        ensures linear_in_entries { result ≤ max self.now.first_capacity (8 * length (entries self.now) - self.now.first_capacity) }
-        ensures twice_the_capacity { 0 < capacity self.now → result + self.now.first_capacity ≡ 2 * capacity self.now }
+        ensures linear_in_entries { result ≤ max self.now.first_capacity
+            (8 * length (entries self.now) - self.now.first_capacity) }
+        ensures twice_the_capacity { 0 < capacity self.now
+            → result + self.now.first_capacity ≡ 2 * capacity self.now }
     {
         let capacity = self.current.capacity();
         if capacity == 0 {
@@ -159,7 +162,8 @@ impl<T: AtomicValue, A: Allocator + Copy> HeldRawTable<T, A> {
     fn open_alone(&mut self) -> Result<(), AllocError>
         ensures opened { OnOk result (IsOpened self.old self.new) }
         ensures some { OnOk result (0 < capacity self.new) }
-        ensures unchanged { OnErr result ((self.old ≡ empty_table self.old.first_capacity) × (self.new ≡ self.old)) }
+        ensures unchanged { OnErr result ((self.old ≡ empty_table self.old.first_capacity)
+            × (self.new ≡ self.old)) }
         ensures counted { IsCounted self.old }
     {
         if self.current.capacity() == 0 {
@@ -173,7 +177,8 @@ impl<T: AtomicValue, A: Allocator + Copy> HeldRawTable<T, A> {
         requires some { 0 < capacity self.old }
         requires wanted { capacity self.old ≤ 2 * self.old.size }
         requires callable { H.IsAlwaysCallable hash_fn.now }
-        ensures grown { OnOk result (IsGrown T.target (FnReturnsAt H.Fn hash_fn.now) self.old self.new) }
+        ensures grown { OnOk result (IsGrown T.target (FnReturnsAt H.Fn hash_fn.now) self.old
+            self.new) }
         ensures unchanged { OnErr result (self.new ≡ self.old) }
     {
         let Some(doubled) = self.current.capacity().checked_mul(2) else {
@@ -190,7 +195,8 @@ impl<T: AtomicValue, A: Allocator + Copy> HeldRawTable<T, A> {
     fn grow_if_wanted<H: Fn(&T::Target) -> u64>(&mut self, hash_fn: &H) -> Result<(), AllocError>
         requires some { 0 < capacity self.old }
         requires callable { H.IsAlwaysCallable hash_fn.now }
-        ensures grown { OnOk result (GrowsIfWanted T.target (FnReturnsAt H.Fn hash_fn.now) self.old self.new) }
+        ensures grown { OnOk result (GrowsIfWanted T.target (FnReturnsAt H.Fn hash_fn.now) self.old
+            self.new) }
         ensures unchanged { OnErr result (self.new ≡ self.old) }
     {
         if self.current.wants_growth() {
@@ -209,7 +215,8 @@ impl<T: AtomicValue, A: Allocator + Copy> HeldRawTable<T, A> {
     ) -> Result<(Place, Option<T>), Refusal<T>>
         requires some { 0 < capacity self.old }
         requires callable { E.IsAlwaysCallable eq.now }
-        ensures { TriesToPlace T.target (FnReturnsAtPair E.Fn eq.now (T.target value)) self.old hash value result self.new }
+        ensures { TriesToPlace T.target (FnReturnsAtPair E.Fn eq.now (T.target value)) self.old hash
+            value result self.new }
     {
         match self.current.insert(&self.home, hash, value, eq) {
             Ok((index, back)) => {
@@ -231,8 +238,8 @@ impl<T: AtomicValue, A: Allocator + Copy> HeldRawTable<T, A> {
         requires some { 0 < capacity self.old }
         requires eq_callable { E.IsAlwaysCallable eq.now }
         requires hash_callable { H.IsAlwaysCallable hash_fn.now }
-        ensures { PlacesOrGrows T.target (FnReturnsAtPair E.Fn eq.now (T.target value)) (FnReturnsAt H.Fn hash_fn.now)
-            self.old hash value result self.new }
+        ensures { PlacesOrGrows T.target (FnReturnsAtPair E.Fn eq.now (T.target value))
+            (FnReturnsAt H.Fn hash_fn.now) self.old hash value result self.new }
     {
         let value = match self.try_place(hash, value, eq) {
             Ok(placed) => return Ok(placed),
@@ -267,8 +274,8 @@ impl<T: AtomicValue, A: Allocator + Copy> HeldRawTable<T, A> {
         requires hash_callable { H.IsAlwaysCallable hash_fn.now }
 
         // with any closures
-        ensures keeps { InsertKeeps T.target (FnReturnsAtPair E.Fn eq.now (T.target value)) (entry_at self.new)
-            (entries self.old) value result (entries self.new) }
+        ensures keeps { InsertKeeps T.target (FnReturnsAtPair E.Fn eq.now (T.target value))
+            (entry_at self.new) (entries self.old) value result (entries self.new) }
         ensures marks { InsertMarks (marked self.old) hash value result (marked self.new) }
         ensures later { IsLater self.old self.new }
         ensures places { KeepsPlaces self.old self.new }
@@ -276,11 +283,11 @@ impl<T: AtomicValue, A: Allocator + Copy> HeldRawTable<T, A> {
         ensures counted { IsCounted self.new }
 
         // with lawful ones
-        ensures lawful { InsertAnswers T.target L.same L.hash_of (FnReturnsAtPair E.Fn eq.now) (FnReturnsAt H.Fn hash_fn.now)
-            (IsLawful T.target L.same L.hash_of self.old) (entries self.old) hash value result
-            (IsLawful T.target L.same L.hash_of self.new) }
-        ensures as_list { PlacesAsList T.target L.same L.hash_of (FnReturnsAtPair E.Fn eq.now) (FnReturnsAt H.Fn hash_fn.now)
-            self.old hash value result self.new }
+        ensures lawful { InsertAnswers T.target L.same L.hash_of (FnReturnsAtPair E.Fn eq.now)
+            (FnReturnsAt H.Fn hash_fn.now) (IsLawful T.target L.same L.hash_of self.old)
+            (entries self.old) hash value result (IsLawful T.target L.same L.hash_of self.new) }
+        ensures as_list { PlacesAsList T.target L.same L.hash_of (FnReturnsAtPair E.Fn eq.now)
+            (FnReturnsAt H.Fn hash_fn.now) self.old hash value result self.new }
     {
         if self.open_alone().is_err() {
             return Err(value);
@@ -312,8 +319,8 @@ impl<T: AtomicValue, A: Allocator + Copy> HeldRawTable<T, A> {
     >(&mut self, hash: u64, value: T, eq: E, hash_fn: H) -> Result<(&T::Target, Option<T>), T>
         requires eq_callable { E.IsAlwaysCallable eq }
         requires hash_callable { H.IsAlwaysCallable hash_fn }
-        ensures { InsertShows T.target L.same L.hash_of (FnReturnsAtPair E.Fn eq) (FnReturnsAt H.Fn hash_fn)
-            self.old hash value result }
+        ensures { InsertShows T.target L.same L.hash_of (FnReturnsAtPair E.Fn eq)
+            (FnReturnsAt H.Fn hash_fn) self.old hash value result }
     {
         let (place, back) = self.place_alone::<L, E, H>(hash, value, &eq, &hash_fn)?;
         Ok((self.target_at(place), back))
@@ -329,10 +336,12 @@ impl<T: AtomicValue, A: Allocator + Copy> HeldRawTable<T, A> {
         test: F,
     ) -> Option<&T::Target>
         requires { F.IsAlwaysCallable test }
-        ensures accepted { IfSome result (λ found. FindsOne T.target (FnReturnsAt F.Fn test) (entries self.now) found.now) }
+        ensures accepted { IfSome result (λ found. FindsOne T.target (FnReturnsAt F.Fn test)
+            (entries self.now) found.now) }
         ensures none { IfNone result (FindsNone T.target L.same L.hash_of (FnReturnsAt F.Fn test)
             (IsLawful T.target L.same L.hash_of self.now) (entries self.now) hash) }
-        ensures as_list { LooksUpAsList T.target L.same L.hash_of (FnReturnsAt F.Fn test) self.now hash (option_copied result) }
+        ensures as_list { LooksUpAsList T.target L.same L.hash_of (FnReturnsAt F.Fn test) self.now
+            hash (option_copied result) }
     {
         if self.current.capacity() == 0 {
             return None;

@@ -80,17 +80,19 @@ pub trait AloneTable<T: AtomicValue, L: Law<T::Target>> {
         requires hash_callable { H.IsAlwaysCallable hash_fn.now }
 
         // with any closures
-        ensures keeps { InsertKeeps T.target (FnReturnsAtPair E.Fn eq.now (T.target value)) (value_of shows self.new)
-            (entries_of shows self.old) value result (entries_of shows self.new) }
+        ensures keeps { InsertKeeps T.target (FnReturnsAtPair E.Fn eq.now (T.target value))
+            (value_of shows self.new) (entries_of shows self.old) value result
+            (entries_of shows self.new) }
         ensures later { IsLater shows self.old self.new }
         ensures counted { shows.counted self.new }
 
         // with lawful ones
-        ensures lawful { InsertAnswers T.target L.same L.hash_of (FnReturnsAtPair E.Fn eq.now) (FnReturnsAt H.Fn hash_fn.now)
-            (shows.lawful T.Target T.target L.same L.hash_of self.old) (entries_of shows self.old) hash value result
+        ensures lawful { InsertAnswers T.target L.same L.hash_of (FnReturnsAtPair E.Fn eq.now)
+            (FnReturnsAt H.Fn hash_fn.now) (shows.lawful T.Target T.target L.same L.hash_of
+            self.old) (entries_of shows self.old) hash value result
             (shows.lawful T.Target T.target L.same L.hash_of self.new) }
-        ensures as_list { PlacesAsList T.target L.same L.hash_of shows (FnReturnsAtPair E.Fn eq.now) (FnReturnsAt H.Fn hash_fn.now)
-            self.old hash value result self.new };
+        ensures as_list { PlacesAsList T.target L.same L.hash_of shows (FnReturnsAtPair E.Fn eq.now)
+            (FnReturnsAt H.Fn hash_fn.now) self.old hash value result self.new };
 
     /// The target of the entry that lives at a place of this table.
     fn target_at(&self, place: Self::Place) -> &T::Target
@@ -100,10 +102,13 @@ pub trait AloneTable<T: AtomicValue, L: Law<T::Target>> {
     /// The target of an entry that the test accepts, or None. It changes nothing.
     fn lookup_alone<F: Fn(&T::Target) -> bool>(&self, hash: u64, test: F) -> Option<&T::Target>
         requires { F.IsAlwaysCallable test }
-        ensures accepted { IfSome result (λ found. FindsOne T.target (FnReturnsAt F.Fn test) (entries_of shows self.now) found.now) }
+        ensures accepted { IfSome result (λ found. FindsOne T.target (FnReturnsAt F.Fn test)
+            (entries_of shows self.now) found.now) }
         ensures none { IfNone result (FindsNone T.target L.same L.hash_of (FnReturnsAt F.Fn test)
-            (shows.lawful T.Target T.target L.same L.hash_of self.now) (entries_of shows self.now) hash) }
-        ensures as_list { LooksUpAsList T.target L.same L.hash_of shows (FnReturnsAt F.Fn test) self.now hash (option_copied result) };
+            (shows.lawful T.Target T.target L.same L.hash_of self.now) (entries_of shows self.now)
+            hash) }
+        ensures as_list { LooksUpAsList T.target L.same L.hash_of shows (FnReturnsAt F.Fn test)
+            self.now hash (option_copied result) };
 
     /// The number of entries, or the greatest usize if there are more.
     fn len_alone(&self) -> usize
@@ -134,11 +139,13 @@ where
     T::Target: Copy,
     requires eq_callable { E.IsAlwaysCallable eq.now }
     requires hash_callable { H.IsAlwaysCallable hash_fn.now }
-    ensures keeps { IsPermutation (entries_of B.shows table.old ++ value ∷ []) (entries_of B.shows table.new ++ handed_back result) }
+    ensures keeps { IsPermutation (entries_of B.shows table.old ++ value ∷ [])
+        (entries_of B.shows table.new ++ handed_back result) }
     ensures later { IsLater B.shows table.old table.new }
     ensures counted { B.shows.counted table.new }
-    ensures as_list { InsertRepliesAsList T.target L.same L.hash_of B.shows (FnReturnsAtPair E.Fn eq.now) (FnReturnsAt H.Fn hash_fn.now)
-        table.old hash value result table.new }
+    ensures as_list { InsertRepliesAsList T.target L.same L.hash_of B.shows
+        (FnReturnsAtPair E.Fn eq.now) (FnReturnsAt H.Fn hash_fn.now) table.old hash value result
+        table.new }
 {
     match table.place_alone(hash, value, eq, hash_fn) {
         Ok((place, back)) => {
@@ -164,7 +171,8 @@ where
     T::Target: Copy,
     requires { P.IsAlwaysCallable test.now }
     ensures keeps { handed_back result ≡ [] }
-    ensures as_list { LookupRepliesAsList T.target L.same L.hash_of B.shows (FnReturnsAtTwo P.Fn test.now key.now) table.now hash result }
+    ensures as_list { LookupRepliesAsList T.target L.same L.hash_of B.shows
+        (FnReturnsAtTwo P.Fn test.now key.now) table.now hash result }
 {
     match table.lookup_alone(hash, |target: &T::Target| test(key, target)) {
         Some(target) => Reply::Some(*target),
@@ -187,14 +195,16 @@ where
     requires eq_callable { E.IsAlwaysCallable eq.now }
     requires hash_callable { H.IsAlwaysCallable hash_fn.now }
     requires test_callable { P.IsAlwaysCallable test.now }
-    ensures keeps { IsPermutation (entries_of B.shows table.old ++ given call) (entries_of B.shows table.new ++ handed_back result) }
+    ensures keeps { IsPermutation (entries_of B.shows table.old ++ given call)
+        (entries_of B.shows table.new ++ handed_back result) }
     ensures later { IsLater B.shows table.old table.new }
     ensures counted { B.shows.counted table.old → B.shows.counted table.new }
     ensures unchanged { OnlyAsks call → table.new ≡ table.old }
-    ensures lawful { CallStaysLawful T.target L.same L.hash_of B.shows (FnReturnsAtPair E.Fn eq.now) (FnReturnsAt H.Fn hash_fn.now)
-        table.old call table.new }
-    ensures as_list { CallAnswers T.target L.same L.hash_of B.shows (FnReturnsAtPair E.Fn eq.now) (FnReturnsAt H.Fn hash_fn.now)
-        (FnReturnsAtTwo P.Fn test.now) table.old call result table.new }
+    ensures lawful { CallStaysLawful T.target L.same L.hash_of B.shows (FnReturnsAtPair E.Fn eq.now)
+        (FnReturnsAt H.Fn hash_fn.now) table.old call table.new }
+    ensures as_list { CallAnswers T.target L.same L.hash_of B.shows (FnReturnsAtPair E.Fn eq.now)
+        (FnReturnsAt H.Fn hash_fn.now) (FnReturnsAtTwo P.Fn test.now) table.old call result
+        table.new }
 {
     match call {
         Call::Insert { hash, value } => reply_insert(table, hash, value, eq, hash_fn),
@@ -233,8 +243,8 @@ where
     requires test_callable { P.IsAlwaysCallable test }
 
     // with any closures
-    ensures keeps { IfOk result (λ replies.
-        RunKeeps (entries_of B.shows table.old) calls.items replies.items (entries_of B.shows table.new)) }
+    ensures keeps { IfOk result (λ replies. RunKeeps (entries_of B.shows table.old) calls.items
+        replies.items (entries_of B.shows table.new)) }
     ensures later { IfOk result (λ _. IsLater B.shows table.old table.new) }
     ensures counted { IfOk result (λ _. B.shows.counted table.new) }
     ensures unchanged { IfOk result (λ _. All OnlyAsks calls.items → table.new ≡ table.old) }
@@ -243,12 +253,11 @@ where
     ensures of_none { vec_len calls ≡ 0 → IsOk result }
 
     // with lawful ones
-    ensures lawful { IfOk result (λ _.
-        RunStaysLawful T.target L.same L.hash_of B.shows (FnReturnsAtPair E.Fn eq) (FnReturnsAt H.Fn hash_fn)
-        table.old calls.items table.new) }
-    ensures as_list { IfOk result (λ replies.
-        RunAnswers T.target L.same L.hash_of B.shows (FnReturnsAtPair E.Fn eq) (FnReturnsAt H.Fn hash_fn) (FnReturnsAtTwo P.Fn test)
-        table.old calls.items replies.items table.new) }
+    ensures lawful { IfOk result (λ _. RunStaysLawful T.target L.same L.hash_of B.shows
+        (FnReturnsAtPair E.Fn eq) (FnReturnsAt H.Fn hash_fn) table.old calls.items table.new) }
+    ensures as_list { IfOk result (λ replies. RunAnswers T.target L.same L.hash_of B.shows
+        (FnReturnsAtPair E.Fn eq) (FnReturnsAt H.Fn hash_fn) (FnReturnsAtTwo P.Fn test) table.old
+        calls.items replies.items table.new) }
 {
     let Ok(mut replies) = Vec::with_capacity(alloc, calls.len()) else {
         return Err(calls);

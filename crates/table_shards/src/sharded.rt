@@ -126,7 +126,8 @@ impl<T: AtomicValue, const SHARDS: usize, A: Allocator + Copy> HeldShardedTable<
     /// The buckets of all generations of all shards, or the greatest usize if there are more.
     pub fn buckets_alone(&self) -> usize
         ensures all { result ≡ capped_sum all_buckets self.now }
-        ensures linear_in_entries { (k : ℕ) → k < length self.now → HasFewBuckets (shard_at self.now k) }
+        ensures linear_in_entries { (k : ℕ) → k < length self.now
+            → HasFewBuckets (shard_at self.now k) }
     {
         let mut sum: usize = 0;
         for shard in self.shards.as_slice() {
@@ -146,24 +147,27 @@ impl<T: AtomicValue, const SHARDS: usize, A: Allocator + Copy> HeldShardedTable<
         requires hash_callable { H.IsAlwaysCallable hash_fn.now }
 
         // with any closures
-        ensures keeps { InsertKeeps T.target (FnReturnsAtPair E.Fn eq.now (T.target value)) (entry_at self.new)
-            (entries self.old) value result (entries self.new) }
+        ensures keeps { InsertKeeps T.target (FnReturnsAtPair E.Fn eq.now (T.target value))
+            (entry_at self.new) (entries self.old) value result (entries self.new) }
         ensures marks { InsertMarks (marked self.old) hash value result (marked self.new) }
         ensures later { IsLater sharded self.old self.new }
         ensures places { KeepsPlaces sharded self.old self.new }
         ensures home { IfOk result (λ placed. placed.0.shard ≡ number_of_shard SHARDS hash) }
         ensures inside { IfOk result (λ placed. LivesInItsShard self.new placed.0) }
-        ensures others { (k : ℕ) → k ≢ number_of_shard SHARDS hash → shard_at self.new k ≡ shard_at self.old k }
-        ensures first { map (λ t. t.first_capacity) self.new ≡ map (λ t. t.first_capacity) self.old }
+        ensures others { (k : ℕ) → k ≢ number_of_shard SHARDS hash
+            → shard_at self.new k ≡ shard_at self.old k }
+        ensures first { map (λ t. t.first_capacity) self.new ≡ map (λ t. t.first_capacity)
+            self.old }
         ensures shards { length self.new ≡ length self.old }
         ensures counted { AreCounted self.new }
 
         // with lawful ones
-        ensures lawful { InsertAnswers T.target L.same L.hash_of (FnReturnsAtPair E.Fn eq.now) (FnReturnsAt H.Fn hash_fn.now)
-            (AreLawful T.target L.same L.hash_of self.old) (entries self.old) hash value result
-            (AreLawful T.target L.same L.hash_of self.new) }
-        ensures as_list { PlacesAsList T.target L.same L.hash_of sharded (FnReturnsAtPair E.Fn eq.now) (FnReturnsAt H.Fn hash_fn.now)
-            self.old hash value result self.new }
+        ensures lawful { InsertAnswers T.target L.same L.hash_of (FnReturnsAtPair E.Fn eq.now)
+            (FnReturnsAt H.Fn hash_fn.now) (AreLawful T.target L.same L.hash_of self.old)
+            (entries self.old) hash value result (AreLawful T.target L.same L.hash_of self.new) }
+        ensures as_list { PlacesAsList T.target L.same L.hash_of sharded
+            (FnReturnsAtPair E.Fn eq.now) (FnReturnsAt H.Fn hash_fn.now) self.old hash value result
+            self.new }
     {
         let shard = HeldShardedTable::<T, SHARDS, A>::shard_of(hash);
         let shards = self.shards.as_mut_slice();
@@ -212,10 +216,12 @@ impl<T: AtomicValue, const SHARDS: usize, A: Allocator + Copy> HeldShardedTable<
         test: F,
     ) -> Option<&T::Target>
         requires { F.IsAlwaysCallable test }
-        ensures accepted { IfSome result (λ found. FindsOne T.target (FnReturnsAt F.Fn test) (entries self.now) found.now) }
+        ensures accepted { IfSome result (λ found. FindsOne T.target (FnReturnsAt F.Fn test)
+            (entries self.now) found.now) }
         ensures none { IfNone result (FindsNone T.target L.same L.hash_of (FnReturnsAt F.Fn test)
             (AreLawful T.target L.same L.hash_of self.now) (entries self.now) hash) }
-        ensures as_list { LooksUpAsList T.target L.same L.hash_of sharded (FnReturnsAt F.Fn test) self.now hash (option_copied result) }
+        ensures as_list { LooksUpAsList T.target L.same L.hash_of sharded (FnReturnsAt F.Fn test)
+            self.now hash (option_copied result) }
     {
         let shards = self.shards.as_slice();
         shards[HeldShardedTable::<T, SHARDS, A>::shard_of(hash)].lookup_alone::<L, F>(hash, test)

@@ -95,8 +95,8 @@ impl<T: AtomicValue, A: Low + Copy> LockFreeRawTable<T, A> {
             (Some generation) None (Carried.Value value) (Held.Shared guard) }
         requires asks { Asks E.IsAlwaysCallable H.IsAlwaysCallable T.target E.Fn asking
             (Carried.Value value) }
-        ensures { Answers T.target
-            (FnReturnsAtPair E.Fn asking.eq (T.target asking.given.value)) asking.given.value result }
+        ensures { Answers T.target (FnReturnsAtPair E.Fn asking.eq (T.target asking.given.value))
+            asking.given.value result }
     {
         let mut note = generation.note_at(state.index as usize);
         let (next, carried) = match self.put_value::<Putting, E>(
@@ -138,8 +138,8 @@ impl<T: AtomicValue, A: Low + Copy> LockFreeRawTable<T, A> {
         requires between { IsBetween self.now.home T.target asking.given.value state
             (Some generation) None carried (Held.Shared guard) }
         requires asks { Asks E.IsAlwaysCallable H.IsAlwaysCallable T.target E.Fn asking carried }
-        ensures { Answers T.target
-            (FnReturnsAtPair E.Fn asking.eq (T.target asking.given.value)) asking.given.value result }
+        ensures { Answers T.target (FnReturnsAtPair E.Fn asking.eq (T.target asking.given.value))
+            asking.given.value result }
     {
         let state = step(state, Answer::Released);
         drop(guard);
@@ -164,8 +164,8 @@ impl<T: AtomicValue, A: Low + Copy> LockFreeRawTable<T, A> {
     ) -> Result<(&'a T::Target, Option<T>), T>
         requires { Onward self.now.home E.IsAlwaysCallable H.IsAlwaysCallable T.target E.Fn asking
             state walked carried held }
-        ensures { Answers T.target
-            (FnReturnsAtPair E.Fn asking.eq (T.target asking.given.value)) asking.given.value result }
+        ensures { Answers T.target (FnReturnsAtPair E.Fn asking.eq (T.target asking.given.value))
+            asking.given.value result }
     {
         let call = Inserting {
             table: self,

@@ -104,7 +104,8 @@ where
         ensures unchanged { IfBlocked result (self.new ≡ self.old) }
         ensures ended { IfEnded result
             (λ reply. Advances self.old.state self.new.state × (self.new.state.phase ≡ Done)) }
-        ensures tells { IfEnded result (λ reply. told_by reply ≡ reached_by self.new.state.outcome) }
+        ensures tells { IfEnded result (λ reply. told_by reply ≡ reached_by
+            self.new.state.outcome) }
         ensures answers { IfEnded result (λ reply. Answers T.target
             (FnReturnsAtPair E.Fn self.old.eq (T.target self.old.given)) self.old.given reply) }
         ensures names { IfEnded result

@@ -41,7 +41,8 @@ pub fn next_bucket(bucket: usize, capacity: usize) -> usize
     requires within { bucket < capacity }
     requires power { IsPowerOfTwo capacity }
     ensures within { result < capacity }
-    ensures next { (hash k : ℕ) → bucket ≡ bucket_at capacity hash k → result ≡ bucket_at capacity hash (k + 1) }
+    ensures next { (hash k : ℕ) → bucket ≡ bucket_at capacity hash k
+        → result ≡ bucket_at capacity hash (k + 1) }
 {
     (bucket + 1) & (capacity - 1)
 }

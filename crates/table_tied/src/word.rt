@@ -43,7 +43,8 @@ impl<T: Stands<E>, A: Allocator, E, P: Rule<E, u64>> TiedWord<T, A, E, P> {
     /// Null, under the key that the pen is the right to make. It takes no memory.
     pub fn new(_alloc: &A, _home: &Home, pen: &mut Pen) -> TiedWord<T, A, E, P>
         requires pen { MayMake pen.old.nib 0 }
-        ensures word { result ≡ tied_view _alloc.now _home.now.id true pen.old.nib.key pen.old.book }
+        ensures word { result ≡ tied_view _alloc.now _home.now.id true pen.old.nib.key
+            pen.old.book }
         ensures pen { (pen.new.book ≡ pen.old.book) × (pen.new.nib ≡ inked pen.old.nib 0) }
     {
         TiedWord {
@@ -62,7 +63,8 @@ impl<T: Stands<E>, A: Allocator, E, P: Rule<E, u64>> TiedWord<T, A, E, P> {
     ) -> TiedWord<T, A, E, P>
         requires pen { (pen.old.nib.right ≡ may_make_home) × (pen.old.nib.value ≡ 0) }
         requires book { pen.old.book ≡ seen.old.book }
-        requires sets { Sets P.holds P.shows T.stands L.set pen.old.nib.key name.value seen.old.log }
+        requires sets { Sets P.holds P.shows T.stands L.set pen.old.nib.key name.value
+            seen.old.log }
         ensures word { result ≡ tied_view _alloc.now name.home false pen.old.nib.key pen.old.book }
         ensures pen { (pen.new.book ≡ pen.old.book) × (pen.new.nib ≡ no_nib) }
         ensures same { (seen.new.book ≡ seen.old.book) × (seen.new.names ≡ seen.old.names) }
@@ -86,7 +88,8 @@ impl<T: Stands<E>, A: Allocator, E, P: Rule<E, u64>> TiedWord<T, A, E, P> {
     ) -> TiedWord<T, A, E, P>
         requires pen { (pen.old.nib.right ≡ may_make_home) × (pen.old.nib.value ≡ 0) }
         requires book { pen.old.book ≡ seen.old.book }
-        requires sets { Sets P.holds P.shows T.stands L.set pen.old.nib.key block.value seen.old.log }
+        requires sets { Sets P.holds P.shows T.stands L.set pen.old.nib.key block.value
+            seen.old.log }
         ensures word { result ≡ tied_view block.from home.now.id true pen.old.nib.key pen.old.book }
         ensures pen { (pen.new.book ≡ pen.old.book) × (pen.new.nib ≡ no_nib) }
         ensures same { (seen.new.book ≡ seen.old.book) × (seen.new.names ≡ seen.old.names) }
@@ -210,8 +213,10 @@ impl<T: Stands<E> + Drop, A: Low, E, P: Rule<E, u64>> TiedWord<T, A, E, P> {
     ) -> TiedWord<T, A, E, P>
         requires pen { (pen.old.nib.right ≡ may_make_home) × (pen.old.nib.value ≡ 0) }
         requires book { pen.old.book ≡ seen.old.book }
-        requires sets { Sets P.holds P.shows T.stands L.set pen.old.nib.key block.value seen.old.log }
-        ensures word { result ≡ tied_view (box_allocator block) home.now.id true pen.old.nib.key pen.old.book }
+        requires sets { Sets P.holds P.shows T.stands L.set pen.old.nib.key block.value
+            seen.old.log }
+        ensures word { result ≡ tied_view (box_allocator block) home.now.id true pen.old.nib.key
+            pen.old.book }
         ensures pen { (pen.new.book ≡ pen.old.book) × (pen.new.nib ≡ no_nib) }
         ensures same { (seen.new.book ≡ seen.old.book) × (seen.new.names ≡ seen.old.names) }
         ensures seen { IsPrefix seen.old.log seen.new.log }
@@ -240,7 +245,8 @@ impl<T: Stands<E> + Drop, A: Low, E, P: Rule<E, u64>> TiedWord<T, A, E, P> {
         ensures stands { T.stands result.0.now self.now.key seen.new.log }
         ensures won { IfNone result.1 (result.0.now ≡ block.value) }
         ensures set { IfNone result.1 (L.set block.value self.now.key seen.old.log seen.new.log) }
-        ensures back { IfSome result.1 (λ b. (b.value ≡ block.value) × (box_allocator b ≡ self.now.from)) }
+        ensures back { IfSome result.1 (λ b. (b.value ≡ block.value)
+            × (box_allocator b ≡ self.now.from)) }
     {
         let (block, alloc) = LowBlock::of(block);
         match self.exchange::<L>(home, block, seen) {

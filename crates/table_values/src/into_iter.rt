@@ -45,8 +45,10 @@ impl<T: AtomicValue, A: Allocator + Copy> IntoIter<T, A> {
     ) -> Self
         requires current { current.home ≡ closed.id }
         requires others { All (λ g. g.home ≡ closed.id) (with_later earlier.items later.items) }
-        requires counted { left ≡ length (owned_values current.contents ++ all_owned (with_later earlier.items later.items)) }
-        ensures { result ≡ owned_values current.contents ++ all_owned (with_later earlier.items later.items) }
+        requires counted { left ≡ length (owned_values current.contents ++ all_owned
+            (with_later earlier.items later.items)) }
+        ensures { result ≡ owned_values current.contents ++ all_owned
+            (with_later earlier.items later.items) }
     {
         IntoIter {
             closed,

@@ -17,8 +17,10 @@ pub enum Check {
 
 /// Reads the words after the program's name: the check, and the words that are left for it. `None` is for words that name no check.
 pub fn parse_check<S: AsStr>(words: &[S]) -> Option<(Check, &[S])>
-    ensures named { IfSome result (λ named. NamesCheck (map S.text words.now) named.0 (map S.text named.1.now)) }
-    ensures wrong { IfNone result ((check : CheckOf) (rest : List (List ℕ)) → ¬ NamesCheck (map S.text words.now) check rest) }
+    ensures named { IfSome result (λ named. NamesCheck (map S.text words.now) named.0
+        (map S.text named.1.now)) }
+    ensures wrong { IfNone result ((check : CheckOf) (rest : List (List ℕ))
+        → ¬ NamesCheck (map S.text words.now) check rest) }
 {
     match words {
         [] => Some((Check::All, words)),

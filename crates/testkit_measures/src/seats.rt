@@ -171,7 +171,8 @@ fn parts_for(
 ) -> Result<Vec<Part>, AllocError>
     requires { IsSeatOf table.now seat }
     ensures each { IfOk result (λ parts. length parts.items ≡ THREADS) }
-    ensures fit { IfOk result (λ parts. All (λ part. (part.worker < 4) × IsSeatOf table.now part.seat) parts.items) }
+    ensures fit { IfOk result (λ parts. All (λ part. (part.worker < 4)
+        × IsSeatOf table.now part.seat) parts.items) }
 {
     let mut parts = Vec::with_capacity(alloc, THREADS as usize)?;
     let mut last = seat;

@@ -52,7 +52,8 @@ impl<T: AtomicValue> PlainList<T> {
         eq: &E,
     ) -> Result<(usize, Option<T>), T>
         requires { E.IsAlwaysCallable eq.now }
-        ensures { Inserts T.target (FnReturnsAtPair E.Fn eq.now (T.target value)) self.old value result self.new }
+        ensures { Inserts T.target (FnReturnsAtPair E.Fn eq.now (T.target value)) self.old value
+            result self.new }
     {
         if let Some(index) = find_same(self.values.as_slice(), value.deref(), eq) {
             return Ok((index, Some(value)));
@@ -71,7 +72,8 @@ fn find<'a, T: AtomicValue, F: Fn(&T::Target) -> bool>(
     test: &F,
 ) -> Option<&'a T::Target>
     requires { F.IsAlwaysCallable test.now }
-    ensures accepted { IfSome result (λ found. FindsOne T.target (FnReturnsAt F.Fn test.now) values.now found.now) }
+    ensures accepted { IfSome result (λ found. FindsOne T.target (FnReturnsAt F.Fn test.now)
+        values.now found.now) }
     ensures none { IfNone result (RefusesEach T.target (FnReturnsAt F.Fn test.now) values.now) }
 {
     for value in values.iter() {

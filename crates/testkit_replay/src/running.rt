@@ -54,8 +54,10 @@ impl<'a, 'm, E: Fn(&Item, &Item) -> bool, H: Fn(&Item) -> u64, F: Fn(&Item) -> b
 > {
     /// One step.
     fn advance(&mut self) -> Stepped
-        requires may_go { MayGo E.IsAlwaysCallable H.IsAlwaysCallable F.IsAlwaysCallable E.Fn self.old }
-        ensures may_go { MayGo E.IsAlwaysCallable H.IsAlwaysCallable F.IsAlwaysCallable E.Fn self.new }
+        requires may_go { MayGo E.IsAlwaysCallable H.IsAlwaysCallable F.IsAlwaysCallable E.Fn
+            self.old }
+        ensures may_go { MayGo E.IsAlwaysCallable H.IsAlwaysCallable F.IsAlwaysCallable E.Fn
+            self.new }
     {
         match self {
             Steps::Insert(call) => {
@@ -131,7 +133,8 @@ impl<
         requires eq_callable { E.IsAlwaysCallable eq }
         requires hash_callable { H.IsAlwaysCallable hash_fn }
         requires test_callable { F.IsAlwaysCallable test }
-        ensures ready { IsReady E.IsAlwaysCallable H.IsAlwaysCallable F.IsAlwaysCallable E.Fn result }
+        ensures ready { IsReady E.IsAlwaysCallable H.IsAlwaysCallable F.IsAlwaysCallable E.Fn
+            result }
     {
         Calls {
             table,
@@ -148,7 +151,8 @@ impl<
         replay: &mut Replay<'_, '_>,
         schedule: &mut S,
     ) -> Result<(), Fault>
-        requires ready { IsReady E.IsAlwaysCallable H.IsAlwaysCallable F.IsAlwaysCallable E.Fn self.old }
+        requires ready { IsReady E.IsAlwaysCallable H.IsAlwaysCallable F.IsAlwaysCallable E.Fn
+            self.old }
     {
         for _turn in 0..u64::MAX {
             match schedule.next(replay)? {
@@ -164,8 +168,10 @@ impl<
 
     /// Begins an insert.
     fn insert(&mut self, value: Box<Item>) -> Result<(), Fault>
-        requires ready { IsReady E.IsAlwaysCallable H.IsAlwaysCallable F.IsAlwaysCallable E.Fn self.old }
-        ensures ready { IsReady E.IsAlwaysCallable H.IsAlwaysCallable F.IsAlwaysCallable E.Fn self.new }
+        requires ready { IsReady E.IsAlwaysCallable H.IsAlwaysCallable F.IsAlwaysCallable E.Fn
+            self.old }
+        ensures ready { IsReady E.IsAlwaysCallable H.IsAlwaysCallable F.IsAlwaysCallable E.Fn
+            self.new }
     {
         let hash = value.hash;
         let call = InsertCall::new(self.table, hash, value, self.eq, self.hash_fn);
@@ -177,8 +183,10 @@ impl<
 
     /// Begins a look-up of a hash.
     fn lookup(&mut self, hash: u64) -> Result<(), Fault>
-        requires ready { IsReady E.IsAlwaysCallable H.IsAlwaysCallable F.IsAlwaysCallable E.Fn self.old }
-        ensures ready { IsReady E.IsAlwaysCallable H.IsAlwaysCallable F.IsAlwaysCallable E.Fn self.new }
+        requires ready { IsReady E.IsAlwaysCallable H.IsAlwaysCallable F.IsAlwaysCallable E.Fn
+            self.old }
+        ensures ready { IsReady E.IsAlwaysCallable H.IsAlwaysCallable F.IsAlwaysCallable E.Fn
+            self.new }
     {
         let call = LookupCall::new(self.table, hash, self.test);
         match self.begun.push(Steps::Lookup(call)) {
@@ -189,8 +197,10 @@ impl<
 
     /// One step of the call at this place.
     fn advance(&mut self, index: usize) -> Result<Stepped, Fault>
-        requires ready { IsReady E.IsAlwaysCallable H.IsAlwaysCallable F.IsAlwaysCallable E.Fn self.old }
-        ensures ready { IsReady E.IsAlwaysCallable H.IsAlwaysCallable F.IsAlwaysCallable E.Fn self.new }
+        requires ready { IsReady E.IsAlwaysCallable H.IsAlwaysCallable F.IsAlwaysCallable E.Fn
+            self.old }
+        ensures ready { IsReady E.IsAlwaysCallable H.IsAlwaysCallable F.IsAlwaysCallable E.Fn
+            self.new }
     {
         match self.begun.get_mut(index) {
             Some(steps) => Ok(steps.advance()),

@@ -53,8 +53,10 @@ impl Fates {
     /// Notes what became of the value: of each something becomes once. A number that is none, or whose value has a fate, is a
     /// fault, and nothing is noted.
     pub fn settle(&mut self, number: u64, fate: Fate) -> Result<(), Fault>
-        ensures ok { OnOk result ((slice_get self.old number ≡ Some Open) × (self.new ≡ slice_set self.old number fate)) }
-        ensures err { OnErr result ((slice_get self.old number ≢ Some Open) × (self.new ≡ self.old)) }
+        ensures ok { OnOk result ((slice_get self.old number ≡ Some Open)
+            × (self.new ≡ slice_set self.old number fate)) }
+        ensures err { OnErr result ((slice_get self.old number ≢ Some Open)
+            × (self.new ≡ self.old)) }
     {
         match self.of(number) {
             Some(Fate::Open) => {

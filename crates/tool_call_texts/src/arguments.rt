@@ -40,7 +40,8 @@ pub enum ShardCount {
 pub fn parse_command<S: AsStr>(words: &[S]) -> Option<Command>
     ensures named { IfSome result (NamesCommand (map S.text words.now)) }
     ensures runnable { IfSome result IsRunnable }
-    ensures wrong { IfNone result ((command : CommandOf) → ¬ NamesCommand (map S.text words.now) command) }
+    ensures wrong { IfNone result ((command : CommandOf)
+        → ¬ NamesCommand (map S.text words.now) command) }
 {
     match words {
         [] => Some(Command::Calls {
@@ -96,7 +97,8 @@ fn parse_first<S: AsStr>(words: &[S]) -> Option<usize>
 fn parse_shards<S: AsStr>(words: &[S]) -> Option<(ShardCount, usize)>
     ensures named { IfSome result (λ named. NamesShards (map S.text words.now) named.0 named.1) }
     ensures first { IfSome result (λ named. IsFirstCapacity named.1) }
-    ensures wrong { IfNone result ((shards : ShardCountOf) (first : ℕ) → ¬ NamesShards (map S.text words.now) shards first) }
+    ensures wrong { IfNone result ((shards : ShardCountOf) (first : ℕ)
+        → ¬ NamesShards (map S.text words.now) shards first) }
 {
     match words {
         [] => None,
@@ -111,7 +113,8 @@ fn parse_shards<S: AsStr>(words: &[S]) -> Option<(ShardCount, usize)>
 /// Reads a number of shards.
 fn parse_shard_count(text: &[u8]) -> Option<ShardCount>
     ensures written { IfSome result (λ shards. Writes 10 20 text.now (number_of shards)) }
-    ensures wrong { IfNone result ((shards : ShardCountOf) → ¬ Writes 10 20 text.now (number_of shards)) }
+    ensures wrong { IfNone result ((shards : ShardCountOf)
+        → ¬ Writes 10 20 text.now (number_of shards)) }
 {
     match parse_decimal(text)? {
         1 => Some(ShardCount::One),
@@ -128,7 +131,8 @@ fn parse_stress<S: AsStr>(words: &[S]) -> Option<(usize, u64)>
     ensures named { IfSome result (λ named. NamesStress (map S.text words.now) named.0 named.1) }
     ensures threads { IfSome result (λ named. IsThreadCount named.0) }
     ensures jobs { IfSome result (λ named. IsJobCount named.1) }
-    ensures wrong { IfNone result ((threads jobs : ℕ) → ¬ NamesStress (map S.text words.now) threads jobs) }
+    ensures wrong { IfNone result ((threads jobs : ℕ)
+        → ¬ NamesStress (map S.text words.now) threads jobs) }
 {
     let [threads, jobs] = words else {
         return None;
@@ -152,8 +156,10 @@ fn parse_threads<S: AsStr>(words: &[S]) -> Option<usize>
 
 /// Reads a number of threads, from 2 to 64.
 fn parse_thread_count(text: &[u8]) -> Option<usize>
-    ensures named { IfSome result (λ threads. Writes 10 20 text.now threads × IsThreadCount threads) }
-    ensures wrong { IfNone result ((threads : ℕ) → ¬ (Writes 10 20 text.now threads × IsThreadCount threads)) }
+    ensures named { IfSome result (λ threads. Writes 10 20 text.now threads
+        × IsThreadCount threads) }
+    ensures wrong { IfNone result ((threads : ℕ)
+        → ¬ (Writes 10 20 text.now threads × IsThreadCount threads)) }
 {
     let threads = parse_count(text, 2, 64)?;
     Some(threads as usize)
@@ -163,7 +169,8 @@ fn parse_thread_count(text: &[u8]) -> Option<usize>
 fn parse_count(text: &[u8], least: u64, most: u64) -> Option<u64>
     ensures written { IfSome result (Writes 10 20 text.now) }
     ensures inside { IfSome result (λ n. (least ≤ n) × (n ≤ most)) }
-    ensures wrong { IfNone result ((n : ℕ) → ¬ (Writes 10 20 text.now n × ((least ≤ n) × (n ≤ most)))) }
+    ensures wrong { IfNone result ((n : ℕ) → ¬ (Writes 10 20 text.now n
+        × ((least ≤ n) × (n ≤ most)))) }
 {
     let count = parse_decimal(text)?;
     if least <= count && count <= most {

@@ -44,7 +44,8 @@ fn parse_event(text: &[u8]) -> Option<Event>
 /// Reads what follows the word of an event: the call's number, and behind a space what else the event has.
 fn parse_after(word: &[u8], rest: &[u8]) -> Option<Event>
     ensures spelled { IfSome result (λ event. SpellsAfter word.now rest.now (pieces_of event)) }
-    ensures bad { IfNone result ((event : EventOf) → ¬ SpellsAfter word.now rest.now (pieces_of event)) }
+    ensures bad { IfNone result ((event : EventOf)
+        → ¬ SpellsAfter word.now rest.now (pieces_of event)) }
 {
     match split_at_space(rest) {
         None => {
@@ -61,7 +62,8 @@ fn parse_after(word: &[u8], rest: &[u8]) -> Option<Event>
 /// The event whose word is followed by the call's number alone.
 fn event_of_call(word: &[u8], call: u64) -> Option<Event>
     ensures named { IfSome result (λ event. pieces_of event ≡ Letters word.now ∷ Number call ∷ []) }
-    ensures unnamed { IfNone result ((event : EventOf) → pieces_of event ≢ Letters word.now ∷ Number call ∷ []) }
+    ensures unnamed { IfNone result ((event : EventOf)
+        → pieces_of event ≢ Letters word.now ∷ Number call ∷ []) }
 {
     match word {
         b"len" => Some(Event::Len { call }),
@@ -79,8 +81,10 @@ fn event_of_call(word: &[u8], call: u64) -> Option<Event>
 
 /// Reads what follows the call's number, for the events that have more.
 fn parse_behind(word: &[u8], call: u64, text: &[u8]) -> Option<Event>
-    ensures spelled { IfSome result (λ event. SpellsBehind word.now call text.now (pieces_of event)) }
-    ensures bad { IfNone result ((event : EventOf) → ¬ SpellsBehind word.now call text.now (pieces_of event)) }
+    ensures spelled { IfSome result (λ event. SpellsBehind word.now call text.now
+        (pieces_of event)) }
+    ensures bad { IfNone result ((event : EventOf)
+        → ¬ SpellsBehind word.now call text.now (pieces_of event)) }
 {
     match word {
         b"lookup" => {
@@ -117,7 +121,8 @@ fn parse_behind(word: &[u8], call: u64, text: &[u8]) -> Option<Event>
 
 /// Reads a closure's answer, and behind a space whether memory was granted.
 fn parse_put(text: &[u8]) -> Option<(bool, bool)>
-    ensures spelled { IfSome result (λ put. SpellsPieces text.now (answer put.0 ∷ grant put.1 ∷ [])) }
+    ensures spelled { IfSome result (λ put. SpellsPieces text.now
+        (answer put.0 ∷ grant put.1 ∷ [])) }
     ensures bad { IfNone result ((y m : Bool) → ¬ SpellsPieces text.now (answer y ∷ grant m ∷ [])) }
 {
     let (first, rest) = split_at_space(text)?;

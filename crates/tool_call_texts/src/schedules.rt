@@ -50,8 +50,10 @@ impl<A: Allocator + Copy> LineCommand for Schedule<A> {
     fn take<W: Write>(&mut self, line: ScheduleLine, output: &mut W) -> Result<(), StreamFault>
         ensures fault { IfErr result (λ fault. fault ≢ StreamFault.ReadFailed) }
         ensures taken { OnOk result (self.new.state ≡ world_after self.old.state line) }
-        ensures printed { OnOk result (Appends (W.contents output.old) (W.contents output.new) (printed self.old.state line)) }
-        ensures refused { result ≡ Err StreamFault.NoMemory → (self.new.state ≡ self.old.state) × (output.new ≡ output.old) }
+        ensures printed { OnOk result (Appends (W.contents output.old) (W.contents output.new)
+            (printed self.old.state line)) }
+        ensures refused { result ≡ Err StreamFault.NoMemory → (self.new.state ≡ self.old.state)
+            × (output.new ≡ output.old) }
     {
         match line {
             ScheduleLine::Step(event) => match self.state.step(event) {

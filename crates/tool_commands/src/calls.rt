@@ -33,7 +33,8 @@ impl<A: Allocator + Copy, B: PairStore<A>> LineCommand for PairTable<B, A> {
     fn take<W: Write>(&mut self, line: Line, output: &mut W) -> Result<(), StreamFault>
         ensures fault { IfErr result (λ fault. fault ≢ StreamFault.ReadFailed) }
         ensures first { B.shows.counts.first self.new ≡ B.shows.counts.first self.old }
-        ensures answered { OnOk result ((text : List ℕ) × AnswersAsPairs B.shows self.old line text self.new
+        ensures answered { OnOk result ((text : List ℕ)
+            × AnswersAsPairs B.shows self.old line text self.new
             × Appends (W.contents output.old) (W.contents output.new) (text ++ codes "\n")) }
     {
         match line {

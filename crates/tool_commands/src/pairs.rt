@@ -44,14 +44,16 @@ impl<A: Allocator + Copy, B: PairStore<A>> PairTable<B, A> {
 
     /// The second part of the entry that is equal to the pair.
     pub fn lookup(&self, hash: u64, number: u64) -> Option<u64>
-        ensures { (ps : List (ℕ × ℕ)) → B.shows.holds self.now ps → LooksUpPair ps (hash, number) result }
+        ensures { (ps : List (ℕ × ℕ)) → B.shows.holds self.now ps
+            → LooksUpPair ps (hash, number) result }
     {
         self.table.find_pair(hash, number)
     }
 
     /// The number of entries, or the greatest that can be told.
     pub fn length(&self) -> usize
-        ensures { (ps : List (ℕ × ℕ)) → B.shows.holds self.now ps → result ≡ B.shows.counts.told (length ps) }
+        ensures { (ps : List (ℕ × ℕ)) → B.shows.holds self.now ps
+            → result ≡ B.shows.counts.told (length ps) }
     {
         self.table.count()
     }
@@ -74,7 +76,8 @@ impl<A: Allocator + Copy, B: PairStore<A>> PairTable<B, A> {
 
     /// The second parts of all entries, in ascending order. Err: memory was refused.
     pub fn numbers(&self) -> Result<Vec<u64, A>, AllocError>
-        ensures { IfOk result (λ numbers. (ps : List (ℕ × ℕ)) → B.shows.holds self.now ps → ListsNumbers ps numbers.items) }
+        ensures { IfOk result (λ numbers. (ps : List (ℕ × ℕ)) → B.shows.holds self.now ps
+            → ListsNumbers ps numbers.items) }
     {
         let mut numbers = Vec::with_capacity(self.alloc, self.table.count())?;
         self.table.push_numbers(&mut numbers)?;

@@ -30,16 +30,19 @@ pub trait PairStore<A: Allocator + Copy> {
     /// Inserts the pair, unless an entry is equal. Err: the block for the pair was refused, and nothing has changed.
     fn place_pair(&mut self, alloc: A, hash: u64, number: u64) -> Result<Insertion, AllocError>
         ensures first { shows.counts.first self.new ≡ shows.counts.first self.old }
-        ensures inserts { IfOk result (λ how. InsertsAsPairs shows self.old (hash, number) how self.new) }
+        ensures inserts { IfOk result (λ how. InsertsAsPairs shows self.old (hash, number) how
+            self.new) }
         ensures unchanged { OnErr result (self.new ≡ self.old) };
 
     /// The second part of the entry that is equal to the pair.
     fn find_pair(&self, hash: u64, number: u64) -> Option<u64>
-        ensures { (ps : List (ℕ × ℕ)) → shows.holds self.now ps → LooksUpPair ps (hash, number) result };
+        ensures { (ps : List (ℕ × ℕ)) → shows.holds self.now ps
+            → LooksUpPair ps (hash, number) result };
 
     /// The number of entries, or the greatest that can be told.
     fn count(&self) -> usize
-        ensures { (ps : List (ℕ × ℕ)) → shows.holds self.now ps → result ≡ shows.counts.told (length ps) };
+        ensures { (ps : List (ℕ × ℕ)) → shows.holds self.now ps
+            → result ≡ shows.counts.told (length ps) };
 
     /// The buckets of the current generations.
     fn capacity(&self) -> usize
@@ -87,7 +90,8 @@ fn find<A: Allocator + Copy, B: AloneTable<Boxed<A>, PairLaw>>(
     hash: u64,
     number: u64,
 ) -> Option<u64>
-    ensures { (ps : List (ℕ × ℕ)) → HoldsPairs B.shows (λ b. b.value) table.now ps → LooksUpPair ps (hash, number) result }
+    ensures { (ps : List (ℕ × ℕ)) → HoldsPairs B.shows (λ b. b.value) table.now ps
+        → LooksUpPair ps (hash, number) result }
 {
     let entry = table.lookup_alone(
         hash,

@@ -32,7 +32,8 @@ pub fn run_stress<R: Threads + Wait + Sync, A: Low + Copy + Send + Sync, G: Gate
     requires some { 0 < jobs }
     requires few { jobs ≤ 1000 }
     ensures fault { IfErr result IsStressFault }
-    ensures printed { OnOk result (Appends (O.contents output.old) (O.contents output.new) (stress_text crew.threads)) }
+    ensures printed { OnOk result (Appends (O.contents output.old) (O.contents output.new)
+        (stress_text crew.threads)) }
 {
     run_kind(rt, alloc, crew, jobs, gates, Kind::InsertUnique, output)?;
     run_kind(rt, alloc, crew, jobs, gates, Kind::InsertSame, output)?;
@@ -52,7 +53,8 @@ fn run_kind<R: Threads + Wait + Sync, A: Low + Copy + Send + Sync, G: Gates, O: 
     requires some { 0 < jobs }
     requires few { jobs ≤ 1000 }
     ensures fault { IfErr result IsStressFault }
-    ensures printed { OnOk result (Appends (O.contents output.old) (O.contents output.new) (kind_line kind crew.threads)) }
+    ensures printed { OnOk result (Appends (O.contents output.old) (O.contents output.new)
+        (kind_line kind crew.threads)) }
 {
     let mut entries = 0;
     for number in 0..jobs {

@@ -32,8 +32,8 @@ pub trait LineTool {
 
     /// Takes the line.
     fn take_line<W: Write>(&mut self, line: TextLine<'_>, output: &mut W) -> Result<(), Fault>
-        ensures { OnOk result (TakesLines has_taken written self.old (line.entry.bytes.now ∷ []) self.new
-            (W.contents output.old) (W.contents output.new)) };
+        ensures { OnOk result (TakesLines has_taken written self.old (line.entry.bytes.now ∷ [])
+            self.new (W.contents output.old) (W.contents output.new)) };
 }
 
 /// Takes each line of the texts. Whatever is written of the lines that are there is flushed before more input is waited for.
@@ -43,7 +43,8 @@ pub fn take_texts<A: Allocator + Copy, L: LineTool, T: Texts, O: Write>(
     texts: &mut T,
     output: &mut O,
 ) -> Result<(), Fault>
-    ensures { OnOk result (IfSome (T.left texts.old) (λ all. TakesLines L.has_taken L.written tool.old (flat_map lines_of all) tool.new
+    ensures { OnOk result (IfSome (T.left texts.old)
+        (λ all. TakesLines L.has_taken L.written tool.old (flat_map lines_of all) tool.new
         (O.contents output.old) (O.contents output.new))) }
 {
     // Counted only so that the loop has an end.

@@ -49,8 +49,9 @@ pub fn run_over<F: TextFiles, A: Allocator + Copy, S: AsStr, I: Read + Drop, O: 
 ) -> u8
     ensures status { (result ≡ 0) ⊎ ((result ≡ 1) ⊎ (result ≡ 2)) }
     ensures well { result ≡ 0 → messages.new ≡ messages.old }
-    ensures wrong { ((tool : ToolOf) (names : List (List ℕ)) → ¬ AsksTool (map S.text words.now) tool names)
-        → ¬ AsksHelp (map S.text words.now) → (result ≡ 2) × (output.new ≡ output.old) }
+    ensures wrong { ((tool : ToolOf) (names : List (List ℕ))
+        → ¬ AsksTool (map S.text words.now) tool names) → ¬ AsksHelp (map S.text words.now)
+        → (result ≡ 2) × (output.new ≡ output.old) }
 {
     match parse_request(words) {
         Some(Request::Help) => write_help(output, messages),
@@ -69,7 +70,8 @@ pub fn run_over<F: TextFiles, A: Allocator + Copy, S: AsStr, I: Read + Drop, O: 
 fn write_help<O: Write, M: Write>(output: &mut O, messages: &mut M) -> u8
     ensures status { (result ≡ 0) ⊎ (result ≡ 1) }
     ensures well { result ≡ 0 → messages.new ≡ messages.old }
-    ensures written { result ≡ 0 → Appends (O.contents output.old) (O.contents output.new) (usage ++ codes "\n") }
+    ensures written { result ≡ 0 → Appends (O.contents output.old) (O.contents output.new)
+        (usage ++ codes "\n") }
 {
     match writeln!(output, "{Usage}") {
         Ok(()) => 0,

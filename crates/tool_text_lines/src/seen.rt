@@ -46,8 +46,10 @@ impl<'a, A: Allocator + Copy> Seen<'a, A> {
     ///
     /// An Err: the line is new, and memory was refused. The lines are those before.
     pub fn seen_before(&mut self, line: &[u8]) -> Result<bool, AllocError>
-        ensures sees { IfOk result (λ seen. SeesLine (λ v. v.0) (λ line. line.now) self.old line.now seen self.new) }
-        ensures refused { OnErr result (RefusesLine (λ v. v.0) (λ line. line.now) self.old line.now self.new) }
+        ensures sees { IfOk result (λ seen. SeesLine (λ v. v.0) (λ line. line.now) self.old line.now
+            seen self.new) }
+        ensures refused { OnErr result (RefusesLine (λ v. v.0) (λ line. line.now) self.old line.now
+            self.new) }
     {
         let hash = Mixed::hash(line);
         if self.knows(hash, line) {
@@ -60,7 +62,8 @@ impl<'a, A: Allocator + Copy> Seen<'a, A> {
     /// Whether the line, whose hash this is, was seen.
     fn knows(&self, hash: u64, line: &[u8]) -> bool
         requires { hash ≡ mixed_hash line.now }
-        ensures { (lines : List (List ℕ)) → HoldsLines (λ v. v.0) (λ line. line.now) self.now lines → IsTrue result ↔ Contains lines line.now }
+        ensures { (lines : List (List ℕ)) → HoldsLines (λ v. v.0) (λ line. line.now) self.now lines
+            → IsTrue result ↔ Contains lines line.now }
     {
         match self
             .lines
@@ -74,8 +77,12 @@ impl<'a, A: Allocator + Copy> Seen<'a, A> {
     /// Keeps a line that was not seen. An Err is refused memory, and the lines are those before.
     fn keep(&mut self, hash: u64, line: &[u8]) -> Result<(), AllocError>
         requires hash { hash ≡ mixed_hash line.now }
-        ensures kept { OnOk result ((lines : List (List ℕ)) → HoldsLines (λ v. v.0) (λ line. line.now) self.old lines → HoldsLines (λ v. v.0) (λ line. line.now) self.new (lines ++ line.now ∷ [])) }
-        ensures refused { OnErr result ((lines : List (List ℕ)) → HoldsLines (λ v. v.0) (λ line. line.now) self.old lines → HoldsLines (λ v. v.0) (λ line. line.now) self.new lines) }
+        ensures kept { OnOk result ((lines : List (List ℕ))
+            → HoldsLines (λ v. v.0) (λ line. line.now) self.old lines
+            → HoldsLines (λ v. v.0) (λ line. line.now) self.new (lines ++ line.now ∷ [])) }
+        ensures refused { OnErr result ((lines : List (List ℕ))
+            → HoldsLines (λ v. v.0) (λ line. line.now) self.old lines
+            → HoldsLines (λ v. v.0) (λ line. line.now) self.new lines) }
     {
         let kept = kept_in(self.arena, line)?;
         let Ok(_) = self.lines.place_alone::<LineLaw, _, _>(

@@ -18,7 +18,8 @@ pub trait Texts {
 
     /// Opens the next text. None: there is no other.
     fn next_text(&mut self) -> Result<Option<Self::Text>, Fault>
-        ensures { IfOk result (λ text. GivesText (left self.old) (left self.new) (option_map Self.Text.remaining text)) };
+        ensures { IfOk result (λ text. GivesText (left self.old) (left self.new)
+            (option_map Self.Text.remaining text)) };
 
     /// The name of the text that was asked for last, if it has one.
     fn name(&self) -> Option<&str>;

@@ -27,7 +27,8 @@ pub enum Request<'a, S> {
 /// Reads the words after the program's name. `None` is for words that ask for nothing.
 pub fn parse_request<S: AsStr>(words: &[S]) -> Option<Request<'_, S>>
     ensures asked { IfSome result (Asks (map S.text) (map S.text words.now)) }
-    ensures no_tool { IfNone result ((tool : ToolOf) (names : List (List ℕ)) → ¬ AsksTool (map S.text words.now) tool names) }
+    ensures no_tool { IfNone result ((tool : ToolOf) (names : List (List ℕ))
+        → ¬ AsksTool (map S.text words.now) tool names) }
     ensures no_help { IfNone result (¬ AsksHelp (map S.text words.now)) }
 {
     if is_help(words) {

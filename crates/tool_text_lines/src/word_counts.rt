@@ -37,10 +37,13 @@ impl<'a, A: Allocator + Copy> WordCounts<'a, A> {
 
     /// Counts the word once more. A known word takes no memory. A refusal changes nothing.
     pub fn count(&mut self, word: &str) -> Result<(), Fault>
-        ensures counts { OnOk result ((words : List (List ℕ)) → Counts words self.old.interner self.old.counts.items
+        ensures counts { OnOk result ((words : List (List ℕ))
+            → Counts words self.old.interner self.old.counts.items
             → Counts (words ++ word.now ∷ []) self.new.interner self.new.counts.items) }
-        ensures known { IfErr result (λ fault. Contains self.old.interner word.now → fault ≡ Fault.TooManyWords) }
-        ensures unchanged { OnErr result ((self.new.interner ≡ self.old.interner) × (self.new.counts.items ≡ self.old.counts.items)) }
+        ensures known { IfErr result (λ fault. Contains self.old.interner word.now
+            → fault ≡ Fault.TooManyWords) }
+        ensures unchanged { OnErr result ((self.new.interner ≡ self.old.interner)
+            × (self.new.counts.items ≡ self.old.counts.items)) }
     {
         match self.interner.number_alone(word) {
             Some(number) => self.count_again(number),
@@ -52,8 +55,9 @@ impl<'a, A: Allocator + Copy> WordCounts<'a, A> {
     fn count_again(&mut self, number: NonZeroU32) -> Result<(), Fault>
         requires { non_zero_u32_get number ≤ length self.old.interner }
         ensures interner { self.new.interner ≡ self.old.interner }
-        ensures counted { OnOk result (self.new.counts.items ≡ slice_set self.old.counts.items (non_zero_u32_get number - 1)
-            (slice_index self.old.counts.items (non_zero_u32_get number - 1) + 1)) }
+        ensures counted { OnOk result (self.new.counts.items ≡ slice_set self.old.counts.items
+            (non_zero_u32_get number - 1) (slice_index self.old.counts.items
+            (non_zero_u32_get number - 1) + 1)) }
         ensures unchanged { OnErr result (self.new.counts.items ≡ self.old.counts.items) }
         ensures most { IfErr result (λ fault. (fault ≡ Fault.TooManyWords)
             × (slice_index self.old.counts.items (non_zero_u32_get number - 1) ≡ 2 ^ 64 - 1)) }
@@ -73,7 +77,8 @@ impl<'a, A: Allocator + Copy> WordCounts<'a, A> {
         requires { ¬ Contains self.old.interner word.now }
         ensures interner { OnOk result (self.new.interner ≡ self.old.interner ++ word.now ∷ []) }
         ensures counted { OnOk result (self.new.counts.items ≡ self.old.counts.items ++ 1 ∷ []) }
-        ensures unchanged { OnErr result ((self.new.interner ≡ self.old.interner) × (self.new.counts.items ≡ self.old.counts.items)) }
+        ensures unchanged { OnErr result ((self.new.interner ≡ self.old.interner)
+            × (self.new.counts.items ≡ self.old.counts.items)) }
     {
         if self.counts.reserve(1).is_err() {
             return Err(Fault::Stream(StreamFault::NoMemory));
@@ -108,7 +113,8 @@ impl<'a, A: Allocator + Copy> WordCounts<'a, A> {
         requires given { before < length self.now.interner }
         requires few { length self.now.interner ≤ greatest_number }
         ensures { OnOk result (Appends (W.contents output.old) (W.contents output.new)
-            (word_line (before + 1) (slice_index_or self.now.interner before []) (slice_index self.now.counts.items before))) }
+            (word_line (before + 1) (slice_index_or self.now.interner before [])
+            (slice_index self.now.counts.items before))) }
     {
         let Some(number) = NonZeroU32::new(before + 1) else {
             unreachable!()

@@ -33,7 +33,8 @@ fn count_words<A: Allocator + Copy>(
     line: &[u8],
     number: u64,
 ) -> Result<(), Fault>
-    ensures { OnOk result ((before : List (List ℕ)) → Counts before words.old.interner words.old.counts.items
+    ensures { OnOk result ((before : List (List ℕ))
+        → Counts before words.old.interner words.old.counts.items
         → Counts (before ++ words_of line.now) words.new.interner words.new.counts.items) }
 {
     let mut rest = line;
@@ -64,7 +65,8 @@ fn first_word(text: &[u8]) -> Option<(&[u8], &[u8])>
 fn cut_blanks(text: &[u8]) -> (&[u8], &[u8])
     ensures parts { text.now ≡ result.0.now ++ result.1.now }
     ensures blanks { AllAnswer is_ascii_whitespace true result.0.now }
-    ensures behind { 0 < length result.1.now → is_ascii_whitespace (slice_index result.1.now 0) ≡ false }
+    ensures behind { 0 < length result.1.now → is_ascii_whitespace (slice_index result.1.now 0)
+        ≡ false }
 {
     for (at, byte) in text.iter().enumerate() {
         if !byte.is_ascii_whitespace() {

@@ -22,9 +22,11 @@ fn rehome_bucket<T: Drop, A: Allocator + Copy>(
 )
     requires within { index < length marks.old.items }
     requires marked { AreMarked marks.old.items words.old.items }
-    requires lies { (d : _) → Lies closed.now.id alloc (slice_index_or (buckets_of marks.old.items words.old.items) index d) }
+    requires lies { (d : _) → Lies closed.now.id alloc
+        (slice_index_or (buckets_of marks.old.items words.old.items) index d) }
     ensures marked { AreMarked marks.new.items words.new.items }
-    ensures moved { RehomesAt home.now.id alloc index (buckets_of marks.old.items words.old.items) (buckets_of marks.new.items words.new.items) }
+    ensures moved { RehomesAt home.now.id alloc index (buckets_of marks.old.items words.old.items)
+        (buckets_of marks.new.items words.new.items) }
 {
     let place = &mut words[index];
     let old = Bucket {
@@ -48,7 +50,8 @@ fn rehome_buckets<T: Drop, A: Allocator + Copy>(
     requires marked { AreMarked marks.old.items words.old.items }
     requires lies { All (Lies closed.now.id alloc) (buckets_of marks.old.items words.old.items) }
     ensures marked { AreMarked marks.new.items words.new.items }
-    ensures moved { AreMovedBelow home.now.id alloc (length marks.old.items) (buckets_of marks.old.items words.old.items) (buckets_of marks.new.items words.new.items) }
+    ensures moved { AreMovedBelow home.now.id alloc (length marks.old.items)
+        (buckets_of marks.old.items words.old.items) (buckets_of marks.new.items words.new.items) }
 {
     for index in 0..marks.len() {
         rehome_bucket(marks, words, index, closed, home, alloc);

@@ -47,7 +47,8 @@ fn look_at_bucket<'a, T: AtomicValue, A: Allocator + Copy>(
     requires home { bucket.now.home ≡ home.now.id }
     requires of { note.old.of ≡ bucket.now.id }
     ensures of { note.new.of ≡ note.old.of }
-    ensures seen { IsSeen bucket.now.content note.old.known note.new.known (λ o. Tells sought o result) }
+    ensures seen { IsSeen bucket.now.content note.old.known note.new.known
+        (λ o. Tells sought o result) }
 {
     match bucket.mark() {
         Mark::Vacant => match bucket.get(home, note) {
@@ -64,7 +65,8 @@ impl<T: AtomicValue, A: Allocator + Copy> Generation<T, A> {
     pub fn doubled(&self) -> Option<usize>
         ensures power { IfSome result (λ c. IsPowerOfTwo c) }
         ensures twice { IfSome result (λ c. c ≡ 2 * length self.now.contents) }
-        ensures none { IfNone result ((length self.now.contents ≡ 0) ⊎ (2 ^ 63 ≤ length self.now.contents)) }
+        ensures none { IfNone result ((length self.now.contents ≡ 0)
+            ⊎ (2 ^ 63 ≤ length self.now.contents)) }
     {
         let capacity = self.row.len();
         if capacity == 0 {
@@ -93,7 +95,8 @@ impl<T: AtomicValue, A: Allocator + Copy> Generation<T, A> {
         requires within { index < length self.now.contents }
         requires of { note.old.of ≡ slice_index_or self.now.ids index 0 }
         ensures of { note.new.of ≡ note.old.of }
-        ensures seen { IsSeen (content_at self.now.contents index) note.old.known note.new.known (λ o. option_copied result ≡ o) }
+        ensures seen { IsSeen (content_at self.now.contents index) note.old.known note.new.known
+            (λ o. option_copied result ≡ o) }
     {
         self.row.at(index).get(home, note)
     }
@@ -110,7 +113,8 @@ impl<T: AtomicValue, A: Allocator + Copy> Generation<T, A> {
         requires within { index < length self.now.contents }
         requires of { note.old.of ≡ slice_index_or self.now.ids index 0 }
         ensures of { note.new.of ≡ note.old.of }
-        ensures seen { IsSeen (content_at self.now.contents index) note.old.known note.new.known (λ o. Tells sought o result) }
+        ensures seen { IsSeen (content_at self.now.contents index) note.old.known note.new.known
+            (λ o. Tells sought o result) }
     {
         look_at_bucket(home, &self.row.at(index), sought, note)
     }
@@ -148,9 +152,11 @@ impl<T: AtomicValue, A: Low + Copy> Generation<T, A> {
         requires within { index < length self.now.contents }
         requires of { note.old.of ≡ slice_index_or self.now.ids index 0 }
         ensures of { note.new.of ≡ note.old.of }
-        ensures ok { IfOk result (λ e. (content_at self.now.contents index ≡ vacant) × (e.now ≡ entry_from value bits)) }
+        ensures ok { IfOk result (λ e. (content_at self.now.contents index ≡ vacant)
+            × (e.now ≡ entry_from value bits)) }
         ensures first { IfOk result (λ e. (note.old.known ≡ None) × (note.new.known ≡ Some e.now)) }
-        ensures missed { IfErr result (λ m. Misses (content_at self.now.contents index) value note.old.known note.new.known m) }
+        ensures missed { IfErr result (λ m. Misses (content_at self.now.contents index) value
+            note.old.known note.new.known m) }
     {
         self.row
             .at(index)

@@ -28,7 +28,8 @@ impl<T: AtomicValue, A: Allocator + Copy> HeldRawTable<T, A> {
         ensures first { result.first_capacity ≡ self.first_capacity }
         ensures allowed { IsFirstCapacity result.first_capacity }
         ensures current { shown_all result.current.contents ≡ self.buckets }
-        ensures shown { shown_rows (contents_in result.earlier.items) result.current.contents ≡ self.generations }
+        ensures shown { shown_rows (contents_in result.earlier.items) result.current.contents
+            ≡ self.generations }
         ensures home { AreOfHome result.home.id result.earlier.items result.current }
     {
         let HeldRawTable {

@@ -70,7 +70,9 @@ pub fn new_tables_agree<
     P: Fn(&K, &T::Target) -> bool,
 >(eq: &E, hash_fn: &H, test: &P)
     ensures by_list { NewTablesAgree T.target L.same L.hash_of B.shows C.shows
-        (FnReturnsAtPair E.Fn eq.now) (FnReturnsAt H.Fn hash_fn.now) (FnReturnsAtTwo P.Fn test.now) }
+        (FnReturnsAtPair E.Fn eq.now) (FnReturnsAt H.Fn hash_fn.now)
+        (FnReturnsAtTwo P.Fn test.now) }
     ensures by_class { NewTablesAgreeByClass T.target L.same L.hash_of B.shows C.shows
-        (FnReturnsAtPair E.Fn eq.now) (FnReturnsAt H.Fn hash_fn.now) (FnReturnsAtTwo P.Fn test.now) }
+        (FnReturnsAtPair E.Fn eq.now) (FnReturnsAt H.Fn hash_fn.now)
+        (FnReturnsAtTwo P.Fn test.now) }
 {}

@@ -13,7 +13,8 @@ fn count_with<T: AtomicValue, A: Allocator + Copy>(
     entries_before: usize,
     shards: &[HeldRawTable<T, A>],
 ) -> Option<usize>
-    ensures { let all = entries_before + length (flat_map entries shards.now) in MatchOption result (2 ^ 64 ≤ all) (λ count. count ≡ all) }
+    ensures { let all = entries_before + length (flat_map entries shards.now) in MatchOption result
+        (2 ^ 64 ≤ all) (λ count. count ≡ all) }
 {
     let mut count = entries_before;
     for shard in shards {

@@ -65,7 +65,8 @@ impl<'a, T: AtomicValue, A: Allocator + Copy, F: Fn(&T::Target) -> bool> Looking
             × FnReturnsAt F.Fn self.old.test r.now true) }
         ensures tells { found_by result.1 ≡ reached_by self.new.state.outcome }
         ensures alone { AtAlone self.old.walked self.old.state.index
-            (StepTells T.target (FnReturnsAt F.Fn self.old.test) (bits_of self.old.state.hash) result.0 result.1) }
+            (StepTells T.target (FnReturnsAt F.Fn self.old.test) (bits_of self.old.state.hash)
+            result.0 result.1) }
         ensures same { self.new.test ≡ self.old.test }
     {
         let table: &'a LockFreeRawTable<T, A> = self.table;
