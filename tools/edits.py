@@ -1,23 +1,26 @@
 #!/usr/bin/env python3
 """Tries the edits that must fail: all edits of a crate together, in as few checks as they need.
 
-    tools/edits.py [--all] [--built] [--jobs N] [CRATE..]
+    tools/edits.py [--all] [--built] [--control] [--jobs N] [CRATE..]
     tools/edits.py --self-test
 
 An edit is a file crates/NAME/edits/WHAT.edit: a line `file: src/x.rt`, then pairs of lines `old: TEXT` and `new: TEXT`, each TEXT one line
 that stands once in the file. With --all those of crates/NAME/must-fail/, which `rt ci` tries one by one, are tried too. With no CRATE
 every crate's are. N (1 unless said) is how many jobs a check has; several crates are tried side by side.
 
-A copy of the crate is edited in each function that has an edit, and these functions are checked once, with those that they call. An edit is
-refused where a goal of its own function fails. Two edits of a function, and those whose function only calls one that isn't proved, wait for
-a later round, over what the rounds before it have proved. Whatever a round leaves open is tried alone, and judged then by the whole crate.
-An edit that is proved, or that the prover never judged, is told by name. The last line is `N passed, M failed`: N edits were refused. The
-status is 0 only where M is 0.
+A copy of the crate is edited in each function that has an edit, and these functions are checked once. The others lose their bodies there,
+and are what they promise: the crate is proved without the edits. An edit is refused where a goal of its own function fails. Two edits of a
+function, and those whose function only calls one that isn't proved, wait for a later round. Whatever a round leaves open is tried alone, over
+all bodies, and judged then by the whole crate. An edit that is proved, or that the prover never judged, is told by name. The last line is
+`N passed, M failed`: N edits were refused. The status is 0 only where M is 0.
 
 With --built the libraries are those that `rt ci` has just proved and built of this very checkout, and nothing is proved but the copies.
 Otherwise each crate is proved and built first, in its own folder, which keeps what is proved in out/, and its rounds begin with that.
 
 With --self-test made edits of the crate `table_terms` are tried, some of which must be told.
+
+With --control the rounds are the same but for the edits, which are left out: each function that has one must be proved then, so that what
+refuses an edit is the edit. What stands in no function has no such round.
 """
 import argparse
 import concurrent.futures
@@ -36,6 +39,7 @@ import threading
 import time
 
 sys.dont_write_bytecode = True
+from bodies import empty
 from edit_files import edits_of, pairs_of
 
 TOP = pathlib.Path(__file__).resolve().parent.parent
@@ -43,9 +47,11 @@ PARTS = ("src", "specs", "proofs")
 # A line of a check that says what is wrong at a place, and one that says whether a function is proved.
 PLACED = re.compile(r"(note: )?(?:\./)?((?:src|specs|proofs)/\S+?):(\d+):\d+: (.*)")
 VERDICT = re.compile(r"fn (\S+): (.*)")
-# An error that only follows from another one, and one by which a proof file names what the edit took away.
+# An error that only follows from another one, and one by which a proof file names what isn't there.
 FOLLOWS = re.compile(r"was not admitted|was rejected")
 NAMES = re.compile(r"is not in scope|has no ")
+# The verdict on a function whose own goals are proved, where those of others were left out.
+KEEPS = re.compile(r"no holes|depends on a hole in .*")
 # A source text that can't be read or typed. One that only makes a statement false reads well.
 UNREAD = re.compile(r"error\[|error: (?!`)|error: `[^`]*`: .*(is not in scope|has no field|is no name|operand is missing|expected the end)")
 
@@ -66,6 +72,10 @@ class Told:
     def proves(self):
         """The function whose proof file it is, by its path in the crate."""
         return "::".join(self.file.split("/")[1:-1]) if self.file.startswith("proofs/") else None
+
+    def is_of_another(self):
+        """Whether a name is missing that isn't of the modules which the prover makes of the function itself."""
+        return bool(NAMES.search(self.said)) and f".proofs.{self.proves().replace('::', '.')}." not in self.said
 
 
 @dataclasses.dataclass
@@ -94,8 +104,13 @@ class Checked:
         """The lines by which functions fail for themselves, and not only since another one isn't proved."""
         files = {name.partition("::")[2] for name in names}
         errors = [it for it in self.told if it.proves() in files and it.said.startswith("error:") and not FOLLOWS.search(it.said)]
-        answers = [it.line for it in sorted(errors, key=lambda it: bool(NAMES.search(it.said)))]
+        answers = [it.line for it in sorted(errors, key=lambda it: bool(NAMES.search(it.said))) if not it.is_of_another()]
         return [*answers, *(f"fn {name}: {self.verdicts[name]}" for name in names if "did not prove" in self.verdicts[name])]
+
+    def keeps(self, edit):
+        """Whether the functions of an edit are proved by what the others promise."""
+        names = self.names_of(edit)
+        return bool(names) and all(KEEPS.match(self.verdicts[name]) for name in names)
 
     def cost(self):
         return f"{self.seconds:.0f} CPU s, {self.wall:.0f} s"
@@ -183,10 +198,13 @@ def copy_of(top, crate, room):
     return folder
 
 
-def renew(source, folder, kept, edits):
-    """Makes the crate's copy ready for a round: the sources with these edits alone, over what is proved of the crate."""
-    shutil.rmtree(folder / "src", ignore_errors=True)
-    shutil.copytree(source / "src", folder / "src")
+def renew(source, folder, kept, edits, names):
+    """Makes the crate's copy ready for a round: the sources with these edits alone, over what is proved of the crate. But for an edit that
+    is tried alone only the functions with an edit have a body and a proof, of those that the prover names so."""
+    for part in ("src", "proofs"):
+        shutil.rmtree(folder / part, ignore_errors=True)
+        if (source / part).is_dir():
+            shutil.copytree(source / part, folder / part)
     if kept.is_dir():
         shutil.rmtree(folder / "out/incremental", ignore_errors=True)
         # a check puts new files in the place of old ones, and writes into none
@@ -195,12 +213,14 @@ def renew(source, folder, kept, edits):
     for file in {file for file, _ in changed}:
         lines = (folder / file).read_text().split("\n")
         (folder / file).write_text("\n".join(changed.get((file, at), line) for at, line in enumerate(lines)))
+    if not edits[0].is_alone:
+        empty(folder, [it for edit in edits for it in edit.functions], names)
 
 
 def asked_for(edits, functions):
     """The flags that ask for the functions of these edits, and none where an edit is tried alone: then the whole crate is judged."""
     names = [name for name in functions if any(it.named.fullmatch(name) for edit in edits for it in edit.functions)]
-    return [] if edits[0].is_alone else [word for name in names for word in ("--only", name)]
+    return [] if edits[0].is_alone else ["--allow-holes", *(word for name in names for word in ("--only", name))]
 
 
 # What a check says of an edit.
@@ -253,6 +273,13 @@ def judge_together(checked, edits):
     return {name: (True, f"refused: {name}: {reason[:300]}") for name, reason in reasons.items() if reason}
 
 
+def judge_control(checked, edits):
+    """Whether the functions of a round are proved without its edits, edit by edit."""
+    said = {edit.name: [checked.verdicts[name] for name in checked.names_of(edit)] for edit in edits}
+    proved = {edit.name: checked.keeps(edit) for edit in edits}
+    return {name: (proved[name], f"{'proved' if proved[name] else 'NOT PROVED'} without {name}: {said[name]}"[:300]) for name in said}
+
+
 def one_round(edits):
     """Edits that can be tried together: one of each function's name and of each line. One that must be alone is, and comes last."""
     first, *_ = ordered = sorted(edits, key=lambda it: it.is_alone)
@@ -270,16 +297,23 @@ def one_round(edits):
 # The crates in turn.
 
 
-def rounds_of(top, crate, edits, jobs):
+def rounds_of(trial):
     """Tries the edits of a proved crate. It yields, of each round, the check, how many were tried, and those settled."""
-    words, functions = words_of(top, crate, jobs), functions_of(top, crate)
+    top, crate, edits = trial.top, trial.crate, [it for it in trial.edits if not (trial.is_control and it.is_alone)]
+    words, functions = words_of(top, crate, trial.jobs), functions_of(top, crate)
     with tempfile.TemporaryDirectory(prefix="edits-") as room:
         folder = copy_of(top, crate, pathlib.Path(room))
         while edits:
             tried = one_round(edits)
-            renew(top / "crates" / crate, folder, pathlib.Path(room) / "kept", tried)
+            made = [dataclasses.replace(it, lines={}) for it in tried] if trial.is_control else tried
+            renew(top / "crates" / crate, folder, pathlib.Path(room) / "kept", made, functions)
             checked = check(folder, [*words, *asked_for(tried, functions)])
-            settled = {tried[0].name: judge_alone(checked, tried[0])} if tried[0].is_alone else judge_together(checked, tried)
+            if trial.is_control:
+                settled = judge_control(checked, tried)
+            elif tried[0].is_alone:
+                settled = {tried[0].name: judge_alone(checked, tried[0])}
+            else:
+                settled = judge_together(checked, tried)
             edits = [it for it in edits if it.name not in settled]
             yield checked, len(tried), settled
 
@@ -293,6 +327,7 @@ class Trial:
     edits: list
     results: dict
     jobs: int
+    is_control: bool
 
     def prove(self):
         """Proves and builds the crate as it is, and those below it. Where it isn't proved no edit is tried."""
@@ -307,7 +342,7 @@ class Trial:
         """Tries the edits, and says of each what became of it."""
         print("".join(f"{line}\n" for _, line in self.results.values()), end="", flush=True)
         total, rounds = Checked([], 0, 0), 0
-        for checked, tried, settled in rounds_of(self.top, self.crate, self.edits, self.jobs):
+        for checked, tried, settled in rounds_of(self):
             rounds, total = rounds + 1, Checked([], total.seconds + checked.seconds, total.wall + checked.wall)
             self.results |= settled
             said = "".join(f"{line}\n" for _, line in settled.values())
@@ -316,9 +351,9 @@ class Trial:
         return self.results
 
 
-def trial_of(top, crate, parts, jobs):
+def trial_of(top, crate, parts, jobs, is_control=False):
     edits, bad = edits_of(top / "crates" / crate, parts)
-    return Trial(top, crate, edits, {name: (False, f"BAD EDIT {name}: {why}") for name, why in bad.items()}, jobs)
+    return Trial(top, crate, edits, {name: (False, f"BAD EDIT {name}: {why}") for name, why in bad.items()}, jobs, is_control)
 
 
 def try_all(trials, is_built):
@@ -368,6 +403,7 @@ def main():
     parser.add_argument("crates", nargs="*", metavar="CRATE")
     parser.add_argument("--all", action="store_true")
     parser.add_argument("--built", action="store_true")
+    parser.add_argument("--control", action="store_true")
     parser.add_argument("--jobs", type=int, default=1)
     parser.add_argument("--self-test", action="store_true")
     given = parser.parse_args()
@@ -380,7 +416,7 @@ def main():
     parts = ["edits", *["must-fail"] * given.all]
     named = [crate for crate in listed(TOP) if not given.crates or crate in given.crates]
     having = [crate for crate in named if any(any((TOP / "crates" / crate / part).glob("*.edit")) for part in parts)]
-    results = try_all([trial_of(TOP, crate, parts, given.jobs) for crate in having], given.built)
+    results = try_all([trial_of(TOP, crate, parts, given.jobs, given.control) for crate in having], given.built)
     passed = sum(is_refused for is_refused, _ in results.values())
     spent = resource.getrusage(resource.RUSAGE_CHILDREN)
     print(f"edits: {(spent.ru_utime + spent.ru_stime) / 60:.1f} CPU minutes")
