@@ -13,6 +13,7 @@ mod stress;
 mod words;
 
 use lock_free_hashtable::raw::Low;
+use std::fmt::Debug;
 use std::io::{Read, Write};
 use std::process::Abort;
 use std::str;
@@ -88,8 +89,8 @@ fn assert_bytes(rt: &impl Abort, at: &str, got: &[u8], expected: &[u8]) {
     assert_eq!(rt; got, expected, "at {at:?}");
 }
 
-/// Asserts that two numbers are the same.
-fn assert_same(rt: &impl Abort, got: u64, expected: u64) {
+/// Both are the same.
+fn assert_same<X: PartialEq + Debug + Drop>(rt: &impl Abort, got: X, expected: X) {
     assert_eq!(rt; got, expected);
 }
 

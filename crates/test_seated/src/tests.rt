@@ -4,12 +4,18 @@ ghost use Rattle.seated.specs.Tables.{IsSeatOf};
 
 use seated::{NumberAnswer, NumberTable, Seat};
 use std::alloc::{AllocError, Allocator, Global};
+use std::fmt::Debug;
 use std::num::NonZeroU64;
 use std::process::Abort;
 use std::test::Fail;
 use std::thread;
 use std::thread::Threads;
 use testkit_refusing::{Refusing, Rule};
+
+/// Both are the same.
+fn assert_same<X: PartialEq + Debug + Drop>(rt: &impl Abort, got: X, expected: X) {
+    assert_eq!(rt; got, expected);
+}
 
 /// The numbers below 128 for which a seat got each answer, as the bits of a word.
 #[derive(Clone, Copy, Drop, PartialEq, Eq, Debug)]
@@ -121,16 +127,16 @@ fn assert_full(rt: &impl Abort, table: &NumberTable<Global>, seat: &mut Seat, n:
     ensures { IsSeatOf table.now seat.new }
 {
     if let Some(v) = NonZeroU64::new(n) {
-        assert_eq!(rt; table.insert(seat, v), NumberAnswer::Full);
+        assert_same(rt, table.insert(seat, v), NumberAnswer::Full);
         assert!(rt; !table.contains(seat, v));
     }
 }
 
 /// So many words, of which each holds its bucket's number and the first, to which a probe for the last number comes, that.
 fn assert_filled(rt: &impl Abort, words: &[u64], count: u64) {
-    assert_eq!(rt; words.len() as u64, count);
+    assert_same(rt, words.len() as u64, count);
     for (word, bucket) in words.iter().zip(0u64..) {
-        assert_eq!(rt; *word, if bucket == 0 { count } else { bucket });
+        assert_same(rt, *word, if bucket == 0 { count } else { bucket });
     }
 }
 
@@ -204,12 +210,12 @@ fn insert_in_threads<R: Threads + Sync>(
 fn assert_placed_once(rt: &impl Abort, all: &[Told], last: u32) {
     let mut placed = 0;
     for told in all {
-        assert_eq!(rt; told.placed & placed, 0);
+        assert_same(rt, told.placed & placed, 0);
         placed |= told.placed;
-        assert_eq!(rt; told.placed | told.found, numbers_to(last));
-        assert_eq!(rt; told.full, 0);
+        assert_same(rt, told.placed | told.found, numbers_to(last));
+        assert_same(rt, told.full, 0);
     }
-    assert_eq!(rt; placed, numbers_to(last));
+    assert_same(rt, placed, numbers_to(last));
 }
 
 #[test]
@@ -225,7 +231,7 @@ fn four_threads_place_each_number_once(rt: HostRuntime) -> Result<(), Fail> {
         (0, numbers_to(8), bit(9))
     );
     let (_, mut newcomer) = two_of(&table, seat);
-    assert_eq!(rt; found_to(&table, &mut newcomer, 9), numbers_to(8));
+    assert_same(&rt, found_to(&table, &mut newcomer, 9), numbers_to(8));
     Ok(())
 }
 
@@ -247,12 +253,12 @@ fn two_threads_meet(rt: HostRuntime) -> Result<(), Fail> {
     );
     assert_placed_once(&rt, [one, two].as_slice(), 8);
     assert!(rt; table.meet(&mut first, &mut second).is_ok());
-    assert_eq!(rt; found_to(&table, &mut first, 9), numbers_to(8));
-    assert_eq!(rt; found_to(&table, &mut second, 9), numbers_to(8));
+    assert_same(&rt, found_to(&table, &mut first, 9), numbers_to(8));
+    assert_same(&rt, found_to(&table, &mut second, 9), numbers_to(8));
     let seat = table.join(first, second);
     let mut words = table.close(seat);
     words.as_mut_slice().sort_unstable();
-    assert_eq!(rt; words.as_slice(), [1, 2, 3, 4, 5, 6, 7, 8].as_slice());
+    assert_same(&rt, words.as_slice(), [1, 2, 3, 4, 5, 6, 7, 8].as_slice());
     Ok(())
 }
 
@@ -261,7 +267,7 @@ fn sixty_four_seats_share_a_table(rt: HostRuntime) -> Result<(), Fail> {
     let (table, seat) = table_of(&rt, rt.alloc(), 128)?;
     let seats = seats_for(rt.alloc(), &table, seat, 64)?;
     let all = insert_in_threads(&rt, &table, seats, 100)?;
-    assert_eq!(rt; all.len(), 64);
+    assert_same(&rt, all.len(), 64);
     assert_placed_once(&rt, all.as_slice(), 100);
     Ok(())
 }
@@ -269,10 +275,10 @@ fn sixty_four_seats_share_a_table(rt: HostRuntime) -> Result<(), Fail> {
 #[test]
 fn a_probe_goes_round_the_end(rt: HostRuntime) -> Result<(), Fail> {
     let (table, seat) = table_of(&rt, rt.alloc(), 8)?;
-    assert_eq!(rt; table.word_count(), 8);
+    assert_same(&rt, table.word_count(), 8);
     let seat = insert_each(&rt, &table, seat, [7, 15, 1, 9].as_slice());
     let words = table.close(seat);
-    assert_eq!(rt; words.as_slice(), [15, 1, 9, 0, 0, 0, 0, 7].as_slice());
+    assert_same(&rt, words.as_slice(), [15, 1, 9, 0, 0, 0, 0, 7].as_slice());
     Ok(())
 }
 
@@ -285,7 +291,7 @@ fn every_word_was_handed_in(rt: HostRuntime) -> Result<(), Fail> {
     assert!(rt; table.meet(&mut first, &mut second).is_ok());
     let joined = table.join(first, second);
     let (last, _newcomer) = two_of(&table, joined);
-    assert_eq!(rt; table.close(last).as_slice(), HANDED_IN.as_slice());
+    assert_same(&rt, table.close(last).as_slice(), HANDED_IN.as_slice());
     Ok(())
 }
 
@@ -311,7 +317,7 @@ fn new_answers_each_refused_request(rt: HostRuntime) -> Result<(), Fail> {
             (told.placed, told.found, told.full),
             (numbers_to(8), 0, bit(9))
         );
-        assert_eq!(rt; table.close(seat).len(), 8);
+        assert_same(&rt, table.close(seat).len(), 8);
     }
     let heap = Refusing::new(rt.alloc(), Rule::new(0, usize::MAX, REQUESTS, 1));
     assert!(rt; table_of(&rt, &heap, 8).is_ok());

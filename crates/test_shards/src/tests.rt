@@ -1,8 +1,11 @@
-//! The table over shards that threads share, run.
-mod made;
-mod numbers;
-mod refusals;
-mod shards;
-mod threads;
-mod values;
-mod walks;
+//! Tables over shards, run.
+mod held;
+mod shared;
+
+use std::fmt::Debug;
+use std::process::Abort;
+
+/// Both are the same.
+fn assert_same<X: PartialEq + Debug + Drop>(rt: &impl Abort, seen: X, expected: X) {
+    assert_eq!(rt; seen, expected);
+}

@@ -1,5 +1,5 @@
 //! One thread: placed, found, full, refused, found by a key, and the end.
-use super::made::{Fared, Heap, counted, has, made, put};
+use super::made::{Fared, Heap, assert_same, counted, has, made, put};
 use table_bounded::{BoundedSet, Placing};
 use table_sets::TextLaw;
 
@@ -8,16 +8,16 @@ fn a_number_is_placed_once_and_found(rt: HostRuntime) {
     let heap = counted(rt.alloc());
     let set = made(&heap, 4).expect(&rt, "a set");
     let mut known = set.known();
-    assert_eq!(rt; set.buckets(), 4);
+    assert_same(&rt, set.buckets(), 4);
     assert!(rt; !has(&set, &mut known, 5));
-    assert_eq!(rt; put(&set, &mut known, 5), Fared::Placed(5));
-    assert_eq!(rt; put(&set, &mut known, 5), Fared::Found(5, 5));
-    assert_eq!(rt; put(&set, &mut known, 6), Fared::Placed(6));
+    assert_same(&rt, put(&set, &mut known, 5), Fared::Placed(5));
+    assert_same(&rt, put(&set, &mut known, 5), Fared::Found(5, 5));
+    assert_same(&rt, put(&set, &mut known, 6), Fared::Placed(6));
     assert!(rt; has(&set, &mut known, 5));
     assert!(rt; !has(&set, &mut known, 7));
-    assert_eq!(rt; (heap.granted(), heap.given_back()), (3, 0));
+    assert_same(&rt, (heap.granted(), heap.given_back()), (3, 0));
     drop(set);
-    assert_eq!(rt; (heap.granted(), heap.given_back()), (3, 3));
+    assert_same(&rt, (heap.granted(), heap.given_back()), (3, 3));
 }
 
 #[test]
@@ -27,15 +27,15 @@ fn what_has_no_place_comes_back(rt: HostRuntime) {
     assert!(rt; made(&heap, 2).is_none());
     let set = made(&heap, 2).expect(&rt, "a set");
     let mut known = set.known();
-    assert_eq!(rt; put(&set, &mut known, 1), Fared::Placed(1));
+    assert_same(&rt, put(&set, &mut known, 1), Fared::Placed(1));
     heap.refuse(0, 1);
-    assert_eq!(rt; put(&set, &mut known, 2), Fared::NoMemory(2));
+    assert_same(&rt, put(&set, &mut known, 2), Fared::NoMemory(2));
     assert!(rt; !has(&set, &mut known, 2));
-    assert_eq!(rt; put(&set, &mut known, 2), Fared::Placed(2));
-    assert_eq!(rt; put(&set, &mut known, 3), Fared::Full(3));
-    assert_eq!(rt; put(&set, &mut known, 1), Fared::Found(1, 1));
+    assert_same(&rt, put(&set, &mut known, 2), Fared::Placed(2));
+    assert_same(&rt, put(&set, &mut known, 3), Fared::Full(3));
+    assert_same(&rt, put(&set, &mut known, 1), Fared::Found(1, 1));
     drop(set);
-    assert_eq!(rt; heap.granted(), heap.given_back());
+    assert_same(&rt, heap.granted(), heap.given_back());
 }
 
 #[test]
@@ -44,17 +44,17 @@ fn the_values_are_handed_out_at_the_end(rt: HostRuntime) {
     let set = made(&heap, 8).expect(&rt, "a set");
     let mut known = set.known();
     for number in 0u64..5 {
-        assert_eq!(rt; put(&set, &mut known, number), Fared::Placed(number));
+        assert_same(&rt, put(&set, &mut known, number), Fared::Placed(number));
     }
     heap.refuse(0, 1);
     let set = set.into_values(&mut known).err().expect(&rt, "the set");
     let values = set.into_values(&mut known).ok().expect(&rt, "the values");
-    assert_eq!(rt; values.len(), 5);
+    assert_same(&rt, values.len(), 5);
     for number in 0u64..5 {
         assert!(rt; values.contains(&number));
     }
     drop(values);
-    assert_eq!(rt; heap.granted(), heap.given_back());
+    assert_same(&rt, heap.granted(), heap.given_back());
 }
 
 #[test]
@@ -67,5 +67,5 @@ fn a_text_is_found_by_its_letters(rt: HostRuntime) {
     assert!(rt; set.get_by_key(&mut known, &"ab").is_some());
     assert!(rt; set.get_by_key(&mut known, &"ba").is_none());
     drop(set);
-    assert_eq!(rt; heap.granted(), heap.given_back());
+    assert_same(&rt, heap.granted(), heap.given_back());
 }

@@ -2,6 +2,8 @@
 ghost use Rattle.std.specs.Prelude.{◌≡◌};
 
 use std::alloc::Global;
+use std::fmt::Debug;
+use std::process::Abort;
 use table_bounded::{BoundedSet, Known, Placing};
 use table_sets::NumberLaw;
 use testkit_refusing::{Refusing, Rule};
@@ -31,6 +33,11 @@ impl Fared {
             Placing::NoMemory(back) => Fared::NoMemory(back),
         }
     }
+}
+
+/// Both are the same.
+pub fn assert_same<X: PartialEq + Debug + Drop>(rt: &impl Abort, got: X, expected: X) {
+    assert_eq!(rt; got, expected);
 }
 
 /// Memory that grants all that is asked of it, and counts.

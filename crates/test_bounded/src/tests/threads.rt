@@ -1,5 +1,5 @@
 //! Two threads share a set.
-use super::made::{Fared, Heap, made, put};
+use super::made::{Fared, Heap, assert_same, made, put};
 use crate::tell::tell;
 use std::thread;
 use std::thread::Threads;
@@ -28,7 +28,7 @@ fn one_of_two_threads_places_a_number(rt: HostRuntime) {
     let heap = Refusing::new(rt.alloc(), rule);
     for _ in 0..100 {
         assert!(rt; same(&rt, &heap));
-        assert_eq!(rt; heap.given_back(), heap.granted());
+        assert_same(&rt, heap.given_back(), heap.granted());
     }
 }
 
@@ -37,7 +37,7 @@ fn who_was_told_of_both_finds_both(rt: HostRuntime) {
     let heap = super::made::counted(rt.alloc());
     for number in 0u64..100 {
         let set = made(&heap, 2).expect(&rt, "a set");
-        assert_eq!(rt; tell(&rt, &set, number, number + 1), Some((true, true)));
+        assert_same(&rt, tell(&rt, &set, number, number + 1), Some((true, true)));
     }
-    assert_eq!(rt; heap.given_back(), heap.granted());
+    assert_same(&rt, heap.given_back(), heap.granted());
 }

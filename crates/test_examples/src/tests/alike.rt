@@ -1,5 +1,6 @@
 //! The same calls on one table and on four shards.
 
+use super::assert_same;
 use demo_examples::alike::{Ask, Both, ask_both};
 use lock_free_hashtable::InPlace;
 use lock_free_hashtable::alone::Reply;
@@ -43,9 +44,9 @@ const TOLD: [Told; 10] = [
 ];
 
 fn assert_told(rt: &impl Abort, replies: &[Reply<InPlace<u64>>]) {
-    assert_eq!(rt; replies.len(), TOLD.len());
+    assert_same(rt, replies.len(), TOLD.len());
     for (reply, told) in replies.iter().zip(TOLD) {
-        assert_eq!(rt; told_by(reply), told);
+        assert_same(rt, told_by(reply), told);
     }
 }
 
@@ -54,7 +55,7 @@ fn four_shards_tell_what_one_table_tells(rt: HostRuntime) -> Result<(), Fail> {
     let both: Both = ask_both(rt.alloc(), ASKS.as_slice())?;
     assert_told(&rt, both.told.one.as_slice());
     assert_told(&rt, both.told.other.as_slice());
-    assert_eq!(rt; both.raw.len_alone(), 4);
-    assert_eq!(rt; both.shards.len_alone(), 4);
+    assert_same(&rt, both.raw.len_alone(), 4);
+    assert_same(&rt, both.shards.len_alone(), 4);
     Ok(())
 }

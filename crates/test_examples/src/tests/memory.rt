@@ -1,5 +1,5 @@
 //! Memory that is refused to a memo.
-use super::{ask, slow_fibonacci};
+use super::{ask, assert_same, slow_fibonacci};
 use std::alloc::Global;
 use std::process::Abort;
 use std::test::Fail;
@@ -23,7 +23,7 @@ fn is_refused_after(rt: &impl Abort, alloc: Global, granted: u64) -> Option<bool
     let requested = heap.refusals_left() == 0;
     assert!(rt; requested || first.is_some());
     assert!(rt; first.is_none() || first == Some(slow_fibonacci(ARGUMENT)));
-    assert_eq!(rt; ask(&mut memo, ARGUMENT), Some(slow_fibonacci(ARGUMENT)));
+    assert_same(rt, ask(&mut memo, ARGUMENT), Some(slow_fibonacci(ARGUMENT)));
     if requested {
         Some(first.is_none())
     } else {
@@ -53,8 +53,8 @@ fn is_answered_with(rt: &impl Abort, alloc: Global, granted: u64) -> bool {
     if ask(&mut memo, ARGUMENT).is_none() {
         return false;
     }
-    assert_eq!(rt; ask(&mut memo, ARGUMENT), Some(slow_fibonacci(ARGUMENT)));
-    assert_eq!(rt; ask(&mut memo, u64::MAX), None);
+    assert_same(rt, ask(&mut memo, ARGUMENT), Some(slow_fibonacci(ARGUMENT)));
+    assert_same(rt, ask(&mut memo, u64::MAX), None);
     true
 }
 
@@ -67,6 +67,6 @@ fn a_kept_answer_needs_no_memory(rt: HostRuntime) {
 fn fewer_than_200_answers_are_computed(rt: HostRuntime) {
     let heap = Refusing::new(rt.alloc(), Rule::new(ANSWER, ANSWER, 199, 1));
     let mut memo = Memo::new(&heap);
-    assert_eq!(rt; ask(&mut memo, u64::MAX), Some(800_812_746_651_928_290));
-    assert_eq!(rt; heap.refusals_left(), 1);
+    assert_same(&rt, ask(&mut memo, u64::MAX), Some(800_812_746_651_928_290));
+    assert_same(&rt, heap.refusals_left(), 1);
 }

@@ -1,4 +1,5 @@
 //! A schedule, run.
+use super::assert_same;
 use demo_examples::schedules::run_as_list;
 use std::process::Abort;
 use std::test::Fail;
@@ -48,9 +49,9 @@ fn is_told(finished: &Finished) -> bool {
 #[test]
 fn calls_are_told_what_a_list_answers(rt: HostRuntime) -> Result<(), Fail> {
     let replies = run_as_list(rt.alloc(), &EVENTS)?;
-    assert_eq!(rt; replies.len(), CALLS.len());
+    assert_same(&rt, replies.len(), CALLS.len());
     for (finished, call) in replies.iter().zip(CALLS.iter()) {
-        assert_eq!(rt; finished.call, *call);
+        assert_same(&rt, finished.call, *call);
         assert!(rt; is_told(finished), "at {call}");
     }
     Ok(())

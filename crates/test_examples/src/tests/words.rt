@@ -1,6 +1,7 @@
 //! Words, inserted and found.
 ghost use Rattle.demo_examples.specs.Words.{HoldsWords};
 
+use super::assert_same;
 use demo_examples::held::insert_then_find;
 use lock_free_hashtable::HeldRawTable;
 use std::alloc::Global;
@@ -23,8 +24,8 @@ fn assert_found(
         Ok(found) => found.shown,
         Err(_) => None,
     };
-    assert_eq!(rt; shown, Some(word));
-    assert_eq!(rt; table.len_alone(), entries);
+    assert_same(rt, shown, Some(word));
+    assert_same(rt, table.len_alone(), entries);
     Ok(())
 }
 

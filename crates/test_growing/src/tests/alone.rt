@@ -1,6 +1,6 @@
 //! One thread: placed, found and shown over growth.
 use super::caller::{
-    Caller, Numbering, Numbers, assert_has, assert_none_out, counted, insert, made,
+    Caller, Numbering, Numbers, assert_has, assert_none_out, assert_same, counted, insert, made,
 };
 use std::process::Abort;
 use std::sync::Wait;
@@ -13,10 +13,10 @@ const SETS: [(usize, u64, u64); 3] = [(1, 3000, 13), (2, 3000, 12), (16, 3000, 9
 /// Places the numbers below this one, each of which is found once it is placed, and not before.
 fn place<R: Abort + Wait>(rt: &R, caller: &mut Numbering<'_, '_>, end: u64) {
     for number in 0..end {
-        assert_eq!(rt; caller.get(&number), None);
-        assert_eq!(rt; insert(rt, caller, number), Told::Placed);
-        assert_eq!(rt; insert(rt, caller, number), Told::Found);
-        assert_eq!(rt; caller.get(&number), Some(&number));
+        assert_same(rt, caller.get(&number), None);
+        assert_same(rt, insert(rt, caller, number), Told::Placed);
+        assert_same(rt, insert(rt, caller, number), Told::Found);
+        assert_same(rt, caller.get(&number), Some(&number));
     }
 }
 
@@ -35,10 +35,10 @@ fn numbers_over_growth(rt: HostRuntime) {
         let heap = counted(rt.alloc());
         let set = made(&heap, buckets).expect(&rt, "a set");
         assert!(rt; set.is_empty());
-        assert_eq!(rt; (heap.granted(), heap.given_back()), (3, 0));
+        assert_same(&rt, (heap.granted(), heap.given_back()), (3, 0));
         fill(&rt, &set, numbers);
         // Of the blocks of a growth one is given back at once.
-        assert_eq!(rt; heap.given_back(), growths);
+        assert_same(&rt, heap.given_back(), growths);
         drop(set);
         assert_none_out(&rt, &heap);
     }

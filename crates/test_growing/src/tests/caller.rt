@@ -2,6 +2,7 @@
 ghost use Rattle.std.specs.Prelude.{◌≡◌};
 
 use std::alloc::Global;
+use std::fmt::Debug;
 use std::process::Abort;
 use std::sync::Wait;
 use table_cell::Low;
@@ -17,6 +18,11 @@ pub(crate) type Numbers<'h> = GrowingSet<u64, NumberLaw, &'h Heap>;
 
 /// A caller of such a set.
 pub(crate) type Numbering<'s, 'h> = Caller<'s, u64, NumberLaw, &'h Heap>;
+
+/// Both are the same.
+pub(crate) fn assert_same<X: PartialEq + Debug + Drop>(rt: &impl Abort, got: X, expected: X) {
+    assert_eq!(rt; got, expected);
+}
 
 /// Memory that grants all that is asked of it, and counts.
 pub(crate) fn counted(alloc: Global) -> Heap {
@@ -126,13 +132,13 @@ pub(crate) fn insert<A: Low + Copy, R: Wait>(
 /// The caller finds each number below this one, and not this one.
 pub(crate) fn assert_has(rt: &impl Abort, caller: &mut Numbering<'_, '_>, end: u64) {
     for number in 0..end {
-        assert_eq!(rt; caller.get(&number), Some(&number));
+        assert_same(rt, caller.get(&number), Some(&number));
     }
-    assert_eq!(rt; caller.get(&end), None);
-    assert_eq!(rt; caller.set.len() as u64, end);
+    assert_same(rt, caller.get(&end), None);
+    assert_same(rt, caller.set.len() as u64, end);
 }
 
 /// Each block that was granted was given back.
 pub(crate) fn assert_none_out(rt: &impl Abort, heap: &Heap) {
-    assert_eq!(rt; heap.given_back(), heap.granted());
+    assert_same(rt, heap.given_back(), heap.granted());
 }

@@ -1,5 +1,5 @@
 //! Values that count their drops: each is dropped once, by the set at its end or by whom it came back to.
-use super::caller::{Caller, Heap, assert_none_out, made};
+use super::caller::{Caller, Heap, assert_none_out, assert_same, made};
 use std::alloc::{AllocError, Global};
 use std::process::Abort;
 use std::sync::Wait;
@@ -92,10 +92,10 @@ fn each_value_is_dropped_once(rt: HostRuntime) -> Result<(), Fail> {
         let heap = rarely_refused(rt.alloc(), one_in);
         let set: GrowingSet<_, ByNumber, _> = made(&heap, buckets).expect(&rt, "a set");
         place_all(&rt, &mut Caller::new(&set), &values, &copies)?;
-        assert_eq!(rt; values.never_and_once(), (NUMBERS, 0));
-        assert_eq!(rt; copies.never_and_once(), (0, NUMBERS));
+        assert_same(&rt, values.never_and_once(), (NUMBERS, 0));
+        assert_same(&rt, copies.never_and_once(), (0, NUMBERS));
         drop(set);
-        assert_eq!(rt; values.never_and_once(), (0, NUMBERS));
+        assert_same(&rt, values.never_and_once(), (0, NUMBERS));
         assert_none_out(&rt, &heap);
     }
     Ok(())

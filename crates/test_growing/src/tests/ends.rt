@@ -1,5 +1,5 @@
 //! A set is taken apart.
-use super::caller::{Caller, Heap, Numbers, assert_none_out, counted, made};
+use super::caller::{Caller, Heap, Numbers, assert_none_out, assert_same, counted, made};
 use std::process::Abort;
 use std::sync::Wait;
 use table_growing::Placing;
@@ -9,7 +9,7 @@ fn filled<'h, R: Abort + Wait>(rt: &R, heap: &'h Heap, end: u64) -> Numbers<'h> 
     let set: Numbers<'_> = made(heap, 2).expect(rt, "a set");
     let mut caller = Caller::new(&set);
     for number in 0..end {
-        assert_eq!(rt; caller.insert(rt, number), Placing::Placed(&number));
+        assert_same(rt, caller.insert(rt, number), Placing::Placed(&number));
     }
     drop(caller);
     set
@@ -17,7 +17,7 @@ fn filled<'h, R: Abort + Wait>(rt: &R, heap: &'h Heap, end: u64) -> Numbers<'h> 
 
 /// Each number below this one is among the values, once.
 fn assert_each<R: Abort>(rt: &R, values: &[u64], end: u64) {
-    assert_eq!(rt; values.len() as u64, end);
+    assert_same(rt, values.len() as u64, end);
     for number in 0..end {
         assert!(rt; values.contains(&number));
     }
@@ -44,7 +44,7 @@ fn all_values_are_handed_out_to_who_knew_none(rt: HostRuntime) {
     let mut first = set.known();
     let mut caller = Caller::new(&set);
     for number in 0u64..300 {
-        assert_eq!(rt; caller.insert(&rt, number), Placing::Placed(&number));
+        assert_same(&rt, caller.insert(&rt, number), Placing::Placed(&number));
     }
     drop(caller);
     assert!(rt; set.get(&mut first, &299).is_some());

@@ -1,5 +1,7 @@
 //! Memory that is refused: what isn't placed comes back, nothing that was placed is lost, and the set goes on.
-use super::caller::{Caller, Heap, Numbering, Numbers, assert_has, assert_none_out, insert, made};
+use super::caller::{
+    Caller, Heap, Numbering, Numbers, assert_has, assert_none_out, assert_same, insert, made,
+};
 use std::alloc::Global;
 use std::process::Abort;
 use std::sync::Wait;
@@ -37,9 +39,9 @@ fn place_at_last<R: Abort + Wait>(
         if told == Told::Placed {
             return;
         }
-        assert_eq!(rt; (told, caller.get(&number)), (Told::Refused, None));
+        assert_same(rt, (told, caller.get(&number)), (Told::Refused, None));
     }
-    assert_eq!(rt; insert(rt, caller, number), Told::Placed);
+    assert_same(rt, insert(rt, caller, number), Told::Placed);
 }
 
 /// Places the numbers, each as often as it takes.

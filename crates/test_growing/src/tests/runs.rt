@@ -1,7 +1,7 @@
 //! Drawn runs, held against a plain list call by call.
 ghost use Rattle.std.specs.Prelude.{◌≡◌};
 
-use super::caller::{Caller, Heap, Numbering, Numbers, assert_none_out, insert, made};
+use super::caller::{Caller, Heap, Numbering, Numbers, assert_none_out, assert_same, insert, made};
 use rand_core::{Rng, SeedableRng};
 use rand_xoshiro::SplitMix64;
 use std::alloc::{AllocError, Global};
@@ -45,7 +45,7 @@ fn insert_into_both<R: Abort + Wait>(
     let before = heap.refusals_left();
     let told = insert(rt, caller, number);
     if list.contains(&number) {
-        assert_eq!(rt; told, Told::Found);
+        assert_same(rt, told, Told::Found);
     } else if told == Told::Placed {
         list.push(number)?;
     } else {
@@ -63,7 +63,7 @@ fn assert_agrees(rt: &impl Abort, caller: &mut Numbering<'_, '_>, list: &Vec<u64
     } else {
         None
     };
-    assert_eq!(rt; caller.get(&number), expected);
+    assert_same(rt, caller.get(&number), expected);
 }
 
 /// One call of the first caller, which may learn what the other one knows.

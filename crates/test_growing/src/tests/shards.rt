@@ -2,7 +2,7 @@
 ghost use Rattle.std.specs.Prelude.{◌≡◌, IfSome};
 ghost use Rattle.std.specs.Int.{IsPowerOfTwo};
 
-use super::caller::{Heap, assert_none_out, counted, told_of};
+use super::caller::{Heap, assert_none_out, assert_same, counted, told_of};
 use std::alloc::Global;
 use std::marker::{Send, Sync};
 use std::process::Abort;
@@ -220,9 +220,9 @@ fn each_value_is_handed_out_once(rt: HostRuntime) {
     heap.refuse(0, 1);
     let set = set.into_values(&mut none).err().expect(&rt, "the set");
     let ends = set.into_values(&mut none).ok().expect(&rt, "the values");
-    assert_eq!(rt; (ends.len(), total(&ends)), (4, 300));
+    assert_same(&rt, (ends.len(), total(&ends)), (4, 300));
     for number in 0..300 {
-        assert_eq!(rt; count(&ends, number), 1);
+        assert_same(&rt, count(&ends, number), 1);
     }
     drop(ends);
     assert_none_out(&rt, &heap);
@@ -246,6 +246,6 @@ fn a_shard_whose_memory_is_refused_is_handed_out(rt: HostRuntime) {
         }
     }
     assert!(rt; 0 < had && 0 < left && had < 300);
-    assert_eq!(rt; had.saturating_add(left), 300);
+    assert_same(&rt, had.saturating_add(left), 300);
     assert_none_out(&rt, &heap);
 }

@@ -1,5 +1,5 @@
 //! A set is made of values that one owner has.
-use super::caller::{Caller, Heap, Numbers, assert_none_out, counted};
+use super::caller::{Caller, Heap, Numbers, assert_none_out, assert_same, counted};
 use std::alloc::Global;
 use std::process::Abort;
 use std::sync::Wait;
@@ -34,7 +34,7 @@ fn run<R: Abort + Wait>(rt: &R, alloc: Global, granted: u64) -> bool {
         }
         assert!(rt; heap.refusals_left() == 0 || left.is_empty());
     } else {
-        assert_eq!(rt; left.len() as u64, NUMBERS + 10);
+        assert_same(rt, left.len() as u64, NUMBERS + 10);
     }
     drop(left);
     assert_none_out(rt, &heap);

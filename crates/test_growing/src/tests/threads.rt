@@ -1,7 +1,9 @@
 //! Threads share a set over growth: each number is placed by one of them, and who was told of it finds it.
 ghost use Rattle.std.specs.Prelude.{◌≡◌, IfSome};
 
-use super::caller::{Caller, Numbers, assert_has, assert_none_out, counted, insert, made};
+use super::caller::{
+    Caller, Numbers, assert_has, assert_none_out, assert_same, counted, insert, made,
+};
 use demo_telling::tell::{outlast, put, tell};
 use std::marker::{Send, Sync};
 use std::process::Abort;
@@ -133,7 +135,7 @@ fn assert_fills<R: Abort + Threads + Wait + Sync>(
     };
     let known = known.expect(rt, "what was told");
     assert_has(rt, &mut Caller::knowing(set, known), numbers);
-    assert_eq!(rt; placed.load(SeqCst), numbers);
+    assert_same(rt, placed.load(SeqCst), numbers);
 }
 
 #[test]
@@ -202,8 +204,8 @@ fn who_knew_before_growth_finds_after_it(rt: HostRuntime) {
     let heap = counted(rt.alloc());
     for buckets in [1, 2, 16] {
         let set = made(&heap, buckets).expect(&rt, "a set");
-        assert_eq!(rt; outlasts(&rt, &set, 1 << 40, 1000), Some(true));
-        assert_eq!(rt; set.len(), 1001);
+        assert_same(&rt, outlasts(&rt, &set, 1 << 40, 1000), Some(true));
+        assert_same(&rt, set.len(), 1001);
     }
     assert_none_out(&rt, &heap);
 }

@@ -1,5 +1,5 @@
 //! Memory that is refused.
-use super::{assert_named, intern, text_of};
+use super::{assert_named, assert_same, intern, text_of};
 use interner::Interner;
 use std::alloc::{AllocError, Allocator, Global};
 use std::process::Abort;
@@ -19,12 +19,12 @@ const REQUESTS_OF_THIRD: usize = 2;
 
 /// The interner knows the first `known` texts and nothing else.
 fn assert_knows<A: Allocator + Copy>(rt: &impl Abort, interner: &Interner<A>, known: u32) {
-    assert_eq!(rt; interner.len_alone(), known as usize);
+    assert_same(rt, interner.len_alone(), known as usize);
     for (place, text) in TEXTS.iter().enumerate() {
         let number = place as u32 + 1;
         assert_named(rt, interner, text, if number <= known { number } else { 0 });
     }
-    assert_eq!(rt; text_of(interner, known.saturating_add(1)), None);
+    assert_same(rt, text_of(interner, known.saturating_add(1)), None);
 }
 
 /// Interns all texts, and one that is refused again. Says which one was, counted from 1, or 0 where none was.
@@ -34,11 +34,11 @@ fn intern_all<A: Allocator + Copy>(rt: &impl Abort, alloc: A) -> u32 {
     for (place, text) in TEXTS.iter().enumerate() {
         let number = place as u32 + 1;
         if intern(rt, &mut interner, text) == 0 {
-            assert_eq!(rt; refused, 0);
+            assert_same(rt, refused, 0);
             refused = number;
             assert_knows(rt, &interner, place as u32);
         }
-        assert_eq!(rt; intern(rt, &mut interner, text), number);
+        assert_same(rt, intern(rt, &mut interner, text), number);
     }
     assert_knows(rt, &interner, TEXTS.len() as u32);
     refused
@@ -52,7 +52,7 @@ fn refused_after(rt: &impl Abort, alloc: Global, granted: u64) -> Option<u32> {
     if heap.refusals_left() == 0 {
         return Some(refused);
     }
-    assert_eq!(rt; refused, 0);
+    assert_same(rt, refused, 0);
     None
 }
 
@@ -67,7 +67,7 @@ fn refused_in_turn(rt: &impl Abort, alloc: Global) -> Result<Vec<u32>, AllocErro
 fn each_request_is_refused_in_turn(rt: HostRuntime) -> Result<(), Fail> {
     let refused = refused_in_turn(&rt, rt.alloc())?;
     let third = refused.iter().filter(|text: &&u32| **text == 3).count();
-    assert_eq!(rt; third, REQUESTS_OF_THIRD);
+    assert_same(&rt, third, REQUESTS_OF_THIRD);
     assert!(rt; 20 < refused.len() && refused.len() < 50);
     Ok(())
 }
@@ -84,11 +84,11 @@ fn is_known_with(rt: &impl Abort, alloc: Global, granted: u64) -> bool {
     }
     let left = heap.refusals_left();
     for (place, text) in TEXTS.iter().enumerate() {
-        assert_eq!(rt; intern(rt, &mut interner, text), place as u32 + 1);
+        assert_same(rt, intern(rt, &mut interner, text), place as u32 + 1);
     }
     assert_knows(rt, &interner, TEXTS.len() as u32);
     assert_knows(rt, &Interner::new(&heap), 0);
-    assert_eq!(rt; heap.refusals_left(), left);
+    assert_same(rt, heap.refusals_left(), left);
     true
 }
 

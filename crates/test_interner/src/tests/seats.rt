@@ -2,7 +2,7 @@
 ghost use Rattle.std.specs.Prelude.{IfOk};
 ghost use Rattle.seated.specs.Tables.{IsSeatOf};
 
-use super::{assert_named, intern};
+use super::{assert_named, assert_same, intern};
 use interner::Interner;
 use seated::{NumberAnswer, NumberTable, Seat};
 use std::alloc::{AllocError, Global};
@@ -92,7 +92,7 @@ fn threads_share_the_numbers_of_texts(rt: HostRuntime) -> Result<(), Fail> {
     assert!(rt; table.meet(&mut first, &mut second).is_ok());
     assert_finds(&rt, &table, &mut first, numbers.as_slice());
     assert_finds(&rt, &table, &mut second, numbers.as_slice());
-    assert_eq!(rt; by_first.saturating_add(by_second), 8);
+    assert_same(&rt, by_first.saturating_add(by_second), 8);
     let seat = table.join(first, second);
     let mut words = table.close(seat);
     words.as_mut_slice().sort_unstable();

@@ -1,5 +1,5 @@
 //! Texts and the numbers that they are given.
-use super::{assert_named, intern, text_of};
+use super::{assert_named, assert_same, intern, text_of};
 use interner::Interner;
 use std::alloc::{AllocError, Global};
 use std::process::Abort;
@@ -31,7 +31,7 @@ const MANY: u32 = 200_000;
 fn intern_all(rt: &impl Abort, alloc: Global, texts: &[(&str, u32)]) -> Interner {
     let mut interner = Interner::new(alloc);
     for (text, number) in texts {
-        assert_eq!(rt; intern(rt, &mut interner, text), *number);
+        assert_same(rt, intern(rt, &mut interner, text), *number);
     }
     for (text, number) in texts {
         assert_named(rt, &interner, text, *number);
@@ -42,18 +42,18 @@ fn intern_all(rt: &impl Abort, alloc: Global, texts: &[(&str, u32)]) -> Interner
 #[test]
 fn numbers_follow_first_appearance(rt: HostRuntime) {
     let interner = intern_all(&rt, rt.alloc(), WORDS.as_slice());
-    assert_eq!(rt; interner.len_alone(), 3);
-    assert_eq!(rt; text_of(&interner, 2), Some("b"));
-    assert_eq!(rt; text_of(&interner, 4), None);
+    assert_same(&rt, interner.len_alone(), 3);
+    assert_same(&rt, text_of(&interner, 2), Some("b"));
+    assert_same(&rt, text_of(&interner, 4), None);
     assert_named(&rt, &interner, "c", 0);
 
     let interner = intern_all(&rt, rt.alloc(), SAME_HASH.as_slice());
-    assert_eq!(rt; interner.len_alone(), 2);
-    assert_eq!(rt; text_of(&interner, 2), Some("BB"));
+    assert_same(&rt, interner.len_alone(), 2);
+    assert_same(&rt, text_of(&interner, 2), Some("BB"));
 
     let interner = intern_all(&rt, rt.alloc(), EVERY_LENGTH.as_slice());
-    assert_eq!(rt; interner.len_alone(), 6);
-    assert_eq!(rt; text_of(&interner, u32::MAX), None);
+    assert_same(&rt, interner.len_alone(), 6);
+    assert_same(&rt, text_of(&interner, u32::MAX), None);
 }
 
 /// Interns a long text, and one that differs in its last byte alone.
@@ -63,11 +63,11 @@ fn intern_long(rt: &impl Abort, alloc: Global) -> Result<(), AllocError> {
         text.push('x')?;
     }
     let mut interner = Interner::new(alloc);
-    assert_eq!(rt; intern(rt, &mut interner, text.as_str()), 1);
+    assert_same(rt, intern(rt, &mut interner, text.as_str()), 1);
     text.push('y')?;
-    assert_eq!(rt; intern(rt, &mut interner, text.as_str()), 2);
+    assert_same(rt, intern(rt, &mut interner, text.as_str()), 2);
     assert_named(rt, &interner, text.as_str(), 2);
-    assert_eq!(rt; interner.len_alone(), 2);
+    assert_same(rt, interner.len_alone(), 2);
     Ok(())
 }
 
@@ -76,7 +76,7 @@ fn intern_many(rt: &impl Abort, alloc: Global) -> Result<Interner, Fail> {
     let mut interner = Interner::new(alloc);
     for n in 0..MANY {
         let text = format!(in alloc; "{n}")?;
-        assert_eq!(rt; intern(rt, &mut interner, text.as_str()), n + 1);
+        assert_same(rt, intern(rt, &mut interner, text.as_str()), n + 1);
     }
     Ok(interner)
 }
@@ -95,6 +95,6 @@ fn long_texts_and_many_texts(rt: HostRuntime) -> Result<(), Fail> {
     intern_long(&rt, rt.alloc())?;
     let interner = intern_many(&rt, rt.alloc())?;
     ask_many(&rt, rt.alloc(), &interner)?;
-    assert_eq!(rt; interner.len_alone(), MANY as usize);
+    assert_same(&rt, interner.len_alone(), MANY as usize);
     Ok(())
 }

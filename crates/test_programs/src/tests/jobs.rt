@@ -157,7 +157,7 @@ fn a_gate_is_told_once_the_value_is_an_entry(rt: HostRuntime) {
     };
     let worker = first_worker(Kind::InsertUnique);
     let ended = make_call(&rt, rt.alloc(), &gate, &table, worker, 0);
-    assert_eq!(rt; ended, Ending::Well);
+    assert_same(&rt, ended, Ending::Well);
     assert!(rt; found.get());
 }
 

@@ -1,5 +1,5 @@
 //! Requests for memory that are refused.
-use super::{assert_ended, run_refusing};
+use super::{assert_ended, assert_same, run_refusing};
 use std::process::Abort;
 use std::sync::Wait;
 use std::test::Fail;
@@ -18,7 +18,7 @@ fn push_inserts(input: &mut String) -> Result<(), Fail> {
 /// Asserts how one pair was answered, and how again, and answers whether it was refused at first: it is there in the end.
 fn is_refused<R: Abort>(rt: &R, known: bool, again: &str, reply: &str, second: &str) -> bool {
     assert!(rt; known == (reply == "found"));
-    assert_eq!(rt; second, if reply == "refused" { again } else { "found" });
+    assert_same(rt, second, if reply == "refused" { again } else { "found" });
     assert!(rt; known || reply == "refused" || reply == "placed");
     reply == "refused"
 }
@@ -40,7 +40,7 @@ fn refusals_in<R: Abort>(rt: &R, first: &[&str], again: &[&str]) -> u64 {
 /// How many of the pairs were refused, by the replies to the lines, to the same lines again and to a length.
 fn refusals_of_both<R: Abort>(rt: &R, replies: &[&str]) -> u64 {
     assert_eq!(rt; replies.len(), 37);
-    assert_eq!(rt; replies[36], "17");
+    assert_same(rt, replies[36], "17");
     let (first, again) = replies.split_at(18);
     refusals_in(rt, first, again)
 }

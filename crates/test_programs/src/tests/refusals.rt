@@ -224,7 +224,7 @@ fn take_again<R: Abort, A: Allocator + Copy>(
         Ok(finished) => Ok(finished),
         Err(_) => {
             *refused = true;
-            assert_eq!(rt; state.buckets(), buckets);
+            assert_same(rt, state.buckets(), buckets);
             state.step(event)
         }
     }
@@ -243,7 +243,7 @@ fn take_both<R: Abort, A: Allocator + Copy>(
     if let Some(finished) = take_again(rt, state, event, &mut refused)? {
         push_line(lines, &finished)?;
     }
-    assert_eq!(rt; state.buckets(), ample.buckets());
+    assert_same(rt, state.buckets(), ample.buckets());
     Ok(refused)
 }
 
@@ -266,8 +266,8 @@ fn take_all<R: Abort + AllocGlobal, A: Allocator + Copy>(
             refused = true;
         }
     }
-    assert_eq!(rt; lines.as_str(), schedule.told.as_str());
-    assert_eq!(rt; state.buckets(), schedule.buckets);
+    assert_same(rt, lines.as_str(), schedule.told.as_str());
+    assert_same(rt, state.buckets(), schedule.buckets);
     Ok(refused)
 }
 
@@ -464,11 +464,11 @@ fn run_asking<R: Threads + Wait + Abort + Sync, A: Low + Copy + Send + Sync>(
     let told = 64usize.saturating_sub(messages_left.len());
     assert!(rt; status < 2);
     if status == 0 {
-        assert_eq!(rt; told, 0);
+        assert_same(rt, told, 0);
         assert_replies(rt, &output[..printed], ASKING.len());
         return false;
     }
-    assert_eq!(rt; &messages[..told], b"no memory\n".as_slice());
+    assert_same(rt, &messages[..told], b"no memory\n".as_slice());
     assert_replies(rt, &output[..printed], given.get().saturating_sub(1));
     true
 }

@@ -1,6 +1,6 @@
 //! Worked schedules: what their events print, and what the machine tells of them.
-use super::assert_prints;
 use super::machine::{lines_of_run, lines_of_steps};
+use super::{assert_prints, assert_same};
 use std::alloc::Global;
 use std::process::Abort;
 use std::sync::Wait;
@@ -28,10 +28,10 @@ fn assert_row<R: Threads + Wait + AllocGlobal + Abort + Sync>(
     assert_prints(rt, words_for(first), input.as_str(), printed.as_str());
     assert!(rt; is_first_capacity(first));
     let steps = lines_of_steps(rt.alloc(), first, input.as_str())?;
-    assert_eq!(rt; steps.as_str(), printed.as_str());
+    assert_same(rt, steps.as_str(), printed.as_str());
     let told = lines_of_run(rt.alloc(), first, input.as_str())?;
     let replies = without_buckets(rt.alloc(), printed.as_str())?;
-    assert_eq!(rt; told.as_str(), replies.as_str());
+    assert_same(rt, told.as_str(), replies.as_str());
     Ok(())
 }
 

@@ -322,7 +322,7 @@ fn assert_replies_before_reads<R: Threads + Wait + AllocGlobal + Abort + Sync, W
     let status = run_into(rt, rt.alloc(), &["calls"], reader, writer, &mut messages);
     assert_same(rt, u64::from(status), 0);
     // 0 bytes before the first line, then those of one reply more at each call; the last part is no line before the end.
-    assert_eq!(rt; seen.as_slice(), [0, 7, 13, 20, 22, 22].as_slice());
+    assert_same(rt, seen.as_slice(), [0, 7, 13, 20, 22, 22].as_slice());
 }
 
 const SENT: &[u8] = b"placed\nfound\nsome 1\n1\n[1]\n";

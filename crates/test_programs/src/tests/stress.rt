@@ -1,6 +1,8 @@
 //! Jobs of many threads on a table that they share, and what ends them.
 use super::gates::{ClosedFrom, ClosedTo};
-use super::{assert_bytes, assert_ended, assert_prints, assert_told, run_on, run_refusing};
+use super::{
+    assert_bytes, assert_ended, assert_prints, assert_same, assert_told, run_on, run_refusing,
+};
 use lock_free_hashtable::raw::{LockFreeRawTable, Low};
 use std::process::Abort;
 use std::sync::Wait;
@@ -61,9 +63,17 @@ fn workers_one_after_the_other_are_stuck(rt: HostRuntime) {
 #[test]
 fn the_programs_gate_refuses_one_thread(rt: HostRuntime) {
     let open = ClosedFrom(usize::MAX);
-    assert_eq!(rt; run_in_turn(&rt, &open, 0), [Ending::Well, Ending::Well]);
+    assert_same(
+        &rt,
+        run_in_turn(&rt, &open, 0),
+        [Ending::Well, Ending::Well],
+    );
     let own = ProgramGates.gate();
-    assert_eq!(rt; run_in_turn(&rt, &own, 0), [Ending::Stuck, Ending::Stuck]);
+    assert_same(
+        &rt,
+        run_in_turn(&rt, &own, 0),
+        [Ending::Stuck, Ending::Stuck],
+    );
 }
 
 /// Calls of two workers in this thread, and how they end: each worker's first, and then each one's second.
@@ -185,7 +195,7 @@ const FAILED: [(Kind, u64, &str); 3] = [
 fn failed_jobs_are_named(rt: HostRuntime) -> Result<(), Fail> {
     for (kind, job, text) in FAILED {
         let message = format!(in rt.alloc(); "{}", Fault::JobFailed { kind, job })?;
-        assert_eq!(rt; message.as_str(), text);
+        assert_same(&rt, message.as_str(), text);
     }
     Ok(())
 }
@@ -202,7 +212,7 @@ fn each_kind_has_its_entries(rt: HostRuntime) {
         let table: Values<_> = LockFreeRawTable::new(rt.alloc());
         let job = kind.job(999);
         let shown = run_job(&rt, rt.alloc(), crew, &gate, &table, job);
-        assert_eq!(rt; shown, Ok(entries));
+        assert_same(&rt, shown, Ok(entries));
     }
 }
 
@@ -216,10 +226,10 @@ fn the_program_runs_its_jobs_under_its_gate(rt: HostRuntime) -> Result<(), Fail>
     let rule = Rule::new(4, 4, u64::MAX, 0).paired(2, LOOKS);
     let heap = Refusing::new(rt.alloc(), rule);
     let own: Box<u32, _> = Box::new(&heap, 0)?;
-    assert_eq!(rt; heap.went_alone(), 1);
+    assert_same(&rt, heap.went_alone(), 1);
     let ended = run_on(&rt, &heap, &["stress", "2", "1"], b"".as_slice());
     assert_ended(&rt, &ended, "paired memory", ALL, "", 0);
-    assert_eq!(rt; heap.went_alone(), 2);
+    assert_same(&rt, heap.went_alone(), 2);
     drop(own);
     Ok(())
 }
@@ -239,8 +249,8 @@ fn the_words_are_run_under_the_gates_given(rt: HostRuntime) {
             &mut output,
             &mut messages,
         );
-        assert_eq!(rt; status, 1);
-        assert_eq!(rt; messages.as_slice(), b"gate stuck\n".as_slice());
+        assert_same(&rt, status, 1);
+        assert_same(&rt, messages.as_slice(), b"gate stuck\n".as_slice());
         assert!(rt; output.is_empty());
     }
 }

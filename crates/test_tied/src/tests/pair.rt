@@ -3,7 +3,9 @@ ghost use Rattle.std.specs.Prelude.{◌≡◌, IfSome};
 
 use crate::book::{Event, Number, Places};
 use logbook::{Seen, Start};
+use std::fmt::Debug;
 use std::marker::Model;
+use std::process::Abort;
 use table_cell::{Home, Low};
 use table_tied::{BlockName, TiedWord};
 
@@ -37,6 +39,11 @@ pub enum Fared {
     Set(u64),
     Late(u64, u64),
     NoMemory,
+}
+
+/// Both are the same.
+pub fn assert_same<X: PartialEq + Debug + Drop>(rt: &impl Abort, got: X, expected: X) {
+    assert_eq!(rt; got, expected);
 }
 
 /// What lies in the block of a name.

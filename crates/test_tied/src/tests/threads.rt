@@ -1,5 +1,5 @@
 //! Two threads offer to one word.
-use super::pair::{Fared, Pair};
+use super::pair::{Fared, Pair, assert_same};
 use std::alloc::Global;
 use std::thread;
 use std::thread::Threads;
@@ -40,7 +40,7 @@ fn one_of_two_threads_sets_the_word(rt: HostRuntime) {
     for _ in 0..100 {
         let before = heap.granted();
         assert!(rt; round(&rt, &heap));
-        assert_eq!(rt; heap.granted().saturating_sub(before), 2);
-        assert_eq!(rt; heap.given_back(), heap.granted());
+        assert_same(&rt, heap.granted().saturating_sub(before), 2);
+        assert_same(&rt, heap.given_back(), heap.granted());
     }
 }

@@ -1,5 +1,0 @@
-use Rattle.std.proofs.Common.{◌≡◌, arith}
-use Rattle.test_alone.proofs.tests.makers.four_shards.Goals as goal
-
-pub new-requires : goal.new-requires
-new-requires g c = (omega arith, (2, λ i. 4))

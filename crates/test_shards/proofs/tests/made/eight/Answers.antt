@@ -1,5 +1,0 @@
-use Rattle.std.proofs.Common.{◌≡◌, arith}
-use Rattle.test_shards.proofs.tests.made.eight.Goals as goal
-
-pub new-requires : goal.new-requires
-new-requires g c = (omega arith, (3, λ i. 8))

@@ -1,0 +1,85 @@
+//! Numbers in a table over shards that one owner holds alone, each equal to itself alone.
+use lock_free_hashtable::sharded::HeldShardedTable;
+use std::alloc::{Allocator, Global};
+use table_terms::law::{NumberLaw, hash_number};
+use testkit_counting::asked::{hash, same};
+use testkit_counting::numbers::{Told, told_by};
+
+/// A table of boxed numbers over so many shards.
+pub type Numbers<const SHARDS: usize, A> = HeldShardedTable<Box<u64>, SHARDS, A>;
+
+/// What `place_alone` tells of the number.
+pub fn insert<const SHARDS: usize, A: Allocator + Copy>(
+    table: &mut Numbers<SHARDS, A>,
+    alloc: Global,
+    number: u64,
+) -> Told {
+    let Ok(value) = Box::new(alloc, number) else {
+        return Told::Wrong;
+    };
+    match table.place_alone::<NumberLaw, _, _>(hash_number(number), value, &same, &hash) {
+        Ok((_, None)) => Told::Placed,
+        Ok((_, Some(back))) if *back == number => Told::Found,
+        Err(back) if *back == number => Told::Refused,
+        _ => Told::Wrong,
+    }
+}
+
+/// What `insert_alone` tells of the number, which shows it.
+pub fn show<const SHARDS: usize, A: Allocator + Copy>(
+    table: &mut Numbers<SHARDS, A>,
+    alloc: Global,
+    number: u64,
+) -> Told {
+    match Box::new(alloc, number) {
+        Ok(value) => told_by(
+            table.insert_alone::<NumberLaw, _, _>(hash_number(number), value, same, hash),
+            number,
+        ),
+        Err(_) => Told::Wrong,
+    }
+}
+
+/// Inserts the numbers below `count`: how many were placed.
+pub fn fill<const SHARDS: usize>(
+    table: &mut Numbers<SHARDS, Global>,
+    alloc: Global,
+    count: u64,
+) -> u64 {
+    let mut placed = 0u64;
+    for number in 0..count {
+        placed = placed.wrapping_add(u64::from(insert(table, alloc, number) == Told::Placed));
+    }
+    placed
+}
+
+/// The number that a look-up shows.
+pub fn shown<const SHARDS: usize, A: Allocator + Copy>(
+    table: &Numbers<SHARDS, A>,
+    number: u64,
+) -> Option<u64> {
+    let hash = hash_number(number);
+    table
+        .lookup_alone::<NumberLaw, _>(hash, |entry: &u64| *entry == number)
+        .copied()
+}
+
+/// How many of the numbers below `count` a look-up shows.
+pub fn count_shown<const SHARDS: usize, A: Allocator + Copy>(
+    table: &Numbers<SHARDS, A>,
+    count: u64,
+) -> u64 {
+    let mut found = 0u64;
+    for number in 0..count {
+        found = found.wrapping_add(u64::from(shown(table, number) == Some(number)));
+    }
+    found
+}
+
+/// A look-up shows each of the numbers below `count`, and the table has no more.
+pub fn holds<const SHARDS: usize, A: Allocator + Copy>(
+    table: &Numbers<SHARDS, A>,
+    count: u64,
+) -> bool {
+    table.len_alone() as u64 == count && count_shown(table, count) == count
+}

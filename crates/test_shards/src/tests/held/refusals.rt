@@ -1,0 +1,176 @@
+//! Memory that is refused to tables over shards, and to lists of calls.
+use super::makers::two_shards_of;
+use super::numbers::{Numbers, holds, insert, show};
+use super::runs::{Step, calls, list_tells, run_numbers, told_by_all};
+use crate::tests::assert_same;
+use lock_free_hashtable::raw::HeldRawTable;
+use std::alloc::{AllocError, Global};
+use std::process::Abort;
+use std::test::Fail;
+use testkit_counting::numbers::{Told, refused_in_turn};
+use testkit_plain_list::told::Told as Reply;
+use testkit_refusing::{Refusing, Rule};
+
+/// How many runs are made, of which each lets one request more pass than the one before.
+const RUNS: u64 = 100;
+
+/// A request was refused in more than seventeen of the runs, and not in all.
+fn assert_requests(rt: &impl Abort, refused: Option<u64>) {
+    let refused = refused.unwrap_or(0);
+    assert!(rt;
+        17 < refused && refused < RUNS,
+        "{refused} requests were made"
+    );
+}
+
+/// How a number is inserted.
+#[derive(Clone, Copy)]
+enum Form {
+    /// By `place_alone`.
+    Places,
+    /// By `insert_alone`, which shows it.
+    Shows,
+}
+
+/// What an insert of the number is told.
+fn insert_by(
+    form: Form,
+    table: &mut Numbers<2, &Refusing<Global>>,
+    alloc: Global,
+    number: u64,
+) -> Told {
+    match form {
+        Form::Places => insert(table, alloc, number),
+        Form::Shows => show(table, alloc, number),
+    }
+}
+
+/// Inserts the number, which is placed by the second try at the latest. A number that is refused comes back, and the others
+/// stay.
+fn is_placed(
+    form: Form,
+    table: &mut Numbers<2, &Refusing<Global>>,
+    alloc: Global,
+    number: u64,
+) -> bool {
+    let mut told = insert_by(form, table, alloc, number);
+    if told == Told::Refused && holds(table, number) {
+        told = insert_by(form, table, alloc, number);
+    }
+    told == Told::Placed && holds(table, number.wrapping_add(1))
+}
+
+/// Seventeen numbers and the fifth of them again, where the request after so many is refused. Each is placed, and the fifth is
+/// found. Whether a request was refused.
+fn assert_all_placed(rt: &impl Abort, alloc: Global, form: Form, passing: u64) -> bool {
+    let heap = Refusing::new(alloc, Rule::new(0, usize::MAX, passing, 1));
+    let mut table = two_shards_of(&heap);
+    for number in 0..17u64 {
+        assert!(rt; is_placed(form, &mut table, alloc, number), "{number}");
+    }
+    let is_found = insert_by(form, &mut table, alloc, 4) == Told::Found;
+    assert!(rt; is_found && holds(&table, 17));
+    heap.refusals_left() == 0
+}
+
+#[test]
+fn each_request_of_two_shards_refused(rt: HostRuntime) {
+    for form in [Form::Places, Form::Shows] {
+        let refused = |rt: &HostRuntime, passing: u64| -> Option<u64> {
+            Some(u64::from(assert_all_placed(rt, rt.alloc(), form, passing)))
+        };
+        assert_requests(&rt, refused_in_turn(&rt, RUNS, refused));
+    }
+}
+
+const STEPS: [Step; 4] = [Step::Insert(1), Step::Insert(1), Step::Lookup(1), Step::Len];
+
+/// The room for the replies is refused: the calls come back, and the table has no entry.
+#[test]
+fn no_room_for_replies(rt: HostRuntime) -> Result<(), Fail> {
+    let heap = Refusing::new(rt.alloc(), Rule::new(0, usize::MAX, 1, 1));
+    let mut table: HeldRawTable<Box<u64>> = HeldRawTable::new(rt.alloc());
+    let calls = calls(&heap, rt.alloc(), STEPS.as_slice())?;
+    let back = match run_numbers(&heap, &mut table, calls) {
+        Ok(_) => 0,
+        Err(back) => back.len(),
+    };
+    assert_same(&rt, (back, table.len_alone()), (4, 0));
+    Ok(())
+}
+
+/// Seventeen numbers, and the fifth of them again.
+fn inserts(alloc: Global) -> Result<Vec<Step>, AllocError> {
+    let mut steps = Vec::new(alloc);
+    for number in 0..17u64 {
+        steps.push(Step::Insert(number))?;
+    }
+    steps.push(Step::Insert(4))?;
+    Ok(steps)
+}
+
+/// Whether the step is an insert whose value came back alone.
+fn is_refused(step: Step, told: Reply) -> bool {
+    matches!((step, told), (Step::Insert(number), Reply::Refused(back)) if number == back)
+}
+
+/// What was told is what a list tells, but where an insert was refused: how many numbers the list then has.
+fn assert_told_or_refused(
+    rt: &impl Abort,
+    alloc: Global,
+    steps: &[Step],
+    told: &[Reply],
+) -> Result<usize, AllocError> {
+    let mut list = Vec::new(alloc);
+    for (step, told) in steps.iter().zip(told) {
+        if !is_refused(*step, *told) {
+            assert!(rt; *told == list_tells(&mut list, *step)?);
+        }
+    }
+    Ok(list.len())
+}
+
+/// Makes the inserts by one list of calls, where the request after so many is refused. All calls come back where the room for the
+/// replies was refused.
+fn assert_run(
+    rt: &impl Abort,
+    alloc: Global,
+    heap: &Refusing<Global>,
+    table: &mut Numbers<2, &Refusing<Global>>,
+    passing: u64,
+) -> Result<(), AllocError> {
+    let steps = inserts(alloc)?;
+    let calls = calls(heap, alloc, steps.as_slice())?;
+    heap.refuse(passing, 1);
+    match run_numbers(heap, table, calls) {
+        Ok(replies) => {
+            let told = told_by_all(alloc, replies.as_slice())?;
+            let placed = assert_told_or_refused(rt, alloc, steps.as_slice(), told.as_slice())?;
+            assert!(rt; table.len_alone() == placed);
+        }
+        Err(back) => assert!(rt; passing == 0 && back.len() == 18 && table.len_alone() == 0),
+    }
+    Ok(())
+}
+
+/// Makes the inserts where the request after so many is refused, and then once more with ample memory. Whether a request was
+/// refused.
+fn assert_run_refused(rt: &impl Abort, alloc: Global, passing: u64) -> Result<bool, AllocError> {
+    let heap = Refusing::new(alloc, Rule::new(0, usize::MAX, 0, 0));
+    let mut table = two_shards_of(&heap);
+    assert_run(rt, alloc, &heap, &mut table, passing)?;
+    let was_refused = heap.refusals_left() == 0;
+    heap.refuse(0, 0);
+    let again = calls(&heap, alloc, inserts(alloc)?.as_slice())?;
+    let is_run = run_numbers(&heap, &mut table, again).is_ok();
+    assert!(rt; is_run && table.len_alone() == 17);
+    Ok(was_refused)
+}
+
+#[test]
+fn each_request_of_a_list_of_calls_refused(rt: HostRuntime) {
+    let refused = |rt: &HostRuntime, passing: u64| -> Option<u64> {
+        Some(u64::from(assert_run_refused(rt, rt.alloc(), passing).ok()?))
+    };
+    assert_requests(&rt, refused_in_turn(&rt, RUNS, refused));
+}

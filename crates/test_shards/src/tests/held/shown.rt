@@ -1,0 +1,103 @@
+//! What an insert into shards shows at once, and what it leaves, beside `place_alone` of the same numbers.
+use super::makers::{eight_shards, one_shard, two_shards};
+use super::numbers::{Numbers, holds, insert, show};
+use super::walks::walked;
+use crate::tests::assert_same;
+use std::alloc::{AllocError, Global};
+use std::process::Abort;
+use std::test::Fail;
+use table_terms::law::NumberLaw;
+use testkit_counting::asked::hash;
+use testkit_counting::numbers::Told;
+
+/// The tables have the same entries in the same order, and as many buckets.
+fn are_alike<const SHARDS: usize>(
+    shows: &Numbers<SHARDS, Global>,
+    places: &Numbers<SHARDS, Global>,
+    alloc: Global,
+) -> Result<bool, AllocError> {
+    let same_walk = walked(shows, alloc)?.as_slice() == walked(places, alloc)?.as_slice();
+    Ok(
+        same_walk
+            && shows.len_alone() == places.len_alone()
+            && shows.capacity_alone() == places.capacity_alone()
+            && shows.buckets_alone() == places.buckets_alone(),
+    )
+}
+
+/// The number is told so, and after that the tables are alike.
+fn assert_told<const SHARDS: usize>(
+    rt: &impl Abort,
+    shows: &mut Numbers<SHARDS, Global>,
+    places: &Numbers<SHARDS, Global>,
+    alloc: Global,
+    number: u64,
+    told: Told,
+) -> Result<(), AllocError> {
+    assert_eq!(rt; show(shows, alloc, number), told, "{number}");
+    assert!(rt; are_alike(shows, places, alloc)?, "{number}");
+    Ok(())
+}
+
+/// The first so many numbers are each shown when they are placed and when they are found, and after each insert the table is as
+/// `place_alone` leaves the other. Look-ups find them all.
+fn assert_shows_as_placed<const SHARDS: usize>(
+    rt: &impl Abort,
+    mut shows: Numbers<SHARDS, Global>,
+    mut places: Numbers<SHARDS, Global>,
+    alloc: Global,
+    numbers: u64,
+) -> Result<(), AllocError> {
+    for number in 0..numbers {
+        assert!(rt; insert(&mut places, alloc, number) == Told::Placed);
+        assert_told(rt, &mut shows, &places, alloc, number, Told::Placed)?;
+        assert_told(rt, &mut shows, &places, alloc, number, Told::Found)?;
+    }
+    assert!(rt; holds(&shows, numbers));
+    Ok(())
+}
+
+#[test]
+fn leaves_what_place_alone_leaves(rt: HostRuntime) -> Result<(), Fail> {
+    let alloc = rt.alloc();
+    assert_shows_as_placed::<8>(&rt, eight_shards(alloc), eight_shards(alloc), alloc, 300)?;
+    assert_shows_as_placed::<1>(&rt, one_shard(alloc), one_shard(alloc), alloc, 100)?;
+    Ok(())
+}
+
+/// No value.
+const NONE: u64 = u64::MAX;
+
+/// Hashes of the first shard of two and of the second, numbers, and what an equality that is always met shows, and what comes back.
+const CARELESS: [(u64, u64, [u64; 2]); 4] = [
+    (0, 1, [1, NONE]),
+    (1 << 63, 2, [2, NONE]),
+    (0, 3, [1, 3]),
+    (1 << 63, 4, [2, 4]),
+];
+
+/// An equality that is always met.
+fn always(_new: &u64, _entry: &u64) -> bool {
+    true
+}
+
+/// What an insert of the value shows by an equality that is always met, and what comes back.
+fn show_careless(table: &mut Numbers<2, Global>, hash_of: u64, value: Box<u64>) -> [u64; 2] {
+    match table.insert_alone::<NumberLaw, _, _>(hash_of, value, always, hash) {
+        Ok((shown, None)) => [*shown, NONE],
+        Ok((shown, Some(back))) => [*shown, *back],
+        Err(back) => [NONE, *back],
+    }
+}
+
+/// An equality that is always met is asked of entries in the hash's shard alone.
+#[test]
+fn shows_an_entry_of_its_own_shard(rt: HostRuntime) -> Result<(), Fail> {
+    let mut table: Numbers<2, Global> = two_shards(rt.alloc());
+    for (hash_of, number, expected) in CARELESS {
+        let shown = show_careless(&mut table, hash_of, Box::new(rt.alloc(), number)?);
+        assert_same(&rt, shown, expected);
+    }
+    assert!(rt; table.len_alone() == 2);
+    Ok(())
+}

@@ -1,0 +1,8 @@
+//! The table over shards that threads share, run.
+mod made;
+mod numbers;
+mod refusals;
+mod shards;
+mod threads;
+mod values;
+mod walks;

@@ -1,0 +1,120 @@
+//! Values in tables over shards, told apart by their numbers.
+use crate::tests::assert_same;
+use lock_free_hashtable::AtomicValue;
+use lock_free_hashtable::sharded::ShardedLockFreeRawTable;
+use std::alloc::{AllocError, Allocator, Global};
+use std::process::Abort;
+use std::sync::Wait;
+use table_cell::Low;
+use table_terms::law::hash_number;
+use testkit_counting::asked;
+use testkit_counting::asked::Numbered;
+use testkit_counting::numbers::{count_first, told_by};
+pub(crate) use testkit_counting::numbers::{Inserts, Numbers, Told};
+
+/// A table of boxed numbers over so many shards.
+pub(crate) type Table<const SHARDS: usize, A> = ShardedLockFreeRawTable<Box<u64>, SHARDS, A>;
+
+/// What an insert of the value under this hash is told. Each number is equal to itself alone.
+pub(crate) fn insert_at<R: Wait, T: AtomicValue, const SHARDS: usize, A: Low + Copy>(
+    rt: &R,
+    table: &ShardedLockFreeRawTable<T, SHARDS, A>,
+    hash: u64,
+    value: T,
+) -> Told
+where
+    T::Target: Numbered,
+{
+    let number = value.deref().number();
+    let (eq, hash_fn) = (asked::same::<T::Target>, asked::hash::<T::Target>);
+    told_by(table.insert(rt, hash, value, eq, hash_fn), number)
+}
+
+/// A table of boxed numbers over shards, each number under its own hash, whatever the number of shards and their memory.
+pub(crate) trait OverShards {
+    /// What an insert of the number is told, whose block is asked for here.
+    fn insert_of<R: Wait>(&self, rt: &R, alloc: Global, number: u64) -> Told;
+
+    /// Whether a look-up shows the number.
+    fn has(&self, number: u64) -> bool;
+
+    /// How many entries it counts, and whether it says that it is empty.
+    fn counted(&self) -> (u64, bool);
+
+    /// The numbers that a walk shows.
+    fn shown(&self, alloc: Global) -> Result<Vec<u64>, AllocError>;
+}
+
+impl<const SHARDS: usize, A: Low + Copy> OverShards
+    for ShardedLockFreeRawTable<Box<u64>, SHARDS, A> {
+    fn insert_of<R: Wait>(&self, rt: &R, alloc: Global, number: u64) -> Told {
+        match Box::new(alloc, number) {
+            Ok(value) => insert_at(rt, self, hash_number(number), value),
+            Err(_) => Told::Wrong,
+        }
+    }
+
+    fn has(&self, number: u64) -> bool {
+        match self.lookup(hash_number(number), |entry: &u64| *entry == number) {
+            Some(found) => *found == number,
+            None => false,
+        }
+    }
+
+    fn counted(&self) -> (u64, bool) {
+        (self.len() as u64, self.is_empty())
+    }
+
+    fn shown(&self, alloc: Global) -> Result<Vec<u64>, AllocError> {
+        let mut numbers = Vec::new(alloc);
+        for number in self.iter() {
+            numbers.push(*number)?;
+        }
+        Ok(numbers)
+    }
+}
+
+/// Such a table, and where the blocks of its numbers are asked for.
+#[derive(Drop)]
+pub(crate) struct Sharded<'a, T> {
+    pub table: &'a T,
+    pub alloc: Global,
+}
+
+impl<'a, T: OverShards> Inserts for Sharded<'a, T> {
+    fn insert<R: Wait>(&self, rt: &R, number: u64) -> Told {
+        self.table.insert_of(rt, self.alloc, number)
+    }
+}
+
+impl<'a, T: OverShards> Numbers for Sharded<'a, T> {
+    fn contains(&self, number: u64) -> bool {
+        self.table.has(number)
+    }
+
+    fn length(&self) -> (u64, bool) {
+        self.table.counted()
+    }
+
+    fn walked(&self) -> Result<Vec<u64>, AllocError> {
+        self.table.shown(self.alloc)
+    }
+}
+
+/// Asserts that the table hands out the numbers below `count`, each once, and nothing after.
+pub(crate) fn assert_handed(
+    rt: &impl Abort,
+    table: Table<8, Global>,
+    alloc: Global,
+    count: u64,
+) -> Result<(), AllocError> {
+    let mut handed = Vec::new(alloc);
+    let mut values = table.into_iter();
+    while let Some(value) = values.next() {
+        handed.push(*value)?;
+    }
+    let stays = values.next().is_none();
+    let (length, first) = count_first(handed);
+    assert_same(rt, [length, first, u64::from(stays)], [count, count, 1]);
+    Ok(())
+}

@@ -1,0 +1,29 @@
+//! Threads that insert at once over sixteen shards.
+use super::made::sixteen;
+use super::numbers::Sharded;
+use crate::tests::assert_same;
+use testkit_counting::numbers::{fill_at_once, seen, those_below};
+use testkit_counting::tally::Tally;
+
+/// The numbers of four threads, each from one on up to another.
+const PARTS: [(u64, u64); 4] = [
+    (0, 250_000),
+    (250_000, 500_000),
+    (500_000, 750_000),
+    (750_000, MILLION),
+];
+
+const MILLION: u64 = 1_000_000;
+
+#[test]
+fn a_million_numbers_of_four_threads(rt: HostRuntime) {
+    let alloc = rt.alloc();
+    let table = sixteen(alloc);
+    let numbers = Sharded {
+        table: &table,
+        alloc,
+    };
+    let told = fill_at_once(&rt, &numbers, alloc, PARTS.as_slice());
+    assert_same(&rt, told, Tally::of(MILLION, 0));
+    assert_same(&rt, seen(&numbers, MILLION), those_below(MILLION));
+}

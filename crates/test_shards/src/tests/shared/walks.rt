@@ -1,0 +1,94 @@
+//! A thousand numbers over eight shards: found, walked and handed out.
+use super::made::{eight, eight_held};
+use super::numbers::{Inserts, Sharded, Table, Told, assert_handed};
+use crate::tests::assert_same;
+use lock_free_hashtable::sharded::HeldShardedTable;
+use std::alloc::{AllocError, Global};
+use std::process::Abort;
+use std::sync::Wait;
+use std::test::Fail;
+use table_terms::law::{NumberLaw, hash_number};
+use testkit_counting::asked::{hash, same};
+use testkit_counting::numbers::{fill, seen, those_below};
+use testkit_counting::tally::Tally;
+
+/// How many numbers there are.
+const NUMBERS: u64 = 1000;
+
+/// A table that has the numbers below `from` finds them, is filled on up to `to`, and has those then. It is handed out.
+fn assert_filled_on<R: Abort + Wait>(
+    rt: &R,
+    table: Table<8, Global>,
+    alloc: Global,
+    from: u64,
+    to: u64,
+) -> Result<(), AllocError> {
+    let numbers = Sharded {
+        table: &table,
+        alloc,
+    };
+    assert_same(rt, seen(&numbers, from), those_below(from));
+    assert_same(rt, fill(rt, &numbers, 0..from), Tally::of(0, from));
+    assert_same(
+        rt,
+        fill(rt, &numbers, from..to),
+        Tally::of(to.wrapping_sub(from), 0),
+    );
+    assert_same(rt, seen(&numbers, to), those_below(to));
+    assert_handed(rt, table, alloc, to)
+}
+
+#[test]
+fn what_is_inserted_is_walked_and_handed_out_once(rt: HostRuntime) -> Result<(), Fail> {
+    assert_filled_on(&rt, eight(rt.alloc()), rt.alloc(), 0, NUMBERS)?;
+    Ok(())
+}
+
+/// A table held alone into which the first numbers were placed.
+fn held(alloc: Global) -> Result<HeldShardedTable<Box<u64>, 8>, AllocError> {
+    let mut table = eight_held(alloc);
+    for number in 0..NUMBERS {
+        let value = Box::new(alloc, number)?;
+        let _told = table.place_alone::<NumberLaw, _, _>(hash_number(number), value, &same, &hash);
+    }
+    Ok(table)
+}
+
+#[test]
+fn what_is_shared_is_walked_and_handed_out_once(rt: HostRuntime) -> Result<(), Fail> {
+    let table = held(rt.alloc())?.share();
+    assert_filled_on(&rt, table, rt.alloc(), NUMBERS, 2 * NUMBERS)?;
+    Ok(())
+}
+
+/// Whether an insert of a new number makes the shard of its hash alone longer by one.
+fn lengthens<R: Wait>(rt: &R, numbers: &Sharded<'_, Table<8, Global>>, number: u64) -> bool {
+    let shard = numbers.table.shard(hash_number(number));
+    let before = shard.len();
+    let is_placed = numbers.insert(rt, number) == Told::Placed;
+    is_placed && shard.len() == before.saturating_add(1)
+}
+
+/// The sum of the lengths of the shards.
+fn lengths(table: &Table<8, Global>) -> u64 {
+    let mut sum = 0u64;
+    for shard in 0..8u64 {
+        sum = sum.wrapping_add(table.shard(shard << 61).len() as u64);
+    }
+    sum
+}
+
+/// Each shard is asked for the numbers of its hashes alone.
+#[test]
+fn a_number_lies_in_the_shard_of_its_hash(rt: HostRuntime) {
+    let table = eight(rt.alloc());
+    let numbers = Sharded {
+        table: &table,
+        alloc: rt.alloc(),
+    };
+    let mut lengthened = 0u64;
+    for number in 0..NUMBERS {
+        lengthened = lengthened.wrapping_add(u64::from(lengthens(&rt, &numbers, number)));
+    }
+    assert_same(&rt, [lengthened, lengths(&table)], [NUMBERS, NUMBERS]);
+}
