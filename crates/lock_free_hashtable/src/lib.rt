@@ -10,6 +10,7 @@
 #![tactic(auto)]
 
 pub mod raw;
+pub mod sharded;
 
 pub use raw::{
     FIRST_CAPACITY, HeldIter, HeldRawTable, InsertCall, IntoIter, Iter, LockFreeRawTable,
@@ -20,4 +21,3 @@ pub use table_generations::atomic_value::{AtomicValue, InPlace, Law};
 pub use table_held::place;
 pub use table_held::place::Place;
 pub use table_runs::alone;
-pub use table_shards::sharded;

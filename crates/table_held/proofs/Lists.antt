@@ -1,9 +1,9 @@
 -- What an insert leaves, in the words of its contract and of the list object.
-use Rattle.std.proofs.Common.{◌≡◌, ℕ, Bool, List, [], ◌∷◌, ◌++◌, Option, Some, None, Result, Ok, Err, refl, ap}
+use Rattle.std.proofs.Common.{◌≡◌, ℕ, Bool, List, [], ◌∷◌, ◌++◌, Option, Some, None, Result, Ok, Err, refl, ap, append_assoc}
 use Rattle.std.specs.Prelude.{option_map}
 use Rattle.std.specs.List.Sorted.{IsPermutation}
 use Rattle.std.proofs.lemmas.List.{map-append}
-use Rattle.std.proofs.lemmas.List.Sorted.{IsPermutation-map}
+use Rattle.std.proofs.lemmas.List.Sorted.{IsPermutation-map, IsPermutation-append_right, IsPermutation-append_comm}
 use Rattle.table_generations.specs.Growth.{entry_of}
 use Rattle.table_held.specs.Growth.{KeepsPlaces}
 use Rattle.table_held.specs.Held.{InsertKeeps, InsertMarks, Inserted}
@@ -14,6 +14,10 @@ use Rattle.table_held.specs.declared.place.Place.{Place}
 use Rattle.table_generations.proofs.Entries.{contains_value}
 use Rattle.table_held.proofs.Answered.{stays, places_as_list}
 use Rattle.table_held.proofs.Placed.{Keeps, Places}
+
+-- two parts at the end of a list, in the other order
+pub swapped : {X : Type 0} (a b c : List X) → IsPermutation ((a ++ b) ++ c) ((a ++ c) ++ b)
+swapped a b c = rw (append_assoc a b c, append_assoc a c b) (IsPermutation-append_right a _ _ (IsPermutation-append_comm b c))
 
 module _ {T : Type 0} where
   pub values_kept : (es fs : List (Entry T)) → IsPermutation es fs → IsPermutation (values_of es) (values_of fs)

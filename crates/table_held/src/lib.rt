@@ -5,6 +5,7 @@
 //! names a bucket that shows an entry, and stays good over growth. Nothing below it knows of threads.
 #![tactic(auto)]
 
+pub mod alone;
 pub mod place;
 pub mod raw;
 

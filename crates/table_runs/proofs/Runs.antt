@@ -1,11 +1,11 @@
 -- One more call of a run.
-use Rattle.std.proofs.Common.{◌≡◌, ℕ, Bool, List, [], ◌∷◌, ◌++◌, Some, map, refl, ap, subst, ◌∙◌, append_assoc}
+use Rattle.std.proofs.Common.{◌≡◌, ℕ, Bool, List, [], ◌∷◌, ◌++◌, Some, map, refl, ap, subst, ◌∙◌}
 use Rattle.std.specs.Prelude.{All, Contains}
 use Rattle.std.specs.List.{flat_map}
 use Rattle.std.specs.List.Sorted.{IsPermutation}
 use Rattle.std.proofs.lemmas.List.{flat_map_more, map-append}
 use Rattle.std.proofs.lemmas.List.Elements.{All-weaker, All-contains, All-contains_itself, Contains-push, Contains-append_left, Contains-append_right}
-use Rattle.std.proofs.lemmas.List.Sorted.{IsPermutation-sym, IsPermutation-trans, IsPermutation-append_left, IsPermutation-append_right, IsPermutation-append_comm, Contains-permutation}
+use Rattle.std.proofs.lemmas.List.Sorted.{IsPermutation-sym, IsPermutation-trans, IsPermutation-append_left, Contains-permutation}
 use Rattle.table_terms.specs.ListObject.{ListCall, ListReply, Answers, IsListRun}
 use Rattle.table_runs.specs.declared.alone.Call.{Call}
 use Rattle.table_runs.specs.declared.alone.Reply.{Reply}
@@ -13,12 +13,9 @@ use Rattle.table_runs.specs.declared.alone.Call.TheVariants as call
 use Rattle.table_runs.specs.Calls.{IsRepliedAsList, given, handed_back, shown_as, asked}
 use Rattle.table_runs.specs.Runs.{OnlyAsks, AreLawfulInserts, IsLawfulTest, AreLawful, IsLawfulCall, IsLawfulRun, CallStaysLawful, CallAnswers, RunStaysLawful, RunAnswers, RunKeeps}
 use Rattle.table_held.specs.Shown.{Shows, IsLawfulInsert, entries_of}
+use Rattle.table_held.proofs.Lists.{swapped}
 
 module _ {X : Type 0} where
-  -- two parts at the end of a list, in the other order
-  pub swapped : (a b c : List X) → IsPermutation ((a ++ b) ++ c) ((a ++ c) ++ b)
-  swapped a b c = rw (append_assoc a b c, append_assoc a c b) (IsPermutation-append_right a _ _ (IsPermutation-append_comm b c))
-
   -- all items of a list, each as it is
   pub map_same : (xs : List X) → map (λ (x : X). x) xs ≡ xs
   map_same [] = refl

@@ -30,8 +30,7 @@ use Rattle.table_shards.specs.declared.sharded.place.ShardPlace.{ShardPlace}
 use Rattle.table_held.proofs.Again.{every_answer_lives}
 use Rattle.table_held.proofs.Answered.{stays, places_as_list}
 use Rattle.table_held.specs.Empty.{held_without_entries}
-use Rattle.table_held.proofs.Lists.{values_kept, values_more, home_with}
-use Rattle.table_runs.proofs.Runs.{swapped}
+use Rattle.table_held.proofs.Lists.{values_kept, values_more, home_with, swapped}
 
 no_element : {X : Type 0} (x : X) → Contains [] x → ⊥
 no_element x (k, within, is) = omega arith

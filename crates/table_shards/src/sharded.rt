@@ -23,7 +23,6 @@ use std::array;
 use std::marker::Model;
 use table_generations::atomic_value::{AtomicValue, Law};
 use table_held::raw::HeldRawTable;
-pub use table_runs::alone::laws;
 
 /// An insertion-only set over `SHARDS` raw tables that one owner holds alone. A value lies in the shard of its hash.
 ///

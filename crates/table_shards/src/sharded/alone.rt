@@ -3,7 +3,7 @@
 use crate::sharded::{HeldShardedTable, ShardPlace};
 use std::alloc::Allocator;
 use table_generations::atomic_value::{AtomicValue, Law};
-use table_runs::alone::{AloneTable, KeepsApart, Told};
+use table_held::alone::{AloneTable, KeepsApart, Told};
 
 impl<T: AtomicValue, const SHARDS: usize, A: Allocator + Copy, L: Law<T::Target>> AloneTable<T, L>
     for HeldShardedTable<T, SHARDS, A> {

@@ -1,10 +1,10 @@
 //! A raw table held alone is a table held alone.
 
 use crate::alone::{AloneTable, KeepsApart, Told};
+use crate::place::Place;
+use crate::raw::HeldRawTable;
 use std::alloc::Allocator;
 use table_generations::atomic_value::{AtomicValue, Law};
-use table_held::place::Place;
-use table_held::raw::HeldRawTable;
 
 impl<T: AtomicValue, A: Allocator + Copy, L: Law<T::Target>> AloneTable<T, L>
     for HeldRawTable<T, A> {

@@ -1,0 +1,7 @@
+//! The same over several shards, each a table of its own.
+
+pub use table_runs::alone::laws;
+pub use table_shards::sharded::{
+    HeldIntoIter, HeldIter, HeldShardedTable, IntoIter, Iter, ShardPlace, ShardedLockFreeRawTable,
+    place, shared,
+};

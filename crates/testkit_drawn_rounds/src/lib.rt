@@ -1,9 +1,0 @@
-//! Drawn rounds of threads, one after the other until their time is over.
-#![tactic(auto)]
-
-mod plan;
-mod program;
-mod stop;
-mod sum;
-
-pub use program::run_rounds;
