@@ -46,8 +46,8 @@ impl<T: AtomicValue, A: Low + Copy> LockFreeRawTable<T, A> {
         let state = step(CallState::insert(hash), Answer::Taken);
         let Some(current) = self.current() else {
             let state = step(state, Answer::NoGeneration);
-            let (carried, held) = (Carried::Value(value), Held::Shared(guard));
-            return self.go_on_from(rt, state, None, carried, held, asking);
+            let held = Held::Shared(guard);
+            return self.go_on_from(rt, state, None, Carried::Value(value), held, asking);
         };
         let capacity = current.generation.capacity() as u64;
         let mut state = step_loaded(state, current.number, capacity);
@@ -68,7 +68,8 @@ impl<T: AtomicValue, A: Low + Copy> LockFreeRawTable<T, A> {
                 }
                 Read::Passed(next, _) => {
                     if next.phase != Phase::Probe {
-                        let (carried, held) = (Carried::Value(value), Held::Shared(guard));
+                        let carried = Carried::Value(value);
+                        let held = Held::Shared(guard);
                         return self.go_on_from(rt, next, Some(generation), carried, held, asking);
                     }
                     state = next;

@@ -70,7 +70,10 @@ impl<T: AtomicValue, A: Allocator + Copy> Lineage<T, A> {
             l.now.room.items (vec_capacity l.now.room)) }
     {
         let mut note = self.later.note();
-        Some(self.later.name_if_set(&mut note)?.get(home))
+        match self.later.name_if_set(&mut note) {
+            Some(name) => Some(name.get(home)),
+            None => None,
+        }
     }
 
     /// The later generation of this index, if it is shown by now.
@@ -78,7 +81,13 @@ impl<T: AtomicValue, A: Allocator + Copy> Lineage<T, A> {
         requires { self.now.home ≡ home.now.id }
         ensures { IfSome result (λ g. g.now.home ≡ home.now.id) }
     {
-        self.later(home)?.slot(home, index)?.generation(home)
+        let Some(later) = self.later(home) else {
+            return None;
+        };
+        match later.slot(home, index) {
+            Some(slot) => slot.generation(home),
+            None => None,
+        }
     }
 
     /// The generation of this number that the table had when it was shared.

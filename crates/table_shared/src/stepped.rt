@@ -134,9 +134,7 @@ impl<T: AtomicValue, A: Low + Copy, E: Drop, H: Drop> Drop for InsertCall<'_, T,
     /// A value that is placed and not counted yet is counted; what is built is given up; the lock is released.
     fn drop(self) {
         let InsertCall { call } = self;
-        if let (Phase::Placed, Held::Shared(guard)) = (call.state.phase, &call.held) {
-            let _counted = call.table.count(guard, call.state);
-        }
+        call.count_placed();
     }
 }
 

@@ -8,7 +8,7 @@ use crate::table::LockFreeRawTable;
 use std::snapshot::Snapshot;
 use std::sync::{RwLockReadGuard, RwLockWriteGuard};
 use table_cell::Low;
-use table_core::CallState;
+use table_core::{CallState, Phase};
 use table_generations::atomic_value::AtomicValue;
 use table_generations::fixed::Generation;
 
@@ -67,4 +67,16 @@ pub(crate) struct Inserting<'a, T: AtomicValue, A: Low + Copy, E, H> {
     pub(crate) asking: Asking<T, E, H>,
     ghost between: { IsBetween table.now.home T.target asking.given.value state walked growth
         carried held },
+}
+
+impl<'a, T: AtomicValue, A: Low + Copy, E, H> Inserting<'a, T, A, E, H> {
+    /// For an insert that is given up: a value that is placed and not counted yet is counted. The call stays where it stands.
+    pub(crate) fn count_placed(&self) {
+        if self.state.phase != Phase::Placed {
+            return;
+        }
+        if let Held::Shared(guard) = &self.held {
+            let _counted = self.table.count(guard, self.state);
+        }
+    }
 }

@@ -88,6 +88,9 @@ impl<'a, T: AtomicValue, A: Allocator + Copy> Slot<'a, T, A> {
         ensures { IfSome result (λ g. g.now.home ≡ home.now.id) }
     {
         let mut note = self.word.note();
-        Some(self.word.name_if_set(&mut note)?.get(home))
+        match self.word.name_if_set(&mut note) {
+            Some(name) => Some(name.get(home)),
+            None => None,
+        }
     }
 }
