@@ -8,7 +8,7 @@ use crate::workers::{ValueTable, Worker, insert_all, look_all};
 use std::alloc::Allocator;
 use std::sync::Wait;
 use std::thread;
-use std::thread::{Builder, Threads};
+use std::thread::{Builder, JoinHandle, Threads};
 use tool_call_texts::endings::Ending;
 use tool_call_texts::faults::Fault;
 use tool_call_texts::job::Job;
@@ -95,9 +95,9 @@ fn start_workers<
 >(rt: &R, alloc: A, crew: Crew, gate: &G, table: &T, job: Job, part: Part) -> Result<Ending, Fault>
     ensures fault { IfErr result IsStartFault }
 {
-    let mut workers = Vec::with_capacity(alloc, crew.threads).map_err(
-        |_refused| StreamFault::NoMemory,
-    )?;
+    let Ok(mut workers) = Vec::with_capacity(alloc, crew.threads) else {
+        return Err(Fault::Stream(StreamFault::NoMemory));
+    };
     thread::scope(
         thread::scope_env(),
         rt,
@@ -115,17 +115,25 @@ fn start_workers<
                 let Ok(handle) = started else {
                     return Err(no_thread(gate));
                 };
-                workers
-                    .push(handle)
-                    .map_err(|_refused| StreamFault::NoMemory)?;
+                let Ok(()) = workers.push(handle) else {
+                    return Err(Fault::Stream(StreamFault::NoMemory));
+                };
             }
-            let mut all = Ending::Well;
-            for handle in workers {
-                all = all.and(handle.join(rt));
-            }
-            Ok(all)
+            Ok(join_all(rt, workers))
         },
     )
+}
+
+/// How these workers ended together, once all have.
+fn join_all<R: Threads + Wait, A: Allocator>(
+    rt: &R,
+    workers: Vec<JoinHandle<Ending>, A>,
+) -> Ending {
+    let mut all = Ending::Well;
+    for worker in workers {
+        all = all.and(worker.join(rt));
+    }
+    all
 }
 
 /// What the worker does in this part of its job.

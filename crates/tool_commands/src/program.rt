@@ -13,13 +13,12 @@ use crate::seats::{WORKER_STACK, run_seats};
 use crate::shards::run_shards;
 use crate::stores::RawPairs;
 use crate::stress::run_stress;
-use lock_free_hashtable::raw::Low;
-use std::alloc::Allocator;
 use std::convert::AsStr;
 use std::io::{Read, Write};
 use std::rt::Env;
 use std::sync::Wait;
 use std::thread::Threads;
+use table_cell::Low;
 use tool_call_texts::arguments::{Command, parse_command};
 use tool_call_texts::faults::Fault;
 use tool_call_texts::schedules::Schedule;
@@ -101,27 +100,38 @@ fn run_command<
 {
     let mut lines = ShortLines::new(input);
     let mut output = Output::new(output);
-    let ended = match command {
-        Command::Calls { first } => {
-            let store = RawPairs::new(alloc, first);
-            run_pairs(alloc, store, &mut lines, &mut output)
-        }
-        Command::Shards { shards, first } => {
-            run_shards(&alloc, shards, first, &mut lines, &mut output)
-        }
+    let ended = run_lines_of(rt, alloc, gates, command, &mut lines, &mut output);
+    match output.flush() {
+        Ok(()) => ended,
+        Err(_) => Err(Fault::Stream(StreamFault::WriteFailed)),
+    }
+}
+
+/// Runs the command on these lines, under these gates. What it replies may still be kept by the output.
+fn run_lines_of<R: Threads + Wait + Sync, A: Low + Copy + Send + Sync, G: Gates, I: Read, O: Write>(
+    rt: &R,
+    alloc: A,
+    gates: &G,
+    command: Command,
+    lines: &mut ShortLines<I>,
+    output: &mut Output<O>,
+) -> Result<(), Fault>
+    requires { IsRunnable command }
+    ensures fault { IfErr result (IsFaultOf command) }
+{
+    match command {
+        Command::Calls { first } => { run_pairs(alloc, RawPairs::new(alloc, first), lines, output) }
+        Command::Shards { shards, first } => run_shards(&alloc, shards, first, lines, output),
         Command::Core { first } => {
             let mut schedule = Schedule::new(alloc, first);
-            run_lines(&mut schedule, &mut lines, &mut output)
+            run_lines(&mut schedule, lines, output)
         }
         Command::Stress { threads, jobs } => {
             let crew = Crew::new(threads, WORKER_STACK);
-            run_stress(rt, alloc, crew, jobs, gates, &mut output)
+            run_stress(rt, alloc, crew, jobs, gates, output)
         }
         Command::Seats { threads } => {
-            let gate = gates.gate();
-            run_seats(rt, alloc, threads, WORKER_STACK, &gate, &mut output)
+            run_seats(rt, alloc, threads, WORKER_STACK, &gates.gate(), output)
         }
-    };
-    output.flush().map_err(|_error| StreamFault::WriteFailed)?;
-    ended
+    }
 }

@@ -11,7 +11,7 @@ use std::io::Write;
 use std::num::NonZeroU64;
 use std::sync::Wait;
 use std::thread;
-use std::thread::{Builder, Threads};
+use std::thread::{Builder, JoinHandle, Threads};
 use tool_call_texts::faults::Fault;
 use tool_streams::faults::StreamFault;
 
@@ -72,9 +72,10 @@ pub fn run_seats<R: Threads + Wait, A: Allocator + Copy + Send + Sync, G: Gate +
     if tally.is_stuck {
         return Err(Fault::GateStuck);
     }
-    writeln!(output, "placed {}", tally.placed).map_err(|_error| StreamFault::WriteFailed)?;
-    writeln!(output, "full {}", tally.full).map_err(|_error| StreamFault::WriteFailed)?;
-    Ok(())
+    match writeln!(output, "placed {}\nfull {}", tally.placed, tally.full) {
+        Ok(()) => Ok(()),
+        Err(_) => Err(Fault::Stream(StreamFault::WriteFailed)),
+    }
 }
 
 /// Runs the workers under the gate on a table of their own.
@@ -87,7 +88,9 @@ fn run_workers<R: Threads + Wait, A: Allocator + Copy + Send + Sync, G: Gate + S
 ) -> Result<Tally, Fault>
     ensures fault { IfErr result IsStartFault }
 {
-    let (table, seat) = NumberTable::new(alloc, WORDS).map_err(|_refused| StreamFault::NoMemory)?;
+    let Ok((table, seat)) = NumberTable::new(alloc, WORDS) else {
+        return Err(Fault::Stream(StreamFault::NoMemory));
+    };
     start_workers(rt, alloc, threads, stack, gate, &table, seat)
 }
 
@@ -104,7 +107,9 @@ fn start_workers<R: Threads + Wait, A: Allocator + Copy + Send + Sync, G: Gate +
     requires { IsSeatOf table.now seat }
     ensures fault { IfErr result IsStartFault }
 {
-    let mut workers = Vec::with_capacity(alloc, threads).map_err(|_refused| StreamFault::NoMemory)?;
+    let Ok(mut workers) = Vec::with_capacity(alloc, threads) else {
+        return Err(Fault::Stream(StreamFault::NoMemory));
+    };
     thread::scope(
         thread::scope_env(),
         rt,
@@ -127,17 +132,22 @@ fn start_workers<R: Threads + Wait, A: Allocator + Copy + Send + Sync, G: Gate +
                 let Ok(handle) = started else {
                     return Err(no_thread(gate));
                 };
-                workers
-                    .push(handle)
-                    .map_err(|_refused| StreamFault::NoMemory)?;
+                let Ok(()) = workers.push(handle) else {
+                    return Err(Fault::Stream(StreamFault::NoMemory));
+                };
             }
-            let mut all = Tally::nothing();
-            for handle in workers {
-                all = all.and(handle.join(rt));
-            }
-            Ok(all)
+            Ok(join_all(rt, workers))
         },
     )
+}
+
+/// What these workers were told together, once all have ended.
+fn join_all<R: Threads + Wait, A: Allocator>(rt: &R, workers: Vec<JoinHandle<Tally>, A>) -> Tally {
+    let mut all = Tally::nothing();
+    for worker in workers {
+        all = all.and(worker.join(rt));
+    }
+    all
 }
 
 /// Inserts 1 to one more than the table holds, in order, for as long as the gate lets it. The seat comes back with what the

@@ -9,11 +9,11 @@ ghost use Rattle.table_terms.specs.Capacities.{IsFirstCapacity};
 ghost use Rattle.table_terms.specs.Laws.{same_pair, pair_hash};
 ghost use Rattle.tool_commands.specs.Pairs.{HoldsPairs, LooksUpPair, raw_pairs, sharded_pairs, insertion_of as insertion_told};
 
-use lock_free_hashtable::alone::AloneTable;
-use lock_free_hashtable::raw::HeldRawTable;
-use lock_free_hashtable::sharded::HeldShardedTable;
 use std::alloc::{AllocError, Allocator};
 use std::marker::Model;
+use table_held::alone::AloneTable;
+use table_held::raw::HeldRawTable;
+use table_shards::sharded::HeldShardedTable;
 use table_terms::insertion::Insertion;
 use table_terms::law::PairLaw;
 

@@ -3,9 +3,10 @@ ghost use Rattle.std.specs.Prelude.{◌≡◌, ◌<◌, IfOk};
 ghost use Rattle.tool_call_texts.specs.Stress.{inserts_of, value_of, value_hash};
 
 use crate::gate::Gate;
-use lock_free_hashtable::raw::{LockFreeRawTable, Low};
 use std::alloc::{AllocError, Allocator};
 use std::sync::Wait;
+use table_cell::Low;
+use table_shared::LockFreeRawTable;
 use tool_call_texts::endings::Ending;
 use tool_call_texts::job::Job;
 use tool_call_texts::kinds::Kind;
