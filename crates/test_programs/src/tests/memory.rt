@@ -17,10 +17,11 @@ fn push_inserts(input: &mut String) -> Result<(), Fail> {
 
 /// Asserts how one pair was answered, and how again, and answers whether it was refused at first: it is there in the end.
 fn is_refused<R: Abort>(rt: &R, known: bool, again: &str, reply: &str, second: &str) -> bool {
-    assert!(rt; known == (reply == "found"));
-    assert_same(rt, second, if reply == "refused" { again } else { "found" });
-    assert!(rt; known || reply == "refused" || reply == "placed");
-    reply == "refused"
+    let is_refused = reply == "refused";
+    assert_same(rt, reply == "found", known);
+    assert_same(rt, second, if is_refused { again } else { "found" });
+    assert!(rt; known || is_refused || reply == "placed");
+    is_refused
 }
 
 /// How many of the pairs were refused, by the replies to two runs of the lines.

@@ -82,25 +82,43 @@ fn push_growths(input: &mut String, alloc: Global, first: u64) -> Result<(), Fai
     requires { first < 64 }
 {
     for k in first + 2..first + 4 {
-        let turns = format!(in alloc;
-            "insert {k} {} 0; share {k}; load {k}; {first} times read {k} n; free {k}",
-            9 + k
-        )?;
-        push_events(input, turns.as_str())?;
+        push_full(input, alloc, first, k)?;
     }
     for k in first + 2..first + 4 {
-        let grows = format!(in alloc;
-            "own {k}; check {k} ok; copies {k} {first}; show {k}; free {k}"
-        )?;
-        push_events(input, grows.as_str())?;
+        push_growth(input, alloc, first, k)?;
     }
     for k in first + 2..first + 4 {
-        let places = format!(in alloc;
-            "share {k}; load {k}; {} times read {k} n; put {k} n ok; add {k}; free {k}; size {k}",
-            k - 1
-        )?;
-        push_events(input, places.as_str())?;
+        push_placed(input, alloc, k)?;
     }
+    Ok(())
+}
+
+/// A call finds the first generation full.
+fn push_full(input: &mut String, alloc: Global, first: u64, k: u64) -> Result<(), Fail>
+    requires { k < 128 }
+{
+    let turns = format!(in alloc;
+        "insert {k} {} 0; share {k}; load {k}; {first} times read {k} n; free {k}",
+        9 + k
+    )?;
+    push_events(input, turns.as_str())?;
+    Ok(())
+}
+
+/// It makes the next generation.
+fn push_growth(input: &mut String, alloc: Global, first: u64, k: u64) -> Result<(), Fail> {
+    let grows = format!(in alloc; "own {k}; check {k} ok; copies {k} {first}; show {k}; free {k}")?;
+    push_events(input, grows.as_str())?;
+    Ok(())
+}
+
+/// It places its value there, behind those that lie before it.
+fn push_placed(input: &mut String, alloc: Global, k: u64) -> Result<(), Fail> {
+    let behind = k.saturating_sub(1);
+    let places = format!(in alloc;
+        "share {k}; load {k}; {behind} times read {k} n; put {k} n ok; add {k}; free {k}; size {k}"
+    )?;
+    push_events(input, places.as_str())?;
     Ok(())
 }
 
@@ -195,14 +213,14 @@ fn refuse_run<R: Abort + AllocGlobal>(
     match replies(&memory, first, schedule.events.as_slice()) {
         Ok(told) => {
             let lines = lines_of_replies(rt.alloc(), told.as_slice())?;
-            assert_eq!(rt; lines.as_str(), schedule.told.as_str(), "after {granted}");
+            assert_same(rt, lines.as_str(), schedule.told.as_str());
             Ok(Outcome {
                 is_refused: false,
                 is_whole: memory.refusals_left() == refused,
             })
         }
         Err(_) => {
-            assert!(rt; memory.refusals_left() < refused, "after {granted}");
+            assert!(rt; memory.refusals_left() < refused);
             Ok(Outcome {
                 is_refused: true,
                 is_whole: false,
