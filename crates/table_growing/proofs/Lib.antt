@@ -3,3 +3,4 @@ pub mod Carried
 pub mod Heirs
 pub mod Endings
 pub mod Ends
+pub mod Taken

@@ -7,7 +7,7 @@ use Rattle.table_bounded.specs.declared.placing.Placing.{Placing}
 use Rattle.table_bounded.specs.declared.placing.Placing.TheVariants as placing
 use Rattle.table_bounded.specs.Sets.{Inserts}
 use Rattle.table_growing.proofs.Carried.{placed_is_entry}
-use Rattle.table_growing_share.specs.Taken.{TakesIn, GivesBack}
+use Rattle.table_growing.specs.Taken.{TakesIn, GivesBack}
 
 module _ {V : Type 0} (same : V → V → Bool) where
   nothing_there : (v : V) → Contains [] v → {X : Type 0} → X

@@ -12,8 +12,10 @@ mod growth;
 mod insert;
 mod known;
 mod set;
+mod sharing;
 mod slot;
 
 pub use known::Known;
 pub use set::GrowingSet;
+pub use sharing::{insert_all, share};
 pub use table_bounded::{MetBy, Placing, SameAs, Sought};

@@ -1,15 +1,15 @@
 //! A set that grows and that threads share, made of values that one owner has.
-#![tactic(auto)]
-
 ghost use Rattle.std.specs.Prelude.{◌≡◌, IfOk, IfErr};
 ghost use Rattle.table_bounded.specs.History.{IsCarried};
 ghost use Rattle.table_bounded.specs.Sets.{KnowsMore};
-ghost use Rattle.table_growing_share.specs.Taken.{TakesIn, GivesBack};
+ghost use Rattle.table_growing.specs.Taken.{TakesIn, GivesBack};
 
+use crate::known::Known;
+use crate::set::GrowingSet;
 use std::alloc::AllocError;
 use std::sync::Wait;
+use table_bounded::Placing;
 use table_cell::Low;
-use table_growing::{GrowingSet, Known, Placing};
 use table_sets::SetLaw;
 
 /// Takes the values, the last one first, and places each, unless an entry is the same: then it is dropped. The first one that is

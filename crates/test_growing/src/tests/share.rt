@@ -3,7 +3,7 @@ use super::caller::{Caller, Heap, Numbers, assert_none_out, assert_same, counted
 use std::alloc::Global;
 use std::process::Abort;
 use std::sync::Wait;
-use table_growing_share::share;
+use table_growing::share;
 
 /// How many numbers there are, the first ten of them twice.
 const NUMBERS: u64 = 40;

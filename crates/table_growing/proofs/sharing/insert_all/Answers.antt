@@ -1,8 +1,8 @@
 use Rattle.std.proofs.Common.{◌≡◌, ◌++◌, ◌∷◌, [], refl, sym, ap, subst, ◌∙◌}
 use Rattle.table_growing.proofs.Carried.{knows_trans}
-use Rattle.table_growing_share.specs.Taken.{GivesBack}
-use Rattle.table_growing_share.proofs.Taken.{takes_none, takes_one, takes_back, is_there, comes_back}
-use Rattle.table_growing_share.proofs.insert_all.Goals as goal
+use Rattle.table_growing.specs.Taken.{GivesBack}
+use Rattle.table_growing.proofs.Taken.{takes_none, takes_one, takes_back, is_there, comes_back}
+use Rattle.table_growing.proofs.sharing.insert_all.Goals as goal
 
 pub loop-value-init : goal.loop-value-init
 loop-value-init g c = record { more = (refl, λ p v there. (p, there)); taken = takes_none g.L.Law.same c.args.known.now.history c.args.values.now.items }

@@ -1,8 +1,8 @@
 use Rattle.std.proofs.Common.{length}
 use Rattle.table_bounded.specs.History.{IsCarried}
 use Rattle.table_bounded.specs.Sets.{KnowsMore}
-use Rattle.table_growing_share.specs.Taken.{TakesIn}
-use Rattle.table_growing_share.proofs.insert_all.Given as goal
+use Rattle.table_growing.specs.Taken.{TakesIn}
+use Rattle.table_growing.proofs.sharing.insert_all.Given as goal
 
 -- what was taken is known
 abbrev pub invariant-loop-value : goal.invariant-loop-value
