@@ -9,8 +9,8 @@ use std::io::Write;
 use std::rt::{Clock, Env};
 use std::sync::Wait;
 use std::thread::Threads;
-use testkit_drawn_rounds::run_rounds;
 use testkit_replay::run_replays;
+use testkit_rounds::drawn::run_rounds;
 use tool_streams::arguments::read_words;
 use tool_streams::messages::end_with;
 

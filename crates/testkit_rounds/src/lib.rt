@@ -3,6 +3,7 @@
 
 mod account;
 mod closures;
+pub mod drawn;
 pub mod fates;
 mod fault;
 mod round;

@@ -1,7 +1,8 @@
 //! Runs drawn rounds.
-use crate::plan::Plan;
-use crate::stop::Stop;
-use crate::sum::Sum;
+use super::plan::Plan;
+use super::stop::Stop;
+use super::sum::Sum;
+use crate::{Round, run_round};
 use std::alloc::Global;
 use std::convert::AsStr;
 use std::io::Write;
@@ -9,7 +10,6 @@ use std::rt::Clock;
 use std::sync::Wait;
 use std::thread::Threads;
 use std::time::Instant;
-use testkit_rounds::{Round, run_round};
 
 /// The status of rounds without a fault.
 const WELL: u8 = 0;

@@ -1,7 +1,7 @@
 //! Why rounds end early.
+use crate::{Fault, Round};
 use std::fmt::{Display, Formatter};
 use std::{fmt, io};
-use testkit_rounds::{Fault, Round};
 
 /// What rounds don't go on from.
 #[derive(Debug, Drop)]

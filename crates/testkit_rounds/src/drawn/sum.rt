@@ -1,7 +1,7 @@
 //! What rounds came to.
+use crate::{Account, Round};
 use std::fmt;
 use std::fmt::{Display, Formatter};
-use testkit_rounds::{Account, Round};
 
 /// What rounds without a fault came to, all together.
 #[derive(Clone, Copy)]
