@@ -1,7 +1,5 @@
 //! The same over several shards, each a table of its own.
 
 pub use table_runs::alone::laws;
-pub use table_shards::sharded::{
-    HeldIntoIter, HeldIter, HeldShardedTable, IntoIter, Iter, ShardPlace, ShardedLockFreeRawTable,
-    place, shared,
-};
+pub use table_shards::sharded::{HeldIntoIter, HeldIter, HeldShardedTable, ShardPlace, place};
+pub use table_shared_shards::{IntoIter, Iter, ShardedLockFreeRawTable};

@@ -1,6 +1,4 @@
 pub mod Shards
 pub mod ShardsApart
 pub mod ShardWalks
-pub mod SharedShards
 pub mod Memory
-mod SharedTables

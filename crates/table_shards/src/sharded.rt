@@ -12,12 +12,10 @@ mod into_iter;
 mod iter;
 mod later;
 pub mod place;
-pub mod shared;
 
 pub use into_iter::IntoIter as HeldIntoIter;
 pub use iter::HeldIter;
 pub use place::ShardPlace;
-pub use shared::{IntoIter, Iter, ShardedLockFreeRawTable};
 use std::alloc::{Allocator, Global};
 use std::array;
 use std::marker::Model;
@@ -224,5 +222,13 @@ impl<T: AtomicValue, const SHARDS: usize, A: Allocator + Copy> HeldShardedTable<
     {
         let shards = self.shards.as_slice();
         shards[HeldShardedTable::<T, SHARDS, A>::shard_of(hash)].lookup_alone::<L, F>(hash, test)
+    }
+
+    /// The shards, in their order, to be kept as raw tables. It takes no memory, and no bucket is looked at.
+    pub fn into_shards(self) -> [HeldRawTable<T, A>; SHARDS]
+        ensures { result ≡ self }
+    {
+        let HeldShardedTable { shards } = self;
+        shards
     }
 }

@@ -3,7 +3,7 @@ use Rattle.std.specs.Prelude.{◌≡◌, Bool, true, List, Option}
 use Rattle.std.specs.Borrow.{Bor}
 use Rattle.table_generations.specs.Buckets.{values, values_of}
 use Rattle.table_cell.specs.declared.bucket.Entry.{Entry}
-use Rattle.table_shards.specs.SharedTables.{IsCurrent}
+use Rattle.table_shared_shards.specs.SharedTables.{IsCurrent}
 use Rattle.table_sets.specs.declared.inserted.Shown.{Shown}
 use Rattle.table_sets.specs.declared.inserted.Shown.TheVariants.{Placed, Found, Refused}
 

@@ -1,7 +1,7 @@
 //! The set over several shards that threads share.
 ghost use Rattle.std.specs.Int.{IsPowerOfTwo};
 ghost use Rattle.table_terms.specs.Capacities.{IsFirstCapacity};
-ghost use Rattle.table_shards.specs.SharedShards.{AreEmptyShards, IsInFirst};
+ghost use Rattle.table_shared_shards.specs.SharedShards.{AreEmptyShards, IsInFirst};
 
 use crate::set::SetOver;
 use lock_free_hashtable::sharded::{Iter, ShardedLockFreeRawTable};

@@ -29,7 +29,7 @@ impl<T: AtomicValue, L: SetLaw<T::Target>, const SHARDS: usize, A: Low + Copy> I
 
 impl<'a, T: AtomicValue + 'a, const SHARDS: usize, A: Allocator + Copy + 'a> WalkTable<'a, T>
     for ShardedLockFreeRawTable<T, SHARDS, A> {
-    ghost use Rattle.table_shards.specs.SharedShards.{IsInFirst};
+    ghost use Rattle.table_shared_shards.specs.SharedShards.{IsInFirst};
 
     type Walk = Iter<'a, T, SHARDS, A>;
 

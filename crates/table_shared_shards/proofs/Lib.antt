@@ -1,0 +1,2 @@
+pub mod SharedShards
+mod SharedTables

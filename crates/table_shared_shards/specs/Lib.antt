@@ -1,0 +1,2 @@
+pub mod SharedShards
+pub mod SharedTables

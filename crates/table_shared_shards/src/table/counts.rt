@@ -1,0 +1,16 @@
+//! Counts of several shards, added.
+ghost use Rattle.std.specs.Iterator.{IsFinite};
+ghost use Rattle.table_shared_shards.specs.SharedShards.{AddsUp};
+
+/// The sum of these counts, or the greatest usize if it is more.
+pub(super) fn capped_total<I: Iterator<Item = usize>>(counts: I) -> usize
+    requires can { I.can_next counts }
+    requires ends { IsFinite (I.remaining counts) }
+    ensures { AddsUp I.next_gives counts result }
+{
+    let mut total: usize = 0;
+    for count in counts {
+        total = total.saturating_add(count);
+    }
+    total
+}

@@ -1,0 +1,57 @@
+//! A table over shards held alone becomes one that threads share.
+ghost use Rattle.std.specs.Prelude.{◌≡◌, ◌<◌, length, map};
+ghost use Rattle.std.specs.Int.{IsPowerOfTwo};
+ghost use Rattle.table_shared_shards.specs.SharedShards.{SharesOne};
+
+use crate::sharing::Share;
+use crate::table::ShardedLockFreeRawTable;
+use std::alloc::Allocator;
+use std::{array, mem};
+use table_generations::atomic_value::AtomicValue;
+use table_held::raw::HeldRawTable;
+use table_shards::sharded::HeldShardedTable;
+use table_shared::LockFreeRawTable;
+
+/// Takes the shard of this number out, to be shared by threads, and leaves an empty one.
+fn share_one<T: AtomicValue, A: Allocator + Copy>(
+    shards: &mut [HeldRawTable<T, A>],
+    shard: usize,
+) -> LockFreeRawTable<T, A>
+    requires { shard < length shards.old }
+    ensures { SharesOne shard shards.old result shards.new }
+{
+    let empty = shards[shard].new_like();
+    mem::replace(&mut shards[shard], empty).share()
+}
+
+impl<T: AtomicValue, const SHARDS: usize, A: Allocator + Copy> ShardedLockFreeRawTable<
+    T,
+    SHARDS,
+    A,
+> {
+    /// The table of these shards, each in its place.
+    fn of_held(held: &mut [HeldRawTable<T, A>]) -> Self
+        requires power { IsPowerOfTwo SHARDS }
+        requires shards { length held.old ≡ SHARDS }
+        ensures first { map (λ t. t.first_capacity) result ≡ map (λ t. t.first_capacity) held.old }
+        ensures shared { map (λ t. t.shared) result ≡ map (λ t. t.generations) held.old }
+    {
+        let shards = array::from_fn(|shard| share_one(held, shard));
+        ShardedLockFreeRawTable { shards }
+    }
+}
+
+impl<T: AtomicValue, const SHARDS: usize, A: Allocator + Copy> Share
+    for HeldShardedTable<T, SHARDS, A> {
+    type Shared = ShardedLockFreeRawTable<T, SHARDS, A>;
+
+    /// The table, to be shared by threads: each shard as `HeldRawTable::share` makes it, in its place. It takes no memory, and
+    /// no bucket is looked at.
+    fn share(self) -> ShardedLockFreeRawTable<T, SHARDS, A>
+        ensures first { map (λ t. t.first_capacity) result ≡ map (λ t. t.first_capacity) self }
+        ensures shared { map (λ t. t.shared) result ≡ map (λ t. t.generations) self }
+    {
+        let mut shards = self.into_shards();
+        ShardedLockFreeRawTable::of_held(shards.as_mut_slice())
+    }
+}
