@@ -125,10 +125,7 @@ fn start_workers<
 }
 
 /// How these workers ended together, once all have.
-fn join_all<R: Threads + Wait, A: Allocator>(
-    rt: &R,
-    workers: Vec<JoinHandle<Ending>, A>,
-) -> Ending {
+fn join_all<R: Threads, A: Allocator>(rt: &R, workers: Vec<JoinHandle<Ending>, A>) -> Ending {
     let mut all = Ending::Well;
     for worker in workers {
         all = all.and(worker.join(rt));

@@ -120,7 +120,7 @@ fn run_lines_of<R: Threads + Wait + Sync, A: Low + Copy + Send + Sync, G: Gates,
     ensures fault { IfErr result (IsFaultOf command) }
 {
     match command {
-        Command::Calls { first } => { run_pairs(alloc, RawPairs::new(alloc, first), lines, output) }
+        Command::Calls { first } => run_pairs(alloc, RawPairs::new(alloc, first), lines, output),
         Command::Shards { shards, first } => run_shards(&alloc, shards, first, lines, output),
         Command::Core { first } => {
             let mut schedule = Schedule::new(alloc, first);

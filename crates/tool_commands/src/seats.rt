@@ -142,7 +142,7 @@ fn start_workers<R: Threads + Wait, A: Allocator + Copy + Send + Sync, G: Gate +
 }
 
 /// What these workers were told together, once all have ended.
-fn join_all<R: Threads + Wait, A: Allocator>(rt: &R, workers: Vec<JoinHandle<Tally>, A>) -> Tally {
+fn join_all<R: Threads, A: Allocator>(rt: &R, workers: Vec<JoinHandle<Tally>, A>) -> Tally {
     let mut all = Tally::nothing();
     for worker in workers {
         all = all.and(worker.join(rt));
