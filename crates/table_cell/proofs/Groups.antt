@@ -10,7 +10,7 @@ use Rattle.table_cell.specs.declared.bucket.Entry.{Entry}
 use Rattle.table_cell.specs.declared.bucket.Mark.{Mark}
 use Rattle.table_cell.specs.declared.bucket.Mark.TheVariants.{Vacant}
 
--- and each is that of its lane
+-- each mark is that of its lane
 pub marks_from_at : (gs : List (List Lane)) (i n k : ℕ) (d : Mark) → k < n → slice_index_or (marks_from gs i n) k d ≡ (lane_of gs (i + k)).1
 marks_from_at gs i zero k d lt = absurd (omega arith)
 marks_from_at gs i (suc n) zero d lt = let on : i ≡ i + 0 = omega arith in ap (λ j. (lane_of gs j).1) on

@@ -47,7 +47,7 @@ code_of (mark.Told bits) = 768 + bits
 abbrev pub mark_of : ℕ → Mark
 mark_of code = mark_by (code / 256) (code % 256)
 
--- what stands beside a lane: the name of its word, and the mark of what its bucket was set to alone
+-- what stands beside a lane: the name of its word, and the mark of what its bucket was set to alone, which never is one that tells
 abbrev pub Lane : Type 0
 Lane = ℕ × Mark
 

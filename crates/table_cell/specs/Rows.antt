@@ -88,12 +88,12 @@ module _ {A T : Type 0} where
     pub marked : AreMarked ms ws
     pub lies : All (WordLies home from) ws
 
-  -- the same of words whose marks lie in groups, of which the first is that of bucket i: and each word has its lane
+  -- the same where marks lie in groups, of a row from bucket i on: and each word has its lane
   pub record IsLaned (from : A) (home : ℕ) (gs : List (List Lane)) (i : ℕ) (ws : List (WordView A (Entry T))) : Type 0 where
     pub row : IsRow from home (marks_of gs i ws) ws
     pub lanes : AreLanes gs i (ids_of ws)
 
-  -- what is left of such a row, from bucket i on
+  -- what is left of such a row, from bucket i on, whose end can be counted
   pub record IsLeft (from : A) (home : ℕ) (gs : List (List Lane)) (i : ℕ) (ws : List (WordView A (Entry T))) : Type 0 where
     pub laned : IsLaned from home gs i ws
     pub fits : i + length ws < 2 ^ 64

@@ -30,7 +30,7 @@ impl<T> Homed for Entry<T> {
 /// What stands beside the word of a bucket, so that a probe that skips follows nothing.
 #[derive(Clone, Copy)]
 pub enum Mark {
-    /// Nothing is said: the word is null, or was set through `&` and not told of.
+    /// Nothing is said: the word is null, or was set through `&` and isn't told of.
     Vacant,
     /// The word owns the block of an entry with these bits. It was set alone.
     Own(u8),
@@ -257,7 +257,8 @@ impl<'a, T: Drop, A: Allocator + Copy> BucketRef<'a, T, A> {
         self.marks.read(self.lane, note)
     }
 
-    /// The mark of what the bucket holds alone: of what was set through `&` it says nothing. Nothing is followed.
+    /// The mark of what the bucket holds alone: it is vacant where that is nothing, whatever the word was set to through `&`. Nothing
+    /// is followed.
     pub fn mark_alone(&self) -> Mark
         ensures { ReadsAlone self.now.content result }
     {

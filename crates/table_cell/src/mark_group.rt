@@ -19,10 +19,6 @@ use std::sync::atomic::raw;
 /// So many buckets have their marks in one number.
 pub(crate) const LANES: usize = 4;
 
-/// A telling tries its exchange so often. Then it is left: another bucket's is told at the same time, and who reads the mark looks
-/// at the word.
-const TRIES: usize = 4;
-
 /// A lane of sixteen bits for each of four buckets, in one number.
 ///
 /// To contracts it is the name of each lane's word, and the mark of what its bucket was set to alone. Where a bucket wasn't,
@@ -225,23 +221,22 @@ impl<T: Homed> MarkGroup<T> {
         mark(lane_of(self.load(lane, note), lane))
     }
 
-    /// Tells the bits of the value that the note knows, in the lane of its word, of which nothing was said alone. A telling may
-    /// come to nothing, where other lanes are told at the same time; it changes nothing where the bits were told before.
+    /// Tells the bits of the value that the note knows, in the lane of its word, of which nothing was said alone. The number changes
+    /// under it where another of the four is told, which happens once to each: so its exchange is done in the fourth try at the latest.
     pub(crate) fn tell(&self, lane: usize, bits: u8, note: &mut Note<T>)
         requires within { (lane < 4) × (lane < length self.now) }
         requires lane { lane_at self.now lane ≡ (note.old.of, Vacant) }
         requires known { IsSomeAnd note.old.known (λ x. T.bits x ≡ bits) }
         ensures note { note.new ≡ note.old }
     {
-        for _try in 0..TRIES {
-            let old = self.load(lane, note);
-            if lane_of(old, lane) != 0 {
-                return;
-            }
+        let mut old = self.load(lane, note);
+        for _other in 0..LANES {
             let new = with_lane(old, lane, code(Mark::Told(bits)));
-            if self.tell_since(lane, note, old, new) == old {
+            let found = self.tell_since(lane, note, old, new);
+            if found == old {
                 return;
             }
+            old = found;
         }
     }
 }

@@ -1,6 +1,6 @@
 //! Buckets in a row: their marks apart from their words, 10 bytes a bucket.
 ghost use Rattle.std.specs.Prelude.{◌≡◌, ◌<◌, length, replicate, [], slice_set, IfOk, IfErr, OnOk, All};
-ghost use Rattle.table_cell.specs.Contents.{vacant, own, entry_from, content_of, Lies, HandsBack, IsMarked, ReadsAlone};
+ghost use Rattle.table_cell.specs.Contents.{vacant, own, entry_from, bucket_of, content_of, Lies, HandsBack, IsMarked, ReadsAlone};
 ghost use Rattle.table_cell.specs.Rows.{content_at, bucket_at, lane_of, HasLane, WordLies, AreOfOneRow, TakesFirst};
 ghost use Rattle.table_cell.specs.declared.bucket.Mark.TheVariants.{Vacant};
 
@@ -143,6 +143,19 @@ impl<T: Drop, A: Allocator + Copy> Row<T, A> {
         ensures home { AreOfOneRow self.new self.old }
     {
         let (mark, word) = new.into_alone();
+        self.set_bucket(index, mark, word);
+    }
+
+    /// The same of a word with its mark.
+    fn set_bucket(&mut self, index: usize, mark: Mark, word: Word<Entry<T>, A>)
+        requires within { index < length self.old.contents }
+        requires marked { IsMarked mark word }
+        requires lies { Lies self.old.home self.old.from (bucket_of mark word) }
+        ensures put { self.new.contents ≡ slice_set self.old.contents index
+            (content_of mark word.value) }
+        ensures ids { self.new.ids ≡ slice_set self.old.ids index word.id }
+        ensures home { AreOfOneRow self.new self.old }
+    {
         self.marks[index / LANES].set(index % LANES, mark, &word);
         self.words[index] = word;
     }
@@ -173,7 +186,7 @@ impl<T: Drop, A: Allocator + Copy> Row<T, A> {
         match self.at(index).mark_alone() {
             Mark::Vacant => {
                 let word = Word::own(home, LooseBlock::of(block));
-                self.put(index, Bucket::of(Mark::Own(bits), word));
+                self.set_bucket(index, Mark::Own(bits), word);
                 Ok(())
             }
             _ => Err(Refusal::Taken(Box::into_inner(block).value)),

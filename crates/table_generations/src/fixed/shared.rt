@@ -71,10 +71,9 @@ fn look_at_bucket<'a, T: AtomicValue, A: Allocator + Copy>(
         (λ o. Tells sought o result) }
 {
     match bucket.mark(note) {
-        Mark::Own(bits) | Mark::Named(bits) if bits == sought => Look::Alike(bucket.entry(home)),
-        Mark::Told(bits) if bits != sought => Look::Other,
-        Mark::Vacant | Mark::Told(_) => look_at_set(home, bucket, sought, note),
-        _ => Look::Other,
+        Mark::Own(bits) | Mark::Named(bits) | Mark::Told(bits) if bits != sought => Look::Other,
+        Mark::Own(_) | Mark::Named(_) => Look::Alike(bucket.entry(home)),
+        _ => look_at_set(home, bucket, sought, note),
     }
 }
 
