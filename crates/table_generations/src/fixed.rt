@@ -88,12 +88,12 @@ fn compare_bucket<'a, T: AtomicValue, A: Allocator + Copy, F: Fn(&T::Target) -> 
     ensures { ComparisonGives T.target (FnReturnsAt F.Fn test.now) sought (shown bucket.now.content)
         result }
 {
-    match bucket.mark_alone() {
+    match bucket.mark() {
+        Mark::Vacant => Comparison::Vacant,
         Mark::Own(bits) | Mark::Named(bits) if bits == sought => {
             compare_entry(bucket.entry(home), test)
         }
-        Mark::Own(_) | Mark::Named(_) => Comparison::Different,
-        _ => Comparison::Vacant,
+        _ => Comparison::Different,
     }
 }
 
