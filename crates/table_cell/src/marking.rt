@@ -1,0 +1,98 @@
+//! The marks of a row.
+ghost use Rattle.std.specs.Prelude.{◌≡◌, length, replicate, IfOk};
+ghost use Rattle.table_cell.specs.Contents.{bucket_of, content_of, IsMarked, ReadsAlone};
+ghost use Rattle.table_cell.specs.Rows.{alone_at, marks_of, ids_of, AreLanes, HasMark, IsLaneOf, SetsLane};
+ghost use Rattle.table_cell.specs.declared.bucket.Mark.TheVariants.{Vacant};
+
+use crate::bucket::{BucketRef, Entry, Mark, MarkRef};
+use crate::mark_group::{LANES, MarkGroup};
+use crate::word::Word;
+use std::alloc::{AllocError, Allocator};
+
+/// The marks of the buckets of a row, in their order, 2 bytes each.
+#[derive(Drop)]
+pub(crate) enum Marking<T: Drop, A: Allocator + Copy> {
+    /// They say what was set alone, and no more.
+    Silent(Vec<Mark, A>),
+    /// Those of four buckets lie in one number, in which who sets a bucket through `&` tells its bits.
+    Telling(Vec<MarkGroup<Entry<T>>, A>),
+}
+
+/// Vacant marks that say no more than what is set alone.
+fn silent_marks<T: Drop, A: Allocator + Copy>(
+    alloc: A,
+    words: &Vec<Word<Entry<T>, A>, A>,
+) -> Result<Vec<Mark, A>, AllocError>
+    ensures { IfOk result (λ ms. ms.items ≡ replicate (length words.now.items) Vacant) }
+{
+    let count = words.len();
+    let mut marks = Vec::with_capacity(alloc, count)?;
+    for _made in 0..count {
+        marks.push_reserved(Mark::Vacant);
+    }
+    Ok(marks)
+}
+
+impl<T: Drop, A: Allocator + Copy> Marking<T, A> {
+    /// Vacant marks beside these words, which say no more than what is set alone. They ask for memory once, if there is a
+    /// word.
+    pub(crate) fn silent(alloc: A, words: &Vec<Word<Entry<T>, A>, A>) -> Result<Self, AllocError>
+        ensures lanes { IfOk result (λ ms. AreLanes ms 0 (ids_of words.now.items)) }
+        ensures vacant { IfOk result (λ ms. marks_of ms 0 words.now.items
+            ≡ replicate (length words.now.items) Vacant) }
+    {
+        Ok(Marking::Silent(silent_marks(alloc, words)?))
+    }
+
+    /// Vacant marks beside these words, in which who sets a bucket through `&` tells its bits. They ask for memory once, if
+    /// there is a word.
+    pub(crate) fn telling(alloc: A, words: &Vec<Word<Entry<T>, A>, A>) -> Result<Self, AllocError>
+        ensures lanes { IfOk result (λ ms. AreLanes ms 0 (ids_of words.now.items)) }
+        ensures vacant { IfOk result (λ ms. marks_of ms 0 words.now.items
+            ≡ replicate (length words.now.items) Vacant) }
+    {
+        let groups = words.len().div_ceil(LANES);
+        let mut marks = Vec::with_capacity(alloc, groups)?;
+        for group in 0..groups {
+            marks.push_reserved(MarkGroup::of(words, group * LANES));
+        }
+        Ok(Marking::Telling(marks))
+    }
+
+    /// The bucket at this index, whose word this is, to be looked at.
+    pub(crate) fn beside<'a>(
+        &'a self,
+        index: usize,
+        word: &'a Word<Entry<T>, A>,
+    ) -> BucketRef<'a, T, A>
+        requires lane { IsLaneOf self.now index word.now.id }
+        requires marked { IsMarked (alone_at self.now index) word.now }
+        ensures { result ≡ bucket_of (alone_at self.now index) word.now }
+    {
+        let mark = match self {
+            Marking::Silent(marks) => MarkRef::Silent(marks[index]),
+            Marking::Telling(groups) => MarkRef::Lane(&groups[index / LANES], index % LANES),
+        };
+        BucketRef { mark, word }
+    }
+
+    /// The mark of what the bucket at this index, whose word this is, was set to alone.
+    pub(crate) fn alone(&self, index: usize, word: &Word<Entry<T>, A>) -> Mark
+        requires lane { IsLaneOf self.now index word.now.id }
+        requires marked { IsMarked (alone_at self.now index) word.now }
+        ensures { ReadsAlone (content_of (alone_at self.now index) word.now.value) result }
+    {
+        self.beside(index, word).mark_alone()
+    }
+
+    /// Sets the mark at this index, beside this word. What was told there is forgotten.
+    pub(crate) fn set(&mut self, index: usize, mark: Mark, word: &Word<Entry<T>, A>)
+        requires { HasMark self.old index }
+        ensures { SetsLane self.old index (word.now.id, mark) self.new }
+    {
+        match self {
+            Marking::Silent(marks) => marks[index] = mark,
+            Marking::Telling(groups) => groups[index / LANES].set(index % LANES, mark, word),
+        }
+    }
+}
