@@ -5,12 +5,11 @@ use Rattle.std.proofs.lemmas.List.{get_or-map, length-map, length-set, map-set}
 use Rattle.std.proofs.lemmas.List.Elements.{All-head, All-tail, All-get_or, All-set}
 use Rattle.table_cell.specs.Words.{WordView}
 use Rattle.table_cell.specs.Contents.{BucketView, vacant, IsMarked, content_of, bucket_of}
-use Rattle.table_cell.specs.Rows.{RowView, alone_at, content_at, contents_of, marks_of, ids_of, HasMark, IsLaneOf, SetsLane, AreLanes, AreMarked, WordLies, IsLaned, IsLeft, IsRow, TakesFirst, bucket_at, row_of}
+use Rattle.table_cell.specs.Rows.{Marks, RowView, alone_at, content_at, contents_of, marks_of, ids_of, HasMark, IsLaneOf, SetsLane, AreLanes, AreMarked, WordLies, IsLaned, IsLeft, IsRow, TakesFirst, bucket_at, row_of}
 use Rattle.table_cell.proofs.Markings.{marks_from_at, lane_first, lane_from, lanes_rest, marks_set, lanes_set}
 use Rattle.table_cell.specs.declared.bucket.Entry.{Entry}
 use Rattle.table_cell.specs.declared.bucket.Mark.{Mark}
 use Rattle.table_cell.specs.declared.bucket.Mark.TheVariants.{Vacant}
-use Rattle.table_cell.specs.declared.marking.Marking.{Marking}
 
 module _ {A T : Type 0} where
   -- there are as many buckets as words
@@ -72,7 +71,7 @@ module _ {A T : Type 0} where
   contents-vacant (suc n) (w ∷ ws) long = ap (λ ps. vacant ∷ ps) (contents-vacant n ws (omega arith))
 
   -- words that are null make a row beside vacant marks
-  pub laned-vacant : (from : A) (home : ℕ) (ms : Marking T A) (ws : List (WordView A (Entry T))) → AreLanes ms 0 (ids_of ws) → marks_of ms 0 ws ≡ replicate (length ws) Vacant
+  pub laned-vacant : (from : A) (home : ℕ) (ms : Marks) (ws : List (WordView A (Entry T))) → AreLanes ms 0 (ids_of ws) → marks_of ms 0 ws ≡ replicate (length ws) Vacant
       → All (IsMarked Vacant) ws → All (WordLies home from) ws → IsLaned from home ms 0 ws
   laned-vacant from home ms ws lanes blank null lies = record {
     row = record { marked = rw blank (marked-vacant (length ws) ws refl null); lies = lies };
@@ -92,7 +91,7 @@ module _ {A T : Type 0} where
       let named : slice_index_or (map (λ (v : WordView A (Entry T)). v.id) ws) i 0 ≡ w.id = get_or-map (λ (v : WordView A (Entry T)). v.id) ws i w 0 lt ∙ ap (λ v. v.id) (sym at) in
       rw (lies.0, lies.1, named, ← content_read ms ws i m w are lt is at) refl
 
-  module _ (ms : Marking T A) (ws : List (WordView A (Entry T))) (i : ℕ) (within : i < length ws) where
+  module _ (ms : Marks) (ws : List (WordView A (Entry T))) (i : ℕ) (within : i < length ws) where
     -- the mark of a bucket is that at its index
     pub mark_is : alone_at ms i ≡ slice_index_or (marks_of ms 0 ws) i (alone_at ms i)
     mark_is = let on : i ≡ 0 + i = omega arith in ap (λ k. alone_at ms k) on ∙ sym (marks_from_at ms 0 (length ws) i (alone_at ms i) within)
@@ -116,7 +115,7 @@ module _ {A T : Type 0} where
       pub bucket_at_index : {from : A} {home : ℕ} → IsLaned from home ms 0 ws → bucket_of (alone_at ms i) w ≡ bucket_at (row_of from home (marks_of ms 0 ws) ws) i
       bucket_at_index {from} {home} row = bucket_is (marks_of ms 0 ws) ws i (alone_at ms i) w home from row.row.marked within mark_is at row.row.lies
 
-    module _ (m : Mark) (w : WordView A (Entry T)) (new : Marking T A) (sets : SetsLane ms i (w.id, m) new) (lanes : AreLanes ms 0 (ids_of ws)) where
+    module _ (m : Mark) (w : WordView A (Entry T)) (new : Marks) (sets : SetsLane ms i (w.id, m) new) (lanes : AreLanes ms 0 (ids_of ws)) where
       -- where a mark is set together with its word, one mark is another
       pub marks_of_set : marks_of new 0 (slice_set ws i w) ≡ slice_set (marks_of ms 0 ws) i m
       marks_of_set =
@@ -132,14 +131,14 @@ module _ {A T : Type 0} where
       marked_of_set are is = rw marks_of_set (marked_set (marks_of ms 0 ws) ws i m w are is)
 
     -- so the row is one still
-    pub laned_set : {from : A} {home : ℕ} (m : Mark) (w : WordView A (Entry T)) (new : Marking T A) → SetsLane ms i (w.id, m) new → IsLaned from home ms 0 ws → IsMarked m w
+    pub laned_set : {from : A} {home : ℕ} (m : Mark) (w : WordView A (Entry T)) (new : Marks) → SetsLane ms i (w.id, m) new → IsLaned from home ms 0 ws → IsMarked m w
         → WordLies home from w → IsLaned from home new 0 (slice_set ws i w)
     laned_set {from} {home} m w new sets row is lies = record {
       row = record { marked = marked_of_set m w new sets row.lanes row.row.marked is; lies = All-set (WordLies home from) ws i w lies row.row.lies };
       lanes = lanes_of_set m w new sets row.lanes;
     }
 
-  module _ {from : A} {home : ℕ} (ms : Marking T A) (i : ℕ) (w : WordView A (Entry T)) (ws : List (WordView A (Entry T))) (left : IsLeft from home ms i (w ∷ ws)) where
+  module _ {from : A} {home : ℕ} (ms : Marks) (i : ℕ) (w : WordView A (Entry T)) (ws : List (WordView A (Entry T))) (left : IsLeft from home ms i (w ∷ ws)) where
     -- the first word that is left has its mark
     pub first_lane : IsLaneOf ms i w.id
     first_lane = lane_first ms i w.id (ids_of ws) left.laned.lanes

@@ -1,21 +1,33 @@
 //! The marks of a row.
-ghost use Rattle.std.specs.Prelude.{◌≡◌, length, replicate, IfOk};
+ghost use Rattle.std.specs.Prelude.{◌≡◌, length, replicate, [], IfOk};
 ghost use Rattle.table_cell.specs.Contents.{bucket_of, content_of, IsMarked, ReadsAlone};
-ghost use Rattle.table_cell.specs.Rows.{alone_at, marks_of, ids_of, AreLanes, HasMark, IsLaneOf, SetsLane};
+ghost use Rattle.table_cell.specs.Rows.{silent, alone_at, marks_of, ids_of, AreLanes, HasMark, IsLaneOf, SetsLane};
 ghost use Rattle.table_cell.specs.declared.bucket.Mark.TheVariants.{Vacant};
 
 use crate::bucket::{BucketRef, Entry, Mark, MarkRef};
 use crate::mark_group::{LANES, MarkGroup};
 use crate::word::Word;
 use std::alloc::{AllocError, Allocator};
+use std::marker::Model;
 
-/// The marks of the buckets of a row, in their order, 2 bytes each.
+/// The marks of the buckets of a row, in their order, 2 bytes each. One of the two vectors has them all. (Of an enum no caller high
+/// up could show that a table fits in memory: its size is written out there, through all structs.)
 #[derive(Drop)]
-pub(crate) enum Marking<T: Drop, A: Allocator + Copy> {
-    /// They say what was set alone, and no more.
-    Silent(Vec<Mark, A>),
-    /// Those of four buckets lie in one number, in which who sets a bucket through `&` tells its bits.
-    Telling(Vec<MarkGroup<Entry<T>>, A>),
+pub(crate) struct Marking<T: Drop, A: Allocator + Copy> {
+    /// Whether who sets a bucket through `&` tells its bits.
+    tells: bool,
+    /// Marks that say what was set alone, and no more.
+    silent: Vec<Mark, A>,
+    /// Those of four buckets in one number, in which bits are told.
+    groups: Vec<MarkGroup<Entry<T>>, A>,
+}
+
+impl<T: Drop, A: Allocator + Copy> Model for Marking<T, A> {
+    ghost use Rattle.table_cell.specs.Rows.{Marks, marks_by};
+
+    ghost Value = { Marks };
+
+    ghost view = { λ m. marks_by m.tells m.silent.items m.groups.items };
 }
 
 /// Vacant marks that say no more than what is set alone.
@@ -34,6 +46,17 @@ fn silent_marks<T: Drop, A: Allocator + Copy>(
 }
 
 impl<T: Drop, A: Allocator + Copy> Marking<T, A> {
+    /// The marks of no bucket. They take no memory.
+    pub(crate) fn none(alloc: A) -> Self
+        ensures { result ≡ silent [] }
+    {
+        Marking {
+            tells: false,
+            silent: Vec::new(alloc),
+            groups: Vec::new(alloc),
+        }
+    }
+
     /// Vacant marks beside these words, which say no more than what is set alone. They ask for memory once, if there is a
     /// word.
     pub(crate) fn silent(alloc: A, words: &Vec<Word<Entry<T>, A>, A>) -> Result<Self, AllocError>
@@ -41,7 +64,11 @@ impl<T: Drop, A: Allocator + Copy> Marking<T, A> {
         ensures vacant { IfOk result (λ ms. marks_of ms 0 words.now.items
             ≡ replicate (length words.now.items) Vacant) }
     {
-        Ok(Marking::Silent(silent_marks(alloc, words)?))
+        Ok(Marking {
+            tells: false,
+            silent: silent_marks(alloc, words)?,
+            groups: Vec::new(alloc),
+        })
     }
 
     /// Vacant marks beside these words, in which who sets a bucket through `&` tells its bits. They ask for memory once, if
@@ -51,12 +78,16 @@ impl<T: Drop, A: Allocator + Copy> Marking<T, A> {
         ensures vacant { IfOk result (λ ms. marks_of ms 0 words.now.items
             ≡ replicate (length words.now.items) Vacant) }
     {
-        let groups = words.len().div_ceil(LANES);
-        let mut marks = Vec::with_capacity(alloc, groups)?;
-        for group in 0..groups {
+        let count = words.len().div_ceil(LANES);
+        let mut marks = Vec::with_capacity(alloc, count)?;
+        for group in 0..count {
             marks.push_reserved(MarkGroup::of(words, group * LANES));
         }
-        Ok(Marking::Telling(marks))
+        Ok(Marking {
+            tells: true,
+            silent: Vec::new(alloc),
+            groups: marks,
+        })
     }
 
     /// The bucket at this index, whose word this is, to be looked at.
@@ -69,9 +100,10 @@ impl<T: Drop, A: Allocator + Copy> Marking<T, A> {
         requires marked { IsMarked (alone_at self.now index) word.now }
         ensures { result ≡ bucket_of (alone_at self.now index) word.now }
     {
-        let mark = match self {
-            Marking::Silent(marks) => MarkRef::Silent(marks[index]),
-            Marking::Telling(groups) => MarkRef::Lane(&groups[index / LANES], index % LANES),
+        let mark = if self.tells {
+            MarkRef::Lane(&self.groups[index / LANES], index % LANES)
+        } else {
+            MarkRef::Silent(self.silent[index])
         };
         BucketRef { mark, word }
     }
@@ -90,9 +122,10 @@ impl<T: Drop, A: Allocator + Copy> Marking<T, A> {
         requires { HasMark self.old index }
         ensures { SetsLane self.old index (word.now.id, mark) self.new }
     {
-        match self {
-            Marking::Silent(marks) => marks[index] = mark,
-            Marking::Telling(groups) => groups[index / LANES].set(index % LANES, mark, word),
+        if self.tells {
+            self.groups[index / LANES].set(index % LANES, mark, word);
+        } else {
+            self.silent[index] = mark;
         }
     }
 }

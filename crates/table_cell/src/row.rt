@@ -64,7 +64,7 @@ impl<T: Drop, A: Allocator + Copy> Row<T, A> {
         Row {
             alloc,
             origin: Word::new(&alloc, home),
-            marks: Marking::Silent(Vec::new(alloc)),
+            marks: Marking::none(alloc),
             words: Vec::new(alloc),
         }
     }

@@ -7,5 +7,5 @@ abbrev pub invariant-loop-group : goal.invariant-loop-group
 invariant-loop-group g l = record {
   long : length l.marks.items ≡ l.group;
   of : AreOf (ids_of l.words.items) l.group l.marks.items;
-  room : l.groups ≤ vec_capacity l.marks;
+  room : l.count ≤ vec_capacity l.marks;
 }
