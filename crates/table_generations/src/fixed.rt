@@ -88,12 +88,12 @@ fn compare_bucket<'a, T: AtomicValue, A: Allocator + Copy, F: Fn(&T::Target) -> 
     ensures { ComparisonGives T.target (FnReturnsAt F.Fn test.now) sought (shown bucket.now.content)
         result }
 {
-    match bucket.mark_alone() {
+    match bucket.mark() {
+        Mark::Vacant => Comparison::Vacant,
         Mark::Own(bits) | Mark::Named(bits) if bits == sought => {
             compare_entry(bucket.entry(home), test)
         }
-        Mark::Own(_) | Mark::Named(_) => Comparison::Different,
-        _ => Comparison::Vacant,
+        _ => Comparison::Different,
     }
 }
 
@@ -110,7 +110,7 @@ impl<T: AtomicValue, A: Allocator + Copy> Generation<T, A> {
         }
     }
 
-    /// Empty buckets, for one owner. It asks for memory twice: for their words, and for their marks.
+    /// Empty buckets. It asks for memory twice: for their marks, and for their words.
     pub fn with_capacity(alloc: A, home: &Home, capacity: usize) -> Result<Self, AllocError>
         requires { IsPowerOfTwo capacity }
         ensures { IfOk result (IsBlank alloc home.now.id capacity) }
@@ -161,7 +161,7 @@ impl<T: AtomicValue, A: Allocator + Copy> Generation<T, A> {
         self.row.at(index).naming(self.row.alloc())
     }
 
-    /// Empty buckets of the same home and the same allocator, for one owner.
+    /// Empty buckets of the same home and the same allocator.
     pub fn sibling(&self, home: &Home, capacity: usize) -> Result<Self, AllocError>
         requires home { self.now.home ≡ home.now.id }
         requires power { IsPowerOfTwo capacity }

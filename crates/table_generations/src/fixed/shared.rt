@@ -7,8 +7,8 @@ ghost use Rattle.table_generations.specs.Looks.{Tells, IsSeen};
 
 use crate::atomic_value::AtomicValue;
 use crate::fixed::Generation;
-use std::alloc::{AllocError, Allocator};
-use table_cell::{Bucket, BucketRef, Entry, Home, Homed, Low, Mark, Missed, Note, Row};
+use std::alloc::Allocator;
+use table_cell::{Bucket, BucketRef, Entry, Home, Homed, Low, Mark, Missed, Note};
 
 /// What a probe for eight bits meets at a bucket.
 #[derive(Clone, Copy)]
@@ -37,28 +37,7 @@ fn look_at_entry<T>(entry: &Entry<T>, sought: u8) -> Look<'_, T>
     }
 }
 
-/// What a probe for these bits meets at a bucket that wasn't set alone: its word is read, and its block, if it was set.
-fn look_at_set<'a, T: AtomicValue, A: Allocator + Copy>(
-    home: &'a Home,
-    bucket: &BucketRef<'a, T, A>,
-    sought: u8,
-    note: &mut Note<Entry<T>>,
-) -> Look<'a, T>
-    requires home { bucket.now.home ≡ home.now.id }
-    requires of { note.old.of ≡ bucket.now.id }
-    requires vacant { bucket.now.content ≡ vacant }
-    ensures of { note.new.of ≡ note.old.of }
-    ensures told { Tells sought note.new.known result }
-    ensures kept { Keeps note.old.known note.new.known }
-{
-    match bucket.get_set(home, note) {
-        Some(entry) => look_at_entry(entry, sought),
-        None => Look::Vacant,
-    }
-}
-
-/// What a probe for these bits meets at a bucket. Neither the word nor the block of an entry whose mark has other bits is
-/// read.
+/// What a probe for these bits meets at a bucket. The block of an entry whose mark has other bits isn't read.
 fn look_at_bucket<'a, T: AtomicValue, A: Allocator + Copy>(
     home: &'a Home,
     bucket: &BucketRef<'a, T, A>,
@@ -71,37 +50,17 @@ fn look_at_bucket<'a, T: AtomicValue, A: Allocator + Copy>(
     ensures seen { IsSeen bucket.now.content note.old.known note.new.known
         (λ o. Tells sought o result) }
 {
-    match bucket.mark(note) {
-        Mark::Own(bits) | Mark::Named(bits) | Mark::Told(bits) if bits != sought => Look::Other,
-        Mark::Own(_) | Mark::Named(_) => Look::Alike(bucket.entry(home)),
-        _ => look_at_set(home, bucket, sought, note),
+    match bucket.mark() {
+        Mark::Vacant => match bucket.get(home, note) {
+            Some(entry) => look_at_entry(entry, sought),
+            None => Look::Vacant,
+        },
+        Mark::Own(bits) | Mark::Named(bits) if bits == sought => Look::Alike(bucket.entry(home)),
+        _ => Look::Other,
     }
 }
 
 impl<T: AtomicValue, A: Allocator + Copy> Generation<T, A> {
-    ghost use Rattle.table_generations.specs.Generations.{IsBlank};
-
-    /// Empty buckets for threads to set: who sets one tells its bits in its mark. It asks for memory twice: for their words,
-    /// and for their marks.
-    pub fn telling(alloc: A, home: &Home, capacity: usize) -> Result<Self, AllocError>
-        requires { IsPowerOfTwo capacity }
-        ensures { IfOk result (IsBlank alloc home.now.id capacity) }
-    {
-        Ok(Generation {
-            row: Row::telling(alloc, home, capacity)?,
-            size: 0,
-        })
-    }
-
-    /// The same of the home and the allocator of this generation.
-    pub fn telling_sibling(&self, home: &Home, capacity: usize) -> Result<Self, AllocError>
-        requires home { self.now.home ≡ home.now.id }
-        requires power { IsPowerOfTwo capacity }
-        ensures { IfOk result (IsBlank self.now.from self.now.home capacity) }
-    {
-        Generation::telling(self.row.alloc(), home, capacity)
-    }
-
     /// Twice the number of buckets, if there is a bucket and twice as many can be counted.
     pub fn doubled(&self) -> Option<usize>
         ensures power { IfSome result (λ c. IsPowerOfTwo c) }
