@@ -1,5 +1,5 @@
 -- Shards of a table that threads share: those that are made or taken out one after another, and a walk over them.
-use Rattle.std.proofs.Common.{◌≡◌, ℕ, zero, suc, ◌+◌, ◌^◌, ◌<◌, ◌≤◌, List, [], ◌∷◌, ◌++◌, Some, None, length, map, drop, get_or, refl, sym, ap, subst, ◌∙◌, arith, inl, inr, append_assoc}
+use Rattle.std.proofs.Common.{◌≡◌, ℕ, zero, suc, ◌+◌, ◌*◌, ◌^◌, ◌<◌, ◌≤◌, List, [], ◌∷◌, ◌++◌, Some, None, length, map, drop, get_or, refl, sym, ap, subst, ◌∙◌, arith, inl, inr, append_assoc}
 use prog.Align.{up-ge}
 use prog.Memory.{up}
 use Rattle.std.specs.Array.{IsFromFnResultFrom, index_steps}
@@ -8,6 +8,7 @@ use denote.Param.Members.{Mut}
 use Rattle.std.proofs.lemmas.Bool.{cases_eq}
 use Rattle.std.proofs.lemmas.List.{get_or_default, get_or-set_other, length-set, length_push, length-append, drop_more, drop-set, drop-set-lt}
 use Rattle.std.specs.List.{flat_map}
+use Rattle.std.specs.Prelude.{slice_set}
 use Rattle.std.specs.Borrow.{Bor}
 use Rattle.table_shared.specs.Tables.{SharedTable}
 use Rattle.table_shared.specs.Walks as raw
@@ -20,9 +21,13 @@ use Rattle.table_shards.proofs.Shards.{made_from}
 pub inside : {X : Type 0} (n i t u : ℕ) (xs : List X) → length xs ≡ n → index_steps n t (Some i) u → i < length xs
 inside n i t u xs long (low, is, more) = omega (arith, low, is, long)
 
--- what is less than a bound together with more, or rounded up, is less than the bound
-pub smaller : (k e more bound : ℕ) → up k e + more < bound → e < bound
-smaller k e more bound less = omega (arith, up-ge k e, less)
+-- the elements of an array take less than a bound that a struct of that array takes less than
+pub elements_fit : (k j n e bound : ℕ) → up k (up j 0 + n * e) < bound → n * e < bound
+elements_fit k j n e bound less = omega (arith, up-ge k (up j 0 + n * e), less)
+
+-- so does the first field of a struct of two
+pub first_fits : (k a j e more bound : ℕ) → up k (up a (up j 0 + e) + more) < bound → e < bound
+first_fits k a j e more bound less = omega (arith, up-ge k (up a (up j 0 + e) + more), up-ge a (up j 0 + e), less)
 
 -- a part of what is less than a bound is less than it
 pub part_below : (before part after bound : ℕ) → before + part + after < bound → part < bound
@@ -54,6 +59,20 @@ made_taking g left R step ys (suc n) i f fits (q, y, at, called, rest) k d e low
     ]
 
 module _ {T : Type 0} where
+  -- a shard that is read and replaced by an empty one of its first capacity is taken out, and then shared
+  pub shares_one : (k : ℕ) (old : List (HeldTable T)) (shared : SharedTable T) (taken read seen empty new : HeldTable T) → k < length old
+      → taken ≡ get_or old k read → empty ≡ empty_table (get_or old k seen).first_capacity → new ≡ empty
+      → shared.first_capacity ≡ taken.first_capacity → shared.shared ≡ taken.generations → SharesOne k old shared (slice_set old k new)
+  shares_one k old shared taken read seen empty new within was is put first same =
+      let there : taken ≡ get_or old k taken = was ∙ get_or_default old k read taken within in
+      record {
+        taken = taken;
+        there = there;
+        first = first;
+        same = same;
+        left = ap (λ t. slice_set old k t) (put ∙ is ∙ ap (λ (t : HeldTable T). empty_table t.first_capacity) (get_or_default old k seen taken within ∙ sym there));
+      }
+
   -- shards that a closure makes, each without a generation and with this first capacity
   pub empty_shards_made : {F : Type 0} (g : Mut F (ℕ × Unit {0}) (SharedTable T)) (first : ℕ) (f : F)
       → ((i : ℕ) (t : SharedTable T) (q : F) → Called g f (i, tt) t q → (q ≡ f) × ((t.first_capacity ≡ first) × (t.shared ≡ [] ∷ [])))

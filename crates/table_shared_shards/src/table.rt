@@ -27,7 +27,6 @@ use table_shared::LockFreeRawTable;
 ///
 /// `SHARDS` is a power of two, 1 included. Each call is that of the raw table, on the shard of the hash or on all shards,
 /// and promises the same.
-#[derive(Drop)]
 pub struct ShardedLockFreeRawTable<
     T: AtomicValue,
     const SHARDS: usize,
@@ -173,5 +172,14 @@ impl<T: AtomicValue, const SHARDS: usize, A: Low + Copy> ShardedLockFreeRawTable
         ensures { Answers T.target (FnReturnsAtPair E.Fn eq (T.target value)) value result }
     {
         shard.insert(rt, hash, value, eq, hash_fn)
+    }
+}
+
+impl<T: AtomicValue, const SHARDS: usize, A: Allocator + Copy> Drop
+    for ShardedLockFreeRawTable<T, SHARDS, A> {
+    /// Drops the shards, each as a raw table is dropped.
+    fn drop(self) {
+        let ShardedLockFreeRawTable { shards } = self;
+        drop(shards);
     }
 }
