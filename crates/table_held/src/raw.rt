@@ -207,6 +207,7 @@ impl<T: AtomicValue, A: Allocator + Copy> HeldRawTable<T, A> {
 
     /// Places the value in the current generation, unless an entry is accepted as equal. Says where the answer's entry
     /// is shown.
+    #[inline(always)]
     fn try_place<E: Fn(&T::Target, &T::Target) -> bool>(
         &mut self,
         hash: u64,
@@ -303,10 +304,10 @@ impl<T: AtomicValue, A: Allocator + Copy> HeldRawTable<T, A> {
         ensures { ShowsAt (entry_at self.now place) (λ v. result.now ≡ T.target v) }
     {
         let generation = generation_at(self.earlier.as_slice(), &self.current, place.generation());
-        match generation.entry_shown(&self.home, place.index()) {
-            Some(entry) => entry.value.deref(),
-            None => unreachable!(),
-        }
+        generation
+            .entry_set(&self.home, place.index())
+            .value
+            .deref()
     }
 
     /// Inserts the value, unless an entry is accepted as equal, and shows the entry's target. It is `place_alone`, and

@@ -2,6 +2,7 @@ pub mod Starts
 mod Alone
 mod Between
 mod Stepping
+mod Puts
 mod Takes
 mod LooksOn
 mod Copied
