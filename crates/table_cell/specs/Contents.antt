@@ -1,22 +1,13 @@
 -- What a bucket holds, and what its calls answer.
 use Rattle.std.specs.Prelude.{◌≡◌, ◌≢◌, ℕ, ⊤, true, false, Option, Some, None, IfSome}
-use Rattle.table_cell.specs.Notes.{Agrees}
 use Rattle.table_cell.specs.Words.{WordView}
 use Rattle.table_cell.specs.declared.bucket.Entry.{Entry}
 use Rattle.table_cell.specs.declared.bucket.Mark.{Mark}
 use Rattle.table_cell.specs.declared.bucket.Mark.TheVariants as mark
-use Rattle.table_cell.specs.declared.bucket.Reading.{Reading}
-use Rattle.table_cell.specs.declared.bucket.Reading.TheVariants as reading
 use Rattle.table_cell.specs.declared.bucket.Refusal.{Refusal}
 use Rattle.table_cell.specs.declared.bucket.Refusal.TheVariants as refusal
 use Rattle.table_cell.specs.declared.bucket.Missed.{Missed}
 use Rattle.table_cell.specs.declared.bucket.Missed.TheVariants as missed
-
--- what is read of a mark beside which nothing is told
-abbrev pub as_read : Mark → Reading
-as_read mark.Vacant = reading.Vacant
-as_read (mark.Own bits) = reading.Own bits
-as_read (mark.Named bits) = reading.Named bits
 
 -- a bucket: empty, with an entry of its own, or with the name of an entry that another bucket owns
 pub data Content (T : Type 0) : Type 0 where
@@ -71,18 +62,10 @@ module _ {T : Type 0} where
   entry_from value bits = record { value = value; bits = bits }
 
   -- a mark has the bits of the entry that the bucket shows
-  abbrev pub ReadsAlone : Content T → Mark → Type 0
-  ReadsAlone c mark.Vacant = c ≡ vacant
-  ReadsAlone c (mark.Own bits) = (e : Entry T) × (c ≡ own e) × (e.bits ≡ bits)
-  ReadsAlone c (mark.Named bits) = (e : Entry T) × (c ≡ named e) × (e.bits ≡ bits)
-
-  -- the same of what is read, which where the bucket shows no entry may tell what the word was set to: a note that knew `old` then
-  -- knows that
-  abbrev pub Reads : Content T → Option (Entry T) → Option (Entry T) → Reading → Type 0
-  Reads c old new reading.Vacant = ReadsAlone c mark.Vacant × (new ≡ old)
-  Reads c old new (reading.Own bits) = ReadsAlone c (mark.Own bits) × (new ≡ old)
-  Reads c old new (reading.Named bits) = ReadsAlone c (mark.Named bits) × (new ≡ old)
-  Reads c old new (reading.Told bits) = (c ≡ vacant) × (e : Entry T) × (e.bits ≡ bits) × (new ≡ Some e) × Agrees old e
+  abbrev pub Reads : Content T → Mark → Type 0
+  Reads c mark.Vacant = c ≡ vacant
+  Reads c (mark.Own bits) = (e : Entry T) × (c ≡ own e) × (e.bits ≡ bits)
+  Reads c (mark.Named bits) = (e : Entry T) × (c ≡ named e) × (e.bits ≡ bits)
 
   -- the value comes back, as taken only from a bucket that was set
   abbrev pub HandsBack : Content T → T → Refusal T → Type 0
@@ -117,7 +100,7 @@ module _ {A T : Type 0} where
   abbrev pub bucket_of : Mark → WordView A (Entry T) → BucketView A T
   bucket_of m w = record { from = w.from; home = w.home; id = w.id; content = content_of m w.value }
 
-  -- what is known alone of a word agrees with it: a vacant word owns what it will be set to
+  -- the mark beside a word agrees with it: a vacant word owns what it will be set to
   abbrev pub IsMarked : Mark → WordView A (Entry T) → Type 0
   IsMarked mark.Vacant w = (w.value ≡ None) × (w.owning ≡ true)
   IsMarked (mark.Own bits) w = (w.owning ≡ true) × (e : Entry T) × (w.value ≡ Some e) × (e.bits ≡ bits)

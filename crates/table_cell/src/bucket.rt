@@ -1,11 +1,10 @@
 //! A bucket that is set at most once.
 ghost use Rattle.std.specs.Prelude.{◌≡◌, IfOk, IfErr, IfSome, IfNone, IsSome, None, Some, OnOk, option_copied, option_map};
-ghost use Rattle.table_cell.specs.Contents.{vacant, own, named, bucket, shown, owned, entry_from, naming, Lies, NamesNone, KeepsOwn, as_read, Reads, ReadsAlone, HandsBack, Keeps, Misses};
+ghost use Rattle.table_cell.specs.Contents.{vacant, own, named, bucket, shown, owned, entry_from, naming, Lies, NamesNone, KeepsOwn, Reads, HandsBack, Keeps, Misses};
 
 use crate::home::{Closed, Home, Homed};
 use crate::loose_block::LooseBlock;
 use crate::low::Low;
-use crate::mark_group::MarkGroup;
 use crate::name::Name;
 use crate::note::Note;
 use crate::word::Word;
@@ -23,45 +22,17 @@ pub struct Entry<T> {
 /// An entry fits every home: it names no block.
 impl<T> Homed for Entry<T> {
     ghost fits = { λ _ _. Unit {0} };
-
-    ghost bits = { λ e. e.bits };
 }
 
-/// What a bucket was set to alone. It stands beside the word, so that a probe that skips follows nothing.
+/// What stands beside the word of a bucket, so that a probe that skips follows nothing.
 #[derive(Clone, Copy)]
 pub enum Mark {
-    /// Nothing: the word is null, or was set through `&`.
+    /// The word is null, or was set through `&`.
     Vacant,
     /// The word owns the block of an entry with these bits.
     Own(u8),
     /// The word names the block of an entry with these bits.
     Named(u8),
-}
-
-/// What is read of a bucket by who follows nothing.
-#[derive(Clone, Copy)]
-pub enum Reading {
-    /// Nothing is said: the word is null, or was set through `&` and isn't told of.
-    Vacant,
-    /// The word was set through `&`, to the block of an entry with these bits.
-    Told(u8),
-    /// The word owns the block of an entry with these bits. It was set alone.
-    Own(u8),
-    /// The word names the block of an entry with these bits. It was set alone.
-    Named(u8),
-}
-
-impl Mark {
-    /// What is read of a bucket with this mark where nothing is told.
-    fn as_read(self) -> Reading
-        ensures { result ≡ as_read self }
-    {
-        match self {
-            Mark::Vacant => Reading::Vacant,
-            Mark::Own(bits) => Reading::Own(bits),
-            Mark::Named(bits) => Reading::Named(bits),
-        }
-    }
 }
 
 /// A value that a bucket held alone did not take.
@@ -112,31 +83,21 @@ impl<T: Drop, A: Allocator + Copy> Model for Bucket<T, A> {
     ghost invariant = { λ b. IsMarked b.mark b.word };
 }
 
-/// Where the mark of a bucket is found.
-#[derive(Drop)]
-pub(crate) enum MarkRef<'a, T: Drop> {
-    /// It stands by itself, and says what was set alone and no more.
-    Silent(Mark),
-    /// It stands in this lane, in which who sets the bucket through `&` tells its bits.
-    Lane(&'a MarkGroup<Entry<T>>, usize),
-}
-
 /// A bucket looked at through `&`: its mark and its word, whatever lies around them.
 #[derive(Drop)]
 pub struct BucketRef<'a, T: Drop, A: Allocator + Copy> {
-    pub(crate) mark: MarkRef<'a, T>,
+    pub(crate) mark: Mark,
     pub(crate) word: &'a Word<Entry<T>, A>,
 }
 
 impl<'a, T: Drop, A: Allocator + Copy> Model for BucketRef<'a, T, A> {
-    ghost use Rattle.table_cell.specs.Contents.{BucketView, bucket_of};
-    ghost use Rattle.table_cell.specs.Rows.{mark_in, IsBeside};
+    ghost use Rattle.table_cell.specs.Contents.{BucketView, bucket_of, IsMarked};
 
     ghost Value = { BucketView A T };
 
-    ghost view = { λ b. bucket_of (mark_in b.mark) b.word.now };
+    ghost view = { λ b. bucket_of b.mark b.word.now };
 
-    ghost invariant = { λ b. IsBeside b.mark b.word.now };
+    ghost invariant = { λ b. IsMarked b.mark b.word.now };
 }
 
 impl<T: Drop, A: Allocator + Copy> Bucket<T, A> {
@@ -156,7 +117,7 @@ impl<T: Drop, A: Allocator + Copy> Bucket<T, A> {
         ensures { result ≡ self.now }
     {
         BucketRef {
-            mark: MarkRef::Silent(self.mark),
+            mark: self.mark,
             word: &self.word,
         }
     }
@@ -199,10 +160,12 @@ impl<T: Drop, A: Allocator + Copy> Bucket<T, A> {
         requires { Lies closed.now.id alloc self }
         ensures { result ≡ option_map (λ e. e.value) (owned self.content) }
     {
-        let Mark::Own(_) = self.mark else {
-            return None;
-        };
-        Some(Box::into_inner(self.word.into_block(closed).into_box(alloc)).value)
+        match self.mark {
+            Mark::Own(_) => Some(
+                Box::into_inner(self.word.into_block(closed).into_box(alloc)).value,
+            ),
+            _ => None,
+        }
     }
 
     /// Ends the bucket, and hands out the value that it owns, alone or since it was set through `&`: then the one that the
@@ -220,7 +183,7 @@ impl<T: Drop, A: Allocator + Copy> Bucket<T, A> {
                 Box::into_inner(self.word.into_block(closed).into_box(alloc)).value,
             ),
             Mark::Named(_) => None,
-            _ => Some(
+            Mark::Vacant => Some(
                 Box::into_inner(self.word.into_block_if_set(closed, note)?.into_box(alloc)).value,
             ),
         }
@@ -257,7 +220,7 @@ impl<T: Drop, A: Allocator + Copy> Bucket<T, A> {
                 word: Word::own(home, self.word.into_block(closed)),
             },
             Mark::Named(_) => Bucket::new(&alloc, home),
-            _ => match self.word.into_block_if_set(closed, note) {
+            Mark::Vacant => match self.word.into_block_if_set(closed, note) {
                 Some(block) => Bucket::owning(home, block),
                 None => Bucket::new(&alloc, home),
             },
@@ -266,43 +229,11 @@ impl<T: Drop, A: Allocator + Copy> Bucket<T, A> {
 }
 
 impl<'a, T: Drop, A: Allocator + Copy> BucketRef<'a, T, A> {
-    /// What is read of the bucket by now. Nothing is followed. The note then knows the entry that the reading tells of.
-    pub fn mark(&self, note: &mut Note<Entry<T>>) -> Reading
-        requires of { note.old.of ≡ self.now.id }
-        ensures of { note.new.of ≡ note.old.of }
-        ensures reads { Reads self.now.content note.old.known note.new.known result }
+    /// The eight bits of the entry that the bucket holds alone. Nothing is followed.
+    pub fn mark(&self) -> Mark
+        ensures { Reads self.now.content result }
     {
-        match self.mark {
-            MarkRef::Silent(mark) => mark.as_read(),
-            MarkRef::Lane(group, lane) => group.read(lane, note),
-        }
-    }
-
-    /// The mark of what the bucket holds alone: it is vacant where that is nothing, whatever the word was set to through
-    /// `&`. Nothing is followed.
-    pub fn mark_alone(&self) -> Mark
-        ensures { ReadsAlone self.now.content result }
-    {
-        match self.mark {
-            MarkRef::Silent(mark) => mark,
-            MarkRef::Lane(..) => match self.mark(&mut self.note()) {
-                Reading::Own(bits) => Mark::Own(bits),
-                Reading::Named(bits) => Mark::Named(bits),
-                _ => Mark::Vacant,
-            },
-        }
-    }
-
-    /// A bucket that names the entry of this one, with the mark of that entry.
-    fn named(&self, bits: u8, alloc: A) -> Bucket<T, A>
-        requires from { self.now.from ≡ alloc }
-        requires shown { (e : _) × (shown self.now.content ≡ Some e) × (e.bits ≡ bits) }
-        ensures { Some result ≡ option_map (bucket alloc self.now.home) (naming self.now.content) }
-    {
-        Bucket {
-            mark: Mark::Named(bits),
-            word: Word::of_name(self.word.name(), &alloc),
-        }
+        self.mark
     }
 
     /// A bucket that names the entry of this one. Nothing is followed.
@@ -310,14 +241,18 @@ impl<'a, T: Drop, A: Allocator + Copy> BucketRef<'a, T, A> {
         requires { self.now.from ≡ alloc }
         ensures { result ≡ option_map (bucket alloc self.now.home) (naming self.now.content) }
     {
-        match self.mark_alone() {
-            Mark::Own(bits) | Mark::Named(bits) => Some(self.named(bits, alloc)),
-            _ => None,
-        }
+        let mark = match self.mark {
+            Mark::Vacant => return None,
+            Mark::Own(bits) => Mark::Named(bits),
+            Mark::Named(bits) => Mark::Named(bits),
+        };
+        Some(Bucket {
+            mark,
+            word: Word::of_name(self.word.name(), &alloc),
+        })
     }
 
-    /// A bucket that names the entry of this one, also where that was set through `&`: then its block is read for its bits,
-    /// unless they were told.
+    /// A bucket that names the entry of this one, also where that was set through `&`: then its block is read for its bits.
     pub fn naming_set(
         &self,
         home: &Home,
@@ -335,15 +270,11 @@ impl<'a, T: Drop, A: Allocator + Copy> BucketRef<'a, T, A> {
             ((result ≡ option_map (λ e. bucket alloc home.now.id (named e)) note.new.known)
             × Keeps note.old.known note.new.known) }
     {
-        let mark = self.mark(note);
-        if let Reading::Own(bits) | Reading::Named(bits) = mark {
-            return Some(self.named(bits, alloc));
-        }
-        let word = Word::of_name(self.word.name_if_set(note)?, &alloc);
-        let bits = match mark {
-            Reading::Told(bits) => bits,
-            _ => word.name().get(home).bits,
+        let Mark::Vacant = self.mark else {
+            return self.naming(alloc);
         };
+        let word = Word::of_name(self.word.name_if_set(note)?, &alloc);
+        let bits = word.name().get(home).bits;
         Some(Bucket {
             mark: Mark::Named(bits),
             word,
@@ -364,9 +295,9 @@ impl<'a, T: Drop, A: Allocator + Copy> BucketRef<'a, T, A> {
         requires { self.now.home ≡ home.now.id }
         ensures { option_copied result ≡ shown self.now.content }
     {
-        match self.mark_alone() {
-            Mark::Named(_) | Mark::Own(_) => Some(self.word.name().get(home)),
-            _ => None,
+        match self.mark {
+            Mark::Vacant => None,
+            _ => Some(self.word.name().get(home)),
         }
     }
 
@@ -375,19 +306,6 @@ impl<'a, T: Drop, A: Allocator + Copy> BucketRef<'a, T, A> {
         ensures { (result.of ≡ self.now.id) × (result.known ≡ None) }
     {
         self.word.note()
-    }
-
-    /// The entry that a bucket was set to through `&`, if it was: then the note knows it. What a note knows is shown again.
-    /// The mark isn't read.
-    pub fn get_set(&self, home: &'a Home, note: &mut Note<Entry<T>>) -> Option<&'a Entry<T>>
-        requires home { self.now.home ≡ home.now.id }
-        requires of { note.old.of ≡ self.now.id }
-        requires vacant { self.now.content ≡ vacant }
-        ensures of { note.new.of ≡ note.old.of }
-        ensures shared { (option_copied result ≡ note.new.known)
-            × Keeps note.old.known note.new.known }
-    {
-        Some(self.word.name_if_set(note)?.get(home))
     }
 
     /// The entry that the bucket holds, or was set to through `&`: then the note knows it. What a note knows is shown again.
@@ -400,17 +318,16 @@ impl<'a, T: Drop, A: Allocator + Copy> BucketRef<'a, T, A> {
         ensures shared { IfNone (shown self.now.content)
             ((option_copied result ≡ note.new.known) × Keeps note.old.known note.new.known) }
     {
-        match self.mark(note) {
-            Reading::Own(_) | Reading::Named(_) => Some(self.word.name().get(home)),
-            _ => self.get_set(home, note),
+        match self.mark {
+            Mark::Vacant => Some(self.word.name_if_set(note)?.get(home)),
+            _ => Some(self.word.name().get(home)),
         }
     }
 }
 
 impl<'a, T: Drop, A: Low + Copy> BucketRef<'a, T, A> {
-    /// Sets a vacant bucket by one exchange, and tells the entry's bits where its mark stands in a lane. The block is asked
-    /// for before the bucket is looked at. The note then knows the entry that was placed here, or the one that came first.
-    #[inline(always)]
+    /// Sets a vacant bucket by one exchange. The block is asked for before the bucket is looked at. The note then knows the
+    /// entry that was placed here, or the one that came first.
     pub fn place(
         &self,
         home: &'a Home,
@@ -432,16 +349,11 @@ impl<'a, T: Drop, A: Low + Copy> BucketRef<'a, T, A> {
             Ok(block) => block,
             Err(refused) => return Err(Missed::NoMemory(refused.value.value)),
         };
-        if matches!(self.mark_alone(), Mark::Own(_) | Mark::Named(_)) {
+        if !matches!(self.mark, Mark::Vacant) {
             return Err(Missed::Taken(Box::into_inner(block).value, self.word.name().get(home)));
         }
         match self.word.offer(home, LooseBlock::of(block), note) {
-            (entry, None) => {
-                if let MarkRef::Lane(group, lane) = self.mark {
-                    group.tell(lane, bits, note);
-                }
-                Ok(entry)
-            }
+            (entry, None) => Ok(entry),
             (first, Some(back)) => {
                 let value = Box::into_inner(back.into_box(alloc)).value;
                 Err(Missed::Taken(value, first))

@@ -1,22 +1,19 @@
 //! Buckets in a row: their marks apart from their words, 10 bytes a bucket.
-ghost use Rattle.std.specs.Prelude.{◌≡◌, ◌<◌, length, replicate, [], slice_set, IfOk, IfErr, OnOk, All};
-ghost use Rattle.table_cell.specs.Contents.{vacant, own, entry_from, bucket_of, content_of, Lies, HandsBack, IsMarked};
-ghost use Rattle.table_cell.specs.Rows.{content_at, bucket_at, WordLies, AreOfOneRow, TakesFirst};
-ghost use Rattle.table_cell.specs.declared.bucket.Mark.TheVariants.{Vacant};
+ghost use Rattle.std.specs.Prelude.{◌≡◌, ◌<◌, length, replicate, [], slice_set, IfOk, IfErr, OnOk};
+ghost use Rattle.table_cell.specs.Contents.{vacant, own, entry_from, Lies, HandsBack};
+ghost use Rattle.table_cell.specs.Rows.{content_at, bucket_at, AreOfOneRow, TakesFirst};
 
 mod rehomed;
 
 use crate::bucket::{Bucket, BucketRef, Entry, Mark, Refusal};
 use crate::home::Home;
 use crate::loose_block::LooseBlock;
-use crate::marking::{Marking, MarksRef};
 use crate::word::Word;
 use std::alloc::{AllocError, Allocator};
 use std::marker::Model;
 use std::vec;
 
-/// Buckets of one home and one allocator, in a row. What a probe skips it skips by the marks alone, which lie close
-/// together.
+/// Buckets of one home and one allocator, in a row. What a probe skips it skips by the marks alone, which lie close together.
 ///
 /// A row that is dropped frees no block: `into_buckets` hands the buckets out.
 #[derive(Drop)]
@@ -24,72 +21,18 @@ pub struct Row<T: Drop, A: Allocator + Copy> {
     alloc: A,
     /// Never set: it says of which home the buckets are.
     origin: Word<Entry<T>, A>,
-    marks: Marking<T, A>,
+    marks: Vec<Mark, A>,
     words: Vec<Word<Entry<T>, A>, A>,
 }
 
 impl<T: Drop, A: Allocator + Copy> Model for Row<T, A> {
-    ghost use Rattle.table_cell.specs.Rows.{RowView, row_of, marks_of, IsLaned};
+    ghost use Rattle.table_cell.specs.Rows.{RowView, row_of, IsRow};
 
     ghost Value = { RowView A T };
 
-    ghost view = { λ r. row_of r.alloc r.origin.home (marks_of r.marks 0 r.words.items) r.words.items };
+    ghost view = { λ r. row_of r.alloc r.origin.home r.marks.items r.words.items };
 
-    ghost invariant = { λ r. IsLaned r.alloc r.origin.home r.marks 0 r.words.items };
-}
-
-/// A row looked at through `&`. What it says of all buckets is asked once, so that a loop over buckets asks for theirs alone.
-#[derive(Drop)]
-pub struct RowRef<'a, T: Drop, A: Allocator + Copy> {
-    alloc: A,
-    origin: &'a Word<Entry<T>, A>,
-    marks: MarksRef<'a, T, A>,
-    words: &'a Vec<Word<Entry<T>, A>, A>,
-}
-
-impl<'a, T: Drop, A: Allocator + Copy> Model for RowRef<'a, T, A> {
-    ghost use Rattle.table_cell.specs.Rows.{RowView, row_of, marks_of, marks_in, IsLaned};
-
-    ghost Value = { RowView A T };
-
-    ghost view = { λ r. row_of r.alloc r.origin.now.home (marks_of (marks_in r.marks) 0 r.words.now.items) r.words.now.items };
-
-    ghost invariant = { λ r. IsLaned r.alloc r.origin.now.home (marks_in r.marks) 0 r.words.now.items };
-}
-
-impl<'a, T: Drop, A: Allocator + Copy> RowRef<'a, T, A> {
-    /// Whether who sets a bucket through `&` tells its bits in its mark.
-    pub fn tells(&self) -> bool {
-        match self.marks {
-            MarksRef::Silent(_) => false,
-            MarksRef::Telling(_) => true,
-        }
-    }
-
-    /// The bucket at this index, to be looked at.
-    pub fn at(&self, index: usize) -> BucketRef<'a, T, A>
-        requires { index < length self.now.contents }
-        ensures { result ≡ bucket_at self.now index }
-    {
-        self.marks.beside(index, &self.words[index])
-    }
-}
-
-/// So many words that are null. It asks for memory once, if there is a word.
-fn vacant_words<T: Drop, A: Allocator + Copy>(
-    alloc: A,
-    home: &Home,
-    count: usize,
-) -> Result<Vec<Word<Entry<T>, A>, A>, AllocError>
-    ensures long { IfOk result (λ ws. length ws.items ≡ count) }
-    ensures lie { IfOk result (λ ws. All (WordLies home.now.id alloc) ws.items) }
-    ensures null { IfOk result (λ ws. All (IsMarked Vacant) ws.items) }
-{
-    let mut words = Vec::with_capacity(alloc, count)?;
-    for _made in 0..count {
-        words.push_reserved(Word::new(&alloc, home));
-    }
-    Ok(words)
+    ghost invariant = { λ r. IsRow r.alloc r.origin.home r.marks.items r.words.items };
 }
 
 impl<T: Drop, A: Allocator + Copy> Row<T, A> {
@@ -101,35 +44,22 @@ impl<T: Drop, A: Allocator + Copy> Row<T, A> {
         Row {
             alloc,
             origin: Word::new(&alloc, home),
-            marks: Marking::none(alloc),
+            marks: Vec::new(alloc),
             words: Vec::new(alloc),
         }
     }
 
-    /// So many vacant buckets, for one owner. It asks for memory twice, once for the words and once for the marks; no
-    /// bucket, no memory.
+    /// So many vacant buckets. It asks for memory twice, once for the marks and once for the words; no bucket, no memory.
     pub fn vacant(alloc: A, home: &Home, capacity: usize) -> Result<Self, AllocError>
         ensures of { IfOk result (λ r. (r.from ≡ alloc) × (r.home ≡ home.now.id)) }
         ensures vacant { IfOk result (λ r. r.contents ≡ replicate capacity vacant) }
     {
-        let words = vacant_words(alloc, home, capacity)?;
-        let marks = Marking::silent(alloc, &words)?;
-        Ok(Row {
-            alloc,
-            origin: Word::new(&alloc, home),
-            marks,
-            words,
-        })
-    }
-
-    /// The same of buckets that threads will set: who sets one through `&` tells its bits in its mark, so that a probe which
-    /// skips it follows nothing.
-    pub fn telling(alloc: A, home: &Home, capacity: usize) -> Result<Self, AllocError>
-        ensures of { IfOk result (λ r. (r.from ≡ alloc) × (r.home ≡ home.now.id)) }
-        ensures vacant { IfOk result (λ r. r.contents ≡ replicate capacity vacant) }
-    {
-        let words = vacant_words(alloc, home, capacity)?;
-        let marks = Marking::telling(alloc, &words)?;
+        let mut marks = Vec::with_capacity(alloc, capacity)?;
+        let mut words = Vec::with_capacity(alloc, capacity)?;
+        for _made in 0..capacity {
+            marks.push_reserved(Mark::Vacant);
+            words.push_reserved(Word::new(&alloc, home));
+        }
         Ok(Row {
             alloc,
             origin: Word::new(&alloc, home),
@@ -149,28 +79,18 @@ impl<T: Drop, A: Allocator + Copy> Row<T, A> {
     pub fn len(&self) -> usize
         ensures { result ≡ length self.now.contents }
     {
-        self.words.len()
+        self.marks.len()
     }
 
-    /// The row, to be looked at.
-    pub fn as_ref(&self) -> RowRef<'_, T, A>
-        ensures { result ≡ self.now }
-    {
-        RowRef {
-            alloc: self.alloc,
-            origin: &self.origin,
-            marks: self.marks.as_ref(),
-            words: &self.words,
-        }
-    }
-
-    /// The bucket at this index, to be looked at. Who looks at several takes them of `as_ref`, and spares asking the row for
-    /// the kind of its marks at each.
+    /// The bucket at this index, to be looked at.
     pub fn at(&self, index: usize) -> BucketRef<'_, T, A>
         requires { index < length self.now.contents }
         ensures { result ≡ bucket_at self.now index }
     {
-        self.as_ref().at(index)
+        BucketRef {
+            mark: self.marks[index],
+            word: &self.words[index],
+        }
     }
 
     /// Puts a bucket into the place of a vacant one, which no `place` has set.
@@ -183,26 +103,12 @@ impl<T: Drop, A: Allocator + Copy> Row<T, A> {
         ensures home { AreOfOneRow self.new self.old }
     {
         let Bucket { mark, word } = new;
-        self.set_bucket(index, mark, word);
-    }
-
-    /// The same of a word with its mark.
-    fn set_bucket(&mut self, index: usize, mark: Mark, word: Word<Entry<T>, A>)
-        requires within { index < length self.old.contents }
-        requires marked { IsMarked mark word }
-        requires lies { Lies self.old.home self.old.from (bucket_of mark word) }
-        ensures put { self.new.contents ≡ slice_set self.old.contents index
-            (content_of mark word.value) }
-        ensures ids { self.new.ids ≡ slice_set self.old.ids index word.id }
-        ensures home { AreOfOneRow self.new self.old }
-    {
-        self.marks.set(index, mark, &word);
+        self.marks[index] = mark;
         self.words[index] = word;
     }
 
     /// Sets the bucket at this index to the value, in a block of its own. The block is asked for before the bucket is looked
     /// at. See `Bucket::place_alone`.
-    #[inline(always)]
     pub fn place_alone(
         &mut self,
         home: &Home,
@@ -224,10 +130,13 @@ impl<T: Drop, A: Allocator + Copy> Row<T, A> {
             Ok(block) => block,
             Err(refused) => return Err(Refusal::NoMemory(refused.value.value)),
         };
-        match self.at(index).mark_alone() {
+        match self.marks[index] {
             Mark::Vacant => {
-                let word = Word::own(home, LooseBlock::of(block));
-                self.set_bucket(index, Mark::Own(bits), word);
+                let bucket = Bucket {
+                    mark: Mark::Own(bits),
+                    word: Word::own(home, LooseBlock::of(block)),
+                };
+                self.put(index, bucket);
                 Ok(())
             }
             _ => Err(Refusal::Taken(Box::into_inner(block).value)),
@@ -247,9 +156,8 @@ impl<T: Drop, A: Allocator + Copy> Row<T, A> {
         Buckets {
             alloc,
             origin,
-            marks,
+            marks: marks.into_iter(),
             words: words.into_iter(),
-            next: 0,
         }
     }
 }
@@ -259,21 +167,19 @@ impl<T: Drop, A: Allocator + Copy> Row<T, A> {
 pub struct Buckets<T: Drop, A: Allocator + Copy> {
     alloc: A,
     origin: Word<Entry<T>, A>,
-    marks: Marking<T, A>,
+    marks: vec::IntoIter<Mark, A>,
     words: vec::IntoIter<Word<Entry<T>, A>, A>,
-    /// The index of the next bucket in the row.
-    next: usize,
 }
 
 impl<T: Drop, A: Allocator + Copy> Model for Buckets<T, A> {
     ghost use Rattle.std.specs.Vec.Iter.{into_iter_items};
-    ghost use Rattle.table_cell.specs.Rows.{RowView, row_of, marks_of, IsLeft};
+    ghost use Rattle.table_cell.specs.Rows.{RowView, row_of, IsRow};
 
     ghost Value = { RowView A T };
 
-    ghost view = { λ r. row_of r.alloc r.origin.home (marks_of r.marks r.next (into_iter_items r.words)) (into_iter_items r.words) };
+    ghost view = { λ r. row_of r.alloc r.origin.home (into_iter_items r.marks) (into_iter_items r.words) };
 
-    ghost invariant = { λ r. IsLeft r.alloc r.origin.home r.marks r.next (into_iter_items r.words) };
+    ghost invariant = { λ r. IsRow r.alloc r.origin.home (into_iter_items r.marks) (into_iter_items r.words) };
 }
 
 impl<T: Drop, A: Allocator + Copy> Buckets<T, A> {
@@ -288,9 +194,8 @@ impl<T: Drop, A: Allocator + Copy> Buckets<T, A> {
     pub fn next_bucket(&mut self) -> Option<Bucket<T, A>>
         ensures { TakesFirst self.old result self.new }
     {
+        let mark = self.marks.next()?;
         let word = self.words.next()?;
-        let mark = self.marks.alone(self.next, &word);
-        self.next += 1;
         Some(Bucket { mark, word })
     }
 }

@@ -30,10 +30,6 @@ module _ {A T : Type 0} where
         size = size;
       }
 
-  -- its row of buckets
-  abbrev pub row_in : GenerationView A T → RowView A T
-  row_in g = record { from = g.from; home = g.home; ids = g.ids; contents = g.contents }
-
   -- a generation of n empty buckets
   pub record IsBlank (from : A) (home n : ℕ) (g : GenerationView A T) : Type 0 where
     pub allocator : g.from ≡ from

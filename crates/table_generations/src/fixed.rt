@@ -1,5 +1,5 @@
 //! One generation: a fixed table of buckets.
-ghost use Rattle.std.specs.Prelude.{◌≡◌, ◌+◌, ◌-◌, ◌*◌, ◌<◌, ◌≤◌, ◌↔◌, length, option_copied, option_map, IfOk, IsSome, Some, IsTrue};
+ghost use Rattle.std.specs.Prelude.{◌≡◌, ◌+◌, ◌-◌, ◌*◌, ◌<◌, ◌≤◌, ◌↔◌, length, option_copied, option_map, IfOk, Some, IsTrue};
 ghost use Rattle.std.specs.Fn.{FnReturnsAt, FnReturnsAtPair};
 ghost use Rattle.std.specs.Int.{IsPowerOfTwo};
 ghost use Rattle.table_cell.specs.Contents.{bucket, naming, shown, Lies};
@@ -88,12 +88,12 @@ fn compare_bucket<'a, T: AtomicValue, A: Allocator + Copy, F: Fn(&T::Target) -> 
     ensures { ComparisonGives T.target (FnReturnsAt F.Fn test.now) sought (shown bucket.now.content)
         result }
 {
-    match bucket.mark_alone() {
+    match bucket.mark() {
+        Mark::Vacant => Comparison::Vacant,
         Mark::Own(bits) | Mark::Named(bits) if bits == sought => {
             compare_entry(bucket.entry(home), test)
         }
-        Mark::Own(_) | Mark::Named(_) => Comparison::Different,
-        Mark::Vacant => Comparison::Vacant,
+        _ => Comparison::Different,
     }
 }
 
@@ -110,7 +110,7 @@ impl<T: AtomicValue, A: Allocator + Copy> Generation<T, A> {
         }
     }
 
-    /// Empty buckets, for one owner. It asks for memory twice: for their words, and for their marks.
+    /// Empty buckets. It asks for memory twice: for their marks, and for their words.
     pub fn with_capacity(alloc: A, home: &Home, capacity: usize) -> Result<Self, AllocError>
         requires { IsPowerOfTwo capacity }
         ensures { IfOk result (IsBlank alloc home.now.id capacity) }
@@ -152,16 +152,6 @@ impl<T: AtomicValue, A: Allocator + Copy> Generation<T, A> {
         self.row.at(index).get_alone(home)
     }
 
-    /// The entry that the bucket at this index shows, which is set alone. Its mark isn't read.
-    pub fn entry_set<'a>(&'a self, home: &'a Home, index: usize) -> &'a Entry<T>
-        requires home { self.now.home ≡ home.now.id }
-        requires within { index < length self.now.contents }
-        requires set { IsSome (shown (content_at self.now.contents index)) }
-        ensures { shown (content_at self.now.contents index) ≡ Some result.now }
-    {
-        self.row.at(index).entry(home)
-    }
-
     /// A bucket that names the entry that the bucket at this index shows. No block is read.
     pub fn naming(&self, index: usize) -> Option<Bucket<T, A>>
         requires { index < length self.now.contents }
@@ -171,7 +161,7 @@ impl<T: AtomicValue, A: Allocator + Copy> Generation<T, A> {
         self.row.at(index).naming(self.row.alloc())
     }
 
-    /// Empty buckets of the same home and the same allocator, for one owner.
+    /// Empty buckets of the same home and the same allocator.
     pub fn sibling(&self, home: &Home, capacity: usize) -> Result<Self, AllocError>
         requires home { self.now.home ≡ home.now.id }
         requires power { IsPowerOfTwo capacity }
@@ -195,10 +185,9 @@ impl<T: AtomicValue, A: Allocator + Copy> Generation<T, A> {
     {
         let sought = bits_of_hash(hash);
         let capacity = self.row.len();
-        let row = self.row.as_ref();
         let mut index = first_bucket(hash, capacity);
         for _seen in 0..capacity {
-            match compare_bucket(home, &row.at(index), sought, test) {
+            match compare_bucket(home, &self.row.at(index), sought, test) {
                 Comparison::Vacant => return ProbeEnd::Vacant(index),
                 Comparison::Accepted(entry) => return ProbeEnd::Accepted(index, entry),
                 Comparison::Different => (),
@@ -227,7 +216,6 @@ impl<T: AtomicValue, A: Allocator + Copy> Generation<T, A> {
 
     /// Places the value at the first empty bucket, unless an entry before it is accepted as equal. Says at which index the
     /// entry of the answer is shown.
-    #[inline(always)]
     pub fn insert<E: Fn(&T::Target, &T::Target) -> bool>(
         &mut self,
         home: &Home,

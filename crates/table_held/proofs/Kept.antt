@@ -1,6 +1,6 @@
 -- What is kept of the generations of every table, where a bucket is set, a generation is opened, or one more is made.
 use Rattle.std.proofs.Common.{◌≡◌, ℕ, ◌+◌, ◌-◌, ◌*◌, ◌^◌, ◌<◌, ◌≤◌, inl, inr, max, List, [], ◌∷◌, ◌++◌, Some, None, length, map, refl, sym, ◌∙◌, arith, replicate, append-nil, append_assoc}
-use Rattle.std.specs.Prelude.{slice_set, Result, Ok, Err, OnErr}
+use Rattle.std.specs.Prelude.{slice_set}
 use Rattle.std.specs.List.{sum_by, flat_map}
 use Rattle.std.specs.List.Sorted.{IsPermutation}
 use Rattle.std.proofs.lemmas.Grind.{flat_map-append}
@@ -149,7 +149,7 @@ module _ {T : Type 0} (first : ℕ) (gs : List (List (Content T))) (cur : List (
   no_generation : (gs ≡ []) × (cur ≡ [])
   no_generation = none_of first gs cur (let some = kept.first_is.1 in omega arith) none kept.built
 
-  pub table_empty : table_of first gs cur size ≡ empty_table first
+  table_empty : table_of first gs cur size ≡ empty_table first
   table_empty =
       let count : size ≡ 0 = kept.counted ∙ rw no_generation.1 refl in
       rw (no_generation.0, no_generation.1, count) refl
@@ -182,8 +182,3 @@ module _ {T : Type 0} (first : ℕ) (gs : List (List (Content T))) (cur : List (
 pub shows_nothing : {T : Type 0} (cur : List (Content T)) → length cur ≡ 0 → shown_all cur ≡ []
 shows_nothing [] e = refl
 shows_nothing (p ∷ cur) e = absurd (omega arith)
-
--- what holds anyhow holds where a call failed
-pub on_err : {A E P : Type 0} (answer : Result A E) → P → OnErr answer P
-on_err (Ok value) holds = tt
-on_err (Err refused) holds = holds

@@ -207,7 +207,6 @@ impl<T: AtomicValue, A: Allocator + Copy> HeldRawTable<T, A> {
 
     /// Places the value in the current generation, unless an entry is accepted as equal. Says where the answer's entry
     /// is shown.
-    #[inline(always)]
     fn try_place<E: Fn(&T::Target, &T::Target) -> bool>(
         &mut self,
         hash: u64,
@@ -304,10 +303,10 @@ impl<T: AtomicValue, A: Allocator + Copy> HeldRawTable<T, A> {
         ensures { ShowsAt (entry_at self.now place) (λ v. result.now ≡ T.target v) }
     {
         let generation = generation_at(self.earlier.as_slice(), &self.current, place.generation());
-        generation
-            .entry_set(&self.home, place.index())
-            .value
-            .deref()
+        match generation.entry_shown(&self.home, place.index()) {
+            Some(entry) => entry.value.deref(),
+            None => unreachable!(),
+        }
     }
 
     /// Inserts the value, unless an entry is accepted as equal, and shows the entry's target. It is `place_alone`, and

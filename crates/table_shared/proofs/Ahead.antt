@@ -1,10 +1,10 @@
 -- Copies in a row, and entries that are read ahead of them.
-use Rattle.std.proofs.Common.{◌≡◌, ◌∙◌, ◌≢◌, ℕ, zero, suc, ◌+◌, ◌<◌, inl, inr, List, Option, Some, None, length, refl, sym, ap, arith, true, get_or-set_other}
-use Rattle.std.specs.Prelude.{option_map, slice_set}
+use Rattle.std.proofs.Common.{◌≡◌, ◌∙◌, ◌≢◌, ℕ, zero, suc, ◌+◌, ◌<◌, ◌≤◌, inl, inr, List, Option, Some, None, length, refl, sym, ap, arith, true, get_or-set_same, get_or-set_other}
+use Rattle.std.specs.Prelude.{IfSome, option_map, slice_set}
 use Rattle.std.proofs.lemmas.Bool.{cases_lt}
 use Rattle.table_cell.specs.Contents.{BucketView, bucket}
 use Rattle.table_cell.specs.declared.bucket.Entry.{Entry}
-use Rattle.table_generations.specs.Buckets.{Content, vacant, own, named, shown}
+use Rattle.table_generations.specs.Buckets.{Content, vacant, own, named, shown, content_at}
 use Rattle.table_generations.specs.Generations.{GenerationView}
 use Rattle.table_generations.specs.Growth.{PutsName}
 use Rattle.table_generations.specs.Looks.{IsSeen}
@@ -14,9 +14,9 @@ use Rattle.table_core.specs.declared.call.CallState.{CallState}
 use Rattle.table_core.specs.declared.call.Phase.{Phase}
 use Rattle.table_core.specs.declared.call.Phase.TheVariants.{Building}
 use Rattle.table_shared.specs.Growths.{GrowthView, AreNamed, CopiesNext}
-use Rattle.table_shared.specs.Ahead.{IsRead, ReadsNext, AreRead, PassesOver, Copies, CopiesOn}
+use Rattle.table_shared.specs.Ahead.{IsRead, AreRead, PassesOver, Copies, CopiesOn}
 use Rattle.table_shared.specs.declared.growth.ahead.Ahead.{Ahead}
-use Rattle.table_shared.proofs.Copied.{same, named_on, named_past}
+use Rattle.table_shared.proofs.Copied.{same, named_on}
 use Rattle.table_shared.proofs.Between.{taken}
 use Rattle.table_shared.proofs.Looked.{some_same}
 
@@ -40,30 +40,6 @@ module _ {A T U : Type 0} (target : T → U) (rehash : U → ℕ → Type 0) (g 
     one_taken n high left window are k d from to within =
         let other : k ≢ n = λ eq. (let bad : ⊥ = omega arith in bad) in
         rw (get_or-set_other window n k left d other) (are k d (omega arith) to within)
-
-  module _ (low high : ℕ) (read : Ahead T A) (home : ℕ) (built after : List (Content T)) where
-    -- the next entry is copied: it was read, and the buckets before its own are passed
-    pub next_copied : ReadsNext target rehash g low (Some read) high → PutsName target built after read.hash read.name.content
-        → CopiesNext target rehash (record { home = home; before = g.contents; passed = low; built = built }) true (record { home = home; before = g.contents; passed = high; built = after })
-    next_copied (i, passed, on, within, skipped, (e, is, alone, asked)) put = (
-      i,
-      e,
-      read.hash,
-      record {
-        on = on;
-        within = within;
-        passed = passed;
-        skipped = skipped;
-        alone = alone;
-        asked = asked;
-        put = rw (ap (λ b. b.content) is) at put;
-      },
-    )
-
-    pub next_named : ReadsNext target rehash g low (Some read) high → PutsName target built after read.hash read.name.content
-        → AreNamed g.contents low built → AreNamed g.contents high after
-    next_named (i, passed, on, within, skipped, (e, is, alone, asked)) put so =
-        rw passed (named_on target g.contents i built after read.hash e (rw (ap (λ b. b.content) is) at put) alone (named_past g.contents low i built skipped so))
 
   module _ (i : ℕ) where
     -- what names an entry that was read is of the generation's home and allocator

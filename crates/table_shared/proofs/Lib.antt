@@ -2,7 +2,6 @@ pub mod Starts
 mod Alone
 mod Between
 mod Stepping
-mod Puts
 mod Takes
 mod LooksOn
 mod Copied

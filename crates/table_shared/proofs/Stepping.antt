@@ -12,7 +12,7 @@ use Rattle.table_turns.specs.Steps.{Went}
 use Rattle.table_shared.specs.declared.insert.between.Carried.{Carried}
 use Rattle.table_shared.specs.declared.insert.between.Carried.TheVariants.{Gone, Value, Own, Met}
 use Rattle.table_shared.specs.declared.insert.between.Inserting.{Inserting}
-use Rattle.table_shared.specs.Carried.{Heard, IsAnswer, met_in, own_in, reach_of, value_in}
+use Rattle.table_shared.specs.Carried.{Asks, Heard, IsAnswer, met_in, own_in, reach_of, value_in}
 use Rattle.table_shared.specs.Inserts.{Answers, told_by}
 use Rattle.table_shared.specs.Stepped.{accepted_in}
 use Rattle.table_shared.specs.Steps.{Ends, Steps}
@@ -61,6 +61,16 @@ module _ {T A E H X : Type 0} {g : Ghosts T X} (says : SharedFn E (Bor X × (Bor
     same = same;
     met = λ some. absurd (some unmet);
     heard = λ _. heard;
+  }
+
+  -- a step of a call that has again what it carried
+  pub steps_again : (old mid new : Inserting T A E H X g) (a : Answer) → mid.state ≡ old.state → mid.asking ≡ old.asking → mid.carried ≡ old.carried → Steps says mid a new → Steps says old a new
+  steps_again old mid new a state asking carried steps = record {
+    went = rw (← state) steps.went;
+    there = steps.there;
+    same = steps.same ∙ asking;
+    met = rw (← carried) steps.met;
+    heard = rw (← carried, ← asking) steps.heard;
   }
 
   -- a call that is over gives what it carries

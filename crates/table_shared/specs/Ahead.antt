@@ -2,7 +2,7 @@
 use Rattle.std.specs.Prelude.{◌≡◌, ℕ, zero, suc, ◌+◌, ◌<◌, ◌≤◌, true, List, Option, Some, None, IfSome, length, slice_index_or}
 use Rattle.table_cell.specs.Contents.{bucket}
 use Rattle.table_cell.specs.declared.bucket.Entry.{Entry}
-use Rattle.table_generations.specs.Buckets.{named, shown, content_at}
+use Rattle.table_generations.specs.Buckets.{Content, named, shown, content_at}
 use Rattle.table_generations.specs.Generations.{GenerationView}
 use Rattle.table_shared.specs.Growths.{GrowthView, NoneAlone, CopiesNext}
 use Rattle.table_shared.specs.declared.growth.ahead.Ahead.{Ahead}
@@ -14,13 +14,6 @@ module _ {A T U : Type 0} (target : T → U) (rehash : U → ℕ → Type 0) (g 
   IsRead i None = shown (content_at g.contents i) ≡ None
   IsRead i (Some read) = (e : Entry T) × (read.name ≡ bucket g.from g.home (named e))
       × IfSome (shown (content_at g.contents i)) (λ x. x ≡ e) × rehash (target e.value) read.hash
-
-  -- the buckets from low on and before high are passed, with the first that has an entry, which was
-  -- read; or all that are left are passed, and none of them was set alone
-  abbrev pub ReadsNext : ℕ → Option (Ahead T A) → ℕ → Type 0
-  ReadsNext low None high = (length g.contents ≤ high) × (low ≤ high) × NoneAlone g.contents low high
-  ReadsNext low (Some read) high = (i : ℕ) × (high ≡ i + 1) × (low ≤ i) × (i < length g.contents)
-      × NoneAlone g.contents low i × IsRead i (Some read)
 
   -- place k of a window, for each k from low on and below high, is what was read of bucket first + k
   abbrev pub AreRead : ℕ → ℕ → ℕ → List (Option (Ahead T A)) → Type 0

@@ -4,20 +4,14 @@ use Rattle.std.specs.declared.result.Result.{Result}
 use Rattle.std.specs.declared.result.Result.TheVariants.{Ok, Err}
 use Rattle.std.specs.Borrow.{Bor}
 use Rattle.std.specs.Fn.{Shared as SharedFn, FnReturnsAtPair}
-use Rattle.table_core.specs.declared.call.Answer.{Answer}
-use Rattle.table_core.specs.declared.call.Answer.TheVariants.{Holds, MemoryRefused, Won as IsWon}
-use Rattle.table_core.specs.declared.call.CallState.{CallState}
 use Rattle.table_core.specs.declared.call.Phase.{Phase}
 use Rattle.table_core.specs.declared.call.Phase.TheVariants.{WantShared, WantOwned}
 use Rattle.table_core.specs.Phases.{Lock, Free, Shares, Owns}
 use Rattle.table_turns.specs.Phases.{Reached}
-use Rattle.table_turns.specs.Steps.{passed}
 use Rattle.table_turns.specs.Phases.{Nothing as ReachedNothing, Own as ReachedOwn, Other as ReachedOther}
 use Rattle.table_shared.specs.declared.insert.between.Carried.{Carried}
 use Rattle.table_shared.specs.declared.insert.between.Carried.TheVariants.{Gone, Value, Own, Met}
 use Rattle.table_shared.specs.declared.insert.between.Asking.{Asking}
-use Rattle.table_shared.specs.declared.probe.Put.{Put}
-use Rattle.table_shared.specs.declared.probe.Put.TheVariants as put
 use Rattle.table_shared.specs.declared.insert.between.Held.{Held}
 use Rattle.table_shared.specs.declared.insert.between.Held.TheVariants as held
 
@@ -64,14 +58,6 @@ module _ {V R : Type 0} where
   IsAnswer (Value v) r = r ≡ Err v
   IsAnswer (Own t) r = r ≡ Ok (t, None)
   IsAnswer (Met t v) r = r ≡ Ok (t, Some v)
-
--- after an exchange at an empty bucket: the state of the insert, what it carries, and the answer of
--- the step
-abbrev pub put_leaves : {V X : Type 0} → Put V X → CallState × Carried V (Bor X) × Answer
-put_leaves (put.Won t r) = (t, Own r, IsWon)
-put_leaves (put.Refused t back) = (t, Value back, MemoryRefused)
-put_leaves (put.Passed t asked back) = (t, Value back, passed asked)
-put_leaves (put.Met t r back) = (t, Met r back, Holds true)
 
 -- what was accepted is something of which the closure said yes, asked with the value's target first
 abbrev pub Heard : {V X E : Type 0} → (V → X) → SharedFn E (Bor X × (Bor X × Unit {0})) Bool → E → V

@@ -7,7 +7,6 @@ ghost use Rattle.table_shared.specs.Growths.{IsFresh, AreNamed, CopiesNext, Pass
 pub(crate) mod ahead;
 pub(crate) mod begin;
 
-use crate::growth::ahead::read_next;
 use crate::lineage::later::{Slot, show_block};
 use std::alloc::{AllocError, Allocator};
 use std::marker::Model;
@@ -81,14 +80,17 @@ impl<'a, T: AtomicValue, A: Allocator + Copy> Growth<'a, T, A> {
         let Some(from) = self.from else {
             return false;
         };
-        let mut copied = self.copied;
-        let next = read_next(self.home, from, &mut copied, hash_fn);
-        self.copied = copied;
-        let Some(read) = next else {
-            return false;
-        };
-        self.built.insert_unique(self.home, read.hash, read.name);
-        true
+        while self.copied < from.capacity() {
+            let index = self.copied;
+            self.copied += 1;
+            let mut note = from.note_at(index);
+            if let Some(name) = from.name_at(self.home, index, &mut note) {
+                let hash = hash_fn(name.as_ref().entry(self.home).value.deref());
+                self.built.insert_unique(self.home, hash, name);
+                return true;
+            }
+        }
+        false
     }
 }
 

@@ -1,8 +1,7 @@
 //! Inserts: the steps of an insert in a row, with its parts in locals as long as nothing is rare.
 ghost use Rattle.std.specs.Prelude.{◌≡◌, Some, None};
 ghost use Rattle.std.specs.Fn.{FnReturnsAtPair};
-ghost use Rattle.table_core.specs.declared.call.Phase.TheVariants.{AtEmpty, LeaveOk, Probe};
-ghost use Rattle.table_generations.specs.Generations.{row_in};
+ghost use Rattle.table_core.specs.declared.call.Phase.TheVariants.{AtEmpty, LeaveOk};
 ghost use Rattle.table_shared.specs.Between.{IsBetween, Onward};
 ghost use Rattle.table_shared.specs.Carried.{Asks};
 ghost use Rattle.table_shared.specs.Inserts.{Answers, Places, Finds, GivesBack};
@@ -11,11 +10,11 @@ pub(crate) mod between;
 mod steps;
 
 use crate::insert::between::{Asking, Carried, Held, Inserting};
-use crate::probe::{Caller, Hearing, Matched, Put, Putting, Read, Reading, Telling};
-use crate::table::{Current, LockFreeRawTable};
+use crate::probe::{Caller, Matched, Put, Putting, Read, Reading};
+use crate::table::LockFreeRawTable;
 use std::snapshot::Snapshot;
 use std::sync::{RwLockReadGuard, Wait};
-use table_cell::{Low, RowRef};
+use table_cell::Low;
 use table_core::{Answer, CallState, Phase};
 use table_generations::atomic_value::AtomicValue;
 use table_generations::fixed::Generation;
@@ -51,50 +50,7 @@ impl<T: AtomicValue, A: Low + Copy> LockFreeRawTable<T, A> {
             return self.go_on_from(rt, state, None, Carried::Value(value), held, asking);
         };
         let capacity = current.generation.capacity() as u64;
-        let state = step_loaded(state, current.number, capacity);
-        let row = current.generation.as_row();
-        // In each copy the compiler knows at every bucket where its mark is found.
-        if row.tells() {
-            self.insert_in::<Hearing, Telling, R, E, H>(
-                rt, current, &row, state, value, guard, asking,
-            )
-        } else {
-            self.insert_in::<Reading, Putting, R, E, H>(
-                rt, current, &row, state, value, guard, asking,
-            )
-        }
-    }
-
-    /// An insert into the generation that was current, whose row this is: it reads buckets until it comes to an end of its probe.
-    #[inline(always)]
-    fn insert_in<
-        'a,
-        C: Caller,
-        P: Caller,
-        R: Wait,
-        E: Fn(&T::Target, &T::Target) -> bool,
-        H: Fn(&T::Target) -> u64,
-    >(
-        &'a self,
-        rt: &R,
-        current: Current<'a, T, A>,
-        row: &RowRef<'a, T, A>,
-        state: CallState,
-        value: T,
-        guard: RwLockReadGuard<'a, ()>,
-        asking: Asking<T, E, H>,
-    ) -> Result<(&'a T::Target, Option<T>), T>
-        requires phase { state.phase ≡ Probe }
-        requires home { current.generation.now.home ≡ self.now.home }
-        requires row { row.now ≡ row_in current.generation.now }
-        requires between { IsBetween self.now.home T.target asking.given.value state
-            (Some current.generation) None (Carried.Value value) (Held.Shared guard) }
-        requires asks { Asks E.IsAlwaysCallable H.IsAlwaysCallable T.target E.Fn asking
-            (Carried.Value value) }
-        ensures { Answers T.target (FnReturnsAtPair E.Fn asking.eq (T.target asking.given.value))
-            asking.given.value result }
-    {
-        let mut state = state;
+        let mut state = step_loaded(state, current.number, capacity);
         for _ in rt.forever() {
             let generation = current.generation;
             let mut note = generation.note_at(state.index as usize);
@@ -102,13 +58,13 @@ impl<T: AtomicValue, A: Low + Copy> LockFreeRawTable<T, A> {
                 value: &value,
                 eq: &asking.eq,
             };
-            match self.read_bucket::<C, _>(row, state, &probing, &mut note) {
-                Read::Empty(next) => {
-                    return self.place::<P, R, E, H>(rt, next, generation, value, guard, asking);
-                }
+            match self.read_bucket::<Reading, _>(generation, state, &probing, &mut note) {
+                Read::Empty(next) => return self.place(rt, next, generation, value, guard, asking),
                 Read::Met(next, target) => {
                     let carried = Carried::Met(target, value);
-                    return self.settle::<C, R, E, H>(rt, next, generation, carried, guard, asking);
+                    return self.settle::<Reading, R, E, H>(
+                        rt, next, generation, carried, guard, asking,
+                    );
                 }
                 Read::Passed(next, _) => {
                     if next.phase != Phase::Probe {
@@ -126,13 +82,7 @@ impl<T: AtomicValue, A: Low + Copy> LockFreeRawTable<T, A> {
     /// An insert at an empty bucket: its value is offered, counted once if it was taken, and the lock released. Who lost the
     /// exchange goes on from what it met there.
     #[inline(always)]
-    fn place<
-        'a,
-        C: Caller,
-        R: Wait,
-        E: Fn(&T::Target, &T::Target) -> bool,
-        H: Fn(&T::Target) -> u64,
-    >(
+    fn place<'a, R: Wait, E: Fn(&T::Target, &T::Target) -> bool, H: Fn(&T::Target) -> u64>(
         &'a self,
         rt: &R,
         state: CallState,
@@ -150,13 +100,15 @@ impl<T: AtomicValue, A: Low + Copy> LockFreeRawTable<T, A> {
             asking.given.value result }
     {
         let mut note = generation.note_at(state.index as usize);
-        let (next, carried) = match self.put_value::<C, E>(
+        let (next, carried) = match self.put_value::<Putting, E>(
             generation, state, value, &asking.eq, &mut note,
         ) {
             Put::Won(next, target) => {
                 let next = self.count(&guard, next);
                 let carried = Carried::Own(target);
-                return self.settle::<C, R, E, H>(rt, next, generation, carried, guard, asking);
+                return self.settle::<Putting, R, E, H>(
+                    rt, next, generation, carried, guard, asking,
+                );
             }
             Put::Refused(next, value) => (next, Carried::Value(value)),
             Put::Passed(next, _, value) => (next, Carried::Value(value)),

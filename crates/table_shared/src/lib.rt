@@ -4,6 +4,7 @@
 //! named by a word that is set once. Who looks up or inserts takes the current one by [`LockFreeRawTable::current`].
 #![tactic(auto)]
 
+mod apart;
 mod ending;
 mod growth;
 mod insert;

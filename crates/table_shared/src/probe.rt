@@ -17,11 +17,11 @@ ghost use Rattle.table_shared.specs.Reads.{ShowsAlike, ShowsMarked, MeetsTarget,
 
 use crate::table::LockFreeRawTable;
 use std::alloc::Allocator;
-use table_cell::{Entry, Low, Missed, Note, RowRef};
+use table_cell::{Entry, Low, Missed, Note};
 use table_core::{Answer, CallState};
 use table_generations::atomic_value::AtomicValue;
 use table_generations::fixed::Generation;
-use table_generations::fixed::shared::{Look, look_at};
+use table_generations::fixed::shared::Look;
 use table_terms::probe::bits_of_hash;
 use table_turns::{passed, step};
 
@@ -83,22 +83,12 @@ pub(crate) enum Reading {}
 /// A running insert, as it puts its value.
 pub(crate) enum Putting {}
 
-/// The same where the marks of a bucket tell.
-pub(crate) enum Hearing {}
-
-/// The same where it then tells what it put.
-pub(crate) enum Telling {}
-
 /// A call that goes step by step.
 pub(crate) enum Stepping {}
 
 impl Caller for Reading {}
 
 impl Caller for Putting {}
-
-impl Caller for Hearing {}
-
-impl Caller for Telling {}
 
 impl Caller for Stepping {}
 
@@ -195,48 +185,48 @@ fn meet_first<'a, T: AtomicValue, E: Fn(&T::Target, &T::Target) -> bool>(
 }
 
 impl<T: AtomicValue, A: Allocator + Copy> LockFreeRawTable<T, A> {
-    /// What a probe for the call's hash meets at the bucket of this row where the call stands.
+    /// What a probe for the call's hash meets at the bucket where the call stands.
     #[inline(always)]
     fn look<'a>(
         &'a self,
-        row: &RowRef<'a, T, A>,
+        generation: &'a Generation<T, A>,
         state: CallState,
         note: &mut Note<Entry<T>>,
     ) -> Look<'a, T>
         requires stands { stands_at_bucket state ≡ true }
-        requires home { row.now.home ≡ self.now.home }
-        requires walked { length row.now.contents ≡ state.capacity }
-        requires of { note.old.of ≡ slice_index_or row.now.ids state.index 0 }
+        requires home { generation.now.home ≡ self.now.home }
+        requires walked { length generation.now.contents ≡ state.capacity }
+        requires of { note.old.of ≡ slice_index_or generation.now.ids state.index 0 }
         ensures of { note.new.of ≡ note.old.of }
-        ensures seen { IsSeen (content_at row.now.contents state.index) note.old.known
+        ensures seen { IsSeen (content_at generation.now.contents state.index) note.old.known
             note.new.known (λ o. Tells (bits_of state.hash) o result) }
     {
         let sought = bits_of_hash(state.hash);
-        look_at(self.home(), row, state.index as usize, sought, note)
+        generation.look_at(self.home(), state.index as usize, sought, note)
     }
 
-    /// A call reads its bucket, of the row of the generation that it walks.
+    /// A call reads its bucket.
     #[inline(always)]
     pub(crate) fn read_bucket<'a, C: Caller, P: Probing<T::Target>>(
         &'a self,
-        row: &RowRef<'a, T, A>,
+        generation: &'a Generation<T, A>,
         state: CallState,
         probing: &P,
         note: &mut Note<Entry<T>>,
     ) -> Read<&'a T::Target>
         requires phase { ReadsBucket state.phase }
         requires stands { stands_at_bucket state ≡ true }
-        requires home { row.now.home ≡ self.now.home }
-        requires walked { length row.now.contents ≡ state.capacity }
+        requires home { generation.now.home ≡ self.now.home }
+        requires walked { length generation.now.contents ≡ state.capacity }
         requires callable { P.callable probing.now }
-        requires of { note.old.of ≡ slice_index_or row.now.ids state.index 0 }
+        requires of { note.old.of ≡ slice_index_or generation.now.ids state.index 0 }
         ensures of { note.new.of ≡ note.old.of }
         ensures reads { StepsAt (P.says probing.now) state result }
-        ensures seen { IsSeen (content_at row.now.contents state.index) note.old.known
+        ensures seen { IsSeen (content_at generation.now.contents state.index) note.old.known
             note.new.known
             (λ o. ReadTells T.target (P.says probing.now) (bits_of state.hash) o result) }
     {
-        let look = self.look(row, state, note);
+        let look = self.look(generation, state, note);
         if matches!(look, Look::Vacant) {
             return Read::Empty(step(state, Answer::Empty));
         }

@@ -6,6 +6,7 @@ ghost use Rattle.table_turns.specs.Steps.{Went};
 ghost use Rattle.table_shared.specs.Between.{Loads};
 ghost use Rattle.table_shared.specs.Lineages.{AreOfHome, shown_in};
 
+use crate::apart::Apart;
 use crate::lineage::Lineage;
 use crate::shown::ShownCount;
 use crate::size::Size;
@@ -29,9 +30,12 @@ pub struct LockFreeRawTable<T: AtomicValue, A: Allocator + Copy = Global> {
     pub(crate) home: Home,
     pub(crate) lineage: Lineage<T, A>,
     pub(crate) shown: ShownCount,
+    /// What is written by each insert, the size and the lock, lies between the two.
+    before: Apart,
     pub(crate) size: Size,
     /// Held shared while a value is placed and counted, and alone while a generation is made.
     pub(crate) lock: RwLock<()>,
+    behind: Apart,
     pub(crate) alloc: A,
 }
 
@@ -104,8 +108,10 @@ impl<T: AtomicValue, A: Allocator + Copy> LockFreeRawTable<T, A> {
             home,
             lineage,
             shown: ShownCount::new(shown),
+            before: Apart::new(),
             size: Size::new(size),
             lock: RwLock::new(()),
+            behind: Apart::new(),
             alloc,
         }
     }
@@ -178,8 +184,10 @@ impl<T: AtomicValue, A: Allocator + Copy> IntoIterator for LockFreeRawTable<T, A
             home,
             lineage,
             shown: _,
+            before: _,
             size: _,
             lock: _,
+            behind: _,
             alloc: _,
         } = self;
         let closed = home.close();

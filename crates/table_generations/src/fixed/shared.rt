@@ -3,13 +3,12 @@ ghost use Rattle.std.specs.Prelude.{◌≡◌, ◌*◌, ◌<◌, length, option_
 ghost use Rattle.std.specs.Int.{IsPowerOfTwo};
 ghost use Rattle.table_cell.specs.Contents.{bucket, named, shown, vacant, entry_from, Keeps, Misses};
 ghost use Rattle.table_generations.specs.Buckets.{content_at};
-ghost use Rattle.table_generations.specs.Generations.{row_in};
 ghost use Rattle.table_generations.specs.Looks.{Tells, IsSeen};
 
 use crate::atomic_value::AtomicValue;
 use crate::fixed::Generation;
-use std::alloc::{AllocError, Allocator};
-use table_cell::{Bucket, BucketRef, Entry, Home, Homed, Low, Missed, Note, Reading, Row, RowRef};
+use std::alloc::Allocator;
+use table_cell::{Bucket, BucketRef, Entry, Home, Homed, Low, Mark, Missed, Note};
 
 /// What a probe for eight bits meets at a bucket.
 #[derive(Clone, Copy)]
@@ -38,28 +37,7 @@ fn look_at_entry<T>(entry: &Entry<T>, sought: u8) -> Look<'_, T>
     }
 }
 
-/// What a probe for these bits meets at a bucket that wasn't set alone: its word is read, and its block, if it was set.
-fn look_at_set<'a, T: AtomicValue, A: Allocator + Copy>(
-    home: &'a Home,
-    bucket: &BucketRef<'a, T, A>,
-    sought: u8,
-    note: &mut Note<Entry<T>>,
-) -> Look<'a, T>
-    requires home { bucket.now.home ≡ home.now.id }
-    requires of { note.old.of ≡ bucket.now.id }
-    requires vacant { bucket.now.content ≡ vacant }
-    ensures of { note.new.of ≡ note.old.of }
-    ensures told { Tells sought note.new.known result }
-    ensures kept { Keeps note.old.known note.new.known }
-{
-    match bucket.get_set(home, note) {
-        Some(entry) => look_at_entry(entry, sought),
-        None => Look::Vacant,
-    }
-}
-
-/// What a probe for these bits meets at a bucket. Neither the word nor the block of an entry whose mark has other bits is
-/// read.
+/// What a probe for these bits meets at a bucket. The block of an entry whose mark has other bits isn't read.
 fn look_at_bucket<'a, T: AtomicValue, A: Allocator + Copy>(
     home: &'a Home,
     bucket: &BucketRef<'a, T, A>,
@@ -72,57 +50,17 @@ fn look_at_bucket<'a, T: AtomicValue, A: Allocator + Copy>(
     ensures seen { IsSeen bucket.now.content note.old.known note.new.known
         (λ o. Tells sought o result) }
 {
-    match bucket.mark(note) {
-        Reading::Vacant => look_at_set(home, bucket, sought, note),
-        Reading::Own(bits) | Reading::Named(bits) | Reading::Told(bits) if bits != sought =>
-            Look::Other,
-        Reading::Own(_) | Reading::Named(_) => Look::Alike(bucket.entry(home)),
-        Reading::Told(_) => look_at_set(home, bucket, sought, note),
+    match bucket.mark() {
+        Mark::Vacant => match bucket.get(home, note) {
+            Some(entry) => look_at_entry(entry, sought),
+            None => Look::Vacant,
+        },
+        Mark::Own(bits) | Mark::Named(bits) if bits == sought => Look::Alike(bucket.entry(home)),
+        _ => Look::Other,
     }
-}
-
-/// What a probe for these bits meets at the bucket of this index.
-pub fn look_at<'a, T: AtomicValue, A: Allocator + Copy>(
-    home: &'a Home,
-    row: &RowRef<'a, T, A>,
-    index: usize,
-    sought: u8,
-    note: &mut Note<Entry<T>>,
-) -> Look<'a, T>
-    requires home { row.now.home ≡ home.now.id }
-    requires within { index < length row.now.contents }
-    requires of { note.old.of ≡ slice_index_or row.now.ids index 0 }
-    ensures of { note.new.of ≡ note.old.of }
-    ensures seen { IsSeen (content_at row.now.contents index) note.old.known note.new.known
-        (λ o. Tells sought o result) }
-{
-    look_at_bucket(home, &row.at(index), sought, note)
 }
 
 impl<T: AtomicValue, A: Allocator + Copy> Generation<T, A> {
-    ghost use Rattle.table_generations.specs.Generations.{IsBlank};
-
-    /// Empty buckets for threads to set: who sets one tells its bits in its mark. It asks for memory twice: for their words,
-    /// and for their marks.
-    pub fn telling(alloc: A, home: &Home, capacity: usize) -> Result<Self, AllocError>
-        requires { IsPowerOfTwo capacity }
-        ensures { IfOk result (IsBlank alloc home.now.id capacity) }
-    {
-        Ok(Generation {
-            row: Row::telling(alloc, home, capacity)?,
-            size: 0,
-        })
-    }
-
-    /// The same of the home and the allocator of this generation.
-    pub fn telling_sibling(&self, home: &Home, capacity: usize) -> Result<Self, AllocError>
-        requires home { self.now.home ≡ home.now.id }
-        requires power { IsPowerOfTwo capacity }
-        ensures { IfOk result (IsBlank self.now.from self.now.home capacity) }
-    {
-        Generation::telling(self.row.alloc(), home, capacity)
-    }
-
     /// Twice the number of buckets, if there is a bucket and twice as many can be counted.
     pub fn doubled(&self) -> Option<usize>
         ensures power { IfSome result (λ c. IsPowerOfTwo c) }
@@ -163,11 +101,22 @@ impl<T: AtomicValue, A: Allocator + Copy> Generation<T, A> {
         self.row.at(index).get(home, note)
     }
 
-    /// The buckets, to be looked at: who looks at several asks them what is the same for all of them once.
-    pub fn as_row(&self) -> RowRef<'_, T, A>
-        ensures { result ≡ row_in self.now }
+    /// What a probe for these bits meets at the bucket of this index.
+    pub fn look_at<'a>(
+        &'a self,
+        home: &'a Home,
+        index: usize,
+        sought: u8,
+        note: &mut Note<Entry<T>>,
+    ) -> Look<'a, T>
+        requires home { self.now.home ≡ home.now.id }
+        requires within { index < length self.now.contents }
+        requires of { note.old.of ≡ slice_index_or self.now.ids index 0 }
+        ensures of { note.new.of ≡ note.old.of }
+        ensures seen { IsSeen (content_at self.now.contents index) note.old.known note.new.known
+            (λ o. Tells sought o result) }
     {
-        self.row.as_ref()
+        look_at_bucket(home, &self.row.at(index), sought, note)
     }
 
     /// A bucket that names the entry in the bucket at this index, also where that was set through `&`.
@@ -191,7 +140,6 @@ impl<T: AtomicValue, A: Allocator + Copy> Generation<T, A> {
 impl<T: AtomicValue, A: Low + Copy> Generation<T, A> {
     /// Sets the bucket at this index by one exchange, unless it is set. The block is asked for first. The note then knows
     /// the entry that was placed here, or the one that came first.
-    #[inline(always)]
     pub fn place_at<'a>(
         &'a self,
         home: &'a Home,

@@ -5,7 +5,7 @@
 ghost use Rattle.std.specs.Prelude.{◌≡◌, ◌<◌, ◌≤◌, ◌↔◌, IsTrue, length};
 ghost use Rattle.std.specs.Fn.{FnReturnsAt};
 ghost use Rattle.table_core.specs.declared.call.Phase.TheVariants.{Building};
-ghost use Rattle.table_shared.specs.Ahead.{IsRead, ReadsNext, AreRead, CopiesOn};
+ghost use Rattle.table_shared.specs.Ahead.{IsRead, AreRead, CopiesOn};
 ghost use Rattle.table_shared.specs.Growths.{PassedAll};
 
 use crate::growth::Growth;
@@ -43,29 +43,6 @@ fn read_ahead<T: AtomicValue, A: Allocator + Copy, H: Fn(&T::Target) -> u64>(
     let name = from.name_at(home, index, &mut note)?;
     let hash = hash_fn(name.as_ref().entry(home).value.deref());
     Some(Ahead { hash, name })
-}
-
-/// Passes the buckets from this one on, up to the next that has an entry, and reads that entry. None says that each bucket is
-/// passed and had none.
-pub(crate) fn read_next<T: AtomicValue, A: Allocator + Copy, H: Fn(&T::Target) -> u64>(
-    home: &Home,
-    from: &Generation<T, A>,
-    passed: &mut usize,
-    hash_fn: &H,
-) -> Option<Ahead<T, A>>
-    requires home { from.now.home ≡ home.now.id }
-    requires callable { H.IsAlwaysCallable hash_fn.now }
-    ensures { ReadsNext T.target (FnReturnsAt H.Fn hash_fn.now) from.now passed.old result
-        passed.new }
-{
-    while *passed < from.capacity() {
-        let index = *passed;
-        *passed += 1;
-        if let Some(read) = read_ahead(home, from, index, hash_fn) {
-            return Some(read);
-        }
-    }
-    None
 }
 
 /// Reads the buckets from this one on, as many as the window is wide or as are left, in their order.

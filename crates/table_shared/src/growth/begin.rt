@@ -28,7 +28,7 @@ impl<T: AtomicValue, A: Low + Copy> LockFreeRawTable<T, A> {
         ensures { IfOk result (λ g. g.home ≡ self.now.home) }
     {
         let slot = self.lineage.slot(&self.home, 0)?;
-        let built = Generation::telling(self.alloc, &self.home, self.first_capacity)?;
+        let built = Generation::with_capacity(self.alloc, &self.home, self.first_capacity)?;
         Growth::begun(&self.home, 0, None, built, slot)
     }
 
@@ -47,7 +47,7 @@ impl<T: AtomicValue, A: Low + Copy> LockFreeRawTable<T, A> {
             return Err(AllocError);
         };
         let slot = self.lineage.slot(&self.home, number)?;
-        let built = current.generation.telling_sibling(&self.home, capacity)?;
+        let built = current.generation.sibling(&self.home, capacity)?;
         Growth::begun(&self.home, number, Some(current.generation), built, slot)
     }
 

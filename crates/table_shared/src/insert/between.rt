@@ -1,18 +1,16 @@
 //! An insert between two steps: what it walks, builds and carries, and the lock that it holds.
-ghost use Rattle.std.specs.Prelude.{◌≡◌, ◌≢◌};
+ghost use Rattle.std.specs.Prelude.{◌≢◌};
 ghost use Rattle.table_shared.specs.Between.{IsBetween};
-ghost use Rattle.table_shared.specs.Carried.{IsAnswer, put_leaves};
+ghost use Rattle.table_shared.specs.Carried.{IsAnswer};
 
 use crate::growth::Growth;
-use crate::probe::Put;
 use crate::table::LockFreeRawTable;
 use std::snapshot::Snapshot;
 use std::sync::{RwLockReadGuard, RwLockWriteGuard};
 use table_cell::Low;
-use table_core::{Answer, CallState, Phase};
+use table_core::{CallState, Phase};
 use table_generations::atomic_value::AtomicValue;
 use table_generations::fixed::Generation;
-use table_turns::passed;
 
 /// What an insert carries: its value, the target of its own entry, or the target that it accepted beside its value.
 #[derive(Drop)]
@@ -36,22 +34,6 @@ impl<T, R> Carried<T, R> {
             Carried::Own(target) => Ok((target, None)),
             Carried::Met(target, value) => Ok((target, Some(value))),
             Carried::Gone => unreachable!(),
-        }
-    }
-}
-
-/// What an exchange at an empty bucket leaves: the state after it, what the insert carries, and the answer of the step.
-#[inline(always)]
-pub(crate) fn after_put<'a, T, X>(put: Put<'a, T, X>) -> (CallState, Carried<T, &'a X>, Answer)
-    ensures { result ≡ put_leaves put.entry }
-{
-    match put {
-        Put::Won(next, target) => (next, Carried::Own(target), Answer::Won),
-        Put::Refused(next, value) => (next, Carried::Value(value), Answer::MemoryRefused),
-        Put::Passed(next, asked, value) => (next, Carried::Value(value), passed(asked)),
-        Put::Met(next, target, value) => {
-            let answer = Answer::Holds { accepted: true };
-            (next, Carried::Met(target, value), answer)
         }
     }
 }

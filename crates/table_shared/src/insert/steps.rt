@@ -11,8 +11,8 @@ ghost use Rattle.table_shared.specs.Inserts.{Answers};
 ghost use Rattle.table_shared.specs.Steps.{Steps, Stays, TellsAlone, Ends, TriesStep};
 
 use crate::growth::begin::Wanted;
-use crate::insert::between::{Carried, Held, Inserting, after_put};
-use crate::probe::{Matched, Read, Stepping};
+use crate::insert::between::{Carried, Held, Inserting};
+use crate::probe::{Matched, Put, Read, Stepping};
 use crate::table::LockFreeRawTable;
 use std::mem;
 use std::sync::Wait;
@@ -93,13 +93,12 @@ where
         let Carried::Value(value) = &self.carried else {
             unreachable!()
         };
-        let row = generation.as_row();
         let mut note = generation.note_at(self.state.index as usize);
         let probing = Matched {
             value,
             eq: &self.asking.eq,
         };
-        match table.read_bucket::<Stepping, _>(&row, self.state, &probing, &mut note) {
+        match table.read_bucket::<Stepping, _>(generation, self.state, &probing, &mut note) {
             Read::Empty(next) => {
                 self.state = next;
                 Answer::Empty
@@ -124,17 +123,32 @@ where
             unreachable!()
         };
         let mut note = generation.note_at(self.state.index as usize);
-        let put = table.put_value::<Stepping, E>(
+        match table.put_value::<Stepping, E>(
             generation,
             self.state,
             value,
             &self.asking.eq,
             &mut note,
-        );
-        let (next, carried, answer) = after_put(put);
-        self.carried = carried;
-        self.state = next;
-        answer
+        ) {
+            Put::Won(next, target) => {
+                self.carried = Carried::Own(target);
+                self.state = next;
+                Answer::Won
+            }
+            Put::Refused(next, value) => {
+                self.carried = Carried::Value(value);
+                self.state = next;
+                Answer::MemoryRefused
+            }
+            Put::Passed(next, asked, value) => {
+                self.carried = Carried::Value(value);
+                self.pass(next, asked)
+            }
+            Put::Met(next, target, value) => {
+                self.carried = Carried::Value(value);
+                self.keep(next, target)
+            }
+        }
     }
 
     /// The placed value is counted.

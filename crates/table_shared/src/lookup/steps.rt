@@ -73,10 +73,9 @@ impl<'a, T: AtomicValue, A: Allocator + Copy, F: Fn(&T::Target) -> bool> Looking
         let Some(generation) = self.walked else {
             unreachable!()
         };
-        let row = generation.as_row();
         let mut note = generation.note_at(self.state.index as usize);
         let probing = Tested { test: &self.test };
-        match table.read_bucket::<Stepping, _>(&row, self.state, &probing, &mut note) {
+        match table.read_bucket::<Stepping, _>(generation, self.state, &probing, &mut note) {
             Read::Empty(next) => {
                 self.state = next;
                 (Answer::Empty, None)

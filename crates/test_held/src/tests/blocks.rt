@@ -132,7 +132,7 @@ fn a_request_refused(rt: HostRuntime) -> Result<(), Fail> {
     Ok(())
 }
 
-/// A first generation without an entry: its words and its marks were granted, and the block of its entry refused.
+/// A first generation without an entry: its marks and its words were granted, and the block of its entry refused.
 #[test]
 fn a_generation_without_entries(rt: HostRuntime) -> Result<(), Fail> {
     let heap = Refusing::new(rt.alloc(), Rule::new(0, 31, 0, 1));

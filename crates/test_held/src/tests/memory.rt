@@ -10,7 +10,7 @@ use testkit_refusing::{Refusing, Rule};
 /// A block of an entry takes fewer bytes, and all else that a table asks for more.
 const BLOCK: usize = 32;
 
-/// A rule over what growth asks for: twice for a generation, for its words and for its marks, and before that for room to
+/// A rule over what growth asks for: twice for a generation, for its marks and for its words, and before that for room to
 /// keep the one before.
 fn growth(passing: u64, refused: u64) -> Rule {
     Rule::new(BLOCK, usize::MAX, passing, refused)

@@ -9,7 +9,7 @@ use testkit_refusing::{Refusing, Rule};
 /// How many numbers are inserted: a growth from 16 buckets to 32 lies among them.
 const NUMBERS: u64 = 17;
 
-/// The requests whose refusal an insert is told: one block a number, and for the first generation its words, its marks, its block,
+/// The requests whose refusal an insert is told: one block a number, and for the first generation its marks, its words, its block,
 /// the words for the later ones, the room to take those out, and the block of both. A later growth that is refused changes
 /// no answer, since the number was placed.
 const TOLD: u64 = NUMBERS + 6;

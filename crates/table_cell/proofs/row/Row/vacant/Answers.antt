@@ -1,9 +1,14 @@
-use Rattle.table_cell.proofs.Rows.{contents-vacant, laned-vacant}
+use Rattle.std.proofs.Common.{◌≡◌, arith}
+use Rattle.table_cell.proofs.Rows.{marked-vacant, contents-vacant}
 use Rattle.table_cell.proofs.row.Row.vacant.Goals as goal
 
 pub invariant_of-result : goal.invariant_of-result
-invariant_of-result g c = rw c.new.ensures.1 (laned-vacant c.args.alloc c.args.home.now.id c.in_ok-marks.marks c.in_ok-words.words.items c.in_ok-marks.ensures.lanes c.in_ok-marks.ensures.vacant
-    c.in_ok-words.ensures.null c.in_ok-words.ensures.lie)
+invariant_of-result g c = record {
+  marked = rw c.loop-made.invariant.marks (marked-vacant c.loop-made._made c.loop-made.words.items c.loop-made.invariant.long c.loop-made.invariant.vacant);
+  lies = rw c.new-2.ensures.1 c.loop-made.invariant.lies;
+}
 
 pub returns-clause-vacant : goal.returns-clause-vacant
-returns-clause-vacant g c = rw (c.in_ok-marks.ensures.vacant, c.in_ok-words.ensures.long) (contents-vacant c.args.capacity c.in_ok-words.words.items c.in_ok-words.ensures.long)
+returns-clause-vacant g c =
+    let all : c.loop-made._made ≡ c.args.capacity = omega arith in
+    rw (c.loop-made.invariant.marks, ← all) (contents-vacant c.loop-made._made c.loop-made.words.items c.loop-made.invariant.long)

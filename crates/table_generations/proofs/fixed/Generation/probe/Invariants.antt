@@ -12,7 +12,7 @@ pub record IsUnderWay (A B C : Type 0) : Type 0 where
 
 abbrev pub invariant-loop-seen : goal.invariant-loop-seen
 invariant-loop-seen g l =
-    let shown = shown_all (l.row.contents) in
-    IsUnderWay (l.index < length l.row.contents)
+    let shown = shown_all (l.self-inside.row.contents) in
+    IsUnderWay (l.index < length l.self-inside.row.contents)
     (l.index ≡ bucket_at (length shown) l.hash l._seen)
     (IsPassed g.T.AtomicValue.target (FnReturnsAt g.F.Fn l.test) shown l.hash l._seen)

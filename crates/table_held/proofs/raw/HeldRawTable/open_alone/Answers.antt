@@ -1,6 +1,6 @@
-use Rattle.std.proofs.Common.{rules, refl}
+use Rattle.std.proofs.Common.{rules}
 use Rattle.table_generations.specs.Generations.{IsBlank}
-use Rattle.table_held.proofs.Kept.{kept_open, on_err, table_empty, table_open}
+use Rattle.table_held.proofs.Kept.{kept_open, table_open}
 use Rattle.table_held.proofs.raw.HeldRawTable.open_alone.Goals as goal
 
 pub invariant_of-self : goal.invariant_of-self
@@ -14,6 +14,3 @@ pub returns-in_ok-self-inside-clause-opened : goal.returns-in_ok-self-inside-cla
 returns-in_ok-self-inside-clause-opened g c =
     let made : IsBlank c.self.inside.alloc c.self.inside.home.id c.self.inside.first_capacity c.in_ok-self-inside.field-0 = search rules in
     rw (← c.self.view_is) (table_open c.self.inside.first_capacity _ _ c.self.inside.current.size c.self.invariant.0 (search rules) _ _ made.vacant made.none)
-
-pub returns-in_err-self-inside-clause-unchanged : goal.returns-in_err-self-inside-clause-unchanged
-returns-in_err-self-inside-clause-unchanged g c = rw (← c.self.view_is) (on_err c.from_residual.result (table_empty c.self.inside.first_capacity _ _ c.self.inside.current.size c.self.invariant.0 (search rules), refl))

@@ -1,6 +1,7 @@
-use Rattle.std.proofs.Common.{◌≡◌, ◌∙◌, ◌+◌, ◌<◌, Some, length, refl, sym, arith}
+use Rattle.std.proofs.Common.{◌≡◌, ◌∙◌, ◌+◌, ◌<◌, Some, None, length, refl, sym, arith}
 use Rattle.std.proofs.lemmas.List.{length-set}
 use Rattle.std.specs.Fn.{FnReturnsAt}
+use Rattle.table_shared.specs.Ahead.{IsRead}
 use Rattle.table_shared.proofs.Ahead.{copy_stays, lies_read, named_read, next_read, on_one, on_over, one_taken, over_read}
 use Rattle.table_shared.proofs.Copied.{named_skip}
 use Rattle.table_shared.proofs.growth.Growth.copy_window.Goals.{in-Some-take, in_default-take}

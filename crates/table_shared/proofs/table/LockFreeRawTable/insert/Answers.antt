@@ -34,18 +34,82 @@ step_loaded-state-requires g c = record {
   some = rw c.capacity-capacity.ensures c.in-Some.ensures.room;
 }
 
-pub insert_in-requires : goal.insert_in-requires
-insert_in-requires g c =
+pub loop-init : goal.loop-init
+loop-init g c =
     let on : c.step-state.result.phase ≡ Shared = begun_phase _ c.insert.result c.step-state.result c.insert.ensures c.step-state.ensures.decided in
     record {
       phase = c.step_loaded-state.ensures.insert on;
-      home = c.in-Some.ensures.home;
-      row = c.as_row-row.ensures;
       between =
           starts (begins_shared {A = g.row.A.Denot} c.args.self.now.home g.T.AtomicValue.target c.of-given.result.value c.args.value _ c.insert.result c.step-state.result _ c.insert.ensures (sym c.of-given.ensures) refl c.step-state.ensures.decided)
           c.step_loaded-state.result c.in-Some.current.number c.in-Some.current.generation on (c.step_loaded-state.ensures.insert on) (rw c.capacity-capacity.ensures at c.step_loaded-state.ensures.starting) c.in-Some.ensures.home;
+      same = refl;
+    }
+
+pub loop-preserved : goal.loop-preserved
+loop-preserved g c =
+    let b = c.loop.invariant.between in
+    record {
+      phase = search rules;
+      between = passes b c.in-Passed.next (rw c.loop.invariant.phase tt) (passes_probed b c.in-Passed.next c.in-Passed.field-1 c.loop.invariant.phase c.in-Passed.ensures.reads);
+      same = refl;
+    }
+
+pub note_at-note-requires : goal.note_at-note-requires
+note_at-note-requires g c = within c.loop.invariant.between c.in-Some.current.generation refl (rw c.loop.invariant.phase tt)
+
+pub read_bucket-requires : goal.read_bucket-requires
+read_bucket-requires g c =
+    let b = c.loop.invariant.between in
+    record {
+      phase = rw c.loop.invariant.phase tt;
+      stands = b.stands (rw c.loop.invariant.phase tt);
+      home = c.in-Some.ensures.home;
+      walked = b.counts c.in-Some.current.generation refl;
+      callable = c.requires.eq_callable;
+      of = c.note_at-note.ensures.0;
+    }
+
+pub place-requires : goal.place-requires
+place-requires g c =
+    let is = taken Probe Empty c.loop.state c.in-Empty.next c.loop.invariant.phase c.in-Empty.ensures.reads.is in
+    record {
+      phase = ap (λ (t : CallState). t.phase) is;
+      between = finds_empty c.loop.invariant.between c.in-Empty.next c.loop.invariant.phase is;
       asks = record { calls_eq = c.requires.eq_callable; calls_hash = c.requires.hash_callable; heard = tt };
     }
+
+pub settle-requires : goal.settle-requires
+settle-requires g c =
+    let is = accepts_entry c.loop.state c.in-Met.next (rw c.loop.invariant.phase tt) c.in-Met.ensures.reads.0 in
+    record {
+      phase = ap (λ (t : CallState). t.phase) is;
+      between = accepts c.loop.invariant.between c.in-Met.next c.in-Met.target c.args.value (rw c.loop.invariant.phase tt) is (sym c.of-given.ensures);
+      asks = record {
+        calls_eq = c.requires.eq_callable;
+        calls_hash = c.requires.hash_callable;
+        heard = subst (λ v. FnReturnsAtPair g.E.Fn c.args.eq (g.T.AtomicValue.target v) c.in-Met.target.now true) (sym c.of-given.ensures) c.in-Met.ensures.reads.1;
+      };
+    }
+
+pub go_on_from-requires-then-ne : goal.go_on_from-requires-then-ne
+go_on_from-requires-then-ne g c =
+    let b = passes c.loop.invariant.between c.in-Passed.next (rw c.loop.invariant.phase tt) (passes_probed c.loop.invariant.between c.in-Passed.next c.in-Passed.field-1 c.loop.invariant.phase c.in-Passed.ensures.reads) in
+    record { unfinished = shares_on b refl; between = b; asks = record { calls_eq = c.requires.eq_callable; calls_hash = c.requires.hash_callable; heard = tt } }
+
+pub returns-in-Empty : goal.returns-in-Empty
+returns-in-Empty g c =
+    let right = said g.T.AtomicValue.target g.E.Fn c.args.eq c.args.value c.of-given.result.value c.place.result c.of-given.ensures c.place.ensures in
+    record { placed = right.0; found = right.1; back = right.2 }
+
+pub returns-in-Met : goal.returns-in-Met
+returns-in-Met g c =
+    let right = said g.T.AtomicValue.target g.E.Fn c.args.eq c.args.value c.of-given.result.value c.settle.result c.of-given.ensures c.settle.ensures in
+    record { placed = right.0; found = right.1; back = right.2 }
+
+pub returns-then-ne : goal.returns-then-ne
+returns-then-ne g c =
+    let right = said g.T.AtomicValue.target g.E.Fn c.args.eq c.args.value c.of-given.result.value c.go_on_from-then-ne.result c.of-given.ensures c.go_on_from-then-ne.ensures in
+    record { placed = right.0; found = right.1; back = right.2 }
 
 pub returns-in_default : goal.returns-in_default
 returns-in_default g c =

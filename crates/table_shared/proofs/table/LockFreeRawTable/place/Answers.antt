@@ -62,9 +62,3 @@ go_on_from-requires g c =
           let heard = subst (λ v. FnReturnsAtPair g.E.Fn c.args.asking.eq (target v) w.in-Met.target.now true) from w.in-Met.ensures.puts.3 in
           record { unfinished = shares_on on refl; between = on; asks = record { calls_eq = asks.calls_eq; calls_hash = asks.calls_hash; heard = heard } })
     ]
-
-pub returns-in-Won : goal.returns-in-Won
-returns-in-Won g c = c.settle.ensures
-
-pub returns : goal.returns
-returns g c = c.go_on_from.ensures

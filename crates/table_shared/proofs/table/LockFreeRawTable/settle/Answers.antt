@@ -31,6 +31,3 @@ go_on_from-requires g c =
       between = asks_size on c.ask_size-state.result (ap (λ (t : CallState). t.phase) left) c.ask_size-state.ensures.ends;
       asks = c.requires.asks;
     }
-
-pub returns : goal.returns
-returns g c = c.go_on_from.ensures
