@@ -12,7 +12,7 @@ use Rattle.table_turns.specs.Steps.{Went}
 use Rattle.table_shared.specs.declared.insert.between.Carried.{Carried}
 use Rattle.table_shared.specs.declared.insert.between.Carried.TheVariants.{Gone, Value, Own, Met}
 use Rattle.table_shared.specs.declared.insert.between.Inserting.{Inserting}
-use Rattle.table_shared.specs.Carried.{Asks, Heard, IsAnswer, met_in, own_in, reach_of, value_in}
+use Rattle.table_shared.specs.Carried.{Heard, IsAnswer, met_in, own_in, reach_of, value_in}
 use Rattle.table_shared.specs.Inserts.{Answers, told_by}
 use Rattle.table_shared.specs.Stepped.{accepted_in}
 use Rattle.table_shared.specs.Steps.{Ends, Steps}

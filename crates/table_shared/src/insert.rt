@@ -42,7 +42,7 @@ impl<T: AtomicValue, A: Low + Copy> LockFreeRawTable<T, A> {
     {
         let given = Snapshot::of(&value);
         let asking = Asking { given, eq, hash_fn };
-        let guard = self.lock.read(rt);
+        let guard = self.locks.share(rt, hash);
         let state = step(CallState::insert(hash), Answer::Taken);
         let Some(current) = self.current() else {
             let state = step(state, Answer::NoGeneration);

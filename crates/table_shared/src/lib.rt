@@ -10,6 +10,7 @@ mod growth;
 mod insert;
 mod iter;
 mod lineage;
+mod locks;
 mod lookup;
 mod probe;
 mod shown;

@@ -8,11 +8,11 @@ ghost use Rattle.table_shared.specs.Lineages.{AreOfHome, shown_in};
 
 use crate::apart::Apart;
 use crate::lineage::Lineage;
+use crate::locks::Locks;
 use crate::shown::ShownCount;
 use crate::size::Size;
 use std::alloc::{Allocator, Global};
 use std::marker::Model;
-use std::sync::RwLock;
 use table_cell::Home;
 use table_core::{Answer, CallState};
 use table_generations::atomic_value::AtomicValue;
@@ -30,11 +30,11 @@ pub struct LockFreeRawTable<T: AtomicValue, A: Allocator + Copy = Global> {
     pub(crate) home: Home,
     pub(crate) lineage: Lineage<T, A>,
     pub(crate) shown: ShownCount,
-    /// What is written by each insert, the size and the lock, lies between the two.
+    /// What is written by each insert, the locks and the size, lies between the two.
     before: Apart,
+    /// Shared while a value is placed and counted, and held alone while a generation is made.
+    pub(crate) locks: Locks,
     pub(crate) size: Size,
-    /// Held shared while a value is placed and counted, and alone while a generation is made.
-    pub(crate) lock: RwLock<()>,
     behind: Apart,
     pub(crate) alloc: A,
 }
@@ -109,8 +109,8 @@ impl<T: AtomicValue, A: Allocator + Copy> LockFreeRawTable<T, A> {
             lineage,
             shown: ShownCount::new(shown),
             before: Apart::new(),
+            locks: Locks::new(),
             size: Size::new(size),
-            lock: RwLock::new(()),
             behind: Apart::new(),
             alloc,
         }
@@ -185,8 +185,8 @@ impl<T: AtomicValue, A: Allocator + Copy> IntoIterator for LockFreeRawTable<T, A
             lineage,
             shown: _,
             before: _,
+            locks: _,
             size: _,
-            lock: _,
             behind: _,
             alloc: _,
         } = self;

@@ -4,9 +4,10 @@ ghost use Rattle.table_shared.specs.Between.{IsBetween};
 ghost use Rattle.table_shared.specs.Carried.{IsAnswer};
 
 use crate::growth::Growth;
+use crate::locks::Alone;
 use crate::table::LockFreeRawTable;
 use std::snapshot::Snapshot;
-use std::sync::{RwLockReadGuard, RwLockWriteGuard};
+use std::sync::RwLockReadGuard;
 use table_cell::Low;
 use table_core::{CallState, Phase};
 use table_generations::atomic_value::AtomicValue;
@@ -43,7 +44,7 @@ impl<T, R> Carried<T, R> {
 pub(crate) enum Held<'a> {
     Nothing,
     Shared(RwLockReadGuard<'a, ()>),
-    Alone(RwLockWriteGuard<'a, ()>),
+    Alone(Alone<'a>),
 }
 
 /// Whom an insert asks, and of which value.

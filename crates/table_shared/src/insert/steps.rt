@@ -274,10 +274,11 @@ where
         ensures { TriesStep E.Fn self.old result self.new }
     {
         let table: &'a LockFreeRawTable<T, A> = self.table;
+        let hash = self.state.hash;
         match self.state.phase {
             Phase::Done => None,
-            Phase::WantShared => Some(self.take(Held::Shared(table.lock.try_read()?))),
-            Phase::WantOwned => Some(self.take(Held::Alone(table.lock.try_write()?))),
+            Phase::WantShared => Some(self.take(Held::Shared(table.locks.try_share(hash)?))),
+            Phase::WantOwned => Some(self.take(Held::Alone(table.locks.try_own()?))),
             _ => Some(self.turn()),
         }
     }
@@ -290,9 +291,10 @@ where
         ensures { Steps E.Fn self.old result self.new }
     {
         let table: &'a LockFreeRawTable<T, A> = self.table;
+        let hash = self.state.hash;
         match self.state.phase {
-            Phase::WantShared => self.take(Held::Shared(table.lock.read(rt))),
-            Phase::WantOwned => self.take(Held::Alone(table.lock.write(rt))),
+            Phase::WantShared => self.take(Held::Shared(table.locks.share(rt, hash))),
+            Phase::WantOwned => self.take(Held::Alone(table.locks.own(rt))),
             _ => self.turn(),
         }
     }

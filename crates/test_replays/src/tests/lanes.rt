@@ -1,0 +1,66 @@
+//! Who makes a generation, and inserts of every hash: neither takes its lock while the other holds it.
+
+use std::alloc::Global;
+use std::process::Abort;
+use table_generations::atomic_value::InPlace;
+use table_shared::{InsertCall, LockFreeRawTable, Progress};
+
+type Table = LockFreeRawTable<InPlace<u64>>;
+
+/// More hashes in a row than a table has locks.
+const HASHES: u64 = 64;
+
+/// The step before which an insert into an empty table wants the lock alone.
+const TO_OWN: u64 = 3;
+
+/// Whether an insert of this hash is blocked at its first step.
+fn is_kept_out(table: &Table, hash: u64) -> bool {
+    let mut call = InsertCall::new(
+        table,
+        hash,
+        InPlace(hash),
+        |a: &u64, b: &u64| *a == *b,
+        |a: &u64| *a,
+    );
+    matches!(call.advance(), Progress::Blocked)
+}
+
+/// How many of all hashes keep out the insert that makes the first generation, while one of that hash has taken its lock, and are
+/// kept out by it afterwards.
+fn count_exclusive(alloc: Global) -> u64 {
+    let mut exclusive: u64 = 0;
+    for hash in 0..HASHES {
+        let table = Table::new(alloc);
+        let mut growing = InsertCall::new(
+            &table,
+            1,
+            InPlace(1),
+            |a: &u64, b: &u64| *a == *b,
+            |a: &u64| *a,
+        );
+        for _ in 0..TO_OWN {
+            growing.advance();
+        }
+        let mut placing = InsertCall::new(
+            &table,
+            hash,
+            InPlace(hash),
+            |a: &u64, b: &u64| *a == *b,
+            |a: &u64| *a,
+        );
+        placing.advance();
+        let waits = matches!(growing.advance(), Progress::Blocked);
+        drop(placing);
+        let goes_on = matches!(growing.advance(), Progress::Moved);
+        if waits && goes_on && is_kept_out(&table, hash) {
+            exclusive = exclusive.saturating_add(1);
+        }
+    }
+    exclusive
+}
+
+#[test]
+fn a_growth_and_an_insert_of_any_hash_exclude_each_other(rt: HostRuntime) {
+    let exclusive = count_exclusive(rt.alloc());
+    assert_eq!(rt; exclusive, HASHES);
+}
