@@ -46,8 +46,7 @@ impl<T: AtomicValue, A: Low + Copy> LockFreeRawTable<T, A> {
         let state = step(CallState::insert(hash), Answer::Taken);
         let Some(current) = self.current() else {
             let state = step(state, Answer::NoGeneration);
-            let held = Held::Shared(guard);
-            return self.go_on_from(rt, state, None, Carried::Value(value), held, asking);
+            return self.go_on_holding(rt, state, None, Carried::Value(value), guard, asking);
         };
         let capacity = current.generation.capacity() as u64;
         let mut state = step_loaded(state, current.number, capacity);
@@ -68,9 +67,9 @@ impl<T: AtomicValue, A: Low + Copy> LockFreeRawTable<T, A> {
                 }
                 Read::Passed(next, _) => {
                     if next.phase != Phase::Probe {
+                        let walked = Some(generation);
                         let carried = Carried::Value(value);
-                        let held = Held::Shared(guard);
-                        return self.go_on_from(rt, next, Some(generation), carried, held, asking);
+                        return self.go_on_holding(rt, next, walked, carried, guard, asking);
                     }
                     state = next;
                 }
@@ -114,8 +113,7 @@ impl<T: AtomicValue, A: Low + Copy> LockFreeRawTable<T, A> {
             Put::Passed(next, _, value) => (next, Carried::Value(value)),
             Put::Met(next, target, value) => (next, Carried::Met(target, value)),
         };
-        let held = Held::Shared(guard);
-        self.go_on_from(rt, next, Some(generation), carried, held, asking)
+        self.go_on_holding(rt, next, Some(generation), carried, guard, asking)
     }
 
     /// An insert that has an outcome releases the lock, and grows the table if half of its generation is set.
@@ -148,11 +146,48 @@ impl<T: AtomicValue, A: Low + Copy> LockFreeRawTable<T, A> {
         if state.phase == Phase::Done {
             return carried.into_answer();
         }
-        self.go_on_from(rt, state, Some(generation), carried, Held::Nothing, asking)
+        self.go_on_free(rt, state, Some(generation), carried, asking)
     }
 
-    /// The rest of an insert, from any step but the last. What is rare is kept out of `insert`, which pays at its entry for
-    /// the size of its locals.
+    /// The rest of an insert that holds the lock shared. What is rare is kept out of `insert`, which pays at its entry for the size
+    /// of its locals: so the guard is no `Held` there, which has room for all lanes.
+    #[inline(never)]
+    fn go_on_holding<'a, R: Wait, E: Fn(&T::Target, &T::Target) -> bool, H: Fn(&T::Target) -> u64>(
+        &'a self,
+        rt: &R,
+        state: CallState,
+        walked: Option<&'a Generation<T, A>>,
+        carried: Carried<T, &'a T::Target>,
+        guard: RwLockReadGuard<'a, ()>,
+        asking: Asking<T, E, H>,
+    ) -> Result<(&'a T::Target, Option<T>), T>
+        requires { Onward self.now.home E.IsAlwaysCallable H.IsAlwaysCallable T.target E.Fn asking
+            state walked carried (Held.Shared guard) }
+        ensures { Answers T.target (FnReturnsAtPair E.Fn asking.eq (T.target asking.given.value))
+            asking.given.value result }
+    {
+        self.go_on_from(rt, state, walked, carried, Held::Shared(guard), asking)
+    }
+
+    /// The rest of an insert that holds no lock.
+    #[inline(never)]
+    fn go_on_free<'a, R: Wait, E: Fn(&T::Target, &T::Target) -> bool, H: Fn(&T::Target) -> u64>(
+        &'a self,
+        rt: &R,
+        state: CallState,
+        walked: Option<&'a Generation<T, A>>,
+        carried: Carried<T, &'a T::Target>,
+        asking: Asking<T, E, H>,
+    ) -> Result<(&'a T::Target, Option<T>), T>
+        requires { Onward self.now.home E.IsAlwaysCallable H.IsAlwaysCallable T.target E.Fn asking
+            state walked carried Held.Nothing }
+        ensures { Answers T.target (FnReturnsAtPair E.Fn asking.eq (T.target asking.given.value))
+            asking.given.value result }
+    {
+        self.go_on_from(rt, state, walked, carried, Held::Nothing, asking)
+    }
+
+    /// The rest of an insert, from any step but the last.
     #[inline(never)]
     fn go_on_from<'a, R: Wait, E: Fn(&T::Target, &T::Target) -> bool, H: Fn(&T::Target) -> u64>(
         &'a self,

@@ -21,8 +21,8 @@ step-state-requires g c = record { fits = rw c.insert.ensures refl }
 pub step-state-requires-in_default : goal.step-state-requires-in_default
 step-state-requires-in_default g c = record { fits = rw (begun_phase _ c.insert.result c.step-state.result c.insert.ensures c.step-state.ensures.decided) refl }
 
-pub go_on_from-requires : goal.go_on_from-requires
-go_on_from-requires g c =
+pub go_on_holding-requires : goal.go_on_holding-requires
+go_on_holding-requires g c =
     let on : c.step-state.result.phase ≡ Shared = begun_phase _ c.insert.result c.step-state.result c.insert.ensures c.step-state.ensures.decided in
     let b = finds_none {A = g.row.A.Denot} (begins_shared c.args.self.now.home g.T.AtomicValue.target c.of-given.result.value c.args.value _ c.insert.result c.step-state.result _ c.insert.ensures (sym c.of-given.ensures) refl c.step-state.ensures.decided)
     c.step-state-in_default.result on (taken Shared NoGeneration c.step-state.result c.step-state-in_default.result on c.step-state-in_default.ensures.decided) in
@@ -91,8 +91,8 @@ settle-requires g c =
       };
     }
 
-pub go_on_from-requires-then-ne : goal.go_on_from-requires-then-ne
-go_on_from-requires-then-ne g c =
+pub go_on_holding-requires-then-ne : goal.go_on_holding-requires-then-ne
+go_on_holding-requires-then-ne g c =
     let b = passes c.loop.invariant.between c.in-Passed.next (rw c.loop.invariant.phase tt) (passes_probed c.loop.invariant.between c.in-Passed.next c.in-Passed.field-1 c.loop.invariant.phase c.in-Passed.ensures.reads) in
     record { unfinished = shares_on b refl; between = b; asks = record { calls_eq = c.requires.eq_callable; calls_hash = c.requires.hash_callable; heard = tt } }
 
@@ -108,10 +108,10 @@ returns-in-Met g c =
 
 pub returns-then-ne : goal.returns-then-ne
 returns-then-ne g c =
-    let right = said g.T.AtomicValue.target g.E.Fn c.args.eq c.args.value c.of-given.result.value c.go_on_from-then-ne.result c.of-given.ensures c.go_on_from-then-ne.ensures in
+    let right = said g.T.AtomicValue.target g.E.Fn c.args.eq c.args.value c.of-given.result.value c.go_on_holding-then-ne.result c.of-given.ensures c.go_on_holding-then-ne.ensures in
     record { placed = right.0; found = right.1; back = right.2 }
 
 pub returns-in_default : goal.returns-in_default
 returns-in_default g c =
-    let right = said g.T.AtomicValue.target g.E.Fn c.args.eq c.args.value c.of-given.result.value c.go_on_from.result c.of-given.ensures c.go_on_from.ensures in
+    let right = said g.T.AtomicValue.target g.E.Fn c.args.eq c.args.value c.of-given.result.value c.go_on_holding.result c.of-given.ensures c.go_on_holding.ensures in
     record { placed = right.0; found = right.1; back = right.2 }

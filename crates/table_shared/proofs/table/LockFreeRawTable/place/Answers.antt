@@ -42,8 +42,8 @@ settle-requires g c =
       asks = record { calls_eq = c.requires.asks.calls_eq; calls_hash = c.requires.asks.calls_hash; heard = tt };
     }
 
-pub go_on_from-requires : goal.go_on_from-requires
-go_on_from-requires g c =
+pub go_on_holding-requires : goal.go_on_holding-requires
+go_on_holding-requires g c =
     let target = g.T.AtomicValue.target in
     let b = c.requires.between in
     let asks = c.requires.asks in

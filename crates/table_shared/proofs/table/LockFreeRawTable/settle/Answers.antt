@@ -22,8 +22,8 @@ pub returns-then-eq : goal.returns-then-eq
 returns-then-eq g c =
     answers g.T.AtomicValue.target g.E.Fn c.args.asking.eq c.args.asking.given.value c.args.carried c.into_answer.result c.requires.between.stems c.requires.between.owns c.requires.asks.heard c.into_answer.ensures
 
-pub go_on_from-requires : goal.go_on_from-requires
-go_on_from-requires g c =
+pub go_on_free-requires : goal.go_on_free-requires
+go_on_free-requires g c =
     let left = taken LeaveOk Released c.args.state c.step-state.result c.requires.phase c.step-state.ensures.decided in
     let on = leaves_to_ask c.requires.between c.step-state.result c.requires.phase left in
     record {
