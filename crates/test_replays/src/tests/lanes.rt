@@ -10,9 +10,6 @@ type Table = LockFreeRawTable<InPlace<u64>>;
 /// More hashes in a row than a table has locks.
 const HASHES: u64 = 64;
 
-/// The step before which an insert into an empty table wants the lock alone.
-const TO_OWN: u64 = 3;
-
 /// Whether an insert of this hash is blocked at its first step.
 fn is_kept_out(table: &Table, hash: u64) -> bool {
     let mut call = InsertCall::new(
@@ -25,34 +22,39 @@ fn is_kept_out(table: &Table, hash: u64) -> bool {
     matches!(call.advance(), Progress::Blocked)
 }
 
-/// How many of all hashes keep out the insert that makes the first generation, while one of that hash has taken its lock, and are
-/// kept out by it afterwards.
+/// Whether an insert of this hash that has taken its lock keeps out the insert that makes the first generation, and is kept out by
+/// it afterwards.
+fn excludes(table: &Table, hash: u64) -> bool {
+    let mut growing = InsertCall::new(
+        table,
+        1,
+        InPlace(1),
+        |a: &u64, b: &u64| *a == *b,
+        |a: &u64| *a,
+    );
+    // It takes its lock, finds no generation, and lets the lock go.
+    growing.advance();
+    growing.advance();
+    growing.advance();
+    let mut placing = InsertCall::new(
+        table,
+        hash,
+        InPlace(hash),
+        |a: &u64, b: &u64| *a == *b,
+        |a: &u64| *a,
+    );
+    placing.advance();
+    let waits = matches!(growing.advance(), Progress::Blocked);
+    drop(placing);
+    let goes_on = matches!(growing.advance(), Progress::Moved);
+    waits && goes_on && is_kept_out(table, hash)
+}
+
+/// How many of all hashes exclude a growth so, each in a new table.
 fn count_exclusive(alloc: Global) -> u64 {
     let mut exclusive: u64 = 0;
     for hash in 0..HASHES {
-        let table = Table::new(alloc);
-        let mut growing = InsertCall::new(
-            &table,
-            1,
-            InPlace(1),
-            |a: &u64, b: &u64| *a == *b,
-            |a: &u64| *a,
-        );
-        for _ in 0..TO_OWN {
-            growing.advance();
-        }
-        let mut placing = InsertCall::new(
-            &table,
-            hash,
-            InPlace(hash),
-            |a: &u64, b: &u64| *a == *b,
-            |a: &u64| *a,
-        );
-        placing.advance();
-        let waits = matches!(growing.advance(), Progress::Blocked);
-        drop(placing);
-        let goes_on = matches!(growing.advance(), Progress::Moved);
-        if waits && goes_on && is_kept_out(&table, hash) {
+        if excludes(&Table::new(alloc), hash) {
             exclusive = exclusive.saturating_add(1);
         }
     }
