@@ -30,13 +30,12 @@ SIZES = ["1e4", "1e5", "1e7"]
 LARGE = "1e7"
 LARGE_ROUNDS = 2
 # The groups of each table in `all`: those that its program knows.
-GROUPS_OF_ALL = {name: ["one", "seq", *SIZES] for name in ("held", "held-in-place", "held-set", "std-HashSet")}
+GROUPS_OF_ALL = {name: ["one", "seq", *SIZES] for name in ("held", "held-in-place", "held-set", "held-shards", "std-HashSet")}
 GROUPS_OF_ALL |= {
     name: ["one", "seq", *THREADED, *SIZES]
-    for name in ("shared", "shared-in-place", "shared-set", "growing", "growing-shards", "dashmap", "rwlock-HashSet")
+    for name in ("shared", "shared-in-place", "shared-set", "shared-shards", "growing", "growing-shards", "dashmap", "rwlock-HashSet")
 }
 GROUPS_OF_ALL |= {name: ["one", "seq", "same", "ins"] for name in ("model-direct", "tbb-unordered_set", "libcuckoo", "urcu-lfht-presized")}
-GROUPS_OF_ALL["sharded"] = ["one", "same", "hit"]
 # The kind of each table in `run`, and its groups.
 KINDS = {"core": "core", "seats": "seats", "plain-atomics": "seats", "interner": "interner", "plain-interner": "interner"}
 KINDS |= {name: "held" for name in ("held", "held-in-place", "held-set", "plain-rust", "std-HashSet", "dashmap")}

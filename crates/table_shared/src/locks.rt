@@ -17,6 +17,9 @@ struct Lane {
 
 const _: () = prove!(size_of::<Lane>() == 64);
 
+// as many as `Locks::own` and `Locks::try_own` take, lane by lane
+const _: () = prove!(LANES == 8);
+
 impl Lane {
     /// A lane that nobody holds.
     fn new() -> Lane {

@@ -14,7 +14,7 @@ use testkit_measures::report::{Report, refuse_words};
 use testkit_measures::schedules::{check_schedules, measure_schedules};
 use testkit_measures::seats::{check_seats, measure_seats};
 use testkit_measures::sets::{HeldSetKeys, SharedSetKeys};
-use testkit_measures::sharded::{check_sharded, measure_sharded};
+use testkit_measures::sharded::{HeldShards, SharedShards};
 use testkit_measures::shared::{SharedNumbers, check_shared, measure_shared};
 use testkit_measures::texts::{check_interner, measure_interner};
 
@@ -24,11 +24,15 @@ const HELD_IN_PLACE: &str = "held-in-place";
 
 const HELD_SET: &str = "held-set";
 
+const HELD_SHARDS: &str = "held-shards";
+
 const SHARED: &str = "shared";
 
 const SHARED_IN_PLACE: &str = "shared-in-place";
 
 const SHARED_SET: &str = "shared-set";
+
+const SHARED_SHARDS: &str = "shared-shards";
 
 const GROWING: &str = "growing";
 
@@ -39,12 +43,13 @@ pub fn check_all<R: Print + Threads + Wait + Sync + AllocGlobal>(rt: &R) -> io::
     check_held::<NumberSet<Box<u64>>, R>(rt, HELD)?;
     check_held::<NumberSet<InPlace<u64>>, R>(rt, HELD_IN_PLACE)?;
     check_held::<HeldSetKeys<InPlace<u64>>, R>(rt, HELD_SET)?;
+    check_held::<HeldShards<InPlace<u64>>, R>(rt, HELD_SHARDS)?;
     check_shared::<SharedNumbers<Box<u64>>, R>(rt, SHARED)?;
     check_shared::<SharedNumbers<InPlace<u64>>, R>(rt, SHARED_IN_PLACE)?;
     check_shared::<SharedSetKeys<InPlace<u64>>, R>(rt, SHARED_SET)?;
+    check_shared::<SharedShards<InPlace<u64>>, R>(rt, SHARED_SHARDS)?;
     check_shared::<GrowingKeys, R>(rt, GROWING)?;
     check_shared::<GrowingShards, R>(rt, GROWING_SHARDS)?;
-    check_sharded(rt)?;
     check_seats(rt)?;
     check_schedules(rt)?;
     check_interner(rt)
@@ -59,8 +64,8 @@ pub fn run_bench<R: Print + Eprint + Clock + Files + Threads + Wait + Sync + All
     match words {
         [] => check_all(rt),
         [word] if word.as_str() == "list" => println!(rt;
-            "{HELD}\n{HELD_IN_PLACE}\n{HELD_SET}\n{SHARED}\n{SHARED_IN_PLACE}\n{SHARED_SET}\n\
-            {GROWING}\n{GROWING_SHARDS}\nsharded\nseats\ncore\ninterner"
+            "{HELD}\n{HELD_IN_PLACE}\n{HELD_SET}\n{HELD_SHARDS}\n{SHARED}\n{SHARED_IN_PLACE}\n{SHARED_SET}\n\
+            {SHARED_SHARDS}\n{GROWING}\n{GROWING_SHARDS}\nseats\ncore\ninterner"
         ),
         [name, group] => measure(rt, name.as_str(), group.as_str()),
         [name, group, threads] => measure_threads(
@@ -84,7 +89,7 @@ fn measure<R: Print + Eprint + Clock + Files + Threads + Wait + Sync + AllocGlob
         HELD => measure_held::<NumberSet<Box<u64>>, R>(rt, &report, group),
         HELD_IN_PLACE => measure_held::<NumberSet<InPlace<u64>>, R>(rt, &report, group),
         HELD_SET => measure_held::<HeldSetKeys<InPlace<u64>>, R>(rt, &report, group),
-        "sharded" => measure_sharded(rt, &report, group),
+        HELD_SHARDS => measure_held::<HeldShards<InPlace<u64>>, R>(rt, &report, group),
         "seats" => measure_seats(rt, &report, group),
         "core" => measure_schedules(rt, &report, group),
         "interner" => measure_interner(rt, &report, group),
@@ -107,6 +112,9 @@ fn measure_threads<R: Print + Eprint + Clock + Files + Threads + Wait + Sync + A
             rt, &report, group, threads,
         ),
         SHARED_SET => measure_shared::<SharedSetKeys<InPlace<u64>>, R>(rt, &report, group, threads),
+        SHARED_SHARDS => measure_shared::<SharedShards<InPlace<u64>>, R>(
+            rt, &report, group, threads,
+        ),
         GROWING => measure_shared::<GrowingKeys, R>(rt, &report, group, threads),
         GROWING_SHARDS => measure_shared::<GrowingShards, R>(rt, &report, group, threads),
         _ => refuse_words(rt),

@@ -1,5 +1,5 @@
 use Rattle.std.proofs.Common.{arith}
-use Rattle.testkit_measures.proofs.sharded.ShardedLockFreeRawTableBoxU64SHARDSNumberTable.empty.Goals as goal
+use Rattle.testkit_measures.proofs.sharded.ShardedLockFreeRawTableVSHARDSNumberTable.empty.Goals as goal
 
 -- sixteen is a power of two
 pub new-requires : goal.new-requires
