@@ -49,12 +49,17 @@ COLUMNS = [("a_ins1", "insert"), ("b_hit1", "hit"), ("c_miss1", "miss"), ("seq_i
 
 
 def numbers(folder):
-    """The numbers of all rounds, by table and measurement."""
-    found = collections.defaultdict(lambda: collections.defaultdict(list))
+    """The numbers of all rounds, by table and measurement: of what two groups of a round have the one of the later group."""
+    rounds = {}
     for line in (folder / "all.txt").read_text(encoding="ascii").splitlines():
-        if not line.startswith("#"):
+        if line.startswith("#"):
+            of_round = line.split()[2]
+        else:
             name, measurement, number = line.split()
-            found[name][measurement].append(float(number))
+            rounds[name, measurement, of_round] = float(number)
+    found = collections.defaultdict(lambda: collections.defaultdict(list))
+    for (name, measurement, _), number in rounds.items():
+        found[name][measurement].append(number)
     return found
 
 
