@@ -2,6 +2,7 @@
 """Draws two pictures of what docs/speed/all.txt has, and prints the table at the top of docs/SPEED.md.
 
     tools/plots.py [FOLDER]
+    tools/plots.py FILE BASE     prints such a table of what FILE has, as ratios to the table BASE, and draws nothing
 
 docs/speed/all.svg, below that table, shows a million keys: by one thread to four, and by one alone. docs/speed/sizes.svg shows ten
 thousand keys to ten million by one thread, a line a table; it is drawn where a table was measured with several numbers of keys.
@@ -21,6 +22,7 @@ import matplotlib.pyplot as plt
 
 SPEED = pathlib.Path(__file__).resolve().parent.parent / "docs" / "speed"
 BASE = "dashmap"
+STEPS = "plain-steps"
 # Each table's words in the table and the legend, and its line: a hue for a kind of table, dashes for boxes.
 TABLES = {
     "held-in-place": ("HeldRawTable, InPlace", "#2ca02c", "v-"),
@@ -33,6 +35,7 @@ TABLES = {
     "shared-shards": ("ShardedLockFreeRawTable, InPlace", "#1f77b4", "o:"),
     "growing": ("GrowingSet", "#393b79", "<-"),
     "growing-shards": ("ShardedGrowingSet", "#393b79", "<:"),
+    STEPS: ("the original's steps, Box", "#000000", "P-"),
     "dashmap": ("dashmap, Box", "#d62728", "x-"),
     "rwlock-HashSet": ("RwLock of a HashSet, Box", "#7f7f7f", "+-"),
     "std-HashSet": ("std HashSet, Box", "#bcbd22", "d-"),
@@ -48,10 +51,10 @@ COLUMNS = [("a_ins1", "insert"), ("b_hit1", "hit"), ("c_miss1", "miss"), ("seq_i
            ("e_ins4", "insert, 4 threads"), ("d_same4", "insert of what is there, 4"), ("f_hit4", "hit, 4 threads")]
 
 
-def numbers(folder):
+def numbers(file):
     """The numbers of all rounds, by table and measurement: of what two groups of a round have the one of the later group."""
     rounds = {}
-    for line in (folder / "all.txt").read_text(encoding="ascii").splitlines():
+    for line in file.read_text(encoding="ascii").splitlines():
         if line.startswith("#"):
             of_round = line.split()[2]
         else:
@@ -148,27 +151,32 @@ def ratio(of, base, measurement):
     return ", ".join(f"{least(of[measurement]) / least(base[measurement]):.2f}" for least in (min, statistics.median))
 
 
-def table(found):
+def table(found, base):
     """The table of ratios to the base, of the best rounds and of the middle ones, with the bytes of an entry."""
-    rows = [f"| ratio to {BASE} | " + " | ".join(words for _, words in COLUMNS) + " | bytes an entry |", "|---" * (len(COLUMNS) + 2) + "|"]
+    base_words = TABLES[base][0].split(",")[0] if base in TABLES else base
+    heads = [f"ratio to {base_words}", *(words for _, words in COLUMNS), "bytes an entry"]
+    rows = ["| " + " | ".join(heads) + " |", "|---" * len(heads) + "|"]
     for name, (words, _, _) in TABLES.items():
         if name in found:
             of = found[name]
             bytes_each = f"{min(of['g_rss']):.0f}" if "g_rss" in of else ""
-            cells = [ratio(of, found[BASE], it) for it, _ in COLUMNS]
+            cells = [ratio(of, found[base], it) for it, _ in COLUMNS]
             rows.append(f"| {words} | " + " | ".join(cells) + f" | {bytes_each} |")
     return "\n".join(rows)
 
 
 def main():
+    if len(sys.argv) == 3:
+        print(table(numbers(pathlib.Path(sys.argv[1])), sys.argv[2]))
+        return
     folder = pathlib.Path(sys.argv[1]) if len(sys.argv) > 1 else SPEED
     matplotlib.rcParams["svg.hashsalt"] = "tables"
     matplotlib.rcParams["svg.fonttype"] = "path"
-    found = numbers(folder)
+    found = numbers(folder / "all.txt")
     draw_threads(found, folder / "all.svg")
     if any(len(by_keys(of, look)) > 1 for of in found.values() for look in LOOKS):
         draw_sizes(found, folder / "sizes.svg")
-    print(table(found))
+    print(table(found, BASE))
 
 
 if __name__ == "__main__":

@@ -31,10 +31,8 @@ LARGE = "1e7"
 LARGE_ROUNDS = 2
 # The groups of each table in `all`: those that its program knows.
 GROUPS_OF_ALL = {name: ["one", "seq", *SIZES] for name in ("held", "held-in-place", "held-set", "held-shards", "std-HashSet")}
-GROUPS_OF_ALL |= {
-    name: ["one", "seq", *THREADED, *SIZES]
-    for name in ("shared", "shared-in-place", "shared-set", "shared-shards", "growing", "growing-shards", "dashmap", "rwlock-HashSet")
-}
+SHARED = ["shared", "shared-in-place", "shared-set", "shared-shards", "growing", "growing-shards"]
+GROUPS_OF_ALL |= {name: ["one", "seq", *THREADED, *SIZES] for name in (*SHARED, "plain-steps", "dashmap", "rwlock-HashSet")}
 GROUPS_OF_ALL |= {name: ["one", "seq", "same", "ins"] for name in ("model-direct", "tbb-unordered_set", "libcuckoo", "urcu-lfht-presized")}
 # The kind of each table in `run`, and its groups.
 KINDS = {"core": "core", "seats": "seats", "plain-atomics": "seats", "interner": "interner", "plain-interner": "interner"}

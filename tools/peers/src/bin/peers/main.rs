@@ -1,13 +1,14 @@
 //! The measurements of `tool_checks bench`, on the plain-Rust tables and on std's set.
 //!
 //!     peers list | peers PEER one | peers PEER seq | peers plain-atomics same | peers plain-atomics ins |
-//!     peers plain-interner 1e4 | 1e5 | 1e6 | peers rwlock-HashSet one|seq|same|ins|hit|1e4|1e5|1e7
+//!     peers plain-interner 1e4 | 1e5 | 1e6 | peers rwlock-HashSet|plain-steps one|seq|same|ins|hit|1e4|1e5|1e7
 
 mod interner;
 mod seats;
 
 use peers::keys::{hash_number, spread, turn_of, StdSet, COUNT};
 use peers::sharing::measure_set;
+use peers::steps::Steps;
 use peers::timing::{resident_bytes, time, time_of};
 use std::collections::HashSet;
 use std::hint::black_box;
@@ -83,12 +84,13 @@ fn measure_size<S: Set>(name: &str, size: &str, keys: u64, rounds: u64) {
 fn main() {
     let words: Vec<String> = std::env::args().skip(1).collect();
     match words.iter().map(String::as_str).collect::<Vec<_>>()[..] {
-        ["list"] => println!("plain-rust\nstd-HashSet\nrwlock-HashSet\nplain-atomics\nplain-interner"),
+        ["list"] => println!("plain-rust\nstd-HashSet\nrwlock-HashSet\nplain-steps\nplain-atomics\nplain-interner"),
         ["plain-rust", group] => measure::<peers::Table<u64>>("plain-rust", group),
         ["std-HashSet", group] => measure::<StdSet>("std-HashSet", group),
         ["plain-atomics", group] => seats::measure(group),
         ["plain-interner", group] => interner::measure(group),
         [name @ "rwlock-HashSet", group] => measure_set::<RwLock<StdSet>>(name, group),
+        [name @ "plain-steps", group] => measure_set::<Steps>(name, group),
         _ => {}
     }
 }
