@@ -1,4 +1,5 @@
-//! A set that takes the steps of the Rust original, in plain Rust, to stand in for it where its sources aren't at hand.
+//! A set that takes the steps of the Rust original, in plain Rust, to stand in for it where its sources aren't at hand. What is known of
+//! these docs/DIFFERENCES.md says. The lock is std's, where the original's is parking_lot's.
 //!
 //! A bucket is one pointer, to the value's own box, and no bits of a hash are kept: what is set is compared. An insert takes the lock
 //! shared before it loads the current generation, and sets a bucket by one exchange. Who finds half of the buckets set takes the lock alone,
