@@ -1,4 +1,5 @@
 pub mod Contents
+pub mod Lanes
 pub mod Notes
 pub mod Rehomed
 pub mod Rows

@@ -1,10 +1,11 @@
 //! A bucket that is set at most once.
 ghost use Rattle.std.specs.Prelude.{◌≡◌, IfOk, IfErr, IfSome, IfNone, IsSome, None, Some, OnOk, option_copied, option_map};
-ghost use Rattle.table_cell.specs.Contents.{vacant, own, named, bucket, shown, owned, entry_from, naming, Lies, NamesNone, KeepsOwn, Reads, HandsBack, Keeps, Misses};
+ghost use Rattle.table_cell.specs.Contents.{vacant, own, named, bucket, shown, owned, entry_from, naming, bucket_of, IsMarked, Lies, NamesNone, KeepsOwn, Reads, ReadsAlone, HandsBack, Keeps, Misses};
 
 use crate::home::{Closed, Home, Homed};
 use crate::loose_block::LooseBlock;
 use crate::low::Low;
+use crate::mark_group::MarkGroup;
 use crate::name::Name;
 use crate::note::Note;
 use crate::word::Word;
@@ -22,17 +23,23 @@ pub struct Entry<T> {
 /// An entry fits every home: it names no block.
 impl<T> Homed for Entry<T> {
     ghost fits = { λ _ _. Unit {0} };
+
+    ghost bits = { λ e. e.bits };
 }
 
 /// What stands beside the word of a bucket, so that a probe that skips follows nothing.
 #[derive(Clone, Copy)]
 pub enum Mark {
-    /// The word is null, or was set through `&`.
+    /// Nobody has come to set the word: it is null.
     Vacant,
-    /// The word owns the block of an entry with these bits.
+    /// The word owns the block of an entry with these bits. It was set alone.
     Own(u8),
-    /// The word names the block of an entry with these bits.
+    /// The word names the block of an entry with these bits. It was set alone.
     Named(u8),
+    /// The word was set through `&`, to the block of an entry with these bits.
+    Told(u8),
+    /// Somebody has come to set the word through `&`, so it is null or set.
+    Coming,
 }
 
 /// A value that a bucket held alone did not take.
@@ -59,7 +66,8 @@ pub enum Missed<'a, T> {
 /// A bucket that is dropped frees no block: `take` ends it.
 #[derive(Drop)]
 pub struct Bucket<T: Drop, A: Allocator + Copy> {
-    pub(crate) mark: Mark,
+    /// Its lane is the first one.
+    pub(crate) marks: MarkGroup<Entry<T>>,
     pub(crate) word: Word<Entry<T>, A>,
 }
 
@@ -74,30 +82,35 @@ const _: () = prove!(size_of::<Mark>() == 2);
 const _: () = prove!(size_of::<Bucket<u64, Global>>() == 16);
 
 impl<T: Drop, A: Allocator + Copy> Model for Bucket<T, A> {
-    ghost use Rattle.table_cell.specs.Contents.{BucketView, bucket_of, IsMarked};
+    ghost use Rattle.table_cell.specs.Contents.{BucketView, bucket_of};
+    ghost use Rattle.table_cell.specs.Lanes.{mark_at};
+    ghost use Rattle.table_cell.specs.Rows.{IsLane};
 
     ghost Value = { BucketView A T };
 
-    ghost view = { λ b. bucket_of b.mark b.word };
+    ghost view = { λ b. bucket_of (mark_at b.marks 0) b.word };
 
-    ghost invariant = { λ b. IsMarked b.mark b.word };
+    ghost invariant = { λ b. IsLane b.marks 0 b.word };
 }
 
-/// A bucket looked at through `&`: its mark and its word, whatever lies around them.
+/// A bucket looked at through `&`: the lane of its mark and its word, whatever lies around them.
 #[derive(Drop)]
 pub struct BucketRef<'a, T: Drop, A: Allocator + Copy> {
-    pub(crate) mark: Mark,
+    pub(crate) marks: &'a MarkGroup<Entry<T>>,
+    pub(crate) lane: usize,
     pub(crate) word: &'a Word<Entry<T>, A>,
 }
 
 impl<'a, T: Drop, A: Allocator + Copy> Model for BucketRef<'a, T, A> {
-    ghost use Rattle.table_cell.specs.Contents.{BucketView, bucket_of, IsMarked};
+    ghost use Rattle.table_cell.specs.Contents.{BucketView, bucket_of};
+    ghost use Rattle.table_cell.specs.Lanes.{mark_at};
+    ghost use Rattle.table_cell.specs.Rows.{IsLane};
 
     ghost Value = { BucketView A T };
 
-    ghost view = { λ b. bucket_of b.mark b.word.now };
+    ghost view = { λ b. bucket_of (mark_at b.marks.now b.lane) b.word.now };
 
-    ghost invariant = { λ b. IsMarked b.mark b.word.now };
+    ghost invariant = { λ b. IsLane b.marks.now b.lane b.word.now };
 }
 
 impl<T: Drop, A: Allocator + Copy> Bucket<T, A> {
@@ -106,10 +119,7 @@ impl<T: Drop, A: Allocator + Copy> Bucket<T, A> {
         ensures lies { Lies home.now.id alloc.now result }
         ensures vacant { result.content ≡ vacant }
     {
-        Bucket {
-            mark: Mark::Vacant,
-            word: Word::new(alloc, home),
-        }
+        Bucket::of(Mark::Vacant, Word::new(alloc, home))
     }
 
     /// The bucket, to be looked at.
@@ -117,9 +127,29 @@ impl<T: Drop, A: Allocator + Copy> Bucket<T, A> {
         ensures { result ≡ self.now }
     {
         BucketRef {
-            mark: self.mark,
+            marks: &self.marks,
+            lane: 0,
             word: &self.word,
         }
+    }
+
+    /// A bucket of a word with its mark.
+    pub(crate) fn of(mark: Mark, word: Word<Entry<T>, A>) -> Self
+        requires { IsMarked mark word }
+        ensures { result ≡ bucket_of mark word }
+    {
+        let marks = MarkGroup::blank().with(0, mark, &word);
+        Bucket { marks, word }
+    }
+
+    /// What was set alone: the mark, where that is known alone, and the word.
+    pub(crate) fn into_alone(self) -> (Mark, Word<Entry<T>, A>)
+        ensures marked { IsMarked result.0 result.1 }
+        ensures same { self ≡ bucket_of result.0 result.1 }
+    {
+        let mark = self.as_ref().mark_alone();
+        let Bucket { marks: _, word } = self;
+        (mark, word)
     }
 
     /// Sets the bucket to the value, in a block of its own. The block is asked for before the bucket is looked at.
@@ -143,12 +173,9 @@ impl<T: Drop, A: Allocator + Copy> Bucket<T, A> {
             Ok(block) => block,
             Err(refused) => return Err(Refusal::NoMemory(refused.value.value)),
         };
-        match self.mark {
+        match self.as_ref().mark_alone() {
             Mark::Vacant => {
-                *self = Bucket {
-                    mark: Mark::Own(bits),
-                    word: Word::own(home, LooseBlock::of(block)),
-                };
+                *self = Bucket::of(Mark::Own(bits), Word::own(home, LooseBlock::of(block)));
                 Ok(())
             }
             _ => Err(Refusal::Taken(Box::into_inner(block).value)),
@@ -160,12 +187,10 @@ impl<T: Drop, A: Allocator + Copy> Bucket<T, A> {
         requires { Lies closed.now.id alloc self }
         ensures { result ≡ option_map (λ e. e.value) (owned self.content) }
     {
-        match self.mark {
-            Mark::Own(_) => Some(
-                Box::into_inner(self.word.into_block(closed).into_box(alloc)).value,
-            ),
-            _ => None,
-        }
+        let (Mark::Own(_), word) = self.into_alone() else {
+            return None;
+        };
+        Some(Box::into_inner(word.into_block(closed).into_box(alloc)).value)
     }
 
     /// Ends the bucket, and hands out the value that it owns, alone or since it was set through `&`: then the one that the
@@ -178,13 +203,13 @@ impl<T: Drop, A: Allocator + Copy> Bucket<T, A> {
         ensures shared { IfNone (shown self.content)
             (IfSome note.known (λ e. result ≡ Some e.value)) }
     {
-        match self.mark {
-            Mark::Own(_) => Some(
-                Box::into_inner(self.word.into_block(closed).into_box(alloc)).value,
+        match self.into_alone() {
+            (Mark::Own(_), word) => Some(
+                Box::into_inner(word.into_block(closed).into_box(alloc)).value,
             ),
-            Mark::Named(_) => None,
-            Mark::Vacant => Some(
-                Box::into_inner(self.word.into_block_if_set(closed, note)?.into_box(alloc)).value,
+            (Mark::Named(_), _) => None,
+            (_, word) => Some(
+                Box::into_inner(word.into_block_if_set(closed, note)?.into_box(alloc)).value,
             ),
         }
     }
@@ -197,10 +222,7 @@ impl<T: Drop, A: Allocator + Copy> Bucket<T, A> {
     {
         let word = Word::own(home, block);
         let bits = word.name().get(home).bits;
-        Bucket {
-            mark: Mark::Own(bits),
-            word,
-        }
+        Bucket::of(Mark::Own(bits), word)
     }
 
     /// Ends the bucket, and hands out the entry that it owns, alone or since it was set through `&`, in a bucket of another
@@ -214,13 +236,12 @@ impl<T: Drop, A: Allocator + Copy> Bucket<T, A> {
             (IfSome note.known (λ e. result.content ≡ own e)) }
         ensures unnamed { NamesNone result.content }
     {
-        match self.mark {
-            Mark::Own(bits) => Bucket {
-                mark: Mark::Own(bits),
-                word: Word::own(home, self.word.into_block(closed)),
-            },
-            Mark::Named(_) => Bucket::new(&alloc, home),
-            Mark::Vacant => match self.word.into_block_if_set(closed, note) {
+        match self.into_alone() {
+            (Mark::Own(bits), word) => {
+                Bucket::of(Mark::Own(bits), Word::own(home, word.into_block(closed)))
+            }
+            (Mark::Named(_), _) => Bucket::new(&alloc, home),
+            (_, word) => match word.into_block_if_set(closed, note) {
                 Some(block) => Bucket::owning(home, block),
                 None => Bucket::new(&alloc, home),
             },
@@ -229,11 +250,35 @@ impl<T: Drop, A: Allocator + Copy> Bucket<T, A> {
 }
 
 impl<'a, T: Drop, A: Allocator + Copy> BucketRef<'a, T, A> {
-    /// The eight bits of the entry that the bucket holds alone. Nothing is followed.
-    pub fn mark(&self) -> Mark
-        ensures { Reads self.now.content result }
+    /// The mark by now. Nothing is followed. The note then knows the entry that the mark tells of.
+    #[inline(always)]
+    pub fn mark(&self, note: &mut Note<Entry<T>>) -> Mark
+        requires of { note.old.of ≡ self.now.id }
+        ensures of { note.new.of ≡ note.old.of }
+        ensures reads { Reads self.now.content note.old.known note.new.known result }
     {
-        self.mark
+        self.marks.read(self.lane, note)
+    }
+
+    /// The mark of what the bucket holds alone: it is vacant where that is nothing, whatever the word was set to through `&`. Nothing
+    /// is followed.
+    #[inline(always)]
+    pub fn mark_alone(&self) -> Mark
+        ensures { ReadsAlone self.now.content result }
+    {
+        match self.mark(&mut self.note()) {
+            Mark::Told(_) | Mark::Coming => Mark::Vacant,
+            mark => mark,
+        }
+    }
+
+    /// A bucket that names the entry of this one, with the mark of that entry.
+    fn named(&self, bits: u8, alloc: A) -> Bucket<T, A>
+        requires from { self.now.from ≡ alloc }
+        requires shown { (e : _) × (shown self.now.content ≡ Some e) × (e.bits ≡ bits) }
+        ensures { Some result ≡ option_map (bucket alloc self.now.home) (naming self.now.content) }
+    {
+        Bucket::of(Mark::Named(bits), Word::of_name(self.word.name(), &alloc))
     }
 
     /// A bucket that names the entry of this one. Nothing is followed.
@@ -241,18 +286,14 @@ impl<'a, T: Drop, A: Allocator + Copy> BucketRef<'a, T, A> {
         requires { self.now.from ≡ alloc }
         ensures { result ≡ option_map (bucket alloc self.now.home) (naming self.now.content) }
     {
-        let mark = match self.mark {
-            Mark::Vacant => return None,
-            Mark::Own(bits) => Mark::Named(bits),
-            Mark::Named(bits) => Mark::Named(bits),
-        };
-        Some(Bucket {
-            mark,
-            word: Word::of_name(self.word.name(), &alloc),
-        })
+        match self.mark_alone() {
+            Mark::Own(bits) | Mark::Named(bits) => Some(self.named(bits, alloc)),
+            _ => None,
+        }
     }
 
-    /// A bucket that names the entry of this one, also where that was set through `&`: then its block is read for its bits.
+    /// A bucket that names the entry of this one, also where that was set through `&`: then its block is read for its bits,
+    /// unless they were told.
     pub fn naming_set(
         &self,
         home: &Home,
@@ -270,15 +311,16 @@ impl<'a, T: Drop, A: Allocator + Copy> BucketRef<'a, T, A> {
             ((result ≡ option_map (λ e. bucket alloc home.now.id (named e)) note.new.known)
             × Keeps note.old.known note.new.known) }
     {
-        let Mark::Vacant = self.mark else {
-            return self.naming(alloc);
-        };
+        let mark = self.mark(note);
+        if let Mark::Own(bits) | Mark::Named(bits) = mark {
+            return Some(self.named(bits, alloc));
+        }
         let word = Word::of_name(self.word.name_if_set(note)?, &alloc);
-        let bits = word.name().get(home).bits;
-        Some(Bucket {
-            mark: Mark::Named(bits),
-            word,
-        })
+        let bits = match mark {
+            Mark::Told(bits) => bits,
+            _ => word.name().get(home).bits,
+        };
+        Some(Bucket::of(Mark::Named(bits), word))
     }
 
     /// The entry of a bucket that is set alone. Its mark isn't read.
@@ -295,9 +337,9 @@ impl<'a, T: Drop, A: Allocator + Copy> BucketRef<'a, T, A> {
         requires { self.now.home ≡ home.now.id }
         ensures { option_copied result ≡ shown self.now.content }
     {
-        match self.mark {
-            Mark::Vacant => None,
-            _ => Some(self.word.name().get(home)),
+        match self.mark_alone() {
+            Mark::Named(_) | Mark::Own(_) => Some(self.word.name().get(home)),
+            _ => None,
         }
     }
 
@@ -306,6 +348,19 @@ impl<'a, T: Drop, A: Allocator + Copy> BucketRef<'a, T, A> {
         ensures { (result.of ≡ self.now.id) × (result.known ≡ None) }
     {
         self.word.note()
+    }
+
+    /// The entry that a bucket was set to through `&`, if it was: then the note knows it. What a note knows is shown again. The
+    /// mark isn't read.
+    pub fn get_set(&self, home: &'a Home, note: &mut Note<Entry<T>>) -> Option<&'a Entry<T>>
+        requires home { self.now.home ≡ home.now.id }
+        requires of { note.old.of ≡ self.now.id }
+        requires vacant { self.now.content ≡ vacant }
+        ensures of { note.new.of ≡ note.old.of }
+        ensures shared { (option_copied result ≡ note.new.known)
+            × Keeps note.old.known note.new.known }
+    {
+        Some(self.word.name_if_set(note)?.get(home))
     }
 
     /// The entry that the bucket holds, or was set to through `&`: then the note knows it. What a note knows is shown again.
@@ -318,16 +373,17 @@ impl<'a, T: Drop, A: Allocator + Copy> BucketRef<'a, T, A> {
         ensures shared { IfNone (shown self.now.content)
             ((option_copied result ≡ note.new.known) × Keeps note.old.known note.new.known) }
     {
-        match self.mark {
-            Mark::Vacant => Some(self.word.name_if_set(note)?.get(home)),
-            _ => Some(self.word.name().get(home)),
+        match self.mark(note) {
+            Mark::Own(_) | Mark::Named(_) => Some(self.word.name().get(home)),
+            _ => self.get_set(home, note),
         }
     }
 }
 
 impl<'a, T: Drop, A: Low + Copy> BucketRef<'a, T, A> {
-    /// Sets a vacant bucket by one exchange. The block is asked for before the bucket is looked at. The note then knows the
-    /// entry that was placed here, or the one that came first.
+    /// Sets a vacant bucket by one exchange. Before it the mark says that somebody comes, and after it the entry's bits. The block is
+    /// asked for before the bucket is looked at. The note then knows the entry that was placed here, or the one that came first.
+    #[inline(always)]
     pub fn place(
         &self,
         home: &'a Home,
@@ -349,11 +405,15 @@ impl<'a, T: Drop, A: Low + Copy> BucketRef<'a, T, A> {
             Ok(block) => block,
             Err(refused) => return Err(Missed::NoMemory(refused.value.value)),
         };
-        if !matches!(self.mark, Mark::Vacant) {
+        if matches!(self.mark_alone(), Mark::Own(_) | Mark::Named(_)) {
             return Err(Missed::Taken(Box::into_inner(block).value, self.word.name().get(home)));
         }
+        let coming = self.marks.announce(self.lane, &mut self.note());
         match self.word.offer(home, LooseBlock::of(block), note) {
-            (entry, None) => Ok(entry),
+            (entry, None) => {
+                self.marks.tell(self.lane, bits, note, coming);
+                Ok(entry)
+            }
             (first, Some(back)) => {
                 let value = Box::into_inner(back.into_box(alloc)).value;
                 Err(Missed::Taken(value, first))

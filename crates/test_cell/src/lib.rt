@@ -11,3 +11,5 @@ mod refused;
 mod settled;
 #[cfg(test)]
 mod shared;
+#[cfg(test)]
+mod told;
