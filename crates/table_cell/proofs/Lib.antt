@@ -1,10 +1,6 @@
 pub mod Ajar
-pub mod Backings
 pub mod Calls
-pub mod Groups
 pub mod Homes
-pub mod LaneCodes
-pub mod Lanes
 pub mod Marks
 pub mod Moves
 pub mod Notes

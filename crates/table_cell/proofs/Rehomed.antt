@@ -33,15 +33,15 @@ module _ {A T : Type 0} where
   bucket_set (n ∷ ms) (v ∷ ws) (suc i) m w are = ap (λ bs. bucket_of n v ∷ bs) (bucket_set ms ws i m w are.1)
 
   -- the mark and the word at an index are the bucket there
-  pub bucket_read : (ms : List Mark) (ws : List (WordView A (Entry T))) (i : ℕ) (m : Mark) (w : WordView A (Entry T)) → AreMarked ms ws → i < length ws
+  pub bucket_read : (ms : List Mark) (ws : List (WordView A (Entry T))) (i : ℕ) (m : Mark) (w : WordView A (Entry T)) → AreMarked ms ws → i < length ms
       → m ≡ slice_index_or ms i m → w ≡ slice_index_or ws i w → bucket_of m w ≡ slice_index_or (buckets_of ms ws) i (bucket_of m w)
-  bucket_read ms [] i m w are lt is at = absurd (omega arith)
-  bucket_read [] (v ∷ ws) i m w are lt is at = absurd are
+  bucket_read [] ws i m w are lt is at = absurd (omega arith)
+  bucket_read (n ∷ ms) [] i m w are lt is at = absurd are
   bucket_read (n ∷ ms) (v ∷ ws) zero m w are lt is at = rw (← is, ← at) refl
   bucket_read (n ∷ ms) (v ∷ ws) (suc i) m w are lt is at = bucket_read ms ws i m w are.1 (omega arith) is at
 
-  -- there are as many buckets as words
-  pub length-buckets : (ms : List Mark) (ws : List (WordView A (Entry T))) → AreMarked ms ws → length (buckets_of ms ws) ≡ length ws
+  -- there are as many buckets as marks
+  pub length-buckets : (ms : List Mark) (ws : List (WordView A (Entry T))) → AreMarked ms ws → length (buckets_of ms ws) ≡ length ms
   length-buckets [] [] are = refl
   length-buckets [] (w ∷ ws) are = absurd are
   length-buckets (m ∷ ms) [] are = absurd are
@@ -71,6 +71,9 @@ module _ {A T : Type 0} (home : ℕ) (from : A) where
     set = refl;
     moved = record { lies = lies; own = subst (λ (x : BucketView A T). KeepsOwn x.content b.content) (read ∙ get_or_default bs i was b lt) keeps; unnamed = unnamed };
   }
+
+  pub none_moved : (bs : List (BucketView A T)) → AreMovedBelow home from 0 bs bs
+  none_moved bs = record { long = refl; moved = λ k d lt. absurd (omega arith); left = λ k d le. refl }
 
   -- one bucket more is moved
   pub one_moved : (i : ℕ) (was bs new : List (BucketView A T)) → i < length was → AreMovedBelow home from i was bs → RehomesAt home from i bs new → AreMovedBelow home from (i + 1) was new

@@ -1,5 +1,5 @@
--- What words and marks hold says the same to every thread.
-use Rattle.std.proofs.Common.{ℕ, Bool, true, false, List, Option, Some, None, ◌∷◌, []}
+-- What a word holds says the same to every thread.
+use Rattle.std.proofs.Common.{ℕ, Bool, true, false, Option, Some, None, ◌∷◌, []}
 use mir.Raw.{raw}
 use mir.Syntax.{Ty}
 use base.Fml.{Fml}
@@ -9,7 +9,6 @@ use denote.RattleType.{RattleType}
 use denote.Memory.{lone}
 use denote.RawPtr.{Ptr, block_ptr, null_ptr}
 use denote.Param.Send.{IsSend, IsSync, part_keyless}
-use Rattle.table_cell.specs.Lanes.{Lane, back_all}
 use Rattle.table_cell.specs.Notes.{learnt}
 use Rattle.table_cell.specs.Words.{tested, right, blank, fixes, kept}
 
@@ -25,11 +24,6 @@ module _ (R : RattleType) (i : ℕ) where
   fixes_keyless : (v : Option R.Denot) (x : R.Denot) → Keyless (fixes R i v x)
   fixes_keyless None x = (tt, tt)
   fixes_keyless (Some y) x = tt
-
-pub back_keyless : (R : RattleType) (bits : R.Denot → ℕ) (ls : List Lane) (cs : List ℕ) → Keyless (back_all R bits ls cs)
-back_keyless R bits [] cs = tt
-back_keyless R bits (l ∷ ls) [] = tt
-back_keyless R bits (l ∷ ls) (c ∷ cs) = ((λ k. (learnt_keyless R l.0 k, λ _. tt)), back_keyless R bits ls cs)
 
 module _ (R : RattleType) (s : IsSend R) (y : IsSync R) (k : Ty → Ptr → Fml) (frees : (t : Ty) (p : Ptr) → Keyless (k t p)) (h : ℕ) where
   tested_keyless : (v : Option R.Denot) (p : Ptr) → Keyless (tested v p)

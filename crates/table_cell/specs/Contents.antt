@@ -1,6 +1,5 @@
 -- What a bucket holds, and what its calls answer.
 use Rattle.std.specs.Prelude.{◌≡◌, ◌≢◌, ℕ, ⊤, true, false, Option, Some, None, IfSome}
-use Rattle.table_cell.specs.Notes.{Agrees}
 use Rattle.table_cell.specs.Words.{WordView}
 use Rattle.table_cell.specs.declared.bucket.Entry.{Entry}
 use Rattle.table_cell.specs.declared.bucket.Mark.{Mark}
@@ -62,22 +61,11 @@ module _ {T : Type 0} where
   abbrev pub entry_from : T → ℕ → Entry T
   entry_from value bits = record { value = value; bits = bits }
 
-  -- a mark has the bits of the entry that the bucket shows. Where it shows none the mark may tell what the word was set to, which a
-  -- note that knew `old` then knows
-  abbrev pub Reads : Content T → Option (Entry T) → Option (Entry T) → Mark → Type 0
-  Reads c old new mark.Vacant = (c ≡ vacant) × (new ≡ old)
-  Reads c old new (mark.Own bits) = ((e : Entry T) × (c ≡ own e) × (e.bits ≡ bits)) × (new ≡ old)
-  Reads c old new (mark.Named bits) = ((e : Entry T) × (c ≡ named e) × (e.bits ≡ bits)) × (new ≡ old)
-  Reads c old new mark.Coming = (c ≡ vacant) × (new ≡ old)
-  Reads c old new (mark.Told bits) = (c ≡ vacant) × (e : Entry T) × (e.bits ≡ bits) × (new ≡ Some e) × Agrees old e
-
-  -- the same of what the bucket holds alone
-  abbrev pub ReadsAlone : Content T → Mark → Type 0
-  ReadsAlone c mark.Vacant = c ≡ vacant
-  ReadsAlone c (mark.Own bits) = (e : Entry T) × (c ≡ own e) × (e.bits ≡ bits)
-  ReadsAlone c (mark.Named bits) = (e : Entry T) × (c ≡ named e) × (e.bits ≡ bits)
-  ReadsAlone c (mark.Told bits) = ⊥
-  ReadsAlone c mark.Coming = ⊥
+  -- a mark has the bits of the entry that the bucket shows
+  abbrev pub Reads : Content T → Mark → Type 0
+  Reads c mark.Vacant = c ≡ vacant
+  Reads c (mark.Own bits) = (e : Entry T) × (c ≡ own e) × (e.bits ≡ bits)
+  Reads c (mark.Named bits) = (e : Entry T) × (c ≡ named e) × (e.bits ≡ bits)
 
   -- the value comes back, as taken only from a bucket that was set
   abbrev pub HandsBack : Content T → T → Refusal T → Type 0
@@ -103,8 +91,6 @@ module _ {T : Type 0} where
   content_of (mark.Own bits) (Some e) = own e
   content_of (mark.Named bits) None = vacant
   content_of (mark.Named bits) (Some e) = named e
-  content_of (mark.Told bits) v = vacant
-  content_of mark.Coming v = vacant
 
 module _ {A T : Type 0} where
   -- a bucket is of this home and this allocator
@@ -114,10 +100,8 @@ module _ {A T : Type 0} where
   abbrev pub bucket_of : Mark → WordView A (Entry T) → BucketView A T
   bucket_of m w = record { from = w.from; home = w.home; id = w.id; content = content_of m w.value }
 
-  -- what is known alone of a word agrees with it: a vacant word owns what it will be set to
+  -- the mark beside a word agrees with it: a vacant word owns what it will be set to
   abbrev pub IsMarked : Mark → WordView A (Entry T) → Type 0
   IsMarked mark.Vacant w = (w.value ≡ None) × (w.owning ≡ true)
   IsMarked (mark.Own bits) w = (w.owning ≡ true) × (e : Entry T) × (w.value ≡ Some e) × (e.bits ≡ bits)
   IsMarked (mark.Named bits) w = (w.owning ≡ false) × (e : Entry T) × (w.value ≡ Some e) × (e.bits ≡ bits)
-  IsMarked (mark.Told bits) w = ⊥
-  IsMarked mark.Coming w = ⊥

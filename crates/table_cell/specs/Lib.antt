@@ -1,5 +1,4 @@
 pub mod Contents
-pub mod Lanes
 pub mod Notes
 pub mod Rehomed
 pub mod Rows

@@ -1,11 +1,10 @@
 //! A bucket that is set at most once.
 ghost use Rattle.std.specs.Prelude.{◌≡◌, IfOk, IfErr, IfSome, IfNone, IsSome, None, Some, OnOk, option_copied, option_map};
-ghost use Rattle.table_cell.specs.Contents.{vacant, own, named, bucket, shown, owned, entry_from, naming, bucket_of, IsMarked, Lies, NamesNone, KeepsOwn, Reads, ReadsAlone, HandsBack, Keeps, Misses};
+ghost use Rattle.table_cell.specs.Contents.{vacant, own, named, bucket, shown, owned, entry_from, naming, Lies, NamesNone, KeepsOwn, Reads, HandsBack, Keeps, Misses};
 
 use crate::home::{Closed, Home, Homed};
 use crate::loose_block::LooseBlock;
 use crate::low::Low;
-use crate::mark_group::MarkGroup;
 use crate::name::Name;
 use crate::note::Note;
 use crate::word::Word;
@@ -23,23 +22,17 @@ pub struct Entry<T> {
 /// An entry fits every home: it names no block.
 impl<T> Homed for Entry<T> {
     ghost fits = { λ _ _. Unit {0} };
-
-    ghost bits = { λ e. e.bits };
 }
 
 /// What stands beside the word of a bucket, so that a probe that skips follows nothing.
 #[derive(Clone, Copy)]
 pub enum Mark {
-    /// Nobody has come to set the word: it is null.
+    /// The word is null, or was set through `&`.
     Vacant,
-    /// The word owns the block of an entry with these bits. It was set alone.
+    /// The word owns the block of an entry with these bits.
     Own(u8),
-    /// The word names the block of an entry with these bits. It was set alone.
+    /// The word names the block of an entry with these bits.
     Named(u8),
-    /// The word was set through `&`, to the block of an entry with these bits.
-    Told(u8),
-    /// Somebody has come to set the word through `&`, so it is null or set.
-    Coming,
 }
 
 /// A value that a bucket held alone did not take.
@@ -66,8 +59,7 @@ pub enum Missed<'a, T> {
 /// A bucket that is dropped frees no block: `take` ends it.
 #[derive(Drop)]
 pub struct Bucket<T: Drop, A: Allocator + Copy> {
-    /// Its lane is the first one.
-    pub(crate) marks: MarkGroup<Entry<T>>,
+    pub(crate) mark: Mark,
     pub(crate) word: Word<Entry<T>, A>,
 }
 
@@ -82,35 +74,30 @@ const _: () = prove!(size_of::<Mark>() == 2);
 const _: () = prove!(size_of::<Bucket<u64, Global>>() == 16);
 
 impl<T: Drop, A: Allocator + Copy> Model for Bucket<T, A> {
-    ghost use Rattle.table_cell.specs.Contents.{BucketView, bucket_of};
-    ghost use Rattle.table_cell.specs.Lanes.{mark_at};
-    ghost use Rattle.table_cell.specs.Rows.{IsLane};
+    ghost use Rattle.table_cell.specs.Contents.{BucketView, bucket_of, IsMarked};
 
     ghost Value = { BucketView A T };
 
-    ghost view = { λ b. bucket_of (mark_at b.marks 0) b.word };
+    ghost view = { λ b. bucket_of b.mark b.word };
 
-    ghost invariant = { λ b. IsLane b.marks 0 b.word };
+    ghost invariant = { λ b. IsMarked b.mark b.word };
 }
 
-/// A bucket looked at through `&`: the lane of its mark and its word, whatever lies around them.
+/// A bucket looked at through `&`: its mark and its word, whatever lies around them.
 #[derive(Drop)]
 pub struct BucketRef<'a, T: Drop, A: Allocator + Copy> {
-    pub(crate) marks: &'a MarkGroup<Entry<T>>,
-    pub(crate) lane: usize,
+    pub(crate) mark: Mark,
     pub(crate) word: &'a Word<Entry<T>, A>,
 }
 
 impl<'a, T: Drop, A: Allocator + Copy> Model for BucketRef<'a, T, A> {
-    ghost use Rattle.table_cell.specs.Contents.{BucketView, bucket_of};
-    ghost use Rattle.table_cell.specs.Lanes.{mark_at};
-    ghost use Rattle.table_cell.specs.Rows.{IsLane};
+    ghost use Rattle.table_cell.specs.Contents.{BucketView, bucket_of, IsMarked};
 
     ghost Value = { BucketView A T };
 
-    ghost view = { λ b. bucket_of (mark_at b.marks.now b.lane) b.word.now };
+    ghost view = { λ b. bucket_of b.mark b.word.now };
 
-    ghost invariant = { λ b. IsLane b.marks.now b.lane b.word.now };
+    ghost invariant = { λ b. IsMarked b.mark b.word.now };
 }
 
 impl<T: Drop, A: Allocator + Copy> Bucket<T, A> {
@@ -119,7 +106,10 @@ impl<T: Drop, A: Allocator + Copy> Bucket<T, A> {
         ensures lies { Lies home.now.id alloc.now result }
         ensures vacant { result.content ≡ vacant }
     {
-        Bucket::of(Mark::Vacant, Word::new(alloc, home))
+        Bucket {
+            mark: Mark::Vacant,
+            word: Word::new(alloc, home),
+        }
     }
 
     /// The bucket, to be looked at.
@@ -127,29 +117,9 @@ impl<T: Drop, A: Allocator + Copy> Bucket<T, A> {
         ensures { result ≡ self.now }
     {
         BucketRef {
-            marks: &self.marks,
-            lane: 0,
+            mark: self.mark,
             word: &self.word,
         }
-    }
-
-    /// A bucket of a word with its mark.
-    pub(crate) fn of(mark: Mark, word: Word<Entry<T>, A>) -> Self
-        requires { IsMarked mark word }
-        ensures { result ≡ bucket_of mark word }
-    {
-        let marks = MarkGroup::blank().with(0, mark, &word);
-        Bucket { marks, word }
-    }
-
-    /// What was set alone: the mark, where that is known alone, and the word.
-    pub(crate) fn into_alone(self) -> (Mark, Word<Entry<T>, A>)
-        ensures marked { IsMarked result.0 result.1 }
-        ensures same { self ≡ bucket_of result.0 result.1 }
-    {
-        let mark = self.as_ref().mark_alone();
-        let Bucket { marks: _, word } = self;
-        (mark, word)
     }
 
     /// Sets the bucket to the value, in a block of its own. The block is asked for before the bucket is looked at.
@@ -173,9 +143,12 @@ impl<T: Drop, A: Allocator + Copy> Bucket<T, A> {
             Ok(block) => block,
             Err(refused) => return Err(Refusal::NoMemory(refused.value.value)),
         };
-        match self.as_ref().mark_alone() {
+        match self.mark {
             Mark::Vacant => {
-                *self = Bucket::of(Mark::Own(bits), Word::own(home, LooseBlock::of(block)));
+                *self = Bucket {
+                    mark: Mark::Own(bits),
+                    word: Word::own(home, LooseBlock::of(block)),
+                };
                 Ok(())
             }
             _ => Err(Refusal::Taken(Box::into_inner(block).value)),
@@ -187,10 +160,12 @@ impl<T: Drop, A: Allocator + Copy> Bucket<T, A> {
         requires { Lies closed.now.id alloc self }
         ensures { result ≡ option_map (λ e. e.value) (owned self.content) }
     {
-        let (Mark::Own(_), word) = self.into_alone() else {
-            return None;
-        };
-        Some(Box::into_inner(word.into_block(closed).into_box(alloc)).value)
+        match self.mark {
+            Mark::Own(_) => Some(
+                Box::into_inner(self.word.into_block(closed).into_box(alloc)).value,
+            ),
+            _ => None,
+        }
     }
 
     /// Ends the bucket, and hands out the value that it owns, alone or since it was set through `&`: then the one that the
@@ -203,13 +178,13 @@ impl<T: Drop, A: Allocator + Copy> Bucket<T, A> {
         ensures shared { IfNone (shown self.content)
             (IfSome note.known (λ e. result ≡ Some e.value)) }
     {
-        match self.into_alone() {
-            (Mark::Own(_), word) => Some(
-                Box::into_inner(word.into_block(closed).into_box(alloc)).value,
+        match self.mark {
+            Mark::Own(_) => Some(
+                Box::into_inner(self.word.into_block(closed).into_box(alloc)).value,
             ),
-            (Mark::Named(_), _) => None,
-            (_, word) => Some(
-                Box::into_inner(word.into_block_if_set(closed, note)?.into_box(alloc)).value,
+            Mark::Named(_) => None,
+            Mark::Vacant => Some(
+                Box::into_inner(self.word.into_block_if_set(closed, note)?.into_box(alloc)).value,
             ),
         }
     }
@@ -222,7 +197,10 @@ impl<T: Drop, A: Allocator + Copy> Bucket<T, A> {
     {
         let word = Word::own(home, block);
         let bits = word.name().get(home).bits;
-        Bucket::of(Mark::Own(bits), word)
+        Bucket {
+            mark: Mark::Own(bits),
+            word,
+        }
     }
 
     /// Ends the bucket, and hands out the entry that it owns, alone or since it was set through `&`, in a bucket of another
@@ -236,12 +214,13 @@ impl<T: Drop, A: Allocator + Copy> Bucket<T, A> {
             (IfSome note.known (λ e. result.content ≡ own e)) }
         ensures unnamed { NamesNone result.content }
     {
-        match self.into_alone() {
-            (Mark::Own(bits), word) => {
-                Bucket::of(Mark::Own(bits), Word::own(home, word.into_block(closed)))
-            }
-            (Mark::Named(_), _) => Bucket::new(&alloc, home),
-            (_, word) => match word.into_block_if_set(closed, note) {
+        match self.mark {
+            Mark::Own(bits) => Bucket {
+                mark: Mark::Own(bits),
+                word: Word::own(home, self.word.into_block(closed)),
+            },
+            Mark::Named(_) => Bucket::new(&alloc, home),
+            Mark::Vacant => match self.word.into_block_if_set(closed, note) {
                 Some(block) => Bucket::owning(home, block),
                 None => Bucket::new(&alloc, home),
             },
@@ -250,35 +229,11 @@ impl<T: Drop, A: Allocator + Copy> Bucket<T, A> {
 }
 
 impl<'a, T: Drop, A: Allocator + Copy> BucketRef<'a, T, A> {
-    /// The mark by now. Nothing is followed. The note then knows the entry that the mark tells of.
-    #[inline(always)]
-    pub fn mark(&self, note: &mut Note<Entry<T>>) -> Mark
-        requires of { note.old.of ≡ self.now.id }
-        ensures of { note.new.of ≡ note.old.of }
-        ensures reads { Reads self.now.content note.old.known note.new.known result }
+    /// The eight bits of the entry that the bucket holds alone. Nothing is followed.
+    pub fn mark(&self) -> Mark
+        ensures { Reads self.now.content result }
     {
-        self.marks.read(self.lane, note)
-    }
-
-    /// The mark of what the bucket holds alone: it is vacant where that is nothing, whatever the word was set to through `&`. Nothing
-    /// is followed.
-    #[inline(always)]
-    pub fn mark_alone(&self) -> Mark
-        ensures { ReadsAlone self.now.content result }
-    {
-        match self.mark(&mut self.note()) {
-            Mark::Told(_) | Mark::Coming => Mark::Vacant,
-            mark => mark,
-        }
-    }
-
-    /// A bucket that names the entry of this one, with the mark of that entry.
-    fn named(&self, bits: u8, alloc: A) -> Bucket<T, A>
-        requires from { self.now.from ≡ alloc }
-        requires shown { (e : _) × (shown self.now.content ≡ Some e) × (e.bits ≡ bits) }
-        ensures { Some result ≡ option_map (bucket alloc self.now.home) (naming self.now.content) }
-    {
-        Bucket::of(Mark::Named(bits), Word::of_name(self.word.name(), &alloc))
+        self.mark
     }
 
     /// A bucket that names the entry of this one. Nothing is followed.
@@ -286,14 +241,18 @@ impl<'a, T: Drop, A: Allocator + Copy> BucketRef<'a, T, A> {
         requires { self.now.from ≡ alloc }
         ensures { result ≡ option_map (bucket alloc self.now.home) (naming self.now.content) }
     {
-        match self.mark_alone() {
-            Mark::Own(bits) | Mark::Named(bits) => Some(self.named(bits, alloc)),
-            _ => None,
-        }
+        let mark = match self.mark {
+            Mark::Vacant => return None,
+            Mark::Own(bits) => Mark::Named(bits),
+            Mark::Named(bits) => Mark::Named(bits),
+        };
+        Some(Bucket {
+            mark,
+            word: Word::of_name(self.word.name(), &alloc),
+        })
     }
 
-    /// A bucket that names the entry of this one, also where that was set through `&`: then its block is read for its bits,
-    /// unless they were told.
+    /// A bucket that names the entry of this one, also where that was set through `&`: then its block is read for its bits.
     pub fn naming_set(
         &self,
         home: &Home,
@@ -311,16 +270,15 @@ impl<'a, T: Drop, A: Allocator + Copy> BucketRef<'a, T, A> {
             ((result ≡ option_map (λ e. bucket alloc home.now.id (named e)) note.new.known)
             × Keeps note.old.known note.new.known) }
     {
-        let mark = self.mark(note);
-        if let Mark::Own(bits) | Mark::Named(bits) = mark {
-            return Some(self.named(bits, alloc));
-        }
-        let word = Word::of_name(self.word.name_if_set(note)?, &alloc);
-        let bits = match mark {
-            Mark::Told(bits) => bits,
-            _ => word.name().get(home).bits,
+        let Mark::Vacant = self.mark else {
+            return self.naming(alloc);
         };
-        Some(Bucket::of(Mark::Named(bits), word))
+        let word = Word::of_name(self.word.name_if_set(note)?, &alloc);
+        let bits = word.name().get(home).bits;
+        Some(Bucket {
+            mark: Mark::Named(bits),
+            word,
+        })
     }
 
     /// The entry of a bucket that is set alone. Its mark isn't read.
@@ -337,9 +295,9 @@ impl<'a, T: Drop, A: Allocator + Copy> BucketRef<'a, T, A> {
         requires { self.now.home ≡ home.now.id }
         ensures { option_copied result ≡ shown self.now.content }
     {
-        match self.mark_alone() {
-            Mark::Named(_) | Mark::Own(_) => Some(self.word.name().get(home)),
-            _ => None,
+        match self.mark {
+            Mark::Vacant => None,
+            _ => Some(self.word.name().get(home)),
         }
     }
 
@@ -348,19 +306,6 @@ impl<'a, T: Drop, A: Allocator + Copy> BucketRef<'a, T, A> {
         ensures { (result.of ≡ self.now.id) × (result.known ≡ None) }
     {
         self.word.note()
-    }
-
-    /// The entry that a bucket was set to through `&`, if it was: then the note knows it. What a note knows is shown again. The
-    /// mark isn't read.
-    pub fn get_set(&self, home: &'a Home, note: &mut Note<Entry<T>>) -> Option<&'a Entry<T>>
-        requires home { self.now.home ≡ home.now.id }
-        requires of { note.old.of ≡ self.now.id }
-        requires vacant { self.now.content ≡ vacant }
-        ensures of { note.new.of ≡ note.old.of }
-        ensures shared { (option_copied result ≡ note.new.known)
-            × Keeps note.old.known note.new.known }
-    {
-        Some(self.word.name_if_set(note)?.get(home))
     }
 
     /// The entry that the bucket holds, or was set to through `&`: then the note knows it. What a note knows is shown again.
@@ -373,17 +318,16 @@ impl<'a, T: Drop, A: Allocator + Copy> BucketRef<'a, T, A> {
         ensures shared { IfNone (shown self.now.content)
             ((option_copied result ≡ note.new.known) × Keeps note.old.known note.new.known) }
     {
-        match self.mark(note) {
-            Mark::Own(_) | Mark::Named(_) => Some(self.word.name().get(home)),
-            _ => self.get_set(home, note),
+        match self.mark {
+            Mark::Vacant => Some(self.word.name_if_set(note)?.get(home)),
+            _ => Some(self.word.name().get(home)),
         }
     }
 }
 
 impl<'a, T: Drop, A: Low + Copy> BucketRef<'a, T, A> {
-    /// Sets a vacant bucket by one exchange. Before it the mark says that somebody comes, and after it the entry's bits. The block is
-    /// asked for before the bucket is looked at. The note then knows the entry that was placed here, or the one that came first.
-    #[inline(always)]
+    /// Sets a vacant bucket by one exchange. The block is asked for before the bucket is looked at. The note then knows the
+    /// entry that was placed here, or the one that came first.
     pub fn place(
         &self,
         home: &'a Home,
@@ -405,15 +349,11 @@ impl<'a, T: Drop, A: Low + Copy> BucketRef<'a, T, A> {
             Ok(block) => block,
             Err(refused) => return Err(Missed::NoMemory(refused.value.value)),
         };
-        if matches!(self.mark_alone(), Mark::Own(_) | Mark::Named(_)) {
+        if !matches!(self.mark, Mark::Vacant) {
             return Err(Missed::Taken(Box::into_inner(block).value, self.word.name().get(home)));
         }
-        let coming = self.marks.announce(self.lane, &mut self.note());
         match self.word.offer(home, LooseBlock::of(block), note) {
-            (entry, None) => {
-                self.marks.tell(self.lane, bits, note, coming);
-                Ok(entry)
-            }
+            (entry, None) => Ok(entry),
             (first, Some(back)) => {
                 let value = Box::into_inner(back.into_box(alloc)).value;
                 Err(Missed::Taken(value, first))

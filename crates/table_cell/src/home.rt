@@ -48,12 +48,9 @@ impl Model for Closed {
     ghost also_shares = { λ h _. said (fdead (h.id ∷ [])) };
 }
 
-/// What lies in the blocks of a home. `fits` says that a value belongs to the home with that id; `bits` are what a mark tells of a
-/// value, where it has such bits.
+/// What lies in the blocks of a home. `fits` says that a value belongs to the home with that id.
 pub trait Homed {
     ghost fits: { Self → ℕ → Type 0 };
-
-    ghost bits: { Self → ℕ } = { λ _. 0 };
 }
 
 unsafe impl Send for Home {}

@@ -5,7 +5,6 @@ mod bucket;
 mod home;
 mod loose_block;
 mod low;
-mod mark_group;
 mod name;
 mod note;
 mod row;

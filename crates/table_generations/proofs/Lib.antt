@@ -6,4 +6,3 @@ pub mod Probes
 pub mod Rehashes
 pub mod Windows
 pub mod Owned
-pub mod Looks

@@ -88,12 +88,12 @@ fn compare_bucket<'a, T: AtomicValue, A: Allocator + Copy, F: Fn(&T::Target) -> 
     ensures { ComparisonGives T.target (FnReturnsAt F.Fn test.now) sought (shown bucket.now.content)
         result }
 {
-    match bucket.mark_alone() {
+    match bucket.mark() {
+        Mark::Vacant => Comparison::Vacant,
         Mark::Own(bits) | Mark::Named(bits) if bits == sought => {
             compare_entry(bucket.entry(home), test)
         }
-        Mark::Own(_) | Mark::Named(_) => Comparison::Different,
-        _ => Comparison::Vacant,
+        _ => Comparison::Different,
     }
 }
 
@@ -216,7 +216,6 @@ impl<T: AtomicValue, A: Allocator + Copy> Generation<T, A> {
 
     /// Places the value at the first empty bucket, unless an entry before it is accepted as equal. Says at which index the
     /// entry of the answer is shown.
-    #[inline(always)]
     pub fn insert<E: Fn(&T::Target, &T::Target) -> bool>(
         &mut self,
         home: &Home,

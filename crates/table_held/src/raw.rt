@@ -207,7 +207,6 @@ impl<T: AtomicValue, A: Allocator + Copy> HeldRawTable<T, A> {
 
     /// Places the value in the current generation, unless an entry is accepted as equal. Says where the answer's entry
     /// is shown.
-    #[inline(always)]
     fn try_place<E: Fn(&T::Target, &T::Target) -> bool>(
         &mut self,
         hash: u64,

@@ -4,7 +4,7 @@
 //! one ends the probe, an entry with other bits than those of its hash is passed, and of any other it asks whom it probes
 //! for. Each function gives the state after the step. Its contract ties the step to what the bucket shows: only entries with
 //! the bits of the hash are asked about, and the answer is what was said of them.
-ghost use Rattle.std.specs.Prelude.{◌≡◌, Bool, None, length, slice_index_or, true};
+ghost use Rattle.std.specs.Prelude.{◌≡◌, Bool, length, slice_index_or, true};
 ghost use Rattle.std.specs.Fn.{FnReturnsAt, FnReturnsAtPair};
 ghost use Rattle.table_generations.specs.Buckets.{content_at};
 ghost use Rattle.table_generations.specs.Looks.{Tells, IsSeen};
@@ -197,7 +197,6 @@ impl<T: AtomicValue, A: Allocator + Copy> LockFreeRawTable<T, A> {
         requires home { generation.now.home ≡ self.now.home }
         requires walked { length generation.now.contents ≡ state.capacity }
         requires of { note.old.of ≡ slice_index_or generation.now.ids state.index 0 }
-        requires fresh { note.old.known ≡ None }
         ensures of { note.new.of ≡ note.old.of }
         ensures seen { IsSeen (content_at generation.now.contents state.index) note.old.known
             note.new.known (λ o. Tells (bits_of state.hash) o result) }
@@ -221,7 +220,6 @@ impl<T: AtomicValue, A: Allocator + Copy> LockFreeRawTable<T, A> {
         requires walked { length generation.now.contents ≡ state.capacity }
         requires callable { P.callable probing.now }
         requires of { note.old.of ≡ slice_index_or generation.now.ids state.index 0 }
-        requires fresh { note.old.known ≡ None }
         ensures of { note.new.of ≡ note.old.of }
         ensures reads { StepsAt (P.says probing.now) state result }
         ensures seen { IsSeen (content_at generation.now.contents state.index) note.old.known

@@ -35,8 +35,8 @@ fn look_at(home: &Home, bucket: &Bucket<u64, Global>) -> Seen
         Some(entry) => entry.value,
         None => 0,
     };
-    match bucket.as_ref().mark_alone() {
-        Mark::Vacant | Mark::Told(_) => Seen::Vacant,
+    match bucket.as_ref().mark() {
+        Mark::Vacant => Seen::Vacant,
         Mark::Own(bits) => Seen::Own(bits, value),
         Mark::Named(bits) => Seen::Named(bits, value),
     }

@@ -11,5 +11,3 @@ mod refused;
 mod settled;
 #[cfg(test)]
 mod shared;
-#[cfg(test)]
-mod told;

@@ -1,66 +1,59 @@
 //! What a row owns, moved to another home once its own has ended.
 ghost use Rattle.std.specs.Prelude.{◌≡◌, ◌<◌, length, slice_index_or, All};
 ghost use Rattle.table_cell.specs.Contents.{Lies, NamesNone};
-ghost use Rattle.table_cell.specs.Rows.{AreLanes, AreMarked, buckets_of, ids_of, marks_of};
+ghost use Rattle.table_cell.specs.Rows.{AreMarked, buckets_of};
 ghost use Rattle.table_cell.specs.Rehomed.{AreRehomed, RehomesAt, AreMovedBelow};
 
-use crate::bucket::{Bucket, Entry};
+use crate::bucket::{Bucket, Entry, Mark};
 use crate::home::{Closed, Home};
-use crate::mark_group::{LANES, MarkGroup};
-use crate::row::{Row, mark_beside};
+use crate::row::Row;
 use crate::word::Word;
 use std::alloc::Allocator;
 use std::mem;
 
 /// Moves what the bucket at this index owns to the other home.
 fn rehome_bucket<T: Drop, A: Allocator + Copy>(
-    marks: &mut Vec<MarkGroup<Entry<T>>, A>,
+    marks: &mut Vec<Mark, A>,
     words: &mut Vec<Word<Entry<T>, A>, A>,
     index: usize,
     closed: &Closed,
     home: &Home,
     alloc: A,
 )
-    requires within { index < length words.old.items }
-    requires lanes { AreLanes marks.old.items 0 (ids_of words.old.items) }
-    requires marked { AreMarked (marks_of marks.old.items 0 words.old.items) words.old.items }
+    requires within { index < length marks.old.items }
+    requires marked { AreMarked marks.old.items words.old.items }
     requires lies { (d : _) → Lies closed.now.id alloc
-        (slice_index_or (buckets_of (marks_of marks.old.items 0 words.old.items) words.old.items)
-        index d) }
-    ensures lanes { AreLanes marks.new.items 0 (ids_of words.new.items) }
-    ensures marked { AreMarked (marks_of marks.new.items 0 words.new.items) words.new.items }
-    ensures moved { RehomesAt home.now.id alloc index
-        (buckets_of (marks_of marks.old.items 0 words.old.items) words.old.items)
-        (buckets_of (marks_of marks.new.items 0 words.new.items) words.new.items) }
+        (slice_index_or (buckets_of marks.old.items words.old.items) index d) }
+    ensures marked { AreMarked marks.new.items words.new.items }
+    ensures moved { RehomesAt home.now.id alloc index (buckets_of marks.old.items words.old.items)
+        (buckets_of marks.new.items words.new.items) }
 {
     let place = &mut words[index];
-    let word = mem::replace(place, Word::new(&alloc, home));
-    let old = Bucket::of(mark_beside(marks, index, &word), word);
+    let old = Bucket {
+        mark: marks[index],
+        word: mem::replace(place, Word::new(&alloc, home)),
+    };
     let note = old.as_ref().note();
-    let (mark, word) = old.rehomed(closed, home, alloc, note).into_alone();
-    marks[index / LANES].set(index % LANES, mark, &word);
+    let Bucket { mark, word } = old.rehomed(closed, home, alloc, note);
     *place = word;
+    marks[index] = mark;
 }
 
 /// Moves what the buckets own to the other home.
 fn rehome_buckets<T: Drop, A: Allocator + Copy>(
-    marks: &mut Vec<MarkGroup<Entry<T>>, A>,
+    marks: &mut Vec<Mark, A>,
     words: &mut Vec<Word<Entry<T>, A>, A>,
     closed: &Closed,
     home: &Home,
     alloc: A,
 )
-    requires lanes { AreLanes marks.old.items 0 (ids_of words.old.items) }
-    requires marked { AreMarked (marks_of marks.old.items 0 words.old.items) words.old.items }
-    requires lies { All (Lies closed.now.id alloc)
-        (buckets_of (marks_of marks.old.items 0 words.old.items) words.old.items) }
-    ensures lanes { AreLanes marks.new.items 0 (ids_of words.new.items) }
-    ensures marked { AreMarked (marks_of marks.new.items 0 words.new.items) words.new.items }
-    ensures moved { AreMovedBelow home.now.id alloc (length words.old.items)
-        (buckets_of (marks_of marks.old.items 0 words.old.items) words.old.items)
-        (buckets_of (marks_of marks.new.items 0 words.new.items) words.new.items) }
+    requires marked { AreMarked marks.old.items words.old.items }
+    requires lies { All (Lies closed.now.id alloc) (buckets_of marks.old.items words.old.items) }
+    ensures marked { AreMarked marks.new.items words.new.items }
+    ensures moved { AreMovedBelow home.now.id alloc (length marks.old.items)
+        (buckets_of marks.old.items words.old.items) (buckets_of marks.new.items words.new.items) }
 {
-    for index in 0..words.len() {
+    for index in 0..marks.len() {
         rehome_bucket(marks, words, index, closed, home, alloc);
     }
 }

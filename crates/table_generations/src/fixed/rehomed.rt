@@ -13,9 +13,9 @@ fn count_one<T: AtomicValue, A: Allocator + Copy>(bucket: &BucketRef<'_, T, A>) 
     ensures counted { result ≡ length (shown_entries (bucket.now.content ∷ [])) }
     ensures one { result ≤ 1 }
 {
-    match bucket.mark_alone() {
-        Mark::Own(_) | Mark::Named(_) => 1,
-        _ => 0,
+    match bucket.mark() {
+        Mark::Vacant => 0,
+        _ => 1,
     }
 }
 

@@ -37,28 +37,7 @@ fn look_at_entry<T>(entry: &Entry<T>, sought: u8) -> Look<'_, T>
     }
 }
 
-/// What a probe for these bits meets at a bucket that wasn't set alone: its word is read, and its block, if it was set.
-fn look_at_set<'a, T: AtomicValue, A: Allocator + Copy>(
-    home: &'a Home,
-    bucket: &BucketRef<'a, T, A>,
-    sought: u8,
-    note: &mut Note<Entry<T>>,
-) -> Look<'a, T>
-    requires home { bucket.now.home ≡ home.now.id }
-    requires of { note.old.of ≡ bucket.now.id }
-    requires vacant { bucket.now.content ≡ vacant }
-    ensures of { note.new.of ≡ note.old.of }
-    ensures told { Tells sought note.new.known result }
-    ensures kept { Keeps note.old.known note.new.known }
-{
-    match bucket.get_set(home, note) {
-        Some(entry) => look_at_entry(entry, sought),
-        None => Look::Vacant,
-    }
-}
-
-/// What a probe for these bits meets at a bucket, by a note that knows nothing yet. Neither word nor block is read where the mark is
-/// vacant, or has other bits.
+/// What a probe for these bits meets at a bucket. The block of an entry whose mark has other bits isn't read.
 fn look_at_bucket<'a, T: AtomicValue, A: Allocator + Copy>(
     home: &'a Home,
     bucket: &BucketRef<'a, T, A>,
@@ -67,16 +46,17 @@ fn look_at_bucket<'a, T: AtomicValue, A: Allocator + Copy>(
 ) -> Look<'a, T>
     requires home { bucket.now.home ≡ home.now.id }
     requires of { note.old.of ≡ bucket.now.id }
-    requires fresh { note.old.known ≡ None }
     ensures of { note.new.of ≡ note.old.of }
     ensures seen { IsSeen bucket.now.content note.old.known note.new.known
         (λ o. Tells sought o result) }
 {
-    match bucket.mark(note) {
-        Mark::Vacant => Look::Vacant,
-        Mark::Own(bits) | Mark::Named(bits) | Mark::Told(bits) if bits != sought => Look::Other,
-        Mark::Own(_) | Mark::Named(_) => Look::Alike(bucket.entry(home)),
-        _ => look_at_set(home, bucket, sought, note),
+    match bucket.mark() {
+        Mark::Vacant => match bucket.get(home, note) {
+            Some(entry) => look_at_entry(entry, sought),
+            None => Look::Vacant,
+        },
+        Mark::Own(bits) | Mark::Named(bits) if bits == sought => Look::Alike(bucket.entry(home)),
+        _ => Look::Other,
     }
 }
 
@@ -121,7 +101,7 @@ impl<T: AtomicValue, A: Allocator + Copy> Generation<T, A> {
         self.row.at(index).get(home, note)
     }
 
-    /// What a probe for these bits meets at the bucket of this index, by a note that knows nothing yet.
+    /// What a probe for these bits meets at the bucket of this index.
     pub fn look_at<'a>(
         &'a self,
         home: &'a Home,
@@ -132,7 +112,6 @@ impl<T: AtomicValue, A: Allocator + Copy> Generation<T, A> {
         requires home { self.now.home ≡ home.now.id }
         requires within { index < length self.now.contents }
         requires of { note.old.of ≡ slice_index_or self.now.ids index 0 }
-        requires fresh { note.old.known ≡ None }
         ensures of { note.new.of ≡ note.old.of }
         ensures seen { IsSeen (content_at self.now.contents index) note.old.known note.new.known
             (λ o. Tells sought o result) }
@@ -161,7 +140,6 @@ impl<T: AtomicValue, A: Allocator + Copy> Generation<T, A> {
 impl<T: AtomicValue, A: Low + Copy> Generation<T, A> {
     /// Sets the bucket at this index by one exchange, unless it is set. The block is asked for first. The note then knows
     /// the entry that was placed here, or the one that came first.
-    #[inline(always)]
     pub fn place_at<'a>(
         &'a self,
         home: &'a Home,

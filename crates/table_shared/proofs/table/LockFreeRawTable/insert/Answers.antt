@@ -67,7 +67,6 @@ read_bucket-requires g c =
       walked = b.counts c.in-Some.current.generation refl;
       callable = c.requires.eq_callable;
       of = c.note_at-note.ensures.0;
-      fresh = c.note_at-note.ensures.1;
     }
 
 pub place-requires : goal.place-requires

@@ -31,7 +31,6 @@ read_bucket-requires g c =
       walked = b.counts c.in-Some.generation c.in-Some.is;
       callable = c.requires.callable;
       of = c.note_at-note.ensures.0;
-      fresh = c.note_at-note.ensures.1;
     }
 
 pub invariant_of-self : goal.invariant_of-self
