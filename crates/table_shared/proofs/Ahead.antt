@@ -1,10 +1,10 @@
 -- Copies in a row, and entries that are read ahead of them.
-use Rattle.std.proofs.Common.{◌≡◌, ◌∙◌, ◌≢◌, ℕ, zero, suc, ◌+◌, ◌<◌, ◌≤◌, inl, inr, List, Option, Some, None, length, refl, sym, ap, arith, true, get_or-set_same, get_or-set_other}
-use Rattle.std.specs.Prelude.{IfSome, option_map, slice_set}
+use Rattle.std.proofs.Common.{◌≡◌, ◌∙◌, ◌≢◌, ℕ, zero, suc, ◌+◌, ◌<◌, inl, inr, List, Option, Some, None, length, refl, sym, ap, arith, true, get_or-set_other}
+use Rattle.std.specs.Prelude.{option_map, slice_set}
 use Rattle.std.proofs.lemmas.Bool.{cases_lt}
 use Rattle.table_cell.specs.Contents.{BucketView, bucket}
 use Rattle.table_cell.specs.declared.bucket.Entry.{Entry}
-use Rattle.table_generations.specs.Buckets.{Content, vacant, own, named, shown, content_at}
+use Rattle.table_generations.specs.Buckets.{Content, vacant, own, named, shown}
 use Rattle.table_generations.specs.Generations.{GenerationView}
 use Rattle.table_generations.specs.Growth.{PutsName}
 use Rattle.table_generations.specs.Looks.{IsSeen}

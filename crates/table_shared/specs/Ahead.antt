@@ -2,7 +2,7 @@
 use Rattle.std.specs.Prelude.{◌≡◌, ℕ, zero, suc, ◌+◌, ◌<◌, ◌≤◌, true, List, Option, Some, None, IfSome, length, slice_index_or}
 use Rattle.table_cell.specs.Contents.{bucket}
 use Rattle.table_cell.specs.declared.bucket.Entry.{Entry}
-use Rattle.table_generations.specs.Buckets.{Content, named, shown, content_at}
+use Rattle.table_generations.specs.Buckets.{named, shown, content_at}
 use Rattle.table_generations.specs.Generations.{GenerationView}
 use Rattle.table_shared.specs.Growths.{GrowthView, NoneAlone, CopiesNext}
 use Rattle.table_shared.specs.declared.growth.ahead.Ahead.{Ahead}

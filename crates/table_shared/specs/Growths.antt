@@ -1,6 +1,7 @@
 -- The next generation of a shared table while it is made.
 use Rattle.std.specs.Prelude.{◌≡◌, ℕ, ◌+◌, ◌<◌, ◌≤◌, Bool, true, false, List, [], Option, Some, None, IfSome, length}
 use Rattle.std.specs.Borrow.{Bor}
+use Rattle.std.specs.Int.{IsPowerOfTwo}
 use Rattle.table_cell.specs.Words.{WordView}
 use Rattle.table_cell.specs.declared.bucket.Entry.{Entry}
 use Rattle.table_generations.specs.Buckets.{Content, named, shown, content_at}
@@ -72,15 +73,16 @@ module _ {A T : Type 0} where
   -- a generation of this home that is made after the one before, with no entry copied yet
   pub record IsFresh (home : ℕ) (from : Option (Bor (GenerationView A T))) (built : GenerationView A T) : Type 0 where
     pub home_is : built.home ≡ home
-    pub room : 0 < length built.contents
+    pub power : IsPowerOfTwo (length built.contents)
     pub behind : IsBehind from built
     pub empty : built.size ≡ 0
 
-  -- a generation that is made: at most so many entries are copied as buckets were passed, those that
+  -- a generation that is made: it has a bucket, at most so many entries are copied as buckets were passed, those that
   -- the passed buckets were set to alone are named, and its word and its block are of one allocator
   pub record IsUnderWay {X : Type 0} (home : ℕ) (from : Option (Bor (GenerationView A T))) (copied : ℕ)
       (built : GenerationView A T) (alloc : A) (word : WordView A X) (block : A) : Type 0 where
     pub home_is : built.home ≡ home
+    pub power : IsPowerOfTwo (length built.contents)
     pub behind : IsBehind from built
     pub few : built.size ≤ copied
     pub all_named : AreNamed (buckets_before from) copied built.contents

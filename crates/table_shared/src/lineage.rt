@@ -1,5 +1,6 @@
 //! The generations of a shared table in their order.
-ghost use Rattle.std.specs.Prelude.{◌≡◌, ◌<◌, IfOk, IfSome, length, vec_capacity};
+ghost use Rattle.std.specs.Prelude.{◌≡◌, IfOk, IfSome, length, vec_capacity};
+ghost use Rattle.std.specs.Int.{IsPowerOfTwo};
 ghost use Rattle.table_cell.specs.Contents.{vacant};
 ghost use Rattle.table_generations.specs.Generations.{GenerationView};
 ghost use Rattle.table_shared.specs.Lineages.{AreOfHome, AreRoomy, IsOpen, lineage_of};
@@ -79,7 +80,8 @@ impl<T: AtomicValue, A: Allocator + Copy> Lineage<T, A> {
     /// The later generation of this index, if it is shown by now.
     fn later_generation<'a>(&'a self, home: &'a Home, index: usize) -> Option<&'a Generation<T, A>>
         requires { self.now.home ≡ home.now.id }
-        ensures { IfSome result (λ g. g.now.home ≡ home.now.id) }
+        ensures home { IfSome result (λ g. g.now.home ≡ home.now.id) }
+        ensures power { IfSome result (λ g. IsPowerOfTwo (length g.now.contents)) }
     {
         let Some(later) = self.later(home) else {
             return None;
@@ -100,7 +102,7 @@ impl<T: AtomicValue, A: Allocator + Copy> Lineage<T, A> {
         }
     }
 
-    /// The generation of this number, if it is shown by now. Each has a bucket.
+    /// The generation of this number, if it is shown by now. Each has a bucket. Of a later one that isn't asked again.
     pub(crate) fn generation<'a>(
         &'a self,
         home: &'a Home,
@@ -108,16 +110,16 @@ impl<T: AtomicValue, A: Allocator + Copy> Lineage<T, A> {
     ) -> Option<&'a Generation<T, A>>
         requires { self.now.home ≡ home.now.id }
         ensures home { IfSome result (λ g. g.now.home ≡ home.now.id) }
-        ensures room { IfSome result (λ g. 0 < length g.now.contents) }
+        ensures power { IfSome result (λ g. IsPowerOfTwo (length g.now.contents)) }
     {
-        let found = match number.checked_sub(self.held()) {
-            Some(index) => self.later_generation(home, index)?,
-            None => self.held_generation(number),
-        };
-        if found.capacity() == 0 {
-            return None;
+        if let Some(index) = number.checked_sub(self.held()) {
+            return self.later_generation(home, index);
         }
-        Some(found)
+        let found = self.held_generation(number);
+        if found.has_buckets() {
+            return Some(found);
+        }
+        None
     }
 }
 

@@ -1,5 +1,6 @@
 //! The table that threads share.
 ghost use Rattle.std.specs.Prelude.{◌≡◌, ◌<◌, ◌↔◌, ◌⊎◌, IfSome, IsTrue, [], ◌∷◌, length};
+ghost use Rattle.std.specs.Int.{IsPowerOfTwo};
 ghost use Rattle.table_terms.specs.Capacities.{IsFirstCapacity};
 ghost use Rattle.table_core.specs.declared.call.Phase.TheVariants.{Shared, LookLoad};
 ghost use Rattle.table_turns.specs.Steps.{Went};
@@ -136,9 +137,13 @@ impl<T: AtomicValue, A: Allocator + Copy> LockFreeRawTable<T, A> {
     /// The generation that is current now, if there is one. It takes no lock and no memory.
     pub fn current(&self) -> Option<Current<'_, T, A>>
         ensures home { IfSome result (λ c. c.generation.now.home ≡ self.now.home) }
-        ensures room { IfSome result (λ c. 0 < length c.generation.now.contents) }
+        ensures power { IfSome result (λ c. IsPowerOfTwo (length c.generation.now.contents)) }
     {
-        let number = self.shown.get().checked_sub(1)?;
+        let shown = self.shown.get();
+        if shown == 0 {
+            return None;
+        }
+        let number = shown - 1;
         let generation = self.lineage.generation(&self.home, number)?;
         Some(Current {
             number: number as u64,

@@ -1,5 +1,5 @@
 -- What each step does, by the phase in which it is taken.
-use Rattle.std.proofs.Common.{◌≡◌, ◌<◌, ◌+◌, ℕ, refl, sym, ap, subst, ◌∙◌, Bool, true, false, nat_lt, arith, rules}
+use Rattle.std.proofs.Common.{◌≡◌, ◌<◌, ◌+◌, ◌*◌, ◌^◌, ℕ, zero, suc, refl, sym, ap, subst, ◌∙◌, Bool, true, false, nat_lt, arith, rules}
 use Rattle.std.specs.Prelude.{if◌then◌else◌, ◌&&◌, ◌%◌, ◌⊎◌, ◌≢◌}
 use Rattle.std.proofs.Common.{inl, inr}
 use Rattle.std.proofs.lemmas.Bool.{ltb-true, lt-ltb}
@@ -12,6 +12,8 @@ use Rattle.table_core.specs.declared.call.Answer.TheVariants.{Loaded, Holds, Emp
 use Rattle.table_core.specs.declared.call.CallState.{CallState}
 use Rattle.table_core.specs.Calls.{decided, fits, to, passes, probes, stands_at_bucket, is_pending, finds_entry}
 use Rattle.table_core.specs.Phases.{Free, Owns}
+use Rattle.table_terms.specs.Probes.{bucket_at}
+use Rattle.std.specs.Int.{IsPowerOfTwo}
 use Rattle.table_turns.specs.Phases.{Inserts, Meets, MeetsEntry, ReadsBucket, AtBucket, Hopes, Walks, Leaves, lock_in, left, left_in, reached, reached_by}
 use Rattle.table_turns.specs.Steps.{LeavesWith, Leaving, Passing, Starting, LookingPast, passed, released}
 
@@ -206,6 +208,26 @@ loaded_in _ s g n (inr e) h = absurd (cc)
 -- a call that has loaded a generation
 pub loaded_by : (s : CallState) → (g n : ℕ) → (s.phase ≡ Shared) ⊎ (s.phase ≡ LookLoad) → 0 < n → Starting s (decided s.phase s (Loaded g n)) g n
 loaded_by s g n e h = loaded_in s.phase s g n e h
+
+starts_in : (p : Phase) → (s : CallState) → (g n : ℕ) → (p ≡ Shared) ⊎ (p ≡ LookLoad) → (decided p s (Loaded g n)).index ≡ s.hash % n
+starts_in Shared s g n e = refl
+starts_in LookLoad s g n e = refl
+starts_in _ s g n (inl e) = absurd (cc)
+starts_in _ s g n (inr e) = absurd (cc)
+
+-- whose first bucket it finds as any probe does
+pub starts_masked : (s t : CallState) → (g n bucket : ℕ) → (s.phase ≡ Shared) ⊎ (s.phase ≡ LookLoad) → t ≡ decided s.phase s (Loaded g n) → bucket ≡ bucket_at n s.hash 0 → record t { index = bucket } ≡ t
+starts_masked s t g n bucket e is first =
+    let whole : bucket_at n s.hash 0 ≡ s.hash % n = ap (λ (k : ℕ). k % n) (omega arith) in
+    ap (λ (i : ℕ). record t { index = i }) (first ∙ whole ∙ sym (ap (λ (u : CallState). u.index) is ∙ starts_in s.phase s g n e))
+
+power_positive : (k : ℕ) → 0 < 2 ^ k
+power_positive zero = omega arith
+power_positive (suc k) = let double : 2 ^ suc k ≡ 2 * 2 ^ k = omega arith in let half = power_positive k in omega (arith, double, half)
+
+-- so many buckets are some
+pub power_some : (n : ℕ) → IsPowerOfTwo n → 0 < n
+power_some n p = rw p.1 (power_positive p.0)
 
 -- A look-up passes an entry
 

@@ -3,7 +3,8 @@
 //! A call on a running table keeps a `CallState`, and each of its steps is the core's `decide`: who drives a call does what the
 //! phase says and hands the answer to one of these functions. `step` is enough where phase and answer are known; the others say
 //! what holds afterwards where the next phase hangs on numbers.
-ghost use Rattle.std.specs.Prelude.{◌≡◌, ◌<◌, ◌⊎◌, true};
+ghost use Rattle.std.specs.Prelude.{◌≡◌, ◌⊎◌, true};
+ghost use Rattle.std.specs.Int.{IsPowerOfTwo};
 ghost use Rattle.table_core.specs.Calls.{decided, fits};
 ghost use Rattle.table_core.specs.declared.call.Phase.TheVariants.{Probe, Shared, LookLoad, LookProbe};
 ghost use Rattle.table_core.specs.declared.call.Answer.TheVariants.{Loaded};
@@ -12,6 +13,7 @@ ghost use Rattle.table_turns.specs.Steps.{Went, LeavesWith, Leaving, Starting};
 ghost use Rattle.table_turns.specs.Steps.{passed as passed_answer, released as released_answer};
 
 use table_core::{Answer, CallState, Phase, decide};
+use table_terms::probe::first_bucket;
 
 /// Where a call stands after an answer that fits its phase.
 #[inline(always)]
@@ -23,17 +25,22 @@ pub fn step(state: CallState, answer: Answer) -> CallState
     decide(state, answer)
 }
 
-/// A call starts its probe in this generation, of so many buckets.
+/// A call starts its probe in this generation, of so many buckets. As they are a power of two, the first one is found by a mask,
+/// where the core tests that of any capacity.
 #[inline(always)]
 pub fn step_loaded(state: CallState, number: u64, capacity: u64) -> CallState
     requires phase { (state.phase ≡ Shared) ⊎ (state.phase ≡ LookLoad) }
-    requires some { 0 < capacity }
+    requires power { IsPowerOfTwo capacity }
     ensures went { Went state result (Loaded number capacity) }
     ensures starting { Starting state result number capacity }
     ensures insert { state.phase ≡ Shared → result.phase ≡ Probe }
     ensures look { state.phase ≡ LookLoad → result.phase ≡ LookProbe }
 {
-    step(state, Answer::Loaded { number, capacity })
+    let started = step(state, Answer::Loaded { number, capacity });
+    CallState {
+        index: first_bucket(state.hash, capacity as usize) as u64,
+        ..started
+    }
 }
 
 /// What a call found that passes an entry, after it asked its closure or without asking.

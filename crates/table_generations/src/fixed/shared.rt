@@ -1,5 +1,5 @@
 //! A generation whose buckets threads set through `&`.
-ghost use Rattle.std.specs.Prelude.{◌≡◌, ◌*◌, ◌<◌, length, option_copied, option_map, slice_index_or, IfSome, IfNone, ◌⊎◌, ◌^◌, ◌≤◌, IfOk, IfErr, None, Some};
+ghost use Rattle.std.specs.Prelude.{◌≡◌, ◌*◌, ◌<◌, length, option_copied, option_map, slice_index_or, IsTrue, IfSome, IfNone, ◌⊎◌, ◌^◌, ◌≤◌, IfOk, IfErr, None, Some};
 ghost use Rattle.std.specs.Int.{IsPowerOfTwo};
 ghost use Rattle.table_cell.specs.Contents.{bucket, named, shown, vacant, entry_from, Keeps, Misses};
 ghost use Rattle.table_generations.specs.Buckets.{content_at};
@@ -21,9 +21,9 @@ pub enum Look<'a, T> {
     Alike(&'a Entry<T>),
 }
 
-/// A generation fits the home of its buckets.
+/// A generation that has a bucket fits the home of its buckets.
 impl<T: AtomicValue, A: Allocator + Copy> Homed for Generation<T, A> {
-    ghost fits = { λ g h. g.home ≡ h };
+    ghost fits = { λ g h. (g.home ≡ h) × IsPowerOfTwo (length g.contents) };
 }
 
 /// The entry, where it has these bits.
@@ -61,6 +61,13 @@ fn look_at_bucket<'a, T: AtomicValue, A: Allocator + Copy>(
 }
 
 impl<T: AtomicValue, A: Allocator + Copy> Generation<T, A> {
+    /// Whether there is a bucket: then they are a power of two.
+    pub fn has_buckets(&self) -> bool
+        ensures { IsTrue result → IsPowerOfTwo (length self.now.contents) }
+    {
+        self.row.len() != 0
+    }
+
     /// Twice the number of buckets, if there is a bucket and twice as many can be counted.
     pub fn doubled(&self) -> Option<usize>
         ensures power { IfSome result (λ c. IsPowerOfTwo c) }

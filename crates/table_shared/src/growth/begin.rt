@@ -1,5 +1,6 @@
 //! Growth of a shared table, step by step, under its lock held alone.
-ghost use Rattle.std.specs.Prelude.{◌≡◌, ◌<◌, IfOk, length};
+ghost use Rattle.std.specs.Prelude.{◌≡◌, IfOk, length};
+ghost use Rattle.std.specs.Int.{IsPowerOfTwo};
 ghost use Rattle.table_shared.specs.Begun.{Begins};
 ghost use Rattle.table_shared.specs.Growths.{PassedAll};
 
@@ -35,7 +36,7 @@ impl<T: AtomicValue, A: Low + Copy> LockFreeRawTable<T, A> {
     /// The generation after the current one, with twice the capacity.
     fn begin_after<'a>(&'a self, current: Current<'a, T, A>) -> Result<Growth<'a, T, A>, AllocError>
         requires home { current.generation.now.home ≡ self.now.home }
-        requires room { 0 < length current.generation.now.contents }
+        requires power { IsPowerOfTwo (length current.generation.now.contents) }
         ensures home { IfOk result (λ g. g.home ≡ self.now.home) }
         ensures before { IfOk result (λ g. (g.before ≡ current.entry.generation.now.contents)
             × (g.passed ≡ 0)) }

@@ -15,6 +15,7 @@ invariant_of-self-in-Some-name_at g c =
     let put = rw is at c.insert_unique.ensures.put in
     rw at (record {
       home_is = one_home.0 ∙ w.home_is;
+      power = rw (put.2, length-set) w.power;
       behind = ((one_home.0 ∙ behind.0.0, one_home.1 ∙ behind.0.1), rw (put.2, length-set) behind.1);
       few = (let few = w.few in let size = c.insert_unique.ensures.size in omega arith);
       all_named = named_on g.T.AtomicValue.target c.in-Some.from.now.contents c.loop-self.self-inside.copied c.loop-self.self-inside.built.contents c.insert_unique.new.self.contents c.hash_fn-hash.result c.entry.result.now put alone (rw at at w.all_named);

@@ -1,7 +1,6 @@
-use Rattle.std.proofs.Common.{◌≡◌, ◌∙◌, ◌+◌, ◌<◌, Some, None, length, refl, sym, arith}
+use Rattle.std.proofs.Common.{◌≡◌, ◌∙◌, ◌+◌, ◌<◌, Some, length, refl, sym, arith}
 use Rattle.std.proofs.lemmas.List.{length-set}
 use Rattle.std.specs.Fn.{FnReturnsAt}
-use Rattle.table_shared.specs.Ahead.{IsRead}
 use Rattle.table_shared.proofs.Ahead.{copy_stays, lies_read, named_read, next_read, on_one, on_over, one_taken, over_read}
 use Rattle.table_shared.proofs.Copied.{named_skip}
 use Rattle.table_shared.proofs.growth.Growth.copy_window.Goals.{in-Some-take, in_default-take}
@@ -50,6 +49,7 @@ loop-place-preserved g c =
             copied = rw at (on_one target rehash c.args.self.now _ _ so refl refl (next_read target rehash from i home built after w.in-Some-take.read within read w.insert_unique.ensures.put));
             under_way = rw at (record {
               home_is = one_home.0 ∙ under.home_is;
+              power = rw (w.insert_unique.ensures.put.2, length-set) under.power;
               behind = ((one_home.0 ∙ behind.0.0, one_home.1 ∙ behind.0.1), rw (w.insert_unique.ensures.put.2, length-set) behind.1);
               few = (let few = rw inv.at_is at under.few in let size = w.insert_unique.ensures.size in omega arith);
               all_named = named_read target rehash from i home built after w.in-Some-take.read read w.insert_unique.ensures.put named;
@@ -69,6 +69,7 @@ loop-place-preserved g c =
             copied = rw at (on_over target rehash c.args.self.now _ _ so (over_read target rehash from i home built read));
             under_way = rw at (record {
               home_is = under.home_is;
+              power = under.power;
               behind = rw at at under.behind;
               few = (let few = rw inv.at_is at under.few in omega arith);
               all_named = named_skip from.contents i built read named;

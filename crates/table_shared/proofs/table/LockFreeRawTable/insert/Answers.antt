@@ -31,7 +31,7 @@ go_on_holding-requires g c =
 pub step_loaded-state-requires : goal.step_loaded-state-requires
 step_loaded-state-requires g c = record {
   phase = inl (begun_phase _ c.insert.result c.step-state.result c.insert.ensures c.step-state.ensures.decided);
-  some = rw c.capacity-capacity.ensures c.in-Some.ensures.room;
+  power = rw c.capacity-capacity.ensures c.in-Some.ensures.power;
 }
 
 pub loop-init : goal.loop-init

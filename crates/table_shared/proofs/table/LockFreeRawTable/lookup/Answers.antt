@@ -10,7 +10,7 @@ use Rattle.table_shared.proofs.table.LockFreeRawTable.lookup.Goals as goal
 pub step_loaded-state-requires : goal.step_loaded-state-requires
 step_loaded-state-requires g c = record {
   phase = inr (ap (λ (t : CallState). t.phase) c.lookup.ensures);
-  some = rw c.capacity-capacity.ensures c.in_ok-current.ensures.room;
+  power = rw c.capacity-capacity.ensures c.in_ok-current.ensures.power;
 }
 
 pub loop-current-init : goal.loop-current-init
