@@ -113,8 +113,15 @@ begins home target given v hash is = record {
 pub begun_phase : (hash : ℕ) (s t : CallState) → s ≡ insert_start hash → t ≡ decided s.phase s Taken → t.phase ≡ Shared
 begun_phase hash s t is e = ap (λ (u : CallState). u.phase) (e ∙ ap (λ (u : CallState). decided u.phase u Taken) is)
 
+pub begun_outcome : (hash : ℕ) (s t : CallState) → s ≡ insert_start hash → t ≡ decided s.phase s Taken → t.outcome ≡ Pending
+begun_outcome hash s t is e = ap (λ (u : CallState). u.outcome) (e ∙ ap (λ (u : CallState). decided u.phase u Taken) is)
+
 module _ {A V X : Type 0} {home : ℕ} {target : V → X} {given : V} {s : CallState} {walked : Option (Bor (GenerationView A V))}
     {growth : Option (GrowthView V)} {carried : Carried V (Bor X)} {held : Held} (b : IsBetween home target given s walked growth carried held) where
+  -- the same of a state whose parts are written out
+  pub spelt_out : (t : CallState) → t ≡ s → IsBetween home target given t walked growth carried held
+  spelt_out t is = subst (λ (u : CallState). IsBetween home target given u walked growth carried held) (sym is) b
+
   -- an insert that isn't over carries something
   pub carries : (p : Phase) → s.phase ≡ p → is_done p ≡ false → carried ≢ Gone
   carries p at begun = b.there (λ over. absurd (let done : is_done Done ≡ false = subst (λ (r : Phase). is_done r ≡ false) (sym at ∙ over) begun in cc))

@@ -7,7 +7,9 @@ use Rattle.table_generations.specs.Generations.{GenerationView}
 use Rattle.table_core.specs.Calls.{decided, stands_at_bucket}
 use Rattle.table_core.specs.declared.call.Answer.TheVariants.{NoGeneration}
 use Rattle.table_core.specs.declared.call.CallState.{CallState}
+use Rattle.table_core.specs.declared.call.Outcome.{Outcome}
 use Rattle.table_core.specs.declared.call.Outcome.TheVariants.{Pending}
+use Rattle.table_core.specs.declared.call.Phase.{Phase}
 use Rattle.table_core.specs.declared.call.Phase.TheVariants.{Building, Done, LookLoad, LookProbe, Probe, Shared}
 use Rattle.table_turns.specs.Phases.{Inserts, AtBucket, Hopes, Looks, Walks, lock_in, reached}
 use Rattle.table_turns.specs.Steps.{Starting}
@@ -49,6 +51,16 @@ pub record Onward {A V X E H : Type 0} (home : ℕ) (CallE : E → Type 0) (Call
     (walked : Option (Bor (GenerationView A V))) (carried : Carried V (Bor X)) (held : Held) : Type 0 where
   pub unfinished : s.phase ≢ Done
   pub between : IsBetween home target asking.given.value s walked None carried held
+  pub asks : Asks CallE CallH target says asking carried
+
+-- an insert that stands in this phase and has this outcome, in the generation of this number, and that asks like this
+pub record StandsIn {A V X E H : Type 0} (home : ℕ) (CallE : E → Type 0) (CallH : H → Type 0) (target : V → X)
+    (says : SharedFn E (Bor X × (Bor X × Unit {0})) Bool) (asking : Asking V E H) (s : CallState) (p : Phase) (n : ℕ)
+    (o : Outcome) (walked : Bor (GenerationView A V)) (carried : Carried V (Bor X)) (held : Held) : Type 0 where
+  pub phase : s.phase ≡ p
+  pub number : s.walked ≡ Some n
+  pub outcome : s.outcome ≡ o
+  pub between : IsBetween home target asking.given.value s (Some walked) None carried held
   pub asks : Asks CallE CallH target says asking carried
 
 -- a look-up into a table of this home, in this state, with the generation that it walks

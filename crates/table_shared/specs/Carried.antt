@@ -1,9 +1,11 @@
 -- What an insert carries from step to step.
-use Rattle.std.specs.Prelude.{◌≡◌, Bool, true, Option, Some, None, IfSome}
+use Rattle.std.specs.Prelude.{◌≡◌, ℕ, Bool, true, Option, Some, None, IfSome}
 use Rattle.std.specs.declared.result.Result.{Result}
 use Rattle.std.specs.declared.result.Result.TheVariants.{Ok, Err}
 use Rattle.std.specs.Borrow.{Bor}
 use Rattle.std.specs.Fn.{Shared as SharedFn, FnReturnsAtPair}
+use Rattle.table_core.specs.declared.call.CallState.{CallState}
+use Rattle.table_core.specs.declared.call.Outcome.{Outcome}
 use Rattle.table_core.specs.declared.call.Phase.{Phase}
 use Rattle.table_core.specs.declared.call.Phase.TheVariants.{WantShared, WantOwned}
 use Rattle.table_core.specs.Phases.{Lock, Free, Shares, Owns}
@@ -20,6 +22,23 @@ abbrev pub lock_of : Held → Lock
 lock_of held.Nothing = Free
 lock_of (held.Shared guard) = Shares
 lock_of (held.Alone guard) = Owns
+
+-- the lock that a guard of this kind holds, if there is a guard
+abbrev pub held_by : {G : Type 0} → (G → Held) → Option G → Held
+held_by kind None = held.Nothing
+held_by kind (Some guard) = kind guard
+
+-- the state of these parts
+abbrev pub state_by : Phase → ℕ → Option ℕ → ℕ → ℕ → ℕ → Outcome → CallState
+state_by phase hash number capacity index seen outcome = record {
+  phase = phase;
+  hash = hash;
+  walked = number;
+  capacity = capacity;
+  index = index;
+  seen = seen;
+  outcome = outcome;
+}
 
 -- an insert in this phase takes this lock
 abbrev pub Wants : Phase → Lock → Type 0
@@ -46,6 +65,13 @@ module _ {V R : Type 0} where
   abbrev pub own_in : Carried V R → Option R
   own_in (Own r) = Some r
   own_in _ = None
+
+  -- what carries this target and this value
+  abbrev pub carried_by : Option R → Option V → Carried V R
+  carried_by None None = Gone
+  carried_by None (Some v) = Value v
+  carried_by (Some r) None = Own r
+  carried_by (Some r) (Some v) = Met r v
 
   -- the target that was accepted
   abbrev pub met_in : Carried V R → Option R

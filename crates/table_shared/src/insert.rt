@@ -1,9 +1,10 @@
 //! Inserts: the steps of an insert in a row, with its parts in locals as long as nothing is rare.
 ghost use Rattle.std.specs.Prelude.{◌≡◌, Some, None};
 ghost use Rattle.std.specs.Fn.{FnReturnsAtPair};
+ghost use Rattle.table_core.specs.declared.call.Outcome.TheVariants.{Pending};
 ghost use Rattle.table_core.specs.declared.call.Phase.TheVariants.{AtEmpty, LeaveOk};
-ghost use Rattle.table_shared.specs.Between.{IsBetween, Onward};
-ghost use Rattle.table_shared.specs.Carried.{Asks};
+ghost use Rattle.table_shared.specs.Between.{Onward, StandsIn};
+ghost use Rattle.table_shared.specs.Carried.{carried_by, held_by, state_by};
 ghost use Rattle.table_shared.specs.Inserts.{Answers, Places, Finds, GivesBack};
 
 pub(crate) mod between;
@@ -15,10 +16,30 @@ use crate::table::LockFreeRawTable;
 use std::snapshot::Snapshot;
 use std::sync::{RwLockReadGuard, Wait};
 use table_cell::Low;
-use table_core::{Answer, CallState, Phase};
+use table_core::{Answer, CallState, Outcome, Phase};
 use table_generations::atomic_value::AtomicValue;
 use table_generations::fixed::Generation;
 use table_turns::{step, step_loaded};
+
+/// The same state, its parts written one by one, those that the caller knows as it knows them. The compiler keeps the state in
+/// registers then; one that is copied whole from step to step it keeps in memory.
+#[inline(always)]
+fn spelt(state: CallState, phase: Phase, number: u64, outcome: Outcome) -> CallState
+    requires phase { state.phase ≡ phase }
+    requires walked { state.walked ≡ Some number }
+    requires outcome { state.outcome ≡ outcome }
+    ensures same { result ≡ state }
+{
+    CallState {
+        phase,
+        hash: state.hash,
+        walked: Some(number),
+        capacity: state.capacity,
+        index: state.index,
+        seen: state.seen,
+        outcome,
+    }
+}
 
 impl<T: AtomicValue, A: Low + Copy> LockFreeRawTable<T, A> {
     /// Inserts the value, unless an entry is accepted as equal, and shows the target of the entry: its own, or the accepted
@@ -46,10 +67,12 @@ impl<T: AtomicValue, A: Low + Copy> LockFreeRawTable<T, A> {
         let state = step(CallState::insert(hash), Answer::Taken);
         let Some(current) = self.current() else {
             let state = step(state, Answer::NoGeneration);
-            return self.go_on_holding(rt, state, None, Carried::Value(value), guard, asking);
+            return self.go_on(rt, state, None, Carried::Value(value), Some(guard), asking);
         };
+        let number = current.number;
         let capacity = current.generation.capacity() as u64;
-        let mut state = step_loaded(state, current.number, capacity);
+        let started = step_loaded(state, number, capacity);
+        let mut state = spelt(started, Phase::Probe, number, Outcome::Pending);
         for _ in rt.forever() {
             let generation = current.generation;
             let mut note = generation.note_at(state.index as usize);
@@ -58,20 +81,24 @@ impl<T: AtomicValue, A: Low + Copy> LockFreeRawTable<T, A> {
                 eq: &asking.eq,
             };
             match self.read_bucket::<Reading, _>(generation, state, &probing, &mut note) {
-                Read::Empty(next) => return self.place(rt, next, generation, value, guard, asking),
+                Read::Empty(next) => {
+                    return self.place(rt, next, number, generation, value, guard, asking);
+                }
                 Read::Met(next, target) => {
+                    let found = Outcome::Existing { index: state.index };
                     let carried = Carried::Met(target, value);
                     return self.settle::<Reading, R, E, H>(
-                        rt, next, generation, carried, guard, asking,
+                        rt, next, number, found, generation, carried, guard, asking,
                     );
                 }
                 Read::Passed(next, _) => {
                     if next.phase != Phase::Probe {
                         let walked = Some(generation);
                         let carried = Carried::Value(value);
-                        return self.go_on_holding(rt, next, walked, carried, guard, asking);
+                        return self.go_on(rt, next, walked, carried, Some(guard), asking);
                     }
-                    state = next;
+                    let on = spelt(next, Phase::Probe, number, Outcome::Pending);
+                    state = on;
                 }
             }
         }
@@ -85,35 +112,36 @@ impl<T: AtomicValue, A: Low + Copy> LockFreeRawTable<T, A> {
         &'a self,
         rt: &R,
         state: CallState,
+        number: u64,
         generation: &'a Generation<T, A>,
         value: T,
         guard: RwLockReadGuard<'a, ()>,
         asking: Asking<T, E, H>,
     ) -> Result<(&'a T::Target, Option<T>), T>
-        requires phase { state.phase ≡ AtEmpty }
-        requires between { IsBetween self.now.home T.target asking.given.value state
-            (Some generation) None (Carried.Value value) (Held.Shared guard) }
-        requires asks { Asks E.IsAlwaysCallable H.IsAlwaysCallable T.target E.Fn asking
-            (Carried.Value value) }
+        requires { StandsIn self.now.home E.IsAlwaysCallable H.IsAlwaysCallable T.target E.Fn asking
+            state AtEmpty number Pending generation (Carried.Value value) (Held.Shared guard) }
         ensures { Answers T.target (FnReturnsAtPair E.Fn asking.eq (T.target asking.given.value))
             asking.given.value result }
     {
+        let state = spelt(state, Phase::AtEmpty, number, Outcome::Pending);
         let mut note = generation.note_at(state.index as usize);
         let (next, carried) = match self.put_value::<Putting, E>(
             generation, state, value, &asking.eq, &mut note,
         ) {
             Put::Won(next, target) => {
-                let next = self.count(&guard, next);
+                let placed = spelt(next, Phase::Placed, number, Outcome::Pending);
+                let next = self.count(&guard, placed);
+                let own = Outcome::New { index: state.index };
                 let carried = Carried::Own(target);
                 return self.settle::<Putting, R, E, H>(
-                    rt, next, generation, carried, guard, asking,
+                    rt, next, number, own, generation, carried, guard, asking,
                 );
             }
             Put::Refused(next, value) => (next, Carried::Value(value)),
             Put::Passed(next, _, value) => (next, Carried::Value(value)),
             Put::Met(next, target, value) => (next, Carried::Met(target, value)),
         };
-        self.go_on_holding(rt, next, Some(generation), carried, guard, asking)
+        self.go_on(rt, next, Some(generation), carried, Some(guard), asking)
     }
 
     /// An insert that has an outcome releases the lock, and grows the table if half of its generation is set.
@@ -128,87 +156,103 @@ impl<T: AtomicValue, A: Low + Copy> LockFreeRawTable<T, A> {
         &'a self,
         rt: &R,
         state: CallState,
+        number: u64,
+        outcome: Outcome,
         generation: &'a Generation<T, A>,
         carried: Carried<T, &'a T::Target>,
         guard: RwLockReadGuard<'a, ()>,
         asking: Asking<T, E, H>,
     ) -> Result<(&'a T::Target, Option<T>), T>
-        requires phase { state.phase ≡ LeaveOk }
-        requires between { IsBetween self.now.home T.target asking.given.value state
-            (Some generation) None carried (Held.Shared guard) }
-        requires asks { Asks E.IsAlwaysCallable H.IsAlwaysCallable T.target E.Fn asking carried }
+        requires { StandsIn self.now.home E.IsAlwaysCallable H.IsAlwaysCallable T.target E.Fn asking
+            state LeaveOk number outcome generation carried (Held.Shared guard) }
         ensures { Answers T.target (FnReturnsAtPair E.Fn asking.eq (T.target asking.given.value))
             asking.given.value result }
     {
+        let state = spelt(state, Phase::LeaveOk, number, outcome);
         let state = step(state, Answer::Released);
         drop(guard);
         let state = self.ask_size(state);
         if state.phase == Phase::Done {
             return carried.into_answer();
         }
-        self.go_on_free(rt, state, Some(generation), carried, asking)
+        self.go_on(rt, state, Some(generation), carried, None, asking)
     }
 
-    /// The rest of an insert that holds the lock shared. What is rare is kept out of `insert`, which pays at its entry for the size
-    /// of its locals: so the guard is no `Held` there, which has room for all lanes.
-    #[inline(never)]
-    fn go_on_holding<'a, R: Wait, E: Fn(&T::Target, &T::Target) -> bool, H: Fn(&T::Target) -> u64>(
+    /// The rest of an insert, from any step but the last, with the guard of the lock if it is shared.
+    #[inline(always)]
+    fn go_on<'a, R: Wait, E: Fn(&T::Target, &T::Target) -> bool, H: Fn(&T::Target) -> u64>(
         &'a self,
         rt: &R,
         state: CallState,
         walked: Option<&'a Generation<T, A>>,
         carried: Carried<T, &'a T::Target>,
-        guard: RwLockReadGuard<'a, ()>,
+        guard: Option<RwLockReadGuard<'a, ()>>,
         asking: Asking<T, E, H>,
     ) -> Result<(&'a T::Target, Option<T>), T>
         requires { Onward self.now.home E.IsAlwaysCallable H.IsAlwaysCallable T.target E.Fn asking
-            state walked carried (Held.Shared guard) }
+            state walked carried (held_by Held.Shared guard) }
         ensures { Answers T.target (FnReturnsAtPair E.Fn asking.eq (T.target asking.given.value))
             asking.given.value result }
     {
-        self.go_on_from(rt, state, walked, carried, Held::Shared(guard), asking)
+        let CallState {
+            phase,
+            hash,
+            walked: number,
+            capacity,
+            index,
+            seen,
+            outcome,
+        } = state;
+        let (target, value) = carried.into_parts();
+        self.go_on_by_parts(
+            rt, phase, hash, number, capacity, index, seen, outcome, walked, target, value, guard,
+            asking,
+        )
     }
 
-    /// The rest of an insert that holds no lock.
+    /// The same by parts. What is rare is kept out of `insert`, and gets the state and what is carried part by part: of what is
+    /// handed over whole the compiler keeps a copy in memory from the start, and that on the usual way too.
     #[inline(never)]
-    fn go_on_free<'a, R: Wait, E: Fn(&T::Target, &T::Target) -> bool, H: Fn(&T::Target) -> u64>(
+    fn go_on_by_parts<'a, R: Wait, E: Fn(&T::Target, &T::Target) -> bool, H: Fn(&T::Target) -> u64>(
         &'a self,
         rt: &R,
-        state: CallState,
+        phase: Phase,
+        hash: u64,
+        number: Option<u64>,
+        capacity: u64,
+        index: u64,
+        seen: u64,
+        outcome: Outcome,
         walked: Option<&'a Generation<T, A>>,
-        carried: Carried<T, &'a T::Target>,
+        target: Option<&'a T::Target>,
+        value: Option<T>,
+        guard: Option<RwLockReadGuard<'a, ()>>,
         asking: Asking<T, E, H>,
     ) -> Result<(&'a T::Target, Option<T>), T>
         requires { Onward self.now.home E.IsAlwaysCallable H.IsAlwaysCallable T.target E.Fn asking
-            state walked carried Held.Nothing }
+            (state_by phase hash number capacity index seen outcome) walked
+            (carried_by target value) (held_by Held.Shared guard) }
         ensures { Answers T.target (FnReturnsAtPair E.Fn asking.eq (T.target asking.given.value))
             asking.given.value result }
     {
-        self.go_on_from(rt, state, walked, carried, Held::Nothing, asking)
-    }
-
-    /// The rest of an insert, from any step but the last.
-    #[inline(never)]
-    fn go_on_from<'a, R: Wait, E: Fn(&T::Target, &T::Target) -> bool, H: Fn(&T::Target) -> u64>(
-        &'a self,
-        rt: &R,
-        state: CallState,
-        walked: Option<&'a Generation<T, A>>,
-        carried: Carried<T, &'a T::Target>,
-        held: Held<'a>,
-        asking: Asking<T, E, H>,
-    ) -> Result<(&'a T::Target, Option<T>), T>
-        requires { Onward self.now.home E.IsAlwaysCallable H.IsAlwaysCallable T.target E.Fn asking
-            state walked carried held }
-        ensures { Answers T.target (FnReturnsAtPair E.Fn asking.eq (T.target asking.given.value))
-            asking.given.value result }
-    {
+        let held = match guard {
+            Some(guard) => Held::Shared(guard),
+            None => Held::Nothing,
+        };
         let call = Inserting {
             table: self,
-            state,
+            state: CallState {
+                phase,
+                hash,
+                walked: number,
+                capacity,
+                index,
+                seen,
+                outcome,
+            },
             walked,
             growth: None,
-            carried,
+            carried: Carried::of_parts(target, value),
             held,
             asking,
         };

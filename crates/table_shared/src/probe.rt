@@ -159,8 +159,8 @@ fn meet<'a, C: Caller, T: AtomicValue, P: Probing<T::Target>>(
     Read::Passed(step(state, passed(asked)), asked)
 }
 
-/// An insert that lost its exchange meets the entry that came first. That is rare, so it is kept out of line.
-#[inline(never)]
+/// An insert that lost its exchange meets the entry that came first.
+#[inline(always)]
 fn meet_first<'a, T: AtomicValue, E: Fn(&T::Target, &T::Target) -> bool>(
     state: CallState,
     first: &'a Entry<T>,

@@ -1,7 +1,7 @@
 //! An insert between two steps: what it walks, builds and carries, and the lock that it holds.
-ghost use Rattle.std.specs.Prelude.{◌≢◌};
+ghost use Rattle.std.specs.Prelude.{◌≡◌, ◌≢◌};
 ghost use Rattle.table_shared.specs.Between.{IsBetween};
-ghost use Rattle.table_shared.specs.Carried.{IsAnswer};
+ghost use Rattle.table_shared.specs.Carried.{IsAnswer, carried_by};
 
 use crate::growth::Growth;
 use crate::locks::Alone;
@@ -24,6 +24,31 @@ pub(crate) enum Carried<T, R> {
 }
 
 impl<T, R> Carried<T, R> {
+    /// The target and the value that are carried, if they are.
+    #[inline(always)]
+    pub(crate) fn into_parts(self) -> (Option<R>, Option<T>)
+        ensures { carried_by result.0 result.1 ≡ self }
+    {
+        match self {
+            Carried::Gone => (None, None),
+            Carried::Value(value) => (None, Some(value)),
+            Carried::Own(target) => (Some(target), None),
+            Carried::Met(target, value) => (Some(target), Some(value)),
+        }
+    }
+
+    /// What carries this target and this value, if there are any.
+    pub(crate) fn of_parts(target: Option<R>, value: Option<T>) -> Self
+        ensures { result ≡ carried_by target value }
+    {
+        match (target, value) {
+            (None, None) => Carried::Gone,
+            (None, Some(value)) => Carried::Value(value),
+            (Some(target), None) => Carried::Own(target),
+            (Some(target), Some(value)) => Carried::Met(target, value),
+        }
+    }
+
     /// What is carried, as the answer of the insert.
     #[inline(always)]
     pub(crate) fn into_answer(self) -> Result<(R, Option<T>), T>

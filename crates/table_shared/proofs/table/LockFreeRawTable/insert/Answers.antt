@@ -1,4 +1,4 @@
-use Rattle.std.proofs.Common.{◌≡◌, ap, inl, refl, rules, subst, sym, true, Bor}
+use Rattle.std.proofs.Common.{◌≡◌, ◌∙◌, ap, inl, refl, rules, subst, sym, true, Bor}
 use Rattle.std.specs.Prelude.{Bool, Option}
 use Rattle.std.specs.declared.result.Result.{Result}
 use Rattle.std.specs.Fn.{FnReturnsAtPair, Shared as SharedFn}
@@ -6,7 +6,7 @@ use Rattle.table_core.specs.declared.call.Answer.TheVariants.{Empty, NoGeneratio
 use Rattle.table_core.specs.declared.call.CallState.{CallState}
 use Rattle.table_core.specs.declared.call.Phase.TheVariants.{Probe, Shared}
 use Rattle.table_shared.specs.Inserts.{Answers}
-use Rattle.table_shared.proofs.Between.{accepts, begins_shared, begun_phase, finds_empty, finds_none, passes, passes_probed, shares_on, starts, taken, within}
+use Rattle.table_shared.proofs.Between.{accepts, begins_shared, begun_outcome, begun_phase, finds_empty, finds_none, passes, passes_probed, shares_on, starts, taken, within}
 use Rattle.table_shared.proofs.Takes.{accepts_entry}
 use Rattle.table_shared.proofs.table.LockFreeRawTable.insert.Goals as goal
 
@@ -21,36 +21,60 @@ step-state-requires g c = record { fits = rw c.insert.ensures refl }
 pub step-state-requires-in_default : goal.step-state-requires-in_default
 step-state-requires-in_default g c = record { fits = rw (begun_phase _ c.insert.result c.step-state.result c.insert.ensures c.step-state.ensures.decided) refl }
 
-pub go_on_holding-requires : goal.go_on_holding-requires
-go_on_holding-requires g c =
+pub go_on-requires : goal.go_on-requires
+go_on-requires g c =
     let on : c.step-state.result.phase ≡ Shared = begun_phase _ c.insert.result c.step-state.result c.insert.ensures c.step-state.ensures.decided in
     let b = finds_none {A = g.row.A.Denot} (begins_shared c.args.self.now.home g.T.AtomicValue.target c.of-given.result.value c.args.value _ c.insert.result c.step-state.result _ c.insert.ensures (sym c.of-given.ensures) refl c.step-state.ensures.decided)
     c.step-state-in_default.result on (taken Shared NoGeneration c.step-state.result c.step-state-in_default.result on c.step-state-in_default.ensures.decided) in
     record { unfinished = shares_on b refl; between = b; asks = record { calls_eq = c.requires.eq_callable; calls_hash = c.requires.hash_callable; heard = tt } }
 
-pub step_loaded-state-requires : goal.step_loaded-state-requires
-step_loaded-state-requires g c = record {
+pub step_loaded-started-requires : goal.step_loaded-started-requires
+step_loaded-started-requires g c = record {
   phase = inl (begun_phase _ c.insert.result c.step-state.result c.insert.ensures c.step-state.ensures.decided);
   power = rw c.capacity-capacity.ensures c.in-Some.ensures.power;
 }
 
+pub spelt-state-requires : goal.spelt-state-requires
+spelt-state-requires g c =
+    let on : c.step-state.result.phase ≡ Shared = begun_phase _ c.insert.result c.step-state.result c.insert.ensures c.step-state.ensures.decided in
+    record {
+      phase = c.step_loaded-started.ensures.insert on;
+      walked = c.step_loaded-started.ensures.starting.walked.0;
+      outcome = c.step_loaded-started.ensures.starting.walked.2 ∙ begun_outcome _ c.insert.result c.step-state.result c.insert.ensures c.step-state.ensures.decided;
+    }
+
 pub loop-init : goal.loop-init
 loop-init g c =
     let on : c.step-state.result.phase ≡ Shared = begun_phase _ c.insert.result c.step-state.result c.insert.ensures c.step-state.ensures.decided in
+    let same = c.spelt-state.ensures.same in
+    let probes : c.spelt-state.result.phase ≡ Probe = ap (λ (t : CallState). t.phase) same ∙ c.step_loaded-started.ensures.insert on in
     record {
-      phase = c.step_loaded-state.ensures.insert on;
+      phase = probes;
+      walked = ap (λ (t : CallState). t.walked) same ∙ c.step_loaded-started.ensures.starting.walked.0;
       between =
           starts (begins_shared {A = g.row.A.Denot} c.args.self.now.home g.T.AtomicValue.target c.of-given.result.value c.args.value _ c.insert.result c.step-state.result _ c.insert.ensures (sym c.of-given.ensures) refl c.step-state.ensures.decided)
-          c.step_loaded-state.result c.in-Some.current.number c.in-Some.current.generation on (c.step_loaded-state.ensures.insert on) (rw c.capacity-capacity.ensures at c.step_loaded-state.ensures.starting) c.in-Some.ensures.home;
+          c.spelt-state.result c.in-Some.current.number c.in-Some.current.generation on probes (rw (← same) at (rw c.capacity-capacity.ensures at c.step_loaded-started.ensures.starting)) c.in-Some.ensures.home;
       same = refl;
+    }
+
+pub spelt-on-requires : goal.spelt-on-requires
+spelt-on-requires g c =
+    let passing = passes_probed c.loop.invariant.between c.in-Passed.next c.in-Passed.field-1 c.loop.invariant.phase c.in-Passed.ensures.reads in
+    record {
+      phase = search rules;
+      walked = passing.same.0 ∙ c.loop.invariant.walked;
+      outcome = passing.pending;
     }
 
 pub loop-preserved : goal.loop-preserved
 loop-preserved g c =
     let b = c.loop.invariant.between in
+    let passing = passes_probed b c.in-Passed.next c.in-Passed.field-1 c.loop.invariant.phase c.in-Passed.ensures.reads in
+    let same = c.spelt-on.ensures.same in
     record {
       phase = search rules;
-      between = passes b c.in-Passed.next (rw c.loop.invariant.phase tt) (passes_probed b c.in-Passed.next c.in-Passed.field-1 c.loop.invariant.phase c.in-Passed.ensures.reads);
+      walked = ap (λ (t : CallState). t.walked) same ∙ (passing.same.0 ∙ c.loop.invariant.walked);
+      between = passes b c.spelt-on.result (rw c.loop.invariant.phase tt) (rw same passing);
       same = refl;
     }
 
@@ -74,6 +98,8 @@ place-requires g c =
     let is = taken Probe Empty c.loop.state c.in-Empty.next c.loop.invariant.phase c.in-Empty.ensures.reads.is in
     record {
       phase = ap (λ (t : CallState). t.phase) is;
+      number = ap (λ (t : CallState). t.walked) is ∙ c.loop.invariant.walked;
+      outcome = ap (λ (t : CallState). t.outcome) is ∙ c.loop.invariant.between.hopes (rw c.loop.invariant.phase tt);
       between = finds_empty c.loop.invariant.between c.in-Empty.next c.loop.invariant.phase is;
       asks = record { calls_eq = c.requires.eq_callable; calls_hash = c.requires.hash_callable; heard = tt };
     }
@@ -83,6 +109,8 @@ settle-requires g c =
     let is = accepts_entry c.loop.state c.in-Met.next (rw c.loop.invariant.phase tt) c.in-Met.ensures.reads.0 in
     record {
       phase = ap (λ (t : CallState). t.phase) is;
+      number = ap (λ (t : CallState). t.walked) is ∙ c.loop.invariant.walked;
+      outcome = ap (λ (t : CallState). t.outcome) is;
       between = accepts c.loop.invariant.between c.in-Met.next c.in-Met.target c.args.value (rw c.loop.invariant.phase tt) is (sym c.of-given.ensures);
       asks = record {
         calls_eq = c.requires.eq_callable;
@@ -91,8 +119,8 @@ settle-requires g c =
       };
     }
 
-pub go_on_holding-requires-then-ne : goal.go_on_holding-requires-then-ne
-go_on_holding-requires-then-ne g c =
+pub go_on-requires-then-ne : goal.go_on-requires-then-ne
+go_on-requires-then-ne g c =
     let b = passes c.loop.invariant.between c.in-Passed.next (rw c.loop.invariant.phase tt) (passes_probed c.loop.invariant.between c.in-Passed.next c.in-Passed.field-1 c.loop.invariant.phase c.in-Passed.ensures.reads) in
     record { unfinished = shares_on b refl; between = b; asks = record { calls_eq = c.requires.eq_callable; calls_hash = c.requires.hash_callable; heard = tt } }
 
@@ -108,10 +136,10 @@ returns-in-Met g c =
 
 pub returns-then-ne : goal.returns-then-ne
 returns-then-ne g c =
-    let right = said g.T.AtomicValue.target g.E.Fn c.args.eq c.args.value c.of-given.result.value c.go_on_holding-then-ne.result c.of-given.ensures c.go_on_holding-then-ne.ensures in
+    let right = said g.T.AtomicValue.target g.E.Fn c.args.eq c.args.value c.of-given.result.value c.go_on-then-ne.result c.of-given.ensures c.go_on-then-ne.ensures in
     record { placed = right.0; found = right.1; back = right.2 }
 
 pub returns-in_default : goal.returns-in_default
 returns-in_default g c =
-    let right = said g.T.AtomicValue.target g.E.Fn c.args.eq c.args.value c.of-given.result.value c.go_on_holding.result c.of-given.ensures c.go_on_holding.ensures in
+    let right = said g.T.AtomicValue.target g.E.Fn c.args.eq c.args.value c.of-given.result.value c.go_on.result c.of-given.ensures c.go_on.ensures in
     record { placed = right.0; found = right.1; back = right.2 }

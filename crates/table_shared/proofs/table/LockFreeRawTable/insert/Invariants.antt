@@ -5,14 +5,15 @@ use Rattle.table_shared.specs.declared.insert.between.Held.TheVariants as held
 use Rattle.table_shared.specs.Between.{IsBetween}
 use Rattle.table_shared.proofs.table.LockFreeRawTable.insert.Given as goal
 
--- the insert stands at a bucket to be read, and has its value
-pub record IsProbing (Phase Between Same : Type 0) : Type 0 where
+-- the insert stands at a bucket to be read in the generation of this number, and has its value
+pub record IsProbing (Phase Walked Between Same : Type 0) : Type 0 where
   pub phase : Phase
+  pub walked : Walked
   pub between : Between
   pub same : Same
 
 abbrev pub invariant-loop : goal.invariant-loop
 invariant-loop g l =
-    IsProbing (l.state.phase ≡ Probe)
+    IsProbing (l.state.phase ≡ Probe) (l.state.walked ≡ Some l.number)
     (IsBetween l.self.home g.T.AtomicValue.target l.asking.given.value l.state (Some l.current.generation) None (Value l.value) (held.Shared l.guard))
     (l.value ≡ l.fn.value)
