@@ -1,7 +1,7 @@
 -- Entries of the generation before that are named in the one that is made.
 use Rattle.std.proofs.Common.{◌≡◌, ◌∙◌, ℕ, ◌+◌, ◌<◌, inl, inr, List, Option, Some, None, length, refl, sym, ap, arith, get_or-set_other, get_or-set_same}
 use Rattle.std.specs.Prelude.{IfSome, option_map, ⊤}
-use Rattle.std.proofs.lemmas.Bool.{cases_eq}
+use Rattle.std.proofs.lemmas.Bool.{cases_eq, cases_lt}
 use Rattle.table_cell.specs.Contents.{BucketView, bucket}
 use Rattle.table_cell.specs.declared.bucket.Entry.{Entry}
 use Rattle.table_generations.specs.Buckets.{Content, vacant, own, named, shown, shown_all, content_at}
@@ -63,14 +63,14 @@ module _ {T U : Type 0} (target : T → U) where
   ]
 
 module _ {T : Type 0} where
-  -- a bucket that wasn't set alone is passed: those passed so far are named
-  pub named_skip : (before : List (Content T)) (i : ℕ) (built : List (Content T)) → shown (content_at before i) ≡ None → AreNamed before i built → AreNamed before (i + 1) built
-  named_skip before i built none so m x lt shows = elim (cases_eq m i) [
-    | inl same ↦ absurd (let here : shown (content_at before i) ≡ Some x = rw same at shows in cc)
-    | inr other ↦ so m x (omega arith) shows
+  -- buckets that weren't set alone are passed: the entries of those passed so far are named
+  pub named_past : (before : List (Content T)) (i k : ℕ) (built : List (Content T)) → NoneAlone before i k → AreNamed before i built → AreNamed before k built
+  named_past before i k built none so m x lt shows = elim (cases_lt m i) [
+    | inl less ↦ so m x less shows
+    | inr ge ↦ absurd (let here : shown (content_at before m) ≡ None = none m ge lt in cc)
   ]
 
-  -- and none was set alone so far
+  -- and where the next bucket wasn't set alone either, none was so far
   pub none_on : (before : List (Content T)) (i k : ℕ) → shown (content_at before k) ≡ None → NoneAlone before i k → NoneAlone before i (k + 1)
   none_on before i k none so j from to = elim (cases_eq j k) [
     | inl same ↦ rw same none

@@ -1,5 +1,5 @@
 -- Entries that are read ahead of their copies, and copies in a row.
-use Rattle.std.specs.Prelude.{◌≡◌, ℕ, zero, suc, ◌+◌, ◌<◌, ◌≤◌, true, List, Option, Some, None, IfSome, length, slice_index_or}
+use Rattle.std.specs.Prelude.{◌≡◌, ℕ, zero, suc, ◌+◌, ◌<◌, ◌≤◌, true, List, Option, Some, None, IfSome, slice_index_or}
 use Rattle.table_cell.specs.Contents.{bucket}
 use Rattle.table_cell.specs.declared.bucket.Entry.{Entry}
 use Rattle.table_generations.specs.Buckets.{named, shown, content_at}
@@ -9,16 +9,19 @@ use Rattle.table_shared.specs.declared.growth.ahead.Ahead.{Ahead}
 
 module _ {A T U : Type 0} (target : T → U) (rehash : U → ℕ → Type 0) (g : GenerationView A T) where
   -- bucket i was read: nothing was there, and it wasn't set alone; or an entry, which a bucket names,
-  -- beside a hash that rehash may answer for it. If bucket i was set alone, the entry is its own
+  -- beside i and a hash that rehash may answer for it. If bucket i was set alone, the entry is its own
   abbrev pub IsRead : ℕ → Option (Ahead T A) → Type 0
   IsRead i None = shown (content_at g.contents i) ≡ None
-  IsRead i (Some read) = (e : Entry T) × (read.name ≡ bucket g.from g.home (named e))
+  IsRead i (Some read) = (read.index ≡ i) × (e : Entry T) × (read.name ≡ bucket g.from g.home (named e))
       × IfSome (shown (content_at g.contents i)) (λ x. x ≡ e) × rehash (target e.value) read.hash
 
-  -- place k of a window, for each k from low on and below high, is what was read of bucket first + k
-  abbrev pub AreRead : ℕ → ℕ → ℕ → List (Option (Ahead T A)) → Type 0
-  AreRead first low high window = (k : ℕ) (d : Option (Ahead T A)) → low ≤ k → k < high
-      → first + k < length g.contents → IsRead (first + k) (slice_index_or window k d)
+  -- so many places of a window, from place k on, are what was read of buckets one after another, from
+  -- bucket p on and before bucket end, and no other bucket there was set alone
+  abbrev pub AreReadFrom : ℕ → ℕ → ℕ → ℕ → List (Option (Ahead T A)) → Type 0
+  AreReadFrom end p zero k window = (p ≤ end) × NoneAlone g.contents p end
+  AreReadFrom end p (suc n) k window = (i : ℕ) × (read : Ahead T A)
+      × ((d : Option (Ahead T A)) → slice_index_or window k d ≡ Some read) × (p ≤ i) × NoneAlone g.contents p i
+      × IsRead i (Some read) × (i < end) × AreReadFrom end (i + 1) n (k + 1) window
 
 -- buckets are passed that weren't set alone, and nothing is named
 pub record PassesOver {T : Type 0} (old new : GrowthView T) : Type 0 where

@@ -2,10 +2,10 @@
 //!
 //! Entries lie far apart in memory. In a loop that does nothing but read them the reads overlap; where each is named before
 //! the next is read, they don't.
-ghost use Rattle.std.specs.Prelude.{◌≡◌, ◌<◌, ◌≤◌, ◌↔◌, IsTrue, length};
+ghost use Rattle.std.specs.Prelude.{◌≡◌, ◌<◌, ◌≤◌, ◌↔◌, ◌+◌, ◌-◌, IsTrue, length, min};
 ghost use Rattle.std.specs.Fn.{FnReturnsAt};
 ghost use Rattle.table_core.specs.declared.call.Phase.TheVariants.{Building};
-ghost use Rattle.table_shared.specs.Ahead.{IsRead, AreRead, CopiesOn};
+ghost use Rattle.table_shared.specs.Ahead.{IsRead, AreReadFrom, CopiesOn};
 ghost use Rattle.table_shared.specs.Growths.{PassedAll};
 
 use crate::growth::Growth;
@@ -20,9 +20,11 @@ use table_turns::step;
 /// So many buckets are read before the entries of the first of them are named.
 pub(crate) const WINDOW: usize = 64;
 
-/// An entry that was read ahead of its copy: a bucket that names it, and the hash that was answered for it.
+/// An entry that was read ahead of its copy: the bucket that was read, a bucket that names the entry, and the hash that was
+/// answered for it.
 #[derive(Drop)]
 pub(crate) struct Ahead<T: Drop, A: Allocator + Copy> {
+    pub(crate) index: usize,
     pub(crate) hash: u64,
     pub(crate) name: Bucket<T, A>,
 }
@@ -42,27 +44,35 @@ fn read_ahead<T: AtomicValue, A: Allocator + Copy, H: Fn(&T::Target) -> u64>(
     let mut note = from.note_at(index);
     let name = from.name_at(home, index, &mut note)?;
     let hash = hash_fn(name.as_ref().entry(home).value.deref());
-    Some(Ahead { hash, name })
+    Some(Ahead { index, hash, name })
 }
 
-/// Reads the buckets from this one on, as many as the window is wide or as are left, in their order.
+/// Reads the buckets from this one on, as many as the window is wide or as are left, in their order. Says how many entries
+/// were found: so many of the first places of the window hold them, in the same order.
 pub(crate) fn read_window<T: AtomicValue, A: Allocator + Copy, H: Fn(&T::Target) -> u64>(
     home: &Home,
     from: &Generation<T, A>,
     first: usize,
     hash_fn: &H,
     window: &mut [Option<Ahead<T, A>>; WINDOW],
-)
+) -> usize
     requires home { from.now.home ≡ home.now.id }
     requires place { first ≤ length from.now.contents }
     requires callable { H.IsAlwaysCallable hash_fn.now }
-    ensures { AreRead T.target (FnReturnsAt H.Fn hash_fn.now) from.now first 0 64 window.new }
+    ensures fits { result ≤ 64 }
+    ensures read { AreReadFrom T.target (FnReturnsAt H.Fn hash_fn.now) from.now
+        (first + min (length from.now.contents - first) 64) first result 0 window.new }
 {
     let left = from.capacity() - first;
     let count = left.min(WINDOW);
+    let mut found = 0;
     for ahead in 0..count {
-        window[ahead] = read_ahead(home, from, first + ahead, hash_fn);
+        if let Some(read) = read_ahead(home, from, first + ahead, hash_fn) {
+            window[found] = Some(read);
+            found += 1;
+        }
     }
+    found
 }
 
 impl<'a, T: AtomicValue, A: Allocator + Copy> Growth<'a, T, A> {
@@ -96,16 +106,18 @@ impl<'a, T: AtomicValue, A: Allocator + Copy> Growth<'a, T, A> {
             return state;
         };
         let first = self.copied;
-        read_window(self.home, from, first, hash_fn, window);
-        let mut state = state;
         let count = (from.capacity() - first).min(WINDOW);
-        for place in 0..count {
+        let found = read_window(self.home, from, first, hash_fn, window);
+        let mut state = state;
+        for place in 0..found {
             if let Some(read) = window[place].take() {
+                let after = read.index + 1;
                 self.built.insert_unique(self.home, read.hash, read.name);
                 state = step(state, Answer::Copied);
+                self.copied = after;
             }
-            self.copied = first + place + 1;
         }
+        self.copied = first + count;
         state
     }
 

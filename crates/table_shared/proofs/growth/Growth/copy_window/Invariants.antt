@@ -1,16 +1,15 @@
-use Rattle.std.proofs.Common.{◌≡◌, ◌+◌}
+use Rattle.std.proofs.Common.{◌≡◌, ◌+◌, ◌-◌}
 use Rattle.std.specs.Prelude.{IfSome}
 use Rattle.std.specs.Box.{box_allocator}
 use Rattle.std.specs.Fn.{FnReturnsAt}
-use Rattle.table_shared.specs.Ahead.{AreRead, CopiesOn}
+use Rattle.table_shared.specs.Ahead.{AreReadFrom, CopiesOn}
 use Rattle.table_shared.specs.Growths.{IsUnderWay, growth_of}
 use Rattle.table_shared.proofs.growth.Growth.copy_window.Given as goal
 
--- the entries of the places before this one are copied, and those of the others were read
-pub record IsInWindow (Home From At Stays Read Copied UnderWay : Type 0) : Type 0 where
+-- the entries of the places before this one are copied, and those of the others were read of buckets that aren't passed yet
+pub record IsInWindow (Home From Stays Read Copied UnderWay : Type 0) : Type 0 where
   pub home_is : Home
   pub from_is : From
-  pub at_is : At
   pub stays : Stays
   pub are_read : Read
   pub copied : Copied
@@ -20,8 +19,7 @@ abbrev pub invariant-loop-place : goal.invariant-loop-place
 invariant-loop-place g l =
     IsInWindow (l.self-inside.home ≡ l.initial.self-inside.home)
     (l.self-inside.from ≡ l.initial.self-inside.from)
-    (l.self-inside.copied ≡ l.first + l.place)
     (l.state ≡ l.initial.state)
-    (IfSome l.initial.self-inside.from (λ from. AreRead g.T.AtomicValue.target (FnReturnsAt g.H.Fn l.hash_fn) from.now l.first l.place 64 l.window))
+    (IfSome l.initial.self-inside.from (λ from. AreReadFrom g.T.AtomicValue.target (FnReturnsAt g.H.Fn l.hash_fn) from.now (l.first + l.count) l.self-inside.copied (l.found - l.place) l.place l.window))
     (CopiesOn g.T.AtomicValue.target (FnReturnsAt g.H.Fn l.hash_fn) l.fn.self (growth_of l.self-inside.home.now.id l.self-inside.from l.self-inside.copied l.self-inside.built))
     (IsUnderWay l.self-inside.home.now.id l.self-inside.from l.self-inside.copied l.self-inside.built l.self-inside.slot.alloc l.self-inside.slot.word.now (box_allocator l.self-inside.block))
