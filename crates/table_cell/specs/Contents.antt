@@ -1,6 +1,6 @@
 -- What a bucket holds, and what its calls answer.
 use Rattle.std.specs.Prelude.{◌≡◌, ◌≢◌, ℕ, ⊤, true, false, Option, Some, None, IfSome}
-use Rattle.table_cell.specs.Words.{WordView}
+use Rattle.table_cell.specs.Words.{WordView, word_view}
 use Rattle.table_cell.specs.declared.bucket.Entry.{Entry}
 use Rattle.table_cell.specs.declared.bucket.Mark.{Mark}
 use Rattle.table_cell.specs.declared.bucket.Mark.TheVariants as mark
@@ -99,6 +99,14 @@ module _ {A T : Type 0} where
 
   abbrev pub bucket_of : Mark → WordView A (Entry T) → BucketView A T
   bucket_of m w = record { from = w.from; home = w.home; id = w.id; content = content_of m w.value }
+
+  -- a word that names an entry, and owns nothing
+  abbrev pub word_naming : A → ℕ → Entry T → WordView A (Entry T)
+  word_naming a h e = word_view a h false (Some e)
+
+  -- a word of this home names an entry
+  abbrev pub NamesEntry : ℕ → WordView A (Entry T) → Type 0
+  NamesEntry h w = (e : Entry T) × (w ≡ word_naming w.from h e)
 
   -- the mark beside a word agrees with it: a vacant word owns what it will be set to
   abbrev pub IsMarked : Mark → WordView A (Entry T) → Type 0

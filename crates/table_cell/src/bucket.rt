@@ -1,6 +1,6 @@
 //! A bucket that is set at most once.
 ghost use Rattle.std.specs.Prelude.{◌≡◌, IfOk, IfErr, IfSome, IfNone, IsSome, None, Some, OnOk, option_copied, option_map};
-ghost use Rattle.table_cell.specs.Contents.{vacant, own, named, bucket, shown, owned, entry_from, naming, Lies, NamesNone, KeepsOwn, Reads, HandsBack, Keeps, Misses};
+ghost use Rattle.table_cell.specs.Contents.{vacant, own, named, bucket, shown, owned, entry_from, naming, word_naming, NamesEntry, Lies, NamesNone, KeepsOwn, Reads, HandsBack, Keeps, Misses};
 
 use crate::home::{Closed, Home, Homed};
 use crate::loose_block::LooseBlock;
@@ -155,6 +155,18 @@ impl<T: Drop, A: Allocator + Copy> Bucket<T, A> {
         }
     }
 
+    /// A bucket that names what this word names. The block is read for the bits.
+    pub fn of_naming(home: &Home, word: Word<Entry<T>, A>) -> Self
+        requires { NamesEntry home.now.id word }
+        ensures { IfSome word.value (λ e. result ≡ bucket word.from home.now.id (named e)) }
+    {
+        let bits = word.name().get(home).bits;
+        Bucket {
+            mark: Mark::Named(bits),
+            word,
+        }
+    }
+
     /// Ends the bucket, and hands out the value that it owns alone.
     pub fn take_alone(self, closed: &Closed, alloc: A) -> Option<T>
         requires { Lies closed.now.id alloc self }
@@ -252,33 +264,27 @@ impl<'a, T: Drop, A: Allocator + Copy> BucketRef<'a, T, A> {
         })
     }
 
-    /// A bucket that names the entry of this one, also where that was set through `&`: then its block is read for its bits.
-    pub fn naming_set(
+    /// A word that names the entry of this bucket, also where that was set through `&`. Nothing is followed.
+    pub fn naming_word(
         &self,
-        home: &Home,
         alloc: A,
         note: &mut Note<Entry<T>>,
-    ) -> Option<Bucket<T, A>>
-        requires home { self.now.home ≡ home.now.id }
+    ) -> Option<Word<Entry<T>, A>>
         requires from { self.now.from ≡ alloc }
         requires of { note.old.of ≡ self.now.id }
         ensures of { note.new.of ≡ note.old.of }
         ensures alone { IfSome (shown self.now.content)
-            (λ e. (result ≡ Some (bucket alloc home.now.id (named e)))
+            (λ e. (result ≡ Some (word_naming alloc self.now.home e))
             × (note.new.known ≡ note.old.known)) }
         ensures shared { IfNone (shown self.now.content)
-            ((result ≡ option_map (λ e. bucket alloc home.now.id (named e)) note.new.known)
+            ((result ≡ option_map (word_naming alloc self.now.home) note.new.known)
             × Keeps note.old.known note.new.known) }
     {
-        let Mark::Vacant = self.mark else {
-            return self.naming(alloc);
+        let name = match self.mark {
+            Mark::Vacant => self.word.name_if_set(note)?,
+            _ => self.word.name(),
         };
-        let word = Word::of_name(self.word.name_if_set(note)?, &alloc);
-        let bits = word.name().get(home).bits;
-        Some(Bucket {
-            mark: Mark::Named(bits),
-            word,
-        })
+        Some(Word::of_name(name, &alloc))
     }
 
     /// The entry of a bucket that is set alone. Its mark isn't read.

@@ -1,14 +1,13 @@
 -- Copies in a row, and entries that are read ahead of them.
 use Rattle.std.proofs.Common.{◌≡◌, ◌∙◌, ◌≢◌, ℕ, zero, suc, ◌+◌, ◌<◌, inl, inr, List, Option, Some, None, length, refl, sym, ap, arith, true, get_or-set_other, ◌≤◌}
-use Rattle.std.specs.Prelude.{option_map, slice_index_or, slice_set}
+use Rattle.std.specs.Prelude.{IfSome, slice_index_or, slice_set}
 use Rattle.std.proofs.lemmas.Bool.{cases_lt}
 use Rattle.std.proofs.lemmas.Grind.{get_or-set_at}
-use Rattle.table_cell.specs.Contents.{BucketView, bucket}
+use Rattle.table_cell.specs.Contents.{BucketView, bucket, NamesEntry}
 use Rattle.table_cell.specs.declared.bucket.Entry.{Entry}
 use Rattle.table_generations.specs.Buckets.{Content, vacant, own, named, shown}
-use Rattle.table_generations.specs.Generations.{GenerationView, IsName}
+use Rattle.table_generations.specs.Generations.{GenerationView}
 use Rattle.table_generations.specs.Growth.{PutsName}
-use Rattle.table_generations.specs.Looks.{IsSeen}
 use Rattle.table_core.specs.Calls.{decided, to}
 use Rattle.table_core.specs.declared.call.Answer.TheVariants.{Copied}
 use Rattle.table_core.specs.declared.call.CallState.{CallState}
@@ -17,21 +16,9 @@ use Rattle.table_core.specs.declared.call.Phase.TheVariants.{Building}
 use Rattle.table_shared.specs.Growths.{GrowthView, AreNamed, NoneAlone, CopiesNext}
 use Rattle.table_shared.specs.Ahead.{IsRead, AreReadFrom, PassesOver, Copies, CopiesOn}
 use Rattle.table_shared.specs.declared.growth.ahead.Ahead.{Ahead}
-use Rattle.table_shared.proofs.Copied.{same, named_on, named_past, none_on}
+use Rattle.table_shared.proofs.Copied.{named_bucket, names_entry, named_on, named_past, none_on}
 use Rattle.table_shared.proofs.Between.{taken}
 use Rattle.table_shared.proofs.Looked.{some_same}
-
-module _ {A T : Type 0} (from : A) (home : ℕ) where
-  bucket_of : (x : Entry T) (name : BucketView A T) (e : Entry T) → Some name ≡ Some (bucket from home (named x)) → shown name.content ≡ Some e → name ≡ bucket from home (named e)
-  bucket_of x name e is shows = some_same name (bucket from home (named x)) is ∙ ap (λ y. bucket from home (named y)) (same from home x name e is shows)
-
-  -- a bucket that names what a bucket shows, and shows this entry, is one that names this entry
-  pub seen_bucket : (c : Content T) (old new : Option (Entry T)) (name : BucketView A T) (e : Entry T) → IsSeen c old new (λ o. Some name ≡ option_map (λ x. bucket from home (named x)) o)
-      → shown name.content ≡ Some e → name ≡ bucket from home (named e)
-  seen_bucket vacant old None name e saw shows = absurd (let no = saw.shared.0 in cc)
-  seen_bucket vacant old (Some x) name e saw shows = bucket_of x name e saw.shared.0 shows
-  seen_bucket (own x) old new name e saw shows = bucket_of x name e saw.alone.0 shows
-  seen_bucket (named x) old new name e saw shows = bucket_of x name e saw.alone.0 shows
 
 module _ {A T U : Type 0} (target : T → U) (rehash : U → ℕ → Type 0) (g : GenerationView A T) where
   -- an entry that was read of the next bucket is put into the place after those that are taken
@@ -96,20 +83,21 @@ module _ {A T U : Type 0} (target : T → U) (rehash : U → ℕ → Type 0) (g 
   )
 
   module _ (i : ℕ) where
-    -- what names an entry that was read is of the generation's home and allocator
-    pub lies_read : (read : Ahead T A) → IsRead target rehash g i (Some read) → (read.name.home ≡ g.home) × (read.name.from ≡ g.from)
-    lies_read read (at, e, is, alone, asked) = (ap (λ b. b.home) is, ap (λ b. b.from) is)
+    module _ (h : ℕ) (read : Ahead T A) (is : IsRead target rehash g i (Some read)) where
+      -- the word of an entry that was read names it
+      pub word_read : g.home ≡ h → NamesEntry h read.word
+      word_read same = names_entry g.from g.home h read.word is.0 is.1 same
 
-    -- and it is a name
-    pub names_read : (read : Ahead T A) → IsRead target rehash g i (Some read) → IsName read.name.content
-    names_read read (at, e, is, alone, asked) = rw is tt
+      -- and so does the bucket that is made of it
+      pub bucket_read : (b : BucketView A T) → IfSome read.word.value (λ x. b ≡ bucket read.word.from h (named x)) → b ≡ bucket g.from h (named is.0)
+      bucket_read b so = named_bucket g.from g.home h read.word is.0 is.1 b so
 
     module _ (home p : ℕ) (built : List (Content T)) where
       -- an entry that was read is copied, and no bucket that is passed before its own was set alone
-      pub next_read : (after : List (Content T)) (read : Ahead T A) → p ≤ i → i < length g.contents → NoneAlone g.contents p i → IsRead target rehash g i (Some read)
-          → PutsName target built after read.hash read.name.content
+      pub next_read : (after : List (Content T)) (read : Ahead T A) → p ≤ i → i < length g.contents → NoneAlone g.contents p i → (is : IsRead target rehash g i (Some read))
+          → PutsName target built after read.hash (named is.0)
           → CopiesNext target rehash (record { home = home; before = g.contents; passed = p; built = built }) true (record { home = home; before = g.contents; passed = i + 1; built = after })
-      next_read after read on within none (at, e, is, alone, asked) put = (
+      next_read after read on within none (e, is, alone, asked) put = (
         i,
         e,
         read.hash,
@@ -120,15 +108,15 @@ module _ {A T U : Type 0} (target : T → U) (rehash : U → ℕ → Type 0) (g 
           skipped = none;
           alone = alone;
           asked = asked;
-          put = rw (ap (λ b. b.content) is) at put;
+          put = put;
         },
       )
 
       -- and the entries of the buckets that are passed are named
-      pub named_read : (after : List (Content T)) (read : Ahead T A) → NoneAlone g.contents p i → IsRead target rehash g i (Some read)
-          → PutsName target built after read.hash read.name.content → AreNamed g.contents p built → AreNamed g.contents (i + 1) after
-      named_read after read none (at, e, is, alone, asked) put so =
-          named_on target g.contents i built after read.hash e (rw (ap (λ b. b.content) is) at put) alone (named_past g.contents p i built none so)
+      pub named_read : (after : List (Content T)) (read : Ahead T A) → NoneAlone g.contents p i → (is : IsRead target rehash g i (Some read))
+          → PutsName target built after read.hash (named is.0) → AreNamed g.contents p built → AreNamed g.contents (i + 1) after
+      named_read after read none (e, is, alone, asked) put so =
+          named_on target g.contents i built after read.hash e put alone (named_past g.contents p i built none so)
 
 module _ {T : Type 0} where
   pub over_none : (g : GrowthView T) → PassesOver g g

@@ -55,6 +55,10 @@ and_left : (a b : Bool) → (a && b) ≡ true → a ≡ true
 and_left true b e = refl
 and_left false b e = e
 
+and_right : (a b : Bool) → (a && b) ≡ true → b ≡ true
+and_right true b e = e
+and_right false b e = absurd (cc)
+
 -- an insert that releases its lock isn't over
 leaves_begun : (p : Phase) → Leaves p → is_done p ≡ false
 leaves_begun LeaveOk m = refl
@@ -82,6 +86,10 @@ wants_fits s h w = fits_in s.phase w
 -- a call that stands at a bucket has an index below the capacity
 pub index_within : (s : CallState) → stands_at_bucket s ≡ true → s.index < s.capacity
 index_within s stands = ltb-true s.index s.capacity (and_left (nat_lt s.index s.capacity) (nat_lt s.seen s.capacity) stands)
+
+-- and has seen fewer buckets than that
+pub seen_within : (s : CallState) → stands_at_bucket s ≡ true → s.seen < s.capacity
+seen_within s stands = ltb-true s.seen s.capacity (and_right (nat_lt s.index s.capacity) (nat_lt s.seen s.capacity) stands)
 
 -- who has reached nothing carries the value
 value_told : {V R : Type 0} (c : Carried V R) → reach_of c ≡ Some Nothing → (v : V) × (c ≡ Value v)

@@ -1,8 +1,10 @@
 -- Entries of the generation before that are named in the one that is made.
-use Rattle.std.proofs.Common.{◌≡◌, ◌∙◌, ℕ, ◌+◌, ◌<◌, inl, inr, List, Option, Some, None, length, refl, sym, ap, arith, get_or-set_other, get_or-set_same}
+use Rattle.std.proofs.Common.{◌≡◌, ◌∙◌, ℕ, ◌+◌, ◌<◌, inl, inr, List, Option, Some, None, length, refl, sym, ap, arith, subst, get_or-set_other, get_or-set_same}
 use Rattle.std.specs.Prelude.{IfSome, option_map, ⊤}
 use Rattle.std.proofs.lemmas.Bool.{cases_eq, cases_lt}
-use Rattle.table_cell.specs.Contents.{BucketView, bucket}
+use Rattle.table_cell.specs.Contents.{BucketView, bucket, word_naming, NamesEntry}
+use Rattle.table_cell.specs.Notes.{Agrees}
+use Rattle.table_cell.specs.Words.{WordView}
 use Rattle.table_cell.specs.declared.bucket.Entry.{Entry}
 use Rattle.table_generations.specs.Buckets.{Content, vacant, own, named, shown, shown_all, content_at}
 use Rattle.table_generations.specs.Growth.{PutsName}
@@ -13,26 +15,35 @@ use Rattle.table_shared.specs.Growths.{AreNamed, NoneAlone, Names}
 use Rattle.table_shared.proofs.Looked.{some_same}
 
 module _ {A T : Type 0} (from : A) (home : ℕ) where
-  pub same : (x : Entry T) (name : BucketView A T) (e : Entry T) → Some name ≡ Some (bucket from home (named x)) → shown name.content ≡ Some e → x ≡ e
-  same x name e is shows = some_same x e (sym (ap shown (ap (λ b. b.content) (some_same name (bucket from home (named x)) is))) ∙ shows)
+  same : (x : Entry T) (word : WordView A (Entry T)) (e : Entry T) → Some word ≡ Some (word_naming from home x) → Agrees word.value e → x ≡ e
+  same x word e is agrees = subst (λ (v : Option (Entry T)). Agrees v e) (ap (λ (w : WordView A (Entry T)). w.value) (some_same word (word_naming from home x) is)) agrees
 
-  names : (x : Entry T) (name : BucketView A T) (e : Entry T) → Some name ≡ Some (bucket from home (named x)) → shown name.content ≡ Some e → name.content ≡ named e
-  names x name e is shows = ap (λ b. b.content) (some_same name (bucket from home (named x)) is) ∙ ap named (same x name e is shows)
+  names : (x : Entry T) (word : WordView A (Entry T)) (e : Entry T) → Some word ≡ Some (word_naming from home x) → Agrees word.value e → word ≡ word_naming from home e
+  names x word e is agrees = some_same word (word_naming from home x) is ∙ ap (word_naming from home) (same x word e is agrees)
 
-  -- where a bucket was made that names what a bucket shows, and it shows this entry, it names this
+  -- where a word was made that names what a bucket shows, and this entry is read by it, it names this
   -- entry, which is the one that the bucket was set to alone, if it was
-  pub seen_name : (c : Content T) (old new : Option (Entry T)) (name : BucketView A T) (e : Entry T) → IsSeen c old new (λ o. Some name ≡ option_map (λ x. bucket from home (named x)) o)
-      → shown name.content ≡ Some e → (name.content ≡ named e) × IfSome (shown c) (λ x. x ≡ e)
-  seen_name vacant old None name e saw shows = absurd (let no = saw.shared.0 in cc)
-  seen_name vacant old (Some x) name e saw shows = (names x name e saw.shared.0 shows, tt)
-  seen_name (own x) old new name e saw shows = (names x name e saw.alone.0 shows, same x name e saw.alone.0 shows)
-  seen_name (named x) old new name e saw shows = (names x name e saw.alone.0 shows, same x name e saw.alone.0 shows)
+  pub seen_word : (c : Content T) (old new : Option (Entry T)) (word : WordView A (Entry T)) (e : Entry T) → IsSeen c old new (λ o. Some word ≡ option_map (word_naming from home) o)
+      → Agrees word.value e → (word ≡ word_naming from home e) × IfSome (shown c) (λ x. x ≡ e)
+  seen_word vacant old None word e saw agrees = absurd (let no = saw.shared.0 in cc)
+  seen_word vacant old (Some x) word e saw agrees = (names x word e saw.shared.0 agrees, tt)
+  seen_word (own x) old new word e saw agrees = (names x word e saw.alone.0 agrees, same x word e saw.alone.0 agrees)
+  seen_word (named x) old new word e saw agrees = (names x word e saw.alone.0 agrees, same x word e saw.alone.0 agrees)
 
   -- where none was made, the bucket wasn't set alone
-  pub seen_none : (c : Content T) (old new : Option (Entry T)) (r : Option (BucketView A T)) → r ≡ None → IsSeen c old new (λ o. r ≡ option_map (λ e. bucket from home (named e)) o) → shown c ≡ None
+  pub seen_none : (c : Content T) (old new : Option (Entry T)) (r : Option (WordView A (Entry T))) → r ≡ None → IsSeen c old new (λ o. r ≡ option_map (word_naming from home) o) → shown c ≡ None
   seen_none vacant old new r is saw = refl
   seen_none (own e) old new r is saw = absurd (let no = sym is ∙ saw.alone.0 in cc)
   seen_none (named e) old new r is saw = absurd (let no = sym is ∙ saw.alone.0 in cc)
+
+  module _ (h : ℕ) (word : WordView A (Entry T)) (e : Entry T) (is : word ≡ word_naming from home e) where
+    -- such a word names an entry of its home
+    pub names_entry : home ≡ h → NamesEntry h word
+    names_entry same = (e, rw is (ap (λ k. word_naming from k e) same))
+
+    -- and the bucket that is made of it names that entry
+    pub named_bucket : (b : BucketView A T) → IfSome word.value (λ x. b ≡ bucket word.from h (named x)) → b ≡ bucket from h (named e)
+    named_bucket b so = rw is at so
 
 module _ {T U : Type 0} (target : T → U) where
   -- a name that is put into an empty bucket is there, and those that were there stay

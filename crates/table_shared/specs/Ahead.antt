@@ -1,18 +1,18 @@
 -- Entries that are read ahead of their copies, and copies in a row.
 use Rattle.std.specs.Prelude.{◌≡◌, ℕ, zero, suc, ◌+◌, ◌<◌, ◌≤◌, true, List, Option, Some, None, IfSome, slice_index_or}
-use Rattle.table_cell.specs.Contents.{bucket}
+use Rattle.table_cell.specs.Contents.{word_naming}
 use Rattle.table_cell.specs.declared.bucket.Entry.{Entry}
-use Rattle.table_generations.specs.Buckets.{named, shown, content_at}
+use Rattle.table_generations.specs.Buckets.{shown, content_at}
 use Rattle.table_generations.specs.Generations.{GenerationView}
 use Rattle.table_shared.specs.Growths.{GrowthView, NoneAlone, CopiesNext}
 use Rattle.table_shared.specs.declared.growth.ahead.Ahead.{Ahead}
 
 module _ {A T U : Type 0} (target : T → U) (rehash : U → ℕ → Type 0) (g : GenerationView A T) where
-  -- bucket i was read: nothing was there, and it wasn't set alone; or an entry, which a bucket names,
-  -- beside i and a hash that rehash may answer for it. If bucket i was set alone, the entry is its own
+  -- bucket i was read: nothing was there, and it wasn't set alone; or an entry, which a word names,
+  -- beside a hash that rehash may answer for it. If bucket i was set alone, the entry is its own
   abbrev pub IsRead : ℕ → Option (Ahead T A) → Type 0
   IsRead i None = shown (content_at g.contents i) ≡ None
-  IsRead i (Some read) = (read.index ≡ i) × (e : Entry T) × (read.name ≡ bucket g.from g.home (named e))
+  IsRead i (Some read) = (e : Entry T) × (read.word ≡ word_naming g.from g.home e)
       × IfSome (shown (content_at g.contents i)) (λ x. x ≡ e) × rehash (target e.value) read.hash
 
   -- so many places of a window, from place k on, are what was read of buckets one after another, from

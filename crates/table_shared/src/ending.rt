@@ -116,6 +116,61 @@ pub(crate) fn rehome_shown<T: AtomicValue, A: Allocator + Copy>(
     }
 }
 
+/// Drops the values that the generation shown by a word owns, if there is one.
+fn drop_shown<T: AtomicValue, A: Allocator + Copy>(
+    word: Word<Generation<T, A>, A>,
+    closed: &Closed,
+    alloc: A,
+)
+    requires { IsOpen closed.now.id alloc word }
+{
+    let note = word.note();
+    if let Some(block) = word.into_block_if_set(closed, note) {
+        Box::into_inner(block.into_box(alloc)).drop_values(closed);
+    }
+}
+
+/// Drops the values that the later generations own.
+fn drop_words<T: AtomicValue, A: Allocator + Copy>(later: Later<T, A>, closed: &Closed)
+    requires { AreRoomy closed.now.id later.alloc later.words.items later.room.items
+        (vec_capacity later.room) }
+{
+    let Later {
+        alloc,
+        words,
+        room: _,
+    } = later;
+    for word in words {
+        drop_shown(word, closed, alloc);
+    }
+}
+
+/// Drops the values that the later generations own, if there are words for them.
+pub(crate) fn drop_later<T: AtomicValue, A: Allocator + Copy>(
+    later: Word<Later<T, A>, A>,
+    closed: &Closed,
+    alloc: A,
+)
+    requires { IsOpen closed.now.id alloc later }
+{
+    let note = later.note();
+    if let Some(block) = later.into_block_if_set(closed, note) {
+        drop_words(Box::into_inner(block.into_box(alloc)), closed);
+    }
+}
+
+/// Drops the values that these generations own.
+pub(crate) fn drop_earlier<T: AtomicValue, A: Allocator + Copy>(
+    earlier: Vec<Generation<T, A>, A>,
+    closed: &Closed,
+)
+    requires { All (λ g. g.home ≡ closed.now.id) earlier.items }
+{
+    for generation in earlier {
+        generation.drop_values(closed);
+    }
+}
+
 /// So many, and the values that these generations own, if they can be counted.
 fn count_earlier<T: AtomicValue, A: Allocator + Copy>(
     generations: &[Generation<T, A>],

@@ -10,7 +10,7 @@ pub(crate) mod begin;
 use crate::lineage::later::{Slot, show_block};
 use std::alloc::{AllocError, Allocator};
 use std::marker::Model;
-use table_cell::{Home, Low, Note};
+use table_cell::{Bucket, Home, Low, Note};
 use table_generations::atomic_value::AtomicValue;
 use table_generations::fixed::Generation;
 
@@ -84,9 +84,10 @@ impl<'a, T: AtomicValue, A: Allocator + Copy> Growth<'a, T, A> {
             let index = self.copied;
             self.copied += 1;
             let mut note = from.note_at(index);
-            if let Some(name) = from.name_at(self.home, index, &mut note) {
-                let hash = hash_fn(name.as_ref().entry(self.home).value.deref());
-                self.built.insert_unique(self.home, hash, name);
+            if let Some(word) = from.naming_at(index, &mut note) {
+                let hash = hash_fn(word.name().get(self.home).value.deref());
+                self.built
+                    .insert_unique(self.home, hash, Bucket::of_naming(self.home, word));
                 return true;
             }
         }

@@ -73,7 +73,7 @@ impl<T: AtomicValue, A: Low + Copy> LockFreeRawTable<T, A> {
         let capacity = current.generation.capacity() as u64;
         let started = step_loaded(state, number, capacity);
         let mut state = spelt(started, Phase::Probe, number, Outcome::Pending);
-        for _ in rt.forever() {
+        while state.phase == Phase::Probe {
             let generation = current.generation;
             let mut note = generation.note_at(state.index as usize);
             let probing = Matched {

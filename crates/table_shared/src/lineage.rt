@@ -7,7 +7,7 @@ ghost use Rattle.table_shared.specs.Lineages.{AreOfHome, AreRoomy, IsOpen, linea
 
 pub(crate) mod later;
 
-use crate::ending::{hand_out, rehome_all, rehome_shown};
+use crate::ending::{drop_earlier, drop_later, hand_out, rehome_all, rehome_shown};
 use crate::lineage::later::{Later, Slot, show_block};
 use std::alloc::{AllocError, Allocator};
 use std::marker::Model;
@@ -140,6 +140,22 @@ impl<T: AtomicValue, A: Allocator + Copy> Lineage<T, A> {
         rehome_all(&mut earlier, closed, &home, alloc);
         let later = rehome_shown(later, closed, &home, alloc);
         hand_out(home.close(), base, earlier, later, alloc)
+    }
+
+    /// Ends the generations once their home has: each value that a bucket owns is dropped, and its block is freed. It takes no
+    /// memory, and goes over each bucket once, where `into_values` moves what there is first.
+    pub(crate) fn drop_values(self, closed: &Closed)
+        requires { self.home ≡ closed.now.id }
+    {
+        let Lineage {
+            earlier,
+            base,
+            later,
+            alloc,
+        } = self;
+        base.drop_values(closed);
+        drop_earlier(earlier, closed);
+        drop_later(later, closed, alloc);
     }
 }
 

@@ -203,6 +203,17 @@ impl<T: AtomicValue, A: Allocator + Copy> IntoIterator for LockFreeRawTable<T, A
 impl<T: AtomicValue, A: Allocator + Copy> Drop for LockFreeRawTable<T, A> {
     /// Drops each entry once, and frees its block.
     fn drop(self) {
-        drop(self.into_iter());
+        let LockFreeRawTable {
+            first_capacity: _,
+            home,
+            lineage,
+            shown: _,
+            before: _,
+            locks: _,
+            size: _,
+            behind: _,
+            alloc: _,
+        } = self;
+        lineage.drop_values(&home.close());
     }
 }

@@ -61,4 +61,17 @@ impl<T: AtomicValue, A: Allocator + Copy> Generation<T, A> {
             buckets: self.row.into_buckets(),
         }
     }
+
+    /// Ends the generation: each value that a bucket owns, alone or since it was set through `&`, is dropped, and its block is
+    /// freed. It takes no memory.
+    pub fn drop_values(self, closed: &Closed)
+        requires { self.home ≡ closed.now.id }
+    {
+        let mut buckets = self.row.into_buckets();
+        let alloc = buckets.alloc();
+        while let Some(bucket) = buckets.next_bucket() {
+            let note = bucket.as_ref().note();
+            drop(bucket.take(closed, alloc, note));
+        }
+    }
 }

@@ -1,14 +1,14 @@
 //! A generation whose buckets threads set through `&`.
 ghost use Rattle.std.specs.Prelude.{◌≡◌, ◌*◌, ◌<◌, length, option_copied, option_map, slice_index_or, IsTrue, IfSome, IfNone, ◌⊎◌, ◌^◌, ◌≤◌, IfOk, IfErr, None, Some};
 ghost use Rattle.std.specs.Int.{IsPowerOfTwo};
-ghost use Rattle.table_cell.specs.Contents.{bucket, named, shown, vacant, entry_from, Keeps, Misses};
+ghost use Rattle.table_cell.specs.Contents.{word_naming, shown, vacant, entry_from, Keeps, Misses};
 ghost use Rattle.table_generations.specs.Buckets.{content_at};
 ghost use Rattle.table_generations.specs.Looks.{Tells, IsSeen};
 
 use crate::atomic_value::AtomicValue;
 use crate::fixed::Generation;
 use std::alloc::Allocator;
-use table_cell::{Bucket, BucketRef, Entry, Home, Homed, Low, Mark, Missed, Note};
+use table_cell::{BucketRef, Entry, Home, Homed, Low, Mark, Missed, Note, Word};
 
 /// What a probe for eight bits meets at a bucket.
 #[derive(Clone, Copy)]
@@ -126,21 +126,15 @@ impl<T: AtomicValue, A: Allocator + Copy> Generation<T, A> {
         look_at_bucket(home, &self.row.at(index), sought, note)
     }
 
-    /// A bucket that names the entry in the bucket at this index, also where that was set through `&`.
-    pub fn name_at(
-        &self,
-        home: &Home,
-        index: usize,
-        note: &mut Note<Entry<T>>,
-    ) -> Option<Bucket<T, A>>
-        requires home { self.now.home ≡ home.now.id }
+    /// A word that names the entry in the bucket at this index, also where that was set through `&`. No block is read.
+    pub fn naming_at(&self, index: usize, note: &mut Note<Entry<T>>) -> Option<Word<Entry<T>, A>>
         requires within { index < length self.now.contents }
         requires of { note.old.of ≡ slice_index_or self.now.ids index 0 }
         ensures of { note.new.of ≡ note.old.of }
         ensures seen { IsSeen (content_at self.now.contents index) note.old.known note.new.known
-            (λ o. result ≡ option_map (λ e. bucket self.now.from self.now.home (named e)) o) }
+            (λ o. result ≡ option_map (word_naming self.now.from self.now.home) o) }
     {
-        self.row.at(index).naming_set(home, self.row.alloc(), note)
+        self.row.at(index).naming_word(self.row.alloc(), note)
     }
 }
 

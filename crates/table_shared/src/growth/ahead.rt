@@ -11,7 +11,7 @@ ghost use Rattle.table_shared.specs.Growths.{PassedAll};
 use crate::growth::Growth;
 use std::alloc::Allocator;
 use std::array;
-use table_cell::{Bucket, Home};
+use table_cell::{Bucket, Entry, Home, Word};
 use table_core::{Answer, CallState};
 use table_generations::atomic_value::AtomicValue;
 use table_generations::fixed::Generation;
@@ -20,13 +20,12 @@ use table_turns::step;
 /// So many buckets are read before the entries of the first of them are named.
 pub(crate) const WINDOW: usize = 64;
 
-/// An entry that was read ahead of its copy: the bucket that was read, a bucket that names the entry, and the hash that was
-/// answered for it.
+/// An entry that was read ahead of its copy: the hash that was answered for it, and a word that names it. A bucket in place of the
+/// word would have a gap behind its mark, which is copied too.
 #[derive(Drop)]
 pub(crate) struct Ahead<T: Drop, A: Allocator + Copy> {
-    pub(crate) index: usize,
     pub(crate) hash: u64,
-    pub(crate) name: Bucket<T, A>,
+    pub(crate) word: Word<Entry<T>, A>,
 }
 
 /// Reads the entry of a bucket, if there is one, and asks for its hash.
@@ -42,9 +41,9 @@ fn read_ahead<T: AtomicValue, A: Allocator + Copy, H: Fn(&T::Target) -> u64>(
     ensures { IsRead T.target (FnReturnsAt H.Fn hash_fn.now) from.now index result }
 {
     let mut note = from.note_at(index);
-    let name = from.name_at(home, index, &mut note)?;
-    let hash = hash_fn(name.as_ref().entry(home).value.deref());
-    Some(Ahead { index, hash, name })
+    let word = from.naming_at(index, &mut note)?;
+    let hash = hash_fn(word.name().get(home).value.deref());
+    Some(Ahead { hash, word })
 }
 
 /// Reads the buckets from this one on, as many as the window is wide or as are left, in their order. Says how many entries
@@ -108,13 +107,11 @@ impl<'a, T: AtomicValue, A: Allocator + Copy> Growth<'a, T, A> {
         let first = self.copied;
         let count = (from.capacity() - first).min(WINDOW);
         let found = read_window(self.home, from, first, hash_fn, window);
-        let mut state = state;
         for place in 0..found {
             if let Some(read) = window[place].take() {
-                let after = read.index + 1;
-                self.built.insert_unique(self.home, read.hash, read.name);
-                state = step(state, Answer::Copied);
-                self.copied = after;
+                self.built
+                    .insert_unique(self.home, read.hash, Bucket::of_naming(self.home, read.word));
+                let _same = step(state, Answer::Copied);
             }
         }
         self.copied = first + count;

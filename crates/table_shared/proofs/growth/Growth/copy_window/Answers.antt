@@ -1,26 +1,25 @@
-use Rattle.std.proofs.Common.{◌≡◌, ◌∙◌, ◌+◌, ◌-◌, ◌<◌, Some, suc, length, refl, sym, arith}
+use Rattle.std.proofs.Common.{◌≡◌, ◌∙◌, ◌+◌, ◌-◌, ◌<◌, Some, suc, length, refl, sym, ap, arith}
 use Rattle.std.proofs.lemmas.List.{length-set}
 use Rattle.std.specs.Fn.{FnReturnsAt}
 use Rattle.table_shared.specs.Growths.{GrowthView}
-use Rattle.table_shared.proofs.Ahead.{copy_stays, first_none, first_read, lies_read, named_read, names_read, next_read, on_one, one_taken}
+use Rattle.table_shared.proofs.Ahead.{bucket_read, first_none, first_read, named_read, next_read, on_one, one_taken, word_read}
 use Rattle.table_shared.proofs.growth.Growth.copy_window.Goals.{in-Some-take, in_default-take}
 use Rattle.table_shared.proofs.growth.Growth.copy_window.Goals as goal
 
-pub overflow_add-after : goal.overflow_add-after
-overflow_add-after g c =
-    let inv = c.loop-place.invariant in
+pub of_naming-requires : goal.of_naming-requires
+of_naming-requires g c =
+    let (p, inv) = c.loop-place.invariant in
+    let from = c.in-Some.from.now in
+    let target = g.T.AtomicValue.target in
+    let rehash = FnReturnsAt g.H.Fn c.args.hash_fn.now in
     let there = sym c.take.ensures.value ∙ c.in-Some-take.is in
-    let (i, on, none, here, below, rest) = first_read g.T.AtomicValue.target (FnReturnsAt g.H.Fn c.args.hash_fn.now) c.in-Some.from.now _ _ _ (c.read_window-found.result - (c.loop-place.place + 1)) _ _ _ _ (omega arith) there (rw c.in-Some.is at inv.are_read) in
-    let at = here.0 in
-    let long = c.capacity.ensures in
-    let count = c.min-count.ensures in
-    let fits = c.capacity.type_inv in
-    let bounds = rw (← c.self.view_is, c.in-Some.is) at c.requires.left in
-    omega arith
+    let (i, on, none, here, below, rest) = first_read target rehash from _ _ _ (c.read_window-found.result - (c.loop-place.place + 1)) _ _ _ _ (omega arith) there (rw c.in-Some.is at inv.are_read) in
+    let behind = (rw (inv.from_is ∙ c.in-Some.is) at inv.under_way.behind) in
+    word_read target rehash from i c.loop-place.self-inside.home.now.id c.in-Some-take.read here (sym behind.0.0 ∙ inv.under_way.home_is)
 
 pub insert_unique-requires-clause-room : goal.insert_unique-requires-clause-room
 insert_unique-requires-clause-room g c =
-    let inv = c.loop-place.invariant in
+    let (p, inv) = c.loop-place.invariant in
     let there = sym c.take.ensures.value ∙ c.in-Some-take.is in
     let (i, on, none, here, below, rest) = first_read g.T.AtomicValue.target (FnReturnsAt g.H.Fn c.args.hash_fn.now) c.in-Some.from.now _ _ _ (c.read_window-found.result - (c.loop-place.place + 1)) _ _ _ _ (omega arith) there (rw c.in-Some.is at inv.are_read) in
     let behind = (rw (inv.from_is ∙ c.in-Some.is) at inv.under_way.behind) in
@@ -33,35 +32,35 @@ insert_unique-requires-clause-room g c =
 
 pub insert_unique-requires-clause-lies : goal.insert_unique-requires-clause-lies
 insert_unique-requires-clause-lies g c =
-    let inv = c.loop-place.invariant in
+    let (p, inv) = c.loop-place.invariant in
     let from = c.in-Some.from.now in
     let target = g.T.AtomicValue.target in
     let rehash = FnReturnsAt g.H.Fn c.args.hash_fn.now in
     let there = sym c.take.ensures.value ∙ c.in-Some-take.is in
     let (i, on, none, here, below, rest) = first_read target rehash from _ _ _ (c.read_window-found.result - (c.loop-place.place + 1)) _ _ _ _ (omega arith) there (rw c.in-Some.is at inv.are_read) in
-    let lies = lies_read target rehash from i c.in-Some-take.read here in
+    let is = bucket_read target rehash from i c.loop-place.self-inside.home.now.id c.in-Some-take.read here c.of_naming.result c.of_naming.ensures in
     let behind = (rw (inv.from_is ∙ c.in-Some.is) at inv.under_way.behind) in
-    (lies.0 ∙ sym behind.0.0, lies.1 ∙ sym behind.0.1)
+    rw is (sym inv.under_way.home_is, sym behind.0.1)
 
 pub insert_unique-requires-clause-name : goal.insert_unique-requires-clause-name
 insert_unique-requires-clause-name g c =
+    let (p, inv) = c.loop-place.invariant in
     let from = c.in-Some.from.now in
     let target = g.T.AtomicValue.target in
     let rehash = FnReturnsAt g.H.Fn c.args.hash_fn.now in
     let there = sym c.take.ensures.value ∙ c.in-Some-take.is in
-    let (i, on, none, here, below, rest) = first_read target rehash from _ _ _ (c.read_window-found.result - (c.loop-place.place + 1)) _ _ _ _ (omega arith) there (rw c.in-Some.is at c.loop-place.invariant.are_read) in
-    names_read target rehash from i c.in-Some-take.read here
+    let (i, on, none, here, below, rest) = first_read target rehash from _ _ _ (c.read_window-found.result - (c.loop-place.place + 1)) _ _ _ _ (omega arith) there (rw c.in-Some.is at inv.are_read) in
+    rw (bucket_read target rehash from i c.loop-place.self-inside.home.now.id c.in-Some-take.read here c.of_naming.result c.of_naming.ensures) tt
 
 pub loop-place-preserved : goal.loop-place-preserved
 loop-place-preserved g c =
-    let inv = c.loop-place.invariant in
+    let (p, inv) = c.loop-place.invariant in
     let under = inv.under_way in
     let place = c.loop-place.place in
     let from = c.in-Some.from.now in
     let target = g.T.AtomicValue.target in
     let rehash = FnReturnsAt g.H.Fn c.args.hash_fn.now in
     let home = c.loop-place.self-inside.home.now.id in
-    let p = c.loop-place.self-inside.copied in
     let built = c.loop-place.self-inside.built.contents in
     let left = c.read_window-found.result - (place + 1) in
     let more : c.read_window-found.result - place ≡ suc left = omega arith in
@@ -73,27 +72,27 @@ loop-place-preserved g c =
       | in-Some-take w ↦
           let read = w.in-Some-take.read in
           let (i, on, none, is, below, rest) = first_read target rehash from _ p _ left place c.loop-place.window read _ more (here ∙ w.in-Some-take.is) are_read in
-          let index_is = is.0 in
           let long = c.capacity.ensures in
           let count = c.min-count.ensures in
           let within : i < length from.contents = omega arith in
           let one_home = w.insert_unique.ensures.home in
           let behind = rw at at under.behind in
           let after = w.insert_unique.new.self.contents in
+          let bucket_is = bucket_read target rehash from i home read is w.of_naming.result w.of_naming.ensures in
+          let put = rw (ap (λ b. b.content) bucket_is) at w.insert_unique.ensures.put in
           let passed : GrowthView g.row.T.Denot = record { home = home; before = from.contents; passed = p; built = built } in
           let more_passed : GrowthView g.row.T.Denot = record { home = home; before = from.contents; passed = i + 1; built = after } in
-          rw (w.self-inside-is, w.state-is, index_is) (record {
+          rw (w.self-inside-is) (i + 1, record {
             home_is = inv.home_is;
             from_is = inv.from_is;
-            stays = copy_stays c.loop-place.state w.step-state.result (rw inv.stays c.requires.phase) w.step-state.ensures.decided ∙ inv.stays;
             are_read = rw c.in-Some.is (one_taken target rehash from _ (i + 1) left (place + 1) place _ c.loop-place.window (omega arith) rest);
-            copied = rw at (on_one target rehash c.args.self.now passed more_passed (rw at at inv.copied) refl refl (next_read target rehash from i home p built after read on within none is w.insert_unique.ensures.put));
+            copied = rw at (on_one target rehash c.args.self.now passed more_passed (rw at at inv.copied) refl refl (next_read target rehash from i home p built after read on within none is put));
             under_way = rw at (record {
               home_is = one_home.0 ∙ under.home_is;
-              power = rw (w.insert_unique.ensures.put.2, length-set) under.power;
-              behind = ((one_home.0 ∙ behind.0.0, one_home.1 ∙ behind.0.1), rw (w.insert_unique.ensures.put.2, length-set) behind.1);
+              power = rw (put.2, length-set) under.power;
+              behind = ((one_home.0 ∙ behind.0.0, one_home.1 ∙ behind.0.1), rw (put.2, length-set) behind.1);
               few = (let few = under.few in let size = w.insert_unique.ensures.size in omega arith);
-              all_named = named_read target rehash from i home p built after read none is w.insert_unique.ensures.put (rw at at under.all_named);
+              all_named = named_read target rehash from i home p built after read none is put (rw at at under.all_named);
               is_open = under.is_open;
               block_is = under.block_is;
             });

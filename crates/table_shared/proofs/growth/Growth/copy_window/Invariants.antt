@@ -1,4 +1,4 @@
-use Rattle.std.proofs.Common.{◌≡◌, ◌+◌, ◌-◌}
+use Rattle.std.proofs.Common.{◌≡◌, ◌+◌, ◌-◌, ℕ}
 use Rattle.std.specs.Prelude.{IfSome}
 use Rattle.std.specs.Box.{box_allocator}
 use Rattle.std.specs.Fn.{FnReturnsAt}
@@ -6,20 +6,18 @@ use Rattle.table_shared.specs.Ahead.{AreReadFrom, CopiesOn}
 use Rattle.table_shared.specs.Growths.{IsUnderWay, growth_of}
 use Rattle.table_shared.proofs.growth.Growth.copy_window.Given as goal
 
--- the entries of the places before this one are copied, and those of the others were read of buckets that aren't passed yet
-pub record IsInWindow (Home From Stays Read Copied UnderWay : Type 0) : Type 0 where
+-- p buckets are passed: the entries of the places before this one are copied, and those of the others were read of buckets from p on
+pub record IsInWindow (p : ℕ) (Home From : Type 0) (Read Copied UnderWay : ℕ → Type 0) : Type 0 where
   pub home_is : Home
   pub from_is : From
-  pub stays : Stays
-  pub are_read : Read
-  pub copied : Copied
-  pub under_way : UnderWay
+  pub are_read : Read p
+  pub copied : Copied p
+  pub under_way : UnderWay p
 
 abbrev pub invariant-loop-place : goal.invariant-loop-place
 invariant-loop-place g l =
-    IsInWindow (l.self-inside.home ≡ l.initial.self-inside.home)
+    (p : ℕ) × IsInWindow p (l.self-inside.home ≡ l.initial.self-inside.home)
     (l.self-inside.from ≡ l.initial.self-inside.from)
-    (l.state ≡ l.initial.state)
-    (IfSome l.initial.self-inside.from (λ from. AreReadFrom g.T.AtomicValue.target (FnReturnsAt g.H.Fn l.hash_fn) from.now (l.first + l.count) l.self-inside.copied (l.found - l.place) l.place l.window))
-    (CopiesOn g.T.AtomicValue.target (FnReturnsAt g.H.Fn l.hash_fn) l.fn.self (growth_of l.self-inside.home.now.id l.self-inside.from l.self-inside.copied l.self-inside.built))
-    (IsUnderWay l.self-inside.home.now.id l.self-inside.from l.self-inside.copied l.self-inside.built l.self-inside.slot.alloc l.self-inside.slot.word.now (box_allocator l.self-inside.block))
+    (λ p. IfSome l.initial.self-inside.from (λ from. AreReadFrom g.T.AtomicValue.target (FnReturnsAt g.H.Fn l.hash_fn) from.now (l.first + l.count) p (l.found - l.place) l.place l.window))
+    (λ p. CopiesOn g.T.AtomicValue.target (FnReturnsAt g.H.Fn l.hash_fn) l.fn.self (growth_of l.self-inside.home.now.id l.self-inside.from p l.self-inside.built))
+    (λ p. IsUnderWay l.self-inside.home.now.id l.self-inside.from p l.self-inside.built l.self-inside.slot.alloc l.self-inside.slot.word.now (box_allocator l.self-inside.block))

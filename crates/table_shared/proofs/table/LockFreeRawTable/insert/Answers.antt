@@ -1,4 +1,4 @@
-use Rattle.std.proofs.Common.{◌≡◌, ◌∙◌, ap, inl, refl, rules, subst, sym, true, Bor}
+use Rattle.std.proofs.Common.{◌≡◌, ◌∙◌, ap, arith, inl, refl, rules, subst, sym, true, Bor}
 use Rattle.std.specs.Prelude.{Bool, Option}
 use Rattle.std.specs.declared.result.Result.{Result}
 use Rattle.std.specs.Fn.{FnReturnsAtPair, Shared as SharedFn}
@@ -6,8 +6,8 @@ use Rattle.table_core.specs.declared.call.Answer.TheVariants.{Empty, NoGeneratio
 use Rattle.table_core.specs.declared.call.CallState.{CallState}
 use Rattle.table_core.specs.declared.call.Phase.TheVariants.{Probe, Shared}
 use Rattle.table_shared.specs.Inserts.{Answers}
-use Rattle.table_shared.proofs.Between.{accepts, begins_shared, begun_outcome, begun_phase, finds_empty, finds_none, passes, passes_probed, shares_on, starts, taken, within}
-use Rattle.table_shared.proofs.Takes.{accepts_entry}
+use Rattle.table_shared.proofs.Between.{accepts, begins_shared, begun_outcome, begun_phase, finds_empty, finds_none, passes, passes_probed, seen_within, shares_on, starts, taken, within}
+use Rattle.table_shared.proofs.Takes.{accepts_entry, passes_seen}
 use Rattle.table_shared.proofs.table.LockFreeRawTable.insert.Goals as goal
 
 -- a right answer for the value that the call asks of is one for the value given
@@ -43,8 +43,8 @@ spelt-state-requires g c =
       outcome = c.step_loaded-started.ensures.starting.walked.2 ∙ begun_outcome _ c.insert.result c.step-state.result c.insert.ensures c.step-state.ensures.decided;
     }
 
-pub loop-init : goal.loop-init
-loop-init g c =
+pub loop-guard-init : goal.loop-guard-init
+loop-guard-init g c =
     let on : c.step-state.result.phase ≡ Shared = begun_phase _ c.insert.result c.step-state.result c.insert.ensures c.step-state.ensures.decided in
     let same = c.spelt-state.ensures.same in
     let probes : c.spelt-state.result.phase ≡ Probe = ap (λ (t : CallState). t.phase) same ∙ c.step_loaded-started.ensures.insert on in
@@ -59,34 +59,45 @@ loop-init g c =
 
 pub spelt-on-requires : goal.spelt-on-requires
 spelt-on-requires g c =
-    let passing = passes_probed c.loop.invariant.between c.in-Passed.next c.in-Passed.field-1 c.loop.invariant.phase c.in-Passed.ensures.reads in
+    let passing = passes_probed c.loop-guard.invariant.between c.in-Passed.next c.in-Passed.field-1 c.loop-guard.invariant.phase c.in-Passed.ensures.reads in
     record {
       phase = search rules;
-      walked = passing.same.0 ∙ c.loop.invariant.walked;
+      walked = passing.same.0 ∙ c.loop-guard.invariant.walked;
       outcome = passing.pending;
     }
 
-pub loop-preserved : goal.loop-preserved
-loop-preserved g c =
-    let b = c.loop.invariant.between in
-    let passing = passes_probed b c.in-Passed.next c.in-Passed.field-1 c.loop.invariant.phase c.in-Passed.ensures.reads in
+pub loop-guard-preserved : goal.loop-guard-preserved
+loop-guard-preserved g c =
+    let b = c.loop-guard.invariant.between in
+    let passing = passes_probed b c.in-Passed.next c.in-Passed.field-1 c.loop-guard.invariant.phase c.in-Passed.ensures.reads in
     let same = c.spelt-on.ensures.same in
     record {
       phase = search rules;
-      walked = ap (λ (t : CallState). t.walked) same ∙ (passing.same.0 ∙ c.loop.invariant.walked);
-      between = passes b c.spelt-on.result (rw c.loop.invariant.phase tt) (rw same passing);
+      walked = ap (λ (t : CallState). t.walked) same ∙ (passing.same.0 ∙ c.loop-guard.invariant.walked);
+      between = passes b c.spelt-on.result (rw c.loop-guard.invariant.phase tt) (rw same passing);
       same = refl;
     }
 
+pub loop-guard-smaller : goal.loop-guard-smaller
+loop-guard-smaller g c =
+    let b = c.loop-guard.invariant.between in
+    let probes = c.loop-guard.invariant.phase in
+    let same = c.spelt-on.ensures.same in
+    let passing = passes_probed b c.in-Passed.next c.in-Passed.field-1 probes c.in-Passed.ensures.reads in
+    let seen = ap (λ (t : CallState). t.seen) same ∙ passes_seen c.loop-guard.state c.in-Passed.next c.in-Passed.field-1 probes c.in-Passed.ensures.reads in
+    let wide = ap (λ (t : CallState). t.capacity) same ∙ passing.same.1 in
+    let few = seen_within c.loop-guard.state (b.stands (rw probes tt)) in
+    omega arith
+
 pub note_at-note-requires : goal.note_at-note-requires
-note_at-note-requires g c = within c.loop.invariant.between c.in-Some.current.generation refl (rw c.loop.invariant.phase tt)
+note_at-note-requires g c = within c.loop-guard.invariant.between c.in-Some.current.generation refl (rw c.loop-guard.invariant.phase tt)
 
 pub read_bucket-requires : goal.read_bucket-requires
 read_bucket-requires g c =
-    let b = c.loop.invariant.between in
+    let b = c.loop-guard.invariant.between in
     record {
-      phase = rw c.loop.invariant.phase tt;
-      stands = b.stands (rw c.loop.invariant.phase tt);
+      phase = rw c.loop-guard.invariant.phase tt;
+      stands = b.stands (rw c.loop-guard.invariant.phase tt);
       home = c.in-Some.ensures.home;
       walked = b.counts c.in-Some.current.generation refl;
       callable = c.requires.eq_callable;
@@ -95,23 +106,23 @@ read_bucket-requires g c =
 
 pub place-requires : goal.place-requires
 place-requires g c =
-    let is = taken Probe Empty c.loop.state c.in-Empty.next c.loop.invariant.phase c.in-Empty.ensures.reads.is in
+    let is = taken Probe Empty c.loop-guard.state c.in-Empty.next c.loop-guard.invariant.phase c.in-Empty.ensures.reads.is in
     record {
       phase = ap (λ (t : CallState). t.phase) is;
-      number = ap (λ (t : CallState). t.walked) is ∙ c.loop.invariant.walked;
-      outcome = ap (λ (t : CallState). t.outcome) is ∙ c.loop.invariant.between.hopes (rw c.loop.invariant.phase tt);
-      between = finds_empty c.loop.invariant.between c.in-Empty.next c.loop.invariant.phase is;
+      number = ap (λ (t : CallState). t.walked) is ∙ c.loop-guard.invariant.walked;
+      outcome = ap (λ (t : CallState). t.outcome) is ∙ c.loop-guard.invariant.between.hopes (rw c.loop-guard.invariant.phase tt);
+      between = finds_empty c.loop-guard.invariant.between c.in-Empty.next c.loop-guard.invariant.phase is;
       asks = record { calls_eq = c.requires.eq_callable; calls_hash = c.requires.hash_callable; heard = tt };
     }
 
 pub settle-requires : goal.settle-requires
 settle-requires g c =
-    let is = accepts_entry c.loop.state c.in-Met.next (rw c.loop.invariant.phase tt) c.in-Met.ensures.reads.0 in
+    let is = accepts_entry c.loop-guard.state c.in-Met.next (rw c.loop-guard.invariant.phase tt) c.in-Met.ensures.reads.0 in
     record {
       phase = ap (λ (t : CallState). t.phase) is;
-      number = ap (λ (t : CallState). t.walked) is ∙ c.loop.invariant.walked;
+      number = ap (λ (t : CallState). t.walked) is ∙ c.loop-guard.invariant.walked;
       outcome = ap (λ (t : CallState). t.outcome) is;
-      between = accepts c.loop.invariant.between c.in-Met.next c.in-Met.target c.args.value (rw c.loop.invariant.phase tt) is (sym c.of-given.ensures);
+      between = accepts c.loop-guard.invariant.between c.in-Met.next c.in-Met.target c.args.value (rw c.loop-guard.invariant.phase tt) is (sym c.of-given.ensures);
       asks = record {
         calls_eq = c.requires.eq_callable;
         calls_hash = c.requires.hash_callable;
@@ -121,7 +132,7 @@ settle-requires g c =
 
 pub go_on-requires-then-ne : goal.go_on-requires-then-ne
 go_on-requires-then-ne g c =
-    let b = passes c.loop.invariant.between c.in-Passed.next (rw c.loop.invariant.phase tt) (passes_probed c.loop.invariant.between c.in-Passed.next c.in-Passed.field-1 c.loop.invariant.phase c.in-Passed.ensures.reads) in
+    let b = passes c.loop-guard.invariant.between c.in-Passed.next (rw c.loop-guard.invariant.phase tt) (passes_probed c.loop-guard.invariant.between c.in-Passed.next c.in-Passed.field-1 c.loop-guard.invariant.phase c.in-Passed.ensures.reads) in
     record { unfinished = shares_on b refl; between = b; asks = record { calls_eq = c.requires.eq_callable; calls_hash = c.requires.hash_callable; heard = tt } }
 
 pub returns-in-Empty : goal.returns-in-Empty
