@@ -265,11 +265,7 @@ impl<'a, T: Drop, A: Allocator + Copy> BucketRef<'a, T, A> {
     }
 
     /// A word that names the entry of this bucket, also where that was set through `&`. Nothing is followed.
-    pub fn naming_word(
-        &self,
-        alloc: A,
-        note: &mut Note<Entry<T>>,
-    ) -> Option<Word<Entry<T>, A>>
+    pub fn naming_word(&self, alloc: A, note: &mut Note<Entry<T>>) -> Option<Word<Entry<T>, A>>
         requires from { self.now.from ≡ alloc }
         requires of { note.old.of ≡ self.now.id }
         ensures of { note.new.of ≡ note.old.of }

@@ -1,41 +1,72 @@
--- Hashes are asked for in a window of buckets before their entries are named.
-use Rattle.std.proofs.Common.{◌≡◌, ℕ, ◌+◌, ◌-◌, ◌<◌, ◌≤◌, ◌≢◌, inl, inr, List, Some, None, length, arith, get_or-set_same, get_or-set_other}
-use Rattle.std.specs.Prelude.{slice_set, slice_index}
-use Rattle.std.proofs.lemmas.Bool.{cases_lt}
+-- What is read into a window of buckets one after another, before any of it is used.
+use Rattle.std.proofs.Common.{◌≡◌, ◌∙◌, ◌≢◌, ℕ, zero, suc, ◌+◌, ◌<◌, ◌≤◌, inl, inr, List, None, length, sym, arith, get_or-set_other}
+use Rattle.std.specs.Prelude.{slice_index_or, slice_set}
+use Rattle.std.proofs.lemmas.Bool.{cases_eq}
+use Rattle.std.proofs.lemmas.Grind.{get_or-set_at}
 use Rattle.table_generations.specs.Buckets.{Content, content_at, shown}
-use Rattle.table_generations.specs.Growth.{AreHashes}
-use Rattle.table_cell.specs.declared.bucket.Entry.{Entry}
-use Rattle.table_generations.proofs.Entries.{not_both, some_same}
+use Rattle.table_generations.specs.Windows.{NoneShown, AreReadFrom}
 
-module _ {T U : Type 0} (target : T → U) (rehash : U → ℕ → Type 0) (old : List (Content T)) (from : ℕ) where
-  pub no_hashes : (hs : List ℕ) → AreHashes target rehash old from 0 hs
-  no_hashes hs k lt within e shows = absurd (let bad : ⊥ = omega arith in bad)
-
-  -- at an empty bucket no hash is needed
-  pub hash_skipped : (n : ℕ) (hs : List ℕ) → shown (content_at old (from + n)) ≡ None → AreHashes target rehash old from n hs → AreHashes target rehash old from (n + 1) hs
-  hash_skipped n hs none are k lt within e shows = elim (cases_lt k n) [
-    | inl less ↦ are k less within e shows
-    | inr ge ↦ absurd (let same : k ≡ n = omega arith in not_both e (shown (content_at old (from + n))) (rw same at shows) none)
+module _ {T : Type 0} (ps : List (Content T)) where
+  -- where none was shown so far, and the next bucket shows none either
+  pub none_on : (i k : ℕ) → shown (content_at ps k) ≡ None → NoneShown ps i k → NoneShown ps i (k + 1)
+  none_on i k none so j from to = elim (cases_eq j k) [
+    | inl same ↦ rw same none
+    | inr other ↦ so j from (omega arith)
   ]
 
-  -- one more hash is written
-  pub hash_written : (n hash : ℕ) (hs : List ℕ) (e : Entry T) → n < length hs → shown (content_at old (from + n)) ≡ Some e → rehash (target e.value) hash
-      → AreHashes target rehash old from n hs → AreHashes target rehash old from (n + 1) (slice_set hs n hash)
-  hash_written n hash hs e long at asked are k lt within f shows = elim (cases_lt k n) [
-    | inl less ↦
-        let other : k ≢ n = λ same. (let bad : ⊥ = omega arith in bad) in
-        rw (get_or-set_other hs n k hash 0 other) (are k less within f shows)
-    | inr ge ↦
-        let same : k ≡ n = omega arith in
-        let entry : f ≡ e = some_same f e (shown (content_at old (from + n))) (rw same at shows) at in
-        rw (same, entry, get_or-set_same hs n hash 0 long) asked
-  ]
+  module _ {X : Type 0} (of : ℕ → X → Type 0) where
+    -- what was read of the next bucket is put into the place after those that are taken
+    pub one_more : (p n k b place : ℕ) (x : X) (window : List X) → place ≡ k + n → place < length window → of b x
+        → AreReadFrom ps of b p n k window → AreReadFrom ps of (b + 1) p (suc n) k (slice_set window place x)
+    one_more p zero k b place x window is within here (on, none) = (
+      b,
+      x,
+      λ d. get_or-set_at window place k x d (omega arith) within,
+      on,
+      none,
+      here,
+      omega arith,
+      (omega arith, λ j from to. absurd (let bad : ⊥ = omega arith in bad)),
+    )
+    one_more p (suc n) k b place x window is within here (i, first, at, on, none, so, below, rest) = (
+      i,
+      first,
+      λ d. (let other : k ≢ place = λ eq. (let bad : ⊥ = omega arith in bad) in get_or-set_other window place k x d other ∙ at d),
+      on,
+      none,
+      so,
+      omega arith,
+      one_more (i + 1) n (k + 1) b place x window (omega arith) within here rest,
+    )
 
-  -- the hash of a bucket of the window
-  pub hash_in_window : (i : ℕ) (hs : List ℕ) → from ≤ i → i < from + 64 → i < length old → AreHashes target rehash old from 64 hs
-      → (e : Entry T) → shown (content_at old i) ≡ Some e → rehash (target e.value) (slice_index hs (i - from))
-  hash_in_window i hs below near within are e shows =
-      let same : from + (i - from) ≡ i = omega arith in
-      let ahead : i - from < 64 = omega arith in
-      let inside : from + (i - from) < length old = omega arith in
-      are (i - from) ahead inside e (rw same shows)
+    -- the next bucket showed none, and no place is taken for it
+    pub none_more : (p n k b : ℕ) (window : List X) → shown (content_at ps b) ≡ None
+        → AreReadFrom ps of b p n k window → AreReadFrom ps of (b + 1) p n k window
+    none_more p zero k b window here (on, none) = (omega arith, none_on p b here none)
+    none_more p (suc n) k b window here (i, first, at, on, none, so, below, rest) =
+        (i, first, at, on, none, so, omega arith, none_more (i + 1) n (k + 1) b window here rest)
+
+    -- what the first of the places holds was read of a bucket, and what the others hold of those after it
+    pub first_read : (end p m n k : ℕ) (window : List X) (x d : X) → m ≡ suc n → slice_index_or window k d ≡ x
+        → AreReadFrom ps of end p m k window
+        → (i : ℕ) × (p ≤ i) × NoneShown ps p i × of i x × (i < end) × AreReadFrom ps of end (i + 1) n (k + 1) window
+    first_read end p zero n k window x d is there so = absurd (omega arith)
+    first_read end p (suc m) n k window x d is there (i, y, at, on, none, here, below, rest) =
+        let same : y ≡ x = sym (at d) ∙ there in
+        let left : m ≡ n = omega arith in
+        (i, on, none, rw same at here, below, rw left at rest)
+
+    -- the places after one that is written are as they were
+    pub one_taken : (end p n k place : ℕ) (left : X) (window : List X) → place < k
+        → AreReadFrom ps of end p n k window → AreReadFrom ps of end p n k (slice_set window place left)
+    one_taken end p zero k place left window before so = so
+    one_taken end p (suc n) k place left window before (i, x, at, on, none, so, below, rest) = (
+      i,
+      x,
+      λ d. (let other : k ≢ place = λ eq. (let bad : ⊥ = omega arith in bad) in get_or-set_other window place k left d other ∙ at d),
+      on,
+      none,
+      so,
+      below,
+      one_taken end (i + 1) n (k + 1) place left window (omega arith) rest,
+    )

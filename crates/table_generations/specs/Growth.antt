@@ -1,6 +1,6 @@
 -- What a generation that is made of another one's entries shows, and what an insert does to one
 -- bucket.
-use Rattle.std.specs.Prelude.{◌≡◌, ℕ, ◌+◌, ◌<◌, ◌⊎◌, ⊤, Bool, List, Option, Some, None, Result, Ok, Err, length, slice_index, slice_set, take, Contains}
+use Rattle.std.specs.Prelude.{◌≡◌, ℕ, ◌⊎◌, ⊤, Bool, List, Option, Some, None, Result, Ok, Err, length, slice_set, take, Contains}
 use Rattle.std.specs.List.Sorted.{IsPermutation}
 use Rattle.table_terms.specs.Hashes.{bits_of}
 use Rattle.table_generations.specs.Buckets.{Content, own, named, values, shown, shown_all, content_at}
@@ -32,20 +32,12 @@ PutsShown {T} target old i hash before after =
     ((shown (content_at old i) ≡ None) × (after ≡ before))
     ⊎ ((e : Entry T) × (shown (content_at old i) ≡ Some e) × PutsName target before after hash (named e))
 
--- number k, for each k below n, is a hash, as rehash may answer, of the entry that bucket from +
--- k shows, if it shows one
-abbrev pub AreHashes : {T U : Type 0} (target : T → U) (rehash : U → ℕ → Type 0)
-    → List (Content T) → ℕ → ℕ → List ℕ → Type 0
-AreHashes {T} target rehash old from n hashes = (k : ℕ) → k < n → from + k < length old
-    → (e : Entry T) → shown (content_at old (from + k)) ≡ Some e
-    → rehash (target e.value) (slice_index hashes k)
-
--- where the first i entries of a generation were rehashed, one more is
-abbrev pub RehashesOne : {T U : Type 0} (target : T → U) (rehash : U → ℕ → Type 0)
-    → List (Option (Entry T)) → ℕ → List (Content T) → List (Content T) → Type 0
-RehashesOne target rehash old i before after =
+-- where the first i entries of a generation were rehashed, the first k are
+abbrev pub RehashesOn : {T U : Type 0} (target : T → U) (rehash : U → ℕ → Type 0)
+    → List (Option (Entry T)) → ℕ → ℕ → List (Content T) → List (Content T) → Type 0
+RehashesOn target rehash old i k before after =
     IsRehashed target rehash (take i old) (shown_all before)
-    → IsRehashed target rehash (take (i + 1) old) (shown_all after)
+    → IsRehashed target rehash (take k old) (shown_all after)
 
 -- a value with the eight bits of the hash given
 abbrev pub entry_of : {T : Type 0} → T → ℕ → Entry T

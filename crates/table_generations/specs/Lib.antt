@@ -4,3 +4,4 @@ pub mod Probe
 pub mod Generations
 pub mod Growth
 pub mod Looks
+pub mod Windows

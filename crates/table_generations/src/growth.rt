@@ -1,41 +1,59 @@
 //! A generation made of the entries of the one before.
-ghost use Rattle.std.specs.Prelude.{◌≡◌, ◌+◌, ◌<◌, ◌≤◌, length, IfOk};
+ghost use Rattle.std.specs.Prelude.{◌≡◌, ◌+◌, ◌-◌, ◌<◌, ◌≤◌, length, min, IfOk};
 ghost use Rattle.std.specs.Fn.{FnReturnsAt};
 ghost use Rattle.std.specs.Int.{IsPowerOfTwo};
 ghost use Rattle.table_generations.specs.Buckets.{shown_all, shown_entries};
-ghost use Rattle.table_generations.specs.Growth.{IsRehashed, AreHashes, PutsShown};
+ghost use Rattle.table_generations.specs.Growth.{IsRehashed, PutsShown, RehashesOn};
 ghost use Rattle.table_generations.specs.Generations.{AllOwnNone, AreOfOneHome};
+ghost use Rattle.table_generations.specs.Windows.{AreReadFrom, IsAhead};
 
 use crate::atomic_value::AtomicValue;
 use crate::fixed::Generation;
 use std::alloc::{AllocError, Allocator};
 use table_cell::Home;
 
-/// So many hashes are asked for before their entries are named. Entries lie far apart in memory, and in a loop that does
-/// nothing else their reads overlap.
+/// So many buckets are read before the entries of the first of them are named. Entries lie far apart in memory, and in a loop
+/// that does nothing else their reads overlap.
 const WINDOW: usize = 64;
 
-/// Writes the hashes of the entries that the buckets from this one on show. At an empty bucket nothing is written.
-fn hash_window<T: AtomicValue, A: Allocator + Copy, H: Fn(&T::Target) -> u64>(
+/// An entry that was read before it is named: the bucket that shows it, and the hash that was answered for it.
+#[derive(Clone, Copy)]
+struct Ahead {
+    index: usize,
+    hash: u64,
+}
+
+/// Reads the buckets from this one on, as many as the window is wide or as are left, and asks for the hashes of their entries.
+/// Says how many entries were found: so many of the first places of the window hold them, in their order.
+fn read_window<T: AtomicValue, A: Allocator + Copy, H: Fn(&T::Target) -> u64>(
     home: &Home,
     old: &Generation<T, A>,
-    from: usize,
+    first: usize,
     hash_fn: &H,
-    hashes: &mut [u64; WINDOW],
-)
+    window: &mut [Ahead; WINDOW],
+) -> usize
     requires home { old.now.home ≡ home.now.id }
-    requires place { from ≤ length old.now.contents }
+    requires place { first ≤ length old.now.contents }
     requires callable { H.IsAlwaysCallable hash_fn.now }
-    ensures { AreHashes T.target (FnReturnsAt H.Fn hash_fn.now) old.now.contents from WINDOW
-        hashes.new }
+    ensures fits { result ≤ 64 }
+    ensures read { AreReadFrom old.now.contents
+        (IsAhead old.now.contents T.target (FnReturnsAt H.Fn hash_fn.now))
+        (first + min (length old.now.contents - first) 64) first result 0 window.new }
 {
-    let left = old.capacity() - from;
+    let left = old.capacity() - first;
     let count = left.min(WINDOW);
+    let mut found = 0;
     for ahead in 0..count {
-        if let Some(entry) = old.entry_shown(home, from + ahead) {
-            hashes[ahead] = hash_fn(entry.value.deref());
+        let index = first + ahead;
+        if let Some(entry) = old.entry_shown(home, index) {
+            window[found] = Ahead {
+                index,
+                hash: hash_fn(entry.value.deref()),
+            };
+            found += 1;
         }
     }
+    found
 }
 
 /// Names the entry that a bucket shows, if there is one, in the generation being built.
@@ -65,6 +83,39 @@ fn rehash_one<T: AtomicValue, A: Allocator + Copy>(
     }
 }
 
+/// Names the entries of the next buckets, from this one on, as many as the window is wide or as are left.
+fn rehash_window<T: AtomicValue, A: Allocator + Copy, H: Fn(&T::Target) -> u64>(
+    home: &Home,
+    old: &Generation<T, A>,
+    first: usize,
+    hash_fn: &H,
+    window: &mut [Ahead; WINDOW],
+    built: &mut Generation<T, A>,
+)
+    requires old_home { old.now.home ≡ home.now.id }
+    requires built_home { AreOfOneHome built.old old.now }
+    requires place { first ≤ length old.now.contents }
+    requires callable { H.IsAlwaysCallable hash_fn.now }
+    requires few { built.old.size ≤ first }
+    requires room { length old.now.contents < length built.old.contents }
+    requires counted { built.old.size ≡ length (shown_entries built.old.contents) }
+    requires names { AllOwnNone built.old.contents }
+    ensures home { AreOfOneHome built.new old.now }
+    ensures long { length built.new.contents ≡ length built.old.contents }
+    ensures few { built.new.size ≤ first + min (length old.now.contents - first) 64 }
+    ensures counted { built.new.size ≡ length (shown_entries built.new.contents) }
+    ensures names { AllOwnNone built.new.contents }
+    ensures rehashes { RehashesOn T.target (FnReturnsAt H.Fn hash_fn.now)
+        (shown_all old.now.contents) first (first + min (length old.now.contents - first) 64)
+        built.old.contents built.new.contents }
+{
+    let found = read_window(home, old, first, hash_fn, window);
+    for place in 0..found {
+        let Ahead { index, hash } = window[place];
+        rehash_one(home, old, index, hash, built);
+    }
+}
+
 /// A generation of this capacity that names every entry of the old one, by the hashes that `hash_fn` gives.
 pub fn rehashed<T: AtomicValue, A: Allocator + Copy, H: Fn(&T::Target) -> u64>(
     home: &Home,
@@ -84,15 +135,11 @@ pub fn rehashed<T: AtomicValue, A: Allocator + Copy, H: Fn(&T::Target) -> u64>(
         (shown_all old.now.contents) (shown_all built.contents)) }
 {
     let mut built = old.sibling(home, capacity)?;
-    let mut hashes = [0u64; WINDOW];
-    let mut from = 0;
-    hash_window(home, old, from, hash_fn, &mut hashes);
-    for index in 0..old.capacity() {
-        if index - from == WINDOW {
-            from = index;
-            hash_window(home, old, from, hash_fn, &mut hashes);
-        }
-        rehash_one(home, old, index, hashes[index - from], &mut built);
+    let mut window = [Ahead { index: 0, hash: 0 }; WINDOW];
+    let mut first = 0;
+    while first < old.capacity() {
+        rehash_window(home, old, first, hash_fn, &mut window, &mut built);
+        first += (old.capacity() - first).min(WINDOW);
     }
     Ok(built)
 }

@@ -1,11 +1,9 @@
 -- Copies in a row, and entries that are read ahead of them.
-use Rattle.std.proofs.Common.{◌≡◌, ◌∙◌, ◌≢◌, ℕ, zero, suc, ◌+◌, ◌<◌, inl, inr, List, Option, Some, None, length, refl, sym, ap, arith, true, get_or-set_other, ◌≤◌}
-use Rattle.std.specs.Prelude.{IfSome, slice_index_or, slice_set}
+use Rattle.std.proofs.Common.{◌≡◌, ◌∙◌, ℕ, zero, suc, ◌+◌, ◌<◌, inl, inr, List, length, refl, sym, ap, arith, true, ◌≤◌}
+use Rattle.std.specs.Prelude.{IfSome}
 use Rattle.std.proofs.lemmas.Bool.{cases_lt}
-use Rattle.std.proofs.lemmas.Grind.{get_or-set_at}
 use Rattle.table_cell.specs.Contents.{BucketView, bucket, NamesEntry}
-use Rattle.table_cell.specs.declared.bucket.Entry.{Entry}
-use Rattle.table_generations.specs.Buckets.{Content, vacant, own, named, shown}
+use Rattle.table_generations.specs.Buckets.{Content, named}
 use Rattle.table_generations.specs.Generations.{GenerationView}
 use Rattle.table_generations.specs.Growth.{PutsName}
 use Rattle.table_core.specs.Calls.{decided, to}
@@ -13,77 +11,16 @@ use Rattle.table_core.specs.declared.call.Answer.TheVariants.{Copied}
 use Rattle.table_core.specs.declared.call.CallState.{CallState}
 use Rattle.table_core.specs.declared.call.Phase.{Phase}
 use Rattle.table_core.specs.declared.call.Phase.TheVariants.{Building}
-use Rattle.table_shared.specs.Growths.{GrowthView, AreNamed, NoneAlone, CopiesNext}
-use Rattle.table_shared.specs.Ahead.{IsRead, AreReadFrom, PassesOver, Copies, CopiesOn}
+use Rattle.table_shared.specs.Growths.{GrowthView, AreNamed, CopiesNext}
+use Rattle.table_generations.specs.Windows.{NoneShown}
+use Rattle.table_shared.specs.Ahead.{IsAhead, PassesOver, Copies, CopiesOn}
 use Rattle.table_shared.specs.declared.growth.ahead.Ahead.{Ahead}
-use Rattle.table_shared.proofs.Copied.{named_bucket, names_entry, named_on, named_past, none_on}
+use Rattle.table_shared.proofs.Copied.{named_bucket, names_entry, named_on, named_past}
 use Rattle.table_shared.proofs.Between.{taken}
-use Rattle.table_shared.proofs.Looked.{some_same}
 
 module _ {A T U : Type 0} (target : T → U) (rehash : U → ℕ → Type 0) (g : GenerationView A T) where
-  -- an entry that was read of the next bucket is put into the place after those that are taken
-  pub one_more : (p n k b place : ℕ) (read : Ahead T A) (window : List (Option (Ahead T A))) → place ≡ k + n → place < length window → IsRead target rehash g b (Some read)
-      → AreReadFrom target rehash g b p n k window → AreReadFrom target rehash g (b + 1) p (suc n) k (slice_set window place (Some read))
-  one_more p zero k b place read window is within here (on, none) = (
-    b,
-    read,
-    λ d. get_or-set_at window place k (Some read) d (omega arith) within,
-    on,
-    none,
-    here,
-    omega arith,
-    (omega arith, λ j from to. absurd (let bad : ⊥ = omega arith in bad)),
-  )
-  one_more p (suc n) k b place read window is within here (i, first, at, on, none, so, below, rest) = (
-    i,
-    first,
-    λ d. (let other : k ≢ place = λ eq. (let bad : ⊥ = omega arith in bad) in get_or-set_other window place k (Some read) d other ∙ at d),
-    on,
-    none,
-    so,
-    omega arith,
-    one_more (i + 1) n (k + 1) b place read window (omega arith) within here rest,
-  )
-
-  -- the next bucket was empty, and no place is taken for it
-  pub none_more : (p n k b : ℕ) (window : List (Option (Ahead T A))) → IsRead target rehash g b None
-      → AreReadFrom target rehash g b p n k window → AreReadFrom target rehash g (b + 1) p n k window
-  none_more p zero k b window here (on, none) = (omega arith, none_on g.contents p b here none)
-  none_more p (suc n) k b window here (i, first, at, on, none, so, below, rest) =
-      (i, first, at, on, none, so, omega arith, none_more (i + 1) n (k + 1) b window here rest)
-
-  -- what the first of the places holds was read of a bucket, and what the others hold of those after it
-  pub first_read : (end p m n k : ℕ) (window : List (Option (Ahead T A))) (read : Ahead T A) (d : Option (Ahead T A)) → m ≡ suc n → slice_index_or window k d ≡ Some read
-      → AreReadFrom target rehash g end p m k window
-      → (i : ℕ) × (p ≤ i) × NoneAlone g.contents p i × IsRead target rehash g i (Some read) × (i < end) × AreReadFrom target rehash g end (i + 1) n (k + 1) window
-  first_read end p zero n k window read d is there so = absurd (omega arith)
-  first_read end p (suc m) n k window read d is there (i, x, at, on, none, here, below, rest) =
-      let same : x ≡ read = some_same x read (sym (at d) ∙ there) in
-      let left : m ≡ n = omega arith in
-      (i, on, none, rw same at here, below, rw left at rest)
-
-  -- none of the places is empty
-  pub first_none : (end p m n k : ℕ) (window : List (Option (Ahead T A))) (d : Option (Ahead T A)) → m ≡ suc n → slice_index_or window k d ≡ None → AreReadFrom target rehash g end p m k window → ⊥
-  first_none end p zero n k window d is there so = omega arith
-  first_none end p (suc m) n k window d is there (i, x, at, on, none, here, below, rest) = let some = sym there ∙ at d in cc
-
-  -- the places after one that is written are as they were
-  pub one_taken : (end p n k place : ℕ) (left : Option (Ahead T A)) (window : List (Option (Ahead T A))) → place < k
-      → AreReadFrom target rehash g end p n k window → AreReadFrom target rehash g end p n k (slice_set window place left)
-  one_taken end p zero k place left window before so = so
-  one_taken end p (suc n) k place left window before (i, read, at, on, none, so, below, rest) = (
-    i,
-    read,
-    λ d. (let other : k ≢ place = λ eq. (let bad : ⊥ = omega arith in bad) in get_or-set_other window place k left d other ∙ at d),
-    on,
-    none,
-    so,
-    below,
-    one_taken end (i + 1) n (k + 1) place left window (omega arith) rest,
-  )
-
   module _ (i : ℕ) where
-    module _ (h : ℕ) (read : Ahead T A) (is : IsRead target rehash g i (Some read)) where
+    module _ (h : ℕ) (read : Ahead T A) (is : IsAhead target rehash g i read) where
       -- the word of an entry that was read names it
       pub word_read : g.home ≡ h → NamesEntry h read.word
       word_read same = names_entry g.from g.home h read.word is.0 is.1 same
@@ -94,7 +31,7 @@ module _ {A T U : Type 0} (target : T → U) (rehash : U → ℕ → Type 0) (g 
 
     module _ (home p : ℕ) (built : List (Content T)) where
       -- an entry that was read is copied, and no bucket that is passed before its own was set alone
-      pub next_read : (after : List (Content T)) (read : Ahead T A) → p ≤ i → i < length g.contents → NoneAlone g.contents p i → (is : IsRead target rehash g i (Some read))
+      pub next_read : (after : List (Content T)) (read : Ahead T A) → p ≤ i → i < length g.contents → NoneShown g.contents p i → (is : IsAhead target rehash g i read)
           → PutsName target built after read.hash (named is.0)
           → CopiesNext target rehash (record { home = home; before = g.contents; passed = p; built = built }) true (record { home = home; before = g.contents; passed = i + 1; built = after })
       next_read after read on within none (e, is, alone, asked) put = (
@@ -113,7 +50,7 @@ module _ {A T U : Type 0} (target : T → U) (rehash : U → ℕ → Type 0) (g 
       )
 
       -- and the entries of the buckets that are passed are named
-      pub named_read : (after : List (Content T)) (read : Ahead T A) → NoneAlone g.contents p i → (is : IsRead target rehash g i (Some read))
+      pub named_read : (after : List (Content T)) (read : Ahead T A) → NoneShown g.contents p i → (is : IsAhead target rehash g i read)
           → PutsName target built after read.hash (named is.0) → AreNamed g.contents p built → AreNamed g.contents (i + 1) after
       named_read after read none (e, is, alone, asked) put so =
           named_on target g.contents i built after read.hash e put alone (named_past g.contents p i built none so)

@@ -11,7 +11,8 @@ use Rattle.table_generations.specs.Growth.{PutsName}
 use Rattle.table_generations.specs.Looks.{IsSeen}
 use Rattle.table_generations.proofs.Contents.{length-shown_all, shown_at}
 use Rattle.table_generations.proofs.Laws.{vacant_fits}
-use Rattle.table_shared.specs.Growths.{AreNamed, NoneAlone, Names}
+use Rattle.table_shared.specs.Growths.{AreNamed, Names}
+use Rattle.table_generations.specs.Windows.{NoneShown}
 use Rattle.table_shared.proofs.Looked.{some_same}
 
 module _ {A T : Type 0} (from : A) (home : ℕ) where
@@ -75,15 +76,8 @@ module _ {T U : Type 0} (target : T → U) where
 
 module _ {T : Type 0} where
   -- buckets that weren't set alone are passed: the entries of those passed so far are named
-  pub named_past : (before : List (Content T)) (i k : ℕ) (built : List (Content T)) → NoneAlone before i k → AreNamed before i built → AreNamed before k built
+  pub named_past : (before : List (Content T)) (i k : ℕ) (built : List (Content T)) → NoneShown before i k → AreNamed before i built → AreNamed before k built
   named_past before i k built none so m x lt shows = elim (cases_lt m i) [
     | inl less ↦ so m x less shows
     | inr ge ↦ absurd (let here : shown (content_at before m) ≡ None = none m ge lt in cc)
-  ]
-
-  -- and where the next bucket wasn't set alone either, none was so far
-  pub none_on : (before : List (Content T)) (i k : ℕ) → shown (content_at before k) ≡ None → NoneAlone before i k → NoneAlone before i (k + 1)
-  none_on before i k none so j from to = elim (cases_eq j k) [
-    | inl same ↦ rw same none
-    | inr other ↦ so j from (omega arith)
   ]

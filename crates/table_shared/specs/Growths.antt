@@ -7,6 +7,7 @@ use Rattle.table_cell.specs.declared.bucket.Entry.{Entry}
 use Rattle.table_generations.specs.Buckets.{Content, named, shown, content_at}
 use Rattle.table_generations.specs.Generations.{GenerationView, AreOfOneHome}
 use Rattle.table_generations.specs.Growth.{PutsName}
+use Rattle.table_generations.specs.Windows.{NoneShown}
 use Rattle.table_shared.specs.Lineages.{IsOpen}
 
 -- a growth: the home of its blocks, what the buckets of the generation before were set to alone, how
@@ -26,10 +27,6 @@ module _ {T : Type 0} where
   abbrev pub AreNamed : List (Content T) → ℕ → List (Content T) → Type 0
   AreNamed before i built = (k : ℕ) (e : Entry T) → k < i → shown (content_at before k) ≡ Some e → Names built e
 
-  -- no bucket from i on and before k was set alone
-  abbrev pub NoneAlone : List (Content T) → ℕ → ℕ → Type 0
-  NoneAlone before i k = (j : ℕ) → i ≤ j → j < k → shown (content_at before j) ≡ None
-
   -- each bucket of the generation before is passed
   abbrev pub PassedAll : GrowthView T → Type 0
   PassedAll g = length g.before ≤ g.passed
@@ -42,7 +39,7 @@ module _ {T U : Type 0} (target : T → U) (rehash : U → ℕ → Type 0) where
     pub on : old.passed ≤ i
     pub within : i < length old.before
     pub passed : new.passed ≡ i + 1
-    pub skipped : NoneAlone old.before old.passed i
+    pub skipped : NoneShown old.before old.passed i
     pub alone : IfSome (shown (content_at old.before i)) (λ x. x ≡ e)
     pub asked : rehash (target e.value) hash
     pub put : PutsName target old.built new.built hash (named e)
@@ -51,7 +48,7 @@ module _ {T U : Type 0} (target : T → U) (rehash : U → ℕ → Type 0) where
   -- none that was left was set alone
   abbrev pub CopiesNext : GrowthView T → Bool → GrowthView T → Type 0
   CopiesNext old true new = (i : ℕ) × (e : Entry T) × (hash : ℕ) × CopiesAt old new i e hash
-  CopiesNext old false new = (new.built ≡ old.built) × PassedAll new × NoneAlone old.before old.passed (length old.before)
+  CopiesNext old false new = (new.built ≡ old.built) × PassedAll new × NoneShown old.before old.passed (length old.before)
 
 module _ {A T : Type 0} where
   -- what the buckets of the generation before were set to alone

@@ -5,7 +5,8 @@
 ghost use Rattle.std.specs.Prelude.{◌≡◌, ◌<◌, ◌≤◌, ◌↔◌, ◌+◌, ◌-◌, IsTrue, length, min};
 ghost use Rattle.std.specs.Fn.{FnReturnsAt};
 ghost use Rattle.table_core.specs.declared.call.Phase.TheVariants.{Building};
-ghost use Rattle.table_shared.specs.Ahead.{IsRead, AreReadFrom, CopiesOn};
+ghost use Rattle.table_generations.specs.Windows.{AreReadFrom};
+ghost use Rattle.table_shared.specs.Ahead.{IsRead, Holds, CopiesOn};
 ghost use Rattle.table_shared.specs.Growths.{PassedAll};
 
 use crate::growth::Growth;
@@ -59,7 +60,8 @@ pub(crate) fn read_window<T: AtomicValue, A: Allocator + Copy, H: Fn(&T::Target)
     requires place { first ≤ length from.now.contents }
     requires callable { H.IsAlwaysCallable hash_fn.now }
     ensures fits { result ≤ 64 }
-    ensures read { AreReadFrom T.target (FnReturnsAt H.Fn hash_fn.now) from.now
+    ensures read { AreReadFrom from.now.contents
+        (Holds T.target (FnReturnsAt H.Fn hash_fn.now) from.now)
         (first + min (length from.now.contents - first) 64) first result 0 window.new }
 {
     let left = from.capacity() - first;
@@ -109,8 +111,11 @@ impl<'a, T: AtomicValue, A: Allocator + Copy> Growth<'a, T, A> {
         let found = read_window(self.home, from, first, hash_fn, window);
         for place in 0..found {
             if let Some(read) = window[place].take() {
-                self.built
-                    .insert_unique(self.home, read.hash, Bucket::of_naming(self.home, read.word));
+                self.built.insert_unique(
+                    self.home,
+                    read.hash,
+                    Bucket::of_naming(self.home, read.word),
+                );
                 let _same = step(state, Answer::Copied);
             }
         }

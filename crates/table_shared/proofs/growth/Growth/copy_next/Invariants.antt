@@ -1,13 +1,14 @@
 use Rattle.std.proofs.Common.{◌≡◌, ◌≤◌, ◌-◌, ℕ, List, length}
 use Rattle.std.specs.Box.{box_allocator}
 use Rattle.table_generations.specs.Buckets.{Content}
-use Rattle.table_shared.specs.Growths.{IsUnderWay, NoneAlone, buckets_before}
+use Rattle.table_shared.specs.Growths.{IsUnderWay, buckets_before}
+use Rattle.table_generations.specs.Windows.{NoneShown}
 use Rattle.table_shared.proofs.growth.Growth.copy_next.Given as goal
 
 -- the buckets from i on and before k are passed, and none of them was set alone
 pub record ArePassed {T : Type 0} (before : List (Content T)) (i k : ℕ) : Type 0 where
   pub on : i ≤ k
-  pub skipped : NoneAlone before i k
+  pub skipped : NoneShown before i k
 
 abbrev pub invariant-loop-self : goal.invariant-loop-self
 invariant-loop-self g l =

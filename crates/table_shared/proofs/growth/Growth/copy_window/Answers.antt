@@ -1,8 +1,10 @@
-use Rattle.std.proofs.Common.{◌≡◌, ◌∙◌, ◌+◌, ◌-◌, ◌<◌, Some, suc, length, refl, sym, ap, arith}
+use Rattle.std.proofs.Common.{◌≡◌, ◌∙◌, ◌+◌, ◌-◌, ◌<◌, Some, None, suc, length, refl, sym, ap, arith}
 use Rattle.std.proofs.lemmas.List.{length-set}
 use Rattle.std.specs.Fn.{FnReturnsAt}
 use Rattle.table_shared.specs.Growths.{GrowthView}
-use Rattle.table_shared.proofs.Ahead.{bucket_read, first_none, first_read, named_read, next_read, on_one, one_taken, word_read}
+use Rattle.table_shared.proofs.Ahead.{bucket_read, named_read, next_read, on_one, word_read}
+use Rattle.table_shared.specs.Ahead.{Holds}
+use Rattle.table_generations.proofs.Windows.{first_read, one_taken}
 use Rattle.table_shared.proofs.growth.Growth.copy_window.Goals.{in-Some-take, in_default-take}
 use Rattle.table_shared.proofs.growth.Growth.copy_window.Goals as goal
 
@@ -13,7 +15,7 @@ of_naming-requires g c =
     let target = g.T.AtomicValue.target in
     let rehash = FnReturnsAt g.H.Fn c.args.hash_fn.now in
     let there = sym c.take.ensures.value ∙ c.in-Some-take.is in
-    let (i, on, none, here, below, rest) = first_read target rehash from _ _ _ (c.read_window-found.result - (c.loop-place.place + 1)) _ _ _ _ (omega arith) there (rw c.in-Some.is at inv.are_read) in
+    let (i, on, none, here, below, rest) = first_read from.contents (Holds target rehash from) _ _ _ (c.read_window-found.result - (c.loop-place.place + 1)) _ _ _ _ (omega arith) there (rw c.in-Some.is at inv.are_read) in
     let behind = (rw (inv.from_is ∙ c.in-Some.is) at inv.under_way.behind) in
     word_read target rehash from i c.loop-place.self-inside.home.now.id c.in-Some-take.read here (sym behind.0.0 ∙ inv.under_way.home_is)
 
@@ -21,7 +23,7 @@ pub insert_unique-requires-clause-room : goal.insert_unique-requires-clause-room
 insert_unique-requires-clause-room g c =
     let (p, inv) = c.loop-place.invariant in
     let there = sym c.take.ensures.value ∙ c.in-Some-take.is in
-    let (i, on, none, here, below, rest) = first_read g.T.AtomicValue.target (FnReturnsAt g.H.Fn c.args.hash_fn.now) c.in-Some.from.now _ _ _ (c.read_window-found.result - (c.loop-place.place + 1)) _ _ _ _ (omega arith) there (rw c.in-Some.is at inv.are_read) in
+    let (i, on, none, here, below, rest) = first_read c.in-Some.from.now.contents (Holds g.T.AtomicValue.target (FnReturnsAt g.H.Fn c.args.hash_fn.now) c.in-Some.from.now) _ _ _ (c.read_window-found.result - (c.loop-place.place + 1)) _ _ _ _ (omega arith) there (rw c.in-Some.is at inv.are_read) in
     let behind = (rw (inv.from_is ∙ c.in-Some.is) at inv.under_way.behind) in
     let fewer = behind.1 in
     let few = inv.under_way.few in
@@ -37,7 +39,7 @@ insert_unique-requires-clause-lies g c =
     let target = g.T.AtomicValue.target in
     let rehash = FnReturnsAt g.H.Fn c.args.hash_fn.now in
     let there = sym c.take.ensures.value ∙ c.in-Some-take.is in
-    let (i, on, none, here, below, rest) = first_read target rehash from _ _ _ (c.read_window-found.result - (c.loop-place.place + 1)) _ _ _ _ (omega arith) there (rw c.in-Some.is at inv.are_read) in
+    let (i, on, none, here, below, rest) = first_read from.contents (Holds target rehash from) _ _ _ (c.read_window-found.result - (c.loop-place.place + 1)) _ _ _ _ (omega arith) there (rw c.in-Some.is at inv.are_read) in
     let is = bucket_read target rehash from i c.loop-place.self-inside.home.now.id c.in-Some-take.read here c.of_naming.result c.of_naming.ensures in
     let behind = (rw (inv.from_is ∙ c.in-Some.is) at inv.under_way.behind) in
     rw is (sym inv.under_way.home_is, sym behind.0.1)
@@ -49,7 +51,7 @@ insert_unique-requires-clause-name g c =
     let target = g.T.AtomicValue.target in
     let rehash = FnReturnsAt g.H.Fn c.args.hash_fn.now in
     let there = sym c.take.ensures.value ∙ c.in-Some-take.is in
-    let (i, on, none, here, below, rest) = first_read target rehash from _ _ _ (c.read_window-found.result - (c.loop-place.place + 1)) _ _ _ _ (omega arith) there (rw c.in-Some.is at inv.are_read) in
+    let (i, on, none, here, below, rest) = first_read from.contents (Holds target rehash from) _ _ _ (c.read_window-found.result - (c.loop-place.place + 1)) _ _ _ _ (omega arith) there (rw c.in-Some.is at inv.are_read) in
     rw (bucket_read target rehash from i c.loop-place.self-inside.home.now.id c.in-Some-take.read here c.of_naming.result c.of_naming.ensures) tt
 
 pub loop-place-preserved : goal.loop-place-preserved
@@ -71,7 +73,7 @@ loop-place-preserved g c =
     elim c.match-take.branch [
       | in-Some-take w ↦
           let read = w.in-Some-take.read in
-          let (i, on, none, is, below, rest) = first_read target rehash from _ p _ left place c.loop-place.window read _ more (here ∙ w.in-Some-take.is) are_read in
+          let (i, on, none, is, below, rest) = first_read from.contents (Holds target rehash from) _ p _ left place c.loop-place.window (Some read) _ more (here ∙ w.in-Some-take.is) are_read in
           let long = c.capacity.ensures in
           let count = c.min-count.ensures in
           let within : i < length from.contents = omega arith in
@@ -82,20 +84,25 @@ loop-place-preserved g c =
           let put = rw (ap (λ b. b.content) bucket_is) at w.insert_unique.ensures.put in
           let passed : GrowthView g.row.T.Denot = record { home = home; before = from.contents; passed = p; built = built } in
           let more_passed : GrowthView g.row.T.Denot = record { home = home; before = from.contents; passed = i + 1; built = after } in
-          rw (w.self-inside-is) (i + 1, record {
-            home_is = inv.home_is;
-            from_is = inv.from_is;
-            are_read = rw c.in-Some.is (one_taken target rehash from _ (i + 1) left (place + 1) place _ c.loop-place.window (omega arith) rest);
-            copied = rw at (on_one target rehash c.args.self.now passed more_passed (rw at at inv.copied) refl refl (next_read target rehash from i home p built after read on within none is put));
-            under_way = rw at (record {
-              home_is = one_home.0 ∙ under.home_is;
-              power = rw (put.2, length-set) under.power;
-              behind = ((one_home.0 ∙ behind.0.0, one_home.1 ∙ behind.0.1), rw (put.2, length-set) behind.1);
-              few = (let few = under.few in let size = w.insert_unique.ensures.size in omega arith);
-              all_named = named_read target rehash from i home p built after read none is put (rw at at under.all_named);
-              is_open = under.is_open;
-              block_is = under.block_is;
-            });
-          })
-      | in_default-take w ↦ absurd (first_none target rehash from _ p _ left place c.loop-place.window _ more (here ∙ w.in_default-take.is) are_read)
+          rw (w.self-inside-is) (
+            i + 1,
+            record {
+              home_is = inv.home_is;
+              from_is = inv.from_is;
+              are_read = rw c.in-Some.is (one_taken from.contents (Holds target rehash from) _ (i + 1) left (place + 1) place _ c.loop-place.window (omega arith) rest);
+              copied = rw at (on_one target rehash c.args.self.now passed more_passed (rw at at inv.copied) refl refl (next_read target rehash from i home p built after read on within none is put));
+              under_way = rw at (record {
+                home_is = one_home.0 ∙ under.home_is;
+                power = rw (put.2, length-set) under.power;
+                behind = ((one_home.0 ∙ behind.0.0, one_home.1 ∙ behind.0.1), rw (put.2, length-set) behind.1);
+                few = (let few = under.few in let size = w.insert_unique.ensures.size in omega arith);
+                all_named = named_read target rehash from i home p built after read none is put (rw at at under.all_named);
+                is_open = under.is_open;
+                block_is = under.block_is;
+              });
+            },
+          )
+      | in_default-take w ↦
+          let (i, on, none, is, below, rest) = first_read from.contents (Holds target rehash from) _ p _ left place c.loop-place.window None _ more (here ∙ w.in_default-take.is) are_read in
+          absurd is
     ]

@@ -2,7 +2,8 @@ use Rattle.std.proofs.Common.{◌≡◌, ◌+◌, ◌-◌, ℕ}
 use Rattle.std.specs.Prelude.{IfSome}
 use Rattle.std.specs.Box.{box_allocator}
 use Rattle.std.specs.Fn.{FnReturnsAt}
-use Rattle.table_shared.specs.Ahead.{AreReadFrom, CopiesOn}
+use Rattle.table_generations.specs.Windows.{AreReadFrom}
+use Rattle.table_shared.specs.Ahead.{Holds, CopiesOn}
 use Rattle.table_shared.specs.Growths.{IsUnderWay, growth_of}
 use Rattle.table_shared.proofs.growth.Growth.copy_window.Given as goal
 
@@ -18,6 +19,6 @@ abbrev pub invariant-loop-place : goal.invariant-loop-place
 invariant-loop-place g l =
     (p : ℕ) × IsInWindow p (l.self-inside.home ≡ l.initial.self-inside.home)
     (l.self-inside.from ≡ l.initial.self-inside.from)
-    (λ p. IfSome l.initial.self-inside.from (λ from. AreReadFrom g.T.AtomicValue.target (FnReturnsAt g.H.Fn l.hash_fn) from.now (l.first + l.count) p (l.found - l.place) l.place l.window))
+    (λ p. IfSome l.initial.self-inside.from (λ from. AreReadFrom from.now.contents (Holds g.T.AtomicValue.target (FnReturnsAt g.H.Fn l.hash_fn) from.now) (l.first + l.count) p (l.found - l.place) l.place l.window))
     (λ p. CopiesOn g.T.AtomicValue.target (FnReturnsAt g.H.Fn l.hash_fn) l.fn.self (growth_of l.self-inside.home.now.id l.self-inside.from p l.self-inside.built))
     (λ p. IsUnderWay l.self-inside.home.now.id l.self-inside.from p l.self-inside.built l.self-inside.slot.alloc l.self-inside.slot.word.now (box_allocator l.self-inside.block))

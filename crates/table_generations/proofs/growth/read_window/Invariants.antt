@@ -1,0 +1,10 @@
+use Rattle.std.proofs.Common.{◌≡◌, ◌+◌, ◌≤◌, length}
+use Rattle.std.specs.Fn.{FnReturnsAt}
+use Rattle.table_generations.specs.Windows.{AreReadFrom, IsAhead}
+use Rattle.table_generations.proofs.growth.read_window.Given as goal
+
+-- what was read of the buckets so far takes the first places of the window
+abbrev pub invariant-loop-ahead : goal.invariant-loop-ahead
+invariant-loop-ahead g l =
+    (length l.window ≡ 64) × (l.found ≤ l.ahead)
+    × AreReadFrom l.old.contents (IsAhead l.old.contents g.T.AtomicValue.target (FnReturnsAt g.H.Fn l.hash_fn)) (l.first + l.ahead) l.first l.found 0 l.window
