@@ -16,6 +16,10 @@ A PROGRAM answers `PROGRAM list` with the names of its tables, one a line, and `
 second round goes backwards. The best of all rounds counts. In brackets stand two ratios to BASE: of the best rounds, and of the
 middle ones. A line that begins with # says the round and the load of the machine (the mean number of threads that ran or waited in the
 last minute) before a table's groups. Run as root, each process takes precedence over others (nice -10).
+
+Small tables are made and dropped in turn. Whether glibc gives a table's memory back each time, and takes it page by page again, hangs on
+which block happens to lie last: with the same table it costs a fifth of an insert or nothing. So where tables are small each program
+keeps what it frees, as one does that has once freed a large block.
 """
 import os
 import pathlib
@@ -29,6 +33,8 @@ THREADED = ["same", "ins", "hit"]
 SIZES = ["1e4", "1e5", "1e7"]
 LARGE = "1e7"
 LARGE_ROUNDS = 2
+SMALL = ("1e4", "1e5")
+KEEPS = {"MALLOC_MMAP_THRESHOLD_": str(32 << 20), "MALLOC_TRIM_THRESHOLD_": str(64 << 20)}
 # The groups of each table in `all`: those that its program knows.
 GROUPS_OF_ALL = {name: ["one", "seq", *SIZES] for name in ("held", "held-in-place", "held-set", "held-shards", "std-HashSet")}
 SHARED = ["shared", "shared-in-place", "shared-set", "shared-shards", "growing", "growing-shards"]
@@ -62,7 +68,8 @@ def come_first():
 
 
 def lines_of(program, *words):
-    done = subprocess.run([*shlex.split(program), *words], capture_output=True, text=True, timeout=600, check=True)
+    keeps = KEEPS if words[-1] in SMALL else {}
+    done = subprocess.run([*shlex.split(program), *words], capture_output=True, text=True, timeout=600, check=True, env=os.environ | keeps)
     return done.stdout.splitlines()
 
 
