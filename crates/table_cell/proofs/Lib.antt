@@ -1,6 +1,8 @@
 pub mod Ajar
+pub mod Behind
 pub mod Calls
 pub mod Homes
+pub mod Lasts
 pub mod Marks
 pub mod Moves
 pub mod Notes

@@ -11,6 +11,7 @@ use denote.RawPtr.{Ptr, block_ptr, null_ptr}
 use denote.Param.Send.{IsSend, IsSync, part_keyless}
 use Rattle.table_cell.specs.Notes.{learnt}
 use Rattle.table_cell.specs.Words.{tested, right, blank, fixes, kept}
+use Rattle.table_cell.specs.Latest.{last}
 
 module _ (R : RattleType) (i : ℕ) where
   pub learnt_keyless : (k : Option R.Denot) → Keyless (learnt R i k)
@@ -37,3 +38,7 @@ module _ (R : RattleType) (s : IsSend R) (y : IsSync R) (k : Ty → Ptr → Fml)
   pub kept_keyless : (i : ℕ) (w : Bool) (v : Option R.Denot) (Q : R.Denot → Type 0) (p : Ptr) → Keyless (kept R k h i w v Q p)
   kept_keyless i w v Q null_ptr = λ _. blank_keyless R i v
   kept_keyless i w v Q (block_ptr b o) = (tested_keyless v (block_ptr b o), λ t. ((tt, (tt, y.shared t.0 b o (t.1 ∷ h ∷ []))), (right_keyless w b o t.0 t.1, λ _. fixes_keyless R i v t.0)))
+
+pub last_keyless : (R : RattleType) → IsSync R → (h : ℕ) (Q : R.Denot → Type 0) (p : Ptr) → Keyless (last R h Q p)
+last_keyless R y h Q null_ptr = tt
+last_keyless R y h Q (block_ptr b o) = (λ _. tt, λ x. ((tt, y.shared x b o (h ∷ [])), λ _. tt))

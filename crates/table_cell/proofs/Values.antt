@@ -3,7 +3,7 @@
 --     name_out, name_in      a name is what its home lends at a block
 --     loose_in, loose_out, loose_at      a loose block is the block and the right to free it
 --     word_out, word_in      the fields of a word are a pointer cell and a mark
---     word_made      a word is its fields, and what is kept beside its address
+--     word_made, latest_made      a word, or a latest one, is its fields, and what is kept beside its address
 use Rattle.std.proofs.Common.{◌≡◌, ℕ, List, [], ◌∷◌, ◌++◌, refl, ap, ◌∙◌, subst}
 use mathlib.Core.Bool.{true, ◌&&◌}
 use lib.Dec.{T}
@@ -33,11 +33,14 @@ use Rattle.table_cell.proofs.loose_block.LooseBlock.TheLaws.{lowers}
 use Rattle.std.specs.Sync.Atomic.Pointer.{atomic_ptr_holding}
 use Rattle.core.specs.contracts.atomic.ptr.AtomicPtr as atomic
 use Rattle.table_cell.specs.Words.{WordView, Shows, freeable, kept}
+use Rattle.table_cell.specs.Latest.{LatestView, last}
 use Rattle.table_cell.specs.declared.home.Homed.{Ghosts as HomedGhosts}
 use Rattle.table_cell.specs.contracts.loose_block.LooseBlock as loose
 use Rattle.table_cell.specs.contracts.name.Name as name
 use Rattle.table_cell.specs.contracts.word.Word as word
 use Rattle.table_cell.specs.contracts.word.Word.TheInside as inside
+use Rattle.table_cell.specs.contracts.latest.Latest as latest
+use Rattle.table_cell.specs.contracts.latest.Latest.TheInside as inside_latest
 use base.Fml.{Fml, ftrue, fsep}
 
 -- a mark, a struct of one field, and a struct of a field and a mark
@@ -155,3 +158,16 @@ module _ (R Y : RattleType) (f : HomedGhosts R.Denot) (g : Ghosts Y.Denot) where
   word_made t w p v good = step (λ rest. let Fields : Ptr → Fml = λ s. (inside.the_row R Y f g).own_val (record { inner = atomic_ptr_holding s; marker = record {} }) (marked v ∷ []) in
       fjoin t $ fpack t Ptr (λ s. fsep (Fields s) (kept R (g.dealloc_token w.from) w.home w.id w.owning w.value (Shows f.fits w) s)) p $
       nothing t $ fpack t (Typed Word.mir (marked v ∷ [])) (λ _. ftrue) (word_good v good, tt) $ fjoin t $ rest)
+
+  abbrev pub Latest : RattleType
+  Latest = latest.the_row R Y f g
+
+  pub latest_good : (v : Val) → Good (layout Cell) v → Good (layout Latest) (marked v)
+  latest_good v good = (marked_typed (has_ty (layout Cell) v) good.0, (good.1, (tt, tt)))
+
+  pub latest_made : {M : Type 1} {𝓤 : Ura M} {𝓛 : Logic 𝓤} {K : Type 0} {Γ : List (Item 𝓤)} {G : Goal 𝓤 𝓛.H} → K → (l : LatestView) (p : Ptr) (v : Val) → Good (layout Cell) v
+      → Step K 𝓛 (‵ (Latest.own_val l (marked v ∷ [])) ∷ Γ) G
+      (‵ ((WithMark Cell Y).own_val (atomic_ptr_holding p, (record {}, tt)) (marked v ∷ [])) ∷ ‵ (last R l.home (λ x. f.fits x l.home) p) ∷ Γ) G
+  latest_made t l p v good = step (λ rest. let Fields : Ptr → Fml = λ s. (inside_latest.the_row R Y f g).own_val (record { inner = atomic_ptr_holding s; marker = record {} }) (marked v ∷ []) in
+      fjoin t $ fpack t Ptr (λ s. fsep (Fields s) (last R l.home (λ x. f.fits x l.home) s)) p $
+      nothing t $ fpack t (Typed Latest.mir (marked v ∷ [])) (λ _. ftrue) (latest_good v good, tt) $ fjoin t $ rest)

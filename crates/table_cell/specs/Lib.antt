@@ -1,4 +1,5 @@
 pub mod Contents
+pub mod Latest
 pub mod Notes
 pub mod Rehomed
 pub mod Rows

@@ -58,6 +58,13 @@ abbrev pub tested : {X : Type 0} → Option X → Ptr → Fml
 tested None p = testable p
 tested (Some x) p = ftrue
 
+-- a `&` to what lies at an address and begins with a pointer: between any two steps it is whole
+abbrev pub behind : RattleType → (ℕ → ℕ → Fml) → Ptr → Lft → Fml
+behind R whole (block_ptr b o) =
+    beside (some Lft (λ α. beside (ends α) (always (fbor α (whole b (o + 0))))))
+    (shared_of (the_row R) (atomic_ptr_holding null_ptr) b (o + 0))
+behind R whole null_ptr = said ffalse
+
 -- how a set word was lent its value: the value, the lifetime that the setter can end, and what is here of its token
 abbrev pub Loan : RattleType → Type 0
 Loan R = R.Denot × ℕ × Share
@@ -111,9 +118,6 @@ module _ (R : RattleType) (k : Ty → Ptr → Fml) where
       abbrev pub Held : ℕ → ℕ → Fml
       Held b o = with_address (cell b o)
 
-      -- a `&` to the word: between any two steps it is whole
+      -- a `&` to the word
       abbrev pub behind_ref : Ptr → Lft → Fml
-      behind_ref (block_ptr b o) =
-          beside (some Lft (λ α. beside (ends α) (always (fbor α (Held b (o + 0))))))
-          (shared_of (the_row R) (atomic_ptr_holding null_ptr) b (o + 0))
-      behind_ref null_ptr = said ffalse
+      behind_ref = behind R Held

@@ -3,6 +3,7 @@
 
 mod bucket;
 mod home;
+mod latest;
 mod loose_block;
 mod low;
 mod name;
@@ -12,6 +13,7 @@ mod word;
 
 pub use bucket::{Bucket, BucketRef, Entry, Mark, Missed, Refusal};
 pub use home::{Closed, Home, Homed};
+pub use latest::Latest;
 pub use loose_block::LooseBlock;
 pub use low::Low;
 pub use name::Name;

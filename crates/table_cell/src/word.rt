@@ -20,7 +20,7 @@ use std::sync::atomic::Ordering::SeqCst;
 ///
 /// A word that is dropped forgets its block: `into_block` hands it out.
 pub struct Word<T: Homed, A: Allocator> {
-    inner: AtomicPtr<T>,
+    pub(crate) inner: AtomicPtr<T>,
     marker: PhantomData<A>,
 }
 

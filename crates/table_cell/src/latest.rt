@@ -1,0 +1,78 @@
+//! A word that is set again and again.
+ghost use Rattle.std.specs.Prelude.{◌≡◌, None, IfSome};
+ghost use Rattle.std.specs.Sync.Atomic.Pointer.{atomic_ptr_holding};
+ghost use Rattle.table_cell.specs.Words.{behind};
+ghost use Rattle.table_cell.specs.Latest.{LatestView, latest_coded, Shown, shown_beside};
+
+use crate::home::{Home, Homed};
+use crate::name::Name;
+use crate::word::Word;
+use std::alloc::Allocator;
+use std::marker::{Brand, Move, Owns, PhantomData, Send, Sync};
+use std::ptr::null_mut;
+use std::sync::atomic::AtomicPtr;
+use std::sync::atomic::Ordering::SeqCst;
+
+/// The block that was shown last: null, or the address of a block that another word holds.
+///
+/// It owns nothing. What it names lives as long as its home, also once another block is shown.
+pub struct Latest<T: Homed, A: Allocator> {
+    inner: AtomicPtr<T>,
+    marker: PhantomData<A>,
+}
+
+impl<T: Homed, A: Allocator> Owns for Latest<T, A> {
+    ghost Value = { LatestView };
+
+    ghost coded = { latest_coded };
+
+    ghost shr_at = { λ l p κ. behind T.row (Shown T.row l.home (λ x. T.fits x l.home)) p κ };
+}
+
+impl<T: Homed, A: Allocator> Move for Latest<T, A> {
+    ghost own_val = { λ l vs. shown_beside T.row l.home (λ x. T.fits x l.home) (λ p. Fields.own_val (record { inner = atomic_ptr_holding p; marker = record {} }) vs) };
+}
+
+impl<T: Homed, A: Allocator> Latest<T, A> {
+    /// Nothing was shown yet. It takes no memory.
+    pub fn new(_alloc: &A, _home: &Home) -> Latest<T, A>
+        ensures { result.home ≡ _home.now.id }
+    {
+        Latest {
+            inner: AtomicPtr::new(null_mut()),
+            marker: PhantomData,
+        }
+    }
+
+    /// From now on it names what this word was set to through `&`.
+    pub fn show(&self, word: &Word<T, A>)
+        requires unset { word.now.value ≡ None }
+        requires home { word.now.home ≡ self.now.home }
+    {
+        let at = unsafe { word.inner.load::<Brand>(SeqCst) };
+        unsafe { self.inner.store::<Brand>(at, SeqCst) };
+    }
+
+    /// The name of the block that was shown last, if one was.
+    pub fn name(&self) -> Option<Name<T>>
+        ensures { IfSome result (λ n. (n.home ≡ self.now.home) × T.fits n.value n.home) }
+    {
+        let at = unsafe { self.inner.load::<Brand>(SeqCst) };
+        if at.is_null() {
+            return None;
+        }
+        Some(Name { at })
+    }
+}
+
+impl<T: Homed, A: Allocator> Drop for Latest<T, A> {
+    /// Forgets the block.
+    fn drop(self) {
+        let Latest { inner, marker: _ } = self;
+        let _at = inner.into_inner();
+    }
+}
+
+unsafe impl<T: Homed + Send + Sync, A: Allocator + Send> Send for Latest<T, A> {}
+
+unsafe impl<T: Homed + Send + Sync, A: Allocator + Send + Sync> Sync for Latest<T, A> {}
