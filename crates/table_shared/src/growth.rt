@@ -1,5 +1,5 @@
 //! The next generation of a shared table while it is made.
-ghost use Rattle.std.specs.Prelude.{◌≡◌, IfOk, IsSome};
+ghost use Rattle.std.specs.Prelude.{◌≡◌, IfOk};
 ghost use Rattle.std.specs.Fn.{FnReturnsAt};
 ghost use Rattle.table_shared.specs.Lineages.{IsOpen};
 ghost use Rattle.table_shared.specs.Growths.{IsFresh, AreNamed, CopiesNext, PassedAll, growth_of};
@@ -8,9 +8,10 @@ pub(crate) mod ahead;
 pub(crate) mod begin;
 
 use crate::lineage::later::{Slot, show_block};
+use crate::shown::Shown;
 use std::alloc::{AllocError, Allocator};
 use std::marker::Model;
-use table_cell::{Bucket, Home, Low, Note};
+use table_cell::{Bucket, Home, Low};
 use table_generations::atomic_value::AtomicValue;
 use table_generations::fixed::Generation;
 
@@ -96,10 +97,10 @@ impl<'a, T: AtomicValue, A: Allocator + Copy> Growth<'a, T, A> {
 }
 
 impl<'a, T: AtomicValue, A: Low + Copy> Growth<'a, T, A> {
-    /// Shows the generation that was made, and says how many there are with it, beside a note that has seen it.
-    pub(crate) fn show(self) -> (usize, Note<Generation<T, A>>)
+    /// Shows the generation that was made.
+    pub(crate) fn show(self, shown: &Shown<T, A>)
         requires whole { PassedAll self }
-        ensures seen { IsSome result.1.known }
+        requires home { shown.now.home ≡ self.home }
     {
         let Growth {
             home,
@@ -110,7 +111,7 @@ impl<'a, T: AtomicValue, A: Low + Copy> Growth<'a, T, A> {
             ..
         } = self;
         drop(Box::replace(&mut block, built));
-        let last = show_block(slot.word, home, slot.alloc, block);
-        (number.saturating_add(1), last)
+        let seen = show_block(slot.word, home, slot.alloc, block);
+        shown.show(slot.word, number.saturating_add(1), &seen);
     }
 }

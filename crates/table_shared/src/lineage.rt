@@ -77,47 +77,13 @@ impl<T: AtomicValue, A: Allocator + Copy> Lineage<T, A> {
         }
     }
 
-    /// The later generation of this index, if it is shown by now.
-    fn later_generation<'a>(&'a self, home: &'a Home, index: usize) -> Option<&'a Generation<T, A>>
-        requires { self.now.home ≡ home.now.id }
-        ensures home { IfSome result (λ g. g.now.home ≡ home.now.id) }
+    /// The last of the generations that the table had when it was shared, if it had one with a bucket.
+    pub(crate) fn last_held(&self) -> Option<&Generation<T, A>>
+        ensures home { IfSome result (λ g. g.now.home ≡ self.now.home) }
         ensures power { IfSome result (λ g. IsPowerOfTwo (length g.now.contents)) }
     {
-        let Some(later) = self.later(home) else {
-            return None;
-        };
-        match later.slot(home, index) {
-            Some(slot) => slot.generation(home),
-            None => None,
-        }
-    }
-
-    /// The generation of this number that the table had when it was shared.
-    fn held_generation(&self, number: usize) -> &Generation<T, A>
-        ensures { result.now.home ≡ self.now.home }
-    {
-        match self.earlier.get(number) {
-            Some(generation) => generation,
-            None => &self.base,
-        }
-    }
-
-    /// The generation of this number, if it is shown by now. Each has a bucket. Of a later one that isn't asked again.
-    pub(crate) fn generation<'a>(
-        &'a self,
-        home: &'a Home,
-        number: usize,
-    ) -> Option<&'a Generation<T, A>>
-        requires { self.now.home ≡ home.now.id }
-        ensures home { IfSome result (λ g. g.now.home ≡ home.now.id) }
-        ensures power { IfSome result (λ g. IsPowerOfTwo (length g.now.contents)) }
-    {
-        if let Some(index) = number.checked_sub(self.held()) {
-            return self.later_generation(home, index);
-        }
-        let found = self.held_generation(number);
-        if found.has_buckets() {
-            return Some(found);
+        if self.base.has_buckets() {
+            return Some(&self.base);
         }
         None
     }

@@ -10,7 +10,7 @@ ghost use Rattle.table_shared.specs.Lineages.{AreOfHome, shown_in};
 use crate::apart::Apart;
 use crate::lineage::Lineage;
 use crate::locks::Locks;
-use crate::shown::ShownCount;
+use crate::shown::Shown;
 use crate::size::Size;
 use std::alloc::{Allocator, Global};
 use std::marker::Model;
@@ -30,7 +30,7 @@ pub struct LockFreeRawTable<T: AtomicValue, A: Allocator + Copy = Global> {
     pub(crate) first_capacity: usize,
     pub(crate) home: Home,
     pub(crate) lineage: Lineage<T, A>,
-    pub(crate) shown: ShownCount,
+    pub(crate) shown: Shown<T, A>,
     /// What is written by each insert, the locks and the size, lies between the two.
     before: Apart,
     /// Shared while a value is placed and counted, and held alone while a generation is made.
@@ -49,7 +49,8 @@ impl<T: AtomicValue, A: Allocator + Copy> Model for LockFreeRawTable<T, A> {
 
     ghost view = { λ t. table_of t.first_capacity t.lineage };
 
-    ghost invariant = { λ t. IsFirstCapacity t.first_capacity × (t.lineage.home ≡ t.home.id) };
+    ghost invariant = { λ t. IsFirstCapacity t.first_capacity × (t.lineage.home ≡ t.home.id)
+        × (t.shown.home ≡ t.home.id) };
 }
 
 /// A generation that was the current one, and its number: the first is 0.
@@ -103,12 +104,12 @@ impl<T: AtomicValue, A: Allocator + Copy> LockFreeRawTable<T, A> {
     {
         let size = base.size();
         let lineage = Lineage::new(alloc, &home, earlier, base);
-        let shown = lineage.held();
+        let shown = Shown::new(alloc, &home, lineage.held());
         LockFreeRawTable {
             first_capacity,
             home,
             lineage,
-            shown: ShownCount::new(shown),
+            shown,
             before: Apart::new(),
             locks: Locks::new(),
             size: Size::new(size),
@@ -139,16 +140,12 @@ impl<T: AtomicValue, A: Allocator + Copy> LockFreeRawTable<T, A> {
         ensures home { IfSome result (λ c. c.generation.now.home ≡ self.now.home) }
         ensures power { IfSome result (λ c. IsPowerOfTwo (length c.generation.now.contents)) }
     {
-        let shown = self.shown.get();
-        if shown == 0 {
-            return None;
+        let number = self.shown.number();
+        if let Some(generation) = self.shown.latest(&self.home) {
+            return Some(Current { number, generation });
         }
-        let number = shown - 1;
-        let generation = self.lineage.generation(&self.home, number)?;
-        Some(Current {
-            number: number as u64,
-            generation,
-        })
+        let generation = self.lineage.last_held()?;
+        Some(Current { number, generation })
     }
 
     /// A call loads the current generation: what it walks then, where it stands, and what it found.

@@ -4,6 +4,8 @@
 #[cfg(test)]
 mod held;
 #[cfg(test)]
+mod latest;
+#[cfg(test)]
 mod noted;
 #[cfg(test)]
 mod refused;

@@ -77,7 +77,6 @@ impl<T: AtomicValue, A: Low + Copy> LockFreeRawTable<T, A> {
         requires home { growth.home ≡ self.now.home }
         requires whole { PassedAll growth }
     {
-        let (count, last) = growth.show();
-        self.shown.set(count, &last);
+        growth.show(&self.shown);
     }
 }

@@ -1,7 +1,6 @@
 //! Words for the generations that are made after a table was shared.
 ghost use Rattle.std.specs.Prelude.{◌≡◌, ◌≤◌, ◌<◌, IfOk, IfSome, IsSome, length, vec_capacity, []};
 ghost use Rattle.std.specs.Box.{box_allocator};
-ghost use Rattle.std.specs.Int.{IsPowerOfTwo};
 ghost use Rattle.table_shared.specs.Lineages.{IsOpen, AreRoomy};
 
 use std::alloc::{AllocError, Allocator};
@@ -79,20 +78,5 @@ impl<T: AtomicValue, A: Allocator + Copy> Later<T, A> {
             alloc: self.alloc,
             word,
         })
-    }
-}
-
-impl<'a, T: AtomicValue, A: Allocator + Copy> Slot<'a, T, A> {
-    /// The generation, if it is shown by now.
-    pub(crate) fn generation(self, home: &'a Home) -> Option<&'a Generation<T, A>>
-        requires { IsOpen home.now.id self.alloc self.word.now }
-        ensures home { IfSome result (λ g. g.now.home ≡ home.now.id) }
-        ensures power { IfSome result (λ g. IsPowerOfTwo (length g.now.contents)) }
-    {
-        let mut note = self.word.note();
-        match self.word.name_if_set(&mut note) {
-            Some(name) => Some(name.get(home)),
-            None => None,
-        }
     }
 }
