@@ -3,7 +3,7 @@
 --     opens, in_place      the struct is laid open, and closes at any address with what is to stand beside that
 --     lends      the `&`, of a borrow
 --     behind_laws      what any two `&` to one struct say
-use Rattle.std.proofs.Common.{◌≡◌, ℕ, ◌+◌, List, [], ◌∷◌, sym, refl}
+use Rattle.std.proofs.Common.{◌≡◌, ℕ, ◌+◌, List, [], ◌∷◌, refl}
 use seplogic.Ra.Ura.{Ura}
 use mir.Val.{Val}
 use base.Fraction.{full_share}

@@ -8,12 +8,12 @@ use mir.Syntax.{Ty}
 use base.Logic.{SProp, ent, sep, ex, upd_i}
 use base.Fml.{Lft, Share, Fml, ftrue, fsep, flft, fbor}
 use types.Logic.{Logic, sem}
-use types.Kit.{‵, ◌⊛◌, raw, later, ◌$◌, ◌∵◌, !, qed, by, move, keep, drop, split, fsplit, fjoin, fpick, fpack, rewrite, show, frame, assume, suffices, done, use1, updating, await, now}
+use types.Kit.{‵, ◌⊛◌, later, ◌$◌, ◌∵◌, !, qed, move, keep, drop, split, fsplit, fjoin, fpick, fpack, rewrite, show, frame, assume, suffices, done, use1, updating, await, now}
 use denote.RattleType.{RattleType}
 use denote.RawPtr.{Ptr, block_ptr, null_ptr, Testable}
 use denote.Steps.{nothing}
 use denote.Param.Laws.{Laws}
-use denote.Struct.Lending.{lent_at, lent_at_shr_laws}
+use denote.Struct.Lending.{lent_at_shr_laws}
 use Rattle.core.specs.Sync.RawAtomic.Pointer.{cell, asks_ptr}
 use Rattle.core.proofs.raw_atomic.Asked.{borrowed_ptr, PtrLies}
 use Rattle.table_cell.specs.Words.{tested, named}

@@ -1,6 +1,6 @@
 -- What a latest word holds. h is the lifetime of the home, for which blocks are lent, Q what is said of a value that it may
 -- name. It owns no block: it has a name of one, as any number of words may.
-use Rattle.std.specs.Prelude.{◌≡◌, ℕ}
+use Rattle.std.specs.Prelude.{ℕ}
 use base.Stored.{Coded, coded_ℕ, coded_via}
 use base.Fml.{Fml, ftrue, fsep, fex}
 use denote.RattleType.{RattleType}

@@ -1,12 +1,12 @@
 -- `name` loads the pointer, and takes the name of its block, if there is one.
-use Rattle.std.proofs.Common.{◌≡◌, ℕ, ◌+◌, Option, Some, None, [], ◌∷◌, ◌++◌, refl, sym, lit<}
+use Rattle.std.proofs.Common.{◌≡◌, ℕ, ◌+◌, Some, None, [], ◌∷◌, ◌++◌, refl, lit<}
 use mir.Syntax.{a_type, dcons, dnil}
 use mir.Val.{Val, vptr, vcons, vnil}
 use mir.MapTy.{inst_fn}
 use base.Fraction.{left}
 use base.Logic.{SProp, emp}
 use base.Fml.{Lft, Share, Fml, ftrue, fsep, flft}
-use types.Kit.{‵, raw, ◌⊛◌, some, later, mean, at_ret, ◌$◌, ◌∵◌, !, qed, by, move, keep, drop, split, split3, join, fsplit, fsplit3, fjoin, fpick, pick, use0, use1, use2, use3, await, rewrite}
+use types.Kit.{‵, raw, ◌⊛◌, some, later, mean, at_ret, ◌$◌, ◌∵◌, !, qed, by, move, keep, drop, split, split3, join, fsplit, fsplit3, fjoin, fpick, pick, use0, use1, use2, use3, await}
 use types.Run.{skips, returns_within, stop, fld, addr, lit, of_opd, bin, no_more, and_then, first, blocks, branches, exec, Calls-last, returns}
 use types.ByLocal.{alloc_all, pass_all, free_all, look_at, get, through, sets, lands_last, env}
 use types.Part.{agg}
@@ -20,11 +20,10 @@ use denote.Signature.{types_at, type_at, plain}
 use denote.Builtin.{RefOf}
 use denote.RawPtr.{Ptr, block_ptr, null_ptr, tests_null}
 use denote.Opens.{unhide}
-use denote.Steps.{nothing, heard}
+use denote.Steps.{nothing}
 use denote.Param.{param, layout, bounded}
 use denote.Param.Laws.{param_laws}
-use denote.Struct.Lending.{lent_at}
-use denote.Triple.Walked.{Stays, stay_dropped, stay_ref, walk_of, Goes-dropped, Goes-ref}
+use denote.Triple.Walked.{Stays, stay_dropped, walk_of, Goes-dropped}
 use Rattle.core.proofs.alloc.Shapes.{after}
 use Rattle.core.proofs.atomic.Steps.{Ptr-Good, fm}
 use Rattle.core.proofs.cell.Inside.{Good}

@@ -1,10 +1,10 @@
 -- `new` makes a null pointer.
-use Rattle.std.proofs.Common.{◌≡◌, true, Option, None, [], ◌∷◌, ◌++◌, refl}
+use Rattle.std.proofs.Common.{◌≡◌, [], ◌∷◌, ◌++◌, refl}
 use mir.Syntax.{a_type, dcons, dnil}
 use mir.MapTy.{inst_fn}
 use base.Logic.{emp}
 use base.Fml.{Lft, Share, ftrue, flft}
-use types.Kit.{‵, raw, ◌⊛◌, ◌$◌, ◌∵◌, !, qed, by, move, keep, split, split3, join, fjoin, fpack, use0}
+use types.Kit.{‵, raw, ◌⊛◌, ◌$◌, ◌∵◌, !, qed, by, move, keep, split, split3, join, fjoin, use0}
 use types.Run.{lit, no_more, and_then, returns}
 use types.ByLocal.{alloc_all, pass_all, free_all, look_at, get, sets, lands_as}
 use types.Part.{agg}

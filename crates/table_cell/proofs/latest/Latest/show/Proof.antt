@@ -1,33 +1,30 @@
 -- `show` loads the word's pointer and stores it: what the word's block is lent by goes along.
-use Rattle.std.proofs.Common.{◌≡◌, ℕ, ◌+◌, List, Option, None, [], ◌∷◌, ◌++◌, refl, sym, lit<}
+use Rattle.std.proofs.Common.{◌≡◌, ℕ, ◌+◌, List, None, [], ◌∷◌, ◌++◌, refl}
 use mir.Syntax.{a_type, dcons, dnil}
 use mir.Val.{Val, vptr, vunit}
 use mir.MapTy.{inst_fn}
 use base.Fraction.{left}
-use base.Logic.{SProp, emp}
+use base.Logic.{SProp}
 use base.Fml.{Lft, Share, Fml, ftrue, fsep, flft}
 use types.Kit.{‵, raw, ◌⊛◌, some, later, mean, at_ret, ◌$◌, ◌∵◌, !, qed, by, move, keep, drop, split, split3, join, fsplit, fsplit3, fjoin, fpick, pick, use1, use2, use3, await, rewrite, feq_i}
 use types.Run.{fld, stop, addr, lit, of_opd, unit_lit, no_more, and_then, first, blocks, exec, Calls-last, returns}
 use types.ByLocal.{alloc_all, pass_all, free_all, look_at, get, through, sets, lands_last, env}
 use types.Part.{agg}
-use types.Match.{live}
-use contract.Monad.{fact, fact_i}
+use contract.Monad.{fact}
 use contract.BorrowLft.{◌⊑◌}
 use contract.Running.{tables}
 use denote.Exit.{yes}
 use denote.RattleType.{RattleType, owns}
-use denote.Signature.{types_at, type_at, plain}
+use denote.Signature.{types_at, plain}
 use denote.Builtin.{RefOf}
 use denote.RawPtr.{Ptr, block_ptr, ptr_val}
 use denote.Opens.{unhide}
 use denote.Steps.{nothing, heard}
-use denote.Param.{param, layout, bounded}
+use denote.Param.{param, bounded}
 use denote.Param.Laws.{param_laws}
-use denote.Struct.Lending.{lent_at}
-use denote.Triple.Walked.{Stays, stay_dropped, stay_ref, walk_of, Goes-dropped, Goes-ref}
+use denote.Triple.Walked.{Stays, stay_dropped, walk_of, Goes-dropped}
 use Rattle.core.proofs.alloc.Shapes.{after}
 use Rattle.core.proofs.atomic.Steps.{Ptr-Good, fm}
-use Rattle.core.proofs.cell.Inside.{Good}
 use Rattle.table_cell.proofs.Walks.{begins, In, goes_in, comes_back}
 use Rattle.std.proofs.raw_atomic.Walks.{proved_at, leaves}
 use Rattle.table_cell.specs.Latest.{last}
@@ -37,13 +34,10 @@ use Rattle.table_cell.proofs.Moves as moves
 use Rattle.std.proofs.raw_atomic.Calls.{seq_cst, stored, has_stored}
 use Rattle.table_cell.specs.contracts.latest.Latest as latest
 use Rattle.table_cell.proofs.Lasts as lasts
-use Rattle.table_cell.proofs.Values.{alone, Name, name_in}
 use Rattle.table_cell.specs.contracts.latest.Latest.show.{ended, clauses}
 use Rattle.table_cell.specs.contracts.latest.Latest.show.Key.{name as #self}
 use Rattle.table_cell.proofs.latest.Latest.show.Statement.{statement}
 use Rattle.table_cell.proofs.latest.Latest.show.Code as code
-use Rattle.core.specs.declared.option.Option.TheVariants as option
-use Rattle.core.proofs.option.Made.{Some-of, none_of}
 use Rattle.core.specs.Sync.RawAtomic.Pointer.{asks_ptr}
 use Rattle.std.proofs.raw_atomic.PtrCalls as calls
 use Rattle.std.proofs.raw_atomic.PtrMethods as methods
