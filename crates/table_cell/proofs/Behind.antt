@@ -1,5 +1,4 @@
--- A `&` to a struct of a pointer and a mark is made of a borrow of it: the pointer and what stands beside its address go into an
--- invariant. Assumes `Logic`.
+-- A `&` to a struct of a pointer and a mark is made of a borrow of it. Assumes `Logic`.
 --     opens, in_place      the struct is laid open, and closes at any address with what is to stand beside that
 --     lends      the `&`, of a borrow
 --     behind_laws      what any two `&` to one struct say

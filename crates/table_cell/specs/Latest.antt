@@ -20,7 +20,7 @@ module _ (R : RattleType) (h : ℕ) (Q : R.Denot → Type 0) where
   abbrev pub named_so : Ptr → R.Denot → Fml
   named_so p x = fsep (named R h p x) (is_so (Q x))
 
-  -- beside its address: nothing at null
+  -- beside its address: nothing at null; at a block that it may be compared with null, and a name of it
   abbrev pub last : Ptr → Fml
   last null_ptr = ftrue
   last (block_ptr b o) = fsep (testable (block_ptr b o)) (fex R.Denot (named_so (block_ptr b o)))

@@ -13,9 +13,9 @@ use std::ptr::null_mut;
 use std::sync::atomic::AtomicPtr;
 use std::sync::atomic::Ordering::SeqCst;
 
-/// The block that was shown last: null, or the address of a block that another word holds.
+/// The block that was shown last: null, or the address of a block that a word holds.
 ///
-/// It owns nothing. What it names lives as long as its home, also once another block is shown.
+/// It owns nothing. What it names lives as long as its home, also once another block is shown. Anyone may call it at any time.
 pub struct Latest<T: Homed, A: Allocator> {
     inner: AtomicPtr<T>,
     marker: PhantomData<A>,
@@ -44,7 +44,8 @@ impl<T: Homed, A: Allocator> Latest<T, A> {
         }
     }
 
-    /// From now on it names what this word was set to through `&`.
+    /// From now on it names what this word was set to through `&`, or nothing where the word isn't set. The store is one step; the
+    /// word is loaded before it.
     pub fn show(&self, word: &Word<T, A>)
         requires unset { word.now.value ≡ None }
         requires home { word.now.home ≡ self.now.home }
@@ -53,7 +54,7 @@ impl<T: Homed, A: Allocator> Latest<T, A> {
         unsafe { self.inner.store::<Brand>(at, SeqCst) };
     }
 
-    /// The name of the block that was shown last, if one was.
+    /// The name of the block that was shown last, if one was. One load.
     pub fn name(&self) -> Option<Name<T>>
         ensures { IfSome result (λ n. (n.home ≡ self.now.home) × T.fits n.value n.home) }
     {

@@ -20,7 +20,6 @@ use table_generations::fixed::Generation;
 #[derive(Drop)]
 pub struct Growth<'a, T: AtomicValue, A: Allocator + Copy> {
     home: &'a Home,
-    number: usize,
     from: Option<&'a Generation<T, A>>,
     /// So many buckets of the generation before are copied.
     copied: usize,
@@ -46,7 +45,6 @@ impl<'a, T: AtomicValue, A: Allocator + Copy> Growth<'a, T, A> {
     /// A generation with no entry copied. Its block is asked for.
     pub(crate) fn begun(
         home: &'a Home,
-        number: usize,
         from: Option<&'a Generation<T, A>>,
         built: Generation<T, A>,
         slot: Slot<'a, T, A>,
@@ -60,7 +58,6 @@ impl<'a, T: AtomicValue, A: Allocator + Copy> Growth<'a, T, A> {
         };
         Ok(Growth {
             home,
-            number,
             from,
             copied: 0,
             built,
@@ -104,7 +101,6 @@ impl<'a, T: AtomicValue, A: Low + Copy> Growth<'a, T, A> {
     {
         let Growth {
             home,
-            number,
             built,
             slot,
             mut block,
@@ -112,6 +108,6 @@ impl<'a, T: AtomicValue, A: Low + Copy> Growth<'a, T, A> {
         } = self;
         drop(Box::replace(&mut block, built));
         let seen = show_block(slot.word, home, slot.alloc, block);
-        shown.show(slot.word, number.saturating_add(1), &seen);
+        shown.show(slot.word, &seen);
     }
 }

@@ -77,6 +77,20 @@ impl<T: AtomicValue, A: Allocator + Copy> Lineage<T, A> {
         }
     }
 
+    /// The number of the generation of so many buckets. The first is 0, and each has twice as many as the one before, so the
+    /// capacity tells it: a second load could be of another generation.
+    #[inline(always)]
+    pub(crate) fn number_of(&self, first_capacity: usize, capacity: usize) -> u64 {
+        let (known, number) = match self.base.capacity() {
+            0 => (first_capacity, 0),
+            base => (base, self.earlier.len()),
+        };
+        let doubled = known
+            .leading_zeros()
+            .saturating_sub(capacity.leading_zeros());
+        (number as u64).saturating_add(u64::from(doubled))
+    }
+
     /// The last of the generations that the table had when it was shared, if it had one with a bucket.
     pub(crate) fn last_held(&self) -> Option<&Generation<T, A>>
         ensures home { IfSome result (λ g. g.now.home ≡ self.now.home) }

@@ -53,7 +53,7 @@ impl<T: AtomicValue, A: Allocator + Copy> Model for LockFreeRawTable<T, A> {
         × (t.shown.home ≡ t.home.id) };
 }
 
-/// A generation that was the current one, and its number: the first is 0.
+/// A generation that was the current one at a moment of the call, and its own number: the first is 0.
 #[derive(Clone, Copy)]
 pub struct Current<'a, T: AtomicValue, A: Allocator + Copy> {
     pub number: u64,
@@ -104,7 +104,7 @@ impl<T: AtomicValue, A: Allocator + Copy> LockFreeRawTable<T, A> {
     {
         let size = base.size();
         let lineage = Lineage::new(alloc, &home, earlier, base);
-        let shown = Shown::new(alloc, &home, lineage.held());
+        let shown = Shown::new(alloc, &home);
         LockFreeRawTable {
             first_capacity,
             home,
@@ -140,12 +140,21 @@ impl<T: AtomicValue, A: Allocator + Copy> LockFreeRawTable<T, A> {
         ensures home { IfSome result (λ c. c.generation.now.home ≡ self.now.home) }
         ensures power { IfSome result (λ c. IsPowerOfTwo (length c.generation.now.contents)) }
     {
-        let number = self.shown.number();
         if let Some(generation) = self.shown.latest(&self.home) {
-            return Some(Current { number, generation });
+            return Some(self.numbered(generation));
         }
-        let generation = self.lineage.last_held()?;
-        Some(Current { number, generation })
+        Some(self.numbered(self.lineage.last_held()?))
+    }
+
+    /// A generation of this table, with its number.
+    #[inline(always)]
+    fn numbered<'a>(&'a self, generation: &'a Generation<T, A>) -> Current<'a, T, A>
+        ensures { result.generation.now ≡ generation.now }
+    {
+        Current {
+            number: self.lineage.number_of(self.first_capacity, generation.capacity()),
+            generation,
+        }
     }
 
     /// A call loads the current generation: what it walks then, where it stands, and what it found.

@@ -30,7 +30,7 @@ impl<T: AtomicValue, A: Low + Copy> LockFreeRawTable<T, A> {
     {
         let slot = self.lineage.slot(&self.home, 0)?;
         let built = Generation::with_capacity(self.alloc, &self.home, self.first_capacity)?;
-        Growth::begun(&self.home, 0, None, built, slot)
+        Growth::begun(&self.home, None, built, slot)
     }
 
     /// The generation after the current one, with twice the capacity.
@@ -49,7 +49,7 @@ impl<T: AtomicValue, A: Low + Copy> LockFreeRawTable<T, A> {
         };
         let slot = self.lineage.slot(&self.home, number)?;
         let built = current.generation.sibling(&self.home, capacity)?;
-        Growth::begun(&self.home, number, Some(current.generation), built, slot)
+        Growth::begun(&self.home, Some(current.generation), built, slot)
     }
 
     /// Looks at the size again, and asks for all the memory of the next generation if it is still wanted. To be called
