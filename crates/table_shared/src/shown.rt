@@ -46,11 +46,7 @@ impl<T: AtomicValue, A: Allocator + Copy> Shown<T, A> {
     }
 
     /// From now on the generation of this word is the one that was shown last. The note has seen it in the word.
-    pub(crate) fn show(
-        &self,
-        word: &Word<Generation<T, A>, A>,
-        _seen: &Note<Generation<T, A>>,
-    )
+    pub(crate) fn show(&self, word: &Word<Generation<T, A>, A>, _seen: &Note<Generation<T, A>>)
         requires unset { word.now.value ≡ None }
         requires home { word.now.home ≡ self.now.home }
         requires of { _seen.now.of ≡ word.now.id }

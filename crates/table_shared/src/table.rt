@@ -152,7 +152,9 @@ impl<T: AtomicValue, A: Allocator + Copy> LockFreeRawTable<T, A> {
         ensures { result.generation.now ≡ generation.now }
     {
         Current {
-            number: self.lineage.number_of(self.first_capacity, generation.capacity()),
+            number: self
+                .lineage
+                .number_of(self.first_capacity, generation.capacity()),
             generation,
         }
     }

@@ -17,7 +17,8 @@ fn word_of(alloc: Global, home: &Home, number: u64) -> Word<Entry<u64>, Global>
             value: number,
             bits: 1,
         },
-    ) && let (_, Some(back)) = word.offer(home, LooseBlock::of(block), &mut note)
+    )
+        && let (_, Some(back)) = word.offer(home, LooseBlock::of(block), &mut note)
     {
         drop(back.into_box(alloc));
     }
