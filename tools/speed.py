@@ -3,7 +3,7 @@
 
     tools/speed.py all ROUNDS PROGRAM..     the tables at the top of docs/SPEED.md and their peers, by one thread to four, and with 10^4
                                             to 10^7 keys where a program knows those, into docs/speed/all.txt; 10^7 in the
-                                            first two rounds alone
+                                            first round alone
     tools/speed.py run ROUNDS PROGRAM..     the others, and those held alone with a million keys, into docs/speed/raw.txt
     tools/speed.py show KIND BASE           prints the tables of a kind, with ratios to the table BASE: all (of all.txt, as dashmap);
                                             held, seats, core or interner (of raw.txt, as plain-rust, plain-atomics, core,
@@ -32,7 +32,7 @@ SPEED = pathlib.Path(__file__).resolve().parent.parent / "docs" / "speed"
 THREADED = ["same", "ins", "hit"]
 SIZES = ["1e4", "1e5", "1e7"]
 LARGE = "1e7"
-LARGE_ROUNDS = 2
+LARGE_ROUNDS = 1
 SMALL = ("1e4", "1e5")
 KEEPS = {"MALLOC_MMAP_THRESHOLD_": str(32 << 20), "MALLOC_TRIM_THRESHOLD_": str(64 << 20)}
 # The groups of each table in `all`: those that its program knows.
