@@ -1,5 +1,6 @@
 -- A `&` to a struct of a pointer and a mark is made of a borrow of it. Assumes `Logic`.
 --     opens, in_place      the struct is laid open, and closes at any address with what is to stand beside that
+--     in_two      a borrow of it, as two
 --     lends      the `&`, of a borrow
 --     behind_laws      what any two `&` to one struct say
 use Rattle.std.proofs.Common.{◌≡◌, ℕ, ◌+◌, List, [], ◌∷◌, refl}
@@ -32,18 +33,11 @@ use Rattle.core.proofs.atomic.Lent as pointer
 use Rattle.core.proofs.atomic.Lent.{rest, Way}
 use Rattle.core.specs.contracts.marker.PhantomData as marker
 use Rattle.core.proofs.marker.PhantomData.TheLaws as marker_laws
-use Rattle.table_cell.specs.Words.{behind}
+use Rattle.table_cell.specs.Beside.{addressed, in_cell, behind}
 
--- a struct whose address is found in the fields, or in memory, with what stands beside it
-abbrev pub addressed : (Ptr → Fml) → (Ptr → Fml) → Fml
-addressed beside found_in = fex Ptr (λ p. fsep (found_in p) (beside p))
-
-abbrev pub in_cell : (Ptr → Fml) → ℕ → ℕ → Fml
-in_cell beside b o = addressed beside (cell b o)
-
-pub behind_laws : (R : RattleType) → Laws R → (whole : ℕ → ℕ → Fml) (b o : ℕ) → ShrLaws (behind R whole (block_ptr b o))
-behind_laws R L whole b o = let I : Lft → Lft → Fml = λ α. lent.beside (lent.ends α) (lent.always (fbor α (whole b (o + 0)))) in
-    beside_shr_laws (lent.some Lft I) _ (some_shr_laws Lft I (λ α. beside_shr_laws _ _ (ends_shr_laws α) (always_shr_laws (fbor α (whole b (o + 0))))))
+pub behind_laws : (R : RattleType) → Laws R → (stands : Ptr → Fml) (b o : ℕ) → ShrLaws (behind R stands (block_ptr b o))
+behind_laws R L stands b o = let I : Lft → Lft → Fml = λ α. lent.beside (lent.ends α) (lent.always (fbor α (in_cell stands b (o + 0)))) in
+    beside_shr_laws (lent.some Lft I) _ (some_shr_laws Lft I (λ α. beside_shr_laws _ _ (ends_shr_laws α) (always_shr_laws (fbor α (in_cell stands b (o + 0))))))
     ((atomic_laws.the_row_laws R L).shr_laws (atomic_ptr_holding null_ptr) b (o + 0))
 
 module _ (R Y : RattleType) (L : Laws R) (LY : Laws Y) where
@@ -58,7 +52,7 @@ module _ (R Y : RattleType) (L : Laws R) (LY : Laws Y) where
 
   -- the struct in memory, with what stands beside its address
   abbrev pub InMemory : (Ptr → Fml) → ℕ → ℕ → Fml
-  InMemory beside b o = fex (List Val) (λ us. fsep (cell_at full_share Pair.mir us b o) (addressed beside (λ p. Pair.own_val (holds p) us)))
+  InMemory stands b o = fex (List Val) (λ us. fsep (cell_at full_share Pair.mir us b o) (addressed stands (λ p. Pair.own_val (holds p) us)))
 
   module _ {M : Type 1} {𝓤 : Ura M} (𝓛 : Logic 𝓤) (Beside : Ptr → Fml) (b o : ℕ) (κ : Lft) where
     open 𝓛 use {H, A}
@@ -122,15 +116,19 @@ module _ (R Y : RattleType) (L : Laws R) (LY : Laws Y) where
         move ! (1 ∷ 2 ∷ []) $ fjoin ! $ move ! (1 ∷ 0 ∷ []) $ fjoin ! $ move ! (2 ∷ []) $ use1 𝓛 (raw (wand 𝓤 ⟦ Open p ⟧ ⟦ Whole ⟧)) (all_e 𝓤 (λ (s : Ptr). wand 𝓤 ⟦ Open s ⟧ ⟦ Whole ⟧) p) $
         keep ! (1 ∷ 0 ∷ []) $ by ! (apply∗ 𝓤 ⟦ Open p ⟧ ⟦ Whole ⟧))
 
-    pub lends : (q : Share) (W : Fml) → W ≡ Whole → ent 𝓤 (sep 𝓤 (A.bor κ W) (A.lft κ q)) (H.⇛ (sep 𝓤 ⟦ behind R (in_cell Beside) (block_ptr b o) κ ⟧ (A.lft κ q)))
+    -- a borrow of the whole is one of what goes into the invariant, and one of the rest of the pointer
+    pub in_two : (q : Share) → ent 𝓤 (sep 𝓤 (A.bor κ Whole) (A.lft κ q)) (H.⇛ (sep 𝓤 ⟦ fbor κ Inside ⟧ (sep 𝓤 ⟦ fbor κ (rest b (o + 0)) ⟧ (A.lft κ q))))
     unfolding fseps
-    lends q W is = qed 𝓛 (‵ (fbor κ W) ∷ ‵ (flft κ q) ∷ []) ∵ updating ! $ rewrite ! 0 (λ (P : Fml). ‵ (fbor κ P)) is refl $
-        bor_open ! tt $ move ! (1 ∷ []) $ use1 𝓛 (some (λ (p : Ptr). ‵ (Open p)) ⊛ raw Closes) opens $ split ! $ pick ! (λ p. fsplit3 ! $
+    in_two q = qed 𝓛 (‵ (fbor κ Whole) ∷ ‵ (flft κ q) ∷ []) ∵ updating ! $ bor_open ! tt $ move ! (1 ∷ []) $ use1 𝓛 (some (λ (p : Ptr). ‵ (Open p)) ⊛ raw Closes) opens $ split ! $ pick ! (λ p. fsplit3 ! $
         -- [the cell; what stands beside p; the rest; how the struct closes; the open borrow]
         fjoin ! $ fpack ! Ptr (λ s. fsep (cell b (o + 0) s) (Beside s)) p $ nothing ! $ move ! (1 ∷ 2 ∷ 0 ∷ []) $ fjoin3 ! $ move ! (1 ∷ []) $
         use1 𝓛 (‵ (fwand (fsep (fdead κ) (fseps Lent)) (fupd Whole))) closes_again $ move ! (2 ∷ 1 ∷ 0 ∷ []) $ obor_alter ! tt Lent $
-        use1 𝓛 (‵ (fbor κ Inside) ⊛ ‵ (fbor κ (rest b (o + 0))) ⊛ ‵ ftrue) (id⊢ 𝓤 _) $ split3 ! $
+        use1 𝓛 (‵ (fbor κ Inside) ⊛ ‵ (fbor κ (rest b (o + 0))) ⊛ ‵ ftrue) (id⊢ 𝓤 _) $ split3 ! $ now ! $ keep ! (0 ∷ 1 ∷ 3 ∷ []) $ done !)
+
+    pub lends : (q : Share) (W : Fml) → W ≡ Whole → ent 𝓤 (sep 𝓤 (A.bor κ W) (A.lft κ q)) (H.⇛ (sep 𝓤 ⟦ behind R Beside (block_ptr b o) κ ⟧ (A.lft κ q)))
+    lends q W is = qed 𝓛 (‵ (fbor κ W) ∷ ‵ (flft κ q) ∷ []) ∵ updating ! $ rewrite ! 0 (λ (P : Fml). ‵ (fbor κ P)) is refl $
+        use2 𝓛 (later (‵ (fbor κ Inside) ⊛ ‵ (fbor κ (rest b (o + 0))) ⊛ ‵ (flft κ q))) (in_two q) $ await ! tt $ split3 ! $
         use1 𝓛 (later (‵ (finv (fbor κ Inside)))) (𝓛.invs.inv_new (fbor κ Inside)) $ await ! tt $
-        use0 𝓛 (‵ (before κ κ)) (before-Incl 𝓛 κ κ (Incl-refl κ)) $ fjoin ! $ fpack ! Lft (λ s. fsep (before κ s) (finv (fbor s Inside))) κ $ move ! (1 ∷ 3 ∷ []) $
+        use0 𝓛 (‵ (before κ κ)) (before-Incl 𝓛 κ κ (Incl-refl κ)) $ fjoin ! $ fpack ! Lft (λ s. fsep (before κ s) (finv (fbor s Inside))) κ $ move ! (1 ∷ 2 ∷ []) $
         use2 𝓛 (later (‵ (shared_of (atomic.the_row R) (atomic_ptr_holding null_ptr) b (o + 0) κ) ⊛ ‵ (flft κ q))) (pointer.rest_shared 𝓛 R b (o + 0) null_ptr κ ((κ, q) ∷ []) (Incl-refl κ)) $ await ! tt $ split ! $
-        move ! (2 ∷ 0 ∷ []) $ fjoin ! $ now ! $ keep ! (0 ∷ 1 ∷ []) $ done !)
+        move ! (2 ∷ 0 ∷ []) $ fjoin ! $ now ! $ keep ! (0 ∷ 1 ∷ []) $ done !

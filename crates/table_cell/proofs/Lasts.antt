@@ -16,8 +16,9 @@ use denote.Param.Laws.{Laws}
 use denote.Struct.Lending.{lent_at_shr_laws}
 use Rattle.core.specs.Sync.RawAtomic.Pointer.{cell, asks_ptr}
 use Rattle.core.proofs.raw_atomic.Asked.{borrowed_ptr, PtrLies}
+use Rattle.table_cell.specs.Beside.{in_cell}
 use Rattle.table_cell.specs.Words.{tested, named}
-use Rattle.table_cell.specs.Latest.{named_so, last, Shown}
+use Rattle.table_cell.specs.Latest.{named_so, last}
 use Rattle.table_cell.proofs.Moves as moves
 
 module _ {M : Type 1} {𝓤 : Ura M} (𝓛 : Logic 𝓤) (R : RattleType) (L : Laws R) (h : ℕ) where
@@ -52,7 +53,7 @@ module _ {M : Type 1} {𝓤 : Ura M} (𝓛 : Logic 𝓤) (R : RattleType) (L : L
 
     module _ (α : Lft) (b o : ℕ) (s : Share) where
       abbrev J : Fml
-      J = Shown R h Q b o
+      J = in_cell Last b o
 
       abbrev at_word : Ptr → Fml
       at_word p = fsep (cell b o p) (Last p)

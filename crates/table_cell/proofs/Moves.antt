@@ -40,7 +40,8 @@ use Rattle.core.specs.Sync.RawAtomic.Pointer.{cell, alike, asks_ptr, compares}
 use Rattle.core.proofs.raw_atomic.Asked.{borrowed_ptr, borrowed_compares, PtrLies, Compared, alike_null}
 use Rattle.std.specs.Coded.{coded_option}
 use Rattle.table_cell.specs.Notes.{Agrees, code, free, fixed, learnt}
-use Rattle.table_cell.specs.Words.{is_so, Loan, testable, tested, view, named, freeable, right, blank, fixes, held, kept, Held}
+use Rattle.table_cell.specs.Beside.{in_cell}
+use Rattle.table_cell.specs.Words.{is_so, Loan, testable, tested, view, named, freeable, right, blank, fixes, held, kept}
 
 abbrev IsOff : Bool → Type 0
 IsOff true = ⊥
@@ -210,7 +211,7 @@ module _ {M : Type 1} {𝓤 : Ura M} (𝓛 : Logic 𝓤) (R : RattleType) (L : L
 
       module _ (α : Lft) (b o : ℕ) (s : Share) where
         abbrev J : Fml
-        J = Held R k h i y v Q b o
+        J = in_cell Kept b o
 
         abbrev at_word : Ptr → Fml
         at_word p = fsep (cell b o p) (Kept p)
@@ -231,7 +232,7 @@ module _ {M : Type 1} {𝓤 : Ura M} (𝓛 : Logic 𝓤) (R : RattleType) (L : L
         new = block_ptr nb no
 
         abbrev Word : Fml
-        Word = Held R k h i y v Q b o
+        Word = in_cell Kept b o
 
         abbrev in_word : Ptr → Fml
         in_word p = fsep (cell b o p) (Kept p)

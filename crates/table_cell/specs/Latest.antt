@@ -5,7 +5,6 @@ use base.Stored.{Coded, coded_ℕ, coded_via}
 use base.Fml.{Fml, ftrue, fsep, fex}
 use denote.RattleType.{RattleType}
 use denote.RawPtr.{Ptr, block_ptr, null_ptr}
-use Rattle.core.specs.Sync.RawAtomic.Pointer.{cell}
 use Rattle.table_cell.specs.Words.{is_so, testable, named}
 
 -- a latest word: the home of the blocks that it names
@@ -24,10 +23,3 @@ module _ (R : RattleType) (h : ℕ) (Q : R.Denot → Type 0) where
   abbrev pub last : Ptr → Fml
   last null_ptr = ftrue
   last (block_ptr b o) = fsep (testable (block_ptr b o)) (fex R.Denot (named_so (block_ptr b o)))
-
-  -- a latest word, by what its address is found in: the fields of a struct, or memory at (b, o)
-  abbrev pub shown_beside : (Ptr → Fml) → Fml
-  shown_beside found_in = fex Ptr (λ p. fsep (found_in p) (last p))
-
-  abbrev pub Shown : ℕ → ℕ → Fml
-  Shown b o = shown_beside (cell b o)

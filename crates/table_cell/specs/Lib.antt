@@ -1,3 +1,4 @@
+pub mod Beside
 pub mod Contents
 pub mod Latest
 pub mod Notes

@@ -1,18 +1,13 @@
--- What a word owns, and what a `&` to it holds. h is the lifetime of the home, for which blocks are lent, k the right to
+-- What a word owns: what stands beside its address. h is the lifetime of the home, for which blocks are lent, k the right to
 -- free a block. What a contract sees of a word is its `WordView`.
 -- None of it names the lifetime of a `&` to the word, so it is the same whether the word is shared or not.
-use Rattle.std.specs.Prelude.{◌≡◌, ℕ, ◌+◌, [], ◌∷◌, Bool, true, false, Option, Some, None}
+use Rattle.std.specs.Prelude.{◌≡◌, ℕ, [], ◌∷◌, Bool, true, false, Option, Some, None}
 use base.Stored.{Coded, coded×, coded_ℕ, coded_bool, coded_via}
-use base.Fml.{Lft, Share, Fml, ftrue, ffalse, fsep, fex, flft, flent, fbor}
+use base.Fml.{Share, Fml, ftrue, fsep, fex, flft, flent}
 use mir.Syntax.{Ty}
 use denote.RattleType.{RattleType}
-use denote.Memory.{shared_of}
 use denote.RawPtr.{Ptr, block_ptr, null_ptr, Testable}
-use denote.Sharing.{said, beside, some, ends, always}
 use denote.Struct.Lending.{lent_at}
-use Rattle.core.specs.Sync.Atomic.Pointer.{atomic_ptr_holding}
-use Rattle.core.specs.Sync.RawAtomic.Pointer.{cell}
-use Rattle.core.specs.contracts.atomic.ptr.AtomicPtr.{the_row}
 use Rattle.std_alloc.specs.Box.Ownership.{box_owns}
 use Rattle.table_cell.specs.Notes.{Agrees, free, fixed}
 
@@ -57,13 +52,6 @@ testable p = is_so (Testable p)
 abbrev pub tested : {X : Type 0} → Option X → Ptr → Fml
 tested None p = testable p
 tested (Some x) p = ftrue
-
--- a `&` to what lies at an address and begins with a pointer: between any two steps it is whole
-abbrev pub behind : RattleType → (ℕ → ℕ → Fml) → Ptr → Lft → Fml
-behind R whole (block_ptr b o) =
-    beside (some Lft (λ α. beside (ends α) (always (fbor α (whole b (o + 0))))))
-    (shared_of (the_row R) (atomic_ptr_holding null_ptr) b (o + 0))
-behind R whole null_ptr = said ffalse
 
 -- how a set word was lent its value: the value, the lifetime that the setter can end, and what is here of its token
 abbrev pub Loan : RattleType → Type 0
@@ -110,14 +98,3 @@ module _ (R : RattleType) (k : Ty → Ptr → Fml) where
       kept null_ptr = fex (v ≡ None) (λ _. blank R i v)
       kept (block_ptr b o) =
           fsep (tested v (block_ptr b o)) (fex (Loan R) (held (block_ptr b o)))
-
-      -- a word, by what its address is found in: the fields of a struct, or memory at (b, o)
-      abbrev pub with_address : (Ptr → Fml) → Fml
-      with_address found_in = fex Ptr (λ p. fsep (found_in p) (kept p))
-
-      abbrev pub Held : ℕ → ℕ → Fml
-      Held b o = with_address (cell b o)
-
-      -- a `&` to the word
-      abbrev pub behind_ref : Ptr → Lft → Fml
-      behind_ref = behind R Held

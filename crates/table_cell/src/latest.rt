@@ -1,8 +1,8 @@
 //! A word that is set again and again.
 ghost use Rattle.std.specs.Prelude.{◌≡◌, None, IfSome};
 ghost use Rattle.std.specs.Sync.Atomic.Pointer.{atomic_ptr_holding};
-ghost use Rattle.table_cell.specs.Words.{behind};
-ghost use Rattle.table_cell.specs.Latest.{LatestView, latest_coded, Shown, shown_beside};
+ghost use Rattle.table_cell.specs.Beside.{addressed, behind};
+ghost use Rattle.table_cell.specs.Latest.{LatestView, latest_coded, last};
 
 use crate::home::{Home, Homed};
 use crate::name::Name;
@@ -26,11 +26,11 @@ impl<T: Homed, A: Allocator> Owns for Latest<T, A> {
 
     ghost coded = { latest_coded };
 
-    ghost shr_at = { λ l p κ. behind T.row (Shown T.row l.home (λ x. T.fits x l.home)) p κ };
+    ghost shr_at = { λ l p κ. behind T.row (last T.row l.home (λ x. T.fits x l.home)) p κ };
 }
 
 impl<T: Homed, A: Allocator> Move for Latest<T, A> {
-    ghost own_val = { λ l vs. shown_beside T.row l.home (λ x. T.fits x l.home) (λ p. Fields.own_val (record { inner = atomic_ptr_holding p; marker = record {} }) vs) };
+    ghost own_val = { λ l vs. addressed (last T.row l.home (λ x. T.fits x l.home)) (λ p. Fields.own_val (record { inner = atomic_ptr_holding p; marker = record {} }) vs) };
 }
 
 impl<T: Homed, A: Allocator> Latest<T, A> {

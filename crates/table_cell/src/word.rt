@@ -3,7 +3,8 @@ ghost use Rattle.std.specs.Prelude.{◌≡◌, true, false, Some, None, IsSome, 
 ghost use Rattle.std.specs.Coded.{coded_option};
 ghost use Rattle.std.specs.Sync.Atomic.Pointer.{atomic_ptr_holding};
 ghost use Rattle.table_cell.specs.Notes.{Agrees};
-ghost use Rattle.table_cell.specs.Words.{WordView, word_view, view_coded, Shows, with_address, behind_ref};
+ghost use Rattle.table_cell.specs.Beside.{addressed, behind};
+ghost use Rattle.table_cell.specs.Words.{WordView, word_view, view_coded, Shows, kept};
 
 use crate::home::{Closed, Home, Homed};
 use crate::loose_block::LooseBlock;
@@ -29,11 +30,11 @@ impl<T: Homed, A: Allocator> Owns for Word<T, A> {
 
     ghost coded = { view_coded A.code (coded_option T.code) };
 
-    ghost shr_at = { λ w p κ. behind_ref T.row (A.dealloc_token w.from) w.home w.id w.owning w.value (Shows T.fits w) p κ };
+    ghost shr_at = { λ w p κ. behind T.row (kept T.row (A.dealloc_token w.from) w.home w.id w.owning w.value (Shows T.fits w)) p κ };
 }
 
 impl<T: Homed, A: Allocator> Move for Word<T, A> {
-    ghost own_val = { λ w vs. with_address T.row (A.dealloc_token w.from) w.home w.id w.owning w.value (Shows T.fits w) (λ p. Fields.own_val (record { inner = atomic_ptr_holding p; marker = record {} }) vs) };
+    ghost own_val = { λ w vs. addressed (kept T.row (A.dealloc_token w.from) w.home w.id w.owning w.value (Shows T.fits w)) (λ p. Fields.own_val (record { inner = atomic_ptr_holding p; marker = record {} }) vs) };
 }
 
 impl<T: Homed, A: Allocator> Word<T, A> {

@@ -27,6 +27,10 @@ pub record LineageView (A T : Type 0) : Type 0 where
   pub home : ℕ
   pub shared : List (List (Option (Entry T)))
 
+-- of generations that show this, the last has no bucket
+abbrev pub LastIsBare : {T : Type 0} → List (List (Option (Entry T))) → Type 0
+LastIsBare {T} shown = (earlier : List (List (Option (Entry T)))) × (shown ≡ earlier ++ [] ∷ [])
+
 module _ {A T : Type 0} where
   -- generation by generation, what each bucket shows
   abbrev pub shown_in : List (GenerationView A T) → GenerationView A T → List (List (Option (Entry T)))

@@ -1,9 +1,9 @@
 //! The generations of a shared table in their order.
-ghost use Rattle.std.specs.Prelude.{◌≡◌, IfOk, IfSome, length, vec_capacity};
+ghost use Rattle.std.specs.Prelude.{◌≡◌, IfOk, IfSome, IfNone, length, vec_capacity};
 ghost use Rattle.std.specs.Int.{IsPowerOfTwo};
 ghost use Rattle.table_cell.specs.Contents.{vacant};
 ghost use Rattle.table_generations.specs.Generations.{GenerationView};
-ghost use Rattle.table_shared.specs.Lineages.{AreOfHome, AreRoomy, IsOpen, lineage_of};
+ghost use Rattle.table_shared.specs.Lineages.{AreOfHome, AreRoomy, IsOpen, LastIsBare, lineage_of};
 
 pub(crate) mod later;
 
@@ -93,6 +93,7 @@ impl<T: AtomicValue, A: Allocator + Copy> Lineage<T, A> {
 
     /// The last of the generations that the table had when it was shared, if it had one with a bucket.
     pub(crate) fn last_held(&self) -> Option<&Generation<T, A>>
+        ensures none { IfNone result (LastIsBare self.now.shared) }
         ensures home { IfSome result (λ g. g.now.home ≡ self.now.home) }
         ensures power { IfSome result (λ g. IsPowerOfTwo (length g.now.contents)) }
     {

@@ -1,11 +1,11 @@
 //! The table that threads share.
-ghost use Rattle.std.specs.Prelude.{◌≡◌, ◌<◌, ◌↔◌, ◌⊎◌, IfSome, IsTrue, [], ◌∷◌, length};
+ghost use Rattle.std.specs.Prelude.{◌≡◌, ◌<◌, ◌↔◌, ◌⊎◌, IfSome, IfNone, IsTrue, [], ◌∷◌, length};
 ghost use Rattle.std.specs.Int.{IsPowerOfTwo};
 ghost use Rattle.table_terms.specs.Capacities.{IsFirstCapacity};
 ghost use Rattle.table_core.specs.declared.call.Phase.TheVariants.{Shared, LookLoad};
 ghost use Rattle.table_turns.specs.Steps.{Went};
 ghost use Rattle.table_shared.specs.Between.{Loads};
-ghost use Rattle.table_shared.specs.Lineages.{AreOfHome, shown_in};
+ghost use Rattle.table_shared.specs.Lineages.{AreOfHome, LastIsBare, shown_in};
 
 use crate::apart::Apart;
 use crate::lineage::Lineage;
@@ -135,8 +135,10 @@ impl<T: AtomicValue, A: Allocator + Copy> LockFreeRawTable<T, A> {
         &self.home
     }
 
-    /// The generation that is current now, if there is one. It takes no lock and no memory.
+    /// The generation that is current now, if there is one. A table that was shared with buckets has one always. It takes no lock
+    /// and no memory.
     pub fn current(&self) -> Option<Current<'_, T, A>>
+        ensures none { IfNone result (LastIsBare self.now.shared) }
         ensures home { IfSome result (λ c. c.generation.now.home ≡ self.now.home) }
         ensures power { IfSome result (λ c. IsPowerOfTwo (length c.generation.now.contents)) }
     {

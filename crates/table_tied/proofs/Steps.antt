@@ -28,9 +28,10 @@ use Rattle.core.specs.Sync.RawAtomic.Pointer.{cell, alike, asks_ptr, compares, a
 use Rattle.core.proofs.raw_atomic.Asked.{borrowed_ptr_with, PtrLiesWith, alike_null}
 use Rattle.logbook.specs.Pages.{Book}
 use Rattle.logbook.specs.Kept.{part, Rules}
+use Rattle.table_cell.specs.Beside.{in_cell}
 use Rattle.table_cell.specs.Words.{is_so, testable, Loan, view, freeable, right}
 use Rattle.table_cell.proofs.Moves.{mine, comes_home}
-use Rattle.table_tied.specs.Tied.{Lasting, Looks, Sets, freeable_low, stood, stood_at, held, kept, counted, Held}
+use Rattle.table_tied.specs.Tied.{Lasting, Looks, Sets, freeable_low, stood, stood_at, held, kept, counted}
 use Rattle.table_tied.proofs.Books as books
 
 -- what lies beside one of two lies beside each
@@ -175,7 +176,7 @@ module _ {M : Type 1} {𝓤 : Ura M} (𝓛 : Logic 𝓤) {E : Type 0} (cv : Code
     -- ---- one step of a shared word
     module _ (α : Lft) (b o : ℕ) (s : Share) (i : ℕ) (past : bk.number < i) (lasting : Lasting stands) where
       abbrev Word : Fml
-      Word = Held cv.code R k h y stands bk key b o
+      Word = in_cell Counted b o
 
       abbrev At : Ptr → Fml
       At p = fsep (cell b o p) (Counted p)

@@ -12,10 +12,10 @@ use denote.RattleType.{RattleType}
 use denote.Memory.{shared_of}
 use denote.RawPtr.{Ptr, block_ptr, null_ptr}
 use Rattle.core.specs.Sync.Atomic.Pointer.{atomic_ptr_holding}
-use Rattle.core.specs.Sync.RawAtomic.Pointer.{cell}
 use Rattle.core.specs.contracts.atomic.ptr.AtomicPtr.{the_row}
-use Rattle.logbook.specs.Pages.{Cell, Book, book_coded, Nib, may_make, may_make_home, cell as cell_of}
+use Rattle.logbook.specs.Pages.{Cell, Book, book_coded, Nib, may_make, may_make_home, cell}
 use Rattle.logbook.specs.Kept.{part, reached}
+use Rattle.table_cell.specs.Beside.{in_cell}
 use Rattle.table_cell.specs.Words.{is_so, testable, Loan, view, named, freeable, right}
 
 -- a word: the allocator and the home of its block, whether it owns the block, its book, and its key there
@@ -52,7 +52,7 @@ module _ {E : Type 0} (holds : List Cell → List E → Type 0) where
   -- The cell is there, and at home, in whatever book keeps the rule and has reached `seen`; and where it holds v, `then` is so
   abbrev pub AtHome : ℕ → List E → ℕ → (List Cell → List E → Type 0) → Type 0
   AtHome key seen v then = (cs : List Cell) (log : List E) → holds cs log → IsPrefix seen log
-      → (key < length cs) × ((cell_of cs key).1 ≡ true) × ((cell_of cs key).0 ≡ v → then cs log)
+      → (key < length cs) × ((cell cs key).1 ≡ true) × ((cell cs key).0 ≡ v → then cs log)
 
   -- where the word is null, `null` is so of the log
   abbrev pub Looks : (ℕ → List E → List E → Type 0) → ℕ → List E → Type 0
@@ -99,16 +99,9 @@ module _ {E : Type 0} (c : E → Gv) (R : RattleType) (k : Ty → Ptr → Fml) (
   abbrev pub counted : Ptr → Fml
   counted p = fsep (part bk.cells_name key quarter (number p)) (kept p)
 
-  -- a word, by what its address is found in: the fields of a struct, or memory at (b, o)
-  abbrev pub with_address : (Ptr → Fml) → Fml
-  with_address found_in = fex Ptr (λ p. fsep (found_in p) (counted p))
-
-  abbrev pub Held : ℕ → ℕ → Fml
-  Held b o = with_address (cell b o)
-
   -- between any two steps the word is whole, under an invariant whose number is past that of the book's
   abbrev pub past_book : ℕ → ℕ → Lft → Lft × ℕ → Fml
-  past_book b o κ t = fsep (fsep (before κ t.0) (is_so (bk.number < t.1))) (fnamed t.1 (fbor t.0 (Held b o)))
+  past_book b o κ t = fsep (fsep (before κ t.0) (is_so (bk.number < t.1))) (fnamed t.1 (fbor t.0 (in_cell counted b o)))
 
   abbrev pub shared : ℕ → ℕ → Lft → Fml
   shared b o κ = fex (Lft × ℕ) (past_book b o κ)

@@ -4,7 +4,8 @@ ghost use Rattle.std.specs.Box.{box_allocator};
 ghost use Rattle.std.specs.Sync.Atomic.Pointer.{atomic_ptr_holding};
 ghost use mathlib.Core.List.{IsPrefix};
 ghost use Rattle.logbook.specs.Pages.{may_make_home, no_nib, inked};
-ghost use Rattle.table_tied.specs.Tied.{TiedView, tied_view, view_coded, MayMake, Lasting, Sets, Looks, with_address, behind_ref};
+ghost use Rattle.table_cell.specs.Beside.{addressed};
+ghost use Rattle.table_tied.specs.Tied.{TiedView, tied_view, view_coded, MayMake, Lasting, Sets, Looks, counted, behind_ref};
 
 use crate::block_name::BlockName;
 use crate::low_block::LowBlock;
@@ -36,7 +37,7 @@ impl<T: Stands<E>, A: Allocator, E, P: Rule<E, u64>> Owns for TiedWord<T, A, E, 
 }
 
 impl<T: Stands<E>, A: Allocator, E, P: Rule<E, u64>> Move for TiedWord<T, A, E, P> {
-    ghost own_val = { λ w vs. with_address E.row.coded.code T.row (A.dealloc_token w.from) w.home w.owning T.stands w.book w.key (λ p. Fields.own_val (record { inner = atomic_ptr_holding p; marker = record {} }) vs) };
+    ghost own_val = { λ w vs. addressed (counted E.row.coded.code T.row (A.dealloc_token w.from) w.home w.owning T.stands w.book w.key) (λ p. Fields.own_val (record { inner = atomic_ptr_holding p; marker = record {} }) vs) };
 }
 
 impl<T: Stands<E>, A: Allocator, E, P: Rule<E, u64>> TiedWord<T, A, E, P> {

@@ -1,5 +1,5 @@
 //! A generation whose buckets threads set through `&`.
-ghost use Rattle.std.specs.Prelude.{◌≡◌, ◌*◌, ◌<◌, length, option_copied, option_map, slice_index_or, IsTrue, IfSome, IfNone, ◌⊎◌, ◌^◌, ◌≤◌, IfOk, IfErr, None, Some};
+ghost use Rattle.std.specs.Prelude.{◌≡◌, ◌*◌, ◌<◌, length, option_copied, option_map, slice_index_or, IsTrue, ◌↔◌, IfSome, IfNone, ◌⊎◌, ◌^◌, ◌≤◌, IfOk, IfErr, None, Some};
 ghost use Rattle.std.specs.Int.{IsPowerOfTwo};
 ghost use Rattle.table_cell.specs.Contents.{word_naming, shown, vacant, entry_from, Keeps, Misses};
 ghost use Rattle.table_generations.specs.Buckets.{content_at};
@@ -63,7 +63,8 @@ fn look_at_bucket<'a, T: AtomicValue, A: Allocator + Copy>(
 impl<T: AtomicValue, A: Allocator + Copy> Generation<T, A> {
     /// Whether there is a bucket: then they are a power of two.
     pub fn has_buckets(&self) -> bool
-        ensures { IsTrue result → IsPowerOfTwo (length self.now.contents) }
+        ensures some { IsTrue result ↔ (0 < length self.now.contents) }
+        ensures power { IsTrue result → IsPowerOfTwo (length self.now.contents) }
     {
         self.row.len() != 0
     }
