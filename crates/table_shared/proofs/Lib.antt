@@ -10,3 +10,5 @@ mod Looked
 mod Missed
 pub mod Settled
 mod Walked
+mod Doubled
+mod Numbered

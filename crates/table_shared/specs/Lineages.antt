@@ -1,5 +1,5 @@
 -- The generations of a shared table in their order.
-use Rattle.std.specs.Prelude.{◌≡◌, ℕ, ◌≤◌, ◌++◌, true, List, [], ◌∷◌, All, Option, None, length, map}
+use Rattle.std.specs.Prelude.{◌≡◌, ℕ, ◌+◌, ◌*◌, ◌^◌, ◌<◌, ◌≤◌, ◌++◌, true, List, [], ◌∷◌, All, Option, None, length, map}
 use Rattle.table_cell.specs.Words.{WordView}
 use Rattle.table_cell.specs.declared.bucket.Entry.{Entry}
 use Rattle.table_generations.specs.Buckets.{shown_all}
@@ -30,6 +30,18 @@ pub record LineageView (A T : Type 0) : Type 0 where
 -- of generations that show this, the last has no bucket
 abbrev pub LastIsBare : {T : Type 0} → List (List (Option (Entry T))) → Type 0
 LastIsBare {T} shown = (earlier : List (List (Option (Entry T)))) × (shown ≡ earlier ++ [] ∷ [])
+
+-- where the generations of a table showed this when it was shared, one of n buckets has this number: the first is 0, and each
+-- has twice the buckets of the one before
+pub record IsNumber {T : Type 0} (first : ℕ) (shown : List (List (Option (Entry T)))) (n number : ℕ) : Type 0 where
+  pub earlier : List (List (Option (Entry T)))
+  pub last : List (Option (Entry T))
+  pub are : shown ≡ earlier ++ last ∷ []
+  -- with no bucket there, the first capacity was doubled so often
+  pub from_first : length last ≡ 0 → first ≤ n → n ≡ first * 2 ^ number
+  -- otherwise the last of them was, and the number is past its own by that
+  pub from_last : 0 < length last → length last ≤ n
+      → (k : ℕ) × (n ≡ length last * 2 ^ k) × (number ≡ length earlier + k)
 
 module _ {A T : Type 0} where
   -- generation by generation, what each bucket shows

@@ -1,9 +1,9 @@
 //! The generations of a shared table in their order.
-ghost use Rattle.std.specs.Prelude.{◌≡◌, IfOk, IfSome, IfNone, length, vec_capacity};
+ghost use Rattle.std.specs.Prelude.{◌≡◌, ◌*◌, ◌^◌, ◌≤◌, IfOk, IfSome, IfNone, length, vec_capacity};
 ghost use Rattle.std.specs.Int.{IsPowerOfTwo};
 ghost use Rattle.table_cell.specs.Contents.{vacant};
 ghost use Rattle.table_generations.specs.Generations.{GenerationView};
-ghost use Rattle.table_shared.specs.Lineages.{AreOfHome, AreRoomy, IsOpen, LastIsBare, lineage_of};
+ghost use Rattle.table_shared.specs.Lineages.{AreOfHome, AreRoomy, IsOpen, IsNumber, LastIsBare, lineage_of};
 
 pub(crate) mod later;
 
@@ -34,6 +34,14 @@ impl<T: AtomicValue, A: Allocator + Copy> Model for Lineage<T, A> {
     ghost view = { λ l. lineage_of l.alloc l.earlier.items l.base };
 
     ghost invariant = { λ l. IsLineage l.alloc l.earlier.items l.base l.later };
+}
+
+/// How often a capacity is to be doubled for another one, which is as large or larger. Both are powers of two.
+fn doublings(small: usize, large: usize) -> u32
+    requires powers { IsPowerOfTwo small × IsPowerOfTwo large }
+    ensures { small ≤ large → large ≡ small * 2 ^ result }
+{
+    large.ilog2().saturating_sub(small.ilog2())
 }
 
 impl<T: AtomicValue, A: Allocator + Copy> Lineage<T, A> {
@@ -80,15 +88,16 @@ impl<T: AtomicValue, A: Allocator + Copy> Lineage<T, A> {
     /// The number of the generation of so many buckets. The first is 0, and each has twice as many as the one before, so the
     /// capacity tells it: a second load could be of another generation.
     #[inline(always)]
-    pub(crate) fn number_of(&self, first_capacity: usize, capacity: usize) -> u64 {
-        let (known, number) = match self.base.capacity() {
-            0 => (first_capacity, 0),
-            base => (base, self.earlier.len()),
+    pub(crate) fn number_of(&self, first_capacity: usize, capacity: usize) -> u64
+        requires powers { IsPowerOfTwo first_capacity × IsPowerOfTwo capacity }
+        ensures { IsNumber first_capacity self.now.shared capacity result }
+    {
+        let (known, number) = if self.base.has_buckets() {
+            (self.base.capacity(), self.earlier.len())
+        } else {
+            (first_capacity, 0)
         };
-        let doubled = known
-            .leading_zeros()
-            .saturating_sub(capacity.leading_zeros());
-        (number as u64).saturating_add(u64::from(doubled))
+        number as u64 + u64::from(doublings(known, capacity))
     }
 
     /// The last of the generations that the table had when it was shared, if it had one with a bucket.

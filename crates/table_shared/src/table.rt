@@ -5,7 +5,7 @@ ghost use Rattle.table_terms.specs.Capacities.{IsFirstCapacity};
 ghost use Rattle.table_core.specs.declared.call.Phase.TheVariants.{Shared, LookLoad};
 ghost use Rattle.table_turns.specs.Steps.{Went};
 ghost use Rattle.table_shared.specs.Between.{Loads};
-ghost use Rattle.table_shared.specs.Lineages.{AreOfHome, LastIsBare, shown_in};
+ghost use Rattle.table_shared.specs.Lineages.{AreOfHome, IsNumber, LastIsBare, shown_in};
 
 use crate::apart::Apart;
 use crate::lineage::Lineage;
@@ -141,6 +141,8 @@ impl<T: AtomicValue, A: Allocator + Copy> LockFreeRawTable<T, A> {
         ensures none { IfNone result (LastIsBare self.now.shared) }
         ensures home { IfSome result (λ c. c.generation.now.home ≡ self.now.home) }
         ensures power { IfSome result (λ c. IsPowerOfTwo (length c.generation.now.contents)) }
+        ensures number { IfSome result (λ c. IsNumber self.now.first_capacity self.now.shared
+            (length c.generation.now.contents) c.number) }
     {
         if let Some(generation) = self.shown.latest(&self.home) {
             return Some(self.numbered(generation));
@@ -151,7 +153,10 @@ impl<T: AtomicValue, A: Allocator + Copy> LockFreeRawTable<T, A> {
     /// A generation of this table, with its number.
     #[inline(always)]
     fn numbered<'a>(&'a self, generation: &'a Generation<T, A>) -> Current<'a, T, A>
-        ensures { result.generation.now ≡ generation.now }
+        requires power { IsPowerOfTwo (length generation.now.contents) }
+        ensures same { result.generation.now ≡ generation.now }
+        ensures number { IsNumber self.now.first_capacity self.now.shared
+            (length generation.now.contents) result.number }
     {
         Current {
             number: self
