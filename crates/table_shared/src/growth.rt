@@ -1,6 +1,8 @@
 //! The next generation of a shared table while it is made.
-ghost use Rattle.std.specs.Prelude.{◌≡◌, IfOk};
+ghost use Rattle.std.specs.Prelude.{◌≡◌, IfOk, length};
+ghost use Rattle.std.specs.Box.{box_allocator};
 ghost use Rattle.std.specs.Fn.{FnReturnsAt};
+ghost use Rattle.std.specs.Int.{IsPowerOfTwo};
 ghost use Rattle.table_shared.specs.Lineages.{IsOpen};
 ghost use Rattle.table_shared.specs.Growths.{IsFresh, AreNamed, CopiesNext, PassedAll, growth_of};
 
@@ -91,6 +93,23 @@ impl<'a, T: AtomicValue, A: Allocator + Copy> Growth<'a, T, A> {
         }
         false
     }
+
+    /// The generation that was made, in its block, with the word that is to show it.
+    fn into_block(self) -> (Slot<'a, T, A>, Box<Generation<T, A>, A>)
+        ensures built { result.1.value.contents ≡ self.entry.built }
+        ensures fits { (result.1.value.home ≡ self.entry.home) × IsPowerOfTwo (length result.1.value.contents) }
+        ensures open { IsOpen self.entry.home result.0.alloc result.0.word.now }
+        ensures from { box_allocator result.1 ≡ result.0.alloc }
+    {
+        let Growth {
+            built,
+            slot,
+            mut block,
+            ..
+        } = self;
+        drop(Box::replace(&mut block, built));
+        (slot, block)
+    }
 }
 
 impl<'a, T: AtomicValue, A: Low + Copy> Growth<'a, T, A> {
@@ -99,14 +118,8 @@ impl<'a, T: AtomicValue, A: Low + Copy> Growth<'a, T, A> {
         requires whole { PassedAll self }
         requires home { shown.now.home ≡ self.home }
     {
-        let Growth {
-            home,
-            built,
-            slot,
-            mut block,
-            ..
-        } = self;
-        drop(Box::replace(&mut block, built));
+        let home = self.home;
+        let (slot, block) = self.into_block();
         let seen = show_block(slot.word, home, slot.alloc, block);
         shown.show(slot.word, &seen);
     }
