@@ -17,6 +17,7 @@ import subprocess
 import sys
 import tempfile
 
+sys.dont_write_bytecode = True
 import unproved
 
 MEMCHECK = ["valgrind", "-q", "--error-exitcode=9", "--leak-check=full"]
