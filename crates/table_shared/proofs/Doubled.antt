@@ -1,5 +1,5 @@
 -- Capacities that are doubled again and again.
---     doublings_make      so often as their digits say
+--     doublings_make      as often as the places of their highest digits differ
 use Rattle.std.proofs.Common.{◌≡◌, ℕ, ◌+◌, ◌-◌, ◌*◌, ◌^◌, ◌<◌, ◌≤◌, ◌⊎◌, inl, inr, refl, ap, ◌∙◌, arith}
 use Rattle.std.specs.Int.{IsPowerOfTwo}
 use Rattle.std.proofs.lemmas.Bool.{cases_lt}

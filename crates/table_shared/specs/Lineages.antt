@@ -31,15 +31,16 @@ pub record LineageView (A T : Type 0) : Type 0 where
 abbrev pub LastIsBare : {T : Type 0} → List (List (Option (Entry T))) → Type 0
 LastIsBare {T} shown = (earlier : List (List (Option (Entry T)))) × (shown ≡ earlier ++ [] ∷ [])
 
--- where the generations of a table showed this when it was shared, one of n buckets has this number: the first is 0, and each
--- has twice the buckets of the one before
+-- where the generations of a table showed this when it was shared, a generation of n buckets has this number: the first is 0, and
+-- each has twice the buckets of the one before. Nothing is said of one with fewer buckets than the last of those, or than the
+-- first capacity where that has none
 pub record IsNumber {T : Type 0} (first : ℕ) (shown : List (List (Option (Entry T)))) (n number : ℕ) : Type 0 where
   pub earlier : List (List (Option (Entry T)))
   pub last : List (Option (Entry T))
   pub are : shown ≡ earlier ++ last ∷ []
-  -- with no bucket there, the first capacity was doubled so often
+  -- where the last of them has no bucket, the first capacity was doubled so often
   pub from_first : length last ≡ 0 → first ≤ n → n ≡ first * 2 ^ number
-  -- otherwise the last of them was, and the number is past its own by that
+  -- otherwise its buckets were doubled k times, and as many generations as stood before it come to that
   pub from_last : 0 < length last → length last ≤ n
       → (k : ℕ) × (n ≡ length last * 2 ^ k) × (number ≡ length earlier + k)
 

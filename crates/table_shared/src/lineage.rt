@@ -1,8 +1,6 @@
 //! The generations of a shared table in their order.
 ghost use Rattle.std.specs.Prelude.{◌≡◌, ◌*◌, ◌^◌, ◌≤◌, IfOk, IfSome, IfNone, length, vec_capacity};
 ghost use Rattle.std.specs.Int.{IsPowerOfTwo};
-ghost use Rattle.table_cell.specs.Contents.{vacant};
-ghost use Rattle.table_generations.specs.Generations.{GenerationView};
 ghost use Rattle.table_shared.specs.Lineages.{AreOfHome, AreRoomy, IsOpen, IsNumber, LastIsBare, lineage_of};
 
 pub(crate) mod later;

@@ -1,6 +1,7 @@
 //! The table that threads share.
-ghost use Rattle.std.specs.Prelude.{◌≡◌, ◌<◌, ◌↔◌, ◌⊎◌, IfSome, IfNone, IsTrue, [], ◌∷◌, length};
+ghost use Rattle.std.specs.Prelude.{◌≡◌, ◌⊎◌, IfSome, IfNone, [], ◌∷◌, length};
 ghost use Rattle.std.specs.Int.{IsPowerOfTwo};
+ghost use Rattle.std.specs.Option.{ForSome, IsSomeAnd};
 ghost use Rattle.table_terms.specs.Capacities.{IsFirstCapacity};
 ghost use Rattle.table_core.specs.declared.call.Phase.TheVariants.{Shared, LookLoad};
 ghost use Rattle.table_turns.specs.Steps.{Went};
@@ -135,8 +136,8 @@ impl<T: AtomicValue, A: Allocator + Copy> LockFreeRawTable<T, A> {
         &self.home
     }
 
-    /// The generation that is current now, if there is one. A table that was shared with buckets has one always. It takes no lock
-    /// and no memory.
+    /// The generation that is current now, if there is one: always, where the last one had a bucket when the table was shared. It
+    /// takes no lock and no memory.
     pub fn current(&self) -> Option<Current<'_, T, A>>
         ensures none { IfNone result (LastIsBare self.now.shared) }
         ensures home { IfSome result (λ c. c.generation.now.home ≡ self.now.home) }
@@ -171,6 +172,8 @@ impl<T: AtomicValue, A: Allocator + Copy> LockFreeRawTable<T, A> {
         requires phase { (state.phase ≡ Shared) ⊎ (state.phase ≡ LookLoad) }
         ensures went { Went state result.1 result.2 }
         ensures loads { Loads self.now.home state result.0 result.1 }
+        ensures number { ForSome result.0 (λ g. IsSomeAnd result.1.walked (λ n.
+            IsNumber self.now.first_capacity self.now.shared (length g.now.contents) n)) }
     {
         match self.current() {
             None => (
