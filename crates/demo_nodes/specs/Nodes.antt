@@ -2,7 +2,7 @@
 use Rattle.std.specs.Prelude.{ℕ, ◌+◌, ◌*◌, ◌%◌, ◌^◌, ◌==◌, ◌&&◌, Bool}
 use Rattle.std.proofs.Common.{arith}
 use Rattle.std.proofs.lemmas.Grind.{common_steps}
-use Rattle.table_terms.specs.Laws.{IsLaw, number_hash}
+use Rattle.table_terms.specs.Laws.{IsLaw, number_hash, number_hash_small}
 use Rattle.demo_nodes.specs.declared.Shape.{Shape}
 
 -- the same symbol and the same operands
@@ -18,4 +18,4 @@ abbrev pub shape_hash : Shape → ℕ
 shape_hash a = number_hash (mixed (mixed a.symbol a.left) a.right)
 
 pub shape_law : IsLaw same_shape shape_hash
-shape_law = grind (arith, common_steps)
+shape_law = grind (arith, common_steps, number_hash_small)

@@ -7,7 +7,7 @@ ghost use Rattle.table_core.specs.Machine.{number_of, in_range};
 ///
 /// `accepted` is the closure's answer at a set bucket, and `granted` says whether the memory that
 /// was asked for was there. Where nothing was asked they are not looked at.
-#[derive(Clone, Copy)]
+#[derive(Clone, Copy, Debug, PartialEq, Eq)]
 pub enum Event {
     /// Starts an insert of a value with its hash.
     Insert {

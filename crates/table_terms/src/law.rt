@@ -15,11 +15,16 @@ pub trait Law<V> {
     ghost lawful: { IsLaw same hash_of };
 }
 
-/// The hash of a number under `NumberLaw`: a multiple by an odd number, modulo 2^64.
+/// An odd number that hashes multiply by: digits of pi.
+pub const MIXING_FACTOR: u64 = 0xC0AC_29B7_C97C_50DD;
+
+/// Returns the hash of a number under `NumberLaw`. It spreads numbers in a row, and multiples of a power of two, over all 64 bits.
 pub fn hash_number(number: u64) -> u64
     ensures { result ≡ number_hash number }
 {
-    number.wrapping_mul(0x9E37_79B9_7F4A_7C15)
+    let product = (number ^ MIXING_FACTOR) as u128 * MIXING_FACTOR as u128;
+    let lower = product & u64::MAX as u128;
+    lower as u64 ^ (product >> 64) as u64
 }
 
 /// A number is the same as itself alone, and its hash is that of `hash_number`.

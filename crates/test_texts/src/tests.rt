@@ -19,6 +19,15 @@ use tool_text_lines::texts::TextFiles;
 const USAGE: &str =
     "usage: tool_text words [FILE..] | tool_text dedup [FILE..] | tool_text --help\n";
 
+/// What the program says of itself.
+const HELP: &str = "usage: tool_text words [FILE..] | tool_text dedup [FILE..] | tool_text --help
+
+  words  counts the words: for each different word its number, the word and its count
+  dedup  writes each different line once, in the order of first appearance
+
+Without a FILE, or where FILE is -, standard input is read. After -- each word is a FILE.
+";
+
 /// What a run printed, and its status.
 #[derive(Drop)]
 struct Ended {

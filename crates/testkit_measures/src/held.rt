@@ -9,6 +9,44 @@ use std::rt::{Clock, Files};
 use std::time::Instant;
 use std::{fs, io};
 
+/// A power of two: its multiples pile up under a hash whose low bits depend on the low bits of a key alone.
+const STEP: u64 = 1 << 16;
+
+/// A row of keys: 0, 1, 2, .. times a step.
+#[derive(Clone, Copy)]
+pub(crate) enum Row {
+    /// The keys 0, 1, 2, ..
+    InOrder,
+    /// The multiples of `STEP`.
+    InSteps,
+}
+
+impl Row {
+    /// Returns the step from a key to the next one.
+    fn step(self) -> u64 {
+        match self {
+            Row::InOrder => 1,
+            Row::InSteps => STEP,
+        }
+    }
+
+    /// Returns what its inserts are named.
+    fn inserts(self) -> &'static str {
+        match self {
+            Row::InOrder => "seq_ins1",
+            Row::InSteps => "step_ins1",
+        }
+    }
+
+    /// Returns what its hits are named.
+    fn hits(self) -> &'static str {
+        match self {
+            Row::InOrder => "seq_hit1",
+            Row::InSteps => "step_hit1",
+        }
+    }
+}
+
 /// The bytes of a page of memory.
 const PAGE: u64 = 4096;
 
@@ -19,7 +57,8 @@ pub fn measure_held<
 >(rt: &R, report: &Report<'_>, group: &str) -> io::Result<()> {
     match group {
         "one" => measure_one(rt, report, &mut S::empty(rt.alloc())?),
-        "seq" => measure_seq(rt, report, &mut S::empty(rt.alloc())?),
+        "seq" => measure_row(rt, report, Row::InOrder, &mut S::empty(rt.alloc())?),
+        "step" => measure_row(rt, report, Row::InSteps, &mut S::empty(rt.alloc())?),
         _ => measure_sizes::<S, R>(rt, report, group, rt.alloc()),
     }
 }
@@ -50,19 +89,22 @@ pub(crate) fn measure_one<R: Print + Clock + Files + AllocGlobal, S: KeySet>(
     report.time(rt, "c_miss1", start, found, 0, COUNT)
 }
 
-/// The keys 0, 1, 2, .. in an empty set: inserts and hits.
-pub(crate) fn measure_seq<R: Print + Clock, S: KeySet>(
+/// Measures a row of keys in an empty set: inserts and hits.
+pub(crate) fn measure_row<R: Print + Clock, S: KeySet>(
     rt: &R,
     report: &Report<'_>,
+    row: Row,
     set: &mut S,
 ) -> io::Result<()> {
-    let start = Instant::now(rt)?;
-    let placed = insert_in_order(set);
-    report.time(rt, "seq_ins1", start, placed, COUNT, COUNT)?;
+    let step = row.step();
 
     let start = Instant::now(rt)?;
-    let hits = count_in_order(set);
-    report.time(rt, "seq_hit1", start, hits, COUNT, COUNT)
+    let placed = insert_row(set, step);
+    report.time(rt, row.inserts(), start, placed, COUNT, COUNT)?;
+
+    let start = Instant::now(rt)?;
+    let found = count_row(set, step);
+    report.time(rt, row.hits(), start, found, COUNT, COUNT)
 }
 
 /// Each workload once on a set that one owner holds alone, counted and not timed.
@@ -74,10 +116,11 @@ pub fn check_held<S: KeySet + Empty<Means = Global> + Drop, R: Print + AllocGlob
     let misses = COUNT.saturating_sub(found);
     println!(rt; "{name} spread: {placed} placed, {hits} hits, {misses} misses")?;
 
-    let mut set = S::empty(rt.alloc())?;
-    let placed = insert_in_order(&mut set);
-    let hits = count_in_order(&mut set);
-    println!(rt; "{name} in order: {placed} placed, {hits} hits")
+    let (placed, hits) = count_in_row(&mut S::empty(rt.alloc())?, 1);
+    println!(rt; "{name} in order: {placed} placed, {hits} hits")?;
+
+    let (placed, hits) = count_in_row(&mut S::empty(rt.alloc())?, STEP);
+    println!(rt; "{name} in steps of {STEP}: {placed} placed, {hits} hits")
 }
 
 /// How many of the spread keys were placed in an empty set, how many of them are entries then, and how many absent ones.
@@ -97,11 +140,17 @@ pub(crate) fn insert_spread<S: KeySet>(set: &mut S, from: u64, count: u64) -> u6
     placed
 }
 
-/// How many of the keys 0, 1, 2, .. were placed.
-fn insert_in_order<S: KeySet>(set: &mut S) -> u64 {
+/// Counts the keys of a row that were placed in an empty set, and those that are entries then.
+fn count_in_row<S: KeySet>(set: &mut S, step: u64) -> (u64, u64) {
+    let placed = insert_row(set, step);
+    (placed, count_row(set, step))
+}
+
+/// Inserts the keys 0, 1, 2, .. times the step, and counts those that were placed.
+fn insert_row<S: KeySet>(set: &mut S, step: u64) -> u64 {
     let mut placed = 0u64;
     for index in 0..COUNT {
-        placed = placed.wrapping_add(u64::from(set.insert(index)));
+        placed = placed.wrapping_add(u64::from(set.insert(index.wrapping_mul(step))));
     }
     placed
 }
@@ -116,11 +165,11 @@ pub(crate) fn count_spread<S: KeySet>(set: &mut S, start: u64, further: u64) -> 
     found
 }
 
-/// How many of the keys 0, 1, 2, .., taken in another order, are entries.
-fn count_in_order<S: KeySet>(set: &mut S) -> u64 {
+/// Counts the keys 0, 1, 2, .. times the step, taken in another order, that are entries.
+fn count_row<S: KeySet>(set: &mut S, step: u64) -> u64 {
     let mut found = 0u64;
     for index in 0..COUNT {
-        found = found.wrapping_add(u64::from(set.contains(turn(index))));
+        found = found.wrapping_add(u64::from(set.contains(turn(index).wrapping_mul(step))));
     }
     found
 }

@@ -9,8 +9,8 @@ use std::time::Instant;
 /// Says how the program is called, and fails.
 pub fn refuse_words(rt: &impl Eprint) -> io::Result<()> {
     eprintln!(rt;
-        "usage: tool_checks bench [list | held|held-in-place|held-set|held-shards one|seq|1e4|1e5|1e7 | \
-        shared|shared-in-place|shared-set|shared-shards|growing|growing-shards one|seq|1e4|1e5|1e7 | \
+        "usage: tool_checks bench [list | held|held-in-place|held-set|held-shards one|seq|step|1e4|1e5|1e7 | \
+        shared|shared-in-place|shared-set|shared-shards|growing|growing-shards one|seq|step|1e4|1e5|1e7 | \
         shared|shared-in-place|shared-set|shared-shards|growing|growing-shards same|ins|hit [THREADS] | \
         seats one|seq|same|ins | core one | interner 1e4|1e5|1e6]"
     )?;

@@ -1,6 +1,6 @@
 //! Measurements of the table that threads share, with one thread to four.
 
-use crate::held::{count_once, count_spread, insert_spread, measure_one, measure_seq};
+use crate::held::{Row, count_once, count_spread, insert_spread, measure_one, measure_row};
 use crate::numbers::{
     COUNT, Empty, KeySet, NumberTable, NumberValue, Numbers, hash_of, is_same, total,
 };
@@ -206,7 +206,22 @@ pub fn measure_shared<
             measure_one(rt, report, &mut ByThread::new(rt, &set))?;
             time_work(rt, report, &set, Work::Hits, MOST)
         }
-        ("seq", None) => measure_seq(rt, report, &mut ByThread::<'_, S, R>::empty(rt)?),
+        ("seq", None) => {
+            measure_row(
+                rt,
+                report,
+                Row::InOrder,
+                &mut ByThread::<'_, S, R>::empty(rt)?,
+            )
+        }
+        ("step", None) => {
+            measure_row(
+                rt,
+                report,
+                Row::InSteps,
+                &mut ByThread::<'_, S, R>::empty(rt)?,
+            )
+        }
         ("same", _) => measure_work::<R, S>(rt, report, Work::Same, threads),
         ("ins", _) => measure_work::<R, S>(rt, report, Work::Inserts, threads),
         ("hit", _) => measure_work::<R, S>(rt, report, Work::Hits, threads),

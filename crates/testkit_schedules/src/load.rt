@@ -1,7 +1,6 @@
 //! A long schedule: many calls, one after another.
 use std::alloc::{AllocError, Allocator};
 use table_core::event::Event;
-use table_terms::law::hash_number;
 
 /// The numbers 0, 1, 2, .. that are inserted.
 pub const INSERTS: u64 = 100_000;
@@ -14,8 +13,8 @@ pub const LOOKUPS: u64 = 25_000;
 pub enum Hashes {
     /// Each number is its own hash.
     Own,
-    /// Inserts have hashes all over the upper half of their generation. All copies have the hash 0, so that each goes
-    /// behind the others, and they stay in the lower half.
+    /// Each insert has a hash of its own in the upper half of its generation. All copies have the hash 0, so that each
+    /// goes behind the others, and they stay in the lower half.
     OneForCopies,
 }
 
@@ -52,7 +51,7 @@ impl<A: Allocator + Copy> Load<A> {
     fn hash_of(&self, value: u64) -> u64 {
         match self.hashes {
             Hashes::Own => value,
-            Hashes::OneForCopies => hash_number(value) | (self.capacity / 2),
+            Hashes::OneForCopies => value | (self.capacity / 2),
         }
     }
 

@@ -5,8 +5,11 @@ use std::hash::{BuildHasherDefault, Hasher};
 
 pub const COUNT: u64 = 1_000_000;
 
+const MIXING_FACTOR: u64 = 0xC0AC_29B7_C97C_50DD;
+
 pub fn hash_number(number: u64) -> u64 {
-    number.wrapping_mul(0x9E37_79B9_7F4A_7C15)
+    let product = (number ^ MIXING_FACTOR) as u128 * MIXING_FACTOR as u128;
+    product as u64 ^ (product >> 64) as u64
 }
 
 pub fn spread(index: u64) -> u64 {
@@ -15,6 +18,9 @@ pub fn spread(index: u64) -> u64 {
     let z = (z ^ (z >> 27)).wrapping_mul(0x94D0_49BB_1331_11EB);
     z ^ (z >> 31)
 }
+
+/// The step of a row of keys, whose low bits are all 0.
+pub const STEP: u64 = 1 << 16;
 
 /// The order of look-ups of so many keys.
 pub fn turn_of(index: u64, keys: u64) -> u64 {

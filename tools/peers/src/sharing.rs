@@ -1,6 +1,6 @@
 //! Sets of boxed numbers that threads share, and that a user would take instead: by the workloads of `tool_checks bench`.
 
-use crate::keys::{spread, turn_of, StdSet, COUNT};
+use crate::keys::{spread, turn_of, StdSet, COUNT, STEP};
 use crate::timing::{resident_bytes, time, time_of};
 use std::hint::black_box;
 use std::sync::RwLock;
@@ -35,6 +35,11 @@ pub fn measure_set<S: Shared>(name: &str, group: &str) {
             let set = S::default();
             time(name, "seq_ins1", || (0..COUNT).for_each(|i| assert!(black_box(set.insert(i)))));
             time(name, "seq_hit1", || (0..COUNT).for_each(|i| assert!(set.has(turn_of(i, COUNT)))));
+        }
+        "step" => {
+            let set = S::default();
+            time(name, "step_ins1", || (0..COUNT).for_each(|i| assert!(black_box(set.insert(i * STEP)))));
+            time(name, "step_hit1", || (0..COUNT).for_each(|i| assert!(set.has(turn_of(i, COUNT) * STEP))));
         }
         "same" => (1..=MOST).for_each(|threads| measure_same::<S>(name, threads)),
         "ins" => (1..=MOST).for_each(|threads| measure_inserts::<S>(name, threads)),

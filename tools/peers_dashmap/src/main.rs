@@ -1,6 +1,6 @@
 //! The measurements of `tool_checks bench`, on dashmap's set.
 //!
-//!     peers_dashmap list | peers_dashmap dashmap one|seq|same|ins|hit|1e4|1e5|1e7
+//!     peers_dashmap list | peers_dashmap dashmap one|seq|step|same|ins|hit|1e4|1e5|1e7
 
 use dashmap::DashSet;
 use peers::keys::Stated;

@@ -1,5 +1,5 @@
 //! Texts of named files.
-use super::{Shelf, USAGE, assert_ended, run_files};
+use super::{HELP, Shelf, assert_ended, run_files};
 use std::alloc::Global;
 use std::process::Abort;
 
@@ -11,6 +11,7 @@ const SHELF: Shelf = Shelf {
         ("bad", b"a\nb \xff"),
         ("none", b""),
         ("--help", b"h\n"),
+        ("-h", b"s\n"),
     ],
 };
 
@@ -18,7 +19,7 @@ const SHELF: Shelf = Shelf {
 type Row = (&'static [&'static str], &'static str, &'static str, u8);
 
 /// A file ends its last line: the lines of the next one are others.
-const RUNS: [Row; 15] = [
+const RUNS: [Row; 17] = [
     (&["words", "one"], "1 b 2\n2 a 1\n", "", 0),
     (&["words", "one", "two"], "1 b 3\n2 a 1\n3 c 1\n", "", 0),
     (&["dedup", "one", "two"], "b a\nb\nc\n", "", 0),
@@ -48,9 +49,11 @@ const RUNS: [Row; 15] = [
         "words: /root: can't be opened\n",
         1,
     ),
-    (&["--help"], USAGE, "", 0),
-    (&["words", "--help"], USAGE, "", 0),
-    (&["dedup", "--help"], USAGE, "", 0),
+    (&["dedup", "--", "-h"], "s\n", "", 0),
+    (&["--help"], HELP, "", 0),
+    (&["-h"], HELP, "", 0),
+    (&["words", "--help"], HELP, "", 0),
+    (&["dedup", "-h"], HELP, "", 0),
 ];
 
 /// Asserts what a run over the files writes, says and ends with.

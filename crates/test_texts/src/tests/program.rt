@@ -1,5 +1,5 @@
 //! The words that the program was called with.
-use super::{Ended, Shelf, USAGE, assert_ended};
+use super::{Ended, HELP, Shelf, USAGE, assert_ended};
 use std::alloc::{Allocator, Global};
 use std::process::Abort;
 use testkit_refusing::{Refusing, Rule};
@@ -20,7 +20,7 @@ const ROWS: [Row; 8] = [
         "words: gone: no such file\n",
         1,
     ),
-    (&[b"tool_text", b"--help"], USAGE, "", 0),
+    (&[b"tool_text", b"--help"], HELP, "", 0),
     (&[b"tool_text"], "", USAGE, 2),
     (&[b"words", b"tool_text"], "", USAGE, 2),
     // No text.

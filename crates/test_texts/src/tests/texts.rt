@@ -67,12 +67,13 @@ fn a_line_that_is_no_text_is_named(rt: HostRuntime) {
 }
 
 /// Words that name no tool.
-const NO_TOOL: [&[&str]; 6] = [
+const NO_TOOL: [&[&str]; 7] = [
     &[],
     &[""],
     &["word"],
     &["Words"],
     &["--help", "words"],
+    &["-h", "words"],
     &["help"],
 ];
 

@@ -1,12 +1,12 @@
 //! The measurements of `tool_checks bench`, on the plain-Rust tables and on std's set.
 //!
-//!     peers list | peers PEER one | peers PEER seq | peers plain-atomics same | peers plain-atomics ins |
-//!     peers plain-interner 1e4 | 1e5 | 1e6 | peers rwlock-HashSet|plain-steps one|seq|same|ins|hit|1e4|1e5|1e7
+//!     peers list | peers PEER one | peers PEER seq | peers PEER step | peers plain-atomics same | peers plain-atomics ins |
+//!     peers plain-interner 1e4 | 1e5 | 1e6 | peers rwlock-HashSet|plain-steps one|seq|step|same|ins|hit|1e4|1e5|1e7
 
 mod interner;
 mod seats;
 
-use peers::keys::{hash_number, spread, turn_of, StdSet, COUNT};
+use peers::keys::{hash_number, spread, turn_of, StdSet, COUNT, STEP};
 use peers::sharing::measure_set;
 use peers::steps::Steps;
 use peers::timing::{resident_bytes, time, time_of};
@@ -55,6 +55,11 @@ fn measure<S: Set>(name: &str, group: &str) {
             let mut set = S::default();
             time(name, "seq_ins1", || (0..COUNT).for_each(|i| assert!(black_box(set.insert(i)))));
             time(name, "seq_hit1", || (0..COUNT).for_each(|i| assert!(set.has(turn(i)))));
+        }
+        "step" => {
+            let mut set = S::default();
+            time(name, "step_ins1", || (0..COUNT).for_each(|i| assert!(black_box(set.insert(i * STEP)))));
+            time(name, "step_hit1", || (0..COUNT).for_each(|i| assert!(set.has(turn(i) * STEP))));
         }
         "1e4" => measure_size::<S>(name, group, 10_000, 100),
         "1e5" => measure_size::<S>(name, group, 100_000, 10),
