@@ -87,7 +87,7 @@ module _ {X T P : Type 0} (s : Shows X T P) where
     pub found_again : LawfulIsApart s target same hash_of
         → (eq : U → U → Bool → Type 0) (rehash : U → ℕ → Type 0) (answers : U → Bool → Type 0) → FindsAgain s target same hash_of eq rehash answers
     found_again apart eq rehash answers x p t later result was is_later looks =
-        let named = names_same eq rehash x p was.old t was.hash was.back was.lawful was.inserted.keeps in
+        let named = names_same eq rehash x p was.old t was.hash was.back was.lawful was.keeps in
         let e = named.0 in
         let now = is_later p e named.1 in
         let is_lawful : IsLawfulLookup target same hash_of answers (s.lawful U target same hash_of later) (entries_of s later) (hash_of (target x)) (λ y. same (target x) y) = record {

@@ -13,3 +13,5 @@ pub mod Lists
 pub mod Found
 pub mod Walks
 pub mod Again
+pub mod Rests
+pub mod Told

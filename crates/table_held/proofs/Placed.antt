@@ -1,6 +1,6 @@
 -- What the steps of an insert do to a table, and what they do together.
 use Rattle.std.proofs.Common.{◌≡◌, cond, ℕ, zero, suc, Bool, true, List, [], ◌∷◌, ◌++◌, Option, Some, None, Result, Ok, Err, length, replicate, refl, sym, ap, ◌∙◌, subst, arith, inl, inr}
-use Rattle.std.specs.Prelude.{slice_index_or, Contains}
+use Rattle.std.specs.Prelude.{slice_index_or, Contains, IfOk, IsSome}
 use Rattle.std.specs.List.Sorted.{IsPermutation}
 use Rattle.std.proofs.lemmas.List.{length-map}
 use Rattle.std.proofs.lemmas.List.Sorted.{IsPermutation-refl, IsPermutation-sym, IsPermutation-trans, IsPermutation-append_left, IsPermutation-map, Contains-permutation, length_permutation, sum_by-IsPermutation}
@@ -8,7 +8,7 @@ use Rattle.std.proofs.lemmas.List.Elements.{Contains-push_cases}
 use Rattle.table_generations.specs.Buckets.{value_at}
 use Rattle.table_generations.specs.Growth.{entry_of}
 use Rattle.table_held.specs.Growth.{IsGrown, IsOpened, KeepsPlaces}
-use Rattle.table_held.specs.Held.{IsLawfulInsert, IsNewUnlessFound}
+use Rattle.table_held.specs.Held.{InsertKeeps, IsLawfulInsert, IsNewUnlessFound}
 use Rattle.table_held.specs.Table.{HeldTable, IsLawful, IsCounted, empty_table, entries, marked, marked_at}
 use Rattle.table_cell.specs.declared.bucket.Entry.{Entry}
 use Rattle.table_held.specs.declared.place.Place.{Place}
@@ -26,6 +26,12 @@ nothing_shown f p e h = none_in p.generation p.index e h where
   none_in : {T : Type 0} (g i : ℕ) (e : Entry T) → value_at (slice_index_or ([] ∷ []) g []) i ≡ Some e → ⊥
   none_in zero i e h = cc
   none_in (suc g) i e h = cc
+
+-- where an insert says that its entry is, an entry is shown
+pub placed_lives : {T U P : Type 0} (target : T → U) (accepts : U → Bool → Type 0) (shows : P → Option T) (old new : List T) (value : T) (r : Result (P × Option T) T) → InsertKeeps target accepts shows old value r new → IfOk r (λ p. IsSome (shows p.0))
+placed_lives target accepts shows old new value (Ok (p, None)) keeps = rw keeps.0 refl
+placed_lives target accepts shows old new value (Ok (p, Some back)) (same, (e, at, among, accepted), kept) = rw at refl
+placed_lives target accepts shows old new value (Err back) keeps = tt
 
 module _ {T U : Type 0} (target : T → U) (same : U → U → Bool) (hash_of : U → ℕ) (rehash : U → ℕ → Type 0) where
   -- the hash function answers the law for these entries

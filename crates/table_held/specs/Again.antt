@@ -2,7 +2,7 @@
 use Rattle.std.specs.Prelude.{◌≡◌, ℕ, Bool, true, Option, Some, Ok, Contains}
 use Rattle.table_terms.specs.Laws.{IsLaw, AllApart}
 use Rattle.table_cell.specs.declared.bucket.Entry.{Entry}
-use Rattle.table_held.specs.Shown.{Shows, IsEntryAt, IsLater, IsLawfulInsert, InsertKeeps, InsertSays, LooksUpAsList, entries_of, value_of}
+use Rattle.table_held.specs.Shown.{Shows, IsEntryAt, IsLater, IsLawfulInsert, InsertKeeps, LooksUpAsList, entries_of, value_of}
 
 module _ {X T P : Type 0} (s : Shows X T P) where
   -- a table is later than itself, and than all that its earlier ones are later than
@@ -35,7 +35,8 @@ module _ {X T P : Type 0} (s : Shows X T P) where
       pub back : Option T
       pub lawful : IsLawfulInsert target same hash_of eq rehash
           (s.lawful U target same hash_of old) (entries_of s old) hash x
-      pub inserted : InsertSays target same hash_of s eq rehash old hash x (Ok (p, back)) new
+      pub keeps : InsertKeeps target (eq (target x)) (value_of s new) (entries_of s old) x
+          (Ok (p, back)) (entries_of s new)
 
     -- a look-up of x on the lawful table t, by the test "same as x", answers this
     pub record LooksFor (answers : U → Bool → Type 0) (x : T) (t : X)

@@ -3,7 +3,7 @@ use Rattle.std.specs.Prelude.{◌≡◌, ℕ, Bool, Option, Result}
 use Rattle.std.specs.Borrow.{Bor}
 use Rattle.table_held.specs.Table.{HeldTable, held}
 use Rattle.table_held.specs.Shown as shown
-pub use Rattle.table_held.specs.Shown.{ShowsAt, FindsOne, FindsNone, InsertKeeps, InsertMarks, InsertAnswers, InsertReplies, LookupReplies, IsNew, IsNewUnlessFound, IsLawfulInsert, IsLawfulLookup, equal}
+pub use Rattle.table_held.specs.Shown.{ShowsAt, FindsOne, FindsNone, InsertKeeps, InsertMarks, InsertAnswers, InsertReplies, LookupReplies, IsNew, IsNewUnlessFound, IsLawfulInsert, IsLawfulLookup, ResultShows, equal}
 use Rattle.table_held.specs.declared.place.Place.{Place}
 
 module _ {T U : Type 0} (target : T → U) (same : U → U → Bool) (hash_of : U → ℕ) where
@@ -27,11 +27,16 @@ module _ {T U : Type 0} (target : T → U) (same : U → U → Bool) (hash_of : 
     pub places : shown.KeepsPlaces held old new
     pub first_capacity : new.first_capacity ≡ old.first_capacity
 
-  -- what an insert shows at once: as one shows that leaves such a table. No clause says that the
-  -- call leaves this one
+  -- what an insert that shows its entry leaves: the table is that after some answer of an insert,
+  -- and what is shown is the entry at the place that the answer names
+  abbrev pub InsertLeaves : (U → U → Bool → Type 0) → (U → ℕ → Type 0) → HeldTable T → ℕ → T
+      → Result (Bor U × Option T) T → HeldTable T → Type 0
+  InsertLeaves eq rehash old hash value shows new =
+      (r : Result (Place × Option T) T) × Inserted eq rehash old hash value r new
+      × shown.ResultShows target held r shows new
+
+  -- what an insert shows at once: as one that leaves such a table
   abbrev pub InsertShows : (U → U → Bool → Type 0) → (U → ℕ → Type 0) → HeldTable T → ℕ → T
       → Result (Bor U × Option T) T → Type 0
   InsertShows eq rehash old hash value shows =
-      (r : Result (Place × Option T) T) × (new : HeldTable T)
-      × Inserted eq rehash old hash value r new
-      × shown.ResultShows target same hash_of held r shows new
+      (new : HeldTable T) × InsertLeaves eq rehash old hash value shows new

@@ -6,3 +6,4 @@ pub mod Held
 pub mod Walks
 pub mod Again
 pub mod Empty
+pub mod Rests

@@ -199,10 +199,11 @@ module _ {T U : Type 0} (target : T → U) (same : U → U → Bool) (hash_of : 
           (s.lawful U target same hash_of new)
       pub as_list : PlacesAsList eq rehash old hash value r new
 
-    -- what is shown at once is the target of the entry at the place
-    abbrev pub ResultShows : Result (P × Option T) T → Result (Bor U × Option T) T → X → Type 0
-    ResultShows (Ok (p, back)) (Ok (shown, out)) new = (out ≡ back)
-        × ShowsAt (value_of s new p) (λ e. shown.now ≡ target e)
-    ResultShows (Ok (p, back)) (Err out) new = ⊥
-    ResultShows (Err back) (Ok (shown, out)) new = ⊥
-    ResultShows (Err back) (Err out) new = out ≡ back
+module _ {T U : Type 0} (target : T → U) {X P : Type 0} (s : Shows X T P) where
+  -- what is shown at once is the target of the entry that lives at the place
+  abbrev pub ResultShows : Result (P × Option T) T → Result (Bor U × Option T) T → X → Type 0
+  ResultShows (Ok (p, back)) (Ok (shown, out)) new = (out ≡ back)
+      × ShowsAt (value_of s new p) (λ e. shown.now ≡ target e)
+  ResultShows (Ok (p, back)) (Err out) new = ⊥
+  ResultShows (Err back) (Ok (shown, out)) new = ⊥
+  ResultShows (Err back) (Err out) new = out ≡ back

@@ -1,6 +1,6 @@
 //! The table held alone.
 ghost use Rattle.std.specs.Prelude.{◌≡◌, ℕ, ◌-◌, ◌+◌, ◌*◌, ◌<◌, ◌≤◌, ◌↔◌, max, length, [], slice_index_or};
-ghost use Rattle.std.specs.Prelude.{OnOk, OnErr, IfSome, IfNone, IsSome, IsTrue, option_copied};
+ghost use Rattle.std.specs.Prelude.{OnOk, OnErr, IfOk, IfSome, IfNone, IsSome, IsTrue, option_copied};
 ghost use Rattle.std.specs.Fn.{FnReturnsAt, FnReturnsAtPair};
 ghost use Rattle.table_generations.specs.Buckets.{shown_all};
 ghost use Rattle.table_terms.specs.Capacities.{IsFirstCapacity};
@@ -11,6 +11,7 @@ mod into_iter;
 mod iter;
 mod parts;
 
+use crate::alone::Told;
 use crate::place::Place;
 pub use iter::HeldIter;
 pub use parts::HeldParts;
@@ -39,6 +40,9 @@ pub fn is_first_capacity(first: usize) -> bool
 /// Each call takes the hash and the closures of its caller. With lawful ones (one equivalence, one hash that agrees
 /// with it, and tests that accept only targets of the hash asked for) the table answers as a growing list without equal
 /// entries; with any closures no value is lost or kept twice.
+///
+/// A hash should vary in all its 64 bits: a probe begins at the low bits, and bits 32 to 39 spare most calls of `eq`. For a number
+/// call `table_terms::law::hash_number(number)`. A product with an odd number isn't enough: multiples of 2^16 share its low 16 bits.
 pub struct HeldRawTable<T: AtomicValue, A: Allocator + Copy = Global> {
     first_capacity: usize,
     home: Home,
@@ -77,11 +81,14 @@ fn generation_at<'a, T: AtomicValue, A: Allocator + Copy>(
 }
 
 impl<T: AtomicValue, A: Allocator + Copy> HeldRawTable<T, A> {
-    ghost use Rattle.table_held.specs.Table.{HeldTable, empty_table, entries, marked, capacity, all_buckets};
+    ghost use Rattle.table_held.specs.Table.{HeldTable, held, empty_table, entries, marked, capacity, all_buckets};
     ghost use Rattle.table_held.specs.Table.{entry_at, IsLater, IsCounted, IsLawful, IsLawfulForAll, Stands, CountsAsList};
     ghost use Rattle.table_held.specs.Growth.{IsOpened, IsGrown, GrowsIfWanted, KeepsPlaces, TriesToPlace, PlacesOrGrows};
-    ghost use Rattle.table_held.specs.Held.{InsertKeeps, InsertMarks, InsertAnswers, PlacesAsList, InsertShows};
+    ghost use Rattle.table_held.specs.Held.{InsertKeeps, InsertMarks, InsertAnswers, PlacesAsList, Inserted, InsertLeaves, InsertShows, ResultShows};
     ghost use Rattle.table_held.specs.Held.{ShowsAt, FindsOne, FindsNone, LooksUpAsList};
+    ghost use Rattle.table_held.specs.Rests.{RestsAs};
+    ghost use Rattle.table_held.specs.contracts.raw.HeldRawTable.{the_row};
+    ghost use Rattle.std.specs.Borrow.{sem};
 
     /// The empty table, whose first generation will have 16 buckets. It takes no memory.
     pub fn new(alloc: A) -> Self
@@ -309,9 +316,36 @@ impl<T: AtomicValue, A: Allocator + Copy> HeldRawTable<T, A> {
         }
     }
 
-    /// Inserts the value, unless an entry is accepted as equal, and shows the entry's target. It is `place_alone`, and
-    /// then `target_at` of the place: see there for what each answer leaves. No clause of its own says what it leaves: who has to
-    /// know calls `place_alone`.
+    /// Calls `place_alone` with closures by value.
+    fn place_by<L: Law<T::Target>, E: Fn(&T::Target, &T::Target) -> bool, H: Fn(&T::Target) -> u64>(
+        &mut self,
+        hash: u64,
+        value: T,
+        eq: E,
+        hash_fn: H,
+    ) -> Told<Place, T>
+        requires eq_callable { E.IsAlwaysCallable eq }
+        requires hash_callable { H.IsAlwaysCallable hash_fn }
+        ensures { Inserted T.target L.same L.hash_of (FnReturnsAtPair E.Fn eq)
+            (FnReturnsAt H.Fn hash_fn) self.old hash value result self.new }
+    {
+        self.place_alone::<L, E, H>(hash, value, &eq, &hash_fn)
+    }
+
+    /// Shows the target of the entry at the place that an insert named.
+    fn show_placed(&self, placed: Told<Place, T>) -> Result<(&T::Target, Option<T>), T>
+        requires { IfOk placed (λ p. IsSome (entry_at self.now p.0)) }
+        ensures { ResultShows T.target held placed result self.now }
+    {
+        let (place, back) = placed?;
+        Ok((self.target_at(place), back))
+    }
+
+    /// Inserts the value, unless an entry is accepted as equal, and shows the entry's target.
+    ///
+    /// `place_alone` says what the arguments are and what each answer means. Clause `leaves` says which table is left: it speaks of
+    /// the value of `self` once the target is no longer borrowed. Only a proof by hand can use that clause. A caller that wants a
+    /// plain one calls `place_alone`, and then `target_at`.
     pub fn insert_alone<
         L: Law<T::Target>,
         E: Fn(&T::Target, &T::Target) -> bool,
@@ -319,11 +353,14 @@ impl<T: AtomicValue, A: Allocator + Copy> HeldRawTable<T, A> {
     >(&mut self, hash: u64, value: T, eq: E, hash_fn: H) -> Result<(&T::Target, Option<T>), T>
         requires eq_callable { E.IsAlwaysCallable eq }
         requires hash_callable { H.IsAlwaysCallable hash_fn }
-        ensures { InsertShows T.target L.same L.hash_of (FnReturnsAtPair E.Fn eq)
+        ensures* leaves { sem 𝓛 (RestsAs (the_row T.row A.row T.Target.row T.AtomicValue A.Allocator)
+            self.entry (InsertLeaves T.target L.same L.hash_of (FnReturnsAtPair E.Fn eq)
+            (FnReturnsAt H.Fn hash_fn) self.old hash value result)) }
+        ensures shows { InsertShows T.target L.same L.hash_of (FnReturnsAtPair E.Fn eq)
             (FnReturnsAt H.Fn hash_fn) self.old hash value result }
     {
-        let (place, back) = self.place_alone::<L, E, H>(hash, value, &eq, &hash_fn)?;
-        Ok((self.target_at(place), back))
+        let placed = self.place_by::<L, E, H>(hash, value, eq, hash_fn);
+        self.show_placed(placed)
     }
 
     /// The target of an entry that the test accepts, or None. It takes no memory and changes nothing.

@@ -1,4 +1,3 @@
 pub mod Shards
 pub mod ShardsApart
 pub mod ShardWalks
-pub mod Memory

@@ -1,10 +1,9 @@
 -- Where one shard takes a value or gives an answer, so does the table over all shards.
 use Rattle.std.proofs.Common.{◌≡◌, ℕ, zero, suc, ◌+◌, ◌<◌, ◌⊎◌, Bool, false, List, [], ◌∷◌, ◌++◌, Option, Some, None, Result, Ok, Err, length, refl, sym, ap, subst, ◌∙◌, append_assoc, append-nil, arith, inl, inr, set, get_or, map, ltb, replicate, take, ◌≤◌}
-use Rattle.std.specs.Prelude.{Contains, IfOk, IsErrAnd, IsSome, IfNone, min, option_map, slice_index_or}
+use Rattle.std.specs.Prelude.{Contains, IfOk, IsSome, IfNone, min, option_map, slice_index_or}
 use Rattle.std.specs.Array.{IsFromFnResultFrom}
 use Rattle.std.specs.Fn.{Called}
 use denote.Param.Members.{Mut}
-use Rattle.std.specs.Borrow.{Bor}
 use Rattle.std.specs.Int.{IsPowerOfTwo}
 use Rattle.std.specs.List.{flat_map, sum_by}
 use Rattle.std.specs.List.Sorted.{IsPermutation}
@@ -20,7 +19,7 @@ use Rattle.table_generations.specs.Growth.{entry_of}
 use Rattle.table_terms.specs.Laws.{IsLaw}
 use Rattle.table_held.specs.Growth.{KeepsPlaces}
 use Rattle.table_held.specs.Shown as shown
-use Rattle.table_held.specs.Shown.{InsertKeeps, InsertMarks, InsertAnswers, IsLawfulInsert, IsNewUnlessFound, FindsOne, FindsNone, IsLater, InsertSays, ResultShows, ShowsAt, Stands, CountsAsList}
+use Rattle.table_held.specs.Shown.{InsertKeeps, InsertMarks, InsertAnswers, IsLawfulInsert, IsNewUnlessFound, FindsOne, FindsNone, IsLater, InsertSays, ShowsAt, Stands, CountsAsList}
 use Rattle.table_terms.specs.ListObject.{greatest_length}
 use Rattle.table_held.specs.Table as table
 use Rattle.table_held.specs.Table.{HeldTable, empty_table, held}
@@ -274,16 +273,6 @@ read_shard ts k past t within is = get_or_default ts k past t within ∙ sym is
 blank : {X : Type 0} (rows : List (List (Option X))) → rows ≡ [] ∷ [] → (g i : ℕ) → value_at (get_or rows g []) i ≡ None
 blank rows is zero i = rw is refl
 blank rows is (suc g) i = rw is refl
-
--- where an insert says that its entry is, an entry is shown
-pub shows_placed : {T U P : Type 0} (target : T → U) (accepts : U → Bool → Type 0) (shows : P → Option T) (old new : List T) (value : T) (p : P) (back : Option T) → InsertKeeps target accepts shows old value (Ok (p, back)) new → IsSome (shows p)
-shows_placed target accepts shows old new value p None keeps = rw keeps.0 refl
-shows_placed target accepts shows old new value p (Some back) (same, (e, at, among, accepted), kept) = rw at refl
-
--- a value that comes back from a refused insert is what is shown of it
-pub shows_refused : {T U : Type 0} (target : T → U) (same : U → U → Bool) (hash_of : U → ℕ) (back : T) (new : List (HeldTable T)) (out : Result (Bor U × Option T) T) → IsErrAnd out (λ e. e ≡ back) → ResultShows target same hash_of sharded (Err back) out new
-shows_refused target same hash_of back new (Ok shown) refused = absurd refused
-shows_refused target same hash_of back new (Err out) refused = refused
 
 module _ {T : Type 0} where
   -- where an entry lives at a place, the place is in a shard

@@ -21,11 +21,16 @@ module _ {T U : Type 0} (target : T → U) (same : U → U → Bool) (hash_of : 
     pub first : map (λ t. t.first_capacity) new ≡ map (λ t. t.first_capacity) old
     pub long : length new ≡ length old
 
-  -- what an insert shows at once: as one shows that leaves such shards. No clause says that the call
-  -- leaves these
+  -- what an insert that shows its entry leaves: the shards are those after some answer of an insert,
+  -- and what is shown is the entry at the place that the answer names
+  abbrev pub InsertLeaves : (U → U → Bool → Type 0) → (U → ℕ → Type 0) → List (HeldTable T) → ℕ
+      → T → Result (Bor U × Option T) T → List (HeldTable T) → Type 0
+  InsertLeaves eq rehash old hash value shows new =
+      (r : Result (ShardPlace × Option T) T) × Inserted eq rehash old hash value r new
+      × shown.ResultShows target sharded r shows new
+
+  -- what an insert shows at once: as one that leaves such shards
   abbrev pub InsertShows : (U → U → Bool → Type 0) → (U → ℕ → Type 0) → List (HeldTable T) → ℕ
       → T → Result (Bor U × Option T) T → Type 0
   InsertShows eq rehash old hash value shows =
-      (r : Result (ShardPlace × Option T) T) × (new : List (HeldTable T))
-      × Inserted eq rehash old hash value r new
-      × shown.ResultShows target same hash_of sharded r shows new
+      (new : List (HeldTable T)) × InsertLeaves eq rehash old hash value shows new

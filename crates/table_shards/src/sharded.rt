@@ -20,6 +20,7 @@ use std::alloc::{Allocator, Global};
 use std::array;
 use std::marker::Model;
 use table_generations::atomic_value::{AtomicValue, Law};
+use table_held::alone::Told;
 use table_held::raw::HeldRawTable;
 
 /// An insertion-only set over `SHARDS` raw tables that one owner holds alone. A value lies in the shard of its hash.
@@ -47,12 +48,15 @@ impl<T: AtomicValue, const SHARDS: usize, A: Allocator + Copy> Model
 
 impl<T: AtomicValue, const SHARDS: usize, A: Allocator + Copy> HeldShardedTable<T, SHARDS, A> {
     ghost use Rattle.table_held.specs.Shown.{Stands, IsLater, KeepsPlaces, CountsAsList, PlacesAsList, LooksUpAsList};
-    ghost use Rattle.table_held.specs.Shown.{ShowsAt, FindsOne, FindsNone, InsertKeeps, InsertMarks, InsertAnswers};
+    ghost use Rattle.table_held.specs.Shown.{ShowsAt, FindsOne, FindsNone, InsertKeeps, InsertMarks, InsertAnswers, ResultShows};
     ghost use Rattle.table_shards.specs.Shards.{sharded, entries, entry_at, marked, empty_shards, capped_sum, shard_at};
     ghost use Rattle.table_shards.specs.Shards.{AreCounted, AreLawful, AreLawfulForAll, HasFewBuckets, LivesInItsShard};
-    ghost use Rattle.table_shards.specs.Inserted.{InsertShows};
+    ghost use Rattle.table_shards.specs.Inserted.{Inserted, InsertLeaves, InsertShows};
     ghost use Rattle.table_held.specs.Table.{capacity, all_buckets};
+    ghost use Rattle.table_held.specs.Rests.{RestsAs};
     ghost use Rattle.table_shards.specs.Shards.{shard_of as number_of_shard};
+    ghost use Rattle.table_shards.specs.contracts.sharded.HeldShardedTable.{the_row};
+    ghost use Rattle.std.specs.Borrow.{sem};
 
     /// The empty table; the first generation of each shard will have 16 buckets. It takes no memory.
     pub fn new(alloc: A) -> Self
@@ -184,11 +188,35 @@ impl<T: AtomicValue, const SHARDS: usize, A: Allocator + Copy> HeldShardedTable<
         shards[shard].target_at(place)
     }
 
+    /// Calls `place_alone` with closures by value.
+    fn place_by<L: Law<T::Target>, E: Fn(&T::Target, &T::Target) -> bool, H: Fn(&T::Target) -> u64>(
+        &mut self,
+        hash: u64,
+        value: T,
+        eq: E,
+        hash_fn: H,
+    ) -> Told<ShardPlace, T>
+        requires eq_callable { E.IsAlwaysCallable eq }
+        requires hash_callable { H.IsAlwaysCallable hash_fn }
+        ensures { Inserted T.target L.same L.hash_of SHARDS (FnReturnsAtPair E.Fn eq)
+            (FnReturnsAt H.Fn hash_fn) self.old hash value result self.new }
+    {
+        self.place_alone::<L, E, H>(hash, value, &eq, &hash_fn)
+    }
+
+    /// Shows the target of the entry at the place that an insert named.
+    fn show_placed(&self, placed: Told<ShardPlace, T>) -> Result<(&T::Target, Option<T>), T>
+        requires { IfOk placed (λ p. IsSome (entry_at self.now p.0)) }
+        ensures { ResultShows T.target sharded placed result self.now }
+    {
+        let (place, back) = placed?;
+        Ok((self.target_at(place), back))
+    }
+
     /// Inserts the value into the shard of its hash, unless an entry there is accepted as equal, and shows the entry's target.
     ///
-    /// It is `place_alone`, and then `target_at` of the place: `HeldRawTable::place_alone` says what the arguments are, when it
-    /// refuses, and what each answer leaves (Err: the value comes back, and the entries are as they were). No clause of its own says
-    /// what it leaves: who has to know calls `place_alone`.
+    /// `HeldRawTable::place_alone` says what the arguments are and what each answer means. Clause `leaves` says which shards are left:
+    /// see `HeldRawTable::insert_alone`.
     pub fn insert_alone<
         L: Law<T::Target>,
         E: Fn(&T::Target, &T::Target) -> bool,
@@ -196,13 +224,14 @@ impl<T: AtomicValue, const SHARDS: usize, A: Allocator + Copy> HeldShardedTable<
     >(&mut self, hash: u64, value: T, eq: E, hash_fn: H) -> Result<(&T::Target, Option<T>), T>
         requires eq_callable { E.IsAlwaysCallable eq }
         requires hash_callable { H.IsAlwaysCallable hash_fn }
-        ensures { InsertShows T.target L.same L.hash_of SHARDS (FnReturnsAtPair E.Fn eq)
+        ensures* leaves { sem 𝓛 (RestsAs (the_row T.row SHARDS.row A.row T.Target.row T.AtomicValue
+            A.Allocator) self.entry (InsertLeaves T.target L.same L.hash_of SHARDS
+            (FnReturnsAtPair E.Fn eq) (FnReturnsAt H.Fn hash_fn) self.old hash value result)) }
+        ensures shows { InsertShows T.target L.same L.hash_of SHARDS (FnReturnsAtPair E.Fn eq)
             (FnReturnsAt H.Fn hash_fn) self.old hash value result }
     {
-        // The `&mut` slice of the shards says that they fit in memory, which `target_at` wants to know.
-        let _ = self.shards.as_mut_slice();
-        let (place, back) = self.place_alone::<L, E, H>(hash, value, &eq, &hash_fn)?;
-        Ok((self.target_at(place), back))
+        let placed = self.place_by::<L, E, H>(hash, value, eq, hash_fn);
+        self.show_placed(placed)
     }
 
     /// The target of an entry that the test accepts, or None. It asks the shard of the hash alone: see

@@ -2,8 +2,7 @@
 use super::made::{eight, eight_held};
 use super::numbers::{Inserts, Sharded, Table, Told, assert_handed};
 use crate::tests::assert_same;
-use lock_free_hashtable::Share;
-use lock_free_hashtable::sharded::HeldShardedTable;
+use lock_free_hashtable::sharded::{HeldShardedTable, Share};
 use std::alloc::{AllocError, Global};
 use std::process::Abort;
 use std::sync::Wait;
