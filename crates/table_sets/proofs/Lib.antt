@@ -1,2 +1,4 @@
 mod Again
+mod Left
 mod Listed
+mod Opened

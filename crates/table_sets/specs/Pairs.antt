@@ -2,7 +2,7 @@
 use Rattle.std.specs.Prelude.{ℕ, ◌+◌, ◌%◌, ◌^◌, ◌&&◌, Bool}
 use Rattle.std.proofs.Common.{arith}
 use Rattle.std.proofs.lemmas.Grind.{common_steps}
-use Rattle.table_terms.specs.Laws.{IsLaw, number_hash}
+use Rattle.table_terms.specs.Laws.{IsLaw, number_hash, number_hash_small}
 
 -- one hash of two: the second is added to the hash of the first, and the sum is hashed
 abbrev pub mixed_hash : ℕ → ℕ → ℕ
@@ -24,6 +24,6 @@ module _ {V W : Type 0} where
     reflexive = λ a. grind (arith, common_steps, first.reflexive a.0, second.reflexive a.1);
     symmetric = λ a b h. grind (arith, common_steps, first.symmetric a.0 b.0, second.symmetric a.1 b.1);
     transitive = λ a b c h k. grind (arith, common_steps, first.transitive a.0 b.0 c.0, second.transitive a.1 b.1 c.1);
-    small = λ a. grind (arith, common_steps);
+    small = λ a. number_hash_small _;
     agrees = λ a b h. grind (arith, common_steps, first.agrees a.0 b.0, second.agrees a.1 b.1);
   }

@@ -1,5 +1,5 @@
 -- A set as its callers see it: a list of entries, of which no two are the same, in some order.
-use Rattle.std.specs.Prelude.{◌≡◌, ◌++◌, Bool, true, false, List, [], ◌∷◌, Option, Some, None, Contains}
+use Rattle.std.specs.Prelude.{◌≡◌, ◌++◌, ⊤, Bool, true, false, List, [], ◌∷◌, Option, Some, None, Contains}
 use Rattle.std.specs.List.Sorted.{IsPermutation}
 use Rattle.std.specs.Borrow.{Bor}
 use Rattle.table_terms.specs.Laws as laws
@@ -52,3 +52,25 @@ module _ {T U : Type 0} (target : T → U) where
         IsShown (same (target value)) old shown.now × (back ≡ value)
     InsertShows old value (show.Refused back) =
         NonePasses (same (target value)) old × (back ≡ value)
+
+    -- the answer without what it shows
+    abbrev pub unshown : Shown (Bor U) T → Inserted T
+    unshown (show.Placed shown) = Placed
+    unshown (show.Found shown back) = Found back
+    unshown (show.Refused back) = Refused back
+
+    -- what is shown is the target of an entry
+    abbrev pub ShowsEntry : List T → Shown (Bor U) T → Type 0
+    ShowsEntry entries (show.Placed shown) =
+        (e : T) × Contains entries e × (shown.now ≡ target e)
+    ShowsEntry entries (show.Found shown back) =
+        (e : T) × Contains entries e × (shown.now ≡ target e)
+    ShowsEntry entries (show.Refused back) = ⊤
+
+    -- what an insert that shows its entry leaves: the entries are those that an insert with this answer
+    -- leaves, no two of them are the same, and what is shown is the target of one
+    pub record InsertLeaves (old : List T) (value : T) (shows : Shown (Bor U) T)
+        (new : List T) : Type 0 where
+      pub inserts : Inserts old new value (unshown shows)
+      pub apart : AllApart new
+      pub shows_entry : ShowsEntry new shows

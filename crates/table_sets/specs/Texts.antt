@@ -1,23 +1,24 @@
 -- Texts, by their bytes.
-use Rattle.std.specs.Prelude.{◌≡◌, ℕ, ◌+◌, ◌<◌, ◌%◌, ◌^◌, Bool, true, List, [], ◌∷◌, refl}
+use Rattle.std.specs.Prelude.{◌≡◌, ℕ, ◌+◌, ◌*◌, ◌%◌, ◌^◌, Bool, true, List, refl}
 use Rattle.std.specs.Bool.{Decides}
 use Rattle.std.specs.List.{fold}
 use Rattle.std.specs.Str.{bytes_eq}
-use Rattle.std.proofs.Common.{sym, ap, ◌∙◌, arith}
+use Rattle.std.proofs.Common.{sym, ap, ◌∙◌}
 use Rattle.std.proofs.lemmas.Slice.Eq.{bytes_eq-Decides}
-use Rattle.table_terms.specs.Laws.{IsLaw, number_hash}
+use Rattle.table_terms.specs.Laws.{IsLaw, mixing_factor, number_hash, number_hash_small}
 
--- the hash of a text with one byte more: that of the number before, the byte and 1
-abbrev pub hash_with : ℕ → ℕ → ℕ
-hash_with hash byte = number_hash ((hash + (byte + 1)) % 2 ^ 64)
+-- the number of a text with one byte more: the number before, the byte and 1 are added, and the sum
+-- is multiplied by an odd number, modulo 2^64
+abbrev pub number_with : ℕ → ℕ → ℕ
+number_with number byte = (number + (byte + 1)) % 2 ^ 64 * mixing_factor % 2 ^ 64
 
--- the hash of a text, from 0 on
+-- the number of a text, from 0 on
+abbrev pub text_number : List ℕ → ℕ
+text_number text = fold number_with 0 text
+
+-- the hash of a text is that of its number
 abbrev pub text_hash : List ℕ → ℕ
-text_hash text = fold hash_with 0 text
-
-hash_small : (text : List ℕ) (hash : ℕ) → hash < 2 ^ 64 → fold hash_with hash text < 2 ^ 64
-hash_small [] hash small = small
-hash_small (byte ∷ text) hash small = hash_small text (hash_with hash byte) (omega arith)
+text_hash text = number_hash (text_number text)
 
 -- the text has these bytes
 abbrev pub meets_text : List ℕ → List ℕ → Bool
@@ -44,6 +45,6 @@ module _ {V : Type 0} (text : V → List ℕ) where
     reflexive = λ a. (decides a a).1 refl;
     symmetric = λ a b h. (decides b a).1 (sym ((decides a b).0 h));
     transitive = λ a b c h k. (decides a c).1 ((decides a b).0 h ∙ (decides b c).0 k);
-    small = λ a. hash_small (text a) 0 (omega arith);
+    small = λ a. number_hash_small (text_number (text a));
     agrees = λ a b h. ap text_hash ((decides a b).0 h);
   }

@@ -13,11 +13,11 @@ pub enum Inserted<T> {
 
 /// How an insert into a set ended, with what it shows by a `&`.
 ///
-/// Of a `HeldSet` `insert_and_show` promises more: Placed and Refused come only where no entry was the same, and what Found shows
-/// was an entry. Of a `SharedSet` both are only tested.
+/// A `HeldSet` promises more. Placed and Refused come only where no entry was the same. What Found shows was an entry. What is shown
+/// is the target of an entry that is left, and the value of Placed is an entry now. For a `SharedSet` these are only tested.
 #[derive(Clone, Copy, Debug, PartialEq, Eq, Drop)]
 pub enum Shown<E, T> {
-    /// The target of the value. That the value is an entry now is only tested.
+    /// The target of the value.
     Placed(E),
     /// A target that is the same as that of the value, which comes back.
     Found(E, T),

@@ -6,6 +6,7 @@
 
 pub mod inserted;
 pub mod law;
+mod lawful;
 pub mod laws;
 mod numbers;
 pub mod pairs;

@@ -2,44 +2,43 @@
 ghost use Rattle.std.specs.Prelude.{◌≡◌, ◌↔◌, [], length, IsTrue, MatchBool, option_copied};
 ghost use Rattle.std.specs.List.Sorted.{IsPermutation};
 ghost use Rattle.table_terms.specs.Capacities.{IsFirstCapacity};
-ghost use Rattle.table_sets.specs.Sets.{AllApart, Inserts, InsertShows, Finds, OnePasses, NonePasses};
+ghost use Rattle.table_sets.specs.Sets.{AllApart, Inserts, InsertLeaves, InsertShows, Finds, OnePasses, NonePasses};
 
 use crate::inserted::{Inserted, Shown};
 use crate::law::{KeyLaw, SetLaw};
-use crate::placing::place_by_law;
+use crate::lawful::LawfulTable;
 use std::alloc::{Allocator, Global};
-use std::marker::{Model, PhantomData};
+use std::marker::Model;
 use table_held::{AtomicValue, HeldIter, HeldRawTable, IntoIter};
 
 /// Values of which no two are the same under the law `L`. One owner holds them alone.
 ///
 /// A contract sees the list of the entries, in an order that an insert may change.
 pub struct HeldSet<T: AtomicValue, L: SetLaw<T::Target>, A: Allocator + Copy = Global> {
-    table: HeldRawTable<T, A>,
-    law: PhantomData<L>,
+    lawful: LawfulTable<T, L, A>,
 }
 
 impl<T: AtomicValue, L: SetLaw<T::Target>, A: Allocator + Copy> Model for HeldSet<T, L, A> {
     ghost use Rattle.std.specs.Prelude.{List};
-    ghost use Rattle.table_held.specs.Table.{entries, IsLawful, IsCounted};
+    ghost use Rattle.table_held.specs.Table.{entries};
 
     ghost Value = { List T };
 
-    ghost view = { λ s. entries s.table };
-
-    ghost invariant = { λ s. IsLawful T.target L.same L.hash_of s.table × IsCounted s.table };
+    ghost view = { λ s. entries s.lawful };
 }
 
 impl<T: AtomicValue, L: SetLaw<T::Target>, A: Allocator + Copy> HeldSet<T, L, A> {
+    ghost use Rattle.std.specs.Borrow.{sem};
+    ghost use Rattle.table_held.specs.Rests.{RestsAs};
     ghost use Rattle.table_held.specs.Table.{entries, IsLawful};
+    ghost use Rattle.table_sets.specs.contracts.set.HeldSet.{the_row};
 
     /// The empty set. It takes no memory.
     pub fn new(alloc: A) -> Self
         ensures { result ≡ [] }
     {
         HeldSet {
-            table: HeldRawTable::new(alloc),
-            law: PhantomData,
+            lawful: LawfulTable::new(alloc),
         }
     }
 
@@ -49,8 +48,7 @@ impl<T: AtomicValue, L: SetLaw<T::Target>, A: Allocator + Copy> HeldSet<T, L, A>
         ensures { result ≡ [] }
     {
         HeldSet {
-            table: HeldRawTable::with_first_capacity(alloc, first_capacity),
-            law: PhantomData,
+            lawful: LawfulTable::with_first_capacity(alloc, first_capacity),
         }
     }
 
@@ -60,23 +58,24 @@ impl<T: AtomicValue, L: SetLaw<T::Target>, A: Allocator + Copy> HeldSet<T, L, A>
         ensures inserts { Inserts T.target L.same self.old self.new value result }
         ensures apart { AllApart T.target L.same self.new }
     {
-        match place_by_law::<T, L, A>(&mut self.table, value) {
+        match self.lawful.place(value) {
             Ok((_, None)) => Inserted::Placed,
             Ok((_, Some(value))) => Inserted::Found(value),
             Err(value) => Inserted::Refused(value),
         }
     }
 
-    /// Inserts the value, unless an entry is the same, and shows the target of the entry. No clause says what it leaves, since
-    /// what it shows is still borrowed: who has to know calls `insert`, and `get`.
+    /// Inserts the value, unless an entry is the same, and shows the target of the entry.
+    ///
+    /// Clause `leaves` says which set is left: it speaks of the value of `self` once the target is no longer borrowed. Only a proof by
+    /// hand can use that clause. A caller that wants a plain one calls `insert`, and then `get`.
     pub fn insert_and_show(&mut self, value: T) -> Shown<&T::Target, T>
-        ensures { InsertShows T.target L.same self.old value result }
+        ensures* leaves { sem 𝓛 (RestsAs (the_row T.row L.row A.row T.Target.row T.AtomicValue L.Law
+            A.Allocator) self.entry (InsertLeaves T.target L.same self.old value result)) }
+        ensures shows { InsertShows T.target L.same self.old value result }
     {
-        match place_by_law::<T, L, A>(&mut self.table, value) {
-            Ok((place, None)) => Shown::Placed(self.table.target_at(place)),
-            Ok((place, Some(value))) => Shown::Found(self.table.target_at(place), value),
-            Err(value) => Shown::Refused(value),
-        }
+        let placed = self.lawful.place(value);
+        self.lawful.show(placed)
     }
 
     /// The target of the entry that is the same as this one, or None. It takes no memory and changes nothing.
@@ -84,7 +83,7 @@ impl<T: AtomicValue, L: SetLaw<T::Target>, A: Allocator + Copy> HeldSet<T, L, A>
         ensures finds { Finds T.target (L.same target.now) self.now (option_copied result) }
         ensures apart { AllApart T.target L.same self.now }
     {
-        self.table.lookup_alone::<L, _>(
+        self.lawful.table().lookup_alone::<L, _>(
             L::hash(target),
             |entry: &T::Target| L::is_same(target, entry),
         )
@@ -97,7 +96,10 @@ impl<T: AtomicValue, L: SetLaw<T::Target>, A: Allocator + Copy> HeldSet<T, L, A>
         ensures finds { Finds T.target (L.meets key.now) self.now (option_copied result) }
         ensures apart { AllApart T.target L.same self.now }
     {
-        self.table.lookup_alone::<L, _>(L::hash_key(key), |entry: &T::Target| L::is_met(key, entry))
+        self.lawful.table().lookup_alone::<L, _>(
+            L::hash_key(key),
+            |entry: &T::Target| L::is_met(key, entry),
+        )
     }
 
     /// Whether an entry is the same as this target. It takes no memory and changes nothing.
@@ -113,14 +115,14 @@ impl<T: AtomicValue, L: SetLaw<T::Target>, A: Allocator + Copy> HeldSet<T, L, A>
         ensures length { result ≡ length self.now }
         ensures apart { AllApart T.target L.same self.now }
     {
-        self.table.len_alone()
+        self.lawful.table().len_alone()
     }
 
     /// Whether there is no entry.
     pub fn is_empty(&self) -> bool
         ensures { IsTrue result ↔ (self.now ≡ []) }
     {
-        self.table.is_empty_alone()
+        self.lawful.table().is_empty_alone()
     }
 
     /// A walk over the targets of the entries, each once. It takes no memory.
@@ -128,7 +130,7 @@ impl<T: AtomicValue, L: SetLaw<T::Target>, A: Allocator + Copy> HeldSet<T, L, A>
         ensures entries { result ≡ self.now }
         ensures apart { AllApart T.target L.same self.now }
     {
-        self.table.iter_alone()
+        self.lawful.table().iter_alone()
     }
 
     /// The raw table of the set, which is lawful. It takes no memory.
@@ -136,8 +138,8 @@ impl<T: AtomicValue, L: SetLaw<T::Target>, A: Allocator + Copy> HeldSet<T, L, A>
         ensures entries { entries result ≡ self }
         ensures lawful { IsLawful T.target L.same L.hash_of result }
     {
-        let HeldSet { table, law: _ } = self;
-        table
+        let HeldSet { lawful } = self;
+        lawful.into_table()
     }
 }
 

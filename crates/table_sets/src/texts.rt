@@ -5,20 +5,22 @@ ghost use Rattle.table_sets.specs.Texts.{text_hash};
 use crate::law::{KeyLaw, SetLaw};
 use std::alloc::Allocator;
 use table_held::Law;
-use table_terms::law::hash_number;
+use table_terms::law::{MIXING_FACTOR, hash_number};
 
 /// Texts are the same if their bytes are, and a text is looked up by a `&str` too.
 pub struct TextLaw;
 
-/// The hash of a text: from 0 on, that of the number before and the next byte.
+/// Returns the hash of a text. It depends on each byte and its place, and spreads texts over all 64 bits.
 pub fn hash_text(text: &str) -> u64
     ensures { result ≡ text_hash text.now }
 {
-    let mut hash = 0u64;
+    let mut number = 0u64;
     for byte in text.as_bytes() {
-        hash = hash_number(hash.wrapping_add(u64::from(*byte) + 1));
+        number = number
+            .wrapping_add(u64::from(*byte) + 1)
+            .wrapping_mul(MIXING_FACTOR);
     }
-    hash
+    hash_number(number)
 }
 
 impl<A: Allocator> Law<String<A>> for TextLaw {

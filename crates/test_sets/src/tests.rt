@@ -6,6 +6,7 @@ mod memory;
 mod over;
 mod sharded;
 mod shared;
+mod steps;
 
 ghost use Rattle.std.specs.Iterator.{IsFinite};
 

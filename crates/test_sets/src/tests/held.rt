@@ -50,7 +50,7 @@ fn boxed_numbers(rt: HostRuntime) -> Result<(), Fail> {
 /// What comes back is the value handed in, not the entry.
 #[test]
 fn the_value_comes_back(rt: HostRuntime) {
-    let mut set: InPlaces = HeldSet::with_first_capacity(rt.alloc(), 32);
+    let mut set: InPlaces = HeldSet::new(rt.alloc());
     assert_told(&rt, &mut set, InPlace(7), Told::Placed);
     match set.insert(InPlace(7)) {
         Inserted::Found(InPlace(back)) => assert_same(&rt, back, 7),
@@ -58,7 +58,20 @@ fn the_value_comes_back(rt: HostRuntime) {
     }
     assert!(rt; !set.is_empty());
     assert_same(&rt, set.len() as u64, 1);
-    assert_same(&rt, set.into_table().capacity_alone() as u64, 32);
+}
+
+/// Asserts how many buckets the set has once it has its first entry.
+fn assert_first_buckets(rt: &impl Abort, mut set: InPlaces, buckets: u64) {
+    assert_told(rt, &mut set, InPlace(7), Told::Placed);
+    assert_same(rt, set.into_table().capacity_alone() as u64, buckets);
+}
+
+#[test]
+fn the_first_generation_has_as_many_buckets_as_were_asked_for(rt: HostRuntime) {
+    let alloc = rt.alloc();
+    assert_first_buckets(&rt, HeldSet::new(alloc), 16);
+    assert_first_buckets(&rt, HeldSet::with_first_capacity(alloc, 64), 64);
+    assert_first_buckets(&rt, HeldSet::with_first_capacity(alloc, 4096), 4096);
 }
 
 #[test]

@@ -1,4 +1,4 @@
-//! What the ready-made laws answer. The hashes were computed by hand from the multiple that they take.
+//! What the ready-made laws answer. The hashes were computed by another program, from the definitions.
 use super::assert_same;
 use std::alloc::Global;
 use std::test::Fail;
@@ -7,27 +7,35 @@ use table_sets::pairs::mix_hashes;
 use table_sets::texts::hash_text;
 use table_sets::{InPlace, KeyLaw, NumberLaw, PairsOf, SetLaw, TextLaw};
 
-/// The hash of the number 1: the factor itself.
-const FACTOR: u64 = 0x9E37_79B9_7F4A_7C15;
+/// Numbers, and the hash of each.
+const NUMBERS: [(u64, u64); 5] = [
+    (0, 0x382C_6B14_BA5F_441A),
+    (1, 0x7980_1DCC_73DB_173E),
+    (1 << 16, 0x43E4_1090_0981_85B6),
+    (1 << 40, 0xBDDF_4DD4_6E71_3DC3),
+    (u64::MAX, 0xB98D_8BA4_B99E_6652),
+];
 
 #[test]
 fn hashes_of_texts(rt: HostRuntime) {
-    assert_same(&rt, hash_text(""), 0);
-    assert_same(&rt, hash_text("a"), 0x913C_9902_BA83_800A);
-    assert_same(&rt, hash_text("ab"), 0xA78D_5A0F_3180_54F1);
+    assert_same(&rt, hash_text(""), 0x382C_6B14_BA5F_441A);
+    assert_same(&rt, hash_text("a"), 0x3597_A02A_7BF9_A232);
+    assert_same(&rt, hash_text("ab"), 0xB1A1_C301_919D_DD8F);
 }
 
 #[test]
 fn hashes_of_pairs(rt: HostRuntime) {
-    assert_same(&rt, mix_hashes(0, 0), 0);
-    assert_same(&rt, mix_hashes(0, 1), FACTOR);
-    assert_same(&rt, mix_hashes(3, 5), 0xB4E1_E807_E74D_7994);
+    assert_same(&rt, mix_hashes(0, 0), 0xE13D_F402_E537_C3AB);
+    assert_same(&rt, mix_hashes(0, 1), 0x2289_2A4A_AFB2_12B1);
+    assert_same(&rt, mix_hashes(3, 5), 0x07D4_7109_7D03_0218);
 }
 
 #[test]
 fn numbers(rt: HostRuntime) {
-    assert_same(&rt, NumberLaw::hash(&1u64), FACTOR);
-    assert_same(&rt, NumberLaw::hash(&1u32), FACTOR);
+    for (number, hash) in NUMBERS {
+        assert_same(&rt, NumberLaw::hash(&number), hash);
+    }
+    assert_same(&rt, NumberLaw::hash(&1u32), 0x7980_1DCC_73DB_173E);
     assert!(rt; NumberLaw::is_same(&3u64, &3u64) && !NumberLaw::is_same(&3u64, &4u64));
 }
 
@@ -47,7 +55,7 @@ fn keys(rt: HostRuntime) -> Result<(), Fail> {
     let other: String<Global> = String::from_str(rt.alloc(), "ba")?;
     assert!(rt; TextLaw::is_met(&"ab", &text) && !TextLaw::is_met(&"ab", &other));
     assert!(rt; TextLaw::is_same(&text, &text) && !TextLaw::is_same(&text, &other));
-    assert_same(&rt, TextLaw::hash(&text), 0xA78D_5A0F_3180_54F1);
+    assert_same(&rt, TextLaw::hash(&text), 0xB1A1_C301_919D_DD8F);
     Ok(())
 }
 

@@ -3,10 +3,10 @@ use Rattle.table_sets.proofs.Listed.{finds, lawful_apart}
 use Rattle.table_sets.proofs.set.HeldSet.get_by_key.Goals as goal
 
 pub returns-clause-finds : goal.returns-clause-finds
-returns-clause-finds g c = rw (← c.self.view_is)
-    (finds g.T.AtomicValue.target g.L.Law.same g.L.Law.hash_of _ (g.L.KeyLaw.meets c.args.key.now) c.self.inside.table _ c.lookup_alone.result
-    (λ x answer says. search rules) (λ x is. g.met.L.KeyLaw.agrees c.args.key.now x is ∙ sym c.hash_key.ensures) c.self.invariant.0 c.lookup_alone.ensures.accepted c.lookup_alone.ensures.none)
+returns-clause-finds g c = rw (← c.self.view_is, ← c.table.ensures.is)
+    (finds g.T.AtomicValue.target g.L.Law.same g.L.Law.hash_of _ (g.L.KeyLaw.meets c.args.key.now) c.table.result.now _ c.lookup_alone.result
+    (λ x answer says. search rules) (λ x is. g.met.L.KeyLaw.agrees c.args.key.now x is ∙ sym c.hash_key.ensures) c.table.ensures.lawful c.lookup_alone.ensures.accepted c.lookup_alone.ensures.none)
 
 pub returns-clause-apart : goal.returns-clause-apart
-returns-clause-apart g c = rw (← c.self.view_is)
-    (lawful_apart g.T.AtomicValue.target g.L.Law.same g.L.Law.hash_of c.self.inside.table c.self.invariant.0)
+returns-clause-apart g c = rw (← c.self.view_is, ← c.table.ensures.is)
+    (lawful_apart g.T.AtomicValue.target g.L.Law.same g.L.Law.hash_of c.table.result.now c.table.ensures.lawful)
