@@ -2,3 +2,4 @@ pub mod Lookups
 pub mod Meetings
 pub mod Runs
 pub mod Asks
+pub mod Placements

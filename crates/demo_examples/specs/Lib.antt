@@ -1,3 +1,5 @@
 pub mod Words
+pub mod Apart
 pub mod Schedules
 pub mod Asks
+pub mod Unshown

@@ -2,6 +2,9 @@
 #![tactic(auto)]
 
 pub mod alike;
+pub mod apart;
 pub mod held;
 pub mod schedules;
 pub mod seats;
+pub mod shared;
+pub mod unshown;

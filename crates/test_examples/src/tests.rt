@@ -5,6 +5,7 @@ mod lines;
 mod meetings;
 mod memory;
 mod schedules;
+mod shared;
 mod words;
 
 use std::alloc::Allocator;

@@ -1,6 +1,7 @@
 use Rattle.std.proofs.Common.{rules, arith}
 use Rattle.std.specs.Prelude.{option_copied}
 use Rattle.std.proofs.lemmas.Grind.{common_steps}
+use Rattle.table_held.specs.Table.{held}
 use Rattle.demo_examples.proofs.Lookups.{looks_for, shows_word}
 use Rattle.demo_examples.proofs.held.insert_then_find.Goals as goal
 
@@ -18,20 +19,13 @@ returns-clause-found c =
         hash_is = search rules;
         table_is = c.requires;
       };
-      inserted = record {
-        keeps = c.in_ok-place.ensures.keeps;
-        marks = c.in_ok-place.ensures.marks;
-        later = c.in_ok-place.ensures.later;
-        counted = c.in_ok-place.ensures.counted;
-        lawful = c.in_ok-place.ensures.lawful;
-        as_list = c.in_ok-place.ensures.as_list;
-      };
+      keeps = c.in_ok-place.ensures.keeps;
     })
     (λ p v h. h)
     (record {
       counted = c.in_ok-place.ensures.counted;
       lawful = grind (arith, common_steps);
       test_is = λ e answer among h. search rules;
-      told = looks_for (λ b. b.value) _ _ _ _ (search rules) (search rules);
+      told = looks_for (λ b. b.value) held _ _ _ _ (search rules) (search rules);
     }) in
     shows_word (λ b. b.value) _ _ _ _ c.copied-shown.ensures again

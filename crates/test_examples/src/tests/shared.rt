@@ -1,0 +1,108 @@
+//! Tables that are shared by a caller that doesn't know their kind, while every request for memory is refused.
+use super::assert_same;
+use demo_examples::held::Words;
+use demo_examples::shared::share_both;
+use lock_free_hashtable::sharded::{HeldShardedTable, ShardedLockFreeRawTable};
+use lock_free_hashtable::{HeldRawTable, InPlace, LockFreeRawTable};
+use std::alloc::Global;
+use std::process::Abort;
+use testkit_refusing::{Refusing, Rule};
+
+type Memory<'a> = &'a Refusing<Global>;
+
+/// How many words the first table has.
+const WORDS: u64 = 40;
+
+/// What each word adds to a sum beside itself.
+const COUNTED: u64 = 1 << 32;
+
+/// Every request is counted, and granted so far.
+fn memory(alloc: Global) -> Refusing<Global> {
+    Refusing::new(alloc, Rule::new(0, usize::MAX, 0, 0))
+}
+
+/// A raw table of the words below this one.
+fn raw<'a>(memory: Memory<'a>, words: u64) -> HeldRawTable<InPlace<u64>, Memory<'a>> {
+    let mut table = HeldRawTable::new(memory);
+    for word in 0..words {
+        let same = |a: &u64, b: &u64| *a == *b;
+        let hash = |a: &u64| *a;
+        let _told = table.place_alone::<Words, _, _>(word, InPlace(word), &same, &hash);
+    }
+    table
+}
+
+/// A table over two shards of the words below this one.
+fn sharded<'a>(memory: Memory<'a>, words: u64) -> HeldShardedTable<InPlace<u64>, 2, Memory<'a>> {
+    let mut table = HeldShardedTable::new(memory);
+    for word in 0..words {
+        let same = |a: &u64, b: &u64| *a == *b;
+        let hash = |a: &u64| a.reverse_bits();
+        let _told = table.place_alone::<Words, _, _>(
+            word.reverse_bits(),
+            InPlace(word),
+            &same,
+            &hash,
+        );
+    }
+    table
+}
+
+/// The sum of the words in a raw table, and their number above that.
+fn sum_of_raw(table: &LockFreeRawTable<InPlace<u64>, Memory<'_>>) -> u64 {
+    let mut sum = 0u64;
+    for word in table {
+        sum = sum.wrapping_add(COUNTED).wrapping_add(*word);
+    }
+    sum
+}
+
+/// The same of a table over shards.
+fn sum_of_shards(table: &ShardedLockFreeRawTable<InPlace<u64>, 2, Memory<'_>>) -> u64 {
+    let mut sum = 0u64;
+    for word in table {
+        sum = sum.wrapping_add(COUNTED).wrapping_add(*word);
+    }
+    sum
+}
+
+/// The same of the words below this one.
+fn sum_below(words: u64) -> u64 {
+    let mut sum = 0u64;
+    for word in 0..words {
+        sum = sum.wrapping_add(COUNTED).wrapping_add(word);
+    }
+    sum
+}
+
+/// The shared tables have these sums, and no request was made since so many were granted.
+fn assert_shared(rt: &impl Abort, memory: Memory<'_>, granted: u64, sums: [u64; 2]) {
+    assert_same(rt, sums, [sum_below(WORDS), sum_below(0)]);
+    assert_same(
+        rt,
+        [memory.granted(), memory.refusals_left()],
+        [granted, u64::MAX],
+    );
+}
+
+#[test]
+fn raw_tables_are_shared_without_memory(rt: HostRuntime) {
+    let memory = memory(rt.alloc());
+    let (one, other) = (raw(&memory, WORDS), raw(&memory, 0));
+    let granted = memory.granted();
+    memory.refuse(0, u64::MAX);
+    let (one, other) = share_both(one, other);
+    let sums = [sum_of_raw(&one), sum_of_raw(&other)];
+    assert_shared(&rt, &memory, granted, sums);
+}
+
+#[test]
+fn tables_over_shards_are_shared_without_memory(rt: HostRuntime) {
+    let memory = memory(rt.alloc());
+    let (one, other) = (sharded(&memory, WORDS), sharded(&memory, 0));
+    let granted = memory.granted();
+    memory.refuse(0, u64::MAX);
+    let (one, other) = share_both(one, other);
+    let sums = [sum_of_shards(&one), sum_of_shards(&other)];
+    assert_shared(&rt, &memory, granted, sums);
+}
