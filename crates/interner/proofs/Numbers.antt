@@ -1,13 +1,15 @@
 -- What texts and their numbers say of one another.
-use Rattle.std.proofs.Common.{◌≡◌, ◌⊎◌, ℕ, ◌+◌, ◌-◌, ◌++◌, List, [], ◌∷◌, Option, Some, None, Ok, length, ap, arith, inl, inr}
+use Rattle.std.proofs.Common.{◌≡◌, ◌⊎◌, ℕ, ◌+◌, ◌-◌, ◌++◌, List, [], ◌∷◌, Option, Some, None, Result, Ok, Err, length, ap, arith, inl, inr}
 use Rattle.std.specs.Prelude.{slice_get, Contains, option_map}
 use Rattle.std.specs.Int.NonZero.{non_zero_u32_get}
 use Rattle.std.specs.declared.num.NonZeroU32.{NonZeroU32}
 use Rattle.std.proofs.lemmas.Grind.{common_steps}
 use Rattle.std.proofs.lemmas.Option.{slice_get_within, get_or_from_slice_get, gets}
-use Rattle.interner.specs.Texts.{HasNumber, AllDifferent, FindsNumber}
-use Rattle.interner.specs.Interns.{Interns}
+use Rattle.interner.specs.Texts.{HasNumber, AllDifferent, FindsNumber, greatest_number}
+use Rattle.interner.specs.Interns.{Interns, InternsUpTo}
 use Rattle.interner.specs.Again.{IsLater, FindsAgain}
+use Rattle.interner.specs.declared.refused.Refused.{Refused}
+use Rattle.interner.specs.declared.refused.Refused.TheVariants.{Numbers, NoMemory}
 
 -- a text with a number is one of the texts
 pub among_texts : (texts : List (List ℕ)) (text : List ℕ) (n : ℕ) → HasNumber texts text n → Contains texts text
@@ -32,6 +34,13 @@ next_number texts text n is = let before : n - 1 ≡ length texts = omega arith 
 pub interned : (old new : List (List ℕ)) (text : List ℕ) (number : NonZeroU32) → Interns old text (Ok number) new → HasNumber new text (non_zero_u32_get number)
 interned old new text number (inl (has, same)) = rw same has
 interned old new text number (inr (none, is, added)) = rw added (next_number old text (non_zero_u32_get number) is)
+
+-- to intern up to the greatest number of all is to intern
+pub up_to_all : (old new : List (List ℕ)) (text : List ℕ) (answer : Result NonZeroU32 Refused) → InternsUpTo greatest_number old text answer new → Interns old text answer new
+up_to_all old new text (Ok number) (inl known) = inl known
+up_to_all old new text (Ok number) (inr (few, next)) = inr next
+up_to_all old new text (Err Numbers) (none, given, same) = (none, omega (arith, given.0, given.1), same)
+up_to_all old new text (Err NoMemory) refused = refused
 
 -- a look-up of a text with a number finds it
 finds : (texts : List (List ℕ)) (text : List ℕ) (n : ℕ) (found : Option NonZeroU32) → AllDifferent texts → HasNumber texts text n → FindsNumber texts text found → option_map non_zero_u32_get found ≡ Some n

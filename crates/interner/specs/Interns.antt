@@ -1,5 +1,5 @@
 -- What it means to intern a text.
-use Rattle.std.specs.Prelude.{◌≡◌, ◌⊎◌, ℕ, ◌+◌, ◌<◌, ◌++◌, List, [], ◌∷◌, Result, Ok, Err, length, Contains}
+use Rattle.std.specs.Prelude.{◌≡◌, ◌⊎◌, ℕ, ◌+◌, ◌<◌, ◌≤◌, ◌++◌, List, [], ◌∷◌, Result, Ok, Err, length, Contains}
 use Rattle.std.specs.Int.NonZero.{non_zero_u32_get}
 use Rattle.std.specs.declared.num.NonZeroU32.{NonZeroU32}
 use Rattle.interner.specs.Texts.{HasNumber, greatest_number}
@@ -24,9 +24,23 @@ Interns old text (Err Numbers) new =
 Interns old text (Err NoMemory) new =
     ¬ Contains old text × (length old < greatest_number) × (new ≡ old)
 
--- the number that follows those of these texts, or Numbers where none does
-abbrev pub GivesNext : List (List ℕ) → Result NonZeroU32 Refused → Type 0
-GivesNext texts (Ok number) =
-    (length texts < greatest_number) × (non_zero_u32_get number ≡ length texts + 1)
-GivesNext texts (Err Numbers) = length texts ≡ greatest_number
-GivesNext texts (Err NoMemory) = ⊥
+-- so many numbers are given, or more; more than all are never given
+abbrev pub AreGiven : ℕ → List (List ℕ) → Type 0
+AreGiven greatest texts = (greatest ≤ length texts) × (length texts ≤ greatest_number)
+
+-- the same, where no number above this one is given: Numbers only where so many are given
+abbrev pub InternsUpTo : ℕ → List (List ℕ) → List ℕ → Result NonZeroU32 Refused → List (List ℕ) → Type 0
+InternsUpTo greatest old text (Ok number) new =
+    Knows old text (non_zero_u32_get number) new
+    ⊎ (length old < greatest) × GetsNext old text (non_zero_u32_get number) new
+InternsUpTo greatest old text (Err Numbers) new =
+    ¬ Contains old text × AreGiven greatest old × (new ≡ old)
+InternsUpTo greatest old text (Err NoMemory) new =
+    ¬ Contains old text × (length old < greatest) × (new ≡ old)
+
+-- the number that follows those of these texts, up to the greatest one, or Numbers where so many are given
+abbrev pub GivesNext : ℕ → List (List ℕ) → Result NonZeroU32 Refused → Type 0
+GivesNext greatest texts (Ok number) =
+    (length texts < greatest) × (non_zero_u32_get number ≡ length texts + 1)
+GivesNext greatest texts (Err Numbers) = AreGiven greatest texts
+GivesNext greatest texts (Err NoMemory) = ⊥

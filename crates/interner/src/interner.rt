@@ -2,7 +2,7 @@
 ghost use Rattle.std.specs.Prelude.{◌≡◌, ◌-◌, ◌≤◌, [], length, option_copied, slice_get};
 ghost use Rattle.std.specs.Int.NonZero.{non_zero_u32_get};
 ghost use Rattle.interner.specs.Texts.{greatest_number, AllDifferent, FindsNumber};
-ghost use Rattle.interner.specs.Interns.{Interns};
+ghost use Rattle.interner.specs.Interns.{Interns, InternsUpTo};
 
 use crate::hash::{TextHash, Times31};
 use crate::interner_of::InternerOf;
@@ -57,11 +57,24 @@ impl<A: Allocator + Copy, H: TextHash> Interner<A, H> {
         ensures interns { Interns self.old text.now result self.new }
         ensures different { AllDifferent self.new }
     {
+        self.intern_up_to(text, u32::MAX)
+    }
+
+    /// Interns the text as `intern_alone` does, but gives no number above `greatest`.
+    ///
+    /// `Refused::Numbers`: the text is new, and `greatest` or more numbers are given; no memory was asked for.
+    pub fn intern_up_to(&mut self, text: &str, greatest: u32) -> Result<NonZeroU32, Refused>
+        ensures interns { InternsUpTo greatest self.old text.now result self.new }
+        ensures different { AllDifferent self.new }
+    {
         let hash = H::hash(text.as_bytes());
         if let Some(number) = self.texts.number_by_hash(hash, text) {
             return Ok(number);
         }
-        let number = self.texts.next_number()?;
+        let number = self.texts.next_number(greatest)?;
+        if self.texts.reserve_one().is_err() {
+            return Err(Refused::NoMemory);
+        }
         let Ok(kept) = String::from_str(self.alloc, text) else {
             return Err(Refused::NoMemory);
         };

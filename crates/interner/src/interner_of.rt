@@ -98,7 +98,7 @@ impl<S: AsStr + Drop, H: TextHash, A: Allocator + Copy, B: Allocator + Copy> Int
         ensures interns { Interns self.old (S.text text) result self.new }
         ensures different { AllDifferent self.new }
     {
-        let number = self.next_number()?;
+        let number = self.next_number(u32::MAX)?;
         let hash = H::hash(text.as_str().as_bytes());
         match self.add(hash, text, number) {
             Ok(()) => Ok(number),
@@ -121,19 +121,26 @@ impl<S: AsStr + Drop, H: TextHash, A: Allocator + Copy, B: Allocator + Copy> Int
         Some(found.number)
     }
 
-    /// The number that a new text gets.
-    pub(crate) fn next_number(&self) -> Result<NonZeroU32, Refused>
-        ensures next { GivesNext self.now result }
+    /// Returns the number that a new text gets, or `Refused::Numbers` if that is above `greatest`.
+    pub(crate) fn next_number(&self, greatest: u32) -> Result<NonZeroU32, Refused>
+        ensures next { GivesNext greatest self.now result }
         ensures different { AllDifferent self.now }
     {
         let given = self.len_alone();
-        if given == u32::MAX as usize {
+        if given >= greatest as usize {
             return Err(Refused::Numbers);
         }
         match NonZeroU32::new(given as u32 + 1) {
             Some(number) => Ok(number),
             None => unreachable!(),
         }
+    }
+
+    /// Asks for the room of one text more, if there is none.
+    pub(crate) fn reserve_one(&mut self) -> Result<(), AllocError>
+        ensures { self.new ≡ self.old }
+    {
+        self.by_number.reserve(1)
     }
 
     /// Gives the text, which has none, this number, the next one. An Err changes nothing.

@@ -1,5 +1,6 @@
 //! The interner, run.
 mod memory;
+mod order;
 mod seats;
 mod texts;
 

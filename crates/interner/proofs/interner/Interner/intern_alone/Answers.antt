@@ -1,9 +1,5 @@
-use Rattle.interner.proofs.Numbers.{different_push}
+use Rattle.interner.proofs.Numbers.{up_to_all}
 use Rattle.interner.proofs.interner.Interner.intern_alone.Goals as goal
-use Rattle.interner.proofs.interner.Interner.intern_alone.Goals.{in-Ok-add, in-Err}
 
-pub returns-clause-different : goal.returns-clause-different
-returns-clause-different g c = elim c.match-add.branch [
-  | in-Ok-add w ↦ rw w.in-Ok-add.ensures.added (different_push c.self.inside.texts _ c.number_by_hash.ensures.different (rw c.in-Ok.ensures.ok c.in_default.ensures.finds))
-  | in-Err w ↦ rw w.in-Err.ensures.unchanged c.number_by_hash.ensures.different
-]
+pub returns-clause-interns : goal.returns-clause-interns
+returns-clause-interns g c = up_to_all _ _ _ c.intern_up_to.result c.intern_up_to.ensures.interns

@@ -1,4 +1,4 @@
-use Rattle.std.proofs.Common.{rules, ap, ◌∙◌, sym}
+use Rattle.std.proofs.Common.{rules, ap}
 use Rattle.std.specs.Int.NonZero.{non_zero_u32_get}
 use Rattle.std.proofs.lemmas.List.{map_push}
 use Rattle.interner.proofs.Held.{never_found, kept_refused, kept_placed}

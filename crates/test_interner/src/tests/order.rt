@@ -1,0 +1,100 @@
+//! What an interner asks its allocator for, and in which order.
+use super::{assert_same, text_of};
+use interner::{Interner, Refused};
+use std::alloc::{AllocError, Global};
+use std::process::Abort;
+use std::test::Fail;
+use testkit_refusing::{Refusing, Rule};
+
+/// The texts that come first: the next one finds no room in the vector.
+const FIRST: [&str; 4] = ["one", "two", "three", "four"];
+
+/// How many bytes the next text has.
+const LONG: usize = 5000;
+
+/// The sizes of the three requests that the next text makes, in the order in which they come: for the vector's room, for the text's
+/// bytes, and for the table's block of its number.
+const ORDER: [(usize, usize); 3] = [(100, 1000), (LONG, LONG), (1, 64)];
+
+/// An interner of the first texts, which asks this allocator.
+fn interner_of_first<'a>(
+    rt: &impl Abort,
+    heap: &'a Refusing<Global>,
+) -> Interner<&'a Refusing<Global>> {
+    let mut interner = Interner::new(heap);
+    for text in FIRST {
+        assert!(rt; interner.intern_alone(text).is_ok());
+    }
+    interner
+}
+
+/// A text of so many bytes.
+fn long_text(alloc: Global) -> Result<String, AllocError> {
+    let mut text = String::new(alloc);
+    for _ in 0..LONG {
+        text.push('x')?;
+    }
+    Ok(text)
+}
+
+/// Interns the text while the request of these sizes is refused, and says how many requests were granted before it.
+fn granted_before(
+    rt: &impl Abort,
+    alloc: Global,
+    text: &str,
+    (least, most): (usize, usize),
+) -> u64 {
+    let heap = Refusing::new(alloc, Rule::new(least, most, 0, 0));
+    let mut interner = interner_of_first(rt, &heap);
+    heap.refuse(0, 1);
+    let before = heap.granted();
+    assert!(rt; interner.intern_alone(text) == Err(Refused::NoMemory));
+    assert_same(rt, heap.refusals_left(), 0);
+    let granted = heap.granted().wrapping_sub(before);
+    assert_same(rt, interner.len_alone(), FIRST.len());
+    assert!(rt;
+        interner
+            .intern_alone(text)
+            .is_ok_and(|number| number.get() == 5)
+    );
+    granted
+}
+
+/// The room of the vector is asked for first, then the text, and the table's block last.
+#[test]
+fn room_then_the_text_then_the_table(rt: HostRuntime) -> Result<(), Fail> {
+    let text = long_text(rt.alloc())?;
+    for (place, sizes) in ORDER.iter().enumerate() {
+        let granted = granted_before(&rt, rt.alloc(), text.as_str(), *sizes);
+        assert_same(&rt, granted, place as u64);
+    }
+    Ok(())
+}
+
+/// A new text for which no number is left asks for no memory, and changes nothing.
+#[test]
+fn want_of_numbers_asks_for_no_memory(rt: HostRuntime) {
+    let heap = Refusing::new(rt.alloc(), Rule::new(0, usize::MAX, u64::MAX, 0));
+    let mut interner = interner_of_first(&rt, &heap);
+    let granted = heap.granted();
+    heap.refuse(0, u64::MAX);
+    for greatest in [0, 1, 4] {
+        assert!(rt; interner.intern_up_to("five", greatest) == Err(Refused::Numbers));
+        assert!(rt;
+            interner
+                .intern_up_to("four", greatest)
+                .is_ok_and(|number| number.get() == 4)
+        );
+    }
+    assert_same(&rt, heap.granted(), granted);
+    assert_same(&rt, heap.refusals_left(), u64::MAX);
+    assert_same(&rt, interner.len_alone(), FIRST.len());
+    assert_same(&rt, text_of(&interner, 5), None);
+    heap.refuse(0, 0);
+    assert!(rt;
+        interner
+            .intern_up_to("five", 5)
+            .is_ok_and(|number| number.get() == 5)
+    );
+    assert!(rt; interner.intern_up_to("six", 5) == Err(Refused::Numbers));
+}
