@@ -3,7 +3,8 @@
 //! A [`HeldRawTable`] keeps one value for each target: what a value leads to, as its [`AtomicValue`] says. Its calls take
 //! the hash of a target and closures that compare and hash; a [`Law`] says what their caller means by them. A [`Place`]
 //! names a bucket that shows an entry, and stays good over growth. [`LockFreeRawTable`] is the one that threads share,
-//! [`sharded`] has both over several shards, and [`alone`] has lists of calls on any table held alone.
+//! [`sharded`] has both over several shards, and [`alone`] has lists of calls on any table held alone. [`stepped`] has calls on a
+//! shared table that take one step at a time.
 //!
 //! This crate names what the crates below it make: it has no code of its own. Who needs one owner's table alone names
 //! `table_held`, below which nothing knows of threads.
@@ -11,6 +12,7 @@
 
 pub mod raw;
 pub mod sharded;
+pub mod stepped;
 
 pub use raw::{
     FIRST_CAPACITY, HeldIter, HeldRawTable, InsertCall, IntoIter, Iter, LockFreeRawTable,

@@ -27,6 +27,10 @@ use table_values::IntoIter;
 ///
 /// Its entries are counted by one number for the whole table: growth copies every entry while nothing is added, so the
 /// generation that is current has as many.
+///
+/// A hash should vary in all its 64 bits: a probe and a lane begin at the low bits, and bits 32 to 39 spare most calls of `eq`. For
+/// a number call `table_terms::law::hash_number(number)`. A product with an odd number isn't enough: multiples of 2^16 share its low 16
+/// bits.
 pub struct LockFreeRawTable<T: AtomicValue, A: Allocator + Copy = Global> {
     pub(crate) first_capacity: usize,
     pub(crate) home: Home,

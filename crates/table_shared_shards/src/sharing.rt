@@ -1,5 +1,5 @@
 //! A table held alone becomes one that threads share.
-ghost use Rattle.std.specs.Prelude.{◌≡◌};
+ghost use Rattle.std.specs.Prelude.{◌≡◌, ℕ, List, [], ◌∷◌};
 ghost use Rattle.table_shared_shards.specs.SharedTables.{IsCurrent};
 
 use std::alloc::Allocator;
@@ -7,17 +7,43 @@ use table_generations::atomic_value::AtomicValue;
 use table_held::raw::{HeldParts, HeldRawTable};
 use table_shared::LockFreeRawTable;
 
-/// A table that one owner holds alone, and that can become one that threads share.
+/// A single-owner table that can become one that threads share.
 pub trait Share {
+    ghost use Rattle.table_shared_shards.specs.SharedTables.{Rows};
+
+    /// The values of the table.
+    type Value;
+
     /// The table that it becomes.
     type Shared;
 
-    /// The table, to be shared by threads. It takes no memory, and no bucket is looked at.
-    fn share(self) -> Self::Shared;
+    ghost capacities: { Self → List ℕ };
+
+    ghost rows: { Self → List (Rows Self.Value) };
+
+    ghost shared_capacities: { Self.Shared → List ℕ };
+
+    ghost shared_rows: { Self.Shared → List (Rows Self.Value) };
+
+    /// Makes the table one that threads share. Each shard keeps its first capacity and its generations, bucket by bucket. `share`
+    /// can't be refused: it takes no memory.
+    fn share(self) -> Self::Shared
+        ensures first { shared_capacities result ≡ capacities self }
+        ensures shared { shared_rows result ≡ rows self };
 }
 
 impl<T: AtomicValue, A: Allocator + Copy> Share for HeldRawTable<T, A> {
+    type Value = T;
+
     type Shared = LockFreeRawTable<T, A>;
+
+    ghost capacities = { λ t. t.first_capacity ∷ [] };
+
+    ghost rows = { λ t. t.generations ∷ [] };
+
+    ghost shared_capacities = { λ t. t.first_capacity ∷ [] };
+
+    ghost shared_rows = { λ t. t.shared ∷ [] };
 
     fn share(self) -> LockFreeRawTable<T, A>
         ensures first { result.first_capacity ≡ self.first_capacity }

@@ -43,7 +43,17 @@ impl<T: AtomicValue, const SHARDS: usize, A: Allocator + Copy> ShardedLockFreeRa
 
 impl<T: AtomicValue, const SHARDS: usize, A: Allocator + Copy> Share
     for HeldShardedTable<T, SHARDS, A> {
+    type Value = T;
+
     type Shared = ShardedLockFreeRawTable<T, SHARDS, A>;
+
+    ghost capacities = { λ ts. map (λ t. t.first_capacity) ts };
+
+    ghost rows = { λ ts. map (λ t. t.generations) ts };
+
+    ghost shared_capacities = { λ ts. map (λ t. t.first_capacity) ts };
+
+    ghost shared_rows = { λ ts. map (λ t. t.shared) ts };
 
     /// The table, to be shared by threads: each shard as `HeldRawTable::share` makes it, in its place. It takes no memory, and
     /// no bucket is looked at.

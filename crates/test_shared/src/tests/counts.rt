@@ -55,7 +55,7 @@ struct Meeting {
 
 /// Of the last pair one takes the last bucket, and the other one grows the table.
 const AT_THE_LAST_BUCKET: Meeting = Meeting {
-    lawful: Lawful::Spread,
+    lawful: Lawful::ByFives,
     pairs: &PAIRS,
     refused: 8,
     placed: 17,
@@ -73,7 +73,7 @@ const AT_THE_END_OF_THE_WAY: Meeting = Meeting {
 
 /// Of the last pair one finds the other one's number, and both ask for growth: one of them is refused.
 const FOUND_BY_THE_LOSER: Meeting = Meeting {
-    lawful: Lawful::Spread,
+    lawful: Lawful::ByFives,
     pairs: &[(0, 0), (1, 2), (3, 4), (5, 6), (7, 8), (9, 9)],
     refused: 3,
     placed: 10,
