@@ -2,6 +2,7 @@
 mod cuts;
 mod drawn;
 mod drops;
+mod interleaved;
 mod lanes;
 mod meetings;
 mod whole;

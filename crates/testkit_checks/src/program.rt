@@ -55,12 +55,12 @@ fn run_check<
     let alloc: Global = rt.alloc();
     match check {
         Check::All => {
-            let replayed = run_replays(alloc, words, output, messages);
+            let replayed = run_replays(rt, alloc, words, output, messages);
             let rounds = run_rounds(rt, alloc, words, output, messages);
             let measured = status_of(check_all(rt), messages);
             replayed.max(rounds).max(measured)
         }
-        Check::Replays => run_replays(alloc, words, output, messages),
+        Check::Replays => run_replays(rt, alloc, words, output, messages),
         Check::Stress => run_rounds(rt, alloc, words, output, messages),
         Check::Bench => status_of(run_bench(rt, words), messages),
     }

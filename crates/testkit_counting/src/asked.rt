@@ -60,6 +60,9 @@ pub trait Asked {
 pub enum Lawful {
     /// Each number is equal to itself alone, and its hash is spread.
     Spread,
+    /// Each number is equal to itself alone, and its hash is five times the number: of sixteen numbers in a row no two begin at one of
+    /// sixteen buckets.
+    ByFives,
     /// Of four numbers in a row each is equal to the others.
     InFours,
     /// Each number is equal to itself alone, and all have this hash.
@@ -79,6 +82,7 @@ impl Asked for Lawful {
     fn hash(&self, number: u64) -> u64 {
         match *self {
             Lawful::Spread => hash_number(number),
+            Lawful::ByFives => number.wrapping_mul(5),
             Lawful::InFours => hash_number(number / 4),
             Lawful::At(hash) => hash,
             Lawful::FromTheFirst if number < 15 => number,

@@ -7,9 +7,11 @@ ghost use Rattle.testkit_refusing.specs.Rules.{least_counted, most_counted, Coun
 
 mod lot;
 mod pairs;
+mod turns;
 
 use crate::lot::Lot;
 use crate::pairs::Pairs;
+pub use crate::turns::Turns;
 use std::alloc::{AllocError, Allocator};
 use std::sync::atomic::{AtomicU64, Ordering};
 use table_cell::Low;
@@ -22,6 +24,7 @@ pub struct Rule {
     refused: AtomicU64,
     lot: Lot,
     pairs: Pairs,
+    turns: Turns,
     granted: AtomicU64,
     given_back: AtomicU64,
 }
@@ -40,6 +43,7 @@ impl Rule {
             refused: AtomicU64::new(refused),
             lot: Lot::new(0, 1),
             pairs: Pairs::new(0, 0),
+            turns: Turns::new(0),
             granted: AtomicU64::new(0),
             given_back: AtomicU64::new(0),
         }
@@ -65,6 +69,15 @@ impl Rule {
         self
     }
 
+    /// The same rule, by which a thread looks for its turn `looks` times.
+    pub fn in_turns(mut self, looks: u64) -> Rule
+        ensures least { least_counted result ≡ least_counted self }
+        ensures most { most_counted result ≡ most_counted self }
+    {
+        self.turns = Turns::new(looks);
+        self
+    }
+
     /// Whether requests of this size are counted.
     fn counts(&self, size: usize) -> bool
         ensures { IsTrue result ↔ Counts self.now size }
@@ -79,6 +92,7 @@ impl Rule {
             return true;
         }
         if counts {
+            self.turns.hold();
             self.pairs.meet();
         }
         add_one(&self.granted);
@@ -132,6 +146,11 @@ impl<B: Allocator> Refusing<B> {
         self.rule.pairs.alone()
     }
 
+    /// Returns the turns that threads take.
+    pub fn turns(&self) -> &Turns {
+        &self.rule.turns
+    }
+
     /// How many requests were passed on to the memory below: so many blocks were granted, where that refused none.
     pub fn granted(&self) -> u64 {
         self.rule.granted.load(Ordering::SeqCst)
@@ -174,6 +193,7 @@ impl<B: Allocator> Drop for Refusing<B> {
                 refused: _,
                 lot: _,
                 pairs: _,
+                turns: _,
                 granted: _,
                 given_back: _,
             },

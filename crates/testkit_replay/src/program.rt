@@ -1,8 +1,11 @@
 //! Replays as many drawn schedules as are asked for.
 use crate::drawn::first_fault;
+use crate::whole_calls::interleaved;
 use std::alloc::Global;
 use std::convert::AsStr;
 use std::io::Write;
+use std::sync::Wait;
+use std::thread::Threads;
 
 /// How many schedules run where no number is given.
 const FEW: u64 = 20;
@@ -13,9 +16,11 @@ const WELL: u8 = 0;
 /// The status of a schedule with a fault, or of arguments that are spelled otherwise.
 const BAD: u8 = 1;
 
-/// Replays the schedules that the words ask for, and answers the status. They are how many there are, and the seed of the
-/// first; without them a few run, and the first seed is 0. The first fault goes to `messages`, with its seed.
-pub fn run_replays<S: AsStr, O: Write, M: Write>(
+/// Replays the schedules that the words ask for, and returns the status. The words are how many seeds there are, and the first seed;
+/// without them a few run, from seed 0 on. Each seed has a schedule of stepped calls, and one of whole calls on two threads. The first
+/// fault goes to `messages`, with its seed.
+pub fn run_replays<R: Threads + Wait + Sync, S: AsStr, O: Write, M: Write>(
+    rt: &R,
     alloc: Global,
     words: &[S],
     output: &mut O,
@@ -28,7 +33,7 @@ pub fn run_replays<S: AsStr, O: Write, M: Write>(
         );
         return BAD;
     };
-    replay_seeds(alloc, seeds, first_seed, output, messages)
+    replay_seeds(rt, alloc, seeds, first_seed, output, messages)
 }
 
 /// Reads how many schedules there are, and the seed of the first.
@@ -46,22 +51,24 @@ fn parse_word<S: AsStr>(word: &S) -> Option<u64> {
     word.as_str().parse::<u64>().ok()
 }
 
-/// Replays so many schedules, the first of this seed, and answers the status.
-fn replay_seeds<O: Write, M: Write>(
+/// Replays the schedules of so many seeds from this one on, and returns the status.
+fn replay_seeds<R: Threads + Wait + Sync, O: Write, M: Write>(
+    rt: &R,
     alloc: Global,
     seeds: u64,
     first_seed: u64,
     output: &mut O,
     messages: &mut M,
 ) -> u8 {
-    let written = match first_fault(alloc, first_seed, seeds) {
-        None => writeln!(output, "{seeds} schedules agree"),
-        Some((seed, fault)) => {
-            let _ = writeln!(messages, "seed {seed}: {fault:?}");
-            return BAD;
-        }
-    };
-    match written {
+    if let Some((seed, fault)) = first_fault(alloc, first_seed, seeds) {
+        let _ = writeln!(messages, "seed {seed}: {fault:?}");
+        return BAD;
+    }
+    if let Some((seed, fault)) = interleaved::first_fault(rt, alloc, first_seed, seeds) {
+        let _ = writeln!(messages, "seed {seed}, whole calls: {fault:?}");
+        return BAD;
+    }
+    match writeln!(output, "{seeds} schedules agree") {
         Ok(()) => WELL,
         Err(_error) => BAD,
     }

@@ -11,7 +11,7 @@ const STEPS: u64 = 1000;
 const CLASSES: u64 = 60;
 
 /// What a call asks.
-#[derive(Clone, Copy)]
+#[derive(Clone, Copy, PartialEq)]
 pub enum Ask {
     /// An insert of a value of this class and this hash.
     Insert(u64, u64),

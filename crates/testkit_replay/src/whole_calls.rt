@@ -4,6 +4,8 @@
 //! asked about the same entry at the same step, and each call told the same.
 ghost use Rattle.table_terms.specs.Capacities.{IsFirstCapacity};
 
+pub mod interleaved;
+mod interleaving;
 pub mod meeting;
 mod retrace;
 pub mod trace;

@@ -1,7 +1,8 @@
 //! Checks and measures the tables.
 //!
 //!     tool_checks                                     a few schedules, a few rounds, and each workload without a clock
-//!     tool_checks replays [SCHEDULES [FIRST-SEED]]    replays drawn schedules on a table beside the machine of all schedules
+//!     tool_checks replays [SCHEDULES [FIRST-SEED]]    replays drawn schedules on a table beside the machine of all schedules:
+//!                                                     of stepped calls, and of whole calls on two threads
 //!     tool_checks stress [MINUTES [FIRST-SEED]]       runs drawn rounds, in which threads give values to one table at once,
 //!                                                     and accounts for each value; it says each minute what they came to
 //!     tool_checks bench list                          the names of what is measured

@@ -21,7 +21,7 @@ use std::thread::Threads;
 use testkit_refusing::{Refusing, Rule};
 
 /// How many bytes the block of an entry has. No request for a generation is that small.
-const BLOCK: usize = 16;
+pub(crate) const BLOCK: usize = 16;
 
 /// How often a thread looks for the other one, and how often the growth looks in vain, so that the other one comes to the lock.
 const LOOKS: u64 = 1 << 27;

@@ -33,7 +33,7 @@ impl Sight {
 }
 
 /// Something that happens. A call has the number of its place among those that have begun.
-#[derive(Clone, Copy)]
+#[derive(Clone, Copy, PartialEq)]
 pub enum Mark {
     /// Of the requests for memory from now on, so many are granted and the next are refused.
     Refuses(u64, u64),

@@ -1,0 +1,11 @@
+//! Whole calls of two threads, interleaved as it is drawn.
+use testkit_replay::whole_calls::interleaved::first_fault;
+
+/// How many interleavings are drawn.
+const SEEDS: u64 = 100;
+
+#[test]
+fn whole_calls_of_two_threads_that_are_drawn(rt: HostRuntime) {
+    let fault = first_fault(&rt, rt.alloc(), 0, SEEDS);
+    assert!(rt; fault.is_none(), "{fault:?}");
+}

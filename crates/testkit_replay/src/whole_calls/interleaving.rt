@@ -1,0 +1,431 @@
+//! Interleavings of the whole calls of two threads, each drawn from its seed.
+//!
+//! An interleaving is rehearsed by stepped calls beside the machine. It says where each call stops: where a closure is asked, and
+//! where the block of a value is requested. At some stops the turn ends, and another thread goes on. Where a call is blocked, both
+//! threads go on at once until both calls have ended.
+use crate::fault::{Fault, granted};
+use crate::item::Said;
+use crate::replay::{Replay, Turn};
+use crate::running::{Schedule, Stepped, Took};
+use crate::schedules::Ask;
+use crate::script::Script;
+use crate::whole_calls::trace::{Mark, Sight};
+use std::alloc::Global;
+use table_core::call::Phase;
+
+/// How many classes there are to draw from.
+const CLASSES: u64 = 30;
+
+/// Who stops: one of two threads, or the one that watches how a call comes to a lock.
+#[derive(Clone, Copy, PartialEq, Debug)]
+pub(crate) enum Actor {
+    First,
+    Second,
+    Watcher,
+}
+
+impl Actor {
+    /// The other thread that calls the table.
+    fn other(self) -> Actor {
+        if self == Actor::First {
+            Actor::Second
+        } else {
+            Actor::First
+        }
+    }
+}
+
+/// Where a thread stops, in which turn, and what the table shows then if no other thread runs.
+#[derive(Clone, Copy)]
+pub(crate) struct Stop {
+    pub(crate) actor: Actor,
+    pub(crate) turn: u64,
+    /// The number of the call.
+    pub(crate) call: u64,
+    pub(crate) mark: Mark,
+    pub(crate) sight: Option<Sight>,
+    pub(crate) then: Then,
+    /// The turn in which the thread goes on, if it does.
+    pub(crate) resumes: Option<u64>,
+}
+
+/// What a thread does after a stop.
+#[derive(Clone, Copy, PartialEq)]
+pub(crate) enum Then {
+    /// It goes on.
+    GoesOn,
+    /// It ends the turn, and waits until it goes on in a later one.
+    Hands,
+    /// It ends the turn and goes on to a lock, for which it has to wait.
+    Enters,
+}
+
+/// An entry for whose hash a growth asks while both threads run, the hash that it is told, and what the table shows.
+#[derive(Clone, Copy, PartialEq)]
+pub(crate) struct Copied {
+    pub(crate) entry: u64,
+    pub(crate) hash: u64,
+    pub(crate) sight: Sight,
+}
+
+/// The stops of two threads in their order, and what growths ask while both threads run.
+#[derive(Drop)]
+pub(crate) struct Interleaving {
+    pub(crate) stops: Vec<Stop>,
+    pub(crate) copied: Vec<Copied>,
+}
+
+/// The calls of one thread: how many are still to begin, the place of the one that goes on, and whether that one doesn't stop at its
+/// next request for a block.
+#[derive(Clone, Copy)]
+struct Part {
+    left: u64,
+    call: Option<usize>,
+    passes_request: bool,
+}
+
+impl Part {
+    /// Whether there is a call that goes on, or one that is to begin.
+    fn goes_on(self) -> bool {
+        self.call.is_some() || self.left != 0
+    }
+}
+
+/// An interleaving that is drawn, as far as it is rehearsed.
+#[derive(Drop)]
+pub(crate) struct Rehearsal<'s> {
+    script: &'s Script,
+    first: Part,
+    second: Part,
+    /// Which thread goes on, unless all calls have ended.
+    running: Option<Actor>,
+    /// Whether both threads go on at once.
+    both: bool,
+    turn: u64,
+    /// The class and the hash that were drawn last.
+    drawn: (u64, u64),
+    /// The phase before the step.
+    before: Phase,
+    stops: Vec<Stop>,
+    copied: Vec<Copied>,
+}
+
+impl<'s> Rehearsal<'s> {
+    /// Each thread makes `calls` calls, which are drawn from the script.
+    pub(crate) fn new(alloc: Global, script: &'s Script, calls: u64) -> Rehearsal<'s> {
+        let part = Part {
+            left: calls,
+            call: None,
+            passes_request: false,
+        };
+        Rehearsal {
+            script,
+            first: part,
+            second: part,
+            running: Some(Actor::First),
+            both: false,
+            turn: 0,
+            drawn: (0, 0),
+            before: Phase::Done,
+            stops: Vec::new(alloc),
+            copied: Vec::new(alloc),
+        }
+    }
+
+    /// Returns what was rehearsed.
+    pub(crate) fn into_interleaving(self) -> Interleaving {
+        let Rehearsal {
+            script: _,
+            first: _,
+            second: _,
+            running: _,
+            both: _,
+            turn: _,
+            drawn: _,
+            before: _,
+            stops,
+            copied,
+        } = self;
+        Interleaving { stops, copied }
+    }
+
+    /// The calls of this thread.
+    fn part(&self, actor: Actor) -> Part {
+        if actor == Actor::First {
+            self.first
+        } else {
+            self.second
+        }
+    }
+
+    /// The same, to be changed.
+    fn part_mut(&mut self, actor: Actor) -> &mut Part {
+        if actor == Actor::First {
+            &mut self.first
+        } else {
+            &mut self.second
+        }
+    }
+
+    /// Draws a call: three of four are inserts. One of three asks for the class that was drawn last. Many classes share a first bucket,
+    /// and some of those the eight bits.
+    fn draw_ask(&mut self) -> Ask {
+        if self.script.draw(3) != 0 {
+            let class = self.script.draw(CLASSES);
+            self.drawn = (class, (class % 12) | ((class & 1) << 32));
+        }
+        let (class, hash) = self.drawn;
+        if self.script.draw(4) == 0 {
+            Ask::Lookup(class, hash)
+        } else {
+            Ask::Insert(class, hash)
+        }
+    }
+
+    /// Adds a stop of this thread, or of the watcher.
+    fn stop(
+        &mut self,
+        actor: Actor,
+        call: u64,
+        mark: Mark,
+        sight: Option<Sight>,
+        then: Then,
+    ) -> Result<(), Fault> {
+        if actor != Actor::Watcher {
+            self.part_mut(actor).passes_request = matches!(mark, Mark::AtEmpty(_));
+        }
+        granted(
+            self.stops.push(Stop {
+                actor,
+                turn: self.turn,
+                call,
+                mark,
+                sight,
+                then,
+                resumes: None,
+            }),
+        )
+    }
+
+    /// The last stop of this thread, if it is of this turn: there the thread goes on to a lock, and the turn ends.
+    fn enter(&mut self, actor: Actor) {
+        let turn = self.turn;
+        if let Some(stop) = self.stops.last_mut() {
+            if stop.actor == actor && stop.turn == turn {
+                stop.then = Then::Enters;
+                self.turn = turn.wrapping_add(1);
+            }
+        }
+    }
+
+    /// In this turn a thread goes on from its last stop, or none does.
+    fn resume(&mut self, actor: Option<Actor>) {
+        self.running = actor;
+        let turn = self.turn;
+        for stop in self.stops.iter_mut().rev() {
+            if Some(stop.actor) == actor {
+                stop.resumes = Some(turn);
+                break;
+            }
+        }
+    }
+
+    /// Ends the turn. Who goes on is drawn.
+    fn end_turn(&mut self) {
+        self.turn = self.turn.wrapping_add(1);
+        let drawn = if self.script.draw(2) == 0 {
+            Actor::First
+        } else {
+            Actor::Second
+        };
+        let next = if self.part(drawn).goes_on() {
+            Some(drawn)
+        } else if self.part(drawn.other()).goes_on() {
+            Some(drawn.other())
+        } else {
+            None
+        };
+        self.resume(next);
+    }
+
+    /// The next call of this thread begins.
+    fn begin(&mut self, replay: &mut Replay<'_, '_>, actor: Actor) -> Result<Turn, Fault> {
+        let ask = self.draw_ask();
+        let place = replay.begun();
+        let sight = Sight::of(replay.ground.table, replay.ground.first);
+        let part = self.part_mut(actor);
+        part.left = part.left.saturating_sub(1);
+        part.call = Some(place);
+        self.stop(
+            actor,
+            place as u64,
+            Mark::Began(ask),
+            Some(sight),
+            Then::GoesOn,
+        )?;
+        // The first generation is requested before the block.
+        self.part_mut(actor).passes_request = replay.ground.table.current().is_none();
+        replay.begin(ask)
+    }
+
+    /// What a closure of the call was asked about this entry in the last step.
+    fn question(&self, call: u64, entry: u64) -> Mark {
+        if self.before == Phase::Building {
+            Mark::Hashed(call, entry, self.script.hash())
+        } else {
+            Mark::Asked(call, entry, self.script.accepted())
+        }
+    }
+
+    /// After a step in which the call of this thread met an entry, or none, while the other thread waits.
+    fn hear_one(
+        &mut self,
+        actor: Actor,
+        call: u64,
+        stepped: Stepped,
+        met: Option<u64>,
+        sight: Sight,
+    ) -> Result<(), Fault> {
+        match stepped.took {
+            Took::Blocked => {
+                self.enter(actor);
+                let waits = Mark::Waits(call);
+                self.stop(Actor::Watcher, call, waits, Some(sight), Then::Hands)?;
+                self.turn = self.turn.wrapping_add(1);
+                self.both = true;
+                self.resume(Some(actor.other()));
+            }
+            Took::Told(said) => {
+                self.answer(actor, call, met, Some(sight))?;
+                self.end_call(actor, call, said, Some(sight))?;
+                self.end_turn();
+            }
+            Took::Moved if met.is_some() && self.script.draw(3) == 0 => {
+                self.answer(actor, call, met, Some(sight))?;
+                self.hand();
+            }
+            Took::Moved if met.is_some() => self.answer(actor, call, met, Some(sight))?,
+            Took::Moved if stepped.state.phase == Phase::AtEmpty && self.draws_request(actor) => {
+                self.stop(actor, call, Mark::AtEmpty(call), None, Then::Hands)?;
+                self.end_turn();
+            }
+            Took::Moved => (),
+        }
+        Ok(())
+    }
+
+    /// Adds the stop where a closure was asked about this entry, if one was.
+    fn answer(
+        &mut self,
+        actor: Actor,
+        call: u64,
+        met: Option<u64>,
+        sight: Option<Sight>,
+    ) -> Result<(), Fault> {
+        match met {
+            Some(entry) => {
+                let mark = self.question(call, entry);
+                self.stop(actor, call, mark, sight, Then::GoesOn)
+            }
+            None => Ok(()),
+        }
+    }
+
+    /// The turn ends at the last stop.
+    fn hand(&mut self) {
+        if let Some(stop) = self.stops.last_mut() {
+            stop.then = Then::Hands;
+        }
+        self.end_turn();
+    }
+
+    /// The call of this thread has ended.
+    fn end_call(
+        &mut self,
+        actor: Actor,
+        call: u64,
+        said: Said,
+        sight: Option<Sight>,
+    ) -> Result<(), Fault> {
+        self.part_mut(actor).call = None;
+        self.stop(actor, call, Mark::Told(call, said), sight, Then::Hands)
+    }
+
+    /// Whether the call of this thread stops where it requests a block: one of two do, once between two closures.
+    fn draws_request(&self, actor: Actor) -> bool {
+        !self.part(actor).passes_request && self.script.draw(2) == 0
+    }
+
+    /// After a step in which the call of this thread met an entry, or none, while both threads go on.
+    fn hear_both(
+        &mut self,
+        actor: Actor,
+        call: u64,
+        stepped: Stepped,
+        met: Option<u64>,
+        sight: Sight,
+    ) -> Result<(), Fault> {
+        match (stepped.took, met) {
+            (Took::Blocked, _) => Err(Fault::Step { call }),
+            (Took::Told(said), _) => {
+                self.answer(actor, call, met, None)?;
+                self.end_call(actor, call, said, None)?;
+                self.go_on_after(actor);
+                Ok(())
+            }
+            (Took::Moved, Some(entry)) if self.before == Phase::Building => {
+                granted(
+                    self.copied.push(Copied {
+                        entry,
+                        hash: self.script.hash(),
+                        sight,
+                    }),
+                )
+            }
+            (Took::Moved, _) => self.answer(actor, call, met, None),
+        }
+    }
+
+    /// The call of this thread has ended while both went on. The other one's goes on, if it hasn't ended too.
+    fn go_on_after(&mut self, actor: Actor) {
+        if self.part(actor.other()).call.is_some() {
+            self.running = Some(actor.other());
+        } else {
+            self.both = false;
+            self.turn = self.turn.wrapping_add(1);
+            self.end_turn();
+        }
+    }
+}
+
+impl Schedule for Rehearsal<'_> {
+    fn next(&mut self, replay: &mut Replay<'_, '_>) -> Result<Turn, Fault> {
+        let Some(actor) = self.running else {
+            return replay.end();
+        };
+        match self.part(actor).call {
+            None => self.begin(replay, actor),
+            Some(place) => {
+                self.before = replay.phase_at(place);
+                Ok(replay.step_refused(place, 0, 0))
+            }
+        }
+    }
+
+    fn hear(&mut self, replay: &mut Replay<'_, '_>, stepped: Stepped) -> Result<(), Fault> {
+        replay.follow(stepped)?;
+        let met = replay.script.take_met();
+        let sight = Sight::of(replay.ground.table, replay.ground.first);
+        let Some(actor) = self.running else {
+            return Ok(());
+        };
+        let Some(place) = self.part(actor).call else {
+            return Ok(());
+        };
+        if self.both {
+            self.hear_both(actor, place as u64, stepped, met, sight)
+        } else {
+            self.hear_one(actor, place as u64, stepped, met, sight)
+        }
+    }
+}
