@@ -1,5 +1,5 @@
 -- What the words after the program's name ask for.
-use Rattle.std.specs.Prelude.{◌≡◌, ◌⊎◌, ℕ, List, [], ◌∷◌, if◌then◌else◌, codes}
+use Rattle.std.specs.Prelude.{◌≡◌, ◌⊎◌, ℕ, List, [], ◌∷◌, ◌++◌, if◌then◌else◌, codes}
 use Rattle.std.specs.List.{flat_map}
 use Rattle.std.specs.Str.{bytes_eq}
 use Rattle.tool_text_lines.specs.Pieces.{words_of, lines_of}
@@ -24,10 +24,18 @@ written_by Dedup texts = deduped (flat_map lines_of texts)
 abbrev pub usage : List ℕ
 usage = codes "usage: tool_text words [FILE..] | tool_text dedup [FILE..] | tool_text --help"
 
--- one word, which asks how the program is called
+-- what the program says of itself: how it is called, and what each tool does
+abbrev pub help : List ℕ
+help =
+    usage
+    ++ (codes "\n\n  words  counts the words: for each different word its number, the word and its count\n"
+    ++ (codes "  dedup  writes each different line once, in the order of first appearance\n\n"
+    ++ codes "Without a FILE, or where FILE is -, standard input is read. After -- each word is a FILE."))
+
+-- one word, which asks what the program does
 abbrev pub IsHelp : List (List ℕ) → Type 0
 IsHelp [] = ⊥
-IsHelp (word ∷ []) = word ≡ codes "--help"
+IsHelp (word ∷ []) = (word ≡ codes "--help") ⊎ (word ≡ codes "-h")
 IsHelp (word ∷ more ∷ words) = ⊥
 
 -- the names of texts among the words after a tool's name: all of them, but for a first `--`
@@ -40,7 +48,7 @@ abbrev pub AsksTool : List (List ℕ) → Tool → List (List ℕ) → Type 0
 AsksTool [] tool names = ⊥
 AsksTool (word ∷ words) tool names = (word ≡ name_of tool) × ¬ IsHelp words × (names ≡ names_in words)
 
--- `--help` alone, or behind a tool's name
+-- `--help` or `-h`, alone or after a tool's name
 abbrev pub AsksHelp : List (List ℕ) → Type 0
 AsksHelp [] = ⊥
 AsksHelp (word ∷ words) = IsHelp (word ∷ words) ⊎ ((tool : Tool) × (word ≡ name_of tool) × IsHelp words)

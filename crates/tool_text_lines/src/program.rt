@@ -1,14 +1,14 @@
 //! The program, over its words, files and streams.
 ghost use Rattle.std.specs.Prelude.{◌≡◌, ◌⊎◌, ◌++◌, ℕ, List, map, codes, OnOk, IfSome};
 ghost use Rattle.std.specs.Io.KnownBytes.{Appends};
-ghost use Rattle.tool_text_lines.specs.Tools.{AsksTool, AsksHelp, usage, written_by};
+ghost use Rattle.tool_text_lines.specs.Tools.{AsksTool, AsksHelp, help, written_by};
 ghost use Rattle.tool_text_lines.specs.declared.tool.Tool.{Tool as ToolOf};
 
 use crate::faults::Fault;
 use crate::line_tool::take_texts;
 use crate::seen::Seen;
 use crate::texts::{NamedTexts, OneText, TextFiles, Texts};
-use crate::tool::{Request, Tool, ToolFault, Usage, parse_request};
+use crate::tool::{Help, Request, Tool, ToolFault, Usage, parse_request};
 use crate::word_counts::WordCounts;
 use bumpalo::Bump;
 use std::alloc::Allocator;
@@ -66,14 +66,14 @@ pub fn run_over<F: TextFiles, A: Allocator + Copy, S: AsStr, I: Read + Drop, O: 
     }
 }
 
-/// Writes how the program is called, and answers the status.
+/// Writes what the program says of itself, and returns the status.
 fn write_help<O: Write, M: Write>(output: &mut O, messages: &mut M) -> u8
     ensures status { (result ≡ 0) ⊎ (result ≡ 1) }
     ensures well { result ≡ 0 → messages.new ≡ messages.old }
     ensures written { result ≡ 0 → Appends (O.contents output.old) (O.contents output.new)
-        (usage ++ codes "\n") }
+        (help ++ codes "\n") }
 {
-    match writeln!(output, "{Usage}") {
+    match writeln!(output, "{Help}") {
         Ok(()) => 0,
         Err(_) => end_with(&StreamFault::WriteFailed, messages),
     }

@@ -1,7 +1,7 @@
 //! What is asked for, and the fault that it ends by.
 ghost use Rattle.std.specs.Prelude.{◌≡◌, ◌↔◌, List, ℕ, map, IfSome, IfNone, IsTrue, Some};
 ghost use Rattle.tool_text_lines.specs.Faults.{status_of};
-ghost use Rattle.tool_text_lines.specs.Tools.{name_of, Asks, AsksTool, AsksHelp, IsHelp, names_in, usage};
+ghost use Rattle.tool_text_lines.specs.Tools.{name_of, Asks, AsksTool, AsksHelp, IsHelp, names_in, usage, help};
 ghost use Rattle.tool_text_lines.specs.declared.tool.Tool.{Tool as ToolOf};
 
 use crate::faults::Fault;
@@ -18,7 +18,7 @@ pub enum Tool {
 
 /// What the words after the program's name ask for.
 pub enum Request<'a, S> {
-    /// How the program is called.
+    /// What the program says of itself.
     Help,
     /// This tool over the texts of these names, or over standard input where there is none.
     Run { tool: Tool, names: &'a [S] },
@@ -45,13 +45,13 @@ pub fn parse_request<S: AsStr>(words: &[S]) -> Option<Request<'_, S>>
     Some(Request::Run { tool, names })
 }
 
-/// Whether these words are `--help` alone.
+/// Returns whether these words are `--help` or `-h` alone.
 fn is_help<S: AsStr>(words: &[S]) -> bool
     ensures { IsTrue result ↔ IsHelp (map S.text words.now) }
 {
     match words {
         [word] => match word.as_str().as_bytes() {
-            b"--help" => true,
+            b"--help" | b"-h" => true,
             _ => false,
         },
         _ => false,
@@ -136,5 +136,28 @@ impl RunFault for Usage {
 
     fn status(&self) -> u8 {
         2
+    }
+}
+
+/// What the program says of itself, for who asks.
+#[derive(Clone, Copy)]
+pub(crate) struct Help;
+
+impl fmt::Display for Help {
+    ghost output = { λ _. Some help };
+
+    fn fmt<W: fmt::Write>(&self, f: &mut fmt::Formatter<W>) -> fmt::Result {
+        write!(
+            f,
+            "{Usage}\n\n  words  counts the words: for each different word its number, the word and its count\n"
+        )?;
+        write!(
+            f,
+            "  dedup  writes each different line once, in the order of first appearance\n\n"
+        )?;
+        write!(
+            f,
+            "Without a FILE, or where FILE is -, standard input is read. After -- each word is a FILE."
+        )
     }
 }

@@ -3,7 +3,8 @@ ghost use Rattle.table_shared.specs.Stepped.{MayStep};
 
 use super::gates::{ClosedFrom, ClosedTo};
 use super::{assert_same, assert_told};
-use lock_free_hashtable::raw::{InsertCall, LockFreeRawTable, Low};
+use lock_free_hashtable::raw::{LockFreeRawTable, Low};
+use lock_free_hashtable::stepped::InsertCall;
 use std::alloc::{AllocError, Allocator, Global};
 use std::cell::Cell;
 use std::sync::Wait;
