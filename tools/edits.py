@@ -1,7 +1,7 @@
 #!/usr/bin/env python3
 """Tries the edits that must fail: all edits of a crate together, in as few checks as they need.
 
-    tools/edits.py [--all] [--built] [--control] [--jobs N] [CRATE..]
+    tools/edits.py [--all] [--built] [--control] [--witness] [--jobs N] [CRATE..]
     tools/edits.py --self-test
 
 An edit is a file crates/NAME/edits/WHAT.edit: a line `file: src/x.rt`, then pairs of lines `old: TEXT` and `new: TEXT`, each TEXT one line
@@ -14,13 +14,17 @@ function, and those whose function only calls one that isn't proved, wait for a 
 all bodies, and judged then by the whole crate. An edit that is proved, or that the prover never judged, is told by name. The last line is
 `N passed, M failed`: N edits were refused. The status is 0 only where M is 0.
 
+With --witness each round has a witness: a function of the crate that has written answers and no edit, and that keeps its body. The round
+counts only if the witness is proved in it. So what refuses an edit is the edit, and not the copy that it is tried in. Otherwise its edits are tried alone, in
+the crate as it was proved. A crate whose functions with written answers all have edits has no witness.
+
 With --built the libraries are those that `rt ci` has just proved and built of this very checkout, and nothing is proved but the copies.
 Otherwise each crate is proved and built first, in its own folder, which keeps what is proved in out/, and its rounds begin with that.
 
 With --self-test made edits of the crate `table_terms` are tried, some of which must be told.
 
-With --control the rounds are the same but for the edits, which are left out: each function that has one must be proved then, so that what
-refuses an edit is the edit. What stands in no function has no such round.
+With --control a last round of each crate has no edit: each function that was edited must be proved there, so that what refused an edit
+is the edit. One whose functions aren't is told by name, and failed. An edit of what stands in no function has no such round.
 """
 import argparse
 import concurrent.futures
@@ -39,10 +43,10 @@ import threading
 import time
 
 sys.dont_write_bytecode = True
-from bodies import empty
-from edit_files import edits_of, pairs_of
+from modules.bodies import bodies_in, empty
+from modules.crates import TOP, below, listed, require_listed
+from modules.edit_files import Edit, edits_of, pairs_of
 
-TOP = pathlib.Path(__file__).resolve().parent.parent
 PARTS = ("src", "specs", "proofs")
 # A line of a check that says what is wrong at a place, and one that says whether a function is proved.
 PLACED = re.compile(r"(note: )?(?:\./)?((?:src|specs|proofs)/\S+?):(\d+):\d+: (.*)")
@@ -145,18 +149,6 @@ def check(folder, words):
         return Checked(said.read().splitlines(), used.ru_utime + used.ru_stime, time.time() - began)
 
 
-def listed(top):
-    """The crates of crates.txt in its order, each with its line."""
-    lines = [line.partition("#")[0] for line in (top / "crates.txt").read_text().splitlines()]
-    return {line.split(":")[0].split()[0]: line for line in lines if ":" in line}
-
-
-def below(lines, crate):
-    """The crates that a crate stands on, and itself."""
-    names = lines[crate].partition(":")[2].split()
-    return {crate}.union(*(below(lines, name) for name in names if name in lines))
-
-
 def rlib_of(top, crate):
     """Where the library of a crate lies once it is built."""
     return top / "crates" / crate / "out/rlib" / f"{crate}.rlib"
@@ -172,7 +164,7 @@ def words_of(top, crate, jobs):
     """The prover's own command for a crate, over the libraries that are built in this checkout."""
     kit = pathlib.Path(subprocess.run(["rt", "doc"], capture_output=True, text=True, check=True).stdout.strip()).parent
     lines = listed(top)
-    named = ["std", *lines[crate].partition(":")[2].split()]
+    named = ["std", *lines[crate]]
     libraries = {name: rlib_of(top, name) if name in lines else kit / "rlibs" / f"{name}.rlib" for name in named}
     inside = [kit / "rlibs", *(rlib_of(top, name).parent for name in sorted(below(lines, crate) - {crate}))]
     return [
@@ -223,6 +215,23 @@ def asked_for(edits, functions):
     return [] if edits[0].is_alone else ["--allow-holes", *(word for name in names for word in ("--only", name))]
 
 
+def witness_of(folder, edits, functions):
+    """An edit that changes nothing, of a function without an edit: the one with the shortest written answers. None where no function has
+    both. A proof that is written whole doesn't serve, since it may name what the others lose."""
+    edited = [it.named for edit in edits for it in edit.functions]
+    found = []
+    for path in sorted(folder.glob("src/**/*.rt")):
+        for function, _, _ in bodies_in(folder.name, str(path.relative_to(folder)), path.read_text().split("\n")):
+            names = [it for it in functions if function.named.fullmatch(it)]
+            if not names or any(pattern.fullmatch(name) for pattern in edited for name in names):
+                continue
+            proofs = [file for name in names for file in folder.joinpath("proofs", *name.split("::")[1:]).glob("*.antt")]
+            if proofs and not any(file.name == "Proof.antt" for file in proofs):
+                found.append((sum(file.stat().st_size for file in proofs), names[0], function))
+    _, name, function = min(found, key=lambda it: it[:2], default=(0, "", None))
+    return Edit(f"the witness {name}", {}, [function], False) if function else None
+
+
 # What a check says of an edit.
 
 
@@ -255,14 +264,15 @@ def judge_alone(checked, edit):
     return True, f"refused: {edit.name}: {next(filter(None, reasons))[:300]}"
 
 
-def judge_together(checked, edits):
+def judge_together(checked, edits, witness):
     """Those edits of a round that are surely refused, each with what to say. It marks those that are to be tried alone."""
     unread = [edit for edit in edits if any(it.is_unread() and is_inside(it, edit) for it in checked.told)]
     edited = {name for edit in edits for name in checked.names_of(edit)}
     # where a function fails that has no edit, an edit reaches further than its own
     reached = checked.goals_of([name for name in checked.verdicts if name not in edited])
-    if unread or reached or not checked.is_judged():
-        print("".join(f"a function without an edit fails: {line[:300]}\n" for line in reached[:1]), end="")
+    fails = [] if witness is None or checked.keeps(witness) else [f"{witness.name} isn't proved"]
+    if unread or reached or fails or not checked.is_judged():
+        print("".join(f"a function without an edit fails: {line[:300]}\n" for line in [*reached, *fails][:1]), end="")
         for edit in unread or edits:
             edit.is_alone = True
         return {}
@@ -274,10 +284,9 @@ def judge_together(checked, edits):
 
 
 def judge_control(checked, edits):
-    """Whether the functions of a round are proved without its edits, edit by edit."""
-    said = {edit.name: [checked.verdicts[name] for name in checked.names_of(edit)] for edit in edits}
-    proved = {edit.name: checked.keeps(edit) for edit in edits}
-    return {name: (proved[name], f"{'proved' if proved[name] else 'NOT PROVED'} without {name}: {said[name]}"[:300]) for name in said}
+    """The edits of which a function isn't proved in a round that has no edit."""
+    verdicts = {edit.name: [checked.verdicts[name] for name in checked.names_of(edit)] for edit in edits if not checked.keeps(edit)}
+    return {name: (False, f"NOT PROVED without {name}: {said}"[:300]) for name, said in verdicts.items()}
 
 
 def one_round(edits):
@@ -298,24 +307,29 @@ def one_round(edits):
 
 
 def rounds_of(trial):
-    """Tries the edits of a proved crate. It yields, of each round, the check, how many were tried, and those settled."""
-    top, crate, edits = trial.top, trial.crate, [it for it in trial.edits if not (trial.is_control and it.is_alone)]
+    """Tries the edits of a proved crate. It yields, of each round, the check, what it was of, and the edits that are settled."""
+    top, crate, edits = trial.top, trial.crate, trial.edits
+    unedited = [dataclasses.replace(it, lines={}) for it in edits if trial.has_control and not it.is_alone]
     words, functions = words_of(top, crate, trial.jobs), functions_of(top, crate)
+    witness = witness_of(top / "crates" / crate, edits, functions) if trial.has_witness else None
     with tempfile.TemporaryDirectory(prefix="edits-") as room:
         folder = copy_of(top, crate, pathlib.Path(room))
+
+        def checked_with(tried):
+            renew(top / "crates" / crate, folder, pathlib.Path(room) / "kept", tried, functions)
+            return check(folder, [*words, *asked_for(tried, functions)])
+
         while edits:
             tried = one_round(edits)
-            made = [dataclasses.replace(it, lines={}) for it in tried] if trial.is_control else tried
-            renew(top / "crates" / crate, folder, pathlib.Path(room) / "kept", made, functions)
-            checked = check(folder, [*words, *asked_for(tried, functions)])
-            if trial.is_control:
-                settled = judge_control(checked, tried)
-            elif tried[0].is_alone:
-                settled = {tried[0].name: judge_alone(checked, tried[0])}
-            else:
-                settled = judge_together(checked, tried)
+            is_alone = tried[0].is_alone
+            checked = checked_with(tried if is_alone or witness is None else [*tried, witness])
+            settled = {tried[0].name: judge_alone(checked, tried[0])} if is_alone else judge_together(checked, tried, witness)
             edits = [it for it in edits if it.name not in settled]
-            yield checked, len(tried), settled
+            yield checked, f"{len(tried)} tried, {len(settled)} settled", settled
+        if unedited:
+            checked = checked_with(unedited)
+            unproved = judge_control(checked, unedited)
+            yield checked, f"without {len(unedited)} edits, {len(unproved)} not proved", unproved
 
 
 @dataclasses.dataclass
@@ -327,7 +341,8 @@ class Trial:
     edits: list
     results: dict
     jobs: int
-    is_control: bool
+    has_control: bool
+    has_witness: bool
 
     def prove(self):
         """Proves and builds the crate as it is, and those below it. Where it isn't proved no edit is tried."""
@@ -342,18 +357,19 @@ class Trial:
         """Tries the edits, and says of each what became of it."""
         print("".join(f"{line}\n" for _, line in self.results.values()), end="", flush=True)
         total, rounds = Checked([], 0, 0), 0
-        for checked, tried, settled in rounds_of(self):
+        for checked, what, settled in rounds_of(self):
             rounds, total = rounds + 1, Checked([], total.seconds + checked.seconds, total.wall + checked.wall)
             self.results |= settled
             said = "".join(f"{line}\n" for _, line in settled.values())
-            print(f"{said}{self.crate}: round {rounds}: {tried} tried, {len(settled)} settled: {checked.cost()}", flush=True)
+            print(f"{said}{self.crate}: round {rounds}: {what}: {checked.cost()}", flush=True)
         print(f"{self.crate}: {len(self.edits)} edits in {rounds} rounds: {total.cost()}", flush=True)
         return self.results
 
 
-def trial_of(top, crate, parts, jobs, is_control=False):
+def trial_of(top, crate, parts, jobs, has_control=False, has_witness=False):
     edits, bad = edits_of(top / "crates" / crate, parts)
-    return Trial(top, crate, edits, {name: (False, f"BAD EDIT {name}: {why}") for name, why in bad.items()}, jobs, is_control)
+    results = {name: (False, f"BAD EDIT {name}: {why}") for name, why in bad.items()}
+    return Trial(top, crate, edits, results, jobs, has_control, has_witness)
 
 
 def try_all(trials, is_built):
@@ -404,19 +420,19 @@ def main():
     parser.add_argument("--all", action="store_true")
     parser.add_argument("--built", action="store_true")
     parser.add_argument("--control", action="store_true")
+    parser.add_argument("--witness", action="store_true")
     parser.add_argument("--jobs", type=int, default=1)
     parser.add_argument("--self-test", action="store_true")
     given = parser.parse_args()
     signal.signal(signal.SIGTERM, stop)
     if given.self_test:
         return 0 if self_test(given.jobs) else 1
-    unknown = [name for name in given.crates if name not in listed(TOP)]
-    if unknown:
-        parser.error(f"crates.txt names no crate {unknown[0]}")
+    require_listed(given.crates)
     parts = ["edits", *["must-fail"] * given.all]
     named = [crate for crate in listed(TOP) if not given.crates or crate in given.crates]
     having = [crate for crate in named if any(any((TOP / "crates" / crate / part).glob("*.edit")) for part in parts)]
-    results = try_all([trial_of(TOP, crate, parts, given.jobs, given.control) for crate in having], given.built)
+    trials = [trial_of(TOP, crate, parts, given.jobs, given.control, given.witness) for crate in having]
+    results = try_all(trials, given.built)
     passed = sum(is_refused for is_refused, _ in results.values())
     spent = resource.getrusage(resource.RUSAGE_CHILDREN)
     print(f"edits: {(spent.ru_utime + spent.ru_stime) / 60:.1f} CPU minutes")

@@ -6,6 +6,7 @@
 The gate's own lines go to LOG (default: gate.log). Linux only: a crate's minutes are read off /proc, twice a second, and are those of
 the prover alone. The last line has all that the gate took, linkers and tests too.
 """
+import argparse
 import collections
 import os
 import resource
@@ -48,9 +49,11 @@ def look(seen):
 
 
 def main():
-    log = sys.argv[1] if len(sys.argv) > 1 else "gate.log"
+    parser = argparse.ArgumentParser(description=__doc__, formatter_class=argparse.RawDescriptionHelpFormatter)
+    parser.add_argument("log", nargs="?", default="gate.log", metavar="LOG")
+    asked = parser.parse_args()
     seen, began = {}, time.time()
-    with open(log, "w") as out:
+    with open(asked.log, "w") as out:
         gate = subprocess.Popen([GATE], stdin=subprocess.DEVNULL, stdout=out, stderr=subprocess.STDOUT)
         while gate.poll() is None:
             look(seen)

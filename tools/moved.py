@@ -7,6 +7,7 @@ A trial is a file crates/NAME/moved/WHAT.edit, in the form of an edit that must 
 again. A copy with it is compiled, and the compiler has to say 'use of moved value' there. The last line is `N passed, M failed`: of N
 trials it says that. The status is 0 only where M is 0.
 """
+import argparse
 import pathlib
 import shutil
 import subprocess
@@ -14,9 +15,9 @@ import sys
 import tempfile
 
 sys.dont_write_bytecode = True
-from edit_files import BadEdit, read_edit
+from modules.crates import TOP
+from modules.edit_files import BadEdit, read_edit
 
-TOP = pathlib.Path(__file__).resolve().parent.parent
 SAID = "use of moved value"
 
 
@@ -44,6 +45,7 @@ def said_of(room, trial):
 
 
 def main():
+    argparse.ArgumentParser(description=__doc__, formatter_class=argparse.RawDescriptionHelpFormatter).parse_args()
     trials = sorted(TOP.glob("crates/*/moved/*.edit"))
     passed = 0
     with tempfile.TemporaryDirectory(prefix="moved-") as name:

@@ -13,14 +13,18 @@ With --check it writes nothing, and ends by 1 where a part isn't what it would w
 - PROMISES.md names a call or a clause that isn't there, or a public call of a crate that has a section there has no line;
 - a block below a line that ends in a file's name isn't part of that file, or a clause of CONTRACT.md isn't as its file has it;
 - a link leads to no file.
+
+A crate of which git tracks no file is a user's own: it is left out, and named on a line.
 """
+import argparse
 import collections
 import dataclasses
-import pathlib
 import re
 import sys
 
-TOP = pathlib.Path(__file__).resolve().parent.parent
+sys.dont_write_bytecode = True
+from modules.crates import TOP, listed, untracked
+
 DOCS = TOP / "docs"
 PAGES = [TOP / "README.md", TOP / "CONTRIBUTING.md", TOP / "CHANGELOG.md", *sorted(DOCS.glob("*.md"))]
 
@@ -29,11 +33,9 @@ PAGES = [TOP / "README.md", TOP / "CONTRIBUTING.md", TOP / "CHANGELOG.md", *sort
 
 
 def crates():
-    """The crates in the order of crates.txt, each with the names of those that it stands on."""
-    for line in (TOP / "crates.txt").read_text().splitlines():
-        name, _, below = line.partition("#")[0].partition(":")
-        if name.strip():
-            yield name.split()[0], below.split()
+    """The crates of this repository in the order of crates.txt, each with the names of those that it stands on."""
+    others = untracked()
+    return [(name, below) for name, below in listed().items() if name not in others]
 
 
 def folder_of(crate):
@@ -407,10 +409,15 @@ def link_faults(page, text):
 
 
 def main():
+    parser = argparse.ArgumentParser(description=__doc__, formatter_class=argparse.RawDescriptionHelpFormatter)
+    parser.add_argument("--check", action="store_true")
+    asked = parser.parse_args()
     pages, faults = written_pages()
+    if others := untracked():
+        print(f"left out, since git tracks no file of them: {' '.join(others)}")
     for page, text in pages.items():
         faults += [*quote_faults(page, text), *clause_faults(page, text), *link_faults(page, text)]
-        if "--check" in sys.argv[1:]:
+        if asked.check:
             if text != page.read_text():
                 faults.append(f"{page.relative_to(TOP)} is stale: run tools/pages.py")
         else:

@@ -7,18 +7,22 @@
 docs/speed/all.svg, below that table, shows a million keys: by one thread to four, and by one alone. docs/speed/sizes.svg shows ten
 thousand keys to ten million by one thread, a line a table; it is drawn where a table was measured with several numbers of keys.
 
-It needs matplotlib (Debian: python3-matplotlib, for the system's python3). Each point is the middle of all rounds; the table has the
+To draw it needs matplotlib (Debian: python3-matplotlib, for the system's python3). Each point is the middle of all rounds; the table has the
 best round and the middle one, as ratios to dashmap. With a FOLDER it reads all.txt there and draws there.
 """
+import argparse
 import collections
 import pathlib
 import statistics
 import sys
 
-import matplotlib
+try:
+    import matplotlib
 
-matplotlib.use("svg")
-import matplotlib.pyplot as plt
+    matplotlib.use("svg")
+    import matplotlib.pyplot as plt
+except ModuleNotFoundError:
+    matplotlib = None
 
 SPEED = pathlib.Path(__file__).resolve().parent.parent / "docs" / "speed"
 BASE = "dashmap"
@@ -166,16 +170,21 @@ def table(found, base):
 
 
 def main():
-    if len(sys.argv) == 3:
-        print(table(numbers(pathlib.Path(sys.argv[1])), sys.argv[2]))
+    parser = argparse.ArgumentParser(description=__doc__, formatter_class=argparse.RawDescriptionHelpFormatter)
+    parser.add_argument("place", nargs="?", type=pathlib.Path, default=SPEED, metavar="FOLDER|FILE")
+    parser.add_argument("base", nargs="?", metavar="BASE")
+    asked = parser.parse_args()
+    if asked.base:
+        print(table(numbers(asked.place), asked.base))
         return
-    folder = pathlib.Path(sys.argv[1]) if len(sys.argv) > 1 else SPEED
+    if matplotlib is None:
+        sys.exit("there is no matplotlib to draw with: install python3-matplotlib")
     matplotlib.rcParams["svg.hashsalt"] = "tables"
     matplotlib.rcParams["svg.fonttype"] = "path"
-    found = numbers(folder / "all.txt")
-    draw_threads(found, folder / "all.svg")
+    found = numbers(asked.place / "all.txt")
+    draw_threads(found, asked.place / "all.svg")
     if any(len(by_keys(of, look)) > 1 for of in found.values() for look in LOOKS):
-        draw_sizes(found, folder / "sizes.svg")
+        draw_sizes(found, asked.place / "sizes.svg")
     print(table(found, BASE))
 
 

@@ -6,8 +6,8 @@
 
 It watches what the compiler makes of the tests: they are built as `tools/unproved.py` builds a program, without checks. Each test runs in
 a process of its own, --jobs of them side by side (4). Each that fails, or of which the tool says something, gets a line; the last line is
-'N passed, M failed', and the status is 1 where M isn't 0. It needs Debian's strace, and valgrind or libclang-rt-14-dev. The kit's C code
-isn't compiled for ThreadSanitizer, so accesses of its own are not seen.
+'N passed, M failed', and the status is 1 where M isn't 0. It needs Debian's valgrind or libclang-rt-14-dev. The kit's C code isn't compiled
+for ThreadSanitizer, so accesses of its own are not seen.
 """
 import argparse
 import concurrent.futures
@@ -19,6 +19,7 @@ import tempfile
 
 sys.dont_write_bytecode = True
 import unproved
+from modules.crates import require_listed
 
 MEMCHECK = ["valgrind", "-q", "--error-exitcode=9", "--leak-check=full"]
 RUNTIMES = "llvm-*/lib/clang/*/lib/linux/libclang_rt.tsan-x86_64.a"
@@ -62,6 +63,7 @@ def main():
     parser.add_argument("crates", nargs="+")
     parser.add_argument("--jobs", type=int, default=4)
     asked = parser.parse_args()
+    require_listed(asked.crates)
     passed = failed = 0
     for crate in asked.crates:
         with tempfile.TemporaryDirectory() as folder, concurrent.futures.ThreadPoolExecutor(asked.jobs) as pool:

@@ -21,6 +21,7 @@ Small tables are made and dropped in turn. Whether glibc gives a table's memory 
 which block happens to lie last: with the same table it costs a fifth of an insert or nothing. So where tables are small each program
 keeps what it frees, as one does that has once freed a large block.
 """
+import argparse
 import os
 import pathlib
 import shlex
@@ -36,15 +37,15 @@ LARGE_ROUNDS = 1
 SMALL = ("1e4", "1e5")
 KEEPS = {"MALLOC_MMAP_THRESHOLD_": str(32 << 20), "MALLOC_TRIM_THRESHOLD_": str(64 << 20)}
 # The groups of each table in `all`: those that its program knows.
-GROUPS_OF_ALL = {name: ["one", "seq", *SIZES] for name in ("held", "held-in-place", "held-set", "held-shards", "std-HashSet")}
+GROUPS_OF_ALL = {name: ["one", "seq", "step", *SIZES] for name in ("held", "held-in-place", "held-set", "held-shards", "std-HashSet")}
 SHARED = ["shared", "shared-in-place", "shared-set", "shared-shards", "growing", "growing-shards"]
-GROUPS_OF_ALL |= {name: ["one", "seq", *THREADED, *SIZES] for name in (*SHARED, "plain-steps", "dashmap", "rwlock-HashSet")}
+GROUPS_OF_ALL |= {name: ["one", "seq", "step", *THREADED, *SIZES] for name in (*SHARED, "plain-steps", "dashmap", "rwlock-HashSet")}
 GROUPS_OF_ALL |= {name: ["one", "seq", "same", "ins"] for name in ("model-direct", "tbb-unordered_set", "libcuckoo", "urcu-lfht-presized")}
 # The kind of each table in `run`, and its groups.
 KINDS = {"core": "core", "seats": "seats", "plain-atomics": "seats", "interner": "interner", "plain-interner": "interner"}
 KINDS |= {name: "held" for name in ("held", "held-in-place", "held-set", "plain-rust", "std-HashSet", "dashmap")}
-GROUPS = {"held": ["one", "seq"], "seats": ["one", "seq", "same", "ins"], "core": ["one"], "interner": ["1e4", "1e5", "1e6"]}
-ONE_THREAD = ["a_ins1", "b_hit1", "c_miss1", "seq_ins1", "seq_hit1", "g_rss"]
+GROUPS = {"held": ["one", "seq", "step"], "seats": ["one", "seq", "same", "ins"], "core": ["one"], "interner": ["1e4", "1e5", "1e6"]}
+ONE_THREAD = ["a_ins1", "b_hit1", "c_miss1", "seq_ins1", "seq_hit1", "step_ins1", "step_hit1", "g_rss"]
 TEAMS = [f"{work}{count}" for work in ("d_same", "e_ins", "f_hit") for count in (1, 2, 3, 4)]
 MEASUREMENTS = {
     "held": ONE_THREAD,
@@ -137,12 +138,20 @@ def table(found, kind, base_name):
 
 
 def main():
-    if sys.argv[1:2] in (["all"], ["run"]) and len(sys.argv) > 3:
-        run(int(sys.argv[2]), sys.argv[3:], sys.argv[1] == "all")
-    elif sys.argv[1:2] == ["show"] and len(sys.argv) == 4 and sys.argv[2] in MEASUREMENTS:
-        print(table(numbers_of(sys.argv[2]), sys.argv[2], sys.argv[3]))
+    parser = argparse.ArgumentParser(description=__doc__, formatter_class=argparse.RawDescriptionHelpFormatter)
+    commands = parser.add_subparsers(dest="command", required=True, metavar="all|run|show")
+    for name in ("all", "run"):
+        command = commands.add_parser(name)
+        command.add_argument("rounds", type=int, metavar="ROUNDS")
+        command.add_argument("programs", nargs="+", metavar="PROGRAM")
+    command = commands.add_parser("show")
+    command.add_argument("kind", choices=MEASUREMENTS)
+    command.add_argument("base", metavar="BASE")
+    asked = parser.parse_args()
+    if asked.command == "show":
+        print(table(numbers_of(asked.kind), asked.kind, asked.base))
     else:
-        sys.exit(__doc__)
+        run(asked.rounds, asked.programs, asked.command == "all")
 
 
 if __name__ == "__main__":

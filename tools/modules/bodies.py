@@ -5,7 +5,7 @@ A function without its body loops for ever, and has a hole in the place of its p
 import re
 import shutil
 
-from edit_files import ITEM, end_of, function_at, indent
+from modules.edit_files import ITEM, end_of, function_at, indent
 
 # What must keep its body: what is called while a crate is compiled, and what returns a closure.
 KEPT = re.compile(r"\bconst fn|\bimpl (?:Fn|Iterator)")
