@@ -4,9 +4,9 @@
     tools/pages.py [--check]
 
 It writes the parts of pages that follow from the sources:
-- docs/PROMISES.md: below each call its signature and the names of its clauses; and the calls of the crates that have no section there;
+- docs/PROMISES.md: below each call its signature and the names of its clauses;
 - docs/STATUS.md: the table of sizes;
-- docs/ARCHITECTURE.md: the table of crates and the index of the proof files;
+- docs/ARCHITECTURE.md: the table of crates;
 - each block below a line that ends in 'the whole of `FILE`:'.
 
 With --check it writes nothing, and ends by 1 where a part isn't what it would write. Either way it says so and ends by 1 where
@@ -42,12 +42,6 @@ def folder_of(crate):
     return TOP / "crates" / crate
 
 
-def first_sentence(docs):
-    """The first sentence of a call's docs."""
-    text = " ".join(docs[:docs.index("")] if "" in docs else docs)
-    return re.split(r"(?<=[.:]) (?=[A-Z`])", text, maxsplit=1)[0].rstrip(":") if text else ""
-
-
 def files_below(crate, folder, ending):
     return sorted((folder_of(crate) / folder).rglob(f"*{ending}"))
 
@@ -63,7 +57,6 @@ class Call:
     name: str
     public: bool
     signature: str
-    docs: str
     requires: list
     ensures: list
 
@@ -157,14 +150,13 @@ def signature_at(lines, at):
 def calls_in(file, only, types):
     """The functions of a file that a crate's users can call, and those of std's traits."""
     lines = file.read_text().splitlines()
-    head, docs, ghosts = "", [], []
+    head, ghosts = "", []
     for at, line in enumerate(lines):
         if re.match(r"(unsafe )?(impl|pub trait|trait)\b", line) or line.startswith("}"):
             head, ghosts = "" if line.startswith("}") else head_at(lines, at), []
             head = "" if head.endswith("{}") else head
         stripped = line.strip()
         if stripped.startswith("///"):
-            docs.append(stripped[3:].strip())
             continue
         ghost = re.match(r"ghost (\w+)\s*=", stripped)
         if ghost and is_of_trait(head):
@@ -177,11 +169,8 @@ def calls_in(file, only, types):
             public = bool(call.group(1) or head.startswith("pub trait")) and (free or owner in types) and not of_trait
             if public or (of_trait and owner in types):
                 text, clauses = signature_at(lines, at)
-                yield Call(owner, call.group(3), public, text, first_sentence(docs), clauses["requires"],
-                           ghosts + clauses["ensures"])
+                yield Call(owner, call.group(3), public, text, clauses["requires"], ghosts + clauses["ensures"])
             ghosts = []
-        if not stripped.startswith("#["):
-            docs = []
 
 
 def calls_of(crate):
@@ -207,7 +196,7 @@ class Promises:
     """The page of the promises: its lines as they should be, and what is wrong with it."""
 
     def __init__(self, text):
-        self.lines, self.faults, self.sections = [], [], []
+        self.lines, self.faults = [], []
         self.calls, self.missing, self.crate, self.owner = {}, set(), "", ""
         self.item, self.unwritten = [], []
         for line in text.splitlines():
@@ -242,7 +231,6 @@ class Promises:
         """A section of a crate's calls begins, or another one."""
         self.calls, self.owner = collections.defaultdict(list), ""
         if self.crate:
-            self.sections.append(self.crate)
             for call in calls_of(self.crate):
                 self.calls[call.owner, call.name].append(call)
         self.missing = {key for key, some in self.calls.items() if any(call.public for call in some)}
@@ -275,19 +263,6 @@ class Promises:
 
     def text(self):
         return "\n".join(self.lines) + "\n"
-
-
-def other_calls(sections):
-    """The public calls of the crates that have no section of their own."""
-    parts = []
-    for crate, _ in crates():
-        calls = [call for call in calls_of(crate) if call.public] if crate not in sections else []
-        if calls:
-            parts.append(f"\n### Calls of `{crate}`\n")
-        for call in calls:
-            of = f"`{call.owner}`: " if call.owner else ""
-            parts.append(f"- {of}{call.docs or '(no docs)'}\n  - {call.line()}")
-    return "\n".join(parts).strip("\n")
 
 
 # The tables of docs/STATUS.md and docs/ARCHITECTURE.md
@@ -328,29 +303,6 @@ def crate_table():
     return "\n".join(rows)
 
 
-def proof_index():
-    """The lemma files of each crate, by their first lines."""
-    parts = []
-    for crate, _ in crates():
-        files = sorted((folder_of(crate) / "proofs").glob("*.antt"))
-        rows = [(file.stem, file.read_text().splitlines()[0]) for file in files if file.stem != "Lib"]
-        if rows:
-            parts.append(f"### `{crate}`\n\n| File | What it shows |\n|---|---|")
-            parts[-1] += "".join(f"\n| `{name}` | {first.removeprefix('-- ').rstrip('.')} |" for name, first in rows)
-    return "\n\n".join(parts)
-
-
-def test_index():
-    """What each module of the tests and of their kit has."""
-    rows = ["| Crate | Module | What it has |", "|---|---|---|"]
-    for crate in (crate for crate, _ in crates() if crate.startswith(("test_", "testkit_"))):
-        for file in files_below(crate, "src", ".rt"):
-            module = "::".join(file.relative_to(folder_of(crate) / "src").with_suffix("").parts).removeprefix("tests::")
-            if module not in ("lib", "tests") and said_of(file):
-                rows.append(f"| `{crate}` | `{module}` | {said_of(file)} |")
-    return "\n".join(rows)
-
-
 # The pages
 
 
@@ -372,8 +324,7 @@ def with_quotes(text):
 def written_pages():
     """Each page that the tool writes to, as it should be, and what is wrong with what is hand-written."""
     promises = Promises((DOCS / "PROMISES.md").read_text())
-    parts = {"calls": other_calls(promises.sections), "sizes": sizes(), "crates": crate_table(), "proof files": proof_index(),
-             "test modules": test_index()}
+    parts = {"sizes": sizes(), "crates": crate_table()}
     pages = {}
     for page in PAGES:
         text = promises.text() if page.name == "PROMISES.md" else page.read_text()
