@@ -1,6 +1,7 @@
 pub mod Starts
 mod Alone
 mod Between
+mod Lanes
 mod Stepping
 mod Takes
 mod LooksOn
