@@ -1,7 +1,6 @@
 pub mod Starts
 mod Alone
 mod Between
-mod Lanes
 mod Stepping
 mod Takes
 mod LooksOn

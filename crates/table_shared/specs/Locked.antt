@@ -1,7 +1,7 @@
--- What is told by the locks of a table, and by a lock that is held.
+-- What is told by a lock of a table that is held.
 use Rattle.std.specs.Prelude.{ℕ}
 
--- the locks of a table, or one of them that is held: the home of that table
+-- a lock of a table, shared or held alone: the home of that table
 pub record LockView : Type 0 where
   pub home : ℕ
 

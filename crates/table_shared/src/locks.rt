@@ -1,11 +1,12 @@
 //! The locks of a table: who places a value takes the one of its hash, and who makes a generation takes all.
 //!
 //! What is taken tells whose it is: of which table, and of the locks of a growth, that no lane is left out.
-ghost use Rattle.std.specs.Prelude.{◌≡◌, ◌+◌, ◌<◌, IfSome};
+ghost use Rattle.std.specs.Prelude.{◌≡◌, ◌<◌, IfSome};
 ghost use Rattle.table_shared.specs.Lanes.{AreFourFrom};
 
 use crate::table::LockFreeRawTable;
 use std::alloc::Allocator;
+use std::array;
 use std::marker::Model;
 use std::mem::size_of;
 use std::snapshot::Snapshot;
@@ -16,13 +17,12 @@ use table_generations::atomic_value::AtomicValue;
 /// How many lanes a table has: a power of two.
 const LANES: usize = 8;
 
-/// A lock, the number of its lane, and bytes with nothing in them, as many as a line of memory has together: so no two lanes are
-/// written on one line, but for those of a table that begins in the middle of one.
+/// A lock, and bytes with nothing in them, as many as a line of memory has together: so no two lanes are written on one line, but for
+/// those of a table that begins in the middle of one.
 #[derive(Drop)]
 struct Lane {
     lock: RwLock<()>,
-    number: u64,
-    behind: [u64; 4],
+    behind: [u64; 5],
 }
 
 const _: () = prove!(size_of::<Lane>() == 64);
@@ -32,34 +32,11 @@ const _: () = prove!(LANES == 8);
 
 impl Lane {
     /// A lane that nobody holds.
-    fn new(number: u64) -> Lane
-        ensures { result.number ≡ number }
-    {
+    fn new() -> Lane {
         Lane {
             lock: RwLock::new(()),
-            number,
-            behind: [0; 4],
+            behind: [0; 5],
         }
-    }
-
-    /// This lane, alone.
-    fn own<R: Wait>(&self, rt: &R) -> OneLane<'_>
-        ensures { result.number ≡ self.now.number }
-    {
-        OneLane {
-            number: Snapshot::of(&self.number),
-            guard: self.lock.write(rt),
-        }
-    }
-
-    /// This lane, alone, if nobody holds it now.
-    fn try_own(&self) -> Option<OneLane<'_>>
-        ensures { IfSome result (λ l. l.number ≡ self.now.number) }
-    {
-        Some(OneLane {
-            number: Snapshot::of(&self.number),
-            guard: self.lock.try_write()?,
-        })
     }
 }
 
@@ -68,26 +45,13 @@ impl Lane {
 #[derive(Drop)]
 pub(crate) struct Locks {
     lanes: [Lane; LANES],
-    of: Snapshot<Home>,
-}
-
-impl Model for Locks {
-    ghost use Rattle.std.specs.Prelude.{◌≡◌};
-    ghost use Rattle.table_shared.specs.Locked.{LockView};
-    ghost use Rattle.table_shared.specs.Lanes.{AreNumbered};
-
-    ghost Value = { LockView };
-
-    ghost view = { λ l. record { home = l.of.value.id } };
-
-    ghost invariant = { λ l. AreNumbered l.lanes };
 }
 
 /// The lane of a hash of one table, shared.
 #[derive(Drop)]
 pub(crate) struct SharedLock<'a> {
     guard: RwLockReadGuard<'a, ()>,
-    of: Snapshot<Snapshot<Home>>,
+    of: Snapshot<Home>,
 }
 
 impl<'a> Model for SharedLock<'a> {
@@ -95,7 +59,7 @@ impl<'a> Model for SharedLock<'a> {
 
     ghost Value = { LockView };
 
-    ghost view = { λ l. record { home = l.of.value.value.id } };
+    ghost view = { λ l. record { home = l.of.value.id } };
 }
 
 /// A lane that is held alone.
@@ -127,7 +91,7 @@ struct Four<'a> {
 pub(crate) struct OwnedLock<'a> {
     low: Four<'a>,
     high: Four<'a>,
-    of: Snapshot<Snapshot<Home>>,
+    of: Snapshot<Home>,
 }
 
 impl<'a> Model for OwnedLock<'a> {
@@ -136,112 +100,111 @@ impl<'a> Model for OwnedLock<'a> {
 
     ghost Value = { LockView };
 
-    ghost view = { λ l. record { home = l.of.value.value.id } };
+    ghost view = { λ l. record { home = l.of.value.id } };
 
     ghost invariant = { λ l. AreFourFrom 0 l.low × AreFourFrom 4 l.high };
 }
 
 impl Locks {
-    /// Locks of the table of this home, which nobody holds.
-    pub(crate) fn new(home: &Home) -> Locks
-        ensures { result.home ≡ home.now.id }
-    {
+    /// Locks that nobody holds.
+    pub(crate) fn new() -> Locks {
         Locks {
-            lanes: [
-                Lane::new(0),
-                Lane::new(1),
-                Lane::new(2),
-                Lane::new(3),
-                Lane::new(4),
-                Lane::new(5),
-                Lane::new(6),
-                Lane::new(7),
-            ],
-            of: Snapshot::of(home),
+            lanes: array::from_fn(|_lane| Lane::new()),
         }
-    }
-
-    /// The lane of this number.
-    #[inline(always)]
-    fn lane(&self, number: usize) -> &Lane
-        requires { number < 8 }
-        ensures { result.now.number ≡ number }
-    {
-        &self.lanes[number]
     }
 
     /// The lane of a hash: by its low bits, by which hashes in a row differ.
     #[inline(always)]
-    fn lane_of(&self, hash: u64) -> &RwLock<()> {
-        &self.lane(hash as usize & (LANES - 1)).lock
+    fn lane(&self, hash: u64) -> &RwLock<()> {
+        &self.lanes[hash as usize & (LANES - 1)].lock
     }
 
-    /// The lane of this hash, shared. It waits for who holds all alone.
+    /// The lane of this hash, shared, of the table of this home. It waits for who holds all alone.
     #[inline(always)]
-    fn share<R: Wait>(&self, rt: &R, hash: u64) -> SharedLock<'_>
-        ensures { result.home ≡ self.now.home }
+    fn share<R: Wait>(&self, rt: &R, hash: u64, home: &Home) -> SharedLock<'_>
+        ensures { result.home ≡ home.now.id }
     {
         SharedLock {
-            guard: self.lane_of(hash).read(rt),
-            of: Snapshot::of(&self.of),
+            guard: self.lane(hash).read(rt),
+            of: Snapshot::of(home),
         }
     }
 
-    /// The lane of this hash, shared, if nobody holds it alone now.
-    fn try_share(&self, hash: u64) -> Option<SharedLock<'_>>
-        ensures { IfSome result (λ l. l.home ≡ self.now.home) }
+    /// The lane of this hash, shared, of the table of this home, if nobody holds it alone now.
+    fn try_share(&self, hash: u64, home: &Home) -> Option<SharedLock<'_>>
+        ensures { IfSome result (λ l. l.home ≡ home.now.id) }
     {
         Some(SharedLock {
-            guard: self.lane_of(hash).try_read()?,
-            of: Snapshot::of(&self.of),
+            guard: self.lane(hash).try_read()?,
+            of: Snapshot::of(home),
+        })
+    }
+
+    /// The lane of this number, alone.
+    fn own_lane<R: Wait>(&self, rt: &R, number: u64) -> OneLane<'_>
+        ensures { result.number ≡ number }
+    {
+        OneLane {
+            guard: self.lane(number).write(rt),
+            number: Snapshot::of(&number),
+        }
+    }
+
+    /// The lane of this number, alone, if nobody holds it now.
+    fn try_own_lane(&self, number: u64) -> Option<OneLane<'_>>
+        ensures { IfSome result (λ l. l.number ≡ number) }
+    {
+        Some(OneLane {
+            guard: self.lane(number).try_write()?,
+            number: Snapshot::of(&number),
         })
     }
 
     /// Four lanes from this one on, alone.
-    fn own_four<R: Wait>(&self, rt: &R, first: usize) -> Four<'_>
+    fn own_four<R: Wait>(&self, rt: &R, first: u64) -> Four<'_>
         requires { first < 5 }
         ensures { AreFourFrom first result }
     {
         Four {
-            one: self.lane(first).own(rt),
-            two: self.lane(first + 1).own(rt),
-            three: self.lane(first + 2).own(rt),
-            four: self.lane(first + 3).own(rt),
+            one: self.own_lane(rt, first),
+            two: self.own_lane(rt, first + 1),
+            three: self.own_lane(rt, first + 2),
+            four: self.own_lane(rt, first + 3),
         }
     }
 
     /// Four lanes from this one on, alone, if nobody holds any of them now.
-    fn try_own_four(&self, first: usize) -> Option<Four<'_>>
+    fn try_own_four(&self, first: u64) -> Option<Four<'_>>
         requires { first < 5 }
         ensures { IfSome result (AreFourFrom first) }
     {
         Some(Four {
-            one: self.lane(first).try_own()?,
-            two: self.lane(first + 1).try_own()?,
-            three: self.lane(first + 2).try_own()?,
-            four: self.lane(first + 3).try_own()?,
+            one: self.try_own_lane(first)?,
+            two: self.try_own_lane(first + 1)?,
+            three: self.try_own_lane(first + 2)?,
+            four: self.try_own_lane(first + 3)?,
         })
     }
 
-    /// All lanes, alone. It waits for everybody who holds one.
-    fn own<R: Wait>(&self, rt: &R) -> OwnedLock<'_>
-        ensures { result.home ≡ self.now.home }
+    /// All lanes, alone, of the table of this home. It waits for everybody who holds one.
+    fn own<R: Wait>(&self, rt: &R, home: &Home) -> OwnedLock<'_>
+        ensures { result.home ≡ home.now.id }
     {
         OwnedLock {
             low: self.own_four(rt, 0),
             high: self.own_four(rt, 4),
-            of: Snapshot::of(&self.of),
+            of: Snapshot::of(home),
         }
     }
 
-    /// All lanes, alone, if nobody holds any of them now.
-    fn try_own(&self) -> Option<OwnedLock<'_>>
-        ensures { IfSome result (λ l. l.home ≡ self.now.home) }
+    /// All lanes, alone, of the table of this home, if nobody holds any of them now.
+    fn try_own(&self, home: &Home) -> Option<OwnedLock<'_>>
+        ensures { IfSome result (λ l. l.home ≡ home.now.id) }
     {
         Some(OwnedLock {
             low: self.try_own_four(0)?,
             high: self.try_own_four(4)?,
-            of: Snapshot::of(&self.of),
+            of: Snapshot::of(home),
         })
     }
 }
@@ -252,27 +215,27 @@ impl<T: AtomicValue, A: Allocator + Copy> LockFreeRawTable<T, A> {
     pub(crate) fn share<R: Wait>(&self, rt: &R, hash: u64) -> SharedLock<'_>
         ensures { result.home ≡ self.now.home }
     {
-        self.locks.share(rt, hash)
+        self.locks.share(rt, hash, &self.home)
     }
 
     /// The lane of this hash, shared, if nobody holds it alone now.
     pub(crate) fn try_share(&self, hash: u64) -> Option<SharedLock<'_>>
         ensures { IfSome result (λ l. l.home ≡ self.now.home) }
     {
-        self.locks.try_share(hash)
+        self.locks.try_share(hash, &self.home)
     }
 
     /// All lanes of the table, alone. It waits for everybody who holds one.
     pub(crate) fn own<R: Wait>(&self, rt: &R) -> OwnedLock<'_>
         ensures { result.home ≡ self.now.home }
     {
-        self.locks.own(rt)
+        self.locks.own(rt, &self.home)
     }
 
     /// All lanes of the table, alone, if nobody holds any of them now.
     pub(crate) fn try_own(&self) -> Option<OwnedLock<'_>>
         ensures { IfSome result (λ l. l.home ≡ self.now.home) }
     {
-        self.locks.try_own()
+        self.locks.try_own(&self.home)
     }
 }

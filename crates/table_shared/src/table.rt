@@ -55,7 +55,7 @@ impl<T: AtomicValue, A: Allocator + Copy> Model for LockFreeRawTable<T, A> {
     ghost view = { λ t. table_of t.first_capacity t.lineage };
 
     ghost invariant = { λ t. IsFirstCapacity t.first_capacity × (t.lineage.home ≡ t.home.id)
-        × (t.shown.home ≡ t.home.id) × (t.locks.home ≡ t.home.id) };
+        × (t.shown.home ≡ t.home.id) };
 }
 
 /// A generation that was the current one at a moment of the call, and its own number: the first is 0.
@@ -110,14 +110,13 @@ impl<T: AtomicValue, A: Allocator + Copy> LockFreeRawTable<T, A> {
         let size = base.size();
         let lineage = Lineage::new(alloc, &home, earlier, base);
         let shown = Shown::new(alloc, &home);
-        let locks = Locks::new(&home);
         LockFreeRawTable {
             first_capacity,
             home,
             lineage,
             shown,
             before: Apart::new(),
-            locks,
+            locks: Locks::new(),
             size: Size::new(size),
             behind: Apart::new(),
             alloc,
