@@ -6,7 +6,7 @@ use Rattle.std.proofs.lemmas.Bool.{ltb-true}
 use Rattle.table_generations.specs.Generations.{GenerationView}
 use Rattle.table_core.specs.Calls.{decided, fits, stands_at_bucket, to, is_done, finds_entry, insert_start}
 use Rattle.table_core.specs.declared.call.Answer.{Answer}
-use Rattle.table_core.specs.declared.call.Answer.TheVariants.{NoGeneration, Taken}
+use Rattle.table_core.specs.declared.call.Answer.TheVariants.{Copied, NoGeneration, Taken}
 use Rattle.table_core.specs.declared.call.CallState.{CallState}
 use Rattle.table_core.specs.declared.call.Outcome.{Outcome}
 use Rattle.table_core.specs.declared.call.Outcome.TheVariants.{Pending, New}
@@ -20,7 +20,7 @@ use Rattle.table_shared.specs.declared.insert.between.Carried.TheVariants.{Gone,
 use Rattle.table_shared.specs.declared.insert.between.Held.{Held}
 use Rattle.table_shared.specs.declared.insert.between.Held.TheVariants as lock
 use Rattle.table_shared.specs.Between.{IsBetween, Loads}
-use Rattle.table_shared.specs.Carried.{reach_of, value_in, own_in, lock_of, Wants}
+use Rattle.table_shared.specs.Carried.{reach_of, value_in, own_in, lock_of, table_in, Wants}
 use Rattle.table_shared.specs.Growths.{GrowthView}
 use Rattle.table_shared.specs.Reads.{Takes}
 use Rattle.table_shared.proofs.Looked.{some_same}
@@ -29,6 +29,12 @@ use Rattle.table_shared.proofs.Takes.{passes_entry}
 -- a step from a known phase
 pub taken : (p : Phase) (a : Answer) (s t : CallState) → s.phase ≡ p → t ≡ decided s.phase s a → t ≡ decided p s a
 taken p a s t at is = subst (λ (q : Phase). t ≡ decided q s a) at is
+
+-- a call that copies an entry stays where it stands
+pub stays_building : (s t u : CallState) → s ≡ u → u.phase ≡ Building → t ≡ decided s.phase s Copied → t ≡ u
+stays_building s t u is at step =
+    let building : s.phase ≡ Building = ap (λ (v : CallState). v.phase) is ∙ at in
+    taken Building Copied s t building step ∙ (sym (subst (λ (p : Phase). s ≡ to p s) building refl) ∙ is)
 
 -- what holds in the next phase held in this one
 pub record Leads (p q : Phase) : Type 0 where
@@ -109,6 +115,7 @@ begins home target given v hash is = record {
   counts = λ x e. absurd (cc);
   homes = λ x e. absurd (cc);
   locks = refl;
+  of_table = λ x e. absurd (cc);
   builds = λ e. absurd (cc);
   grows = λ x e. absurd (cc);
   there = λ _ e. absurd (cc);
@@ -175,8 +182,8 @@ module _ {A V X : Type 0} {home : ℕ} {target : V → X} {given : V} {s : CallS
 
   -- an insert that goes to another phase
   pub goes : (p q : Phase) (t : CallState) (making : Option (GrowthView V)) (bearing : Carried V (Bor X)) (holding : Held) → s.phase ≡ p → t ≡ to q s → Leads p q → Bears q bearing
-      → lock_of holding ≡ lock_in q → (q ≡ Building → making ≢ None) → ForSome making (λ g. g.home ≡ home) → IsBetween home target given t walked making bearing holding
-  goes p q t making bearing holding at is leads bears locks builds grows =
+      → lock_of holding ≡ lock_in q → ForSome (table_in holding) (λ h. h ≡ home) → (q ≡ Building → making ≢ None) → ForSome making (λ g. g.home ≡ home) → IsBetween home target given t walked making bearing holding
+  goes p q t making bearing holding at is leads bears locks of_table builds grows =
       subst (λ (u : CallState). IsBetween home target given u walked making bearing holding) (sym is) (record {
         inserts = leads.inserts;
         hopes = λ x. b.hopes (subst Hopes (sym at) (leads.hopes x));
@@ -186,6 +193,7 @@ module _ {A V X : Type 0} {home : ℕ} {target : V → X} {given : V} {s : CallS
         counts = b.counts;
         homes = b.homes;
         locks = locks;
+        of_table = of_table;
         builds = builds;
         grows = grows;
         there = λ _. bears.there;
@@ -195,12 +203,12 @@ module _ {A V X : Type 0} {home : ℕ} {target : V → X} {given : V} {s : CallS
       })
 
   -- an insert that takes the lock that it wants
-  pub takes : (t : CallState) (holding : Held) → Wants s.phase (lock_of holding) → t ≡ decided s.phase s Taken → IsBetween home target given t walked growth carried holding
-  takes t holding wants is = takes_in s.phase refl wants is
+  pub takes : (t : CallState) (holding : Held) → Wants s.phase (lock_of holding) → ForSome (table_in holding) (λ h. h ≡ home) → t ≡ decided s.phase s Taken → IsBetween home target given t walked growth carried holding
+  takes t holding wants of_table is = takes_in s.phase refl wants is
     where
       takes_in : (p : Phase) → s.phase ≡ p → Wants p (lock_of holding) → t ≡ decided p s Taken → IsBetween home target given t walked growth carried holding
-      takes_in WantShared at w e = goes WantShared Shared t growth carried holding at e (search rules) (bears WantShared Shared at refl refl) w (λ x. absurd (cc)) b.grows
-      takes_in WantOwned at w e = goes WantOwned Owned t growth carried holding at e (search rules) (bears WantOwned Owned at refl refl) w (λ x. absurd (cc)) b.grows
+      takes_in WantShared at w e = goes WantShared Shared t growth carried holding at e (search rules) (bears WantShared Shared at refl refl) w of_table (λ x. absurd (cc)) b.grows
+      takes_in WantOwned at w e = goes WantOwned Owned t growth carried holding at e (search rules) (bears WantOwned Owned at refl refl) w of_table (λ x. absurd (cc)) b.grows
       takes_in _ at w e = absurd w
 
   -- an insert that holds the lock shared isn't over
@@ -210,7 +218,7 @@ module _ {A V X : Type 0} {home : ℕ} {target : V → X} {given : V} {s : CallS
   -- an insert that keeps what it carries, and holds its lock still
   pub goes_on : (p q : Phase) (t : CallState) (making : Option (GrowthView V)) → s.phase ≡ p → t ≡ to q s → Leads p q → is_done p ≡ false → reached p s.outcome ≡ reached q s.outcome → lock_in p ≡ lock_in q
       → (q ≡ Building → making ≢ None) → ForSome making (λ g. g.home ≡ home) → IsBetween home target given t walked making carried held
-  goes_on p q t making at is leads begun same lock builds grows = goes p q t making carried held at is leads (bears p q at begun same) (keeps_lock p at ∙ lock) builds grows
+  goes_on p q t making at is leads begun same lock builds grows = goes p q t making carried held at is leads (bears p q at begun same) (keeps_lock p at ∙ lock) b.of_table builds grows
 
   -- an insert that stands at an empty bucket
   pub finds_empty : (t : CallState) → s.phase ≡ Probe → t ≡ to AtEmpty s → IsBetween home target given t walked growth carried held
@@ -227,6 +235,7 @@ module _ {A V X : Type 0} {home : ℕ} {target : V → X} {given : V} {s : CallS
     counts = λ x is. b.counts x is ∙ sym passing.same.1;
     homes = b.homes;
     locks = b.locks ∙ (can_meet s.phase meets).shares ∙ sym passing.lock;
+    of_table = b.of_table;
     builds = λ building. absurd (passing.not_building building);
     grows = b.grows;
     there = λ _. meets_carries meets;
@@ -251,6 +260,7 @@ module _ {A V X : Type 0} {home : ℕ} {target : V → X} {given : V} {s : CallS
         counts = b.counts;
         homes = b.homes;
         locks = b.locks ∙ (can_meet s.phase meets).shares;
+        of_table = b.of_table;
         builds = λ e. absurd (cc);
         grows = b.grows;
         there = λ _ e. absurd (cc);
@@ -278,19 +288,19 @@ module _ {A V X : Type 0} {home : ℕ} {target : V → X} {given : V} {s : CallS
         stems = λ v e. absurd (cc);
         owns = λ x e. ap (λ (y : Bor X). y.now) (sym (some_same r x e)) ∙ own;
       })
-      (keeps_lock AtEmpty at) (λ e. absurd (cc)) b.grows
+      (keeps_lock AtEmpty at) b.of_table (λ e. absurd (cc)) b.grows
 
   -- an insert whose memory was refused has its value again
   pub has_back : (t : CallState) (v : V) → s.phase ≡ AtEmpty → t ≡ to LeaveRefused s → v ≡ given → IsBetween home target given t walked growth (Value v) held
   has_back t v at is from =
       goes AtEmpty LeaveRefused t growth (Value v) held at is (search rules)
-      (bears_value LeaveRefused v refl (b.hopes (subst Hopes (sym at) tt)) from) (keeps_lock AtEmpty at) (λ e. absurd (cc)) b.grows
+      (bears_value LeaveRefused v refl (b.hopes (subst Hopes (sym at) tt)) from) (keeps_lock AtEmpty at) b.of_table (λ e. absurd (cc)) b.grows
 
   -- an insert that lost its exchange stands where it stood, and has its value again
   pub loses : (v : V) → s.phase ≡ AtEmpty → v ≡ given → IsBetween home target given s walked growth (Value v) held
   loses v at from =
       goes AtEmpty AtEmpty s growth (Value v) held at (subst (λ (p : Phase). s ≡ to p s) at refl) (search rules)
-      (bears_value AtEmpty v refl (b.hopes (subst Hopes (sym at) tt)) from) (keeps_lock AtEmpty at) (λ e. absurd (cc)) b.grows
+      (bears_value AtEmpty v refl (b.hopes (subst Hopes (sym at) tt)) from) (keeps_lock AtEmpty at) b.of_table (λ e. absurd (cc)) b.grows
 
   -- an insert that finds no generation
   pub finds_none : (t : CallState) → s.phase ≡ Shared → t ≡ record s { phase = LeaveGrow; walked = None } → IsBetween {A = A} home target given t None growth carried held
@@ -304,6 +314,7 @@ module _ {A V X : Type 0} {home : ℕ} {target : V → X} {given : V} {s : CallS
         counts = λ x e. absurd (cc);
         homes = λ x e. absurd (cc);
         locks = keeps_lock Shared at;
+        of_table = b.of_table;
         builds = λ e. absurd (cc);
         grows = b.grows;
         there = λ _. carries Shared at refl;
@@ -324,6 +335,7 @@ module _ {A V X : Type 0} {home : ℕ} {target : V → X} {given : V} {s : CallS
     counts = λ y e. ap (λ (z : Bor (GenerationView A V)). length z.now.contents) (sym (some_same x y e)) ∙ sym starting.walked.1;
     homes = λ y e. ap (λ (z : Bor (GenerationView A V)). z.now.home) (sym (some_same x y e)) ∙ home_is;
     locks = keeps_lock Shared at ∙ sym (ap lock_in on);
+    of_table = b.of_table;
     builds = λ e. absurd (cc);
     grows = b.grows;
     there = λ _. carries Shared at refl;
@@ -349,6 +361,7 @@ module _ {A V X : Type 0} {home : ℕ} {target : V → X} {given : V} {s : CallS
         counts = b.counts;
         homes = b.homes;
         locks = keeps_lock Placed at;
+        of_table = b.of_table;
         builds = λ e. absurd (cc);
         grows = b.grows;
         there = λ _. carries Placed at refl;
@@ -378,6 +391,7 @@ module _ {A V X : Type 0} {home : ℕ} {target : V → X} {given : V} {s : CallS
     counts = λ x e. b.counts x e ∙ sym leaving.same.1;
     homes = b.homes;
     locks = sym leaving.lock;
+    of_table = λ x e. absurd (cc);
     builds = λ e. absurd (leaving.not_building e);
     grows = b.grows;
     there = λ _. leaves_carries leaves;
@@ -390,11 +404,11 @@ module _ {A V X : Type 0} {home : ℕ} {target : V → X} {given : V} {s : CallS
   pub leaves_to_ask : (t : CallState) → s.phase ≡ LeaveOk → t ≡ to AskSize s → IsBetween home target given t walked growth carried lock.Nothing
   leaves_to_ask t at is =
       goes LeaveOk AskSize t growth carried lock.Nothing at is (search rules)
-      (bears LeaveOk AskSize at refl refl) refl (λ e. absurd (cc)) b.grows
+      (bears LeaveOk AskSize at refl refl) refl (λ x e. absurd (cc)) (λ e. absurd (cc)) b.grows
 
 -- an insert that has taken its first lock
-pub begins_shared : {A V X : Type 0} (home : ℕ) (target : V → X) (given v : V) (hash : ℕ) (s t : CallState) (holding : Held) → s ≡ insert_start hash → v ≡ given → lock_of holding ≡ Shares → t ≡ decided s.phase s Taken
+pub begins_shared : {A V X : Type 0} (home : ℕ) (target : V → X) (given v : V) (hash : ℕ) (s t : CallState) (holding : Held) → s ≡ insert_start hash → v ≡ given → lock_of holding ≡ Shares → ForSome (table_in holding) (λ h. h ≡ home) → t ≡ decided s.phase s Taken
     → IsBetween {A = A} home target given t None None (Value v) holding
-begins_shared {A} home target given v hash s t holding is from shares e =
+begins_shared {A} home target given v hash s t holding is from shares of_table e =
     takes (subst (λ (u : CallState). IsBetween {A = A} home target given u None None (Value v) lock.Nothing) (sym is) (begins {A = A} home target given v hash from)) t holding
-    (subst (λ (u : CallState). Wants u.phase (lock_of holding)) (sym is) shares) e
+    (subst (λ (u : CallState). Wants u.phase (lock_of holding)) (sym is) shares) of_table e

@@ -17,7 +17,7 @@ use Rattle.table_shared.specs.declared.insert.between.Asking.{Asking}
 use Rattle.table_shared.specs.declared.insert.between.Carried.{Carried}
 use Rattle.table_shared.specs.declared.insert.between.Carried.TheVariants.{Gone}
 use Rattle.table_shared.specs.declared.insert.between.Held.{Held}
-use Rattle.table_shared.specs.Carried.{Asks, reach_of, value_in, own_in, lock_of}
+use Rattle.table_shared.specs.Carried.{Asks, reach_of, value_in, own_in, lock_of, table_in}
 use Rattle.table_shared.specs.Growths.{GrowthView}
 
 -- an insert of this value into a table of this home, in this state, with the generation that it walks,
@@ -34,8 +34,9 @@ pub record IsBetween {A V X : Type 0} (home : ℕ) (target : V → X) (given : V
   pub walks : Walks s.phase → walked ≢ None
   pub counts : ForSome walked (λ g. length g.now.contents ≡ s.capacity)
   pub homes : ForSome walked (λ g. g.now.home ≡ home)
-  -- it holds the lock that its phase says
+  -- it holds the lock that its phase says, which is this table's
   pub locks : lock_of held ≡ lock_in s.phase
+  pub of_table : ForSome (table_in held) (λ h. h ≡ home)
   -- it makes a generation of this home while it builds
   pub builds : s.phase ≡ Building → growth ≢ None
   pub grows : ForSome growth (λ g. g.home ≡ home)

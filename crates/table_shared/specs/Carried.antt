@@ -23,6 +23,12 @@ lock_of held.Nothing = Free
 lock_of (held.Shared guard) = Shares
 lock_of (held.Alone guard) = Owns
 
+-- the table whose lock is held, by its home
+abbrev pub table_in : Held → Option ℕ
+table_in held.Nothing = None
+table_in (held.Shared guard) = Some guard.home
+table_in (held.Alone guard) = Some guard.home
+
 -- the lock that a guard of this kind holds, if there is a guard
 abbrev pub held_by : {G : Type 0} → (G → Held) → Option G → Held
 held_by kind None = held.Nothing

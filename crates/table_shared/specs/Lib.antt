@@ -1,3 +1,5 @@
+pub mod Locked
+pub mod Lanes
 pub mod Lineages
 pub mod Tables
 pub mod Growths

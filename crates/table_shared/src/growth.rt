@@ -10,6 +10,7 @@ pub(crate) mod ahead;
 pub(crate) mod begin;
 
 use crate::lineage::later::{Slot, show_block};
+use crate::locks::OwnedLock;
 use crate::shown::Shown;
 use std::alloc::{AllocError, Allocator};
 use std::marker::Model;
@@ -113,8 +114,9 @@ impl<'a, T: AtomicValue, A: Allocator + Copy> Growth<'a, T, A> {
 }
 
 impl<'a, T: AtomicValue, A: Low + Copy> Growth<'a, T, A> {
-    /// Shows the generation that was made.
-    pub(crate) fn show(self, shown: &Shown<T, A>)
+    /// Shows the generation that was made, under all locks of its table.
+    pub(crate) fn show(self, _held: &OwnedLock<'_>, shown: &Shown<T, A>)
+        requires lock { _held.now.home ≡ self.home }
         requires whole { PassedAll self }
         requires home { shown.now.home ≡ self.home }
     {

@@ -11,10 +11,11 @@ pub(crate) mod between;
 mod steps;
 
 use crate::insert::between::{Asking, Carried, Held, Inserting};
+use crate::locks::SharedLock;
 use crate::probe::{Caller, Matched, Put, Putting, Read, Reading};
 use crate::table::LockFreeRawTable;
 use std::snapshot::Snapshot;
-use std::sync::{RwLockReadGuard, Wait};
+use std::sync::Wait;
 use table_cell::Low;
 use table_core::{Answer, CallState, Outcome, Phase};
 use table_generations::atomic_value::AtomicValue;
@@ -63,7 +64,7 @@ impl<T: AtomicValue, A: Low + Copy> LockFreeRawTable<T, A> {
     {
         let given = Snapshot::of(&value);
         let asking = Asking { given, eq, hash_fn };
-        let guard = self.locks.share(rt, hash);
+        let guard = self.share(rt, hash);
         let state = step(CallState::insert(hash), Answer::Taken);
         let Some(current) = self.current() else {
             let state = step(state, Answer::NoGeneration);
@@ -115,7 +116,7 @@ impl<T: AtomicValue, A: Low + Copy> LockFreeRawTable<T, A> {
         number: u64,
         generation: &'a Generation<T, A>,
         value: T,
-        guard: RwLockReadGuard<'a, ()>,
+        guard: SharedLock<'a>,
         asking: Asking<T, E, H>,
     ) -> Result<(&'a T::Target, Option<T>), T>
         requires { StandsIn self.now.home E.IsAlwaysCallable H.IsAlwaysCallable T.target E.Fn asking
@@ -160,7 +161,7 @@ impl<T: AtomicValue, A: Low + Copy> LockFreeRawTable<T, A> {
         outcome: Outcome,
         generation: &'a Generation<T, A>,
         carried: Carried<T, &'a T::Target>,
-        guard: RwLockReadGuard<'a, ()>,
+        guard: SharedLock<'a>,
         asking: Asking<T, E, H>,
     ) -> Result<(&'a T::Target, Option<T>), T>
         requires { StandsIn self.now.home E.IsAlwaysCallable H.IsAlwaysCallable T.target E.Fn asking
@@ -186,7 +187,7 @@ impl<T: AtomicValue, A: Low + Copy> LockFreeRawTable<T, A> {
         state: CallState,
         walked: Option<&'a Generation<T, A>>,
         carried: Carried<T, &'a T::Target>,
-        guard: Option<RwLockReadGuard<'a, ()>>,
+        guard: Option<SharedLock<'a>>,
         asking: Asking<T, E, H>,
     ) -> Result<(&'a T::Target, Option<T>), T>
         requires { Onward self.now.home E.IsAlwaysCallable H.IsAlwaysCallable T.target E.Fn asking
@@ -226,7 +227,7 @@ impl<T: AtomicValue, A: Low + Copy> LockFreeRawTable<T, A> {
         walked: Option<&'a Generation<T, A>>,
         target: Option<&'a T::Target>,
         value: Option<T>,
-        guard: Option<RwLockReadGuard<'a, ()>>,
+        guard: Option<SharedLock<'a>>,
         asking: Asking<T, E, H>,
     ) -> Result<(&'a T::Target, Option<T>), T>
         requires { Onward self.now.home E.IsAlwaysCallable H.IsAlwaysCallable T.target E.Fn asking

@@ -7,9 +7,9 @@ ghost use Rattle.table_core.specs.declared.call.Answer.TheVariants.{Counted, Siz
 ghost use Rattle.table_turns.specs.Steps.{Went};
 ghost use Rattle.table_shared.specs.Reads.{AsksSize};
 
+use crate::locks::SharedLock;
 use crate::table::LockFreeRawTable;
 use std::alloc::Allocator;
-use std::sync::RwLockReadGuard;
 use std::sync::atomic::AtomicUsize;
 use std::sync::atomic::Ordering::SeqCst;
 use table_core::{Answer, CallState};
@@ -38,15 +38,16 @@ impl Size {
 
     /// One more is counted, while the lock is still held: growth waits for whoever holds it.
     #[inline(always)]
-    fn count(&self, _held: &RwLockReadGuard<'_, ()>) {
+    fn count(&self, _held: &SharedLock<'_>) {
         self.counted.fetch_add(1, SeqCst);
     }
 }
 
 impl<T: AtomicValue, A: Allocator + Copy> LockFreeRawTable<T, A> {
-    /// A value that was placed is counted, while this lock is still held.
+    /// A value that was placed is counted, while this lock of the table is still held.
     #[inline(always)]
-    pub(crate) fn count(&self, held: &RwLockReadGuard<'_, ()>, state: CallState) -> CallState
+    pub(crate) fn count(&self, held: &SharedLock<'_>, state: CallState) -> CallState
+        requires lock { held.now.home ≡ self.now.home }
         requires phase { state.phase ≡ Placed }
         requires stands { stands_at_bucket state ≡ true }
         ensures went { Went state result Counted }

@@ -10,6 +10,7 @@ ghost use Rattle.table_shared.specs.Ahead.{IsRead, Holds, CopiesOn};
 ghost use Rattle.table_shared.specs.Growths.{PassedAll};
 
 use crate::growth::Growth;
+use crate::locks::OwnedLock;
 use std::alloc::Allocator;
 use std::array;
 use table_cell::{Bucket, Entry, Home, Word};
@@ -91,10 +92,12 @@ impl<'a, T: AtomicValue, A: Allocator + Copy> Growth<'a, T, A> {
     /// where it stands.
     fn copy_window<H: Fn(&T::Target) -> u64>(
         &mut self,
+        _held: &OwnedLock<'_>,
         state: CallState,
         hash_fn: &H,
         window: &mut [Option<Ahead<T, A>>; WINDOW],
     ) -> CallState
+        requires lock { _held.now.home ≡ self.old.home }
         requires phase { state.phase ≡ Building }
         requires left { self.old.passed < length self.old.before }
         requires callable { H.IsAlwaysCallable hash_fn.now }
@@ -109,6 +112,7 @@ impl<'a, T: AtomicValue, A: Allocator + Copy> Growth<'a, T, A> {
         let first = self.copied;
         let count = (from.capacity() - first).min(WINDOW);
         let found = read_window(self.home, from, first, hash_fn, window);
+        let mut state = state;
         for place in 0..found {
             if let Some(read) = window[place].take() {
                 self.built.insert_unique(
@@ -116,21 +120,23 @@ impl<'a, T: AtomicValue, A: Allocator + Copy> Growth<'a, T, A> {
                     read.hash,
                     Bucket::of_naming(self.home, read.word),
                 );
-                let _same = step(state, Answer::Copied);
+                state = step(state, Answer::Copied);
             }
         }
         self.copied = first + count;
         state
     }
 
-    /// Copies all entries that are left, each by a step of the call, which stays where it stands. Their hashes are asked for
-    /// in their order, up to 64 buckets ahead of the copies. To be called while the lock is held alone.
+    /// Copies all entries that are left, under all locks of the table, each by a step of the call, which stays where it stands. Their
+    /// hashes are asked for in their order, up to 64 buckets ahead of the copies.
     #[inline(never)]
     pub(crate) fn copy_rest<H: Fn(&T::Target) -> u64>(
         &mut self,
+        held: &OwnedLock<'_>,
         state: CallState,
         hash_fn: &H,
     ) -> CallState
+        requires lock { held.now.home ≡ self.old.home }
         requires phase { state.phase ≡ Building }
         requires callable { H.IsAlwaysCallable hash_fn.now }
         ensures stays { result ≡ state }
@@ -141,7 +147,7 @@ impl<'a, T: AtomicValue, A: Allocator + Copy> Growth<'a, T, A> {
         let mut state = state;
         let mut window: [Option<Ahead<T, A>>; WINDOW] = array::from_fn(|_place: usize| None);
         while !self.has_passed_all() {
-            state = self.copy_window(state, hash_fn, &mut window);
+            state = self.copy_window(held, state, hash_fn, &mut window);
         }
         state
     }

@@ -5,6 +5,7 @@ ghost use Rattle.table_shared.specs.Begun.{Begins};
 ghost use Rattle.table_shared.specs.Growths.{PassedAll};
 
 use crate::growth::Growth;
+use crate::locks::OwnedLock;
 use crate::table::{Current, LockFreeRawTable};
 use std::alloc::{AllocError, Allocator};
 use table_cell::Low;
@@ -25,7 +26,8 @@ pub enum Wanted<'a, T: AtomicValue, A: Allocator + Copy> {
 
 impl<T: AtomicValue, A: Low + Copy> LockFreeRawTable<T, A> {
     /// The first generation, without an entry.
-    fn begin_first(&self) -> Result<Growth<'_, T, A>, AllocError>
+    fn begin_first(&self, _held: &OwnedLock<'_>) -> Result<Growth<'_, T, A>, AllocError>
+        requires lock { _held.now.home ≡ self.now.home }
         ensures { IfOk result (λ g. g.home ≡ self.now.home) }
     {
         let slot = self.lineage.slot(&self.home, 0)?;
@@ -34,7 +36,12 @@ impl<T: AtomicValue, A: Low + Copy> LockFreeRawTable<T, A> {
     }
 
     /// The generation after the current one, with twice the capacity.
-    fn begin_after<'a>(&'a self, current: Current<'a, T, A>) -> Result<Growth<'a, T, A>, AllocError>
+    fn begin_after<'a>(
+        &'a self,
+        _held: &OwnedLock<'_>,
+        current: Current<'a, T, A>,
+    ) -> Result<Growth<'a, T, A>, AllocError>
+        requires lock { _held.now.home ≡ self.now.home }
         requires home { current.generation.now.home ≡ self.now.home }
         requires power { IsPowerOfTwo (length current.generation.now.contents) }
         ensures home { IfOk result (λ g. g.home ≡ self.now.home) }
@@ -52,18 +59,19 @@ impl<T: AtomicValue, A: Low + Copy> LockFreeRawTable<T, A> {
         Growth::begun(&self.home, Some(current.generation), built, slot)
     }
 
-    /// Looks at the size again, and asks for all the memory of the next generation if it is still wanted. To be called
-    /// while the lock is held alone.
-    pub(crate) fn begin(&self) -> Wanted<'_, T, A>
+    /// Looks at the size again, under all locks of the table, and asks for all the memory of the next generation if it is still
+    /// wanted.
+    pub(crate) fn begin(&self, held: &OwnedLock<'_>) -> Wanted<'_, T, A>
+        requires lock { held.now.home ≡ self.now.home }
         ensures { Begins self.now.home result }
     {
         let begun = match self.current() {
-            None => self.begin_first(),
+            None => self.begin_first(held),
             Some(current) => {
                 if !self.wants_growth(current.generation) {
                     return Wanted::Unwanted;
                 }
-                self.begin_after(current)
+                self.begin_after(held, current)
             }
         };
         match begun {
@@ -72,11 +80,12 @@ impl<T: AtomicValue, A: Low + Copy> LockFreeRawTable<T, A> {
         }
     }
 
-    /// Shows the generation that was made: from then on it is the current one. To be called while the lock is held alone.
-    pub(crate) fn show(&self, growth: Growth<'_, T, A>)
+    /// Shows the generation that was made, under all locks of the table: from then on it is the current one.
+    pub(crate) fn show(&self, held: &OwnedLock<'_>, growth: Growth<'_, T, A>)
+        requires lock { held.now.home ≡ self.now.home }
         requires home { growth.home ≡ self.now.home }
         requires whole { PassedAll growth }
     {
-        growth.show(&self.shown);
+        growth.show(held, &self.shown);
     }
 }

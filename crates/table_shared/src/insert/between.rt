@@ -4,10 +4,9 @@ ghost use Rattle.table_shared.specs.Between.{IsBetween};
 ghost use Rattle.table_shared.specs.Carried.{IsAnswer, carried_by};
 
 use crate::growth::Growth;
-use crate::locks::Alone;
+use crate::locks::{OwnedLock, SharedLock};
 use crate::table::LockFreeRawTable;
 use std::snapshot::Snapshot;
-use std::sync::RwLockReadGuard;
 use table_cell::Low;
 use table_core::{CallState, Phase};
 use table_generations::atomic_value::AtomicValue;
@@ -68,8 +67,8 @@ impl<T, R> Carried<T, R> {
 #[derive(Drop)]
 pub(crate) enum Held<'a> {
     Nothing,
-    Shared(RwLockReadGuard<'a, ()>),
-    Alone(Alone<'a>),
+    Shared(SharedLock<'a>),
+    Alone(OwnedLock<'a>),
 }
 
 /// Whom an insert asks, and of which value.

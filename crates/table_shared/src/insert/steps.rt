@@ -1,12 +1,13 @@
 //! The steps of an insert, each by what its phase says.
 ghost use Rattle.std.specs.Prelude.{◌≡◌, ◌≢◌, Some, true};
 ghost use Rattle.std.specs.Fn.{FnReturnsAtPair};
+ghost use Rattle.std.specs.Option.{ForSome};
 ghost use Rattle.table_core.specs.Calls.{finds_entry};
 ghost use Rattle.table_core.specs.declared.call.Phase.TheVariants.{Shared, Probe, AtEmpty, Placed, LeaveOk, AskSize, Owned, Building, Done};
 ghost use Rattle.table_core.specs.declared.call.Answer.TheVariants.{Taken, Holds, MemoryRefused};
 ghost use Rattle.table_turns.specs.Phases.{Meets, Turns, Leaves};
 ghost use Rattle.table_turns.specs.Steps.{Went, Passing, passed as passed_answer};
-ghost use Rattle.table_shared.specs.Carried.{Asks, Wants, lock_of, met_in};
+ghost use Rattle.table_shared.specs.Carried.{Asks, Wants, lock_of, table_in, met_in};
 ghost use Rattle.table_shared.specs.Inserts.{Answers};
 ghost use Rattle.table_shared.specs.Steps.{Steps, Stays, TellsAlone, Ends, TriesStep};
 
@@ -26,9 +27,10 @@ where
     E: Fn(&T::Target, &T::Target) -> bool,
     H: Fn(&T::Target) -> u64,
 {
-    /// The lock that it wants is taken.
+    /// The lock of its table that it wants is taken.
     fn take(&mut self, held: Held<'a>) -> Answer
         requires wanted { Wants self.old.state.phase (lock_of held) }
+        requires lock { ForSome (table_in held) (λ home. home ≡ self.old.table.now.home) }
         ensures { Steps E.Fn self.old result self.new }
     {
         self.held = held;
@@ -179,7 +181,10 @@ where
         ensures { Steps E.Fn self.old result self.new }
     {
         let table: &'a LockFreeRawTable<T, A> = self.table;
-        match table.begin() {
+        let Held::Alone(held) = &self.held else {
+            unreachable!()
+        };
+        match table.begin(held) {
             Wanted::Unwanted => {
                 self.state = step(self.state, Answer::Unwanted);
                 Answer::Unwanted
@@ -210,7 +215,10 @@ where
             self.state = step(self.state, Answer::Copied);
             return Answer::Copied;
         }
-        self.table.show(growth);
+        let Held::Alone(held) = &self.held else {
+            unreachable!()
+        };
+        self.table.show(held, growth);
         self.state = step(self.state, Answer::Shown);
         Answer::Shown
     }
@@ -224,7 +232,10 @@ where
         let Some(mut growth) = self.growth.take() else {
             unreachable!()
         };
-        self.state = growth.copy_rest(self.state, &self.asking.hash_fn);
+        let Held::Alone(held) = &self.held else {
+            unreachable!()
+        };
+        self.state = growth.copy_rest(held, self.state, &self.asking.hash_fn);
         self.growth = Some(growth);
     }
 
@@ -277,8 +288,8 @@ where
         let hash = self.state.hash;
         match self.state.phase {
             Phase::Done => None,
-            Phase::WantShared => Some(self.take(Held::Shared(table.locks.try_share(hash)?))),
-            Phase::WantOwned => Some(self.take(Held::Alone(table.locks.try_own()?))),
+            Phase::WantShared => Some(self.take(Held::Shared(table.try_share(hash)?))),
+            Phase::WantOwned => Some(self.take(Held::Alone(table.try_own()?))),
             _ => Some(self.turn()),
         }
     }
@@ -293,8 +304,8 @@ where
         let table: &'a LockFreeRawTable<T, A> = self.table;
         let hash = self.state.hash;
         match self.state.phase {
-            Phase::WantShared => self.take(Held::Shared(table.locks.share(rt, hash))),
-            Phase::WantOwned => self.take(Held::Alone(table.locks.own(rt))),
+            Phase::WantShared => self.take(Held::Shared(table.share(rt, hash))),
+            Phase::WantOwned => self.take(Held::Alone(table.own(rt))),
             _ => self.turn(),
         }
     }

@@ -2,6 +2,7 @@ use Rattle.std.proofs.Common.{◌≡◌, ◌∙◌, ◌+◌, ◌-◌, ◌<◌, S
 use Rattle.std.proofs.lemmas.List.{length-set}
 use Rattle.std.specs.Fn.{FnReturnsAt}
 use Rattle.table_shared.specs.Growths.{GrowthView}
+use Rattle.table_shared.proofs.Between.{stays_building}
 use Rattle.table_shared.proofs.Ahead.{bucket_read, named_read, next_read, on_one, word_read}
 use Rattle.table_shared.specs.Ahead.{Holds}
 use Rattle.table_generations.proofs.Windows.{first_read, one_taken}
@@ -54,6 +55,11 @@ insert_unique-requires-clause-name g c =
     let (i, on, none, here, below, rest) = first_read from.contents (Holds target rehash from) _ _ _ (c.read_window-found.result - (c.loop-place.place + 1)) _ _ _ _ (omega arith) there (rw c.in-Some.is at inv.are_read) in
     rw (bucket_read target rehash from i c.loop-place.self-inside.home.now.id c.in-Some-take.read here c.of_naming.result c.of_naming.ensures) tt
 
+pub step-state-requires : goal.step-state-requires
+step-state-requires g c =
+    let (p, inv) = c.loop-place.invariant in
+    record { fits = rw (inv.state_is, c.requires.phase) refl }
+
 pub loop-place-preserved : goal.loop-place-preserved
 loop-place-preserved g c =
     let (p, inv) = c.loop-place.invariant in
@@ -84,11 +90,12 @@ loop-place-preserved g c =
           let put = rw (ap (λ b. b.content) bucket_is) at w.insert_unique.ensures.put in
           let passed : GrowthView g.row.T.Denot = record { home = home; before = from.contents; passed = p; built = built } in
           let more_passed : GrowthView g.row.T.Denot = record { home = home; before = from.contents; passed = i + 1; built = after } in
-          rw (w.self-inside-is) (
+          rw (w.self-inside-is, w.state-is) (
             i + 1,
             record {
               home_is = inv.home_is;
               from_is = inv.from_is;
+              state_is = stays_building c.loop-place.state w.step-state.result c.args.state inv.state_is c.requires.phase w.step-state.ensures.decided;
               are_read = rw c.in-Some.is (one_taken from.contents (Holds target rehash from) _ (i + 1) left (place + 1) place _ c.loop-place.window (omega arith) rest);
               copied = rw at (on_one target rehash c.args.self.now passed more_passed (rw at at inv.copied) refl refl (next_read target rehash from i home p built after read on within none is put));
               under_way = rw at (record {

@@ -50,6 +50,7 @@ count-next-requires g c =
     let at = ap (λ (t : CallState). t.phase) c.spelt-state.ensures.same ∙ c.requires.phase in
     let is = c.spelt-placed.ensures.same ∙ c.in-Won.ensures.puts.1 in
     record {
+      lock = b.of_table c.args.guard.home refl;
       phase = ap (λ (t : CallState). t.phase) is;
       stands = ap stands_at_bucket is ∙ b.stands (rw at tt);
     }

@@ -1,6 +1,7 @@
-use Rattle.std.proofs.Common.{◌≡◌, ◌∙◌, refl, rules, sym, Some, None}
+use Rattle.std.proofs.Common.{◌≡◌, ◌∙◌, ap, refl, rules, sym, Some, None}
 use Rattle.table_core.specs.declared.call.Answer.TheVariants.{Copied, Shown}
 use Rattle.table_core.specs.declared.call.Phase.TheVariants.{Building, LeaveOwned}
+use Rattle.table_shared.specs.Carried.{table_in}
 use Rattle.table_shared.proofs.Looked.{some_same}
 use Rattle.table_shared.proofs.Between.{carries, goes_on, taken}
 use Rattle.table_shared.proofs.Stepping.{carries_on}
@@ -11,6 +12,7 @@ unreachable-requires g c = c.args.self.now.between.builds c.requires.phase (sym 
 
 pub show-requires : goal.show-requires
 show-requires g c = record {
+  lock = c.args.self.now.between.of_table c.in-Alone.held.home (ap table_in c.in-Alone.is);
   home = c.copy_next.ensures.home ∙ c.args.self.now.between.grows c.in-Some.growth (sym c.in-Some.ensures.value);
   whole = (rw c.if-copy_next.false at c.copy_next.ensures.copies).1;
 }

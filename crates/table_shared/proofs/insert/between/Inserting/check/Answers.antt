@@ -1,6 +1,7 @@
-use Rattle.std.proofs.Common.{inl, inr, refl, rules, Some}
+use Rattle.std.proofs.Common.{ap, inl, inr, refl, rules, Some}
 use Rattle.table_core.specs.declared.call.Answer.TheVariants.{Begun, Failed, Unwanted}
 use Rattle.table_core.specs.declared.call.Phase.TheVariants.{Building, Owned}
+use Rattle.table_shared.specs.Carried.{table_in}
 use Rattle.table_shared.proofs.Looked.{some_same}
 use Rattle.table_shared.proofs.Between.{begins_none, carries, goes_on, taken}
 use Rattle.table_shared.proofs.Stepping.{carries_on}
@@ -42,3 +43,6 @@ returns-in-Failed g c = carries_on g.E.Fn _ _ _ c.step-self-in-Failed.ensures.we
 
 pub returns-in-Begun : goal.returns-in-Begun
 returns-in-Begun g c = carries_on g.E.Fn _ _ _ c.step-self-in-Begun.ensures.went (carries c.args.self.now.between Owned c.requires.phase refl) refl refl
+
+pub begin-requires : goal.begin-requires
+begin-requires g c = record { lock = c.args.self.now.between.of_table c.in-Alone.held.home (ap table_in c.in-Alone.is) }

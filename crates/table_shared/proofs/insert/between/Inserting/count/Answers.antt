@@ -1,5 +1,6 @@
-use Rattle.std.proofs.Common.{refl}
+use Rattle.std.proofs.Common.{ap, refl}
 use Rattle.table_core.specs.declared.call.Phase.TheVariants.{Placed}
+use Rattle.table_shared.specs.Carried.{table_in}
 use Rattle.table_shared.proofs.Between.{carries, counts_value}
 use Rattle.table_shared.proofs.Stepping.{carries_on}
 use Rattle.table_shared.proofs.insert.between.Inserting.count.Goals as goal
@@ -12,3 +13,6 @@ invariant_of-self g c = record { between = counts_value c.args.self.now.between 
 
 pub returns : goal.returns
 returns g c = carries_on g.E.Fn _ _ _ c.count-self.ensures.went (carries c.args.self.now.between Placed c.requires.phase refl) refl refl
+
+pub count-self-requires-clause-lock : goal.count-self-requires-clause-lock
+count-self-requires-clause-lock g c = c.args.self.now.between.of_table c.in-Shared.guard.home (ap table_in c.in-Shared.is)
