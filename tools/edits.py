@@ -14,9 +14,10 @@ function, and those whose function only calls one that isn't proved, wait for a 
 all bodies, and judged then by the whole crate. An edit that is proved, or that the prover never judged, is told by name. The last line is
 `N passed, M failed`: N edits were refused. The status is 0 only where M is 0.
 
-With --witness each round has a witness: a function of the crate that has written answers and no edit, and that keeps its body. The round
-counts only if the witness is proved in it. So what refuses an edit is the edit, and not the copy that it is tried in. Otherwise its edits are tried alone, in
-the crate as it was proved. A crate whose functions with written answers all have edits has no witness.
+With --witness each round has a witness: a function of the crate that has no edit and keeps its body, one with written answers if there is
+one. The round counts only if the witness is proved in it. So what refuses an edit is the edit, and not the copy that it is tried in.
+Otherwise its edits are tried alone, in the crate as it was proved. A crate whose functions with clauses all have edits has no witness, and
+has the last round of --control in its place.
 
 With --built the libraries are those that `rt ci` has just proved and built of this very checkout, and nothing is proved but the copies.
 Otherwise each crate is proved and built first, in its own folder, which keeps what is proved in out/, and its rounds begin with that.
@@ -43,7 +44,7 @@ import threading
 import time
 
 sys.dont_write_bytecode = True
-from modules.bodies import bodies_in, empty
+from modules.bodies import bodies_in, empty, head_of
 from modules.crates import TOP, below, listed, require_listed
 from modules.edit_files import Edit, edits_of, pairs_of
 
@@ -216,19 +217,22 @@ def asked_for(edits, functions):
 
 
 def witness_of(folder, edits, functions):
-    """An edit that changes nothing, of a function without an edit: the one with the shortest written answers. None where no function has
-    both. A proof that is written whole doesn't serve, since it may name what the others lose."""
+    """An edit that changes nothing, of a function without an edit: the one with the shortest written answers, or else the shortest of those
+    with an `ensures` and no answers. A proof that is written whole doesn't serve, since it may name what the others lose."""
     edited = [it.named for edit in edits for it in edit.functions]
     found = []
     for path in sorted(folder.glob("src/**/*.rt")):
-        for function, _, _ in bodies_in(folder.name, str(path.relative_to(folder)), path.read_text().split("\n")):
+        lines = path.read_text().split("\n")
+        for function, opening, last in bodies_in(folder.name, str(path.relative_to(folder)), lines):
             names = [it for it in functions if function.named.fullmatch(it)]
             if not names or any(pattern.fullmatch(name) for pattern in edited for name in names):
                 continue
             proofs = [file for name in names for file in folder.joinpath("proofs", *name.split("::")[1:]).glob("*.antt")]
             if proofs and not any(file.name == "Proof.antt" for file in proofs):
-                found.append((sum(file.stat().st_size for file in proofs), names[0], function))
-    _, name, function = min(found, key=lambda it: it[:2], default=(0, "", None))
+                found.append((False, sum(file.stat().st_size for file in proofs), names[0], function))
+            elif not proofs and "ensures" in head_of(lines, opening):
+                found.append((True, last - opening, names[0], function))
+    _, _, name, function = min(found, key=lambda it: it[:3], default=(False, 0, "", None))
     return Edit(f"the witness {name}", {}, [function], False) if function else None
 
 
@@ -309,9 +313,10 @@ def one_round(edits):
 def rounds_of(trial):
     """Tries the edits of a proved crate. It yields, of each round, the check, what it was of, and the edits that are settled."""
     top, crate, edits = trial.top, trial.crate, trial.edits
-    unedited = [dataclasses.replace(it, lines={}) for it in edits if trial.has_control and not it.is_alone]
     words, functions = words_of(top, crate, trial.jobs), functions_of(top, crate)
     witness = witness_of(top / "crates" / crate, edits, functions) if trial.has_witness else None
+    has_control = trial.has_control or (trial.has_witness and witness is None)
+    unedited = [dataclasses.replace(it, lines={}) for it in edits if has_control and not it.is_alone]
     with tempfile.TemporaryDirectory(prefix="edits-") as room:
         folder = copy_of(top, crate, pathlib.Path(room))
 

@@ -27,6 +27,12 @@ def opening_of(lines, first):
     return None
 
 
+def head_of(lines, opening):
+    """The text of a function's head, its clauses too, by the number of the line that opens its body."""
+    first = next(at for at in range(opening, -1, -1) if ITEM.match(lines[at]))
+    return " ".join(lines[first : opening + 1])
+
+
 def bodies_in(crate, file, lines):
     """The functions of a source file that have a body of lines, each with the numbers of the lines around it."""
     at = 0
