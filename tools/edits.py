@@ -217,15 +217,17 @@ def asked_for(edits, functions):
 
 
 def witness_of(folder, edits, functions):
-    """An edit that changes nothing, of a function without an edit: the one with the shortest written answers, or else the shortest of those
-    with an `ensures` and no answers. A proof that is written whole doesn't serve, since it may name what the others lose."""
-    edited = [it.named for edit in edits for it in edit.functions]
+    """An edit that changes nothing, of a function without an edit that calls none with one: the one with the shortest written answers, or else
+    the shortest of those with an `ensures` and no answers. A proof that is written whole doesn't serve, since it may name what the others lose."""
+    edited = {name for name in functions for edit in edits for it in edit.functions if it.named.fullmatch(name)}
+    # what calls a function that has an edit isn't proved beside it
+    calls = re.compile(r"\b(" + "|".join(sorted({name.rpartition("::")[2] for name in edited})) + r")\b(::<.*>)?\(")
     found = []
     for path in sorted(folder.glob("src/**/*.rt")):
         lines = path.read_text().split("\n")
         for function, opening, last in bodies_in(folder.name, str(path.relative_to(folder)), lines):
             names = [it for it in functions if function.named.fullmatch(it)]
-            if not names or any(pattern.fullmatch(name) for pattern in edited for name in names):
+            if not names or edited & set(names) or calls.search("\n".join(lines[opening + 1 : last])):
                 continue
             proofs = [file for name in names for file in folder.joinpath("proofs", *name.split("::")[1:]).glob("*.antt")]
             if proofs and not any(file.name == "Proof.antt" for file in proofs):
