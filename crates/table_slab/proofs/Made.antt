@@ -1,4 +1,4 @@
--- A `Written` and a `Room` as values. Assumes `Logic`.
+-- The rights to slots as values, which have no bytes. Assumes `Logic`.
 use Rattle.std.proofs.Common.{◌≡◌, ℕ, Bool, true, false, arith, List, [], ◌∷◌, ◌++◌, refl, ap, ◌∙◌}
 use seplogic.Ra.Ura.{Ura}
 use mir.Val.{Val, vstruct, vcons, vnil, of_list}
@@ -12,24 +12,32 @@ use denote.Shadow.{makes_shadow}
 use denote.Struct.Struct.{Struct, Shape, within}
 use denote.Struct.Owning.{shape}
 use Rattle.std.specs.Prelude.{Option, Some, None, IsSome}
-use Rattle.table_slab.specs.Slot.{written, room}
-use Rattle.table_slab.specs.contracts.slot.Written as Written
-use Rattle.table_slab.specs.contracts.slot.Room as Room
+use Rattle.table_slab.specs.Rights.{written, room, rooms}
+use Rattle.table_slab.specs.contracts.rights.Written as Written
+use Rattle.table_slab.specs.contracts.rights.Room as Room
+use Rattle.table_slab.specs.contracts.rights.Rooms as Rooms
 
 abbrev pub token_val : Val
 token_val = vstruct (vcons (vstruct vnil) vnil)
 
-module _ {M : Type 1} {𝓤 : Ura M} (𝓛 : Logic 𝓤) (R : RattleType) (γ : ℕ) where
-  pub written_made : (x : R.Denot) → ent 𝓤 (sem 𝓛 (written R γ x)) (sem 𝓛 ((Written.the_row R).own_val (record { marker = record {}; of = γ; value = x }) (token_val ∷ [])))
-  written_made x = let F = (Struct (shape (Written.the_type R))).own_val (tt, tt) (token_val ∷ []) in
+module _ {M : Type 1} {𝓤 : Ura M} (𝓛 : Logic 𝓤) (R : RattleType) where
+  pub written_made : (γ : ℕ) (x : R.Denot) → ent 𝓤 (sem 𝓛 (written R γ x)) (sem 𝓛 ((Written.the_row R).own_val (record { marker = record {}; of = γ; value = x }) (token_val ∷ [])))
+  written_made γ x = let F = (Struct (shape (Written.the_type R))).own_val (tt, tt) (token_val ∷ []) in
       qed 𝓛 (‵ (written R γ x) ∷ []) ∵ use0 𝓛 (‵ F) (makes_shadow 𝓛 F (λ vss. (tt, ((λ uss. (tt, tt)), tt))) ((vstruct vnil ∷ [], tt), (refl, ((tt, (refl, tt)), tt)))) $ done !
 
-  pub room_made : (v : Option R.Denot) → ent 𝓤 (sem 𝓛 (room R γ v)) (sem 𝓛 ((Room.the_row R).own_val (record { marker = record {}; of = γ; value = v }) (token_val ∷ [])))
-  room_made v = let F = (Struct (shape (Room.the_type R))).own_val (tt, tt) (token_val ∷ []) in
+  pub room_made : (γ : ℕ) (v : Option R.Denot) → ent 𝓤 (sem 𝓛 (room R γ v)) (sem 𝓛 ((Room.the_row R).own_val (record { marker = record {}; of = γ; value = v }) (token_val ∷ [])))
+  room_made γ v = let F = (Struct (shape (Room.the_type R))).own_val (tt, tt) (token_val ∷ []) in
       qed 𝓛 (‵ (room R γ v) ∷ []) ∵ use0 𝓛 (‵ F) (makes_shadow 𝓛 F (λ vss. (tt, ((λ uss. (tt, tt)), tt))) ((vstruct vnil ∷ [], tt), (refl, ((tt, (refl, tt)), tt)))) $ done !
+
+  pub rooms_made : (γs : List ℕ) → ent 𝓤 (sem 𝓛 (rooms R γs)) (sem 𝓛 ((Rooms.the_row R).own_val (record { marker = record {}; names = γs }) (token_val ∷ [])))
+  rooms_made γs = let F = (Struct (shape (Rooms.the_type R))).own_val (tt, tt) (token_val ∷ []) in
+      qed 𝓛 (‵ (rooms R γs) ∷ []) ∵ use0 𝓛 (‵ F) (makes_shadow 𝓛 F (λ vss. (tt, ((λ uss. (tt, tt)), tt))) ((vstruct vnil ∷ [], tt), (refl, ((tt, (refl, tt)), tt)))) $ done !
 
 pub room_told : (R : RattleType) (vs : List Val) → Is (Struct (shape (Room.the_type R))) (tt, tt) vs → vs ≡ token_val ∷ []
 room_told R vs is = is.1.0 ∙ ap (λ (ws : List Val). vstruct (of_list (ws ++ [])) ∷ []) is.1.1.0.1.0
+
+pub rooms_told : (R : RattleType) (vs : List Val) → Is (Struct (shape (Rooms.the_type R))) (tt, tt) vs → vs ≡ token_val ∷ []
+rooms_told R vs is = is.1.0 ∙ ap (λ (ws : List Val). vstruct (of_list (ws ++ [])) ∷ []) is.1.1.0.1.0
 
 abbrev digit : Bool → ℕ
 digit true = 1
@@ -39,9 +47,9 @@ pub set_of : {X : Type 0} (v : Option X) → IsSome v → (x : X) × (v ≡ Some
 set_of (Some x) so = (x, refl)
 set_of None so = absurd (let z : 0 ≡ 1 = ap digit so in omega arith)
 
-pub beside_mark : (b : mathlib.Core.Bool.Bool) → lib.Dec.T b → lib.Dec.T (mathlib.Core.Bool.◌&&◌ b (mathlib.Core.Bool.◌&&◌ mathlib.Core.Bool.true mathlib.Core.Bool.true))
-beside_mark mathlib.Core.Bool.true t = tt
-beside_mark mathlib.Core.Bool.false t = absurd t
+pub beside_token : (b : mathlib.Core.Bool.Bool) → lib.Dec.T b → lib.Dec.T (mathlib.Core.Bool.◌&&◌ b (mathlib.Core.Bool.◌&&◌ mathlib.Core.Bool.true mathlib.Core.Bool.true))
+beside_token mathlib.Core.Bool.true t = tt
+beside_token mathlib.Core.Bool.false t = absurd t
 
 -- two fields, one after the other, by value
 module _ (P Q : RattleType) where

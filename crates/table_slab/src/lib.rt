@@ -1,6 +1,12 @@
 //! Memory for values that never move, in chunks that double, and the numbers of its slots.
 #![tactic(auto)]
 
-mod slot;
+mod counter;
+mod numbering;
+mod rights;
+mod slots;
 
-pub use slot::{Room, Slot, Written};
+pub use counter::{Counter, Handed};
+pub use numbering::{chunk_len, number_at, where_is};
+pub use rights::{Room, Rooms, Written};
+pub use slots::Slots;
