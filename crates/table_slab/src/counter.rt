@@ -21,12 +21,13 @@ pub struct Counter<T> {
 }
 
 impl<T> Model for Counter<T> {
+    ghost use Rattle.logbook.specs.Pages.{Book};
     ghost use Rattle.table_slab.specs.Counting.{word_of};
     ghost use Rattle.std.specs.Prelude.{List, ℕ, ◌≡◌, length};
 
-    ghost Value = { List ℕ };
+    ghost Value = { Book × List ℕ };
 
-    ghost view = { λ c. c.start.names };
+    ghost view = { λ c. (c.start.book, c.start.names) };
 
     ghost invariant = { λ c. (c.word ≡ word_of c.start.book) × (c.count ≡ length c.start.names) };
 }
@@ -43,7 +44,7 @@ impl<T> Counter<T> {
     /// Returns a counter of these slots, of which there are so many.
     pub fn new(rooms: Rooms<T>, count: u64) -> Counter<T>
         requires { count ≡ length rooms.names }
-        ensures { result ≡ rooms.names }
+        ensures { result.1 ≡ rooms.names }
     {
         let (seen, mut first, _second) = Token::open(start(rooms), 0, 0);
         Counter {
@@ -57,10 +58,19 @@ impl<T> Counter<T> {
     /// out. It tries again each time that another thread takes slots meanwhile.
     pub fn next(&self, most: u64, end: u64) -> Option<Handed<T>>
         ensures some { IfSome result (λ h. (0 < h.count) × (h.count ≤ most)) }
-        ensures within { IfSome result (λ h. (h.offset + h.count ≤ end) × (h.offset + h.count ≤ length self.now)) }
-        ensures rooms { IfSome result (λ h. h.rooms.names ≡ part self.now h.offset h.count) }
+        ensures within { IfSome result (λ h. (h.offset + h.count ≤ end) × (h.offset + h.count ≤ length self.now.1)) }
+        ensures rooms { IfSome result (λ h. h.rooms.names ≡ part self.now.1 h.offset h.count) }
     {
-        let end = min(end, self.count);
+        self.next_below(most, min(end, self.count))
+    }
+
+    /// Hands out the next slots, up to `most`, of those below the offset `end`, of which all are there.
+    fn next_below(&self, most: u64, end: u64) -> Option<Handed<T>>
+        requires { end ≤ length self.now.1 }
+        ensures some { IfSome result (λ h. (0 < h.count) × (h.count ≤ most)) }
+        ensures within { IfSome result (λ h. h.offset + h.count ≤ end) }
+        ensures rooms { IfSome result (λ h. h.rooms.names ≡ part self.now.1 h.offset h.count) }
+    {
         let mut seen = self.start.again();
         for _try in 0..u64::MAX {
             let mut look = seen.plain::<Nothing, (), Look>(&());

@@ -4,9 +4,11 @@
 mod counter;
 mod numbering;
 mod rights;
+mod site;
 mod slots;
 
 pub use counter::{Counter, Handed};
 pub use numbering::{chunk_len, number_at, where_is};
 pub use rights::{Room, Rooms, Written};
+pub use site::{Site, hear, tell};
 pub use slots::Slots;
