@@ -14,7 +14,7 @@ use Rattle.table_slab.specs.Rights.{room, rooms}
 use Rattle.table_slab.specs.declared.counter.rule.Taken.{Taken}
 use Rattle.table_slab.specs.Counting.{total, part, Moved, left, gained}
 use Rattle.table_slab.proofs.Tokens.{rooms_split}
-use Rattle.table_slab.proofs.Steps.{total_more}
+use Rattle.table_slab.proofs.Counted.{total_more}
 
 abbrev no_names : List ℕ
 no_names = []

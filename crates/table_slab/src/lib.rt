@@ -1,14 +1,18 @@
 //! Memory for values that never move, in chunks that double, and the numbers of its slots.
 #![tactic(auto)]
 
+mod chunk;
 mod counter;
 mod numbering;
 mod rights;
 mod site;
+mod slab;
 mod slots;
 
+pub use chunk::Chunk;
 pub use counter::{Counter, Handed};
 pub use numbering::{chunk_len, number_at, where_is};
 pub use rights::{Room, Rooms, Written};
 pub use site::{Site, hear, tell};
+pub use slab::{Right, Slab, Standing};
 pub use slots::Slots;

@@ -16,6 +16,8 @@ pub struct Site<X> {
 
 impl<X> Model for Site<X> {
     ghost use Rattle.std.specs.Prelude.{Some};
+    ghost use denote.Sharing.{said};
+    ghost use Rattle.table_cell.specs.Notes.{learnt};
 
     ghost also_owns = { λ s. learnt X.row s.cell (Some s.value) };
 

@@ -1,6 +1,5 @@
 //! Memory for values that threads share.
-ghost use Rattle.std.specs.Prelude.{◌≡◌, ℕ, ◌<◌, List, length, slice_index_or, None, Some, IsSome, IfOk};
-ghost use Rattle.std.specs.Coded.{coded_list, coded_ℕ};
+ghost use Rattle.std.specs.Prelude.{◌≡◌, ℕ, ◌<◌, length, slice_index_or, None, Some, IsSome, IfOk};
 
 use crate::rights::{Room, Rooms, Written};
 use std::alloc::{AllocError, Allocator};
@@ -10,9 +9,8 @@ use std::marker::{Model, PhantomData};
 /// published. A clause sees the names of its slots.
 #[derive(Drop)]
 pub struct Slots<T, A: Allocator> {
-    block: Vec<u8, A>,
+    names: Vec<u64, A>,
     marker: PhantomData<T>,
-    pub ghost names: { List ℕ } by { coded_list coded_ℕ },
 }
 
 impl<T, A: Allocator> Model for Slots<T, A> {
@@ -20,7 +18,7 @@ impl<T, A: Allocator> Model for Slots<T, A> {
 
     ghost Value = { List ℕ };
 
-    ghost view = { λ s. s.names };
+    ghost view = { λ s. s.names.items };
 }
 
 impl<T, A: Allocator> Slots<T, A> {
@@ -29,10 +27,10 @@ impl<T, A: Allocator> Slots<T, A> {
         ensures count { IfOk result (λ r. length r.0 ≡ count) }
         ensures rooms { IfOk result (λ r. r.1.names ≡ r.0) }
     {
-        let block = Vec::with_capacity(alloc, count)?;
+        let names = Vec::with_capacity(alloc, count)?;
         Ok((
             Slots {
-                block,
+                names,
                 marker: PhantomData,
             },
             Rooms::none(),
@@ -43,7 +41,7 @@ impl<T, A: Allocator> Slots<T, A> {
     pub fn count(&self) -> usize
         ensures { result ≡ length self.now }
     {
-        self.block.len()
+        self.names.len()
     }
 
     /// Writes a value.

@@ -60,10 +60,10 @@ split_spec 𝓤 𝓛 𝓜 𝓡 wired T L =
     let γs : List ℕ = a.0.names in let n : ℕ = a.1.0 in let Enough : Type 0 = n ≤ length γs in let fits : n < 2 ^ 64 = are.1.0.1 in
     let y : (walk_of 𝓛 En hs c).Ghost = ((κs, qs, bounds, a, (token_val ∷ [], (vint w64 n ∷ [], tt))), gh) in let Post : Val → SProp 𝓤 = (walk_of 𝓛 En hs c).post y in
     qed 𝓛 ((raw (denote.Triple.Entry.alive 𝓛 En.signature κs qs) ⊛ ‵ (owns (types_at En.signature.params κs) a y.0.4)) ∷ raw (fact 𝓤 _) ∷ raw (fact 𝓤 Enough) ∷ []) ∵ keep ! (2 ∷ 0 ∷ []) $ heard ! Enough (λ so.
-    let ps : List ℕ = take n γs in let qs : List ℕ = drop_of n γs in let is : γs ≡ ps ++ qs = sym (take-append-drop n γs) in let counts : length ps ≡ n = omega (arith, length-take n γs) in
-    let r : Rs.Denot = record { marker = record {}; names = ps } in let s : Rs.Denot = record { marker = record {}; names = qs } in let Are : Type 0 = γs ≡ ps ++ qs in let Count : Type 0 = length ps ≡ n in
-    split ! $ move ! (1 ∷ []) $ fsplit ! $ fsplit ! $ keep ! (1 ∷ 4 ∷ []) $ rewrite ! 0 (λ (u : List ℕ). ‵ (rooms R u)) is refl $ use1 𝓛 (‵ (rooms R ps) ⊛ ‵ (rooms R qs)) (rooms_split 𝓛 R ps qs) $ split ! $
-    use1 𝓛 (‵ (Rs.own_val r (token_val ∷ []))) (rooms_made 𝓛 R ps) $ move ! (1 ∷ []) $ use1 𝓛 (‵ (Rs.own_val s (token_val ∷ []))) (rooms_made 𝓛 R qs) $ move ! (1 ∷ 0 ∷ []) $
+    let ps : List ℕ = take n γs in let rest : List ℕ = drop_of n γs in let is : γs ≡ ps ++ rest = sym (take-append-drop n γs) in let counts : length ps ≡ n = omega (arith, length-take n γs) in
+    let r : Rs.Denot = record { marker = record {}; names = ps } in let s : Rs.Denot = record { marker = record {}; names = rest } in let Are : Type 0 = γs ≡ ps ++ rest in let Count : Type 0 = length ps ≡ n in
+    split ! $ move ! (1 ∷ []) $ fsplit ! $ fsplit ! $ keep ! (1 ∷ 3 ∷ []) $ rewrite ! 0 (λ (u : List ℕ). ‵ (rooms R u)) is refl $ use1 𝓛 (‵ (rooms R ps) ⊛ ‵ (rooms R rest)) (rooms_split 𝓛 R ps rest) $ split ! $
+    use1 𝓛 (‵ (Rs.own_val r (token_val ∷ []))) (rooms_made 𝓛 R ps) $ move ! (1 ∷ []) $ use1 𝓛 (‵ (Rs.own_val s (token_val ∷ []))) (rooms_made 𝓛 R rest) $ move ! (1 ∷ 0 ∷ []) $
     let Pair : RattleType = Tuple (Rs ∷ Rs ∷ []) in pair_in Rs Rs ! r s token_val token_val $
     enter ! 𝓣.C 𝓣.Λ fn (token_val ∷ vint w64 n ∷ []) Post $ alloc_all ! (λ l. pass_all ! refl ((tt, (tt, tt)), ((tt, record { fits = fits }), tt)) $ let tok : Good (layout Rs) token_val = (tt, (tt, tt)) in let both : Good (layout Pair) pair = (tt, ((tt, tt), ((tt, tt), tt))) in
     sets ! (agg ! (no_more !)) refl (tt, tt) $ sets ! (agg ! (and_then ! (get ! refl) (no_more !))) refl tok $ sets ! (agg ! (no_more !)) refl (tt, tt) $ sets ! (agg ! (and_then ! (get ! refl) (no_more !))) refl tok $
