@@ -12,6 +12,7 @@ pub record AreNext {T A : Type 0} (s : SlabView) (r : Run T A) : Type 0 where
   pub offset : ℕ
   pub known : r.site ≡ Some site
   pub inside : r.place < length s.cells
+  pub small : s.bits + r.place < 32
   pub holds : site.cell ≡ id_at s.cells r.place
   pub at : IsAt s.bits r.number r.place offset
   pub within : offset + r.left ≤ length site.value

@@ -3,16 +3,21 @@
 
 mod chunk;
 mod counter;
+mod ending;
+mod laws;
 mod numbering;
 mod rights;
+mod run;
 mod site;
 mod slab;
 mod slots;
 
 pub use chunk::Chunk;
 pub use counter::{Counter, Handed};
+pub use laws::{same_site, same_value};
 pub use numbering::{chunk_len, number_at, where_is};
 pub use rights::{Room, Rooms, Written};
+pub use run::{Refused, Run};
 pub use site::{Site, hear, tell};
 pub use slab::{Right, Slab, Standing};
 pub use slots::Slots;

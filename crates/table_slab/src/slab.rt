@@ -1,8 +1,10 @@
 //! Slots with numbers, in chunks that are made when they are first needed.
 ghost use Rattle.std.specs.Prelude.{◌≡◌, ℕ, ◌<◌, ◌+◌, length, IfOk, IfSome, None, Some, IsSome};
-ghost use Rattle.table_slab.specs.Slabs.{id_at, IsSlot, AreCells};
+ghost use Rattle.table_slab.specs.Held.{IsRightTo, StandsAt};
+ghost use Rattle.table_slab.specs.Slabs.{id_at, AreCells};
 
 use crate::chunk::Chunk;
+use crate::ending::free_chunks;
 use crate::numbering::{chunk_len, where_is};
 use crate::rights::{Room, Written};
 use crate::site::{Site, hear, tell};
@@ -12,14 +14,14 @@ use table_cell::{Home, LooseBlock, Low, Word};
 
 /// Slots with numbers from 0 on, in chunks that double: the first has `2 ^ bits` slots. A chunk never moves. It is made when
 /// the first of its slots is needed.
-pub struct Slab<T, A: Allocator> {
-    bits: u32,
-    alloc: A,
-    home: Home,
-    cells: Vec<Word<Chunk<T, A>, A>, A>,
+pub struct Slab<T, A: Low + Copy> {
+    pub(crate) bits: u32,
+    pub(crate) alloc: A,
+    pub(crate) home: Home,
+    pub(crate) cells: Vec<Word<Chunk<T, A>, A>, A>,
 }
 
-impl<T, A: Allocator> Model for Slab<T, A> {
+impl<T, A: Low + Copy> Model for Slab<T, A> {
     ghost use Rattle.table_slab.specs.Slabs.{SlabView, slab_view, IsSlab};
 
     ghost Value = { SlabView };
@@ -93,7 +95,7 @@ impl<T, A: Low + Copy> Slab<T, A> {
     }
 
     /// Returns the chunk at this place, which is known to be there.
-    fn chunk(&self, place: u32, site: &Site<Chunk<T, A>>) -> &Chunk<T, A>
+    pub(crate) fn chunk(&self, place: u32, site: &Site<Chunk<T, A>>) -> &Chunk<T, A>
         requires inside { place < length self.now.cells }
         requires cell { site.now.cell ≡ id_at self.now.cells place }
         ensures { result.now ≡ site.now.value }
@@ -107,9 +109,69 @@ impl<T, A: Low + Copy> Slab<T, A> {
         }
     }
 
+    /// Returns the number of chunks that there may be.
+    pub(crate) fn places(&self) -> u32
+        ensures places { result ≡ length self.now.cells }
+        ensures few { result + self.now.bits ≡ 32 }
+    {
+        self.cells.len() as u32
+    }
+
+    /// Returns the binary logarithm of the number of slots of the first chunk.
+    pub fn bits(&self) -> u32
+        ensures { result ≡ self.now.bits }
+    {
+        self.bits
+    }
+
+    /// Returns what shows that the chunk at this place is there, if it is.
+    fn site_if_made(&self, place: u32) -> Option<Site<Chunk<T, A>>>
+        requires inside { place < length self.now.cells }
+        ensures { IfSome result (λ s. s.cell ≡ id_at self.now.cells place) }
+    {
+        let cell = &self.cells[place as usize];
+        let mut note = cell.note();
+        match cell.name_if_set(&mut note) {
+            Some(_) => Some(tell(&mut note)),
+            None => None,
+        }
+    }
+
+    /// Makes the chunk at this place, unless another thread made it before.
+    fn make(&self, place: u32) -> Result<Site<Chunk<T, A>>, AllocError>
+        requires inside { place < length self.now.cells }
+        requires few { self.now.bits + place < 32 }
+        ensures { IfOk result (λ s. s.cell ≡ id_at self.now.cells place) }
+    {
+        let chunk = Chunk::new(self.alloc, chunk_len(self.bits, place) as usize)?;
+        let block = match Box::new(self.alloc, chunk) {
+            Ok(block) => LooseBlock::of(block),
+            Err(_) => return Err(AllocError),
+        };
+        let cell = &self.cells[place as usize];
+        let mut note = cell.note();
+        let (_, back) = cell.offer(&self.home, block, &mut note);
+        if let Some(second) = back {
+            drop(second.into_box(self.alloc));
+        }
+        Ok(tell(&mut note))
+    }
+
+    /// Returns what shows that the chunk at this place is there. It is made if it isn't.
+    pub(crate) fn made(&self, place: u32) -> Result<Site<Chunk<T, A>>, AllocError>
+        requires inside { place < length self.now.cells }
+        requires few { self.now.bits + place < 32 }
+        ensures { IfOk result (λ s. s.cell ≡ id_at self.now.cells place) }
+    {
+        match self.site_if_made(place) {
+            Some(site) => Ok(site),
+            None => self.make(place),
+        }
+    }
+
     /// Writes a value into the slot of this number.
     pub fn put(&self, number: u64, right: Right<T, A>, value: T) -> Right<T, A>
-        requires number { IsSlot self.now number right.site.cell right.site.value right.room.of }
+        requires number { IsRightTo self.now number right }
         requires empty { right.room.value ≡ None }
         ensures site { result.site ≡ right.site }
         ensures of { result.room.of ≡ right.room.of }
@@ -123,7 +185,7 @@ impl<T, A: Low + Copy> Slab<T, A> {
 
     /// Takes the value back out of the slot of this number.
     pub fn take(&self, number: u64, right: Right<T, A>) -> (T, Right<T, A>)
-        requires number { IsSlot self.now number right.site.cell right.site.value right.room.of }
+        requires number { IsRightTo self.now number right }
         requires full { IsSome right.room.value }
         ensures value { right.room.value ≡ Some result.0 }
         ensures site { result.1.site ≡ right.site }
@@ -138,11 +200,24 @@ impl<T, A: Low + Copy> Slab<T, A> {
 
     /// Shows the value that this number holds for good.
     pub fn get(&self, number: u64, standing: &Standing<T, A>) -> &T
-        requires { IsSlot self.now number standing.now.site.cell standing.now.site.value standing.now.written.of }
+        requires { StandsAt self.now number standing.now }
         ensures { result.now ≡ standing.now.written.value }
     {
         let (place, offset) = where_is(self.bits, number);
         self.chunk(place, &standing.site).slots().get(offset as usize, &standing.written)
+    }
+}
+
+impl<T, A: Low + Copy> Drop for Slab<T, A> {
+    /// Gives back the memory. It drops no value: who ends the slab takes the values out before.
+    fn drop(self) {
+        let Slab {
+            bits: _,
+            alloc,
+            home,
+            cells,
+        } = self;
+        free_chunks(cells, &home.close(), alloc);
     }
 }
 
