@@ -35,3 +35,11 @@ module _ {A X : Type 0} {a : A} {h : ℕ} {w : WordView A X} {ws vs : List (Word
 
   pub rest_cells : vs ≡ w ∷ ws → AreCells a h vs → AreCells a h ws
   rest_cells is are = All-tail (IsCell a h) w ws (subst (AreCells a h) is are)
+
+-- what is known of one number is known of one cell and one slot
+module _ {s : SlabView} {number c d γ δ : ℕ} {ms ns : List ℕ} (a : IsSlot s number c ms γ) (b : IsSlot s number d ns δ) where
+  pub same_cell : c ≡ d
+  same_cell = a.holds ∙ ap (λ (p : ℕ). id_at s.cells p) (at_one_place a.at b.at).0 ∙ sym b.holds
+
+  pub same_name : ms ≡ ns → γ ≡ δ
+  same_name are = a.named ∙ (λ i. id_at (are i) ((at_one_place a.at b.at).1 i)) ∙ sym b.named

@@ -1,11 +1,12 @@
 -- What is known of a word, as a value that has no bytes. Assumes `Logic`.
-use Rattle.std.proofs.Common.{◌≡◌, ℕ, List, [], ◌∷◌, refl, ap}
+use Rattle.std.proofs.Common.{◌≡◌, ℕ, ◌⊎◌, inl, inr, List, [], ◌∷◌, refl, sym, ap}
+use Rattle.std.proofs.lemmas.Bool.{cases_eq}
 use seplogic.Ra.Ura.{Ura}
 use mir.Val.{vstruct, vnil}
-use base.Logic.{ent, sep, via}
-use contract.Monad.{fact, fact_mono}
+use base.Logic.{SProp, ent, sep, emp, via}
+use contract.Monad.{fact, fact_i, fact_mono}
 use types.Logic.{Logic, sem}
-use types.Kit.{‵, ◌$◌, ◌∵◌, !, qed, use0, done}
+use types.Kit.{‵, ◌$◌, ◌∵◌, !, qed, by, drop, rewrite, use0, done}
 use denote.RattleType.{RattleType}
 use denote.Shadow.{makes_shadow}
 use denote.Param.Send.{IsSend, IsSync, sendable}
@@ -27,12 +28,20 @@ module _ {M : Type 1} {𝓤 : Ura M} (𝓛 : Logic 𝓤) (R : RattleType) (γ : 
   site_made = let F = (denote.Struct.Struct.Struct (denote.Struct.Owning.shape (Site.the_type R))).own_val (record {}, tt) (token_val ∷ []) in
       qed 𝓛 (‵ (learnt R γ (Some x)) ∷ []) ∵ use0 𝓛 (‵ F) (makes_shadow 𝓛 F (λ vss. (tt, ((λ uss. (tt, tt)), tt))) ((vstruct vnil ∷ [], tt), (refl, ((tt, (refl, tt)), tt)))) $ done !
 
-module _ {M : Type 1} {𝓤 : Ura M} (𝓛 : Logic 𝓤) (R : RattleType) (γ : ℕ) (x y : R.Denot) where
-  same_value : code R (Some x) ≡ code R (Some y) → x ≡ y
-  same_value e = ap (λ (v : Option R.Denot). unwrap_or v x) ((coded_option R.coded).inj (Some x) (Some y) e)
+module _ {M : Type 1} {𝓤 : Ura M} (𝓛 : Logic 𝓤) (R : RattleType) (γ δ : ℕ) (x y : R.Denot) where
+  same_code : code R (Some x) ≡ code R (Some y) → x ≡ y
+  same_code e = ap (λ (v : Option R.Denot). unwrap_or v x) ((coded_option R.coded).inj (Some x) (Some y) e)
 
-  pub learnt_agree : ent 𝓤 (sep 𝓤 (sem 𝓛 (learnt R γ (Some x))) (sem 𝓛 (learnt R γ (Some y)))) (fact 𝓤 (x ≡ y))
-  learnt_agree = via 𝓤 _ (res_same 𝓛 γ (code R (Some x)) (code R (Some y))) (fact_mono 𝓤 _ (x ≡ y) same_value)
+  abbrev Both : SProp 𝓤
+  Both = sep 𝓤 (sem 𝓛 (learnt R γ (Some x))) (sem 𝓛 (learnt R δ (Some y)))
+
+  agree_by : (γ ≡ δ) ⊎ (γ ≡ δ → ⊥) → ent 𝓤 Both (fact 𝓤 (γ ≡ δ → x ≡ y))
+  agree_by (inl e) = qed 𝓛 (‵ (learnt R γ (Some x)) ∷ ‵ (learnt R δ (Some y)) ∷ []) ∵ rewrite ! 1 (λ (k : ℕ). ‵ (learnt R k (Some y))) (sym e) refl $
+      by ! (via 𝓤 _ (res_same 𝓛 γ (code R (Some x)) (code R (Some y))) (fact_mono 𝓤 _ (γ ≡ δ → x ≡ y) (λ c _. same_code c)))
+  agree_by (inr ne) = qed 𝓛 (‵ (learnt R γ (Some x)) ∷ ‵ (learnt R δ (Some y)) ∷ []) ∵ drop ! $ drop ! $ by ! (fact_i 𝓤 (γ ≡ δ → x ≡ y) (emp 𝓤) (λ e. absurd (ne e)))
+
+  pub learnt_agree : ent 𝓤 Both (fact 𝓤 (γ ≡ δ → x ≡ y))
+  learnt_agree = agree_by (cases_eq γ δ)
 
 pub site_send : (R : RattleType) → IsSend (Site.the_row R)
 site_send R = record { owned = λ d vs. ((λ vss. (tt, ((λ uss. (tt, tt)), tt))), tt); leaving = λ k f vs. tt }

@@ -7,6 +7,7 @@ mod ending;
 mod laws;
 mod numbering;
 mod rights;
+mod row;
 mod run;
 mod site;
 mod slab;
@@ -14,7 +15,7 @@ mod slots;
 
 pub use chunk::Chunk;
 pub use counter::{Counter, Handed};
-pub use laws::{same_site, same_value};
+pub use laws::{rooms_apart, same_site, same_value};
 pub use numbering::{chunk_len, number_at, where_is};
 pub use rights::{Room, Rooms, Written};
 pub use run::{Refused, Run};
