@@ -14,6 +14,10 @@ pub record IsThere (s : SlabView) (place offset cell : ℕ) (names : List ℕ) (
   pub within : offset < length names
   pub named : γ ≡ id_at names offset
 
+pub slot_at : {s : SlabView} {number place offset cell γ : ℕ} {names : List ℕ} → IsSlot s number cell names γ → IsAt s.bits number place offset → IsThere s place offset cell names γ
+slot_at {s} {number} {place} {offset} {cell} {γ} {names} slot at = let one = at_one_place slot.at at in
+    subst (λ (z : ℕ × ℕ). IsThere s z.0 z.1 cell names γ) (λ i. (one.0 i, one.1 i)) (record { inside = slot.inside; holds = slot.holds; within = slot.within; named = slot.named })
+
 module _ {A X : Type 0} (b : ℕ) (ws : List (WordView A X)) (s : SlabView) (is : slab_view b ws ≡ s) where
   pub as_many : length s.cells ≡ length ws
   as_many = sym (ap (λ (v : SlabView). length v.cells) is) ∙ length-map ws (λ (w : WordView A X). w.id)
@@ -22,8 +26,7 @@ module _ {A X : Type 0} (b : ℕ) (ws : List (WordView A X)) (s : SlabView) (is 
   same_bits = ap (λ (v : SlabView). v.bits) is
 
   pub slot_there : {number place offset cell γ : ℕ} {names : List ℕ} → IsSlot s number cell names γ → IsAt b number place offset → IsThere s place offset cell names γ
-  slot_there {number} {place} {offset} {cell} {γ} {names} slot at = let one = at_one_place slot.at (subst (λ (n : ℕ). IsAt n number place offset) same_bits at) in
-      subst (λ (z : ℕ × ℕ). IsThere s z.0 z.1 cell names γ) (λ i. (one.0 i, one.1 i)) (record { inside = slot.inside; holds = slot.holds; within = slot.within; named = slot.named })
+  slot_there {number} {place} {offset} slot at = slot_at slot (subst (λ (n : ℕ). IsAt n number place offset) same_bits at)
 
   pub slot_few : {a : A} {h number cell γ : ℕ} {names : List ℕ} → IsSlab a h b ws → IsSlot s number cell names γ → number < 2 ^ 32
   slot_few slab slot = let few : s.bits + slot.place < 32 = omega (arith, slab.few, same_bits, as_many, slot.inside) in few_numbers few slot.at

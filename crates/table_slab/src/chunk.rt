@@ -38,6 +38,14 @@ impl<T, A: Allocator> Chunk<T, A> {
         &self.slots
     }
 
+    /// Takes the slots out, and ends the counter.
+    pub fn into_slots(self) -> Slots<T, A>
+        ensures { result ≡ self }
+    {
+        let Chunk { slots, counter: _ } = self;
+        slots
+    }
+
     /// Hands out the next slots, up to `most`, of those below the offset `end`. Returns `None` if all of those are handed
     /// out.
     pub fn next(&self, most: u64, end: u64) -> Option<Handed<T>>

@@ -15,6 +15,7 @@ mod slots;
 
 pub use chunk::Chunk;
 pub use counter::{Counter, Handed};
+pub use ending::Ending;
 pub use laws::{rooms_apart, same_site, same_value};
 pub use numbering::{chunk_len, number_at, where_is};
 pub use rights::{Room, Rooms, Written};

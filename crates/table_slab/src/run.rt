@@ -1,5 +1,5 @@
 //! Numbers that a handle takes ahead, so that threads don't meet at one counter.
-ghost use Rattle.std.specs.Prelude.{◌≡◌, ℕ, suc, ◌<◌, ◌≤◌, ◌+◌, length, IfOk, IfSome, IfErr, OnOk, MatchOption, None, Some};
+ghost use Rattle.std.specs.Prelude.{◌≡◌, ℕ, suc, ◌<◌, ◌≤◌, ◌+◌, length, IfOk, IfNone, IfSome, IfErr, OnOk, MatchOption, None, Some};
 ghost use Rattle.table_slab.specs.Held.{IsRightTo};
 ghost use Rattle.table_slab.specs.Runs.{IsRunOf};
 ghost use Rattle.table_slab.specs.Slabs.{SlabView};
@@ -53,6 +53,7 @@ impl<T, A: Allocator> Run<T, A> {
         ensures number { IfSome result (λ r. (s : SlabView) → IsRunOf s self.old → IsRightTo s r.0 r.1) }
         ensures empty { IfSome result (λ r. r.1.room.value ≡ None) }
         ensures rest { (s : SlabView) → IsRunOf s self.old → IsRunOf s self.new }
+        ensures none { IfNone result (self.new ≡ self.old) }
         ensures left { MatchOption result (self.old.left ≡ 0) (λ r. self.old.left ≡ suc self.new.left) }
     {
         if self.left == 0 {
@@ -84,6 +85,26 @@ impl<T, A: Low + Copy> Slab<T, A> {
         let filled = self.run_from(run.place, want)?;
         *run = filled;
         Ok(())
+    }
+
+    /// Takes the next number of a run, with the right to it. A run that has none left is filled before, with up to `want`
+    /// numbers. A refusal leaves the run as it was.
+    pub fn number(&self, run: &mut Run<T, A>, want: u64) -> Result<(u64, Right<T, A>), Refused>
+        requires want { 0 < want }
+        requires of { IsRunOf self.now run.old }
+        ensures number { IfOk result (λ r. IsRightTo self.now r.0 r.1) }
+        ensures empty { IfOk result (λ r. r.1.room.value ≡ None) }
+        ensures of { IsRunOf self.now run.new }
+        ensures refused { IfErr result (λ _. run.new ≡ run.old) }
+    {
+        if let Some(next) = run.take() {
+            return Ok(next);
+        }
+        self.refill(run, want)?;
+        match run.take() {
+            Some(next) => Ok(next),
+            None => unreachable!(),
+        }
     }
 
     /// Returns a run from the chunk at this place, or else from the next one that has a number.

@@ -1,10 +1,11 @@
 //! Slots with numbers, in chunks that are made when they are first needed.
-ghost use Rattle.std.specs.Prelude.{◌≡◌, ℕ, ◌<◌, ◌+◌, length, IfOk, IfSome, None, Some, IsSome};
+ghost use Rattle.std.specs.Prelude.{◌≡◌, ℕ, ◌<◌, ◌+◌, length, IfOk, IfErr, IfSome, None, Some, IsSome};
+ghost use Rattle.table_slab.specs.Endings.{IsLeft};
 ghost use Rattle.table_slab.specs.Held.{IsRightTo, StandsAt};
 ghost use Rattle.table_slab.specs.Slabs.{id_at, AreCells};
 
 use crate::chunk::Chunk;
-use crate::ending::free_chunks;
+use crate::ending::{Ending, all_shared, free_chunks};
 use crate::numbering::{chunk_len, where_is};
 use crate::rights::{Room, Written};
 use crate::site::{Site, hear, tell};
@@ -205,6 +206,31 @@ impl<T, A: Low + Copy> Slab<T, A> {
     {
         let (place, offset) = where_is(self.bits, number);
         self.chunk(place, &standing.site).slots().get(offset as usize, &standing.written)
+    }
+}
+
+impl<T, A: Low + Copy> Slab<T, A> {
+    /// Ends the slab. It asks for memory for as many cells as the slab has; a refusal leaves the slab as it was.
+    pub fn end(self) -> Result<Ending<T, A>, Slab<T, A>>
+        ensures slab { IfOk result (λ e. e.slab ≡ self) }
+        ensures left { IfOk result (λ e. (number : ℕ) → IsLeft e number) }
+        ensures refused { IfErr result (λ s. s ≡ self) }
+    {
+        let Ok(room) = Vec::with_capacity(self.alloc, self.cells.len()) else {
+            return Err(self);
+        };
+        let Slab {
+            bits,
+            alloc,
+            home,
+            cells,
+        } = self;
+        Ok(Ending {
+            bits,
+            alloc,
+            closed: home.close(),
+            cells: all_shared(cells, room),
+        })
     }
 }
 
