@@ -1,0 +1,76 @@
+-- The first right is cut off.
+use Rattle.std.proofs.Common.{◌≡◌, ℕ, zero, suc, ◌+◌, ◌*◌, ◌^◌, ◌<◌, ◌≤◌, List, [], ◌∷◌, ◌++◌, Bool, sym, refl, ap, ◌∙◌, subst, arith, lit<, true, length, take, drop as drop_of, get_or, w64, take-append-drop, length-take}
+use mir.Syntax.{a_type, dcons, dnil, named}
+use mir.Val.{Val, vunit, vint, vptr, vstruct, vcons, vnil, of_list}
+use mir.MapTy.{inst_fn}
+use base.Fraction.{full_share}
+use base.Logic.{SProp, ent, sep, wand, emp, via, id⊢, apply∗, all_e, never}
+use base.Stored.{gnil, gnum, gcons}
+use base.Fml.{Lft, GName, Share, Fml, Incl-trans, ftrue, fsep, fex, flft, finv, fbor, fobs, fauth, fres, fown, fat, froom}
+use base.Before.{before}
+use prog.Wp.{WpFn}
+use types.Logic.{sem}
+use types.Kit.{Item, mean, ‵, raw, ◌⊛◌, some, given, later, at_ret, any_q, ◌$◌, ◌∵◌, !, qed, by, move, keep, drop, use0, use1, use2, use3, split, split3, join, group, fsplit, fsplit3, fjoin, fjoin3, fpick, fpack, pick, learn, check, show, frame, each, assume, suffices, await, updating, now, rewrite, settle, feq_i, feq_l, flt_l, flt_i, done}
+use types.Run.{stop, fld, load, look, store, addr, lit, unit_lit, of_opd, bin, size_lit, init, assigns_last, no_more, and_then, first, blocks, exec, returns, enter, assigns, store_raw, look_raw}
+use types.ByLocal.{alloc_all, pass_all, free_all, look_at, get, get_in, through, sets, sets_last, lands_as, lands_last, is, env, take_at, give_at}
+use types.Part.{agg, sub, whole}
+use types.Tokens.{name_new}
+use contract.Running.{tables}
+use contract.Monad.{fact, fact_i}
+use contract.BorrowLft.{◌⊑◌, meet_⊑_left, meet_⊑_right}
+use contract.Shared.{Lends-one}
+use denote.Exit.{yes, no}
+use denote.RattleType.{RattleType, owns, Valss}
+use denote.Signature.{types_at, plain, named_lft}
+use denote.Steps.{nothing, heard, peeks, opens, closes}
+use denote.Opens.{hide, unhide}
+use denote.Laws.{Is, Typed, shows}
+use denote.Memory.{lone, cell_at, shared_of, mem, part_at}
+use denote.Param.{param, bounded, layouts, layout}
+use denote.Param.Laws.{param_laws}
+use denote.Builtin.{RefOf, RefMutOf, usize}
+use denote.RawPtr.{Ptr, block_ptr, in_a_block}
+use denote.Ref.{ShrRef, shr_vals, shr_Tells}
+use denote.Struct.Tuple.{Tuple}
+use denote.Triple.Walked.{Stays, stay_dropped, stay_ref, walk_of, Goes-dropped, Goes-ref}
+use Rattle.std.proofs.raw_atomic.Walks.{proved, proved_at, leaves}
+use Rattle.core.proofs.atomic.Steps.{tail}
+use Rattle.core.proofs.cell.Inside.{Good, one}
+use Rattle.core.specs.declared.option.Option.{Option}
+use Rattle.core.specs.declared.option.Option.TheVariants.{None, Some}
+use Rattle.std.specs.Prelude.{IsSome}
+use Rattle.table_slab.specs.Rights.{mark, room, rooms, written}
+use Rattle.table_slab.specs.contracts.rights.Room as Room
+use Rattle.table_slab.specs.contracts.rights.Rooms as Rooms
+use Rattle.table_slab.specs.contracts.rights.Written as Written
+use Rattle.table_slab.proofs.Tokens.{written_twice, room_publishes, rooms_split}
+use Rattle.table_slab.proofs.Made.{token_val, pair_in, written_made, room_made, rooms_made, room_told, rooms_told, set_of}
+use Rattle.table_slab.specs.contracts.rights.Rooms.first.{ended, clauses}
+use Rattle.table_slab.specs.contracts.rights.Rooms.first.Key.{name as #self}
+use Rattle.table_slab.proofs.rights.Rooms.first.Statement.{statement}
+use Rattle.table_slab.proofs.rights.Rooms.first.Code as code
+
+cut_off : (γs : List ℕ) → 0 < length γs → (γ : ℕ) × ((δs : List ℕ) × (γs ≡ γ ∷ δs))
+cut_off [] h = absurd (omega arith)
+cut_off (γ ∷ γs) h = (γ, (γs, refl))
+
+pub first_spec : {M : Type 1} → statement M
+first_spec 𝓤 𝓛 𝓜 𝓡 wired T L =
+    let H = 𝓛.H in let 𝓣 = tables 𝓤 H 𝓜 𝓡 𝓡.env in let R : RattleType = param 0 T in let En = ended T in let Rs : RattleType = Rooms.the_row R in let Rm : RattleType = Room.the_row R in
+    let inst = layouts (a_type ∷ []) (T, tt) in let fn = inst_fn inst code.function in let c = clauses T 𝓛 𝓜.mem 𝓡.returns in
+    let self = plain (λ _. Rs) in let hs : Stays En.signature.params En.kept = (stay_dropped self no, tt) in let pair : Val = vstruct (vcons token_val (vcons token_val vnil)) in
+    proved 𝓛 En hs c 𝓜 𝓡 (Goes-dropped 𝓛 1 self no (λ κs x f. refl), tt) (#self inst) fn (code.unfolded 𝓤 H 𝓜 𝓡 wired (T, tt))
+    (λ κs. ((λ x. token_val ∷ []), tt)) (λ κs. ((λ x vs is. rooms_told R vs is.0), tt)) (λ κs qs bounds a gh are.
+    let γs : List ℕ = a.0.names in let Some_of : Type 0 = 0 < length γs in
+    let y : (walk_of 𝓛 En hs c).Ghost = ((κs, qs, bounds, a, (token_val ∷ [], tt)), gh) in let Post : Val → SProp 𝓤 = (walk_of 𝓛 En hs c).post y in
+    qed 𝓛 ((raw (denote.Triple.Entry.alive 𝓛 En.signature κs qs) ⊛ ‵ (owns (types_at En.signature.params κs) a y.0.4)) ∷ raw (fact 𝓤 _) ∷ raw (fact 𝓤 Some_of) ∷ []) ∵ keep ! (2 ∷ 0 ∷ []) $ heard ! Some_of (λ so.
+    let cut = cut_off γs so in let γ : ℕ = cut.0 in let δs : List ℕ = cut.1.0 in let is : γs ≡ γ ∷ δs = cut.1.1 in
+    let rm : Rm.Denot = record { marker = record {}; of = γ; value = None } in let rs : Rs.Denot = record { marker = record {}; names = δs } in let Told : Type 0 = mathlib.Core.Path.Path (Option T.Denot) None None in let Are : Type 0 = γs ≡ γ ∷ δs in
+    split ! $ move ! (1 ∷ []) $ fsplit ! $ fsplit ! $ keep ! (1 ∷ 3 ∷ []) $ rewrite ! 0 (λ (u : List ℕ). ‵ (rooms R u)) is refl $ fsplit ! $
+    use1 𝓛 (‵ (Rm.own_val rm (token_val ∷ []))) (room_made 𝓛 R γ None) $ move ! (1 ∷ []) $ use1 𝓛 (‵ (Rs.own_val rs (token_val ∷ []))) (rooms_made 𝓛 R δs) $ move ! (1 ∷ 0 ∷ []) $
+    let Pair : RattleType = Tuple (Rm ∷ Rs ∷ []) in pair_in Rm Rs ! rm rs token_val token_val $
+    enter ! 𝓣.C 𝓣.Λ fn (token_val ∷ []) Post $ alloc_all ! (λ l. pass_all ! refl ((tt, (tt, tt)), tt) $ let tok : Good (layout Rm) token_val = (tt, (tt, tt)) in let both : Good (layout Pair) pair = (tt, ((tt, tt), ((tt, tt), tt))) in
+    sets ! (agg ! (no_more !)) refl (tt, tt) $ sets ! (agg ! (and_then ! (get ! refl) (no_more !))) refl tok $ sets ! (agg ! (no_more !)) refl (tt, tt) $ sets ! (agg ! (and_then ! (get ! refl) (no_more !))) refl tok $
+    sets ! (agg ! (and_then ! (get ! refl) (and_then ! (get ! refl) (no_more !)))) refl both $
+    use0 𝓛 (raw (fact 𝓤 Told)) (fact_i 𝓤 Told (emp 𝓤) refl) $ use0 𝓛 (raw (fact 𝓤 Are)) (fact_i 𝓤 Are (emp 𝓤) is) $ join ! $ nothing ! $ nothing ! $ fjoin ! $
+    returns ! (look_at ! 0 refl) $ free_all ! refl $ keep ! (3 ∷ 0 ∷ 2 ∷ 1 ∷ []) $ by ! (leaves 𝓛 En hs c y pair (rm, rs) (tt, tt) (tt, tt)))))
