@@ -2,7 +2,7 @@
 #![tactic(auto)]
 
 mod rights;
-// mod row;
+mod row;
 
 
 pub use rights::{Room, Rooms, Written};
