@@ -55,6 +55,50 @@ impl<T, A: Allocator> Model for Deed<T, A> {
     ghost also_shares = { λ _ _ _. ftrue };
 }
 
+/// Asks for memory for `count` values: an empty slot for each, with the right to it.
+pub(crate) fn allocate<T, A: Allocator>(
+    alloc: &A,
+    count: usize,
+) -> Result<(Start<T>, Row<T>, Rooms<T>, Deed<T, A>), AllocError>
+    requires { FitsInBlock T.row count }
+    ensures { IfOk result (λ r. (r.1.at ≡ r.0.at) × (length r.1.names ≡ count) × (r.2.names ≡ r.1.names) × (r.3.at ≡ r.0.at) × (r.3.count ≡ count) × (r.3.alloc ≡ alloc.now)) }
+{
+    match alloc.allocate(count * size_of::<T>(), align_of::<T>()) {
+        Ok(block) => Ok((
+            Start {
+                at: block as *mut T,
+            },
+            Row {
+                marker: PhantomData,
+            },
+            Rooms {
+                marker: PhantomData,
+            },
+            Deed {
+                marker: PhantomData,
+            },
+        )),
+        Err(refused) => Err(refused),
+    }
+}
+
+/// Gives the memory back. What lies in the slots is forgotten.
+pub(crate) fn free<T, A: Allocator>(
+    alloc: &A,
+    start: Start<T>,
+    count: usize,
+    row: Row<T>,
+    deed: Deed<T, A>,
+)
+    requires { (row.at ≡ start.at) × (length row.names ≡ count) × (deed.at ≡ start.at) × (deed.count ≡ count) × (deed.alloc ≡ alloc.now) }
+{
+    let Row { marker: _ } = row;
+    let Deed { marker: _ } = deed;
+    unsafe {
+        alloc.deallocate(start.at as *mut u8, count * size_of::<T>(), align_of::<T>());
+    }
+}
+
 impl<T> Row<T> {
     /// Writes a value into an empty slot.
     pub(crate) fn put(&self, start: Start<T>, offset: usize, room: Room<T>, value: T) -> Room<T>
@@ -71,6 +115,55 @@ impl<T> Row<T> {
         Room {
             marker: PhantomData,
         }
+    }
+
+    /// Takes a value back out, which leaves the slot empty.
+    pub(crate) fn take(&self, start: Start<T>, offset: usize, room: Room<T>) -> (T, Room<T>)
+        requires inside { (start.at ≡ self.now.at) × (offset < length self.now.names) }
+        requires of { room.of ≡ get_or self.now.names offset 0 }
+        requires full { IsSome room.value }
+        ensures value { room.value ≡ Some result.0 }
+        ensures of { result.1.of ≡ room.of }
+        ensures empty { result.1.value ≡ None }
+    {
+        let Room { marker: _ } = room;
+        let value = unsafe { start.at.add(offset).read() };
+        let room = Room {
+            marker: PhantomData,
+        };
+        (value, room)
+    }
+
+    /// Shows a value that is there for good.
+    pub(crate) fn get<'a>(&'a self, start: Start<T>, offset: usize, written: &Written<T>) -> &'a T
+        requires inside { (start.at ≡ self.now.at) × (offset < length self.now.names) }
+        requires of { written.now.of ≡ get_or self.now.names offset 0 }
+        ensures { result.now ≡ written.now.value }
+    {
+        let _ = written;
+        unsafe { &*start.at.add(offset) }
+    }
+
+    /// Takes a value out that was there for good. The slot gets another name.
+    pub(crate) fn take_out(
+        &mut self,
+        start: Start<T>,
+        offset: usize,
+        written: &Written<T>,
+    ) -> (T, Room<T>)
+        requires inside { (start.at ≡ self.old.at) × (offset < length self.old.names) }
+        requires of { written.now.of ≡ get_or self.old.names offset 0 }
+        ensures value { result.0 ≡ written.now.value }
+        ensures empty { result.1.value ≡ None }
+        ensures names { self.new.names ≡ slice_set self.old.names offset result.1.of }
+        ensures same { self.new.at ≡ self.old.at }
+    {
+        let _ = written;
+        let value = unsafe { start.at.add(offset).read() };
+        let room = Room {
+            marker: PhantomData,
+        };
+        (value, room)
     }
 }
 
