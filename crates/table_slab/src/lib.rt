@@ -3,7 +3,9 @@
 
 mod rights;
 mod row;
+mod slots;
 
 
 pub use rights::{Room, Rooms, Written};
+pub use slots::Slots;
 
