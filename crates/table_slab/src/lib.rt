@@ -5,7 +5,5 @@ mod rights;
 mod row;
 mod slots;
 
-
 pub use rights::{Room, Rooms, Written};
 pub use slots::Slots;
-

@@ -1,6 +1,5 @@
 //! A row of slots with the memory that it lies in.
 ghost use Rattle.std.specs.Prelude.{◌≡◌, ℕ, ◌<◌, List, length, Option, Some, None, get_or, slice_set, IfOk, IsSome};
-ghost use Rattle.table_slab.specs.Slots.{IsRow};
 
 use crate::rights::{Room, Rooms, Written};
 use crate::row::{Deed, Row, Start, allocate, free};
@@ -21,7 +20,9 @@ pub struct Slots<T, A: Allocator> {
 }
 
 impl<T, A: Allocator> Model for Slots<T, A> {
+    ghost use Rattle.std.specs.Prelude.{ℕ, List};
     ghost use Rattle.std.specs.Coded.{coded_list, coded_ℕ};
+    ghost use Rattle.table_slab.specs.Slots.{BelongTogether};
 
     ghost Value = { List ℕ };
 
@@ -29,7 +30,7 @@ impl<T, A: Allocator> Model for Slots<T, A> {
 
     ghost view = { λ s. s.row.names };
 
-    ghost invariant = { λ s. IsRow s };
+    ghost invariant = { λ s. BelongTogether s.start s.count s.row s.deed s.alloc };
 }
 
 impl<T, A: Allocator> Slots<T, A> {
