@@ -2,7 +2,7 @@
 --     rooms_differ      nobody has the right to a slot twice
 --     room_publishes    the right to a full slot, given up, shows the value for good
 --     written_twice, written_agree, room_agrees      what is known for good can be had twice, and is one value, which the right has too
-use Rattle.std.proofs.Common.{◌≡◌, ℕ, List, [], ◌∷◌, ◌++◌, sym, refl, ap, ◌∙◌, subst}
+use Rattle.std.proofs.Common.{◌≡◌, ℕ, List, [], ◌∷◌, ◌++◌, sym, refl, ap, ◌∙◌, subst, arith}
 use seplogic.Ra.Ura.{Ura}
 use seplogic.Ra.Instances.Excl as Excl
 use base.Stored.{Gv, gnil, gnum, gcons}
@@ -32,6 +32,12 @@ abbrev pub number : Gv → ℕ
 number (gnum n) = n
 number gnil = 0
 number (gcons a b) = 0
+
+-- how many pairs a ghost value begins with: one or none
+abbrev pairs : Gv → ℕ
+pairs (gcons a b) = 1
+pairs gnil = 0
+pairs (gnum n) = 0
 
 module _ {M : Type 1} {𝓤 : Ura M} (𝓛 : Logic 𝓤) where
   open 𝓛 use {A}
@@ -64,10 +70,14 @@ module _ {M : Type 1} {𝓤 : Ura M} (𝓛 : Logic 𝓤) where
     written_agree x y = qed 𝓛 (‵ (written R γ x) ∷ ‵ (written R γ y) ∷ []) ∵ fpick ! (λ ε. move ! (1 ∷ []) $ fpick ! (λ δ. move ! (1 ∷ 0 ∷ []) $
         by ! (via 𝓤 _ (res_same γ (mark R ε (Some x)) (mark R δ (Some y))) (fact_mono 𝓤 _ (x ≡ y) (same_value ε δ x y)))))
 
-    pub room_agrees : (v : Option R.Denot) (x : R.Denot) → ent 𝓤 (sep 𝓤 (sem 𝓛 (room R γ v)) (sem 𝓛 (written R γ x))) (fact 𝓤 (content R v ≡ content R (Some x)))
+    same_content : (v : Option R.Denot) (x : R.Denot) → content R v ≡ content R (Some x) → v ≡ Some x
+    same_content None x e = absurd (let z : 0 ≡ 1 = ap pairs e in omega arith)
+    same_content (Some y) x e = ap (λ (u : R.Denot). Some u) (R.coded.inj y x (ap first e))
+
+    pub room_agrees : (v : Option R.Denot) (x : R.Denot) → ent 𝓤 (sep 𝓤 (sem 𝓛 (room R γ v)) (sem 𝓛 (written R γ x))) (fact 𝓤 (v ≡ Some x))
     room_agrees v x = qed 𝓛 (‵ (room R γ v) ∷ ‵ (written R γ x) ∷ []) ∵ fpick ! (λ ε. fsplit ! $ use1 𝓛 (‵ (fres γ (mark R ε v))) (𝓛.names.obs-res γ _) $ move ! (2 ∷ []) $ fpick ! (λ δ. move ! (1 ∷ 0 ∷ []) $
         use2 𝓛 (raw (fact 𝓤 (mark R ε v ≡ mark R δ (Some x)))) (res_same γ (mark R ε v) (mark R δ (Some x))) $ keep ! (0 ∷ []) $
-        by ! (fact_mono 𝓤 _ (content R v ≡ content R (Some x)) (λ e. ap rest e))))
+        by ! (fact_mono 𝓤 _ (v ≡ Some x) (λ e. same_content v x (ap rest e)))))
 
   module _ (R : RattleType) where
     pub rooms_split : (γs δs : List GName) → ent 𝓤 (sem 𝓛 (rooms R (γs ++ δs))) (sep 𝓤 (sem 𝓛 (rooms R γs)) (sem 𝓛 (rooms R δs)))
