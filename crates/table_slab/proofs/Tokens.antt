@@ -2,16 +2,16 @@
 --     rooms_differ      nobody has the right to a slot twice
 --     room_publishes    the right to a full slot, given up, shows the value for good
 --     written_twice, written_agree, room_agrees      what is known for good can be had twice, and is one value, which the right has too
-use Rattle.std.proofs.Common.{◌≡◌, ℕ, List, [], ◌∷◌, ◌++◌, sym, refl, ap, ◌∙◌, subst, arith}
+use Rattle.std.proofs.Common.{◌≡◌, ℕ, List, [], ◌∷◌, ◌++◌, sym, refl, ap, arith}
 use seplogic.Ra.Ura.{Ura}
 use seplogic.Ra.Instances.Excl as Excl
 use base.Stored.{Gv, gnil, gnum, gcons}
-use base.Logic.{SProp, ent, sep, emp, never, never_e, via, fst∗, snd∗, id⊢}
-use base.Fml.{GName, Fml, ftrue, fsep, fex, fobs, fres, fown}
-use contract.Monad.{fact, fact_mono, fact_i, conj_i}
+use base.Logic.{ent, sep, never, via, fst∗, snd∗}
+use base.Fml.{GName, Fml, fres, fown}
+use contract.Monad.{fact, fact_mono, conj_i}
 use types.Logic.{Logic, sem}
 use types.Owned.{own_glued}
-use types.Kit.{‵, raw, ◌⊛◌, ◌$◌, ◌∵◌, !, qed, by, move, keep, drop, use1, use2, use3, split, fsplit, fjoin, fpick, fpack, rewrite, suffices, done}
+use types.Kit.{‵, raw, ◌⊛◌, ◌$◌, ◌∵◌, !, qed, by, move, keep, use1, use2, split, fsplit, fjoin, fpick, fpack, rewrite, done}
 use denote.RattleType.{RattleType}
 use denote.Steps.{nothing, heard}
 use Rattle.core.specs.declared.option.Option.{Option}
