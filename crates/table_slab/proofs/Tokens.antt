@@ -6,7 +6,8 @@ use Rattle.std.proofs.Common.{◌≡◌, ℕ, List, [], ◌∷◌, ◌++◌, sym
 use seplogic.Ra.Ura.{Ura}
 use seplogic.Ra.Instances.Excl as Excl
 use base.Stored.{Gv, gnil, gnum, gcons}
-use base.Logic.{ent, sep, never, via, fst∗, snd∗}
+use base.Logic.{SProp, guard, guard_i, ent, sep, never, via, fst∗, snd∗}
+use native.Mathlib.Decide.{ℕ_discrete}
 use base.Fml.{GName, Fml, fres, fown}
 use contract.Monad.{fact, fact_mono, conj_i}
 use types.Logic.{Logic, sem}
@@ -78,6 +79,18 @@ module _ {M : Type 1} {𝓤 : Ura M} (𝓛 : Logic 𝓤) where
     room_agrees v x = qed 𝓛 (‵ (room R γ v) ∷ ‵ (written R γ x) ∷ []) ∵ fpick ! (λ ε. fsplit ! $ use1 𝓛 (‵ (fres γ (mark R ε v))) (𝓛.names.obs-res γ _) $ move ! (2 ∷ []) $ fpick ! (λ δ. move ! (1 ∷ 0 ∷ []) $
         use2 𝓛 (raw (fact 𝓤 (mark R ε v ≡ mark R δ (Some x)))) (res_same γ (mark R ε v) (mark R δ (Some x))) $ keep ! (0 ∷ []) $
         by ! (fact_mono 𝓤 _ (v ≡ Some x) (λ e. same_content v x (ap rest e)))))
+
+    -- a slot to which somebody has the right, while it is empty, is another one
+    pub room_beside : (δ : GName) (x : R.Denot) → ent 𝓤 (sep 𝓤 (sem 𝓛 (room R δ None)) (sem 𝓛 (written R γ x))) (guard 𝓤 (δ ≡ γ → ⊥) (sep 𝓤 (sem 𝓛 (room R δ None)) (sem 𝓛 (written R γ x))))
+    room_beside δ x = told (ℕ_discrete δ γ)
+      where
+        Both : SProp 𝓤
+        Both = sep 𝓤 (sem 𝓛 (room R δ None)) (sem 𝓛 (written R γ x))
+
+        told : Dec (δ ≡ γ) → ent 𝓤 Both (guard 𝓤 (δ ≡ γ → ⊥) Both)
+        told (no apart) = guard_i 𝓤 (δ ≡ γ → ⊥) Both apart
+        told (yes e) = qed 𝓛 (‵ (room R δ None) ∷ ‵ (written R γ x) ∷ []) ∵ rewrite ! 0 (λ (k : GName). ‵ (room R k None)) e refl $
+            use2 𝓛 (raw (fact 𝓤 (None ≡ Some x))) (room_agrees None x) $ heard ! (None ≡ Some x) (λ z. absurd (let d : 0 ≡ 1 = ap (λ (u : Option R.Denot). pairs (content R u)) z in omega arith))
 
   module _ (R : RattleType) where
     pub rooms_split : (γs δs : List GName) → ent 𝓤 (sem 𝓛 (rooms R (γs ++ δs))) (sep 𝓤 (sem 𝓛 (rooms R γs)) (sem 𝓛 (rooms R δs)))
