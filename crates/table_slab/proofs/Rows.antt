@@ -3,18 +3,17 @@
 --     slot_out       one slot, and the way back, under whatever name it has then
 --     opened         room becomes a row of empty slots under new names, with the right to each
 --     closed         a row becomes room; what lies in it is forgotten
-use Rattle.std.proofs.Common.{◌≡◌, ℕ, zero, suc, ◌+◌, ◌*◌, ◌<◌, List, [], ◌∷◌, ◌++◌, sym, refl, ap, ◌∙◌, subst, arith, length, get_or}
+use Rattle.std.proofs.Common.{◌≡◌, ℕ, zero, suc, ◌+◌, ◌*◌, ◌<◌, List, [], ◌∷◌, sym, refl, ap, arith, length, get_or}
 use native.Mathlib.Nat.{zero-mul, suc-mul}
 use lib.ListN.{set}
 use seplogic.Ra.Ura.{Ura}
 use base.Fraction.{full_share}
-use base.Stored.{gnil, gnum, gcons}
-use base.Logic.{SProp, ent, sep, emp, wand, all, all_e, ex, ex_i, guard, upd, via, id⊢, apply∗}
-use base.Fml.{Fml, Lft, GName, ftrue, fsep, fex, fat, froom, fobs, fauth, fown}
+use base.Logic.{SProp, ent, sep, wand, all, all_e, ex, guard, via, apply∗}
+use base.Fml.{Lft, GName, ftrue, fsep, fat, froom, fobs, fown}
 use mir.Syntax.{Ty, ty_array}
 use types.Logic.{Logic, sem}
 use types.Owned.{own_new, basic}
-use types.Kit.{Item, mean, ‵, raw, ◌⊛◌, some, given, later, ◌$◌, ◌∵◌, !, qed, by, move, keep, drop, use0, use1, use2, split, split3, join, fsplit, fjoin, fpick, fpack, pick, learn, check, show, frame, each, assume, await, updating, now, rewrite, done}
+use types.Kit.{Item, mean, ‵, raw, ◌⊛◌, some, given, later, ◌$◌, ◌∵◌, !, qed, by, move, keep, drop, use0, use1, use2, split, fsplit, fjoin, fpick, fpack, pick, learn, check, show, frame, each, assume, await, updating, now, rewrite, done}
 use types.Tokens.{name_new}
 use denote.RattleType.{RattleType}
 use denote.Laws.{Is, shows}
@@ -22,13 +21,13 @@ use denote.Memory.{part_at}
 use denote.Param.{param, layout}
 use denote.Param.Laws.{Laws, param_laws}
 use denote.Steps.{nothing, peeks}
-use borrow.Table.OneValue.{part_in, part_out}
+use borrow.Table.OneValue.{part_out}
 use Rattle.core.specs.Mem.{type_size}
 use Rattle.core.specs.declared.option.Option.{Option}
 use Rattle.core.specs.declared.option.Option.TheVariants.{None, Some}
 use Rattle.core.proofs.cell.Inside.{Good}
 use Rattle.table_slab.specs.Rights.{once, mark, room, rooms}
-use Rattle.table_slab.specs.Kept.{idle, Stage, Lies, fact, place, rests, resting, shared_at, row, shared_row}
+use Rattle.table_slab.specs.Kept.{idle, Stage, Lies, place, rests, resting, shared_at, row, shared_row}
 
 module _ (R : RattleType) {M : Type 1} {𝓤 : Ura M} (𝓛 : Logic 𝓤) (b : ℕ) where
   open 𝓛 use {H}

@@ -1,7 +1,7 @@
 -- A `&` to slots is made of a borrow of them: each takes a turn. Assumes `Logic`.
 --     Lends-slot, Lends-row      of one slot, and of a row
 --     shared_laws, row_shares_laws      what a `&` to them holds can be had twice, and for less
-use Rattle.std.proofs.Common.{◌≡◌, ℕ, ◌+◌, List, [], ◌∷◌, ◌++◌, sym, refl, subst}
+use Rattle.std.proofs.Common.{◌≡◌, ℕ, ◌+◌, List, [], ◌∷◌, sym, subst}
 use seplogic.Ra.Ura.{Ura}
 use base.Fraction.{full_share}
 use base.Share
@@ -12,14 +12,14 @@ use base.Before.{before}
 use contract.BorrowLft.{meet_⊑_right}
 use ghost.Rules.{Toks, span}
 use types.Logic.{Logic, sem, lfts}
-use types.Kit.{Item, mean, ‵, raw, ◌⊛◌, some, given, later, ◌$◌, ◌∵◌, !, qed, by, move, keep, drop, use0, use1, use2, use3, split, split3, join, fsplit, fsplit3, fjoin, fjoin3, fpick, fpack, pick, show, assume, suffices, await, updating, now, done}
+use types.Kit.{Item, mean, ‵, raw, ◌⊛◌, some, later, ◌$◌, ◌∵◌, !, qed, by, move, keep, drop, use0, use1, use2, use3, split, split3, join, fsplit, fsplit3, fjoin, fjoin3, fpick, fpack, pick, assume, suffices, await, updating, now, done}
 use types.Tokens.{lft_new, bor_open, obor_alter, name_new, name_agree, res_agree, res_dup, one_token}
 use types.Na.{before-Incl}
 use denote.RattleType.{RattleType}
 use denote.Memory.{part_at, shared_of}
 use denote.RawPtr.{Ptr, block_ptr, null_ptr}
 use denote.Steps.{nothing, heard}
-use denote.Sharing.{ShrLaws, said, beside}
+use denote.Sharing.{ShrLaws, said}
 use denote.SharingLaws.{ends_shr_laws, beside_shr_laws, nothing_shr_laws, said_shr_laws}
 use denote.Param.Laws.{Laws}
 use denote.Struct.Lending.{Lends, Lends-both, Lends-nothing, Lends-said, Lends-false}
@@ -29,7 +29,7 @@ use Rattle.core.specs.declared.option.Option.{Option}
 use Rattle.core.specs.declared.option.Option.TheVariants.{None, Some}
 use Rattle.core.proofs.cell.Borrows.{by_one}
 use Rattle.std.specs.Coded.{coded_option}
-use Rattle.table_slab.specs.Kept.{Phase, idle, out, held, full, Stage, Turn, fact, Lies, place, codes, named, rests, resting, Value, tie, view, lent, tied, standing, Cell, kept, shared_at, row, shared_row, fit, row_owns, row_shares}
+use Rattle.table_slab.specs.Kept.{Phase, idle, out, held, full, Stage, Turn, Lies, place, codes, rests, resting, Value, tie, view, lent, tied, standing, Cell, kept, shared_at, row, shared_row, fit, row_owns, row_shares}
 use Rattle.table_slab.proofs.Steps.{kept_dup, lends_out, pins}
 
 module _ (T : RattleType) (L : Laws T) {M : Type 1} {𝓤 : Ura M} (𝓛 : Logic 𝓤) (γ : GName) (b o : ℕ) (κ : Lft) where

@@ -2,16 +2,17 @@
 --     rooms_differ      nobody has the right to a slot twice
 --     room_publishes    the right to a full slot, given up, shows the value for good
 --     written_twice, written_agree, room_agrees      what is known for good can be had twice, and is one value, which the right has too
-use Rattle.std.proofs.Common.{◌≡◌, ℕ, List, [], ◌∷◌, ◌++◌, sym, refl, ap, ◌∙◌, subst}
+use Rattle.std.proofs.Common.{◌≡◌, ℕ, List, [], ◌∷◌, ◌++◌, sym, refl, ap, arith}
 use seplogic.Ra.Ura.{Ura}
 use seplogic.Ra.Instances.Excl as Excl
 use base.Stored.{Gv, gnil, gnum, gcons}
-use base.Logic.{SProp, ent, sep, emp, never, never_e, via, fst∗, snd∗, id⊢}
-use base.Fml.{GName, Fml, ftrue, fsep, fex, fobs, fres, fown}
-use contract.Monad.{fact, fact_mono, fact_i, conj_i}
+use base.Logic.{SProp, guard, guard_i, ent, sep, never, via, fst∗, snd∗}
+use native.Mathlib.Decide.{ℕ_discrete}
+use base.Fml.{GName, Fml, fres, fown}
+use contract.Monad.{fact, fact_mono, conj_i}
 use types.Logic.{Logic, sem}
 use types.Owned.{own_glued}
-use types.Kit.{‵, raw, ◌⊛◌, ◌$◌, ◌∵◌, !, qed, by, move, keep, drop, use1, use2, use3, split, fsplit, fjoin, fpick, fpack, rewrite, suffices, done}
+use types.Kit.{‵, raw, ◌⊛◌, ◌$◌, ◌∵◌, !, qed, by, move, keep, use1, use2, split, fsplit, fjoin, fpick, fpack, rewrite, done}
 use denote.RattleType.{RattleType}
 use denote.Steps.{nothing, heard}
 use Rattle.core.specs.declared.option.Option.{Option}
@@ -32,6 +33,12 @@ abbrev pub number : Gv → ℕ
 number (gnum n) = n
 number gnil = 0
 number (gcons a b) = 0
+
+-- how many pairs a ghost value begins with: one or none
+abbrev pairs : Gv → ℕ
+pairs (gcons a b) = 1
+pairs gnil = 0
+pairs (gnum n) = 0
 
 module _ {M : Type 1} {𝓤 : Ura M} (𝓛 : Logic 𝓤) where
   open 𝓛 use {A}
@@ -64,10 +71,26 @@ module _ {M : Type 1} {𝓤 : Ura M} (𝓛 : Logic 𝓤) where
     written_agree x y = qed 𝓛 (‵ (written R γ x) ∷ ‵ (written R γ y) ∷ []) ∵ fpick ! (λ ε. move ! (1 ∷ []) $ fpick ! (λ δ. move ! (1 ∷ 0 ∷ []) $
         by ! (via 𝓤 _ (res_same γ (mark R ε (Some x)) (mark R δ (Some y))) (fact_mono 𝓤 _ (x ≡ y) (same_value ε δ x y)))))
 
-    pub room_agrees : (v : Option R.Denot) (x : R.Denot) → ent 𝓤 (sep 𝓤 (sem 𝓛 (room R γ v)) (sem 𝓛 (written R γ x))) (fact 𝓤 (content R v ≡ content R (Some x)))
+    same_content : (v : Option R.Denot) (x : R.Denot) → content R v ≡ content R (Some x) → v ≡ Some x
+    same_content None x e = absurd (let z : 0 ≡ 1 = ap pairs e in omega arith)
+    same_content (Some y) x e = ap (λ (u : R.Denot). Some u) (R.coded.inj y x (ap first e))
+
+    pub room_agrees : (v : Option R.Denot) (x : R.Denot) → ent 𝓤 (sep 𝓤 (sem 𝓛 (room R γ v)) (sem 𝓛 (written R γ x))) (fact 𝓤 (v ≡ Some x))
     room_agrees v x = qed 𝓛 (‵ (room R γ v) ∷ ‵ (written R γ x) ∷ []) ∵ fpick ! (λ ε. fsplit ! $ use1 𝓛 (‵ (fres γ (mark R ε v))) (𝓛.names.obs-res γ _) $ move ! (2 ∷ []) $ fpick ! (λ δ. move ! (1 ∷ 0 ∷ []) $
         use2 𝓛 (raw (fact 𝓤 (mark R ε v ≡ mark R δ (Some x)))) (res_same γ (mark R ε v) (mark R δ (Some x))) $ keep ! (0 ∷ []) $
-        by ! (fact_mono 𝓤 _ (content R v ≡ content R (Some x)) (λ e. ap rest e))))
+        by ! (fact_mono 𝓤 _ (v ≡ Some x) (λ e. same_content v x (ap rest e)))))
+
+    -- a slot to which somebody has the right, while it is empty, is another one
+    pub room_beside : (δ : GName) (x : R.Denot) → ent 𝓤 (sep 𝓤 (sem 𝓛 (room R δ None)) (sem 𝓛 (written R γ x))) (guard 𝓤 (δ ≡ γ → ⊥) (sep 𝓤 (sem 𝓛 (room R δ None)) (sem 𝓛 (written R γ x))))
+    room_beside δ x = told (ℕ_discrete δ γ)
+      where
+        Both : SProp 𝓤
+        Both = sep 𝓤 (sem 𝓛 (room R δ None)) (sem 𝓛 (written R γ x))
+
+        told : Dec (δ ≡ γ) → ent 𝓤 Both (guard 𝓤 (δ ≡ γ → ⊥) Both)
+        told (no apart) = guard_i 𝓤 (δ ≡ γ → ⊥) Both apart
+        told (yes e) = qed 𝓛 (‵ (room R δ None) ∷ ‵ (written R γ x) ∷ []) ∵ rewrite ! 0 (λ (k : GName). ‵ (room R k None)) e refl $
+            use2 𝓛 (raw (fact 𝓤 (None ≡ Some x))) (room_agrees None x) $ heard ! (None ≡ Some x) (λ z. absurd (let d : 0 ≡ 1 = ap (λ (u : Option R.Denot). pairs (content R u)) z in omega arith))
 
   module _ (R : RattleType) where
     pub rooms_split : (γs δs : List GName) → ent 𝓤 (sem 𝓛 (rooms R (γs ++ δs))) (sep 𝓤 (sem 𝓛 (rooms R γs)) (sem 𝓛 (rooms R δs)))

@@ -2,7 +2,7 @@
 --     room γ v        the right to the slot γ, with v in it. Nobody has it twice: with it goes an element that has one owner
 --     written γ x     the slot γ holds x for good
 --     rooms γs        the rights to these slots, all empty
-use Rattle.core.specs.Prelude.{ℕ, List, [], ◌∷◌}
+use Rattle.core.specs.Prelude.{List, [], ◌∷◌}
 use base.Algebra.{Algebra}
 use base.Algebras.{exclusive}
 use base.SetCodes.{coded}

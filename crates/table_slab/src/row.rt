@@ -1,5 +1,5 @@
 //! Memory for values, one after the other, and the row of slots that lies in it.
-ghost use Rattle.std.specs.Prelude.{◌≡◌, ℕ, ◌<◌, List, length, Option, Some, None, get_or, slice_set, IfOk, IsSome, ⊤};
+ghost use Rattle.std.specs.Prelude.{◌≡◌, ◌≢◌, ℕ, ◌<◌, List, length, Option, Some, None, get_or, slice_set, IfOk, IsSome, ⊤};
 ghost use Rattle.std.specs.Coded.{coded_list, coded_ℕ};
 ghost use Rattle.std.specs.Vec.Ownership.{FitsInBlock};
 ghost use base.Fml.{ftrue};
@@ -155,6 +155,7 @@ impl<T> Row<T> {
         requires of { written.now.of ≡ get_or self.old.names offset 0 }
         ensures value { result.0 ≡ written.now.value }
         ensures empty { result.1.value ≡ None }
+        ensures other { result.1.of ≢ written.now.of }
         ensures names { self.new.names ≡ slice_set self.old.names offset result.1.of }
         ensures same { self.new.at ≡ self.old.at }
     {

@@ -1,5 +1,5 @@
 //! A row of slots with the memory that it lies in.
-ghost use Rattle.std.specs.Prelude.{◌≡◌, ℕ, ◌<◌, List, length, Option, Some, None, get_or, slice_set, IfOk, IsSome};
+ghost use Rattle.std.specs.Prelude.{◌≡◌, ◌≢◌, ℕ, ◌<◌, List, length, Option, Some, None, get_or, slice_set, IfOk, IsSome};
 
 use crate::rights::{Room, Rooms, Written};
 use crate::row::{Deed, Row, Start, allocate, free};
@@ -98,6 +98,7 @@ impl<T, A: Allocator> Slots<T, A> {
         requires of { written.now.of ≡ get_or self.old offset 0 }
         ensures value { result.0 ≡ written.now.value }
         ensures empty { result.1.value ≡ None }
+        ensures other { result.1.of ≢ written.now.of }
         ensures names { self.new ≡ slice_set self.old offset result.1.of }
     {
         self.row.take_out(self.start, offset, written)

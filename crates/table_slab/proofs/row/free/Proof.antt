@@ -1,72 +1,59 @@
 -- The slots are one piece of room again, which goes back with the right to free it. Assumes `Logic`.
 use mathlib.Core.Path.{◌≡◌, refl, sym, ap, subst, ◌∙◌}
-use mathlib.Core.Bool.{true, false}
 use Prim.Native.Nat.{ℕ, ◌*◌, ◌<◌, ◌^◌}
 use native.Mathlib.Omega.{arith}
 use mathlib.Core.List.{List, [], ◌∷◌, ◌++◌}
-use lib.Dec.{T, lit<}
+use lib.Dec.{T}
 use lib.ListN.{length}
 use seplogic.Ra.Ura.{Ura}
-use mir.Syntax.{Fn, Body, named, w64, ty_array, ty_unit}
+use mir.Syntax.{Fn, named, w64, ty_array, ty_unit}
 use mir.MapTy.{inst_fn}
-use mir.Val.{Val, vptr, vint, vunit, vstruct, vcons, vnil, has_ty, WT}
+use mir.Val.{Val, vptr, vint, vunit, has_ty, WT}
 use base.Logic.{SProp, ent, never, id⊢}
 use base.Fml.{Lft, Share, Incl-trans, ftrue, froom, flft}
 use prog.Memory.{Memory, align, capped}
 use prog.Capped.{capped_fits}
 use prog.Routine.{Routine}
-use prog.Wp.{Env, Wp, Calls, Loops, WpFn, Tables, after_seq, at_return}
+use prog.Wp.{Env, Calls, Loops, WpFn, Tables}
 use types.Logic.{Logic}
 use contract.Monad.{Fun, fact}
 use contract.BorrowLft.{◌⊑◌}
 use contract.Running.{tables, tables_of}
 use sound.WpLaws.{WpFn-mono, FmC, fm_of}
-use types.Kit.{Item, ⋆, ‵, raw, ◌⊛◌, some, given, later, await, pick, learn, Post as After, any_q, at_ret, ◌$◌, ◌∵◌, !, qed, by, move, keep, use0, use1, use2, use3, group, split, join, rewrite, fsplit, fsplit3, fjoin, feq_i, feq_l, flt_l, flt_i, suffices, frame, done}
-use types.Part.{whole, sub, agg}
-use types.Match.{live, vrt, in_variant}
-use types.Run.{stop, fld, lit, unit_lit, of_opd, bin, and_then, no_more, first, blocks, exec, returns, enter, size_word, align_word, switches_on}
-use types.ByLocal.{alloc_all, pass_all, free_all, look_at, get, get_in, get_tag, sets, sets_last, is, env, lands_as, lands_last}
+use types.Kit.{Item, ⋆, ‵, raw, ◌⊛◌, given, later, await, learn, at_ret, ◌$◌, ◌∵◌, !, qed, by, move, keep, use1, group, split, join, rewrite, fsplit, fsplit3, fjoin, feq_i, feq_l, flt_l, suffices, done}
+use types.Part.{whole, sub}
+use types.Run.{stop, fld, unit_lit, of_opd, bin, and_then, no_more, first, blocks, exec, returns, enter, size_word, align_word}
+use types.ByLocal.{alloc_all, pass_all, free_all, look_at, get, get_in, sets, is, env, lands_last}
 use denote.Exit.{yes, no}
 use denote.RattleType.{RattleType, owns}
-use denote.Laws.{Is}
 use denote.Memory.{hidden_shr}
-use denote.Param.{layout}
-use denote.RawPtr.{Ptr, block_ptr, ptr_val, in_a_block}
+use denote.RawPtr.{Ptr, ptr_val, in_a_block}
 use denote.Ref.{Bor, ShrRef}
 use denote.Builtin.{RefOf, usize}
 use denote.Signature.{plain}
-use denote.Steps.{nothing, owned}
-use denote.Struct.Struct.{Struct, Struct-Makes}
-use denote.Struct.Declared as Declared
-use denote.Struct.Tuple.{Tuple}
+use denote.Steps.{nothing}
 use denote.Triple.Clauses.{Clauses, Ended, closing}
 use denote.Triple.Entry.{on_entry}
 use denote.Triple.Spec.{Meets, triple_of}
 use denote.Triple.Statement.{Triple}
 use denote.Triple.Table.{entered}
-use denote.Triple.Call.{calls_at, calls_at_last}
-use denote.Triple.Walked.{says, needs, Stays, stay_dropped, walk_of, ends_at, Goes-dropped, walk_Meets}
-use Rattle.std.specs.Prelude.{IfOk, Ok, Err}
+use denote.Triple.Call.{calls_at_last}
+use denote.Triple.Walked.{needs, Stays, stay_dropped, walk_of, ends_at, Goes-dropped, walk_Meets}
 use Rattle.std.specs.Mem.{type_size}
-use Rattle.std.specs.Vec.Ownership.{FitsInBlock}
-use Rattle.core.specs.contracts.result.Result as RS
-use Rattle.core.specs.contracts.alloc.AllocError as AE
 use Rattle.core.proofs.mem.Param.{El, R, elτ}
-use Rattle.core.proofs.alloc.Calls.{Al, second, token, Answer-typed, takes_key, Takes, at_takes, Answered, Takes-goes, Takes-gives, answers, gives_key, Gives, at_gives, Gives-goes, Gives-Gives, Goes-blank}
+use Rattle.core.proofs.alloc.Calls.{Al, second, token, gives_key, Gives, at_gives, Gives-goes, Gives-Gives, Goes-blank}
 use Rattle.core.proofs.slots.Leases.{uncapped, block_ty, block_size, block_align, args, P}
-use Rattle.std_alloc.proofs.RawLayout.{as_raw, as_written}
-use Rattle.std_alloc.proofs.RcSteps.{Good, word-Good, first_Good}
-use Rattle.std_alloc.proofs.ResultValues.{ok_of, err_of}
-use Rattle.std_alloc.proofs.VecSteps.Shapes.{after, head, arm_body}
-use Rattle.table_cell.proofs.Tokens.{InMemory, mark_of_nothing, beside_mark}
-use Rattle.table_slab.specs.Rights.{rooms}
-use Rattle.table_slab.specs.Kept.{row, row_owns, deed_owns}
+use Rattle.std_alloc.proofs.RawLayout.{as_raw}
+use Rattle.std_alloc.proofs.RcSteps.{word-Good}
+use Rattle.std_alloc.proofs.VecSteps.Shapes.{after}
+use Rattle.table_cell.proofs.Tokens.{beside_mark}
+use Rattle.table_slab.specs.Kept.{row_owns, deed_owns}
 use Rattle.table_slab.specs.contracts.rights.Rooms as Rights
 use Rattle.table_slab.specs.contracts.row.Row as Slots
 use Rattle.table_slab.specs.contracts.row.Start as Begin
 use Rattle.table_slab.specs.contracts.row.Deed as Lease
-use Rattle.table_slab.proofs.Made.{token_val, word, word_had, word_made, rooms_made, four_val, four_of}
-use Rattle.table_slab.proofs.Rows.{opened, Opened, closed}
+use Rattle.table_slab.proofs.Made.{token_val, word, word_had}
+use Rattle.table_slab.proofs.Rows.{closed}
 use Rattle.table_slab.specs.contracts.row.free as F
 use Rattle.table_slab.specs.contracts.row.free.Key.{name as #self}
 use Rattle.table_slab.proofs.row.free.Statement as stated

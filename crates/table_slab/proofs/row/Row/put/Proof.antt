@@ -1,64 +1,53 @@
 -- The right goes to work, the value is written and lent, and the right is at rest again.
-use Rattle.std.proofs.Common.{◌≡◌, ℕ, zero, suc, ◌+◌, ◌*◌, ◌^◌, ◌<◌, ◌≤◌, List, [], ◌∷◌, ◌++◌, Bool, sym, refl, ap, ◌∙◌, subst, arith, lit<, true, length, take, drop as drop_of, get_or, w64, take-append-drop, length-take}
-use mir.Syntax.{a_type, dcons, dnil, named}
-use mir.Val.{Val, vunit, vint, vptr, vstruct, vcons, vnil, of_list}
+use Rattle.std.proofs.Common.{◌≡◌, ℕ, ◌+◌, ◌*◌, ◌^◌, ◌<◌, List, [], ◌∷◌, ◌++◌, sym, refl, ◌∙◌, subst, arith, length, get_or, w64}
+use mir.Syntax.{a_type}
+use mir.Val.{Val, vint, vptr}
 use mir.MapTy.{inst_fn}
 use base.Fraction.{full_share}
-use base.Logic.{SProp, ent, sep, wand, emp, via, id⊢, apply∗, all_e, never}
+use base.Logic.{SProp, ent, wand, emp, id⊢, apply∗, never}
 use base.Stored.{gnil, gnum, gcons}
-use base.Fml.{Lft, GName, Share, Fml, Incl-trans, ftrue, fsep, fex, flft, finv, fbor, fobs, fauth, fres, fown, fat, froom}
-use base.Before.{before}
+use base.Fml.{Lft, Share, Fml, Incl-trans, ftrue, fsep, fex, flft, finv, fbor, fobs, fauth, fown, fat}
 use prog.Wp.{WpFn}
 use types.Logic.{sem}
-use types.Kit.{Item, mean, ‵, raw, ◌⊛◌, some, given, later, at_ret, any_q, ◌$◌, ◌∵◌, !, qed, by, move, keep, drop, use0, use1, use2, use3, split, split3, join, group, fsplit, fsplit3, fjoin, fjoin3, fpick, fpack, pick, learn, check, show, frame, each, assume, suffices, await, updating, now, rewrite, settle, feq_i, feq_l, flt_l, flt_i, done}
-use types.Run.{stop, fld, load, look, store, addr, lit, unit_lit, of_opd, bin, size_lit, init, assigns_last, no_more, and_then, first, blocks, exec, returns, enter, assigns, store_raw, look_raw}
-use types.ByLocal.{alloc_all, pass_all, free_all, look_at, get, get_in, through, sets, sets_last, lands_as, lands_last, is, env, take_at, give_at}
+use types.Kit.{Item, ‵, raw, ◌⊛◌, some, later, at_ret, ◌$◌, ◌∵◌, !, qed, by, move, keep, drop, use0, use1, use2, use3, split, split3, join, fsplit, fsplit3, fjoin, fpick, fpack, pick, await, rewrite, feq_l, flt_l}
+use types.Run.{stop, fld, of_opd, bin, size_lit, init, assigns_last, no_more, and_then, first, blocks, exec, returns, enter}
+use types.ByLocal.{alloc_all, pass_all, free_all, look_at, get, get_in, through, sets, env, take_at, give_at}
 use types.Part.{agg, sub, whole}
-use types.Tokens.{name_new}
 use contract.Running.{tables}
 use contract.Monad.{fact, fact_i}
 use contract.BorrowLft.{◌⊑◌, meet_⊑_left, meet_⊑_right}
 use contract.Shared.{Lends-one}
 use denote.Exit.{yes, no}
-use denote.RattleType.{RattleType, owns, Valss}
-use denote.Signature.{types_at, plain, named_lft}
-use denote.Steps.{nothing, heard, peeks, opens, closes}
-use denote.Opens.{hide, unhide}
-use denote.Laws.{Is, Typed, shows}
-use denote.Memory.{lone, cell_at, shared_of, mem, part_at}
-use denote.Param.{param, bounded, layouts, layout}
+use denote.RattleType.{RattleType, owns}
+use denote.Signature.{types_at, plain}
+use denote.Steps.{nothing, heard}
+use denote.Opens.{unhide}
+use denote.Param.{param, layouts, layout}
 use denote.Param.Laws.{param_laws}
-use denote.Builtin.{RefOf, RefMutOf, usize}
-use denote.RawPtr.{Ptr, block_ptr, in_a_block}
-use denote.Ref.{ShrRef, shr_vals, shr_Tells}
-use denote.Struct.Tuple.{Tuple}
-use denote.Triple.Walked.{Stays, stay_dropped, stay_ref, walk_of, Goes-dropped, Goes-ref}
-use Rattle.std.proofs.raw_atomic.Walks.{proved, proved_at, leaves}
-use Rattle.core.proofs.atomic.Steps.{tail}
+use denote.Builtin.{RefOf, usize}
+use denote.RawPtr.{Ptr, in_a_block}
+use denote.Triple.Walked.{Stays, stay_dropped, walk_of, Goes-dropped}
+use Rattle.std.proofs.raw_atomic.Walks.{proved_at, leaves}
 use Rattle.core.proofs.cell.Inside.{Good, one}
 use Rattle.core.specs.declared.option.Option.{Option}
 use Rattle.core.specs.declared.option.Option.TheVariants.{None, Some}
-use Rattle.std.specs.Prelude.{IsSome}
-use native.Mathlib.Nat.{zero-mul}
-use lib.ListN.{set}
 use types.Kit.{⋆}
-use types.Tokens.{name_agree, name_set, res_agree, bor_open, obor_close}
+use types.Tokens.{name_agree, name_set, bor_open, obor_close}
 use borrow.Table.OneValue.{part_in}
 use denote.Memory.{hidden_shr}
 use Rattle.std.specs.Coded.{coded_option}
 use Rattle.core.specs.Mem.{type_size}
 use Rattle.core.proofs.ptr.Rows.{times_below, one_below}
-use Rattle.std_alloc.proofs.RawLayout.{as_raw, as_written}
+use Rattle.std_alloc.proofs.RawLayout.{as_written}
 use Rattle.std_alloc.proofs.RcSteps.{word-Good}
 use Rattle.std_alloc.proofs.VecSteps.Shapes.{after}
-use Rattle.table_slab.specs.Rights.{once, mark, room, written}
-use Rattle.table_slab.specs.Kept.{Stage, Turn, Lies, place, codes, sign, told, named as named_slot, Value, mine, Cell, kept, shared_at, shared_row, fit, row, rests, resting, row_owns, row_shares}
+use Rattle.table_slab.specs.Rights.{once, mark, room}
+use Rattle.table_slab.specs.Kept.{place, codes, Value, mine, Cell, shared_at, row_shares}
 use Rattle.table_slab.specs.contracts.rights.Room as Room
-use Rattle.table_slab.specs.contracts.rights.Written as Written
 use Rattle.table_slab.specs.contracts.row.Row as Row
 use Rattle.table_slab.specs.contracts.row.Start as Start
-use Rattle.table_slab.proofs.Made.{token_val, pair_in, room_made, room_told, set_of, beside_token, word, word_had}
-use Rattle.table_slab.proofs.Rows.{slot_seen, slot_out, slot_new, value_out, Back}
+use Rattle.table_slab.proofs.Made.{token_val, room_made, room_told, word, word_had}
+use Rattle.table_slab.proofs.Rows.{slot_seen}
 use Rattle.table_slab.proofs.Steps as steps
 use Rattle.table_slab.specs.contracts.row.Row.put.{ended, clauses}
 use Rattle.table_slab.specs.contracts.row.Row.put.Key.{name as #self}

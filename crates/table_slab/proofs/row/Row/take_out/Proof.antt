@@ -1,67 +1,53 @@
 -- Nobody shares the row: the value is read, and its place is a slot under a new name.
-use Rattle.std.proofs.Common.{◌≡◌, ℕ, zero, suc, ◌+◌, ◌*◌, ◌^◌, ◌<◌, ◌≤◌, List, [], ◌∷◌, ◌++◌, Bool, sym, refl, ap, ◌∙◌, subst, arith, lit<, true, length, take, drop as drop_of, get_or, w64, take-append-drop, length-take}
-use mir.Syntax.{a_type, dcons, dnil, named}
+use Rattle.std.proofs.Common.{◌≡◌, ℕ, ◌+◌, ◌*◌, ◌^◌, ◌<◌, List, [], ◌∷◌, ◌++◌, sym, refl, ap, ◌∙◌, subst, arith, length, get_or, w64}
+use mir.Syntax.{a_type}
 use mir.Val.{Val, vunit, vint, vptr, vstruct, vcons, vnil, of_list}
 use mir.MapTy.{inst_fn}
 use base.Fraction.{full_share}
-use base.Logic.{SProp, ent, sep, wand, emp, via, id⊢, apply∗, all_e, never}
+use base.Logic.{SProp, ent, wand, emp, id⊢, apply∗, all_e, never}
 use base.Stored.{gnil, gnum, gcons}
-use base.Fml.{Lft, GName, Share, Fml, Incl-trans, ftrue, fsep, fex, flft, finv, fbor, fobs, fauth, fres, fown, fat, froom}
-use base.Before.{before}
+use base.Fml.{Lft, Share, Fml, ftrue, fsep, flft, fbor, fobs, fauth, fres, fat, froom}
 use prog.Wp.{WpFn}
 use types.Logic.{sem}
-use types.Kit.{Item, mean, ‵, raw, ◌⊛◌, some, given, later, at_ret, any_q, ◌$◌, ◌∵◌, !, qed, by, move, keep, drop, use0, use1, use2, use3, split, split3, join, group, fsplit, fsplit3, fjoin, fjoin3, fpick, fpack, pick, learn, check, show, frame, each, assume, suffices, await, updating, now, rewrite, settle, feq_i, feq_l, flt_l, flt_i, done}
-use types.Run.{stop, fld, load, look, store, addr, lit, unit_lit, of_opd, bin, size_lit, init, assigns_last, no_more, and_then, first, blocks, exec, returns, enter, assigns, store_raw, look_raw}
-use types.ByLocal.{alloc_all, pass_all, free_all, look_at, get, get_in, through, sets, sets_last, lands_as, lands_last, is, env, take_at, give_at}
+use types.Kit.{fpack, Item, ‵, raw, ◌⊛◌, some, given, later, at_ret, ◌$◌, ◌∵◌, !, qed, by, move, keep, drop, use0, use1, use2, split, join, fsplit, fsplit3, fjoin, fjoin3, fpick, pick, learn, await, rewrite, feq_i, feq_l, flt_l, flt_i}
+use types.Run.{stop, fld, load, look, of_opd, bin, size_lit, no_more, and_then, first, blocks, exec, returns, enter}
+use types.ByLocal.{alloc_all, pass_all, free_all, look_at, get, get_in, through, sets, sets_last, env, take_at, give_at}
 use types.Part.{agg, sub, whole}
-use types.Tokens.{name_new}
 use contract.Running.{tables}
 use contract.Monad.{fact, fact_i}
-use contract.BorrowLft.{◌⊑◌, meet_⊑_left, meet_⊑_right}
-use contract.Shared.{Lends-one}
 use denote.Exit.{yes, no}
-use denote.RattleType.{RattleType, owns, Valss}
-use denote.Signature.{types_at, plain, named_lft}
-use denote.Steps.{nothing, heard, peeks, opens, closes}
-use denote.Opens.{hide, unhide}
-use denote.Laws.{Is, Typed, shows}
-use denote.Memory.{lone, cell_at, shared_of, mem, part_at}
-use denote.Param.{param, bounded, layouts, layout}
+use denote.RattleType.{RattleType, owns}
+use denote.Signature.{types_at, plain}
+use denote.Steps.{nothing, heard, opens, closes}
+use denote.Opens.{unhide}
+use denote.Memory.{mem}
+use denote.Param.{param, layouts, layout}
 use denote.Param.Laws.{param_laws}
-use denote.Builtin.{RefOf, RefMutOf, usize}
-use denote.RawPtr.{Ptr, block_ptr, in_a_block}
-use denote.Ref.{ShrRef, shr_vals, shr_Tells}
+use denote.Builtin.{RefOf, usize}
+use denote.RawPtr.{Ptr, in_a_block}
 use denote.Struct.Tuple.{Tuple}
 use denote.Triple.Walked.{Stays, stay_dropped, stay_ref, walk_of, Goes-dropped, Goes-ref}
-use Rattle.std.proofs.raw_atomic.Walks.{proved, proved_at, leaves}
-use Rattle.core.proofs.atomic.Steps.{tail}
-use Rattle.core.proofs.cell.Inside.{Good, one}
+use Rattle.std.proofs.raw_atomic.Walks.{proved_at, leaves}
+use Rattle.core.proofs.cell.Inside.{Good}
 use Rattle.core.specs.declared.option.Option.{Option}
 use Rattle.core.specs.declared.option.Option.TheVariants.{None, Some}
-use Rattle.std.specs.Prelude.{IsSome}
-use native.Mathlib.Nat.{zero-mul}
 use lib.ListN.{set, length-set}
-use types.Kit.{⋆}
-use types.Tokens.{name_agree, name_set, res_agree, bor_open, obor_close}
-use borrow.Table.OneValue.{part_in}
-use denote.Memory.{hidden_shr}
-use Rattle.std.specs.Coded.{coded_option}
+use types.Kit.{fpack, ⋆}
 use Rattle.core.specs.Mem.{type_size}
 use Rattle.core.proofs.ptr.Rows.{times_below, one_below}
-use Rattle.std_alloc.proofs.RawLayout.{as_raw, as_written}
+use Rattle.std_alloc.proofs.RawLayout.{as_raw}
 use Rattle.std_alloc.proofs.RcSteps.{word-Good}
 use Rattle.std_alloc.proofs.VecSteps.Shapes.{after}
-use Rattle.table_slab.specs.Rights.{once, mark, room, written}
-use Rattle.table_slab.specs.Kept.{Phase, idle, out, held, full, Stage, Turn, Lies, place, codes, sign, told, named as named_slot, Value, mine, Cell, kept, shared_at, shared_row, fit, row, rests, resting, row_owns, row_shares}
+use Rattle.table_slab.specs.Rights.{mark, room, written}
+use Rattle.table_slab.specs.Kept.{Phase, idle, out, held, full, Lies, place, codes, sign, row, resting, row_owns}
 use Rattle.table_slab.specs.contracts.rights.Room as Room
 use Rattle.table_slab.specs.contracts.rights.Written as Written
 use Rattle.table_slab.specs.contracts.row.Row as Row
 use Rattle.table_slab.specs.contracts.row.Start as Start
-use Rattle.table_slab.proofs.Made.{token_val, pair_in, room_made, room_told, set_of, beside_token, word, word_had}
-use Rattle.table_slab.proofs.Rows.{slot_seen, slot_out, slot_new, value_out, Back}
-use Rattle.table_slab.proofs.Steps as steps
+use Rattle.table_slab.proofs.Made.{token_val, pair_in, room_made, beside_token, word, word_had}
+use Rattle.table_slab.proofs.Rows.{slot_out, slot_new, value_out, Back}
 use types.SemTy.{Body}
-use Rattle.table_slab.proofs.Tokens.{first as first_of, rest as rest_of}
+use Rattle.table_slab.proofs.Tokens.{room_beside, first as first_of, rest as rest_of}
 use Rattle.table_slab.specs.contracts.row.Row.take_out.{ended, clauses}
 use Rattle.table_slab.specs.contracts.row.Row.take_out.Key.{name as #self}
 use Rattle.table_slab.proofs.row.Row.take_out.Statement.{statement}
@@ -114,7 +100,10 @@ take_out_spec 𝓤 𝓛 𝓜 𝓡 wired T L =
     sets ! (bin ! (get_in ! (fld ! refl (stop !)) (sub ! 0 refl (whole !))) (get ! refl) tt) refl (tt, tt) $
     sets_last ! (of_opd ! (load ! (through ! refl (stop !)) (look ! 0 refl))) refl good $ exec ! 𝓣.C 𝓣.Λ Ev (after 1 fn.body) (at_ret Ev Post) $ sets ! (of_opd ! (get ! refl)) refl good $
     use1 𝓛 (‵ (froom (layout T) b at)) (𝓛.laws.at_room (layout T) b at w) $ as_raw ! (layout T) b at $
-    use1 𝓛 (later (some (λ (δ : ℕ). ‵ (resting R δ b at) ⊛ ‵ (room R δ None)))) (slot_new R 𝓛 b at) $ await ! tt $ pick ! (λ δ. split ! $ let δs : List ℕ = set γs i δ in let new : Rw.Denot = record { marker = d.marker; at = d.at; names = δs } in
+    use1 𝓛 (later (some (λ (δ : ℕ). ‵ (resting R δ b at) ⊛ ‵ (room R δ None)))) (slot_new R 𝓛 b at) $ await ! tt $ pick ! (λ δ. split ! $
+    -- [the slot; its right; the value; the way back; the mark; the row's cell; open; obs; auth; the others; what is known]
+    move ! (10 ∷ []) $ fpack ! ℕ (λ (k : ℕ). fres γ (mark R k (Some x))) ε $ move ! (2 ∷ 0 ∷ []) $ use2 𝓛 (given (δ ≡ γ → ⊥) (‵ (room R δ None) ⊛ ‵ (written R γ x))) (room_beside 𝓛 R γ δ x) $ learn ! (λ apart. split ! $
+    move ! (2 ∷ 0 ∷ 3 ∷ 4 ∷ 5 ∷ 6 ∷ 7 ∷ 8 ∷ 9 ∷ 10 ∷ []) $ let δs : List ℕ = set γs i δ in let new : Rw.Denot = record { marker = d.marker; at = d.at; names = δs } in
     let Rests : SProp 𝓤 = sem 𝓛 (resting R δ b at) in let Put : SProp 𝓤 = sem 𝓛 (row R b o δs) in
     -- [the slot; its right; the value; the way back; the mark; the row's cell; open; obs; auth; the others]
     move ! (3 ∷ []) $ use1 𝓛 (raw (wand 𝓤 Rests Put)) (all_e 𝓤 (λ (k : ℕ). wand 𝓤 (sem 𝓛 (resting R k b at)) (sem 𝓛 (row R b o (set γs i k)))) δ) $ move ! (1 ∷ 0 ∷ []) $ use2 𝓛 (‵ (row R b o δs)) (apply∗ 𝓤 Rests Put) $
@@ -123,13 +112,13 @@ take_out_spec 𝓤 𝓛 𝓜 𝓡 wired T L =
     move ! (3 ∷ 0 ∷ []) $ fjoin ! $ move ! (3 ∷ 0 ∷ 4 ∷ 5 ∷ 6 ∷ []) $ closes ! tt Rw new vs rb ro $
     -- [obs; the borrow; the token; the right; the value; the others]
     let made : Rm.Denot = record { marker = record {}; of = δ; value = None } in let pair : Val = vstruct (vcons w (vcons token_val vnil)) in
-    let Same : Type 0 = d.at ≡ d.at in let Names : Type 0 = δs ≡ δs in let Told : Type 0 = mathlib.Core.Path.Path (Option T.Denot) None None in let Value_is : Type 0 = x ≡ x in
+    let Other : Type 0 = δ ≡ told_by.of → ⊥ in let Same : Type 0 = d.at ≡ d.at in let Names : Type 0 = δs ≡ δs in let Told : Type 0 = mathlib.Core.Path.Path (Option T.Denot) None None in let Value_is : Type 0 = x ≡ x in
     let Pair : RattleType = Tuple (R ∷ Rm ∷ []) in let tok : Good (layout Rm) token_val = (tt, (tt, tt)) in let both : Good (layout Pair) pair = (beside_token (mir.Val.has_ty (layout T) w) good.0, (good.1, ((tt, tt), tt))) in
     move ! (3 ∷ []) $ use1 𝓛 (‵ (Rm.own_val made (token_val ∷ []))) (room_made 𝓛 R δ None) $ move ! (4 ∷ 0 ∷ []) $ pair_in R Rm ! x made w token_val $
     sets ! (agg ! (no_more !)) refl (tt, tt) $ sets ! (agg ! (and_then ! (get ! refl) (no_more !))) refl tok $ sets ! (of_opd ! (get ! refl)) refl good $
     sets ! (agg ! (and_then ! (get ! refl) (and_then ! (get ! refl) (no_more !)))) refl both $
     -- [the pair; obs; the borrow; the token; the others]
     move ! (3 ∷ 4 ∷ []) $ join ! $ move ! (2 ∷ 3 ∷ []) $ feq_i ! (List Val) vss.0 (vptr rb ro ∷ []) e0 $ fjoin3 ! $ nothing ! $ nothing ! $ fjoin ! $ nothing ! $ fjoin ! $ nothing ! $ fjoin ! $ move ! (1 ∷ 0 ∷ []) $ fjoin ! $
-    use0 𝓛 (raw (fact 𝓤 Same)) (fact_i 𝓤 Same (emp 𝓤) refl) $ use0 𝓛 (raw (fact 𝓤 Names)) (fact_i 𝓤 Names (emp 𝓤) refl) $ join ! $ use0 𝓛 (raw (fact 𝓤 Told)) (fact_i 𝓤 Told (emp 𝓤) refl) $ join ! $ use0 𝓛 (raw (fact 𝓤 Value_is)) (fact_i 𝓤 Value_is (emp 𝓤) refl) $ join ! $
+    use0 𝓛 (raw (fact 𝓤 Same)) (fact_i 𝓤 Same (emp 𝓤) refl) $ use0 𝓛 (raw (fact 𝓤 Names)) (fact_i 𝓤 Names (emp 𝓤) refl) $ join ! $ use0 𝓛 (raw (fact 𝓤 Other)) (fact_i 𝓤 Other (emp 𝓤) (λ z. apart (z ∙ of))) $ join ! $ use0 𝓛 (raw (fact 𝓤 Told)) (fact_i 𝓤 Told (emp 𝓤) refl) $ join ! $ use0 𝓛 (raw (fact 𝓤 Value_is)) (fact_i 𝓤 Value_is (emp 𝓤) refl) $ join ! $
     -- [the facts; the row behind its `&mut`; the tokens; the pair]
-    returns ! (look_at ! 0 refl) $ free_all ! refl $ keep ! (2 ∷ 1 ∷ 3 ∷ 0 ∷ []) $ by ! (leaves 𝓛 En hs c y pair (x, made) (new, (tt, (tt, (tt, tt)))) (tt, (tt, (tt, (tt, tt))))))))))))))))))))))))))
+    returns ! (look_at ! 0 refl) $ free_all ! refl $ keep ! (2 ∷ 1 ∷ 3 ∷ 0 ∷ []) $ by ! (leaves 𝓛 En hs c y pair (x, made) (new, (tt, (tt, (tt, tt)))) (tt, (tt, (tt, (tt, tt)))))))))))))))))))))))))))

@@ -1,0 +1,5 @@
+//! Tests, by who holds the slots.
+mod alone;
+mod counting;
+mod refused;
+mod threads;
