@@ -81,11 +81,22 @@ impl<T> Counter<T> {
             let count = min(most, end - offset);
             let mut offer = taking(&seen, count);
             let mut pen = seen.no_pen();
-            let found = self.word
-                .compare_exchange::<Take, Gains<T>>(offset, offset + count, &mut seen, &mut offer, &mut pen);
+            let found = self
+                .word
+                .compare_exchange::<Take, Gains<T>>(
+                    offset,
+                    offset + count,
+                    &mut seen,
+                    &mut offer,
+                    &mut pen,
+                );
             if found == offset {
                 let rooms = taken(offer.into_gain(), offset, count);
-                return Some(Handed { offset, count, rooms });
+                return Some(Handed {
+                    offset,
+                    count,
+                    rooms,
+                });
             }
         }
         None

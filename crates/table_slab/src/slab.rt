@@ -180,7 +180,10 @@ impl<T, A: Low + Copy> Slab<T, A> {
     {
         let Right { site, room } = right;
         let (place, offset) = where_is(self.bits, number);
-        let room = self.chunk(place, &site).slots().put(offset as usize, room, value);
+        let room = self
+            .chunk(place, &site)
+            .slots()
+            .put(offset as usize, room, value);
         Right { site, room }
     }
 
@@ -205,7 +208,9 @@ impl<T, A: Low + Copy> Slab<T, A> {
         ensures { result.now ≡ standing.now.written.value }
     {
         let (place, offset) = where_is(self.bits, number);
-        self.chunk(place, &standing.site).slots().get(offset as usize, &standing.written)
+        self.chunk(place, &standing.site)
+            .slots()
+            .get(offset as usize, &standing.written)
     }
 }
 

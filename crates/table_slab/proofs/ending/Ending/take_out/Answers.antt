@@ -50,6 +50,7 @@ returns-clause-slab g c = let is : c.replace-cell.result ≡ slice_index_or c.se
     let opens = subst (λ (xs : List ℕ). Opens c.replace-cell.result xs c.opened-slots.result.slots) c.opened-slots.ensures.site.1 c.opened-slots.ensures.slots in let left = subst (λ (v : EndView). IsLeft v c.args.number) (sym c.self.view_is) c.requires.left in
     let o : Owned g.row.T.Denot g.row.A.Denot = record { slots = c.take_out-value.new.self; site = c.opened-slots.result.site } in
     ap (λ (ns : List ℕ). the_slab c.self.inside.bits ns) (still_named g.row.T.Denot g.row.A.Denot c.self.inside.alloc c.self.inside.closed.id c.self.inside.bits c.self.inside.cells.items c.where_is-place.result.0 c.replace-cell.result f.within is c.args.standing.now.site.value c.opened-slots.result.slots opens o c.take_out-value.result.1.of c.where_is-place.result.1 c.opened-slots.ensures.site.1 (c.opened-slots.ensures.site.0 ∙ sym f.of) c.take_out-value.ensures.names) ∙ ap (λ (v : EndView). v.slab) c.self.view_is
+
 pub returns-clause-others : goal.returns-clause-others
 returns-clause-others g c = let is : c.replace-cell.result ≡ slice_index_or c.self.inside.cells.items c.where_is-place.result.0 c.replace-cell.result = subst (λ (x : Cell g.row.T.Denot g.row.A.Denot). x ≡ slice_index_or c.self.inside.cells.items c.where_is-place.result.0 x) (sym c.replace-cell.ensures.value) c.index_mut-spot.ensures.value in
     let f = found g.row.T.Denot g.row.A.Denot c.self.inside.alloc c.self.inside.closed.id c.self.inside.bits c.self.inside.cells.items c.args.self.now c.self.invariant c.self.view_is c.requires.number c.replace-cell.result c.where_is-place.ensures is in
