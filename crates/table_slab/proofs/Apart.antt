@@ -5,7 +5,7 @@ use Rattle.std.proofs.lemmas.Bool.{cases_eq}
 use seplogic.Ra.Ura.{Ura}
 use base.Logic.{SProp, ent, sep, emp, via, never, never_e}
 use types.Logic.{Logic, sem}
-use types.Kit.{‵, raw, ◌⊛◌, ◌$◌, ◌∵◌, !, qed, by, move, use0, rewrite, done}
+use types.Kit.{‵, raw, ◌$◌, ◌∵◌, !, qed, by, move, use0, rewrite, done}
 use contract.Monad.{fact, fact_i}
 use denote.RattleType.{RattleType}
 use denote.Struct.Struct.{Struct}

@@ -1,9 +1,8 @@
 -- What is next in a run, and what is left of it.
-use Rattle.std.proofs.Common.{◌≡◌, ℕ, zero, suc, ◌+◌, ◌-◌, ◌<◌, ◌≤◌, List, [], ◌∷◌, length, take, drop, refl, sym, ap, ◌∙◌, subst, arith, slice_index_or}
+use Rattle.std.proofs.Common.{◌≡◌, ℕ, zero, suc, ◌+◌, ◌-◌, ◌<◌, ◌≤◌, List, ◌∷◌, length, take, drop, sym, ap, ◌∙◌, subst, arith, slice_index_or}
 use Rattle.std.specs.Prelude.{Some, unwrap_or}
 use Rattle.std.proofs.Math.Seq.{drop-cons}
 use Rattle.table_slab.specs.Counting.{part}
-use Rattle.table_slab.specs.Numbering.{chunk_len, IsAt}
 use Rattle.table_slab.specs.Slabs.{SlabView, id_at, IsSlot}
 use Rattle.table_slab.specs.Runs.{AreNext}
 use Rattle.table_slab.specs.declared.run.Run.{Run}

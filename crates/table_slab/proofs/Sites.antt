@@ -1,5 +1,5 @@
 -- What is known of a word, as a value that has no bytes. Assumes `Logic`.
-use Rattle.std.proofs.Common.{◌≡◌, ℕ, ◌⊎◌, inl, inr, List, [], ◌∷◌, refl, sym, ap}
+use Rattle.std.proofs.Common.{◌≡◌, ℕ, ◌⊎◌, inl, inr, [], ◌∷◌, refl, sym, ap}
 use Rattle.std.proofs.lemmas.Bool.{cases_eq}
 use seplogic.Ra.Ura.{Ura}
 use mir.Val.{vstruct, vnil}

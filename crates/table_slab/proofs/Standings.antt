@@ -10,10 +10,10 @@ use base.Logic.{SProp, ent, sep, never}
 use base.Fml.{Fml}
 use contract.Monad.{fact}
 use types.Logic.{Logic, sem}
-use types.Kit.{‵, raw, ◌⊛◌, ◌$◌, ◌∵◌, !, qed, by, move, keep, use1, use2, split, fsplit, fjoin, done}
+use types.Kit.{‵, ◌⊛◌, ◌$◌, ◌∵◌, !, qed, by, move, keep, use1, split, fsplit, fjoin, done}
 use denote.RattleType.{RattleType}
 use Rattle.table_cell.specs.Notes.{learnt}
-use Rattle.table_slab.specs.Rights.{room, written}
+use Rattle.table_slab.specs.Rights.{written}
 use Rattle.table_slab.specs.Standing.{right, standing}
 use Rattle.table_slab.proofs.Tokens.{room_publishes, written_twice, written_agree, rooms_differ}
 use Rattle.table_slab.proofs.Sites.{learnt_twice}

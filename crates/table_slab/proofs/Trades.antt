@@ -1,16 +1,16 @@
 -- What the step trades that takes slots of a counter. Assumes `Logic`.
-use Rattle.std.proofs.Common.{◌≡◌, ℕ, zero, suc, ◌+◌, ◌<◌, List, [], ◌∷◌, ◌++◌, length, take, drop as drop_of, inl, inr, refl, sym, subst, ap, ◌∙◌, arith, take-append-drop}
-use Rattle.std.specs.Prelude.{Option, Some, None}
+use Rattle.std.proofs.Common.{◌≡◌, ℕ, zero, suc, ◌+◌, List, [], ◌∷◌, ◌++◌, take, drop as drop_of, inl, inr, refl, sym, subst, ap, ◌∙◌, arith, take-append-drop}
+use Rattle.std.specs.Prelude.{None}
 use seplogic.Ra.Ura.{Ura}
 use base.Logic.{SProp, ent, sep, wand, all, upd, upd_i, emp}
-use base.Fml.{Fml, ftrue, fsep}
+use base.Fml.{Fml}
 use base.Shift.{Keyless}
 use types.Logic.{Logic, sem}
 use types.Kit.{‵, ◌$◌, ◌∵◌, !, qed, by, move, each, assume, suffices, done, use1, split, ◌⊛◌}
 use denote.RattleType.{RattleType}
 use denote.Steps.{nothing}
 use Rattle.logbook.specs.Kept.{offer_owns}
-use Rattle.table_slab.specs.Rights.{room, rooms}
+use Rattle.table_slab.specs.Rights.{rooms}
 use Rattle.table_slab.specs.declared.counter.rule.Taken.{Taken}
 use Rattle.table_slab.specs.Counting.{total, part, Moved, left, gained}
 use Rattle.table_slab.proofs.Tokens.{rooms_split}

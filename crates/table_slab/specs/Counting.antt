@@ -1,5 +1,5 @@
 -- A counter's word is how many slots were handed out. The rights that are left are kept beside its log.
-use Rattle.std.specs.Prelude.{◌≡◌, ℕ, zero, suc, ◌+◌, ◌≤◌, ◌<◌, ◌⊎◌, ◌++◌, ◌==◌, true, List, [], ◌∷◌, length, take, drop, Some, MatchBool}
+use Rattle.std.specs.Prelude.{◌≡◌, ℕ, zero, suc, ◌+◌, ◌⊎◌, ◌++◌, ◌==◌, true, List, [], ◌∷◌, take, drop, Some, MatchBool}
 use base.Fml.{Fml, ftrue}
 use denote.RattleType.{RattleType}
 use Rattle.logbook.specs.Pages.{Cell, Step, View, Book, Named}

@@ -1,4 +1,3 @@
-use Rattle.std.proofs.Common.{◌≡◌, sym}
 use Rattle.table_slab.proofs.Seats.{first_cell, rest_cells}
 use Rattle.table_slab.proofs.ending.free_chunks.Goals as goal
 

@@ -1,27 +1,20 @@
 -- Two rights that are there at once are of different slots.
-use Rattle.std.proofs.Common.{◌≡◌, ℕ, List, [], ◌∷◌, ◌++◌, refl, sym, subst}
+use Rattle.std.proofs.Common.{◌≡◌, List, [], ◌∷◌, ◌++◌, refl, sym, subst}
 use mir.Syntax.{a_type}
 use mir.Val.{Val, vptr, vunit}
 use mir.MapTy.{inst_fn}
-use base.Logic.{SProp, ent, emp, id⊢}
+use base.Logic.{SProp, ent, id⊢}
 use base.Fml.{Lft, Share, Fml, ftrue, fsep, flft}
 use prog.Wp.{WpFn}
-use types.Logic.{sem}
-use types.Kit.{split3, ‵, raw, ◌⊛◌, later, ◌$◌, ◌∵◌, !, qed, by, move, keep, drop, split, join, fsplit, fsplit3, fjoin, suffices, use0, use1, use2, await, rewrite, feq_i}
-use types.Run.{of_opd, unit_lit, no_more, and_then, returns, enter}
-use types.ByLocal.{alloc_all, pass_all, free_all, look_at, get, sets}
-use types.Part.{agg}
+use types.Kit.{split3, ‵, raw, ◌⊛◌, later, ◌$◌, ◌∵◌, !, qed, by, move, keep, split, join, fsplit3, fjoin, suffices, use1, use2, await, feq_i}
+use types.Run.{of_opd, unit_lit, returns, enter}
+use types.ByLocal.{alloc_all, pass_all, free_all, look_at, sets}
 use contract.Monad.{fact, fact_mono}
-use contract.BorrowLft.{◌⊑◌}
 use contract.Running.{tables}
-use denote.Exit.{no}
 use denote.RattleType.{RattleType, owns}
 use denote.Signature.{types_at, plain}
-use denote.Steps.{nothing, heard}
-use denote.Param.{param, layout, layouts}
-use denote.Param.Laws.{param_laws}
-use denote.Triple.Walked.{Stays, stay_dropped, walk_of, Goes-dropped, stay_ref, Goes-ref}
-use Rattle.core.proofs.cell.Inside.{one}
+use denote.Param.{param, layouts}
+use denote.Triple.Walked.{Stays, walk_of, stay_ref, Goes-ref}
 use Rattle.std.proofs.raw_atomic.Walks.{proved_at, leaves}
 use Rattle.table_cell.proofs.Ajar as behind
 use Rattle.table_slab.specs.Rights.{room}

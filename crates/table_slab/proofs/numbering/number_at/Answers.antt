@@ -1,6 +1,5 @@
-use Rattle.std.proofs.Common.{◌≡◌, ℕ, ◌+◌, ◌^◌, ◌<◌, ◌*◌, ◌≤◌, arith}
-use Rattle.table_slab.specs.Numbering.{chunk_len, IsAt}
-use Rattle.table_slab.proofs.Places.{pow_upto, number_is_at, few_numbers}
+use Rattle.std.proofs.Common.{◌+◌, ◌≤◌, arith}
+use Rattle.table_slab.proofs.Places.{pow_upto, number_is_at}
 use Rattle.table_slab.proofs.numbering.number_at.Goals as goal
 
 pub overflow_sub-result : goal.overflow_sub-result

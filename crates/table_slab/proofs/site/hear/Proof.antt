@@ -6,11 +6,9 @@ use mir.MapTy.{inst_fn}
 use base.Logic.{SProp, ent, emp, id⊢}
 use base.Fml.{Lft, Share, Fml, ftrue, fsep, flft}
 use prog.Wp.{WpFn}
-use types.Logic.{sem}
-use types.Kit.{‵, raw, ◌⊛◌, later, ◌$◌, ◌∵◌, !, qed, by, move, keep, drop, split, join, fsplit, fsplit3, fjoin, suffices, use0, use1, use2, await, rewrite, feq_i}
-use types.Run.{of_opd, unit_lit, no_more, and_then, returns, enter}
-use types.ByLocal.{alloc_all, pass_all, free_all, look_at, get, sets}
-use types.Part.{agg}
+use types.Kit.{‵, raw, ◌⊛◌, later, ◌$◌, ◌∵◌, !, qed, by, move, keep, drop, split, join, fsplit, fsplit3, fjoin, suffices, use0, use2, await, rewrite, feq_i}
+use types.Run.{of_opd, unit_lit, returns, enter}
+use types.ByLocal.{alloc_all, pass_all, free_all, look_at, sets}
 use contract.Monad.{fact, fact_i}
 use contract.BorrowLft.{◌⊑◌}
 use contract.Running.{tables}
@@ -30,8 +28,6 @@ use Rattle.table_cell.proofs.Ajar as behind
 use Rattle.table_cell.proofs.Notes as notes
 use Rattle.table_cell.proofs.Notes.{Note}
 use Rattle.table_slab.specs.contracts.site.Site as Site
-use Rattle.table_slab.proofs.Made.{token_val}
-use Rattle.table_slab.proofs.Sites.{learnt_twice, site_made}
 use Rattle.table_slab.proofs.site.Site.TheLaws as site_laws
 use Rattle.table_slab.specs.contracts.site.hear.{ended, clauses}
 use Rattle.table_slab.specs.contracts.site.hear.Key.{name as #self}

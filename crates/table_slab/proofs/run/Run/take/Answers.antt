@@ -1,4 +1,4 @@
-use Rattle.std.proofs.Common.{◌≡◌, ℕ, ◌<◌, ◌+◌, ◌-◌, ◌∷◌, sym, refl, ap, ◌∙◌, arith}
+use Rattle.std.proofs.Common.{◌≡◌, ◌<◌, ◌∷◌, sym, refl, ap, ◌∙◌, arith}
 use Rattle.table_slab.specs.declared.rights.Rooms.{Rooms}
 use Rattle.table_slab.proofs.Places.{few_numbers}
 use Rattle.table_slab.proofs.Runs.{next_slot, next_rest}

@@ -1,44 +1,25 @@
 -- `again` copies what the token knows.
-use Rattle.std.proofs.Common.{◌≡◌, ℕ, zero, suc, ◌+◌, ◌*◌, ◌^◌, ◌<◌, ◌≤◌, List, [], ◌∷◌, ◌++◌, Bool, sym, refl, ap, ◌∙◌, subst, arith, lit<, true, length, take, drop as drop_of, get_or, w64, take-append-drop, length-take}
-use mir.Syntax.{a_type, dcons, dnil, named}
-use mir.Val.{Val, vunit, vint, vptr, vstruct, vcons, vnil, of_list}
+use Rattle.std.proofs.Common.{◌≡◌, ℕ, [], ◌∷◌, refl}
+use mir.Syntax.{a_type, named}
+use mir.Val.{Val, vptr}
 use mir.MapTy.{inst_fn}
-use base.Fraction.{full_share}
-use base.Logic.{SProp, ent, sep, wand, emp, via, id⊢, apply∗, all_e, never}
-use base.Stored.{gnil, gnum, gcons}
-use base.Fml.{Lft, GName, Share, Fml, Incl-trans, ftrue, fsep, fex, flft, finv, fbor, fobs, fauth, fres, fown, fat, froom}
-use base.Before.{before}
-use prog.Wp.{WpFn}
-use types.Logic.{sem}
-use types.Kit.{Item, mean, ‵, raw, ◌⊛◌, some, given, later, at_ret, any_q, ◌$◌, ◌∵◌, !, qed, by, move, keep, drop, use0, use1, use2, use3, split, split3, join, group, fsplit, fsplit3, fjoin, fjoin3, fpick, fpack, pick, learn, check, show, frame, each, assume, suffices, await, updating, now, rewrite, settle, feq_i, feq_l, flt_l, flt_i, done}
-use types.Run.{stop, fld, load, look, store, addr, lit, unit_lit, of_opd, bin, size_lit, init, assigns_last, no_more, and_then, first, blocks, exec, returns, enter, assigns, store_raw, look_raw}
-use types.ByLocal.{alloc_all, pass_all, free_all, look_at, get, get_in, through, sets, sets_last, lands_as, lands_last, is, env, take_at, give_at}
-use types.Part.{agg, sub, whole}
-use types.Tokens.{name_new}
+use base.Logic.{SProp, emp}
+use types.Kit.{‵, raw, ◌⊛◌, ◌$◌, ◌∵◌, !, qed, by, keep, drop, use0, use1, split, fsplit, fjoin}
+use types.Run.{no_more, and_then, returns, enter}
+use types.ByLocal.{alloc_all, pass_all, free_all, look_at, get, sets}
+use types.Part.{agg}
 use contract.Running.{tables}
 use contract.Monad.{fact, fact_i}
-use contract.BorrowLft.{◌⊑◌, meet_⊑_left, meet_⊑_right}
-use contract.Shared.{Lends-one}
-use denote.Exit.{yes, no}
-use denote.RattleType.{RattleType, owns, Valss}
-use denote.Signature.{types_at, plain, named_lft}
-use denote.Steps.{nothing, heard, peeks, opens, closes}
-use denote.Opens.{hide, unhide}
-use denote.Laws.{Is, Typed, shows}
-use denote.Memory.{lone, cell_at, shared_of, mem, part_at}
-use denote.Param.{param, bounded, layouts, layout}
-use denote.Param.Laws.{param_laws}
-use denote.Builtin.{RefOf, RefMutOf, usize}
-use denote.RawPtr.{Ptr, block_ptr, in_a_block}
-use denote.Ref.{ShrRef, shr_vals, shr_Tells}
-use denote.Struct.Tuple.{Tuple}
-use denote.Triple.Walked.{Stays, stay_dropped, stay_ref, walk_of, Goes-dropped, Goes-ref}
-use Rattle.std.proofs.raw_atomic.Walks.{proved, proved_at, leaves}
-use Rattle.core.proofs.atomic.Steps.{tail}
-use Rattle.core.proofs.cell.Inside.{Good, one}
-use Rattle.core.specs.declared.option.Option.{Option}
-use Rattle.core.specs.declared.option.Option.TheVariants.{None, Some}
-use Rattle.std.specs.Prelude.{IsSome}
+use denote.Exit.{yes}
+use denote.RattleType.{RattleType, owns}
+use denote.Signature.{types_at, plain}
+use denote.Steps.{nothing}
+use denote.Opens.{unhide}
+use denote.Param.{param, layouts}
+use denote.Builtin.{RefOf}
+use denote.Ref.{shr_vals, shr_Tells}
+use denote.Triple.Walked.{Stays, stay_dropped, walk_of, Goes-dropped}
+use Rattle.std.proofs.raw_atomic.Walks.{proved, leaves}
 use Rattle.table_slab.specs.contracts.site.Site as Site
 use Rattle.table_slab.proofs.Made.{token_val}
 use Rattle.table_slab.proofs.Sites.{site_made}

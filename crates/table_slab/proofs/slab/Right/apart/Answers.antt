@@ -1,4 +1,4 @@
-use Rattle.std.proofs.Common.{◌≡◌, ℕ, sym, subst}
+use Rattle.std.proofs.Common.{ℕ, sym, subst}
 use Rattle.table_slab.specs.Held.{IsRightTo}
 use Rattle.table_slab.proofs.Seats.{same_cell, same_name}
 use Rattle.table_slab.proofs.slab.Right.apart.Goals as goal

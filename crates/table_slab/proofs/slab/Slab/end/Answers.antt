@@ -1,4 +1,4 @@
-use Rattle.std.proofs.Common.{◌≡◌, ℕ, List, ap, ◌∙◌}
+use Rattle.std.proofs.Common.{ℕ, List, ap, ◌∙◌}
 use Rattle.table_slab.specs.Slabs.{SlabView}
 use Rattle.table_slab.proofs.Ended.{shared_ending, shared_names, all_left}
 use Rattle.table_slab.proofs.slab.Slab.end.Goals as goal

@@ -1,4 +1,3 @@
-use Rattle.std.proofs.Common.{◌≡◌, ℕ, ◌<◌, length}
 use Rattle.table_slab.proofs.Seats.{slot_there, slot_few}
 use Rattle.table_slab.proofs.slab.Slab.get.Goals as goal
 

@@ -1,4 +1,3 @@
-use Rattle.std.proofs.Common.{◌≡◌}
 use Rattle.table_slab.proofs.Seats.{same_cell, same_name}
 use Rattle.table_slab.proofs.slab.Standing.agree.Goals as goal
 
