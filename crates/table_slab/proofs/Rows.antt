@@ -1,13 +1,15 @@
 -- Slots side by side: one is taken out of the row, put back, or seen, and room for an array is a row of empty slots. Assumes `Logic`.
 --     slot_seen      a `&` to the row has one to each slot
+--     there          what lies in a slot whose value is known for good
 --     slot_out       one slot, and the way back, under whatever name it has then
 --     opened         room becomes a row of empty slots under new names, with the right to each
 --     closed         a row becomes room; what lies in it is forgotten
-use Rattle.std.proofs.Common.{◌≡◌, ℕ, zero, suc, ◌+◌, ◌*◌, ◌<◌, List, [], ◌∷◌, sym, refl, ap, arith, length, get_or}
+use Rattle.std.proofs.Common.{◌∙◌, ◌≡◌, ℕ, zero, suc, ◌+◌, ◌*◌, ◌<◌, List, [], ◌∷◌, sym, refl, ap, arith, length, get_or}
 use native.Mathlib.Nat.{zero-mul, suc-mul}
 use lib.ListN.{set}
 use seplogic.Ra.Ura.{Ura}
 use base.Fraction.{full_share}
+use base.Stored.{gnil, gcons}
 use base.Logic.{SProp, ent, sep, wand, all, all_e, ex, guard, via, apply∗}
 use base.Fml.{Lft, GName, ftrue, fsep, fat, froom, fobs, fown}
 use mir.Syntax.{Ty, ty_array}
@@ -27,7 +29,15 @@ use Rattle.core.specs.declared.option.Option.{Option}
 use Rattle.core.specs.declared.option.Option.TheVariants.{None, Some}
 use Rattle.core.proofs.cell.Inside.{Good}
 use Rattle.table_slab.specs.Rights.{once, mark, room, rooms}
-use Rattle.table_slab.specs.Kept.{idle, Stage, Lies, place, rests, resting, shared_at, row, shared_row}
+use Rattle.table_slab.proofs.Tokens.{first, kind}
+use Rattle.table_slab.specs.Kept.{Phase, idle, out, held, full, sign, Stage, Lies, place, rests, resting, shared_at, row, shared_row}
+
+-- what lies in a slot whose value is known for good
+pub there : (R : RattleType) (x : R.Denot) (v : Option R.Denot) (p : Phase R.Denot) → gcons (R.coded.code x) gnil ≡ sign R p → Lies R v p → v ≡ Some x
+there R x v idle e so = absurd (let z : 2 ≡ 0 = ap kind e in omega arith)
+there R x v out e so = absurd (let z : 2 ≡ 1 = ap kind e in omega arith)
+there R x v (held z) e so = so ∙ ap (λ (u : R.Denot). Some u) (sym (R.coded.inj x z (ap first e)))
+there R x v (full z) e so = so ∙ ap (λ (u : R.Denot). Some u) (sym (R.coded.inj x z (ap first e)))
 
 module _ (R : RattleType) {M : Type 1} {𝓤 : Ura M} (𝓛 : Logic 𝓤) (b : ℕ) where
   open 𝓛 use {H}

@@ -29,12 +29,7 @@ use Rattle.core.specs.declared.option.Option.TheVariants.{None, Some}
 use Rattle.std.specs.Coded.{coded_option}
 use Rattle.table_slab.specs.Rights.{mark, content}
 use Rattle.table_slab.specs.Kept.{Phase, idle, out, held, full, Stage, Turn, place, sign, codes, Value, view, mine, standing, Cell, kept}
-use Rattle.table_slab.proofs.Tokens.{first, rest, number}
-
-abbrev kind : Gv → ℕ
-kind gnil = 0
-kind (gnum n) = 1
-kind (gcons a b) = 2
+use Rattle.table_slab.proofs.Tokens.{first, rest, number, kind}
 
 module _ {M : Type 1} {𝓤 : Ura M} (𝓛 : Logic 𝓤) (R : RattleType) (γ : GName) (t : Turn) (b o : ℕ) where
   open 𝓛 use {H, A}

@@ -34,11 +34,11 @@ number (gnum n) = n
 number gnil = 0
 number (gcons a b) = 0
 
--- how many pairs a ghost value begins with: one or none
-abbrev pairs : Gv → ℕ
-pairs (gcons a b) = 1
-pairs gnil = 0
-pairs (gnum n) = 0
+-- nothing, a number or a pair
+abbrev pub kind : Gv → ℕ
+kind gnil = 0
+kind (gnum n) = 1
+kind (gcons a b) = 2
 
 module _ {M : Type 1} {𝓤 : Ura M} (𝓛 : Logic 𝓤) where
   open 𝓛 use {A}
@@ -72,7 +72,7 @@ module _ {M : Type 1} {𝓤 : Ura M} (𝓛 : Logic 𝓤) where
         by ! (via 𝓤 _ (res_same γ (mark R ε (Some x)) (mark R δ (Some y))) (fact_mono 𝓤 _ (x ≡ y) (same_value ε δ x y)))))
 
     same_content : (v : Option R.Denot) (x : R.Denot) → content R v ≡ content R (Some x) → v ≡ Some x
-    same_content None x e = absurd (let z : 0 ≡ 1 = ap pairs e in omega arith)
+    same_content None x e = absurd (let z : 0 ≡ 2 = ap kind e in omega arith)
     same_content (Some y) x e = ap (λ (u : R.Denot). Some u) (R.coded.inj y x (ap first e))
 
     pub room_agrees : (v : Option R.Denot) (x : R.Denot) → ent 𝓤 (sep 𝓤 (sem 𝓛 (room R γ v)) (sem 𝓛 (written R γ x))) (fact 𝓤 (v ≡ Some x))
@@ -90,7 +90,7 @@ module _ {M : Type 1} {𝓤 : Ura M} (𝓛 : Logic 𝓤) where
         told : Dec (δ ≡ γ) → ent 𝓤 Both (guard 𝓤 (δ ≡ γ → ⊥) Both)
         told (no apart) = guard_i 𝓤 (δ ≡ γ → ⊥) Both apart
         told (yes e) = qed 𝓛 (‵ (room R δ None) ∷ ‵ (written R γ x) ∷ []) ∵ rewrite ! 0 (λ (k : GName). ‵ (room R k None)) e refl $
-            use2 𝓛 (raw (fact 𝓤 (None ≡ Some x))) (room_agrees None x) $ heard ! (None ≡ Some x) (λ z. absurd (let d : 0 ≡ 1 = ap (λ (u : Option R.Denot). pairs (content R u)) z in omega arith))
+            use2 𝓛 (raw (fact 𝓤 (None ≡ Some x))) (room_agrees None x) $ heard ! (None ≡ Some x) (λ z. absurd (let d : 0 ≡ 2 = ap (λ (u : Option R.Denot). kind (content R u)) z in omega arith))
 
   module _ (R : RattleType) where
     pub rooms_split : (γs δs : List GName) → ent 𝓤 (sem 𝓛 (rooms R (γs ++ δs))) (sep 𝓤 (sem 𝓛 (rooms R γs)) (sem 𝓛 (rooms R δs)))

@@ -54,3 +54,13 @@ fn a_value_that_lies_in_a_slot_is_not_dropped(rt: HostRuntime) -> Result<(), Fai
     assert_eq!(rt; drops.load(SeqCst), 1);
     Ok(())
 }
+
+#[test]
+fn a_value_of_no_bytes_has_a_slot(rt: HostRuntime) -> Result<(), Fail> {
+    let (slots, rooms) = Slots::new(rt.alloc(), 3)?;
+    let (room, _others) = rooms.first();
+    let room = slots.put(0, room, ());
+    let ((), _room) = slots.take(0, room);
+    assert_eq!(rt; slots.count(), 3);
+    Ok(())
+}

@@ -39,31 +39,19 @@ use Rattle.std_alloc.proofs.RawLayout.{as_raw}
 use Rattle.std_alloc.proofs.RcSteps.{word-Good}
 use Rattle.std_alloc.proofs.VecSteps.Shapes.{after}
 use Rattle.table_slab.specs.Rights.{mark, room, written}
-use Rattle.table_slab.specs.Kept.{Phase, idle, out, held, full, Lies, place, codes, sign, row, resting, row_owns}
+use Rattle.table_slab.specs.Kept.{place, codes, sign, row, resting, row_owns}
 use Rattle.table_slab.specs.contracts.rights.Room as Room
 use Rattle.table_slab.specs.contracts.rights.Written as Written
 use Rattle.table_slab.specs.contracts.row.Row as Row
 use Rattle.table_slab.specs.contracts.row.Start as Start
 use Rattle.table_slab.proofs.Made.{token_val, pair_in, room_made, beside_token, word, word_had}
-use Rattle.table_slab.proofs.Rows.{slot_out, slot_new, value_out, Back}
+use Rattle.table_slab.proofs.Rows.{there, slot_out, slot_new, value_out, Back}
 use types.SemTy.{Body}
-use Rattle.table_slab.proofs.Tokens.{room_beside, first as first_of, rest as rest_of}
+use Rattle.table_slab.proofs.Tokens.{room_beside, rest as rest_of}
 use Rattle.table_slab.specs.contracts.row.Row.take_out.{ended, clauses}
 use Rattle.table_slab.specs.contracts.row.Row.take_out.Key.{name as #self}
 use Rattle.table_slab.proofs.row.Row.take_out.Statement.{statement}
 use Rattle.table_slab.proofs.row.Row.take_out.Code as code
-
-abbrev kind : base.Stored.Gv → ℕ
-kind gnil = 0
-kind (gnum n) = 1
-kind (gcons a b) = 2
-
--- what lies in a slot whose value is known for good
-there : (R : RattleType) (x : R.Denot) (v : Option R.Denot) (p : Phase R.Denot) → gcons (R.coded.code x) gnil ≡ sign R p → Lies R v p → v ≡ Some x
-there R x v idle e so = absurd (let z : 2 ≡ 0 = ap kind e in omega arith)
-there R x v out e so = absurd (let z : 2 ≡ 1 = ap kind e in omega arith)
-there R x v (held z) e so = so ∙ ap (λ (u : R.Denot). Some u) (sym (R.coded.inj x z (ap first_of e)))
-there R x v (full z) e so = so ∙ ap (λ (u : R.Denot). Some u) (sym (R.coded.inj x z (ap first_of e)))
 
 pub take_out_spec : {M : Type 1} → statement M
 take_out_spec 𝓤 𝓛 𝓜 𝓡 wired T L =
