@@ -47,7 +47,9 @@ fn write_and_end(slab: Slab<u64, Global>, value: u64) -> Option<u64> {
     let mut run = Run::new();
     let (number, right) = slab.number(&mut run, 3).ok()?;
     let standing = slab.put(number, right, value).publish();
-    let mut ending = slab.end().ok()?;
+    let Ok(mut ending) = slab.end() else {
+        return None;
+    };
     Some(ending.take_out(number, &standing))
 }
 
