@@ -47,8 +47,20 @@ fn write_and_end(slab: Slab<u64, Global>, value: u64) -> Option<u64> {
     let mut run = Run::new();
     let (number, right) = slab.number(&mut run, 3).ok()?;
     let standing = slab.put(number, right, value).publish();
-    let mut ending = slab.end().ok()?;
+    let Ok(mut ending) = slab.end() else {
+        return None;
+    };
     Some(ending.take_out(number, &standing))
+}
+
+/// Takes a number of a run and gives the others back. Then it takes a number of another run.
+fn give_back_and_take(slab: &Slab<u64, Global>) -> Option<(u64, u64)> {
+    let mut run = Run::new();
+    let (first, _right) = slab.number(&mut run, 4).ok()?;
+    slab.give_back(run);
+    let mut other = Run::new();
+    let (second, _right) = slab.number(&mut other, 4).ok()?;
+    Some((first, second))
 }
 
 #[test]
@@ -77,5 +89,12 @@ fn a_value_is_taken_back_and_one_is_taken_out(rt: HostRuntime) -> Result<(), Fai
     let slab = Slab::new(rt.alloc(), 2)?;
     assert_eq!(rt; write_and_take_back(&slab, 7), Some(7));
     assert_eq!(rt; write_and_end(slab, 8), Some(8));
+    Ok(())
+}
+
+#[test]
+fn a_number_that_came_back_is_handed_out_again(rt: HostRuntime) -> Result<(), Fail> {
+    let slab = Slab::new(rt.alloc(), 3)?;
+    assert_eq!(rt; give_back_and_take(&slab), Some((0, 1)));
     Ok(())
 }

@@ -21,20 +21,6 @@ fn are_all(taken: [Vec<u64>; 2]) -> bool {
 }
 
 #[test]
-fn two_threads_make_one_chunk(rt: HostRuntime) -> Result<(), Fail> {
-    let slab = Slab::new(rt.alloc(), 3)?;
-    let (shared, alloc) = (&slab, rt.alloc());
-    let (one, other) = join(
-        &rt,
-        move || numbers(shared, alloc, 4),
-        move || numbers(shared, alloc, 4),
-    );
-    assert_eq!(rt; [one.len(), other.len()], [4, 4]);
-    assert!(rt; are_all([one, other]));
-    Ok(())
-}
-
-#[test]
 fn two_threads_take_each_number_once(rt: HostRuntime) -> Result<(), Fail> {
     let slab = Slab::new(rt.alloc(), 0)?;
     let (shared, alloc) = (&slab, rt.alloc());
