@@ -1,0 +1,9 @@
+mod Books
+mod Made
+mod Marks
+mod Trades
+mod Histories
+mod Rows
+mod Steps
+mod Probes
+mod Apart

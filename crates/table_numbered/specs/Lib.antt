@@ -1,0 +1,5 @@
+pub mod Words
+pub mod Probing
+pub mod History
+pub mod Kept
+pub mod Generations
