@@ -7,3 +7,5 @@ mod Rows
 mod Steps
 mod Probes
 mod Apart
+mod Laid
+mod Meetings

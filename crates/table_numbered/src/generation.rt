@@ -2,15 +2,13 @@
 ghost use Rattle.std.specs.Prelude.{◌≡◌, ◌≤◌, ◌<◌, ◌^◌, ℕ, [], ◌∷◌, None, IfOk};
 ghost use Rattle.std.specs.Int.{IsPowerOfTwo};
 ghost use mathlib.Core.List.{IsPrefix};
-ghost use Rattle.table_numbered.specs.Words.{numbered, alike, marked, word_of};
+ghost use Rattle.table_numbered.specs.Words.{numbered, alike, marked};
 ghost use Rattle.table_numbered.specs.History.{event, Stands, Says};
 ghost use Rattle.table_numbered.specs.Generations.{IsOf};
-ghost use Rattle.table_numbered.specs.declared.event.Stored.TheVariants.{Entry};
 
 use crate::bucket::look;
 use crate::rule::{Bucket, SetRule, Token};
 use crate::trade::{Ids, known, start};
-use crate::word::number_of_word;
 use logbook::Word;
 use std::alloc::{AllocError, Allocator};
 use std::marker::Model;
@@ -92,23 +90,19 @@ impl<V, L: SetLaw<V>, A: Allocator> Generation<V, L, A> {
         look(&self.words[index], seen)
     }
 
-    /// Shows the entry that this word of the bucket names.
+    /// Shows the entry of the bucket, which has this number.
     pub(crate) fn entry_at<'a>(
         &self,
         slab: &'a Slab<V, A>,
         seen: &Token<V, L>,
         index: usize,
-        word: u64,
+        number: u64,
     ) -> &'a V
         requires slab { slab.now ≡ self.now.of.names }
         requires of { IsOf L.same L.hash_of self.now.of seen.now.book seen.now.names seen.now.log }
-        requires inside { index < self.now.of.size }
-        requires set { 2 ≤ word }
-        requires says { Says (alike L.same) (marked L.hash_of) index word seen.now.log }
-        ensures stands { (k : ℕ) × Stands seen.now.log index (numbered k result.now)
-            × (word ≡ word_of (marked L.hash_of) (Entry (numbered k result.now))) }
+        requires there { (x : V) × Stands seen.now.log index (numbered number x) }
+        ensures stands { Stands seen.now.log index (numbered number result.now) }
     {
-        let number = number_of_word(word);
         let standing = known(seen, index as u64, number);
         slab.get(number, &standing)
     }

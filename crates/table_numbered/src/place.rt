@@ -76,9 +76,10 @@ impl<V, L: SetLaw<V>, A: Allocator> Generation<V, L, A> {
         if mark_of_word(word) != coming.mark {
             return Claim::Passed(coming);
         }
-        let entry = self.entry_at(slab, seen, index, word);
+        let number = number_of_word(word);
+        let entry = self.entry_at(slab, seen, index, number);
         if L::is_same(&coming.value, entry) {
-            Claim::Met(number_of_word(word), entry, coming)
+            Claim::Met(number, entry, coming)
         } else {
             Claim::Passed(coming)
         }

@@ -66,9 +66,10 @@ impl<V, L: SetLaw<V>, A: Allocator> Generation<V, L, A> {
         if mark_of_word(word) != mark {
             return Meeting::Differs;
         }
-        let entry = self.entry_at(slab, seen, index, word);
+        let number = number_of_word(word);
+        let entry = self.entry_at(slab, seen, index, number);
         if sought.is(entry) {
-            Meeting::Passes(number_of_word(word), entry)
+            Meeting::Passes(number, entry)
         } else {
             Meeting::Differs
         }

@@ -3,7 +3,7 @@ use Rattle.std.proofs.lemmas.Bool.Decides.{nat_tests}
 use Rattle.std.specs.Prelude.{Some}
 use Rattle.table_numbered.specs.declared.event.Stored.TheVariants.{Entry}
 use Rattle.table_numbered.specs.Words.{numbered, alike, marked}
-use Rattle.table_numbered.specs.History.{event, size_of, Fits}
+use Rattle.table_numbered.specs.History.{event}
 use Rattle.table_numbered.proofs.Marks.{alike_lawful}
 use Rattle.table_numbered.proofs.Steps.{publishes_moves, adds_at}
 use Rattle.table_numbered.proofs.bucket.publish.Goals as goal
