@@ -10,7 +10,6 @@ use base.Growing.{prefix_trans}
 use Rattle.table_terms.specs.Laws.{IsLaw}
 use Rattle.table_numbered.specs.Probing.{bucket_at}
 use Rattle.table_numbered.specs.declared.event.Numbered.{Numbered}
-use Rattle.table_slab.specs.Tokens.{IsNumber}
 use Rattle.table_numbered.proofs.Apart.{first_or_other}
 use Rattle.table_numbered.specs.declared.event.Event.{Event}
 use Rattle.table_numbered.specs.declared.event.Stored.{Stored}

@@ -1,8 +1,8 @@
 -- Marks are of 32 bits, and entries are lawful where their values are.
-use Rattle.std.proofs.Common.{◌≡◌, ℕ, ◌+◌, ◌*◌, ◌/◌, ◌%◌, ◌^◌, ◌<◌, Bool, arith, ap}
+use Rattle.std.proofs.Common.{ℕ, ◌*◌, ◌/◌, ◌^◌, ◌<◌, Bool, arith, ap}
 use Rattle.std.proofs.Math.Nat.{mul-lt-mul_of_pos_right}
 use Rattle.table_terms.specs.Laws.{IsLaw}
-use Rattle.table_numbered.specs.Words.{spreading, mark_of, alike, marked}
+use Rattle.table_numbered.specs.Words.{mark_of, alike, marked}
 
 pub mark_small : (h : ℕ) → mark_of h < 2 ^ 32
 unfolding mark_of

@@ -2,17 +2,16 @@
 use Rattle.std.proofs.Common.{◌≡◌, ◌≢◌, ℕ, ◌+◌, ◌*◌, ◌/◌, ◌%◌, ◌^◌, ◌<◌, ◌≤◌, Bool, true, false, Some, refl, ap, sym, subst, ◌∙◌, arith}
 use Rattle.std.specs.Prelude.{Option, None}
 use mathlib.Core.List.{IsPrefix}
-use Rattle.table_slab.specs.Tokens.{IsNumber}
 use Rattle.table_numbered.specs.declared.event.Numbered.{Numbered}
 use Rattle.table_numbered.specs.declared.event.Stored.TheVariants.{Entry}
 use Rattle.table_numbered.specs.declared.place.Claim.{Claim}
 use Rattle.table_numbered.specs.declared.place.Claim.TheVariants as claim
 use Rattle.table_numbered.specs.declared.place.Coming.{Coming}
-use Rattle.table_numbered.specs.Words.{mark_of, numbered, alike, marked, word_of}
-use Rattle.table_numbered.specs.History.{event, History, Stands, Says, IsReached}
+use Rattle.table_numbered.specs.Words.{mark_of, numbered, alike, marked}
+use Rattle.table_numbered.specs.History.{event, History, Stands, Says, IsReached, Adds}
 use Rattle.table_numbered.specs.Generations.{IsComing, Claims}
-use Rattle.table_numbered.proofs.Histories.{false_unless}
-use Rattle.table_numbered.proofs.Steps.{entry_says, number_says, adds_after}
+use Rattle.table_numbered.proofs.Histories.{false_unless, same_value}
+use Rattle.table_numbered.proofs.Steps.{entry_says, number_says, adds_after, added}
 
 abbrev or_value : {X : Type 0} → X → Option X → X
 or_value d (Some x) = x
@@ -60,3 +59,9 @@ module _ {V : Type 0} (same : V → V → Bool) (hash : V → ℕ) where
 
   pub coming_as : (names : Rattle.std.proofs.Common.List ℕ) (v : V) (k : ℕ) (c : Coming V) → IsComing same hash names v k c → IsComing same hash names c.value c.number c
   coming_as names v k c t = subst (λ (z : V × ℕ). IsComing same hash names z.0 z.1 c) (λ i. (sym t.value i, sym t.number i)) t
+
+  -- what is shown of an entry that was placed just now is what was placed
+  pub placed : (p k : ℕ) (e w x v : V) (old new : History (Numbered V)) → e ≡ w → Stands new p (numbered k w) → x ≡ v → Adds (alike same) (marked hash) (Entry (numbered k x)) p old new → (e ≡ v) × Adds (alike same) (marked hash) (Entry (numbered k v)) p old new
+  placed p k e w x v old new shown there is a =
+      let one : w ≡ x = ap (λ (z : Numbered V). z.value) (same_value (alike same) (marked hash) new p (numbered k w) (numbered k x) a.5 there (added (alike same) (marked hash) p (Entry (numbered k x)) old new a)) in
+      (shown ∙ (one ∙ is), subst (λ (u : V). Adds (alike same) (marked hash) (Entry (numbered k u)) p old new) is a)

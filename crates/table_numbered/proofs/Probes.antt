@@ -1,5 +1,5 @@
 -- How far a probe has come, and what its end shows.
-use Rattle.std.proofs.Common.{◌≡◌, ℕ, ◌+◌, ◌<◌, ◌≤◌, ◌^◌, Bool, true, false, sym, subst, ◌∙◌, arith, ap, inl, inr}
+use Rattle.std.proofs.Common.{◌≡◌, ℕ, ◌+◌, ◌<◌, ◌≤◌, Bool, true, false, sym, subst, ◌∙◌, arith, ap, inr}
 use mathlib.Core.List.{IsPrefix}
 use base.Growing.{prefix_trans}
 use Rattle.table_terms.specs.Laws.{IsLaw}
@@ -10,7 +10,6 @@ use Rattle.table_numbered.specs.declared.event.Numbered.{Numbered}
 use Rattle.table_numbered.specs.declared.event.Stored.TheVariants.{Entry, Closed}
 use Rattle.table_numbered.specs.History.{History, Has, Stands, IsFree, IsUntouched, HasSize, IsEntry, NonePasses, HasPassed, Reaches, IsReached, Adds}
 use Rattle.table_numbered.specs.Generations.{IsPlaced, HasRoom, IsSpent}
-use Rattle.table_numbered.proofs.Marks.{alike_lawful}
 use Rattle.table_numbered.proofs.Histories.{size_on, untouched_free, passed_on, passed_more, none_beyond}
 
 -- a probe for this mark is at the bucket `index`, past so many buckets whose entries do not pass the test

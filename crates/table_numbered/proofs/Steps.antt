@@ -1,5 +1,5 @@
 -- What the steps on a word add to the history, and what they tell.
-use Rattle.std.proofs.Common.{◌≡◌, ◌≢◌, ℕ, zero, suc, ◌+◌, ◌*◌, ◌^◌, ◌<◌, ◌≤◌, ◌/◌, ◌-◌, ◌%◌, ◌++◌, ◌==◌, Bool, true, false, List, [], ◌∷◌, length, set, Option, Some, None, refl, ap, sym, subst, ◌∙◌, arith, length-set, inl, inr}
+use Rattle.std.proofs.Common.{◌≡◌, ◌≢◌, ℕ, zero, suc, ◌+◌, ◌^◌, ◌<◌, ◌≤◌, ◌/◌, ◌%◌, ◌++◌, ◌==◌, Bool, true, false, List, [], ◌∷◌, length, set, Option, Some, None, refl, ap, sym, subst, ◌∙◌, arith, length-set, inl, inr}
 use Rattle.std.specs.Prelude.{replicate}
 use Rattle.std.proofs.lemmas.Bool.Decides.{nat_tests}
 use Rattle.std.proofs.lemmas.List.{append-nil, get_or-set_same, get_or-set_other, get_or-replicate, length-replicate}
@@ -12,16 +12,15 @@ use prog.Atomic.{either}
 use Rattle.logbook.specs.Pages.{Cell, cell, keeps, no_nib, step, Moves, Goes, Nib}
 use Rattle.table_terms.specs.Laws.{IsLaw, AllApart}
 use Rattle.table_numbered.proofs.Apart.{apart_more}
-use Rattle.table_slab.specs.Tokens.{IsNumber}
 use Rattle.table_numbered.specs.declared.event.Event.{Event}
 use Rattle.table_numbered.specs.declared.event.Stored.{Stored}
 use Rattle.table_numbered.specs.declared.event.Stored.TheVariants.{Entry, Closed}
 use Rattle.table_numbered.specs.declared.event.Numbered.{Numbered}
 use Rattle.table_numbered.specs.Probing.{bucket_at}
 use Rattle.table_numbered.specs.Words.{word_of}
-use Rattle.table_numbered.specs.History.{event, Has, IsUntouched, HasSize, size_of, IsInside, IsRow, Moved, History, Stands, entries, IsEntry, NonePasses, Reaches, Fits, IsKept, IsReached, Says, AddsEvent, Adds, Looks, Publishes}
+use Rattle.table_numbered.specs.History.{event, Has, IsUntouched, HasSize, size_of, IsInside, Moved, History, Stands, entries, IsEntry, NonePasses, Reaches, Fits, IsKept, IsReached, Says, AddsEvent, Adds, Looks, Publishes}
 use Rattle.table_numbered.proofs.Rows.{row_adds, row_first}
-use Rattle.table_numbered.proofs.Histories.{nothing_first, size_is, size_agrees, size_on, has_on, has_push, untouched_free, entry_is, entries_push, entries_closed, among_stands, reaches_on, fits_on, none_beyond}
+use Rattle.table_numbered.proofs.Histories.{nothing_first, size_is, size_agrees, size_on, has_on, has_push, untouched_free, entries_push, entries_closed, among_stands, reaches_on, fits_on, none_beyond}
 
 module _ {V : Type 0} (same : Numbered V → Numbered V → Bool) (mark : Numbered V → ℕ) where
   abbrev E : Type 0

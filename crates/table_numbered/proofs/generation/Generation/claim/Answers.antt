@@ -1,4 +1,3 @@
-use Rattle.std.proofs.Common.{sym}
 use Rattle.table_numbered.specs.Words.{numbered, alike, marked}
 use Rattle.table_numbered.proofs.Histories.{reaches_on}
 use Rattle.table_numbered.proofs.Meetings.{claims_after}

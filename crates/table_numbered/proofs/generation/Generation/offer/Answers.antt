@@ -1,11 +1,10 @@
-use Rattle.std.proofs.Common.{◌≡◌, ◌<◌, ℕ, length, Some, sym, ◌∙◌, ap, subst, arith}
-use Rattle.table_slab.specs.Tokens.{IsRight}
+use Rattle.std.proofs.Common.{refl, ◌≡◌, ℕ, sym, ◌∙◌, subst, arith}
 use Rattle.table_numbered.specs.declared.event.Stored.TheVariants.{Entry}
-use Rattle.table_numbered.specs.Words.{mark_of, numbered, alike, marked}
-use Rattle.table_numbered.specs.History.{event, Stands, Reaches, Adds}
+use Rattle.table_numbered.specs.Words.{numbered, alike, marked}
+use Rattle.table_numbered.specs.History.{Reaches}
 use Rattle.table_numbered.proofs.Marks.{mark_small}
 use Rattle.table_numbered.proofs.Histories.{size_is}
-use Rattle.table_numbered.proofs.Meetings.{some_is, claims_of}
+use Rattle.table_numbered.proofs.Meetings.{some_is, claims_of, placed}
 use Rattle.table_numbered.proofs.Steps.{added}
 use Rattle.table_numbered.proofs.generation.Generation.offer.Goals as goal
 
@@ -23,7 +22,11 @@ pub known-requires : goal.known-requires
 known-requires g c = let ok = c.in-Ok.ensures.ok in record { there = (ok.0, added (alike g.L.Law.same) (marked g.L.Law.hash_of) c.args.index (Entry (numbered c.args.coming.number ok.0)) c.args.seen.now.log c.publish.new.seen.log ok.2) }
 
 pub returns-in-Ok-clause-told : goal.returns-in-Ok-clause-told
-returns-in-Ok-clause-told g c = ?
+returns-in-Ok-clause-told g c = let ok = c.in-Ok.ensures.ok in let it : ok.0 ≡ c.args.coming.value = some_is ok.0 c.args.coming.value (sym ok.1 ∙ c.put-right.ensures.right.1) in
+    placed g.L.Law.same g.L.Law.hash_of c.args.index c.args.coming.number c.get.result.now c.known.result.value ok.0 c.args.coming.value c.args.seen.now.log c.publish.new.seen.log c.get.ensures c.known.ensures.value it ok.2
 
 pub returns-in-Err-clause-told : goal.returns-in-Err-clause-told
-returns-in-Err-clause-told g c = ?
+returns-in-Err-clause-told g c = let err = c.in-Err.ensures.err in
+    let it : c.take-value.result.0 ≡ c.args.coming.value = some_is c.take-value.result.0 c.args.coming.value (sym c.take-value.ensures.value ∙ (err.1 ∙ c.put-right.ensures.right.1)) in
+    claims_of g.L.Law.same g.L.Law.hash_of c.args.self.now.of.names c.take-value.result.0 c.args.coming.value c.args.coming.number c.args.coming.number c.args.index c.args.seen.now.log c.publish.new.seen.log c.compare.result it refl
+    (c.compare.ensures.told c.args.seen.now.log)

@@ -1,8 +1,9 @@
-use Rattle.std.proofs.Common.{◌≡◌, ◌<◌, ◌≤◌, ℕ, refl, sym, ◌∙◌, ap, subst, arith, inl}
+use Rattle.std.proofs.Common.{◌<◌, ℕ, refl, sym, ◌∙◌, ap, subst, arith, inl}
 use base.Growing.{prefix_refl, prefix_trans}
+use Rattle.table_numbered.specs.declared.place.Claim.TheVariants as claim
 use Rattle.table_numbered.specs.Words.{mark_of, numbered, alike, marked}
 use Rattle.table_numbered.specs.History.{Reaches}
-use Rattle.table_numbered.proofs.Histories.{untouched_free, closed_free}
+use Rattle.table_numbered.proofs.Histories.{closed_free}
 use Rattle.table_numbered.proofs.Meetings.{claims_of, coming_as}
 use Rattle.table_numbered.proofs.Probes.{goes_first, goes_on, goes_closed, goes_none, goes_round, goes_reaches, goes_placed}
 use Rattle.table_numbered.proofs.generation.Generation.place.Goals as goal
@@ -54,3 +55,16 @@ loop-claimed-preserved g c = let inv = c.loop-claimed.invariant in let e = c.cla
   longer = prefix_trans c.args.seen.now.log c.loop-claimed.seen.log c.claim.new.seen.log inv.longer e.longer;
   goes = goes_on c.claim.new.seen.log met.1.0 inv.goes e.longer met.1.1 met.1.2 c.buckets-count.ensures.size c.next_bucket-index.ensures.within c.next_bucket-index.ensures.next;
 }
+
+pub returns-in-Placed-clause-told : goal.returns-in-Placed-clause-told
+returns-in-Placed-clause-told g c = let inv = c.loop-claimed.invariant in
+    let told = claims_of g.L.Law.same g.L.Law.hash_of c.args.self.now.of.names c.loop-claimed.coming.value c.args.value c.loop-claimed.coming.number c.args.number c.loop-claimed.index c.loop-claimed.seen.log c.claim.new.seen.log (claim.Placed c.in-Placed.entry) inv.coming.value inv.coming.number c.in-Placed.ensures.told in
+    (told.0, goes_placed g.L.Law.lawful inv.goes c.args.number c.args.seen.now.log c.claim.new.seen.log inv.longer inv.of.2 told.1)
+
+pub returns-in-Closed-clause-told : goal.returns-in-Closed-clause-told
+returns-in-Closed-clause-told g c = let of = c.claim.ensures.of in let new = c.claim.new.seen.log in
+    goes_none g.L.Law.same g.L.Law.hash_of (λ v is. ap mark_of (sym (g.L.Law.lawful.agrees c.args.value v is))) new c.loop-claimed.invariant.goes c.claim.ensures.longer of.2 of.3
+    (closed_free (alike g.L.Law.same) (marked g.L.Law.hash_of) new c.loop-claimed.index of.3 c.in-Closed.ensures.told.1)
+
+pub returns-in-Closed-clause-full : goal.returns-in-Closed-clause-full
+returns-in-Closed-clause-full g c = goes_closed c.loop-claimed.invariant.goes c.claim.new.seen.log c.claim.ensures.longer c.in-Closed.ensures.told.1
