@@ -9,3 +9,4 @@ mod Probes
 mod Apart
 mod Laid
 mod Meetings
+mod Carried

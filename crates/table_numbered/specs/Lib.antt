@@ -3,3 +3,4 @@ pub mod Probing
 pub mod History
 pub mod Kept
 pub mod Generations
+pub mod Carrying

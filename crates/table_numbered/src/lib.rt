@@ -2,8 +2,10 @@
 #![tactic(auto)]
 
 mod bucket;
+mod carrying;
 mod event;
 mod generation;
+mod growth;
 mod law;
 mod place;
 mod probe;
@@ -14,6 +16,7 @@ mod word;
 
 pub use event::{Event, Numbered, Stored};
 pub use generation::Generation;
+pub use growth::Refused;
 pub use law::{KeyLaw, SetLaw};
 pub use place::Placing;
 pub use probe::Judged;

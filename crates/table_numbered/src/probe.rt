@@ -40,7 +40,7 @@ pub enum Judged<'a, V> {
 
 impl<V, L: SetLaw<V>, A: Allocator> Generation<V, L, A> {
     /// Compares what is sought with what the bucket has. An entry is read only where its mark is that of what is sought.
-    fn meet<'a, S: Sought<V, L>>(
+    pub(crate) fn meet<'a, S: Sought<V, L>>(
         &self,
         slab: &'a Slab<V, A>,
         seen: &mut Token<V, L>,
