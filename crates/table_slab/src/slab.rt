@@ -8,7 +8,7 @@ use std::marker::Model;
 
 /// Slots that never move, numbered from 0 on. A clause sees their names.
 pub struct Slab<V, A: Allocator> {
-    slots: Vec<Slot<V>, A>,
+    pub(crate) slots: Vec<Slot<V>, A>,
 }
 
 impl<V, A: Allocator> Model for Slab<V, A> {
