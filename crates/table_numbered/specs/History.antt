@@ -5,7 +5,7 @@ use Rattle.logbook.specs.Pages.{Cell, cell, Step, View}
 use Rattle.table_terms.specs.Laws.{AllApart}
 use Rattle.table_slab.specs.Tokens.{IsNumber}
 use Rattle.table_numbered.specs.Probing.{bucket_at}
-use Rattle.table_numbered.specs.Words.{word_of}
+use Rattle.table_numbered.specs.Words.{word_of, numbered}
 use Rattle.table_numbered.specs.declared.event.Event.{Event}
 use Rattle.table_numbered.specs.declared.event.Stored.{Stored}
 use Rattle.table_numbered.specs.declared.event.Stored.TheVariants.{Entry, Closed}
@@ -94,6 +94,11 @@ module _ {E : Type 0} where
     abbrev pub Reaches : ℕ → History E → E → ℕ → Type 0
     Reaches n log e p = (k : ℕ) × (k < n) × (bucket_at n (mark e) k ≡ p)
         × HasPassed n log (same e) (mark e) k
+
+-- a number has one value for good
+abbrev pub OneValue : {V : Type 0} → History (Numbered V) → Type 0
+OneValue {V} log = (p q k : ℕ) (v w : V) → Stands log p (numbered k v) → Stands log q (numbered k w)
+    → v ≡ w
 
 module _ {V : Type 0} (same : Numbered V → Numbered V → Bool) (mark : Numbered V → ℕ) where
   -- where an entry may be placed: where a probe for it comes to; any bucket may be closed

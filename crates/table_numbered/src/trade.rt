@@ -2,7 +2,7 @@
 ghost use Rattle.std.specs.Prelude.{◌≡◌, ℕ, Some, None, [], ◌∷◌, IsSome};
 ghost use Rattle.table_slab.specs.Tokens.{id_at};
 ghost use Rattle.table_numbered.specs.Words.{numbered};
-ghost use Rattle.table_numbered.specs.History.{event, Has, Stands};
+ghost use Rattle.table_numbered.specs.History.{event, Stands, OneValue};
 ghost use Rattle.table_numbered.specs.declared.event.Stored.TheVariants.{Entry, Closed};
 
 use crate::event::{Event, Numbered, Stored};
@@ -120,11 +120,12 @@ pub(crate) fn returned<V>(
     }
 }
 
-/// What everyone knows of the slot of an entry.
+/// What everyone knows of the slot of an entry, and that a number has one value.
 pub(crate) fn known<V, L: Law<V>>(_seen: &Token<V, L>, _place: u64, _number: u64) -> Standing<V>
     requires there { (x : V) × Stands _seen.now.log _place (numbered _number x) }
     ensures of { result.of ≡ id_at _seen.now.names _number }
     ensures value { Stands _seen.now.log _place (numbered _number result.value) }
+    ensures one { OneValue _seen.now.log }
 {
     Standing {
         marker: PhantomData,

@@ -4,7 +4,6 @@ use Rattle.std.specs.Prelude.{map, slice_index_or}
 use base.Fml.{Fml}
 use denote.RattleType.{RattleType}
 use Rattle.core.specs.declared.option.Option.{Option}
-use Rattle.core.specs.declared.option.Option.TheVariants.{None, Some}
 use Rattle.table_slab.specs.Slot.{Named, written, room}
 use Rattle.table_slab.specs.declared.slot.Right.{Right}
 use Rattle.table_slab.specs.declared.slot.Standing.{Standing}

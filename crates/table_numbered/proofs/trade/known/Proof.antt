@@ -4,9 +4,9 @@ use Rattle.std.specs.Prelude.{Some}
 use mir.Syntax.{a_type, dcons, dnil, named}
 use mir.Val.{Val, vint, vptr}
 use mir.MapTy.{inst_fn}
-use base.Logic.{SProp, emp}
+use base.Logic.{SProp, emp, guard}
 use types.Logic.{sem}
-use types.Kit.{‵, raw, ◌⊛◌, later, ◌$◌, ◌∵◌, !, qed, by, move, keep, drop, use0, use1, split, join, fsplit, fjoin, await}
+use types.Kit.{‵, raw, ◌⊛◌, given, later, learn, ◌$◌, ◌∵◌, !, qed, by, move, keep, drop, use0, use1, split, join, fsplit, fjoin, await}
 use types.Run.{no_more, and_then, returns, enter}
 use types.ByLocal.{alloc_all, pass_all, free_all, look_at, get, sets}
 use types.Part.{agg}
@@ -30,7 +30,7 @@ use Rattle.table_slab.specs.Slot.{written}
 use Rattle.table_slab.specs.contracts.slot.Standing as Standing
 use Rattle.table_numbered.proofs.Trades.{Happening}
 use Rattle.table_numbered.specs.declared.event.Stored.TheVariants.{Entry}
-use Rattle.table_numbered.specs.History.{event, Stands}
+use Rattle.table_numbered.specs.History.{event, Stands, OneValue}
 use Rattle.table_numbered.specs.contracts.event.Event as Events
 use Rattle.table_numbered.specs.contracts.event.Stored as Stores
 use Rattle.table_numbered.specs.contracts.event.Numbered as Numbers
@@ -62,10 +62,10 @@ known_spec 𝓤 𝓛 𝓜 𝓡 wired V L LV LL g d _ =
     qed 𝓛 ((raw (denote.Triple.Entry.alive 𝓛 En.signature κs qs) ⊛ ‵ (owns (types_at En.signature.params κs) a y.0.4)) ∷ raw (fact 𝓤 _) ∷ raw (fact 𝓤 _) ∷ raw (fact 𝓤 There) ∷ []) ∵ keep ! (3 ∷ 0 ∷ []) $ heard ! There (λ there.
     let x : V.Denot = there.0 in let γ : ℕ = id_at names k in
     split ! $ move ! (1 ∷ []) $ fsplit ! $ fsplit ! $ keep ! (1 ∷ 3 ∷ []) $ unhide ! $ fsplit ! $ drop ! $
-    use1 𝓛 (later (‵ (written R γ x))) (books.recalls 𝓛 E'.coded rule n.book names n.log (sem 𝓛 (written R γ x)) (λ log below. trades.has 𝓛 R names log (event p (Some (Entry (numbered k x)))) (trades.later n.log log p (Entry (numbered k x)) below there.1))) $
-    enter ! 𝓣.C 𝓣.Λ fn (at ∷ vint w64 p ∷ vint w64 k ∷ []) Post $ alloc_all ! (λ l. pass_all ! refl ((tt, tt), ((tt, record { fits = are.1.0.1 }), ((tt, record { fits = are.1.1.0.1 }), tt))) $ await ! tt $
+    use1 𝓛 (later (given (OneValue n.log) (‵ (written R γ x)))) (books.recalls 𝓛 E'.coded rule n.book names n.log (guard 𝓤 (OneValue n.log) (sem 𝓛 (written R γ x))) (λ log below. trades.has_earlier 𝓛 R names n.log log (event p (Some (Entry (numbered k x)))) below (trades.later n.log log p (Entry (numbered k x)) below there.1))) $
+    enter ! 𝓣.C 𝓣.Λ fn (at ∷ vint w64 p ∷ vint w64 k ∷ []) Post $ alloc_all ! (λ l. pass_all ! refl ((tt, tt), ((tt, record { fits = are.1.0.1 }), ((tt, record { fits = are.1.1.0.1 }), tt))) $ await ! tt $ learn ! (λ one.
     let r : S.Denot = record { marker = record {}; of = γ; value = x } in use1 𝓛 (‵ (S.own_val r (token ∷ []))) (written_made 𝓛 R γ x) $
     sets ! (agg ! (no_more !)) refl (tt, tt) $ sets ! (agg ! (and_then ! (get ! refl) (no_more !))) refl (tt, (tt, tt)) $
     let Of : Type 0 = γ ≡ γ in let Told : Type 0 = Stands n.log p (numbered k x) in
-    use0 𝓛 (raw (fact 𝓤 Told)) (fact_i 𝓤 Told (emp 𝓤) there.1) $ use0 𝓛 (raw (fact 𝓤 Of)) (fact_i 𝓤 Of (emp 𝓤) refl) $ join ! $ nothing ! $ nothing ! $ fjoin ! $ nothing ! $ fjoin ! $ nothing ! $ fjoin ! $
-    returns ! (look_at ! 0 refl) $ free_all ! refl $ keep ! (3 ∷ 0 ∷ 2 ∷ 1 ∷ []) $ by ! (leaves 𝓛 En hs c y token r (tt, (tt, (tt, tt))) (tt, (tt, (tt, tt)))))))
+    let One : Type 0 = OneValue n.log in use0 𝓛 (raw (fact 𝓤 One)) (fact_i 𝓤 One (emp 𝓤) one) $ use0 𝓛 (raw (fact 𝓤 Told)) (fact_i 𝓤 Told (emp 𝓤) there.1) $ join ! $ use0 𝓛 (raw (fact 𝓤 Of)) (fact_i 𝓤 Of (emp 𝓤) refl) $ join ! $ nothing ! $ nothing ! $ fjoin ! $ nothing ! $ fjoin ! $ nothing ! $ fjoin ! $
+    returns ! (look_at ! 0 refl) $ free_all ! refl $ keep ! (3 ∷ 0 ∷ 2 ∷ 1 ∷ []) $ by ! (leaves 𝓛 En hs c y token r (tt, (tt, (tt, tt))) (tt, (tt, (tt, tt))))))))
