@@ -10,3 +10,4 @@ mod Apart
 mod Laid
 mod Meetings
 mod Carried
+mod Endings

@@ -4,3 +4,4 @@ pub mod History
 pub mod Kept
 pub mod Generations
 pub mod Carrying
+pub mod Ending

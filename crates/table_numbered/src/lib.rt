@@ -3,6 +3,7 @@
 
 mod bucket;
 mod carrying;
+mod ending;
 mod event;
 mod generation;
 mod growth;
