@@ -18,7 +18,6 @@ alike_lawful {hash = hash} law = record {
   agrees = λ a b is. ap mark_of (law.agrees a.value b.value is);
 }
 
-
 -- a part of n that is less than the whole of it
 pub first_below : (mark n : ℕ) → mark < 2 ^ 32 → 0 < n → mark * n / 2 ^ 32 < n
 first_below mark n small some = div_below (mark * n) n (mul_below mark n small some)

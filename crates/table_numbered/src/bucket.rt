@@ -7,9 +7,9 @@ ghost use Rattle.table_numbered.specs.History.{Has, Stands, IsInside, size_of, F
 ghost use Rattle.table_numbered.specs.Generations.{IsWord};
 ghost use Rattle.table_numbered.specs.declared.event.Stored.TheVariants.{Entry, Closed};
 
+use crate::law::SetLaw;
 use crate::rule::{Bucket, Look, Nothing, Publish, Token};
 use crate::trade::{Carrying, Publishing, Trade, carrying, closing, publishing, returned};
-use crate::law::SetLaw;
 use table_slab::{Right, Standing};
 
 /// What comes back from a bucket that was set before.
@@ -50,13 +50,13 @@ pub(crate) fn publish<V, L: SetLaw<V>>(
         → bits ≡ word_of (marked L.hash_of) (Entry (numbered number x)) }
     requires fits { (x : V) → right.value ≡ Some x
         → Fits (alike L.same) (marked L.hash_of) (size_of seen.old.log) seen.old.log
-            (Entry (numbered number x)) place }
+        (Entry (numbered number x)) place }
     ensures same { (seen.new.book ≡ seen.old.book) × (seen.new.names ≡ seen.old.names) }
     ensures longer { IsPrefix seen.old.log seen.new.log }
     ensures reached { IsReached (alike L.same) (marked L.hash_of) seen.new.log }
     ensures ok { IfOk result (λ _. (x : V) × (right.value ≡ Some x)
         × Adds (alike L.same) (marked L.hash_of) (Entry (numbered number x)) place seen.old.log
-            seen.new.log) }
+        seen.new.log) }
     ensures err { IfErr result (λ l. (l.right.of ≡ right.of) × (l.right.value ≡ right.value)
         × (l.found ≢ 0)
         × Says (alike L.same) (marked L.hash_of) place l.found seen.new.log) }
@@ -103,11 +103,7 @@ pub(crate) fn carry<V, L: SetLaw<V>>(
 }
 
 /// Closes the bucket by one exchange, unless it was set before. Returns the word that it had: 0 where it is closed now.
-pub(crate) fn close<V, L: SetLaw<V>>(
-    word: &Bucket<V, L>,
-    seen: &mut Token<V, L>,
-    place: u64,
-) -> u64
+pub(crate) fn close<V, L: SetLaw<V>>(word: &Bucket<V, L>, seen: &mut Token<V, L>, place: u64) -> u64
     requires word { IsWord seen.old.book word.now }
     requires place { place ≡ word.now.key }
     requires inside { IsInside word.now.key seen.old.log }

@@ -53,25 +53,12 @@ impl<V, L: SetLaw<V>, A: Allocator> Generation<V, L, A> {
         let bits = word_of_entry(load.mark, load.number);
         let standing = load.standing.again();
         let place = index as u64;
-        carry(
-            &self.words[index],
-            seen,
-            place,
-            load.number,
-            bits,
-            standing,
-        )
+        carry(&self.words[index], seen, place, load.number, bits, standing)
     }
 
     /// Stores the entry in this bucket if it is empty, and else tells what is there. An entry is read only where its mark is that
     /// of the one on its way.
-    fn tread(
-        &self,
-        slab: &Slab<V, A>,
-        seen: &mut Token<V, L>,
-        index: usize,
-        load: &Load<V>,
-    ) -> Step
+    fn tread(&self, slab: &Slab<V, A>, seen: &mut Token<V, L>, index: usize, load: &Load<V>) -> Step
         requires slab { slab.now ≡ self.now.of.names }
         requires of { IsOf L.same L.hash_of self.now.of seen.old.book seen.old.names seen.old.log }
         requires inside { index < self.now.of.size }

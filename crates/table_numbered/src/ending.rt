@@ -16,12 +16,7 @@ use table_slab::Slab;
 
 impl<V: Drop, L: SetLaw<V>, A: Allocator> Generation<V, L, A> {
     /// Closes the bucket, and takes the value of its entry out of the slab, if it has one.
-    fn take_at(
-        &self,
-        slab: &mut Slab<V, A>,
-        seen: &mut Token<V, L>,
-        index: usize,
-    ) -> Option<V>
+    fn take_at(&self, slab: &mut Slab<V, A>, seen: &mut Token<V, L>, index: usize) -> Option<V>
         requires of { IsOf L.same L.hash_of self.now.of seen.old.book seen.old.names seen.old.log }
         requires inside { index < self.now.of.size }
         requires left { AreLeft self.now.of.names index seen.old.log slab.old }
@@ -42,12 +37,7 @@ impl<V: Drop, L: SetLaw<V>, A: Allocator> Generation<V, L, A> {
     }
 
     /// Takes the value of each bucket's entry out.
-    fn take_all(
-        &self,
-        slab: &mut Slab<V, A>,
-        seen: &mut Token<V, L>,
-        room: Vec<V, A>,
-    ) -> Vec<V, A>
+    fn take_all(&self, slab: &mut Slab<V, A>, seen: &mut Token<V, L>, room: Vec<V, A>) -> Vec<V, A>
         requires slab { slab.old ≡ self.now.of.names }
         requires of { IsOf L.same L.hash_of self.now.of seen.old.book seen.old.names seen.old.log }
         requires room { length room.items + self.now.of.size ≤ vec_capacity room }

@@ -7,12 +7,12 @@ ghost use Rattle.table_numbered.specs.History.{event, Stands, Says};
 ghost use Rattle.table_numbered.specs.Generations.{IsOf};
 
 use crate::bucket::look;
+use crate::law::SetLaw;
 use crate::rule::{Bucket, SetRule, Token};
 use crate::trade::{Ids, known, start};
 use logbook::Word;
 use std::alloc::{AllocError, Allocator};
 use std::marker::Model;
-use crate::law::SetLaw;
 use table_slab::Slab;
 
 /// A fixed number of buckets, each of which is set once by any thread: to the number of an entry, which lies in the slab that is

@@ -9,8 +9,8 @@ use crate::event::{Event, Numbered, Stored};
 use crate::rule::{Nothing, SetRule, Token};
 use logbook::{Gain, Gained, Offer, Start};
 use std::marker::PhantomData;
-use table_terms::law::Law;
 use table_slab::{Right, Standing};
+use table_terms::law::Law;
 
 /// What the step is to trade.
 pub struct Trade<V> {
@@ -24,8 +24,7 @@ impl<V> Gain<Event<Stored<Numbered<V>>>, u64> for Trade<V> {
 }
 
 /// The update of a step that publishes an entry.
-pub(crate) type Publishing<V, L> =
-    Offer<Event<Stored<Numbered<V>>>, u64, SetRule<V, L>, Trade<V>>;
+pub(crate) type Publishing<V, L> = Offer<Event<Stored<Numbered<V>>>, u64, SetRule<V, L>, Trade<V>>;
 
 /// The update of a step that stores what everyone may know.
 pub(crate) type Carrying<V, L> = Offer<Event<Stored<Numbered<V>>>, u64, SetRule<V, L>, Nothing>;

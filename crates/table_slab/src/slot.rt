@@ -56,9 +56,12 @@ impl<T> Slot<T> {
         ensures of { result.1.of ≡ result.0.id }
         ensures empty { result.1.value ≡ None }
     {
-        (Slot { value: None }, Right {
-            marker: PhantomData,
-        })
+        (
+            Slot { value: None },
+            Right {
+                marker: PhantomData,
+            },
+        )
     }
 
     /// Writes the value.

@@ -8,12 +8,14 @@ pub returns-then-word-eq1 : goal.returns-then-word-eq1
 returns-then-word-eq1 g c = record { told = λ old. (c.requires.coming, closed_says (alike g.L.Law.same) (marked g.L.Law.hash_of) c.args.index c.args.word c.args.seen.now.log c.requires.says c.if-word-eq1.true) }
 
 pub returns-then-mark_of_word-coming : goal.returns-then-mark_of_word-coming
-returns-then-mark_of_word-coming g c = record { told = λ old. (
-  c.requires.coming,
-  differs g.L.Law.same g.L.Law.hash_of c.args.index c.args.word c.args.seen.now.log c.requires.of.3 c.requires.says (more_than_1 g.L.Law.same g.L.Law.hash_of c.args.word c.requires.set c.if-word-eq1.false)
-      (g.L.Law.same c.args.coming.value) (mark_of (g.L.Law.hash_of c.args.coming.value)) (λ v is. ap mark_of (sym (g.L.Law.lawful.agrees c.args.coming.value v is)))
-      (λ is. c.if-mark_of_word-coming.true (c.mark_of_word.ensures ∙ (is ∙ sym c.requires.coming.mark))),
-) }
+returns-then-mark_of_word-coming g c = record {
+  told = λ old. (
+    c.requires.coming,
+    differs g.L.Law.same g.L.Law.hash_of c.args.index c.args.word c.args.seen.now.log c.requires.of.3 c.requires.says (more_than_1 g.L.Law.same g.L.Law.hash_of c.args.word c.requires.set c.if-word-eq1.false)
+        (g.L.Law.same c.args.coming.value) (mark_of (g.L.Law.hash_of c.args.coming.value)) (λ v is. ap mark_of (sym (g.L.Law.lawful.agrees c.args.coming.value v is)))
+        (λ is. c.if-mark_of_word-coming.true (c.mark_of_word.ensures ∙ (is ∙ sym c.requires.coming.mark))),
+  );
+}
 
 pub number_of_word-number-requires : goal.number_of_word-number-requires
 number_of_word-number-requires g c =

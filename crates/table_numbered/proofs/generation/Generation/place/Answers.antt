@@ -50,11 +50,11 @@ pub loop-claimed-preserved : goal.loop-claimed-preserved
 loop-claimed-preserved g c = let inv = c.loop-claimed.invariant in let e = c.claim.ensures in
     let told = claims_of g.L.Law.same g.L.Law.hash_of c.args.self.now.of.names c.loop-claimed.coming.value c.args.value c.loop-claimed.coming.number c.args.number c.loop-claimed.index c.loop-claimed.seen.log c.claim.new.seen.log c.claim.result inv.coming.value inv.coming.number e.told in
     let met = rw c.in-Passed.is at told in record {
-  coming = met.0;
-  of = e.of;
-  longer = prefix_trans c.args.seen.now.log c.loop-claimed.seen.log c.claim.new.seen.log inv.longer e.longer;
-  goes = goes_on c.claim.new.seen.log met.1.0 inv.goes e.longer met.1.1 met.1.2 c.buckets-count.ensures.size c.next_bucket-index.ensures.within c.next_bucket-index.ensures.next;
-}
+      coming = met.0;
+      of = e.of;
+      longer = prefix_trans c.args.seen.now.log c.loop-claimed.seen.log c.claim.new.seen.log inv.longer e.longer;
+      goes = goes_on c.claim.new.seen.log met.1.0 inv.goes e.longer met.1.1 met.1.2 c.buckets-count.ensures.size c.next_bucket-index.ensures.within c.next_bucket-index.ensures.next;
+    }
 
 pub returns-in-Placed-clause-told : goal.returns-in-Placed-clause-told
 returns-in-Placed-clause-told g c = let inv = c.loop-claimed.invariant in

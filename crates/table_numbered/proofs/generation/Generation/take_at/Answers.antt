@@ -25,8 +25,10 @@ number_of_word-number-requires g c = let log = c.close_at-word.new.seen.log in
 
 pub known-standing-requires : goal.known-standing-requires
 known-standing-requires g c = let log = c.close_at-word.new.seen.log in
-    record { there = named g.L.Law.same g.L.Law.hash_of c.args.index c.close_at-word.result log c.close_at-word.ensures.of.3 (c.close_at-word.ensures.says (λ zero. omega (arith, zero, c.if-word-lt2.false))) (omega (arith, c.if-word-lt2.false))
-        c.number_of_word-number.result c.number_of_word-number.ensures }
+    record {
+      there = named g.L.Law.same g.L.Law.hash_of c.args.index c.close_at-word.result log c.close_at-word.ensures.of.3 (c.close_at-word.ensures.says (λ zero. omega (arith, zero, c.if-word-lt2.false))) (omega (arith, c.if-word-lt2.false))
+          c.number_of_word-number.result c.number_of_word-number.ensures;
+    }
 
 pub take_out-requires-clause-number : goal.take_out-requires-clause-number
 take_out-requires-clause-number g c = c.close_at-word.ensures.of.3.1.number c.args.index (numbered c.number_of_word-number.result c.known-standing.result.value) c.known-standing.ensures.value
