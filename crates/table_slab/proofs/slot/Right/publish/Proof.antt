@@ -1,0 +1,76 @@
+-- The right is given up, and what it says is known for good.
+use Rattle.std.proofs.Common.{◌≡◌, ℕ, zero, suc, ◌+◌, List, [], ◌∷◌, ◌++◌, Bool, sym, refl, ap, ◌∙◌, subst, arith, lit<, true}
+use mir.Syntax.{a_type, dcons, dnil, named}
+use mir.Val.{Val, vunit, vint, vptr, vstruct, vcons, vnil, of_list}
+use mir.MapTy.{inst_fn}
+use base.Fraction.{full_share}
+use base.Logic.{SProp, ent, sep, wand, emp, via, id⊢, apply∗, all_e}
+use base.Stored.{gnil, gnum, gcons}
+use base.Fml.{Lft, Share, Fml, Incl-trans, ftrue, fsep, fex, flft, finv, fbor, fobs, fauth, fres}
+use base.Before.{before}
+use prog.Wp.{WpFn}
+use types.Logic.{sem}
+use types.Kit.{Item, mean, ‵, raw, ◌⊛◌, some, given, later, at_ret, any_q, ◌$◌, ◌∵◌, !, qed, by, move, keep, drop, use0, use1, use2, use3, split, split3, join, group, fsplit, fsplit3, fjoin, fjoin3, fpick, fpack, pick, learn, check, show, frame, each, assume, suffices, await, updating, now, rewrite, settle, feq_i, feq_l, done}
+use types.Run.{stop, fld, load, look, store, addr, lit, unit_lit, of_opd, no_more, and_then, first, blocks, exec, returns, enter, assigns, store_raw, look_raw}
+use types.ByLocal.{alloc_all, pass_all, free_all, look_at, get, get_in, through, sets, sets_last, lands_as, lands_last, is, env}
+use types.Part.{agg, sub, whole}
+use types.Match.{live}
+use types.Tokens.{name_new}
+use contract.Running.{tables}
+use contract.Monad.{fact, fact_i}
+use contract.BorrowLft.{◌⊑◌, meet_⊑_left, meet_⊑_right}
+use contract.Shared.{Lends-one}
+use denote.Exit.{yes, no}
+use denote.RattleType.{RattleType, owns, Valss}
+use denote.Signature.{types_at, plain, named_lft}
+use denote.Steps.{nothing, heard, peeks, opens, closes}
+use denote.Opens.{hide, unhide}
+use denote.Laws.{Is, Typed, shows}
+use denote.Memory.{lone, cell_at, shared_of, mem}
+use denote.Param.{param, bounded, layouts, layout}
+use denote.Param.Laws.{param_laws}
+use denote.Builtin.{RefOf}
+use denote.Ref.{ShrRef, shr_vals, shr_Tells}
+use denote.Shadow.{makes_shadow}
+use denote.Struct.Struct.{within}
+use denote.Struct.Declared.{shape, fields}
+use denote.Struct.Tuple.{Tuple}
+use denote.Triple.Walked.{Stays, stay_dropped, walk_of, Goes-dropped}
+use Rattle.atomic_table.proofs.Walks.{proved, proved_at, leaves}
+use Rattle.core.proofs.atomic.Steps.{tail}
+use Rattle.core.proofs.cell.Inside.{Good, one}
+use Rattle.core.specs.declared.option.Option.{Option}
+use Rattle.core.specs.declared.option.Option.TheVariants.{None, Some}
+use Rattle.core.specs.contracts.option.Option.{the_row as OptionOf}
+use Rattle.core.proofs.option.Made.{Some-of, none_of}
+use Rattle.core.proofs.option.Option.TheLaws.{the_row_laws as option_laws}
+use Rattle.std.specs.Prelude.{IsSome}
+use Rattle.table_slab.specs.Slot.{Phase, idle, out, held, full, Rest, Turn, Lies, at, room, written, resting, Value, mine, view, Cell, kept}
+use Rattle.table_slab.specs.contracts.slot.Slot.{the_row}
+use Rattle.table_slab.specs.contracts.slot.Slot.TheInside as Inside
+use Rattle.table_slab.specs.contracts.slot.Right as Right
+use Rattle.table_slab.specs.contracts.slot.Standing as Standing
+use Rattle.table_slab.proofs.slot.Slot.TheInside.TheLaws.{the_row_laws as inside_laws}
+use Rattle.table_slab.proofs.Made.{token_val, written_made, room_made, room_told, set_of}
+use Rattle.table_slab.proofs.Steps as steps
+use Rattle.table_slab.specs.contracts.slot.Right.publish.{ended, clauses}
+use Rattle.table_slab.specs.contracts.slot.Right.publish.Key.{name as #self}
+use Rattle.table_slab.proofs.slot.Right.publish.Statement.{statement}
+use Rattle.table_slab.proofs.slot.Right.publish.Code as code
+
+pub publish_spec : {M : Type 1} → statement M
+publish_spec 𝓤 𝓛 𝓜 𝓡 wired T L =
+    let H = 𝓛.H in let 𝓣 = tables 𝓤 H 𝓜 𝓡 𝓡.env in let R : RattleType = param 0 T in let En = ended T in let S : RattleType = Standing.the_row R in
+    let inst = layouts (a_type ∷ []) (T, tt) in let fn = inst_fn inst code.function in let c = clauses T 𝓛 𝓜.mem 𝓡.returns in
+    let self = plain (λ _. Right.the_row R) in let hs : Stays En.signature.params En.kept = (stay_dropped self no, tt) in
+    proved 𝓛 En hs c 𝓜 𝓡 (Goes-dropped 𝓛 1 self no (λ κs x f. refl), tt) (#self inst) fn (code.unfolded 𝓤 H 𝓜 𝓡 wired (T, tt))
+    (λ κs. ((λ x. token_val ∷ []), tt)) (λ κs. ((λ x vs is. room_told R vs is.0), tt)) (λ κs qs bounds a gh are.
+    let γ : ℕ = a.0.of in let v : Option T.Denot = a.0.value in
+    let y : (walk_of 𝓛 En hs c).Ghost = ((κs, qs, bounds, a, (token_val ∷ [], tt)), gh) in let Post : Val → SProp 𝓤 = (walk_of 𝓛 En hs c).post y in
+    qed 𝓛 ((raw (denote.Triple.Entry.alive 𝓛 En.signature κs qs) ⊛ ‵ (owns (types_at En.signature.params κs) a y.0.4)) ∷ raw (fact 𝓤 _) ∷ raw (fact 𝓤 (IsSome v)) ∷ []) ∵ keep ! (2 ∷ 0 ∷ []) $ heard ! (IsSome v) (λ so.
+    let x : T.Denot = (set_of v so).0 in let is : v ≡ Some x = (set_of v so).1 in let r : S.Denot = record { marker = record {}; of = γ; value = x } in let Of : Type 0 = γ ≡ γ in let Told : Type 0 = v ≡ Some x in
+    split ! $ move ! (1 ∷ []) $ fsplit ! $ fsplit ! $ keep ! (1 ∷ 3 ∷ []) $ rewrite ! 0 (λ (u : Option T.Denot). ‵ (room R γ u)) is refl $ use1 𝓛 (‵ (written R γ x)) (𝓛.names.obs-res γ _) $ use1 𝓛 (‵ (S.own_val r (token_val ∷ []))) (written_made 𝓛 R γ x) $
+    enter ! 𝓣.C 𝓣.Λ fn (token_val ∷ []) Post $ alloc_all ! (λ l. pass_all ! refl ((tt, (tt, tt)), tt) $
+    sets ! (agg ! (no_more !)) refl (tt, tt) $ sets ! (agg ! (and_then ! (get ! refl) (no_more !))) refl (tt, (tt, tt)) $
+    use0 𝓛 (raw (fact 𝓤 Told)) (fact_i 𝓤 Told (emp 𝓤) is) $ use0 𝓛 (raw (fact 𝓤 Of)) (fact_i 𝓤 Of (emp 𝓤) refl) $ join ! $ nothing ! $ nothing ! $ fjoin ! $
+    returns ! (look_at ! 0 refl) $ free_all ! refl $ keep ! (3 ∷ 0 ∷ 2 ∷ 1 ∷ []) $ by ! (leaves 𝓛 En hs c y token_val r (tt, tt) (tt, tt)))))

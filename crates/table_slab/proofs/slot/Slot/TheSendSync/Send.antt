@@ -1,0 +1,7 @@
+use denote.RattleType.{RattleType}
+use denote.Param.Send.{IsSend, IsSync}
+use Rattle.table_slab.proofs.Sent as sent
+use Rattle.table_slab.specs.contracts.slot.Slot.{the_row}
+
+pub send : (T : RattleType) → IsSend T → IsSend (the_row T)
+send = sent.slot_send

@@ -1,0 +1,75 @@
+-- The field is taken out.
+use Rattle.std.proofs.Common.{◌≡◌, ℕ, zero, suc, ◌+◌, List, [], ◌∷◌, ◌++◌, Bool, sym, refl, ap, ◌∙◌, subst, arith, lit<, true}
+use mir.Syntax.{a_type, dcons, dnil, named}
+use mir.Val.{Val, vunit, vint, vptr, vstruct, vcons, vnil, of_list}
+use mir.MapTy.{inst_fn}
+use base.Fraction.{full_share}
+use base.Logic.{SProp, ent, sep, wand, emp, via, id⊢, apply∗, all_e}
+use base.Stored.{gnil, gnum, gcons}
+use base.Fml.{Lft, Share, Fml, Incl-trans, ftrue, fsep, fex, flft, finv, fbor, fobs, fauth, fres}
+use base.Before.{before}
+use prog.Wp.{WpFn}
+use types.Logic.{sem}
+use types.Kit.{Item, mean, ‵, raw, ◌⊛◌, some, given, later, at_ret, any_q, ◌$◌, ◌∵◌, !, qed, by, move, keep, drop, use0, use1, use2, use3, split, split3, join, group, fsplit, fsplit3, fjoin, fjoin3, fpick, fpack, pick, learn, check, show, frame, each, assume, suffices, await, updating, now, rewrite, settle, feq_i, feq_l, done}
+use types.Run.{stop, fld, load, look, store, addr, lit, unit_lit, of_opd, no_more, and_then, first, blocks, exec, returns, enter, assigns, store_raw, look_raw}
+use types.ByLocal.{alloc_all, pass_all, free_all, look_at, get, get_in, through, sets, sets_last, lands_as, lands_last, is, env}
+use types.Part.{agg, sub, whole}
+use types.Match.{live}
+use types.Tokens.{name_new}
+use contract.Running.{tables}
+use contract.Monad.{fact, fact_i}
+use contract.BorrowLft.{◌⊑◌, meet_⊑_left, meet_⊑_right}
+use contract.Shared.{Lends-one}
+use denote.Exit.{yes, no}
+use denote.RattleType.{RattleType, owns, Valss}
+use denote.Signature.{types_at, plain, named_lft}
+use denote.Steps.{nothing, heard, peeks, opens, closes}
+use denote.Opens.{hide, unhide}
+use denote.Laws.{Is, Typed, shows}
+use denote.Memory.{lone, cell_at, shared_of, mem}
+use denote.Param.{param, bounded, layouts, layout}
+use denote.Param.Laws.{param_laws}
+use denote.Builtin.{RefOf}
+use denote.Ref.{ShrRef, shr_vals, shr_Tells}
+use denote.Shadow.{makes_shadow}
+use denote.Struct.Struct.{within}
+use denote.Struct.Declared.{shape, fields}
+use denote.Struct.Tuple.{Tuple}
+use denote.Triple.Walked.{Stays, stay_dropped, walk_of, Goes-dropped}
+use Rattle.atomic_table.proofs.Walks.{proved, proved_at, leaves}
+use Rattle.core.proofs.atomic.Steps.{tail}
+use Rattle.core.proofs.cell.Inside.{Good, one}
+use Rattle.core.specs.declared.option.Option.{Option}
+use Rattle.core.specs.declared.option.Option.TheVariants.{None, Some}
+use Rattle.core.specs.contracts.option.Option.{the_row as OptionOf}
+use Rattle.core.proofs.option.Made.{Some-of, none_of}
+use Rattle.core.proofs.option.Option.TheLaws.{the_row_laws as option_laws}
+use Rattle.std.specs.Prelude.{IsSome}
+use Rattle.table_slab.specs.Slot.{Phase, idle, out, held, full, Rest, Turn, Lies, at, room, written, resting, Value, mine, view, Cell, kept}
+use Rattle.table_slab.specs.contracts.slot.Slot.{the_row}
+use Rattle.table_slab.specs.contracts.slot.Slot.TheInside as Inside
+use Rattle.table_slab.specs.contracts.slot.Right as Right
+use Rattle.table_slab.specs.contracts.slot.Standing as Standing
+use Rattle.table_slab.proofs.slot.Slot.TheInside.TheLaws.{the_row_laws as inside_laws}
+use Rattle.table_slab.proofs.Made.{token_val, written_made, room_made, room_told, set_of}
+use Rattle.table_slab.proofs.Steps as steps
+use Rattle.table_slab.specs.contracts.slot.Slot.into_inner.{ended, clauses}
+use Rattle.table_slab.specs.contracts.slot.Slot.into_inner.Key.{name as #self}
+use Rattle.table_slab.proofs.slot.Slot.into_inner.Statement.{statement}
+use Rattle.table_slab.proofs.slot.Slot.into_inner.Code as code
+
+pub into_inner_spec : {M : Type 1} → statement M
+into_inner_spec 𝓤 𝓛 𝓜 𝓡 wired T L =
+    let H = 𝓛.H in let 𝓣 = tables 𝓤 H 𝓜 𝓡 𝓡.env in let R : RattleType = param 0 T in let O : RattleType = OptionOf R in let LO = option_laws R (param_laws 0 T L) in let En = ended T in
+    let inst = layouts (a_type ∷ []) (T, tt) in let fn = inst_fn inst code.function in let c = clauses T 𝓛 𝓜.mem 𝓡.returns in
+    let self = plain (λ _. the_row R) in let hs : Stays En.signature.params En.kept = (stay_dropped self no, tt) in
+    proved_at 𝓛 En hs c 𝓜 𝓡 (Goes-dropped 𝓛 1 self no (λ κs x f. refl), tt) (#self inst) fn (code.unfolded 𝓤 H 𝓜 𝓡 wired (T, tt))
+    (λ y are. let us : List Val = y.0.4.0 in let Post : Val → SProp 𝓤 = (walk_of 𝓛 En hs c).post y in let toks : SProp 𝓤 = denote.Triple.Entry.alive 𝓛 En.signature y.0.0 y.0.1 in let fits : List Val → Type 0 = Typed (the_row R).mir in
+    qed 𝓛 ((raw toks ⊛ ‵ (owns (types_at En.signature.params y.0.0) y.0.3 y.0.4)) ∷ raw ((c y.0.0 y.0.3).requires y.1) ∷ []) ∵ split ! $ keep ! (1 ∷ 0 ∷ []) $ fsplit ! $ fsplit ! $ fpick ! (λ typed. drop ! $
+    fpick ! (λ s. fsplit ! $ fpick ! (λ vss. fsplit ! $ feq_l ! (λ e. fsplit ! $ peeks ! O (Is O) (shows 𝓛 O) s.0 vss.0 (λ is-v. let got = one (lone O.mir) vss.0 ((LO.lawful 𝓛).typed s.0 vss.0 is-v) in let v : Val = got.0 in
+    rewrite ! 0 (λ (ws : List Val). ‵ (O.own_val s.0 ws)) got.1 refl $ keep ! (0 ∷ 4 ∷ []) $ let v₁ : Val = vstruct (vcons v vnil) in
+    let ev : us ≡ v₁ ∷ [] = e ∙ ap (λ (ws : List Val). vstruct (of_list (ws ++ [])) ∷ []) got.1 in
+    by ! (subst (λ (ws : List Val). ent 𝓤 (sep 𝓤 (sem 𝓛 (O.own_val s.0 (v ∷ []))) toks) (WpFn 𝓤 H 𝓣.C 𝓣.Λ fn (ws ++ []) Post)) (sym ev) (qed 𝓛 (‵ (O.own_val s.0 (v ∷ [])) ∷ raw toks ∷ []) ∵
+    enter ! 𝓣.C 𝓣.Λ fn (v₁ ∷ []) Post $ alloc_all ! (λ l. pass_all ! refl ((subst fits ev typed).0, tt) $
+    sets ! (of_opd ! (get_in ! (fld ! refl (stop !)) (sub ! 0 refl (whole !)))) refl got.2 $ sets ! (of_opd ! (get ! refl)) refl got.2 $ nothing ! $ nothing ! $ nothing ! $ fjoin ! $
+    returns ! (look_at ! 0 refl) $ free_all ! refl $ keep ! (3 ∷ 0 ∷ 2 ∷ 1 ∷ []) $ by ! (leaves 𝓛 En hs c y v s.0 (tt, tt) (tt, tt)))))))))))

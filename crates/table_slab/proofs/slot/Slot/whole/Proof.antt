@@ -1,0 +1,89 @@
+-- Whoever knows the value has a view of it, which is settled for the turn.
+use Rattle.std.proofs.Common.{◌≡◌, ℕ, zero, suc, ◌+◌, List, [], ◌∷◌, ◌++◌, Bool, sym, refl, ap, ◌∙◌, subst, arith, lit<, true}
+use mir.Syntax.{a_type, dcons, dnil, named}
+use mir.Val.{Val, vunit, vint, vptr, vstruct, vcons, vnil, of_list}
+use mir.MapTy.{inst_fn}
+use base.Fraction.{full_share}
+use base.Logic.{SProp, ent, sep, wand, emp, via, id⊢, apply∗, all_e}
+use base.Stored.{gnil, gnum, gcons}
+use base.Fml.{Lft, Share, Fml, Incl-trans, ftrue, fsep, fex, flft, finv, fbor, fobs, fauth, fres}
+use base.Before.{before}
+use prog.Wp.{WpFn}
+use types.Logic.{sem}
+use types.Kit.{Item, mean, ‵, raw, ◌⊛◌, some, given, later, at_ret, any_q, ◌$◌, ◌∵◌, !, qed, by, move, keep, drop, use0, use1, use2, use3, split, split3, join, group, fsplit, fsplit3, fjoin, fjoin3, fpick, fpack, pick, learn, check, show, frame, each, assume, suffices, await, updating, now, rewrite, settle, feq_i, feq_l, done}
+use types.Run.{stop, fld, load, look, store, addr, lit, unit_lit, of_opd, no_more, and_then, first, blocks, exec, returns, enter, assigns, store_raw, look_raw}
+use types.ByLocal.{alloc_all, pass_all, free_all, look_at, get, get_in, through, sets, sets_last, lands_as, lands_last, is, env}
+use types.Part.{agg, sub, whole}
+use types.Match.{live}
+use types.Tokens.{name_new}
+use contract.Running.{tables}
+use contract.Monad.{fact, fact_i}
+use contract.BorrowLft.{◌⊑◌, meet_⊑_left, meet_⊑_right}
+use contract.Shared.{Lends-one}
+use denote.Exit.{yes, no}
+use denote.RattleType.{RattleType, owns, Valss}
+use denote.Signature.{types_at, plain, named_lft}
+use denote.Steps.{nothing, heard, peeks, opens, closes}
+use denote.Opens.{hide, unhide}
+use denote.Laws.{Is, Typed, shows}
+use denote.Memory.{lone, cell_at, shared_of, mem}
+use denote.Param.{param, bounded, layouts, layout}
+use denote.Param.Laws.{param_laws}
+use denote.Builtin.{RefOf}
+use denote.Ref.{ShrRef, shr_vals, shr_Tells}
+use denote.Shadow.{makes_shadow}
+use denote.Struct.Struct.{within}
+use denote.Struct.Declared.{shape, fields}
+use denote.Struct.Tuple.{Tuple}
+use denote.Triple.Walked.{Stays, stay_dropped, walk_of, Goes-dropped}
+use Rattle.atomic_table.proofs.Walks.{proved, proved_at, leaves}
+use Rattle.core.proofs.atomic.Steps.{tail}
+use Rattle.core.proofs.cell.Inside.{Good, one}
+use Rattle.core.specs.declared.option.Option.{Option}
+use Rattle.core.specs.declared.option.Option.TheVariants.{None, Some}
+use Rattle.core.specs.contracts.option.Option.{the_row as OptionOf}
+use Rattle.core.proofs.option.Made.{Some-of, none_of}
+use Rattle.core.proofs.option.Option.TheLaws.{the_row_laws as option_laws}
+use Rattle.std.specs.Prelude.{IsSome}
+use Rattle.table_slab.specs.Slot.{Phase, idle, out, held, full, Rest, Turn, Lies, at, room, written, resting, Value, mine, view, Cell, kept}
+use Rattle.table_slab.specs.contracts.slot.Slot.{the_row}
+use Rattle.table_slab.specs.contracts.slot.Slot.TheInside as Inside
+use Rattle.table_slab.specs.contracts.slot.Right as Right
+use Rattle.table_slab.specs.contracts.slot.Standing as Standing
+use Rattle.table_slab.proofs.slot.Slot.TheInside.TheLaws.{the_row_laws as inside_laws}
+use Rattle.table_slab.proofs.Made.{token_val, written_made, room_made, room_told, set_of}
+use Rattle.table_slab.proofs.Steps as steps
+use Rattle.table_slab.specs.contracts.slot.Slot.whole.{ended, clauses}
+use Rattle.table_slab.specs.contracts.slot.Slot.whole.Key.{name as #self}
+use Rattle.table_slab.proofs.slot.Slot.whole.Statement.{statement}
+use Rattle.table_slab.proofs.slot.Slot.whole.Code as code
+
+pub whole_spec : {M : Type 1} → statement M
+whole_spec {M} 𝓤 𝓛 𝓜 𝓡 wired T L =
+    let H = 𝓛.H in let A = 𝓛.A in let 𝓣 = tables 𝓤 H 𝓜 𝓡 𝓡.env in let R : RattleType = param 0 T in let O : RattleType = OptionOf R in let LO = option_laws R (param_laws 0 T L) in let En = ended T in
+    let inst = layouts (a_type ∷ []) (T, tt) in let fn = inst_fn inst code.function in let c = clauses T 𝓛 𝓜.mem 𝓡.returns in
+    let self = RefOf (0 ∷ []) tt (plain (λ _. the_row R)) (λ _. tt) in let token = RefOf (1 ∷ []) tt (plain (λ _. Standing.the_row R)) (λ _. tt) in
+    let hs : Stays En.signature.params En.kept = (stay_dropped self yes, (stay_dropped token yes, tt)) in
+    proved 𝓛 En hs c 𝓜 𝓡 (Goes-dropped 𝓛 3 self yes (λ κs x f. refl), (Goes-dropped 𝓛 3 token yes (λ κs x f. refl), tt)) (#self inst) fn (code.unfolded 𝓤 H 𝓜 𝓡 wired (T, tt))
+    (λ κs. (shr_vals, (shr_vals, tt))) (λ κs. (shr_Tells (named 0) κs.0 (the_row R), (shr_Tells (named 1) κs.1.0 (Standing.the_row R), tt))) (λ κs qs bounds a gh are.
+    let b : ℕ = a.0.ref_ptr.0 in let o : ℕ = a.0.ref_ptr.1 in let γ : ℕ = a.0.now.id in let κ : Lft = κs.0 in let q : Share = qs.0 in
+    let w = a.1.0.now in let x : T.Denot = w.value in let p : Val = vptr a.1.0.ref_ptr.0 a.1.0.ref_ptr.1 in
+    let y : (walk_of 𝓛 En hs c).Ghost = ((κs, qs, bounds, a, (vptr b o ∷ [], (p ∷ [], tt))), gh) in let Post : Val → SProp 𝓤 = (walk_of 𝓛 En hs c).post y in
+    let others : Fml = fsep (flft κs.1.0 qs.1.0) (fsep (flft κs.1.1.0 qs.1.1.0) ftrue) in
+    qed 𝓛 (((‵ (flft κ q) ⊛ ‵ others) ⊛ ‵ (owns (types_at En.signature.params κs) a y.0.4)) ∷ raw (fact 𝓤 _) ∷ raw (fact 𝓤 (w.of ≡ γ)) ∷ []) ∵
+    keep ! (2 ∷ 0 ∷ []) $ heard ! (w.of ≡ γ) (λ same. split ! $ split ! $ move ! (2 ∷ []) $ fsplit3 ! $ fsplit ! $ move ! (2 ∷ []) $ fsplit ! $ keep ! (1 ∷ 3 ∷ 5 ∷ 6 ∷ []) $ unhide ! $ fsplit ! $ drop ! $
+    rewrite ! 0 (λ (k : ℕ). ‵ (written R k x)) same refl $ move ! (1 ∷ 2 ∷ 3 ∷ []) $ unhide ! $ fpick ! (λ t. let α : Lft = t.0 in let I : Fml = Cell R γ t b o in let e : ℕ = at R o in fsplit ! $
+    use1 𝓛 (‵ (before κ α) ⊛ ‵ (before κ α)) (types.Na.before_dup 𝓛 κ α) $ split ! $
+    enter ! 𝓣.C 𝓣.Λ fn (vptr b o ∷ p ∷ []) Post $ alloc_all ! (λ l. pass_all ! refl ((tt, tt), ((tt, tt), tt)) $ let Ev = env fn.locals l in
+    move ! (0 ∷ 3 ∷ []) $ use2 𝓛 (later (some (λ (s : Share). ‵ (flft α s) ⊛ raw (wand 𝓤 (A.lft α s) (H.⇛ (A.lft κ q)))))) (Lends-one 𝓛 𝓜 𝓡 κ α q) $ await ! tt $ pick ! (λ s. split ! $
+    let Shown : Fml = steps.Shown 𝓛 R γ t b o LO.shr_laws x in let Told : Type 0 = mathlib.Core.Path.Path O.Denot (Some x) (Some x) in
+    -- [the turn's token; the way back; before; the invariant; the others; written]
+    move ! (3 ∷ 0 ∷ 5 ∷ []) $ use3 𝓛 (later (‵ Shown ⊛ ‵ (flft α s))) (steps.at_rest 𝓛 R γ t b o s (sem 𝓛 (written R γ x)) (sem 𝓛 Shown) (steps.shows 𝓛 R γ t b o LO.shr_laws x)) $ await ! tt $ split ! $
+    use1 𝓛 (later (‵ (shared_of O (Some x) b e α))) (steps.settles 𝓛 R γ t b o LO.shr_laws x) $ await ! tt $
+    -- [the value; the turn's token; the way back; before; the others]
+    move ! (1 ∷ 2 ∷ []) $ use2 𝓛 (later (‵ (flft κ q))) (apply∗ 𝓤 (A.lft α s) (H.⇛ (A.lft κ q))) $ await ! tt $ move ! (0 ∷ 3 ∷ []) $ join ! $
+    move ! (2 ∷ 1 ∷ []) $ use2 𝓛 (‵ (shared_of O (Some x) b e κ)) ((LO.shr_laws (Some x) b e).mono M 𝓤 𝓛 κ α) $ hide ! $ feq_i ! (List Val) (vptr b e ∷ []) (vptr b e ∷ []) refl $ fjoin ! $
+    sets ! (addr ! (through ! refl (stop !))) refl (tt, tt) $ first ! $ blocks ! $
+    sets_last ! (addr ! (through ! refl (fld ! refl (stop !)))) refl (tt, tt) $ exec ! 𝓣.C 𝓣.Λ Ev (tail (tail fn.body)) (at_ret Ev Post) $ sets ! (of_opd ! (get ! refl)) refl (tt, tt) $
+    use0 𝓛 (raw (fact 𝓤 Told)) (fact_i 𝓤 Told (emp 𝓤) refl) $ nothing ! $ nothing ! $ fjoin ! $ nothing ! $ fjoin ! $
+    returns ! (look_at ! 0 refl) $ free_all ! refl $ keep ! (3 ∷ 0 ∷ 2 ∷ 1 ∷ []) $ by ! (leaves 𝓛 En hs c y (vptr b e) (record { ref_ptr = (b, e); now = Some x }) (tt, (tt, tt)) (tt, (tt, tt))))))))
