@@ -1,0 +1,5 @@
+mod Books
+pub mod Chained
+mod Laid
+pub mod Steps
+mod Trades

@@ -1,0 +1,50 @@
+//! What holds of all that is known of a chain. Each law is a call that does nothing, whose contract is the law.
+ghost use Rattle.std.specs.Prelude.{◌≡◌, ℕ, suc, ◌≤◌};
+ghost use mathlib.Core.List.{IsPrefix};
+ghost use Rattle.table_chain.specs.History.{Stands};
+ghost use Rattle.table_chain.specs.Chains.{IsOf};
+
+use crate::chain::Chain;
+use crate::rule::{Follows, Token};
+use std::alloc::Allocator;
+
+impl<G: Drop, F: Follows<G>, A: Allocator> Chain<G, F, A> {
+    /// Knows afterwards what both tokens knew: each is a beginning of what is known then.
+    pub fn learn(&self, seen: &mut Token<G, F>, other: &Token<G, F>)
+        requires of { IsOf F.begins F.follows self.now seen.old.book seen.old.names seen.old.log }
+        requires other { IsOf F.begins F.follows self.now other.now.book other.now.names other.now.log }
+        ensures of { IsOf F.begins F.follows self.now seen.new.book seen.new.names seen.new.log }
+        ensures longer { IsPrefix seen.old.log seen.new.log }
+        ensures others { IsPrefix other.now.log seen.new.log }
+    {
+        seen.learn(other)
+    }
+
+    /// Says that a value begins the chain, and each later one follows the one before it.
+    pub fn each_follows(&self, seen: &Token<G, F>)
+        requires of { IsOf F.begins F.follows self.now seen.now.book seen.now.names seen.now.log }
+        ensures first { (g : G) → Stands seen.now.log 0 g → F.begins g }
+        ensures later { (p : ℕ) (g : G) → Stands seen.now.log (suc p) g
+            → (f : G) × Stands seen.now.log p f × F.follows f g }
+    {
+        let _ = seen;
+    }
+
+    /// Says that each slot before one with a value has one.
+    pub fn none_is_left_out(&self, seen: &Token<G, F>)
+        requires of { IsOf F.begins F.follows self.now seen.now.book seen.now.names seen.now.log }
+        ensures below { (p q : ℕ) (g : G) → Stands seen.now.log p g → q ≤ p → (f : G) × Stands seen.now.log q f }
+    {
+        let _ = seen;
+    }
+
+    /// Says that two threads know the same value of a slot.
+    pub fn slots_agree(&self, one: &Token<G, F>, other: &Token<G, F>)
+        requires one { IsOf F.begins F.follows self.now one.now.book one.now.names one.now.log }
+        requires other { IsOf F.begins F.follows self.now other.now.book other.now.names other.now.log }
+        ensures { (p : ℕ) (f g : G) → Stands one.now.log p f → Stands other.now.log p g → f ≡ g }
+    {
+        let mut both = one.again();
+        both.learn(other);
+    }
+}

@@ -1,0 +1,17 @@
+//! A chain of values that threads share: shown one after another, each for good, and each follows the one before it.
+#![tactic(auto)]
+
+mod chain;
+mod ending;
+mod event;
+mod laws;
+mod rule;
+mod show;
+mod trade;
+mod word;
+
+pub use chain::Chain;
+pub use ending::Ending;
+pub use event::{Event, Stored};
+pub use rule::{ChainRule, Follows, Token};
+pub use show::Showing;
