@@ -3,10 +3,12 @@
 --     below, rise      each slot below one with a value has one; numbers rise from slot to slot
 --     joins      what may stand in a slot joins the chain under a greater number
 --     final      no value comes any more behind a chain that has ended
-use Rattle.std.proofs.Common.{◌≡◌, ◌≢◌, ℕ, zero, suc, ◌+◌, ◌-◌, ◌<◌, ◌≤◌, ◌⊎◌, List, length, refl, ap, sym, subst, ◌∙◌, arith, inl, inr}
+use Rattle.std.proofs.Common.{◌≡◌, ◌≢◌, ℕ, zero, suc, ◌+◌, ◌-◌, ◌<◌, ◌≤◌, ◌⊎◌, ◌++◌, List, [], ◌∷◌, length, length-append, refl, ap, sym, subst, ◌∙◌, arith, inl, inr}
+use Rattle.std.specs.Prelude.{slice_index_or}
+use Rattle.std.proofs.lemmas.List.{append-nil}
 use mathlib.Core.List.{IsPrefix}
 use mathlib.Core.Logic.{dite}
-use native.Mathlib.Decide.{ℕ_discrete}
+use native.Mathlib.Decide.{ℕ_discrete, dec_lt}
 use Rattle.table_chain.specs.declared.event.Stored.{Stored}
 use Rattle.table_chain.specs.declared.event.Stored.TheVariants.{Shown, End}
 use Rattle.table_chain.specs.History.{History, event, Has, Stands, IsUntouched, HasSize, numbers_of, slots_of, word_of, Joins, IsReached, Told}
@@ -50,6 +52,14 @@ module _ {G : Type 0} (Begins : G → Type 0) (Follows : G → G → Type 0) whe
       let is : k ≡ n - 2 = omega (arith, says) in
       (subst (λ (i : ℕ). Has after p i (Shown g)) is has, omega (arith, says), omega (arith, says, r.1.numbered p k g has, numbers_is (length r.0) r.1.numbers after r.1.size), is)
 
+  pub stands_on : (l m : History G) (p : ℕ) (g : G) → IsPrefix l m → Stands l p g → Stands m p g
+  stands_on l m p g on there = (there.0, later l m p there.0 (Shown g) on there.1)
+
+  -- one more slot with a value
+  pub values_push : (l m : History G) (n : ℕ) → IsPrefix l m → ((p : ℕ) → p < n → (g : G) × Stands l p g) → ((g : G) × Stands m n g) → (p : ℕ) → p < n + 1 → (g : G) × Stands m p g
+  values_push l m n on before here p lt = dite (ℕ_discrete p n) (λ (is : p ≡ n). subst (λ (i : ℕ). (g : G) × Stands m i g) (sym is) here)
+      (λ (ne : p ≢ n). let v = before p (omega (arith, lt, ne)) in (v.0, stands_on l m p v.0 on v.1))
+
   pub slot_within : (slots numbers : ℕ) (log : History G) → HasSize slots numbers log → Reached log → (p k : ℕ) (s : Stored G) → Has log p k s → p < slots
   slot_within slots numbers log size r p k s there = omega (arith, r.1.inside p k s there, slots_is (length r.0) r.1.numbers log r.1.size, slots_is slots numbers log size)
 
@@ -82,7 +92,7 @@ module _ {G : Type 0} (Begins : G → Type 0) (Follows : G → G → Type 0) whe
   }
 
   pub ends : (n slots numbers : ℕ) (log : History G) → HasSize slots numbers log → IsWhole slots n log → (after : History G) → IsPrefix log after → Reached after → (p : ℕ) (g : G) → Stands after p g → p < n
-  ends n slots numbers log size whole after on r p g there = dite (native.Mathlib.Decide.ℕ_lt p n) (λ (lt : p < n). lt) (λ (no : p < n → ⊥). absurd (let at = below after r p n there.0 g (omega (arith, no)) there.1 in elim whole.last [
+  ends n slots numbers log size whole after on r p g there = dite (dec_lt p n) (λ (lt : p < n). lt) (λ (no : p < n → ⊥). absurd (let at = below after r p n there.0 g (omega (arith, no)) there.1 in elim whole.last [
     | inl all ↦ let here = r.1.inside n at.0 (Shown at.1) at.2 in omega (arith, all, here, slots_is (length r.0) r.1.numbers after r.1.size, slots_is slots numbers after (size_on slots numbers log after size on))
     | inr last ↦ let no : Shown at.1 ≡ End = (r.1.once n at.0 last.0 (Shown at.1) End at.2 (later log after n last.0 End on last.1)).1 in cc
   ]))
@@ -90,3 +100,11 @@ module _ {G : Type 0} (Begins : G → Type 0) (Follows : G → G → Type 0) whe
   pub final : (n slots numbers : ℕ) (log : History G) → HasSize slots numbers log → IsWhole slots n log → IsFinal Begins Follows log
   final n slots numbers log size whole after on r p g there = let lt : p < n = ends n slots numbers log size whole after on r p g there in let v = whole.values p lt in
       let is : v.0 ≡ g = one_value after p v.1.0 there.0 v.0 g r (later log after p v.1.0 (Shown v.0) on v.1.1) there.1 in (v.1.0, subst (λ (x : G). Has log p v.1.0 (Shown x)) is v.1.1)
+
+  -- the values of a chain that has ended
+  pub are_values : (n slots numbers : ℕ) (log : History G) (gs : List G) → HasSize slots numbers log → Reached log → IsWhole slots n log → length gs ≡ n
+      → ((p : ℕ) (d : G) → p < length gs → Stands log p (slice_index_or gs p d)) → AreValues log gs
+  are_values n slots numbers log gs size r whole long each = record {
+    each = each;
+    none = λ p g there. omega (arith, long, ends n slots numbers log size whole log ([], append-nil log) r p g there);
+  }

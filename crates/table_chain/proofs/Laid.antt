@@ -1,5 +1,5 @@
 -- The words of a chain, by their places.
-use Rattle.std.proofs.Common.{◌≡◌, ◌≢◌, ℕ, zero, suc, ◌<◌, ◌++◌, List, [], ◌∷◌, length, ap, sym, ◌∙◌, arith, refl, length-append}
+use Rattle.std.proofs.Common.{◌≡◌, ◌≢◌, ℕ, zero, suc, ◌<◌, ◌++◌, List, [], ◌∷◌, length, ap, sym, ◌∙◌, arith, refl, subst, length-append}
 use Rattle.std.specs.Prelude.{slice_index_or}
 use mathlib.Core.Logic.{dite}
 use native.Mathlib.Decide.{ℕ_discrete}
@@ -27,3 +27,9 @@ words_push b ws w are word key k d lt = dite (ℕ_discrete k (length ws))
     ((ap (λ (x : Named). x.tracked) here ∙ word.0, ap (λ (x : Named). x.book) here ∙ word.1), ap (λ (x : Named). x.key) here ∙ (key ∙ sym is)))
     (λ (ne : k ≢ length ws). let less : k < length ws = omega (arith, lt, ne, length-append ws (w ∷ [])) in let before = are k d less in let here : slice_index_or (ws ++ w ∷ []) k d ≡ slice_index_or ws k d = get_or-push_below ws w d k less in
     ((ap (λ (x : Named). x.tracked) here ∙ before.0.0, ap (λ (x : Named). x.book) here ∙ before.0.1), ap (λ (x : Named). x.key) here ∙ before.1))
+
+-- one more value in the list that is handed out
+pub each_push : {X : Type 0} (P : ℕ → X → Type 0) (xs : List X) (x : X) → ((p : ℕ) (d : X) → p < length xs → P p (slice_index_or xs p d)) → P (length xs) x → (p : ℕ) (d : X) → p < length (xs ++ x ∷ []) → P p (slice_index_or (xs ++ x ∷ []) p d)
+each_push P xs x each here p d lt = dite (ℕ_discrete p (length xs))
+    (λ (is : p ≡ length xs). subst (P p) (sym (ap (λ (i : ℕ). slice_index_or (xs ++ x ∷ []) i d) is ∙ get_or-push_last xs x d)) (subst (λ (i : ℕ). P i x) (sym is) here))
+    (λ (ne : p ≢ length xs). let less : p < length xs = omega (arith, lt, ne, length-append xs (x ∷ [])) in subst (P p) (sym (get_or-push_below xs x d p less)) (each p d less))

@@ -1,5 +1,5 @@
 //! The chain, and how it is looked at.
-ghost use Rattle.std.specs.Prelude.{◌≡◌, ◌≢◌, ℕ, suc, ◌+◌, ◌<◌, ◌≤◌, ◌^◌, length, MatchOption, IfOk, IfErr};
+ghost use Rattle.std.specs.Prelude.{◌≡◌, ◌≢◌, ℕ, ◌+◌, ◌<◌, ◌≤◌, ◌^◌, length, MatchOption, IfOk, IfErr};
 ghost use mathlib.Core.List.{IsPrefix};
 ghost use Rattle.table_chain.specs.History.{Stands, Told};
 ghost use Rattle.table_chain.specs.Chains.{IsOf, IsOpen, IsEnd};
@@ -118,14 +118,14 @@ impl<G: Drop, F: Follows<G>, A: Allocator> Chain<G, F, A> {
         ensures longer { IsPrefix seen.old.log seen.new.log }
         ensures forth { from ≤ result }
         ensures there { (g : G) × Stands seen.new.log result g }
-        ensures last { suc result < self.now.slots → IsOpen seen.new.log (suc result) }
+        ensures last { result + 1 < self.now.slots → IsOpen seen.new.log (result + 1) }
     {
         let mut last = from;
         while last + 1 < self.words.len() {
-            if self.look(seen, last + 1).is_none() {
-                return last;
+            match self.look(seen, last + 1) {
+                Some(_) => last += 1,
+                None => return last,
             }
-            last += 1;
         }
         last
     }
@@ -138,7 +138,7 @@ impl<G: Drop, F: Follows<G>, A: Allocator> Chain<G, F, A> {
         ensures longer { IsPrefix seen.old.log seen.new.log }
         ensures forth { from ≤ result.0 }
         ensures there { Stands seen.new.log result.0 result.1.now }
-        ensures last { suc result.0 < self.now.slots → IsOpen seen.new.log (suc result.0) }
+        ensures last { result.0 + 1 < self.now.slots → IsOpen seen.new.log (result.0 + 1) }
     {
         let slot = self.last(seen, from);
         (slot, self.get(seen, slot))

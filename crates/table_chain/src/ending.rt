@@ -1,5 +1,5 @@
 //! The end of a chain: its values are handed out.
-ghost use Rattle.std.specs.Prelude.{◌≡◌, ℕ, suc, ◌<◌, ◌≤◌, MatchOption, IfOk, IfErr, length, vec_capacity};
+ghost use Rattle.std.specs.Prelude.{◌≡◌, ℕ, ◌+◌, ◌<◌, ◌≤◌, MatchOption, IfOk, IfErr, length, vec_capacity};
 ghost use mathlib.Core.List.{IsPrefix};
 ghost use Rattle.table_chain.specs.History.{Stands};
 ghost use Rattle.table_chain.specs.Chains.{IsOf, IsWhole, IsFinal, AreValues};
@@ -105,7 +105,8 @@ impl<G: Drop, F: Follows<G>, A: Allocator> Ending<G, F, A> {
         ensures log { self.new.log ≡ self.old.log }
         ensures count { self.new.count ≡ self.old.count }
         ensures some { MatchOption result ((self.old.taken ≡ self.old.count) × (self.new.taken ≡ self.old.taken))
-            (λ g. Stands self.old.log self.old.taken g × (self.new.taken ≡ suc self.old.taken)) }
+            (λ g. Stands self.old.log self.old.taken g × (self.old.taken < self.old.count)
+                × (self.new.taken ≡ self.old.taken + 1)) }
     {
         if self.taken == self.count {
             return None;
