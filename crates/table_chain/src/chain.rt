@@ -2,7 +2,7 @@
 ghost use Rattle.std.specs.Prelude.{◌≡◌, ◌≢◌, ℕ, ◌+◌, ◌<◌, ◌≤◌, ◌^◌, length, MatchOption, IfOk, IfErr};
 ghost use mathlib.Core.List.{IsPrefix};
 ghost use Rattle.table_chain.specs.History.{Stands, Told};
-ghost use Rattle.table_chain.specs.Chains.{IsOf, IsOpen, IsEnd};
+ghost use Rattle.table_chain.specs.Chains.{IsOf, IsOpen, IsEnd, AreWords};
 
 use crate::rule::{ChainRule, Follows, SlotWord, Token};
 use crate::show::Showing;
@@ -14,7 +14,6 @@ use std::marker::Model;
 use table_slab::Slab;
 
 /// Values that threads share: each is shown in the next slot, for good, and follows the one before it.
-#[derive(Drop)]
 pub struct Chain<G: Drop, F: Follows<G>, A: Allocator> {
     pub(crate) words: Vec<SlotWord<G, F>, A>,
     pub(crate) slab: Slab<G, A>,
@@ -142,6 +141,30 @@ impl<G: Drop, F: Follows<G>, A: Allocator> Chain<G, F, A> {
     {
         let slot = self.last(seen, from);
         (slot, self.get(seen, slot))
+    }
+}
+
+impl<G: Drop, F: Follows<G>, A: Allocator> Chain<G, F, A> {
+    /// Takes the chain apart, with its values where they lie.
+    pub(crate) fn into_parts(self) -> (Vec<SlotWord<G, F>, A>, Slab<G, A>)
+        ensures words { AreWords self.book result.0.items }
+        ensures slots { length result.0.items ≡ self.slots }
+        ensures slab { result.1 ≡ self.names }
+    {
+        let Chain {
+            words,
+            slab,
+            start: _,
+        } = self;
+        (words, slab)
+    }
+}
+
+impl<G: Drop, F: Follows<G>, A: Allocator> Drop for Chain<G, F, A> {
+    /// Drops each value.
+    fn drop(self) {
+        let mut seen = self.start();
+        drop(self.into_ending(&mut seen));
     }
 }
 

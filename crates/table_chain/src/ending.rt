@@ -12,8 +12,7 @@ use std::alloc::Allocator;
 use std::marker::Model;
 use table_slab::Remains;
 
-/// A chain that nobody shares any more, and how many of its values were handed out.
-#[derive(Drop)]
+/// A chain that nobody shares any more, and how many of its values were handed out. Dropping it drops the others.
 pub struct Ending<G: Drop, F: Follows<G>, A: Allocator> {
     words: Vec<SlotWord<G, F>, A>,
     remains: Remains<G, A>,
@@ -59,11 +58,7 @@ impl<G: Drop, F: Follows<G>, A: Allocator> Chain<G, F, A> {
         ensures whole { IsWhole self.slots result.count seen.new.log }
     {
         let count = self.close_behind(seen);
-        let Chain {
-            words,
-            slab,
-            start: _,
-        } = self;
+        let (words, slab) = self.into_parts();
         Ending {
             words,
             remains: slab.into_remains(),
@@ -106,7 +101,7 @@ impl<G: Drop, F: Follows<G>, A: Allocator> Ending<G, F, A> {
         ensures count { self.new.count ≡ self.old.count }
         ensures some { MatchOption result ((self.old.taken ≡ self.old.count) × (self.new.taken ≡ self.old.taken))
             (λ g. Stands self.old.log self.old.taken g × (self.old.taken < self.old.count)
-                × (self.new.taken ≡ self.old.taken + 1)) }
+            × (self.new.taken ≡ self.old.taken + 1)) }
     {
         if self.taken == self.count {
             return None;
@@ -117,5 +112,21 @@ impl<G: Drop, F: Follows<G>, A: Allocator> Ending<G, F, A> {
         let standing = known(&later, slot as u64, number);
         self.taken = slot + 1;
         Some(self.remains.take_out(number, &standing))
+    }
+}
+
+impl<G: Drop, F: Follows<G>, A: Allocator> Drop for Ending<G, F, A> {
+    /// Drops each value that wasn't handed out.
+    fn drop(mut self) {
+        while let Some(value) = self.next() {
+            drop(value);
+        }
+        let Ending {
+            words: _,
+            remains: _,
+            seen: _,
+            count: _,
+            taken: _,
+        } = self;
     }
 }
