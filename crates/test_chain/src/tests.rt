@@ -1,2 +1,3 @@
+mod alone;
 mod counting;
 mod threads;
