@@ -1,4 +1,4 @@
-//! The chain, and how it is looked at.
+//! The chain, and how threads read it.
 ghost use Rattle.std.specs.Prelude.{◌≡◌, ◌≢◌, ℕ, ◌+◌, ◌<◌, ◌≤◌, ◌^◌, length, MatchOption, IfOk, IfErr};
 ghost use mathlib.Core.List.{IsPrefix};
 ghost use Rattle.table_chain.specs.History.{Stands, Told};
@@ -13,7 +13,8 @@ use std::alloc::{AllocError, Allocator};
 use std::marker::Model;
 use table_slab::Slab;
 
-/// Values that threads share: each is shown in the next slot, for good, and follows the one before it.
+/// A fixed number of slots, filled in order: any thread may show a value in the next slot, where it stays until the chain is dropped.
+/// Each value follows the one before it, as `F` says. No call takes a lock.
 pub struct Chain<G: Drop, F: Follows<G>, A: Allocator> {
     pub(crate) words: Vec<SlotWord<G, F>, A>,
     pub(crate) slab: Slab<G, A>,
@@ -40,7 +41,7 @@ impl<G: Drop, A: Allocator> Names<Slab<G, A>> for SlabNames {
 }
 
 impl<G: Drop, F: Follows<G>, A: Allocator> Chain<G, F, A> {
-    /// Returns what is known of it from the first.
+    /// Returns a token that knows what the chain had when it was made: its first value.
     pub fn start(&self) -> Token<G, F>
         ensures of { IsOf F.begins F.follows self.now result.book result.names result.log }
         ensures log { result.log ≡ self.now.start }
@@ -48,14 +49,14 @@ impl<G: Drop, F: Follows<G>, A: Allocator> Chain<G, F, A> {
         self.start.again()
     }
 
-    /// Returns how many slots there are.
+    /// Returns the number of slots.
     pub fn slots(&self) -> usize
         ensures { result ≡ self.now.slots }
     {
         self.words.len()
     }
 
-    /// Returns the number that the slot's word has by now.
+    /// Loads the word of a slot.
     pub(crate) fn look_at(&self, seen: &mut Token<G, F>, slot: usize) -> u64
         requires of { IsOf F.begins F.follows self.now seen.old.book seen.old.names seen.old.log }
         requires inside { slot < self.now.slots }
@@ -66,7 +67,7 @@ impl<G: Drop, F: Follows<G>, A: Allocator> Chain<G, F, A> {
         look(&self.words[slot], seen)
     }
 
-    /// Returns the value that a set word names; None where that says that the chain ends.
+    /// Returns the value that a slot's word names. `None` means that the chain ends before the slot.
     pub(crate) fn shown<'a>(&'a self, seen: &Token<G, F>, slot: usize, found: u64) -> Option<&'a G>
         requires of { IsOf F.begins F.follows self.now seen.now.book seen.now.names seen.now.log }
         requires set { found ≢ 0 }
@@ -81,7 +82,7 @@ impl<G: Drop, F: Follows<G>, A: Allocator> Chain<G, F, A> {
         Some(self.slab.get(number, &standing))
     }
 
-    /// Returns what stands in the slot by now. It is one load of a word.
+    /// Loads the word of a slot, and returns the slot's value. `None` means that the slot had no value at that moment.
     pub fn look<'a>(&'a self, seen: &mut Token<G, F>, slot: usize) -> Option<&'a G>
         requires of { IsOf F.begins F.follows self.now seen.old.book seen.old.names seen.old.log }
         requires inside { slot < self.now.slots }
@@ -96,7 +97,7 @@ impl<G: Drop, F: Follows<G>, A: Allocator> Chain<G, F, A> {
         self.shown(seen, slot, found)
     }
 
-    /// Returns what stands in the slot, for who knows that something does.
+    /// Returns the value of a slot that the caller knows to have one.
     pub fn get<'a>(&'a self, seen: &Token<G, F>, slot: usize) -> &'a G
         requires of { IsOf F.begins F.follows self.now seen.now.book seen.now.names seen.now.log }
         requires there { (g : G) × Stands seen.now.log slot g }
@@ -109,13 +110,14 @@ impl<G: Drop, F: Follows<G>, A: Allocator> Chain<G, F, A> {
         self.slab.get(number, &standing)
     }
 
-    /// Returns the last slot from here on in which a value stands.
+    /// Returns the last slot, from `from` on, that has a value.
     fn last(&self, seen: &mut Token<G, F>, from: usize) -> usize
         requires of { IsOf F.begins F.follows self.now seen.old.book seen.old.names seen.old.log }
         requires there { (g : G) × Stands seen.old.log from g }
         ensures of { IsOf F.begins F.follows self.now seen.new.book seen.new.names seen.new.log }
         ensures longer { IsPrefix seen.old.log seen.new.log }
         ensures forth { from ≤ result }
+        ensures inside { result < self.now.slots }
         ensures there { (g : G) × Stands seen.new.log result g }
         ensures last { result + 1 < self.now.slots → IsOpen seen.new.log (result + 1) }
     {
@@ -129,13 +131,15 @@ impl<G: Drop, F: Follows<G>, A: Allocator> Chain<G, F, A> {
         last
     }
 
-    /// Returns the newest value, and its slot: the first from here on behind which none stood.
+    /// Returns the newest value and its slot. The search begins at `from`, which the caller knows to have a value; at the moment of the last
+    /// load the next slot had none.
     pub fn newest<'a>(&'a self, seen: &mut Token<G, F>, from: usize) -> (usize, &'a G)
         requires of { IsOf F.begins F.follows self.now seen.old.book seen.old.names seen.old.log }
         requires there { (g : G) × Stands seen.old.log from g }
         ensures of { IsOf F.begins F.follows self.now seen.new.book seen.new.names seen.new.log }
         ensures longer { IsPrefix seen.old.log seen.new.log }
         ensures forth { from ≤ result.0 }
+        ensures inside { result.0 < self.now.slots }
         ensures there { Stands seen.new.log result.0 result.1.now }
         ensures last { result.0 + 1 < self.now.slots → IsOpen seen.new.log (result.0 + 1) }
     {
@@ -145,7 +149,7 @@ impl<G: Drop, F: Follows<G>, A: Allocator> Chain<G, F, A> {
 }
 
 impl<G: Drop, F: Follows<G>, A: Allocator> Chain<G, F, A> {
-    /// Takes the chain apart, with its values where they lie.
+    /// Takes the chain apart. Its values stay in the slab.
     pub(crate) fn into_parts(self) -> (Vec<SlotWord<G, F>, A>, Slab<G, A>)
         ensures words { AreWords self.book result.0.items }
         ensures slots { length result.0.items ≡ self.slots }
@@ -161,7 +165,7 @@ impl<G: Drop, F: Follows<G>, A: Allocator> Chain<G, F, A> {
 }
 
 impl<G: Drop, F: Follows<G>, A: Allocator> Drop for Chain<G, F, A> {
-    /// Drops each value.
+    /// Drops each value, and frees the memory.
     fn drop(self) {
         let mut seen = self.start();
         drop(self.into_ending(&mut seen));
@@ -169,7 +173,7 @@ impl<G: Drop, F: Follows<G>, A: Allocator> Drop for Chain<G, F, A> {
 }
 
 impl<G: Drop, F: Follows<G>, A: Allocator + Copy> Chain<G, F, A> {
-    /// Asks for memory for the words of this many slots and for this many values. A refusal leaves nothing.
+    /// Allocates the words of `slots` slots, and a slab of `numbers` values. A refused request leaves nothing.
     pub(crate) fn empty(
         alloc: A,
         slots: usize,
@@ -194,7 +198,7 @@ impl<G: Drop, F: Follows<G>, A: Allocator + Copy> Chain<G, F, A> {
         })
     }
 
-    /// Shows the first value; it comes back where it can't.
+    /// Shows the first value. `Err` returns it.
     fn begin(&self, seen: &mut Token<G, F>, first: G) -> Result<(), G>
         requires of { IsOf F.begins F.follows self.now seen.old.book seen.old.names seen.old.log }
         requires slots { 0 < self.now.slots }
@@ -210,7 +214,8 @@ impl<G: Drop, F: Follows<G>, A: Allocator + Copy> Chain<G, F, A> {
         }
     }
 
-    /// Makes one of this many slots, in which `first` stands, with memory for this many values. Err: no memory; the value comes back.
+    /// Makes a chain of `slots` slots whose first value is `first`, with memory for `numbers` values. A value that loses a race uses up one of
+    /// them. `Err` returns `first`: memory was refused.
     pub fn new(alloc: A, slots: usize, numbers: usize, first: G) -> Result<Chain<G, F, A>, G>
         requires slots { 0 < slots }
         requires few { numbers + 2 < 2 ^ 32 }

@@ -1,4 +1,4 @@
-//! The end of a chain: its values are handed out.
+//! The end of a chain: its owner takes the values out.
 ghost use Rattle.std.specs.Prelude.{◌≡◌, ℕ, ◌+◌, ◌<◌, ◌≤◌, MatchOption, IfOk, IfErr, length, vec_capacity};
 ghost use mathlib.Core.List.{IsPrefix};
 ghost use Rattle.table_chain.specs.History.{Stands};
@@ -12,7 +12,7 @@ use std::alloc::Allocator;
 use std::marker::Model;
 use table_slab::Remains;
 
-/// A chain that nobody shares any more, and how many of its values were handed out. Dropping it drops the others.
+/// A chain that no thread shares any more. It returns the values one by one; dropping it drops the rest.
 pub struct Ending<G: Drop, F: Follows<G>, A: Allocator> {
     words: Vec<SlotWord<G, F>, A>,
     remains: Remains<G, A>,
@@ -33,7 +33,7 @@ impl<G: Drop, F: Follows<G>, A: Allocator> Model for Ending<G, F, A> {
 }
 
 impl<G: Drop, F: Follows<G>, A: Allocator> Chain<G, F, A> {
-    /// Closes the first empty slot, so that no value comes any more. Returns how many stand there.
+    /// Closes the first empty slot, so that no value can be shown any more. Returns the number of values.
     fn close_behind(&self, seen: &mut Token<G, F>) -> usize
         requires of { IsOf F.begins F.follows self.now seen.old.book seen.old.names seen.old.log }
         ensures of { IsOf F.begins F.follows self.now seen.new.book seen.new.names seen.new.log }
@@ -48,7 +48,7 @@ impl<G: Drop, F: Follows<G>, A: Allocator> Chain<G, F, A> {
         self.words.len()
     }
 
-    /// Ends the chain: no value is shown any more, and those that were are handed out one by one.
+    /// Ends the chain. No value can be shown any more.
     pub fn into_ending(self, seen: &mut Token<G, F>) -> Ending<G, F, A>
         requires of { IsOf F.begins F.follows self seen.old.book seen.old.names seen.old.log }
         ensures of { IsOf F.begins F.follows self seen.new.book seen.new.names seen.new.log }
@@ -68,8 +68,8 @@ impl<G: Drop, F: Follows<G>, A: Allocator> Chain<G, F, A> {
         }
     }
 
-    /// Ends the chain, and hands out its values in the order of slots: all that were shown, and none can be from then on.
-    /// Err: no memory; the chain is as it was.
+    /// Ends the chain, and returns all values that were ever shown, in the order of slots. `Err` returns the chain unchanged: memory was
+    /// refused.
     pub fn into_values<B: Allocator>(
         self,
         alloc: B,
@@ -95,7 +95,7 @@ impl<G: Drop, F: Follows<G>, A: Allocator> Chain<G, F, A> {
 }
 
 impl<G: Drop, F: Follows<G>, A: Allocator> Ending<G, F, A> {
-    /// Hands out the value of the next slot; None where all were handed out.
+    /// Returns the value of the next slot. `None` means that all values were returned.
     pub fn next(&mut self) -> Option<G>
         ensures log { self.new.log ≡ self.old.log }
         ensures count { self.new.count ≡ self.old.count }
@@ -116,7 +116,7 @@ impl<G: Drop, F: Follows<G>, A: Allocator> Ending<G, F, A> {
 }
 
 impl<G: Drop, F: Follows<G>, A: Allocator> Drop for Ending<G, F, A> {
-    /// Drops each value that wasn't handed out.
+    /// Drops each value that `next` did not return.
     fn drop(mut self) {
         while let Some(value) = self.next() {
             drop(value);

@@ -1,4 +1,4 @@
-//! What holds of all that is known of a chain. Each law is a call that does nothing, whose contract is the law.
+//! What threads know of a chain, put together. A law is a call that does nothing, and whose contract states it.
 ghost use Rattle.std.specs.Prelude.{◌≡◌, ℕ, suc, ◌≤◌};
 ghost use mathlib.Core.List.{IsPrefix};
 ghost use Rattle.table_chain.specs.History.{Stands};
@@ -9,7 +9,7 @@ use crate::rule::{Follows, Token};
 use std::alloc::Allocator;
 
 impl<G: Drop, F: Follows<G>, A: Allocator> Chain<G, F, A> {
-    /// Knows afterwards what both tokens knew: each is a beginning of what is known then.
+    /// Adds what `other` knows to `seen`. Each of the two histories is a prefix of the result.
     pub fn learn(&self, seen: &mut Token<G, F>, other: &Token<G, F>)
         requires of { IsOf F.begins F.follows self.now seen.old.book seen.old.names seen.old.log }
         requires other { IsOf F.begins F.follows self.now other.now.book other.now.names other.now.log }
@@ -20,7 +20,7 @@ impl<G: Drop, F: Follows<G>, A: Allocator> Chain<G, F, A> {
         seen.learn(other)
     }
 
-    /// Says that a value begins the chain, and each later one follows the one before it.
+    /// States that the first value may begin a chain, and that each later one follows the one before it.
     pub fn each_follows(&self, seen: &Token<G, F>)
         requires of { IsOf F.begins F.follows self.now seen.now.book seen.now.names seen.now.log }
         ensures first { (g : G) → Stands seen.now.log 0 g → F.begins g }
@@ -30,7 +30,7 @@ impl<G: Drop, F: Follows<G>, A: Allocator> Chain<G, F, A> {
         let _ = seen;
     }
 
-    /// Says that each slot before one with a value has one.
+    /// States that each slot before one with a value has a value.
     pub fn none_is_left_out(&self, seen: &Token<G, F>)
         requires of { IsOf F.begins F.follows self.now seen.now.book seen.now.names seen.now.log }
         ensures below { (p q : ℕ) (g : G) → Stands seen.now.log p g → q ≤ p → (f : G) × Stands seen.now.log q f }
@@ -38,7 +38,7 @@ impl<G: Drop, F: Follows<G>, A: Allocator> Chain<G, F, A> {
         let _ = seen;
     }
 
-    /// Says that two threads know the same value of a slot.
+    /// States that any two threads know the same value of a slot.
     pub fn slots_agree(&self, one: &Token<G, F>, other: &Token<G, F>)
         requires one { IsOf F.begins F.follows self.now one.now.book one.now.names one.now.log }
         requires other { IsOf F.begins F.follows self.now other.now.book other.now.names other.now.log }

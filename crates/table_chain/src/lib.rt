@@ -1,4 +1,4 @@
-//! A chain of values that threads share: shown one after another, each for good, and each follows the one before it.
+//! An append-only chain of values that threads share: each value is shown in the next slot, for good, and follows the one before it.
 #![tactic(auto)]
 
 mod chain;

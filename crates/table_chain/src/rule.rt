@@ -1,14 +1,14 @@
-//! The rule of a chain's book, and what its steps tell.
+//! The rule of a chain's book: what holds between any two steps of any threads, and what each step says.
 use crate::event::Event;
 use logbook::{Gain, Opening, Plain, Play, Rule, Seen, Word};
 use std::marker::PhantomData;
 
-/// What may stand in a chain.
+/// Which values may be in a chain.
 pub trait Follows<G> {
-    /// What may stand first.
+    /// The values that may be first.
     ghost begins: { G → Type 0 };
 
-    /// The one before, and what may stand behind it.
+    /// A value, and those that may be in the slot after it.
     ghost follows: { G → G → Type 0 };
 }
 
@@ -17,7 +17,8 @@ pub struct ChainRule<G, F> {
     of: PhantomData<(G, F)>,
 }
 
-/// That a chain has come so far: a copyable token without bytes, which knows what stands in which slot.
+/// A prefix of a chain's history that its holder has observed: which value is in which slot. It has no bytes; `again` copies it, and
+/// threads may send and share it.
 pub type Token<G, F> = Seen<Event<G>, u64, ChainRule<G, F>>;
 
 /// A slot's word: 0 is empty, 1 is the end, and else it is the number of the value that stands there, and 2.

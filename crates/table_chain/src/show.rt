@@ -1,4 +1,4 @@
-//! How a value comes into a chain.
+//! How threads show values.
 ghost use Rattle.std.specs.Prelude.{◌≡◌, ◌≢◌, ℕ, suc, ◌+◌, ◌<◌, true, length, None};
 ghost use mathlib.Core.List.{IsPrefix};
 ghost use Rattle.table_slab.specs.Tokens.{IsRight};
@@ -13,19 +13,19 @@ use crate::word::{Lost, publish};
 use std::alloc::Allocator;
 use table_slab::Numbered;
 
-/// What became of a value that was to be shown.
+/// The outcome of `Chain::show`.
 #[derive(Drop)]
 pub enum Showing<'a, G> {
-    /// It stands in the slot.
+    /// The value is in the slot.
     Shown(&'a G),
-    /// Another one stands there; the value comes back.
+    /// The slot has this other value. The caller's value is returned.
     Other(&'a G, G),
-    /// There is no memory for it, or the chain has ended; the value comes back.
+    /// There is no memory for the value, or the chain has ended. The value is returned.
     Refused(G),
 }
 
 impl<G: Drop, F: Follows<G>, A: Allocator> Chain<G, F, A> {
-    /// Returns the value, beside what stands in its slot.
+    /// Returns `next` to the caller, beside the value that the slot has.
     fn other<'a>(&'a self, seen: &Token<G, F>, slot: usize, found: u64, next: G) -> Showing<'a, G>
         requires of { IsOf F.begins F.follows self.now seen.now.book seen.now.names seen.now.log }
         requires set { found ≢ 0 }
@@ -38,7 +38,7 @@ impl<G: Drop, F: Follows<G>, A: Allocator> Chain<G, F, A> {
         }
     }
 
-    /// Answers whether the number comes after that of what stands in the slot before.
+    /// Returns true if the value of the slot before has a smaller number. So no two slots have one number.
     fn rises(&self, seen: &mut Token<G, F>, slot: usize, number: u64) -> bool
         requires of { IsOf F.begins F.follows self.now seen.old.book seen.old.names seen.old.log }
         requires inside { slot < self.now.slots }
@@ -53,7 +53,7 @@ impl<G: Drop, F: Follows<G>, A: Allocator> Chain<G, F, A> {
         self.look_at(seen, slot - 1) < number + 2
     }
 
-    /// Shows the value in the slot, by one exchange, unless another one stands there.
+    /// Shows `next` in a slot by one exchange. If another value is there already, or wins the exchange, that value is returned beside `next`.
     pub fn show<'a>(&'a self, seen: &mut Token<G, F>, slot: usize, next: G) -> Showing<'a, G>
         requires of { IsOf F.begins F.follows self.now seen.old.book seen.old.names seen.old.log }
         requires inside { slot < self.now.slots }
@@ -75,7 +75,7 @@ impl<G: Drop, F: Follows<G>, A: Allocator> Chain<G, F, A> {
         self.show_under(seen, slot, free, next)
     }
 
-    /// Shows the value under this number.
+    /// Shows `next` under a number that no other value has.
     fn show_under<'a>(
         &'a self,
         seen: &mut Token<G, F>,

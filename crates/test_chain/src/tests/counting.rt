@@ -94,8 +94,9 @@ pub fn push<A: Allocator>(
     requires known { Knows chain.now seen.old.book seen.old.names seen.old.log }
     ensures known { Knows chain.now seen.new.book seen.new.names seen.new.log }
 {
+    let slots = chain.slots();
     let (newest, _value) = chain.newest(seen, 0);
-    if newest + 1 < chain.slots() {
+    if newest + 1 < slots {
         Fared::of(chain.show(seen, newest + 1, Counting { number, drops }))
     } else {
         Fared::Full
