@@ -3,7 +3,7 @@
 --     below, rise      each slot below one with a value has one; numbers rise from slot to slot
 --     joins      what may stand in a slot joins the chain under a greater number
 --     final      no value comes any more behind a chain that has ended
-use Rattle.std.proofs.Common.{◌≡◌, ◌≢◌, ℕ, zero, suc, ◌+◌, ◌-◌, ◌<◌, ◌≤◌, ◌⊎◌, ◌++◌, List, [], ◌∷◌, length, length-append, refl, ap, sym, subst, ◌∙◌, arith, inl, inr}
+use Rattle.std.proofs.Common.{◌≡◌, ◌≢◌, ℕ, zero, suc, ◌+◌, ◌-◌, ◌<◌, ◌≤◌, List, [], length, refl, ap, sym, subst, ◌∙◌, arith, inl, inr}
 use Rattle.std.specs.Prelude.{slice_index_or}
 use Rattle.std.proofs.lemmas.List.{append-nil}
 use mathlib.Core.List.{IsPrefix}
@@ -11,7 +11,7 @@ use mathlib.Core.Logic.{dite}
 use native.Mathlib.Decide.{ℕ_discrete, dec_lt}
 use Rattle.table_chain.specs.declared.event.Stored.{Stored}
 use Rattle.table_chain.specs.declared.event.Stored.TheVariants.{Shown, End}
-use Rattle.table_chain.specs.History.{History, event, Has, Stands, IsUntouched, HasSize, numbers_of, slots_of, word_of, Joins, IsReached, Told}
+use Rattle.table_chain.specs.History.{History, Has, Stands, HasSize, numbers_of, word_of, Joins, IsReached, Told}
 use Rattle.table_chain.specs.Chains.{IsEnd, IsWhole, MayStand, IsFinal, AreValues}
 use Rattle.table_chain.proofs.Trades.{later}
 use Rattle.table_chain.proofs.Steps.{numbers_is, slots_is, size_on, shown_is}

@@ -1,12 +1,12 @@
 -- A chain that has ended, slot by slot.
-use Rattle.std.proofs.Common.{◌≡◌, ◌≢◌, ℕ, suc, ◌+◌, ◌-◌, ◌<◌, ◌≤◌, List, length, ap, sym, subst, ◌∙◌, arith}
+use Rattle.std.proofs.Common.{◌≡◌, ◌≢◌, ℕ, ◌+◌, ◌-◌, ◌<◌, ◌≤◌, List, length, ap, subst, ◌∙◌, arith}
 use Rattle.std.specs.Prelude.{slice_index_or}
 use mathlib.Core.List.{IsPrefix}
 use Rattle.logbook.specs.Pages.{Book, Named}
 use Rattle.table_slab.specs.Tokens.{id_at}
 use Rattle.table_chain.specs.declared.event.Stored.TheVariants.{Shown}
 use Rattle.table_chain.specs.History.{History, Has, Told, IsReached}
-use Rattle.table_chain.specs.Chains.{IsEnding, AreLeft}
+use Rattle.table_chain.specs.Chains.{IsEnding}
 use Rattle.table_chain.proofs.Steps.{numbers_is, size_on}
 use Rattle.table_chain.proofs.Chained.{known_shown, rise}
 

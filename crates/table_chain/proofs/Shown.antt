@@ -6,7 +6,7 @@ use Rattle.table_chain.specs.History.{History, event, Has, Adds}
 use Rattle.table_chain.specs.Chains.{IsShown, Shows}
 use Rattle.table_chain.specs.declared.show.Showing.{Showing}
 use Rattle.table_chain.specs.declared.show.Showing.TheVariants as showing
-use Rattle.table_chain.proofs.Steps.{added, added_one, adds_after, shown_is}
+use Rattle.table_chain.proofs.Steps.{added_one, adds_after, shown_is}
 
 module _ {G : Type 0} (Begins : G → Type 0) (Follows : G → G → Type 0) where
   -- what the history says that was added is what was to be shown

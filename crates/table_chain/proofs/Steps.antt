@@ -1,5 +1,5 @@
 -- What the steps on a word add to a history, and what they tell.
-use Rattle.std.proofs.Common.{◌≡◌, ◌≢◌, ℕ, zero, suc, ◌+◌, ◌^◌, ◌<◌, ◌≤◌, ◌-◌, ◌++◌, ◌⊎◌, ◌==◌, Bool, true, false, List, [], ◌∷◌, length, set, Option, Some, None, refl, ap, sym, subst, ◌∙◌, arith, length-set, inl, inr}
+use Rattle.std.proofs.Common.{◌≡◌, ◌≢◌, ℕ, zero, suc, ◌+◌, ◌^◌, ◌<◌, ◌++◌, ◌⊎◌, ◌==◌, Bool, true, false, List, [], ◌∷◌, length, set, Option, Some, None, refl, ap, sym, subst, ◌∙◌, arith, length-set, inl, inr}
 use Rattle.std.proofs.lemmas.Bool.Decides.{nat_tests}
 use Rattle.std.proofs.lemmas.List.{append-nil, get_or-set_same, get_or-set_other, get_or-replicate, length-replicate}
 use Rattle.std.proofs.lemmas.List.Elements.{Contains-push, Contains-push_cases}
@@ -14,7 +14,7 @@ use Rattle.logbook.specs.Pages.{Cell, cell, keeps, no_nib, step, Moves, Goes}
 use Rattle.table_chain.specs.declared.event.Event.{Event}
 use Rattle.table_chain.specs.declared.event.Stored.{Stored}
 use Rattle.table_chain.specs.declared.event.Stored.TheVariants.{Shown, End}
-use Rattle.table_chain.specs.History.{History, event, Has, IsUntouched, HasSize, numbers_of, slots_of, IsInside, Moved, word_of, IsBehind, Joins, Fits, IsKept, IsReached, Told, Looks, Adds, Stores}
+use Rattle.table_chain.specs.History.{History, event, Has, IsUntouched, HasSize, numbers_of, slots_of, IsInside, Moved, word_of, Joins, Fits, IsKept, IsReached, Told, Looks, Adds, Stores}
 use Rattle.table_chain.proofs.Trades.{later}
 
 module _ {G : Type 0} where

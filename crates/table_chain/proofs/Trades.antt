@@ -7,7 +7,7 @@ use seplogic.Ra.Ura.{Ura}
 use base.Logic.{SProp, ent, sep, wand, all, upd, upd_i, id⊢}
 use base.Fml.{Fml, ftrue}
 use types.Logic.{Logic, sem}
-use types.Kit.{‵, ◌⊛◌, ◌$◌, ◌∵◌, !, qed, by, move, drop, split, fsplit, fjoin, frame, each, assume, suffices, use1, use2, done}
+use types.Kit.{‵, ◌⊛◌, ◌$◌, ◌∵◌, !, qed, by, move, split, fsplit, fjoin, frame, each, assume, suffices, use1, use2, done}
 use denote.RattleType.{RattleType}
 use denote.Steps.{nothing}
 use Rattle.logbook.specs.Kept.{offer_owns}

@@ -1,5 +1,5 @@
 -- The names of slots.
-use Rattle.std.proofs.Common.{◌≡◌, ◌≢◌, ℕ, zero, suc, ◌<◌, ◌++◌, List, [], ◌∷◌, length, map, refl, ap, set, arith}
+use Rattle.std.proofs.Common.{◌≡◌, ◌≢◌, ℕ, zero, suc, ◌<◌, ◌++◌, List, [], ◌∷◌, length, refl, ap, set, arith}
 use Rattle.std.specs.Prelude.{slice_index_or}
 use Rattle.table_slab.specs.Slot.{Named}
 use Rattle.table_slab.specs.Tokens.{id_at, ids_of}

@@ -11,7 +11,6 @@ use Rattle.core.specs.contracts.option.Option.{the_row as OptionOf}
 use Rattle.core.proofs.atomic.Sent.{chain-Keyless}
 use Rattle.table_slab.specs.Slot.{Phase, idle, out, held, full, Turn, at, told, tie, lent}
 use Rattle.table_slab.specs.contracts.slot.Slot as Slot
-use Rattle.table_slab.specs.contracts.slot.Slot.TheInside as Inside
 use Rattle.table_slab.specs.contracts.slot.Standing as Standing
 use Rattle.table_slab.specs.contracts.slot.Right as Right
 

@@ -3,20 +3,20 @@
 --     takes_empty, leaves_full, takes_full, leaves_empty      the right goes to work, and is at rest again
 --     shows         whoever knows that the value is there for good has a view of it
 --     lends_out, takes_back, settles      a borrow of the value becomes a view, which can be taken back, or settled for good
-use Rattle.std.proofs.Common.{◌≡◌, ℕ, ◌+◌, List, [], ◌∷◌, ◌++◌, sym, refl, ap, ◌∙◌, subst, arith}
+use Rattle.std.proofs.Common.{◌≡◌, ℕ, [], ◌∷◌, ◌++◌, sym, refl, ap, ◌∙◌, arith}
 use mathlib.Core.List.{not-mem-nil}
 use seplogic.Ra.Ura.{Ura}
 use base.Fraction.{full_share}
 use base.Share
 use base.Stored.{Gv, gnil, gnum, gcons}
-use base.Logic.{SProp, ent, sep, emp, guard, upd, upd_i, via, id⊢}
+use base.Logic.{SProp, ent, sep, emp, guard, upd, upd_i, id⊢}
 use base.Fml.{Lft, Incl, Incl-refl, Incl-trans, GName, Share, Fml, ftrue, fsep, fex, fobs, fauth, fres, fbor, flft, fdead, flent, finv, fnamed}
 use base.Before.{before}
 use contract.BorrowLft.{⊑_meet, ⊑_static, meet_⊑_left, meet_⊑_right}
 use ghost.Rules.{Toks, span}
 use types.Logic.{Logic, sem, lfts}
-use types.Kit.{Item, mean, ‵, raw, ◌⊛◌, some, given, later, ◌$◌, ◌∵◌, !, qed, by, move, keep, drop, use0, use1, use2, use3, split, split3, join, group, fsplit, fsplit3, fjoin, fjoin3, fpick, fpack, pick, learn, check, show, frame, assume, suffices, await, updating, now, rewrite, settle, done}
-use types.Tokens.{res_dup, lft_new, lft_end, bor_new, lent_back, bor_fracture}
+use types.Kit.{mean, ‵, raw, ◌⊛◌, some, given, later, ◌$◌, ◌∵◌, !, qed, by, move, keep, drop, use0, use1, use2, use3, split, split3, join, fsplit, fsplit3, fjoin, fpick, fpack, pick, learn, check, frame, assume, suffices, await, updating, now, rewrite, settle, done}
+use types.Tokens.{lft_new, lft_end, bor_new, lent_back, bor_fracture}
 use types.Na.{before-Incl, before_dup, before_lent}
 use denote.RattleType.{RattleType, RowLaws}
 use denote.Memory.{shared_of, part_at, mem}
@@ -26,7 +26,7 @@ use denote.SharingLaws.{contraction}
 use Rattle.core.specs.declared.option.Option.{Option}
 use Rattle.core.specs.declared.option.Option.TheVariants.{None, Some}
 use Rattle.core.specs.contracts.option.Option.{the_row as OptionOf}
-use Rattle.table_slab.specs.Slot.{Rest, resting, Lies, Phase, idle, out, held, full, Turn, fact, mark, busy, sign, room, written, at, told, named, Value, tie, view, mine, lent, tied, standing, Cell, kept}
+use Rattle.table_slab.specs.Slot.{Rest, resting, Lies, Phase, idle, out, held, full, Turn, sign, room, written, at, Value, view, mine, standing, Cell, kept}
 
 pub option_lives : (R : RattleType) → Incl R.lives (OptionOf R).lives
 option_lives R = ⊑_meet R.lives (R.lives ++ []) ((R.lives ++ []) ++ []) one (⊑_meet R.lives (R.lives ++ []) [] one (⊑_static R.lives))

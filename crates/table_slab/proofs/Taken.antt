@@ -1,12 +1,12 @@
 -- What the step that takes a right trades. Assumes `Logic`.
-use Rattle.std.proofs.Common.{◌≡◌, ℕ, zero, suc, ◌<◌, List, [], ◌∷◌, ◌++◌, length, inl, inr, sym, subst, arith}
-use Rattle.std.specs.Prelude.{Option, Some, None}
+use Rattle.std.proofs.Common.{ℕ, zero, suc, ◌<◌, List, [], ◌∷◌, ◌++◌, length, inl, inr, sym, subst, arith}
+use Rattle.std.specs.Prelude.{None}
 use seplogic.Ra.Ura.{Ura}
 use base.Logic.{SProp, ent, sep, wand, all, upd, upd_i, id⊢, emp}
-use base.Fml.{Fml, ftrue, fsep}
+use base.Fml.{Fml, ftrue}
 use base.Shift.{Keyless}
 use types.Logic.{Logic, sem}
-use types.Kit.{‵, raw, ◌$◌, ◌∵◌, !, qed, by, move, drop, fsplit, frame, each, assume, suffices, done, use1, use2, fjoin, settle, split, ◌⊛◌}
+use types.Kit.{‵, ◌$◌, ◌∵◌, !, qed, by, move, fsplit, each, assume, suffices, done, use2, fjoin}
 use denote.RattleType.{RattleType}
 use denote.Steps.{nothing}
 use Rattle.logbook.specs.Kept.{offer_owns}

@@ -1,5 +1,5 @@
 -- A counter's word is how many rights were handed out. The rights that are left are kept beside its log.
-use Rattle.std.specs.Prelude.{◌≡◌, ℕ, zero, suc, ◌+◌, ◌⊎◌, ◌++◌, ◌==◌, true, List, [], ◌∷◌, length, Some, None, MatchBool, slice_index_or}
+use Rattle.std.specs.Prelude.{◌≡◌, ℕ, zero, suc, ◌⊎◌, ◌++◌, ◌==◌, true, List, [], ◌∷◌, length, Some, None, MatchBool, slice_index_or}
 use base.Fml.{Fml, ftrue, fsep}
 use denote.RattleType.{RattleType}
 use Rattle.logbook.specs.Pages.{Cell, Step, View, Book, Named}

@@ -1,42 +1,33 @@
 -- An update that takes what is next.
-use Rattle.std.proofs.Common.{◌≡◌, ℕ, suc, ◌<◌, length, List, [], ◌∷◌, ◌++◌, sym, refl, ap, ◌∙◌, subst, w64}
-use Rattle.std.specs.Prelude.{Option, Some, None, IsSome}
-use mathlib.Core.List.{IsPrefix}
-use mir.Syntax.{a_type, dcons, dnil, named}
-use mir.Val.{Val, vint, vptr, vstruct, vcons, vnil}
+use Rattle.std.proofs.Common.{◌≡◌, ℕ, List, [], ◌∷◌, refl}
+use Rattle.std.specs.Prelude.{Option, None}
+use mir.Syntax.{a_type, named}
+use mir.Val.{Val, vptr}
 use mir.MapTy.{inst_fn}
-use base.Logic.{SProp, ent, sep, emp, id⊢}
-use base.Fml.{Fml, ftrue, fsep, flft}
-use types.Logic.{sem}
-use types.Kit.{‵, raw, ◌⊛◌, some, given, later, ◌$◌, ◌∵◌, !, qed, by, move, keep, drop, use0, use1, use2, split, split3, join, fsplit, fsplit3, fjoin, fpick, pick, learn, await, rewrite}
+use base.Logic.{SProp, emp}
+use types.Kit.{‵, raw, ◌⊛◌, ◌$◌, ◌∵◌, !, qed, by, keep, use0, split, join, fjoin}
 use types.Run.{no_more, and_then, returns, enter}
-use types.ByLocal.{alloc_all, pass_all, free_all, look_at, get, sets, env}
+use types.ByLocal.{alloc_all, pass_all, free_all, look_at, get, sets}
 use types.Part.{agg}
 use contract.Running.{tables}
 use contract.Monad.{fact, fact_i}
-use contract.BorrowLft.{◌⊑◌}
-use denote.Exit.{yes, no}
+use denote.Exit.{yes}
 use denote.RattleType.{RattleType, owns}
 use denote.Signature.{types_at, plain}
-use denote.Steps.{nothing, heard}
-use denote.Opens.{unhide}
-use denote.Param.{param, bounded, layouts}
+use denote.Steps.{nothing}
+use denote.Param.{param, layouts}
 use denote.Builtin.{RefOf, u64}
 use denote.Ref.{shr_vals, shr_Tells}
-use denote.Plain.{uint_vals, uint_Tells}
 use denote.Struct.Tuple.{Tuple}
 use denote.Triple.Walked.{Stays, stay_dropped, walk_of, Goes-dropped}
 use Rattle.atomic_table.proofs.Walks.{proved, leaves}
-use Rattle.logbook.specs.Kept.{Rules, rules, offer_owns, seen_owns}
+use Rattle.logbook.specs.Kept.{offer_owns}
 use Rattle.logbook.specs.contracts.tokens.Offer as Offer
-use Rattle.logbook.specs.contracts.tokens.Gained as Gained
-use Rattle.logbook.specs.contracts.tokens.Start as Start
 use Rattle.logbook.specs.contracts.tokens.Seen as Seen
-use Rattle.logbook.proofs.Fields.{token, Token, token_told, token_made}
-use Rattle.table_slab.specs.Slot.{room}
+use Rattle.logbook.proofs.Fields.{token, Token, token_made}
 use Rattle.table_slab.specs.contracts.slot.Right as Right
 use Rattle.table_slab.specs.declared.counting.Taken.{Taken}
-use Rattle.table_slab.specs.Counting.{Moved, id_at, rights, left, right_in, gained}
+use Rattle.table_slab.specs.Counting.{Moved, left, gained}
 use Rattle.table_slab.specs.contracts.counting.Taken as Events
 use Rattle.table_slab.specs.contracts.counting.Counts as Counts
 use Rattle.table_slab.specs.contracts.counting.Gains as Gains
@@ -44,7 +35,6 @@ use Rattle.table_slab.specs.contracts.rights.Rights as Rights
 use Rattle.table_slab.specs.contracts.counting.CountsRuleTakenU64.TheImpl as rule_impl
 use Rattle.table_slab.specs.contracts.counting.GainsGainTakenU64.TheImpl as gain_impl
 use Rattle.table_slab.proofs.Taken as trades
-use Rattle.table_slab.proofs.Given.{room_made, room_told, rights_made, rights_told}
 use Rattle.table_slab.specs.contracts.rights.taking.{ended, clauses}
 use Rattle.table_slab.specs.contracts.rights.taking.Key.{name as #self}
 use Rattle.table_slab.proofs.rights.taking.Statement.{statement}

@@ -1,4 +1,4 @@
-use Rattle.std.proofs.Common.{◌-◌, length, List, ℕ, sym, ◌∙◌, ap, subst, arith}
+use Rattle.std.proofs.Common.{◌-◌, length, sym, ◌∙◌, ap, subst, arith}
 use Rattle.table_chain.specs.declared.event.Stored.TheVariants.{Shown}
 use Rattle.table_chain.specs.History.{Has}
 use Rattle.table_chain.proofs.Trades.{later}

@@ -1,4 +1,4 @@
-use Rattle.std.proofs.Common.{◌≡◌, ◌<◌, ◌≢◌, ℕ, ◌-◌, ◌+◌, ◌∙◌, ap, sym, refl, subst, arith}
+use Rattle.std.proofs.Common.{◌≡◌, ◌<◌, ◌-◌, ◌+◌, ◌∙◌, ap, sym, refl, subst, arith}
 use mathlib.Core.List.{IsPrefix}
 use Rattle.table_slab.specs.Tokens.{id_at}
 use Rattle.table_chain.specs.declared.event.Stored.TheVariants.{Shown}

@@ -1,4 +1,4 @@
-use Rattle.std.proofs.Common.{◌≡◌, sym, refl, ◌∙◌, ap}
+use Rattle.std.proofs.Common.{refl}
 use Rattle.table_slab.proofs.Taken.{quiet}
 use Rattle.table_slab.proofs.counter.Counter.new.Goals as goal
 

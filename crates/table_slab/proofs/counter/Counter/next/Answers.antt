@@ -1,4 +1,4 @@
-use Rattle.std.proofs.Common.{List, ℕ, ◌≡◌, sym, ◌∙◌, ap}
+use Rattle.std.proofs.Common.{List, ℕ, sym, ◌∙◌, ap}
 use Rattle.logbook.specs.Pages.{Named, Book}
 use Rattle.table_slab.proofs.Counted.{looks_moves, takes_moves}
 use Rattle.table_slab.proofs.counter.Counter.next.Goals as goal

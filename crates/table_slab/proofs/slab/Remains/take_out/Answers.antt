@@ -1,4 +1,4 @@
-use Rattle.std.proofs.Common.{◌≢◌, ℕ, List, ap, ◌∙◌}
+use Rattle.std.proofs.Common.{ℕ, List, ap, ◌∙◌}
 use Rattle.table_slab.specs.Tokens.{id_at}
 use Rattle.table_slab.proofs.Named.{ids_set}
 use Rattle.table_slab.proofs.slab.Remains.take_out.Goals as goal

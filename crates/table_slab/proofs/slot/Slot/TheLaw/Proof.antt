@@ -1,5 +1,5 @@
 -- A `&` to a `Slot` is made of a borrow of it: the slot takes a turn. Assumes `Logic`.
-use Rattle.std.proofs.Common.{◌≡◌, ℕ, zero, ◌+◌, List, [], ◌∷◌, ◌++◌, sym, refl, subst}
+use Rattle.std.proofs.Common.{◌≡◌, ℕ, zero, List, [], ◌∷◌, ◌++◌, sym, refl, subst}
 use seplogic.Ra.Ura.{Ura}
 use base.Fraction.{full_share}
 use base.Share
@@ -9,27 +9,26 @@ use base.Before.{before}
 use contract.BorrowLft.{meet_⊑_left, meet_⊑_right}
 use ghost.Rules.{Toks, span}
 use types.Logic.{Logic, sem, lfts}
-use types.Kit.{Item, mean, ‵, raw, ◌⊛◌, some, given, later, ◌$◌, ◌∵◌, !, qed, by, move, keep, drop, use0, use1, use2, use3, split, split3, join, fsplit, fsplit3, fjoin, fjoin3, fpick, fpack, pick, learn, check, show, frame, each, assume, suffices, await, updating, now, rewrite, done}
+use types.Kit.{Item, mean, ‵, raw, ◌⊛◌, some, later, ◌$◌, ◌∵◌, !, qed, by, move, keep, drop, use0, use1, use2, use3, split, split3, join, fsplit, fsplit3, fjoin, fjoin3, fpick, fpack, pick, show, frame, each, assume, suffices, await, updating, now, rewrite, done}
 use types.Tokens.{lft_new, bor_open, obor_alter, name_new, name_agree, res_agree, one_token}
-use types.Na.{before-Incl, before_dup}
+use types.Na.{before-Incl}
 use denote.RattleType.{RattleType, Denots}
-use denote.Memory.{part_of, part_at, cell_at, shared_of, mem, lone}
+use denote.Memory.{part_of, part_at, cell_at, shared_of, lone}
 use denote.Steps.{nothing, heard}
 use denote.Sharing.{ShrLaws}
 use denote.SharingLaws.{ends_shr_laws}
 use denote.Param.Laws.{Laws}
 use denote.Struct.Struct.{Struct}
-use denote.Struct.Members.{Member, row_of, rows_of, parts_at}
+use denote.Struct.Members.{Member, rows_of, parts_at}
 use denote.Struct.Parts.{shape_of, PartsBack, Struct-parts}
 use contract.Monad as monad
 use mir.Val.{Val}
-use Rattle.core.specs.declared.option.Option.{Option}
 use Rattle.core.specs.declared.option.Option.TheVariants.{None, Some}
 use Rattle.core.specs.contracts.option.Option.{the_row as OptionOf}
 use Rattle.core.proofs.option.Option.TheLaws.{the_row_laws as option_laws}
 use Rattle.core.proofs.cell.Borrows.{by_one}
 use Rattle.table_slab.specs.contracts.slot.Slot as C
-use Rattle.table_slab.specs.Slot.{Phase, idle, out, held, full, Rest, Turn, fact, Lies, at, told, named, resting, Value, tie, view, lent, tied, standing, Cell, kept, shared_at}
+use Rattle.table_slab.specs.Slot.{Phase, idle, out, held, full, Rest, Turn, Lies, at, resting, Value, tie, view, lent, tied, standing, Cell, kept, shared_at}
 use Rattle.table_slab.proofs.Steps.{option_lives, kept_dup, lends_out}
 use Rattle.table_slab.proofs.slot.Slot.TheLaw.Statement.{statement}
 

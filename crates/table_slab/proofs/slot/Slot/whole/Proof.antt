@@ -1,57 +1,37 @@
 -- Whoever knows the value has a view of it, which is settled for the turn.
-use Rattle.std.proofs.Common.{◌≡◌, ℕ, zero, suc, ◌+◌, List, [], ◌∷◌, ◌++◌, Bool, sym, refl, ap, ◌∙◌, subst, arith, lit<, true}
-use mir.Syntax.{a_type, dcons, dnil, named}
-use mir.Val.{Val, vunit, vint, vptr, vstruct, vcons, vnil, of_list}
+use Rattle.std.proofs.Common.{◌≡◌, ℕ, List, [], ◌∷◌, refl}
+use mir.Syntax.{a_type, named}
+use mir.Val.{Val, vptr}
 use mir.MapTy.{inst_fn}
-use base.Fraction.{full_share}
-use base.Logic.{SProp, ent, sep, wand, emp, via, id⊢, apply∗, all_e}
-use base.Stored.{gnil, gnum, gcons}
-use base.Fml.{Lft, Share, Fml, Incl-trans, ftrue, fsep, fex, flft, finv, fbor, fobs, fauth, fres}
+use base.Logic.{SProp, wand, emp, apply∗}
+use base.Fml.{Lft, Share, Fml, ftrue, fsep, flft}
 use base.Before.{before}
-use prog.Wp.{WpFn}
 use types.Logic.{sem}
-use types.Kit.{Item, mean, ‵, raw, ◌⊛◌, some, given, later, at_ret, any_q, ◌$◌, ◌∵◌, !, qed, by, move, keep, drop, use0, use1, use2, use3, split, split3, join, group, fsplit, fsplit3, fjoin, fjoin3, fpick, fpack, pick, learn, check, show, frame, each, assume, suffices, await, updating, now, rewrite, settle, feq_i, feq_l, done}
-use types.Run.{stop, fld, load, look, store, addr, lit, unit_lit, of_opd, no_more, and_then, first, blocks, exec, returns, enter, assigns, store_raw, look_raw}
-use types.ByLocal.{alloc_all, pass_all, free_all, look_at, get, get_in, through, sets, sets_last, lands_as, lands_last, is, env}
-use types.Part.{agg, sub, whole}
-use types.Match.{live}
-use types.Tokens.{name_new}
+use types.Kit.{‵, raw, ◌⊛◌, some, later, at_ret, ◌$◌, ◌∵◌, !, qed, by, move, keep, drop, use0, use1, use2, use3, split, join, fsplit, fsplit3, fjoin, fpick, pick, await, rewrite, feq_i}
+use types.Run.{stop, fld, addr, of_opd, first, blocks, exec, returns, enter}
+use types.ByLocal.{alloc_all, pass_all, free_all, look_at, get, through, sets, sets_last, env}
 use contract.Running.{tables}
 use contract.Monad.{fact, fact_i}
-use contract.BorrowLft.{◌⊑◌, meet_⊑_left, meet_⊑_right}
 use contract.Shared.{Lends-one}
-use denote.Exit.{yes, no}
-use denote.RattleType.{RattleType, owns, Valss}
-use denote.Signature.{types_at, plain, named_lft}
-use denote.Steps.{nothing, heard, peeks, opens, closes}
+use denote.Exit.{yes}
+use denote.RattleType.{RattleType, owns}
+use denote.Signature.{types_at, plain}
+use denote.Steps.{nothing, heard}
 use denote.Opens.{hide, unhide}
-use denote.Laws.{Is, Typed, shows}
-use denote.Memory.{lone, cell_at, shared_of, mem}
-use denote.Param.{param, bounded, layouts, layout}
+use denote.Memory.{shared_of}
+use denote.Param.{param, layouts}
 use denote.Param.Laws.{param_laws}
 use denote.Builtin.{RefOf}
-use denote.Ref.{ShrRef, shr_vals, shr_Tells}
-use denote.Shadow.{makes_shadow}
-use denote.Struct.Struct.{within}
-use denote.Struct.Declared.{shape, fields}
-use denote.Struct.Tuple.{Tuple}
+use denote.Ref.{shr_vals, shr_Tells}
 use denote.Triple.Walked.{Stays, stay_dropped, walk_of, Goes-dropped}
-use Rattle.atomic_table.proofs.Walks.{proved, proved_at, leaves}
+use Rattle.atomic_table.proofs.Walks.{proved, leaves}
 use Rattle.core.proofs.atomic.Steps.{tail}
-use Rattle.core.proofs.cell.Inside.{Good, one}
-use Rattle.core.specs.declared.option.Option.{Option}
-use Rattle.core.specs.declared.option.Option.TheVariants.{None, Some}
+use Rattle.core.specs.declared.option.Option.TheVariants.{Some}
 use Rattle.core.specs.contracts.option.Option.{the_row as OptionOf}
-use Rattle.core.proofs.option.Made.{Some-of, none_of}
 use Rattle.core.proofs.option.Option.TheLaws.{the_row_laws as option_laws}
-use Rattle.std.specs.Prelude.{IsSome}
-use Rattle.table_slab.specs.Slot.{Phase, idle, out, held, full, Rest, Turn, Lies, at, room, written, resting, Value, mine, view, Cell, kept}
+use Rattle.table_slab.specs.Slot.{at, written, Cell}
 use Rattle.table_slab.specs.contracts.slot.Slot.{the_row}
-use Rattle.table_slab.specs.contracts.slot.Slot.TheInside as Inside
-use Rattle.table_slab.specs.contracts.slot.Right as Right
 use Rattle.table_slab.specs.contracts.slot.Standing as Standing
-use Rattle.table_slab.proofs.slot.Slot.TheInside.TheLaws.{the_row_laws as inside_laws}
-use Rattle.table_slab.proofs.Made.{token_val, written_made, room_made, room_told, set_of}
 use Rattle.table_slab.proofs.Steps as steps
 use Rattle.table_slab.specs.contracts.slot.Slot.whole.{ended, clauses}
 use Rattle.table_slab.specs.contracts.slot.Slot.whole.Key.{name as #self}

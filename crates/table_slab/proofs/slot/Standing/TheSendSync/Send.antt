@@ -1,5 +1,5 @@
 use denote.RattleType.{RattleType}
-use denote.Param.Send.{IsSend, IsSync}
+use denote.Param.Send.{IsSend}
 use Rattle.table_slab.proofs.Sent as sent
 use Rattle.table_slab.specs.contracts.slot.Standing.{the_row}
 

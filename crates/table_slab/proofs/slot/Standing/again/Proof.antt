@@ -1,47 +1,25 @@
 -- `again` copies what the token knows.
-use Rattle.std.proofs.Common.{◌≡◌, ℕ, zero, suc, ◌+◌, ◌*◌, ◌^◌, ◌<◌, ◌≤◌, List, [], ◌∷◌, ◌++◌, Bool, sym, refl, ap, ◌∙◌, subst, arith, lit<, w64, eqb→eq}
-use mir.Syntax.{a_type, dcons, dnil, named}
-use mir.Val.{Val, vunit, vint, vptr, vstruct, vcons, vnil}
+use Rattle.std.proofs.Common.{◌≡◌, ℕ, [], ◌∷◌, refl}
+use mir.Syntax.{a_type, named}
+use mir.Val.{Val, vptr}
 use mir.MapTy.{inst_fn}
-use base.Fraction.{full_share}
-use base.Logic.{SProp, ent, sep, wand, emp, via, id⊢, apply∗, all_e}
-use base.Fml.{Lft, Share, Fml, Incl-trans, ftrue, fsep, fex, flft, finv, fbor, fobs}
-use base.Before.{before}
-use prog.Wp.{WpFn}
-use types.Logic.{sem}
-use types.Kit.{any_q}
-use types.Kit.{Item, mean, ‵, raw, ◌⊛◌, some, given, later, at_ret, ◌$◌, ◌∵◌, !, qed, by, move, keep, drop, use0, use1, use2, use3, split, split3, join, group, fsplit, fsplit3, fjoin, fjoin3, fpick, fpack, pick, learn, check, show, frame, each, assume, suffices, await, updating, now, rewrite, settle, feq_i, feq_l, flt_i, flt_l, done}
-use types.Run.{stop, from, fld, load, addr, lit, unit_lit, of_opd, bin, no_more, and_then, first, blocks, branches, exec, calls, Calls-last, returns, enter, assigns, store_raw, look_raw}
-use types.ByLocal.{alloc_all, pass_all, free_all, look_at, look_in_at, get, get_in, through, sets, sets_last, lands_as, lands_last, is, env}
-use types.Part.{agg, sub, whole}
-use types.Match.{live}
+use base.Logic.{SProp, emp}
+use types.Kit.{‵, raw, ◌⊛◌, ◌$◌, ◌∵◌, !, qed, by, keep, drop, use0, use1, split, fsplit, fjoin}
+use types.Run.{no_more, and_then, returns, enter}
+use types.ByLocal.{alloc_all, pass_all, free_all, look_at, get, sets}
+use types.Part.{agg}
 use contract.Running.{tables}
 use contract.Monad.{fact, fact_i}
-use contract.BorrowLft.{◌⊑◌, meet_⊑_left, meet_⊑_right}
-use contract.Shared.{Lends-one}
-use denote.Exit.{yes, no}
+use denote.Exit.{yes}
 use denote.RattleType.{RattleType, owns}
-use denote.Signature.{types_at, plain, named_lft}
-use denote.RawPtr.{block_ptr}
-use denote.Steps.{nothing, heard, peeks, opens, closes}
-use denote.Opens.{hide, unhide}
-use denote.Laws.{Is, shows}
-use denote.Memory.{lone, cell_at, shared_of}
-use denote.Param.{param, bounded, layouts, layout}
-use denote.Param.Laws.{param_laws}
-use denote.Builtin.{RefOf, u64}
-use denote.Ref.{ShrRef, shr_vals, shr_Tells}
+use denote.Signature.{types_at, plain}
+use denote.Steps.{nothing}
+use denote.Opens.{unhide}
+use denote.Param.{param, layouts}
+use denote.Builtin.{RefOf}
+use denote.Ref.{shr_vals, shr_Tells}
 use denote.Triple.Walked.{Stays, stay_dropped, walk_of, Goes-dropped}
-use Rattle.atomic_table.proofs.Walks.{proved, proved_at, leaves}
-use Rattle.atomic_table.proofs.Calls.{fm, found, stored, loads, stores, exchanges}
-use Rattle.core.proofs.atomic.Steps.{tail}
-use Rattle.core.specs.declared.option.Option.TheVariants.{None, Some}
-use Rattle.core.specs.declared.result.Result.TheVariants.{Ok, Err}
-use Rattle.core.specs.contracts.option.Option.{the_row as OptionOf}
-use Rattle.core.specs.contracts.result.Result as Res
-use Rattle.core.proofs.option.Made.{Some-of, none_of}
-use Rattle.core.proofs.option.Option.TheLaws.{the_row_laws as option_laws}
-use Rattle.core.proofs.once.Made.{ok_of, err_of}
+use Rattle.atomic_table.proofs.Walks.{proved, leaves}
 use Rattle.table_slab.specs.contracts.slot.Standing as Standing
 use Rattle.table_slab.proofs.Made.{token_val, written_made}
 use Rattle.table_slab.specs.contracts.slot.Standing.again.{ended, clauses}
