@@ -108,3 +108,9 @@ module _ {G : Type 0} (Begins : G → Type 0) (Follows : G → G → Type 0) whe
     each = each;
     none = λ p g there. omega (arith, long, ends n slots numbers log size whole log ([], append-nil log) r p g there);
   }
+
+  -- what any other history says of a slot is what is handed out there
+  pub all_handed_out : (log other both : History G) (gs : List G) → AreValues log gs → IsFinal Begins Follows log → IsPrefix log both → IsPrefix other both → Reached both → (p : ℕ) (g : G) → Stands other p g
+      → (p < length gs) × (slice_index_or gs p g ≡ g)
+  all_handed_out log other both gs values ended on too r p g there = let after = stands_on other both p g too there in let lt : p < length gs = values.none p g (ended both on r p g after) in
+      let here = stands_on log both p (slice_index_or gs p g) on (values.each p g lt) in (lt, one_value both p here.0 after.0 (slice_index_or gs p g) g r here.1 after.1)

@@ -1,8 +1,8 @@
 //! What threads know of a chain, put together. A law is a call that does nothing, and whose contract states it.
-ghost use Rattle.std.specs.Prelude.{◌≡◌, ℕ, suc, ◌≤◌};
+ghost use Rattle.std.specs.Prelude.{◌≡◌, ℕ, suc, ◌<◌, ◌≤◌, length, slice_index_or};
 ghost use mathlib.Core.List.{IsPrefix};
 ghost use Rattle.table_chain.specs.History.{Stands};
-ghost use Rattle.table_chain.specs.Chains.{IsOf};
+ghost use Rattle.table_chain.specs.Chains.{IsOf, IsFinal, AreValues};
 
 use crate::chain::Chain;
 use crate::rule::{Follows, Token};
@@ -47,4 +47,21 @@ impl<G: Drop, F: Follows<G>, A: Allocator> Chain<G, F, A> {
         let mut both = one.again();
         both.learn(other);
     }
+}
+
+/// States that whatever any thread knows of a slot is the value that was returned for it when the chain ended.
+pub fn values_are_all<G: Drop, F: Follows<G>, B: Allocator>(
+    values: &Vec<G, B>,
+    seen: &Token<G, F>,
+    other: &Token<G, F>,
+)
+    requires values { AreValues seen.now.log values.now.items }
+    requires ended { IsFinal F.begins F.follows seen.now.log }
+    requires book { other.now.book ≡ seen.now.book }
+    ensures count { (p : ℕ) (g : G) → Stands other.now.log p g → p < length values.now.items }
+    ensures each { (p : ℕ) (g : G) → Stands other.now.log p g → slice_index_or values.now.items p g ≡ g }
+{
+    let _ = values;
+    let mut both = seen.again();
+    both.learn(other);
 }
