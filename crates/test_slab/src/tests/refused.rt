@@ -1,0 +1,27 @@
+//! Slots whose memory is refused.
+use std::alloc::Global;
+use table_slab::Slots;
+use testkit_refusing::{Refusing, Rule};
+
+/// Whether memory for so many numbers is granted.
+fn is_granted(memory: &Refusing<Global>, count: usize) -> bool {
+    match Slots::<u64, &Refusing<Global>>::new(memory, count) {
+        Ok((_slots, _rooms)) => true,
+        Err(_) => false,
+    }
+}
+
+#[test]
+fn refused_memory_leaves_nothing(rt: HostRuntime) {
+    let memory = Refusing::new(rt.alloc(), Rule::new(32, 32, 0, 1));
+    let answers = [is_granted(&memory, 4), is_granted(&memory, 4)];
+    assert_eq!(rt; answers, [false, true]);
+    assert_eq!(rt; [memory.granted(), memory.given_back()], [1, 1]);
+}
+
+#[test]
+fn memory_of_too_many_bytes_is_not_asked_for(rt: HostRuntime) {
+    let memory = Refusing::new(rt.alloc(), Rule::new(32, 32, 0, 0));
+    let answers = [is_granted(&memory, 1 << 61), is_granted(&memory, 0)];
+    assert_eq!(rt; answers, [false, true]);
+}
