@@ -1,0 +1,67 @@
+-- What stands beside a history has the fact.
+use Rattle.std.proofs.Common.{◌≡◌, ℕ, List, [], ◌∷◌, refl, w64}
+use Rattle.std.specs.Prelude.{Some}
+use mir.Syntax.{a_type, dcons, dnil, named}
+use mir.Val.{Val, vint, vptr}
+use mir.MapTy.{inst_fn}
+use base.Logic.{SProp, emp}
+use types.Logic.{sem}
+use types.Kit.{‵, raw, ◌⊛◌, later, ◌$◌, ◌∵◌, !, qed, by, move, keep, drop, use0, use1, split, join, fsplit, fjoin, await}
+use types.Run.{no_more, and_then, returns, enter}
+use types.ByLocal.{alloc_all, pass_all, free_all, look_at, get, sets}
+use types.Part.{agg}
+use contract.Running.{tables}
+use contract.Monad.{fact, fact_i}
+use denote.Exit.{yes}
+use denote.RattleType.{RattleType, owns}
+use denote.Signature.{types_at, plain}
+use denote.Steps.{nothing, heard}
+use denote.Opens.{unhide}
+use denote.Param.{param, bounded}
+use denote.Builtin.{RefOf, u64}
+use denote.Ref.{shr_vals, shr_Tells}
+use denote.Plain.{uint_vals, uint_Tells}
+use denote.Triple.Walked.{Stays, stay_dropped, walk_of, Goes-dropped}
+use Rattle.atomic_table.proofs.Walks.{proved, leaves}
+use Rattle.logbook.specs.Kept.{Rules, rules}
+use Rattle.logbook.specs.contracts.tokens.Seen as Seen
+use Rattle.logbook.proofs.Fields.{token}
+use Rattle.table_slab.specs.Tokens.{id_at, standing}
+use Rattle.table_slab.specs.contracts.slot.Standing as Standing
+use Rattle.table_chain.specs.declared.event.Event.{Event}
+use Rattle.table_chain.specs.declared.event.Stored.TheVariants.{Shown}
+use Rattle.table_chain.specs.History.{event, Has}
+use Rattle.table_chain.specs.contracts.event.Event as Events
+use Rattle.table_chain.specs.contracts.rule.ChainRule as ChainRule
+use Rattle.table_chain.specs.contracts.rule.ChainRuleRuleEventU64.TheImpl as rule_impl
+use Rattle.table_chain.proofs.Trades as trades
+use Rattle.table_chain.proofs.Books as books
+use Rattle.table_slab.proofs.Tokens.{standing_made}
+use Rattle.table_chain.specs.contracts.trade.known.{ended, clauses}
+use Rattle.table_chain.specs.contracts.trade.known.Key.{name as #self}
+use Rattle.table_chain.proofs.trade.known.Statement.{statement}
+use Rattle.table_chain.proofs.trade.known.Code as code
+
+pub known_spec : {M : Type 1} → statement M
+known_spec 𝓤 𝓛 𝓜 𝓡 wired V L LV LL g d _ =
+    let H = 𝓛.H in let 𝓣 = tables 𝓤 H 𝓜 𝓡 𝓡.env in let R : RattleType = param 0 V in let W : RattleType = param 1 L in let En = ended V L g d in
+    let inst = bounded (a_type ∷ a_type ∷ []) (V, (L, tt)) (dcons d dnil) in let fn = inst_fn inst code.function in let c = clauses V L g d 𝓛 𝓜.mem 𝓡.returns in
+    let E' : RattleType = Events.the_row R in let P' : RattleType = ChainRule.the_row R W in let rl = rule_impl.ghosts R W g rule_impl.no_dict in
+    let Sn : RattleType = Seen.the_row E' u64 P' rl in let S : RattleType = Standing.the_row R in
+    let seen = RefOf (0 ∷ []) tt (plain (λ _. Sn)) (λ _. tt) in let number = plain (λ _. u64) in
+    let hs : Stays En.signature.params En.kept = (stay_dropped seen yes, (stay_dropped number yes, (stay_dropped number yes, tt))) in
+    proved 𝓛 En hs c 𝓜 𝓡 (Goes-dropped 𝓛 3 seen yes (λ κs x f. refl), (Goes-dropped 𝓛 3 number yes (λ κs x f. refl), (Goes-dropped 𝓛 3 number yes (λ κs x f. refl), tt))) (#self inst) fn (code.unfolded 𝓤 H 𝓜 𝓡 wired (V, (L, tt)) d)
+    (λ κs. (shr_vals, (uint_vals w64, (uint_vals w64, tt)))) (λ κs. (shr_Tells (named 0) κs.0 Sn, (uint_Tells w64, (uint_Tells w64, tt)))) (λ κs qs bounds a gh are.
+    let n = a.0.now in let names : List ℕ = n.names in let p : ℕ = a.1.0 in let k : ℕ = a.1.1.0 in let at : Val = vptr a.0.ref_ptr.0 a.0.ref_ptr.1 in
+    let y : (walk_of 𝓛 En hs c).Ghost = ((κs, qs, bounds, a, (at ∷ [], (vint w64 p ∷ [], (vint w64 k ∷ [], tt)))), gh) in let Post : Val → SProp 𝓤 = (walk_of 𝓛 En hs c).post y in
+    let There : Type 0 = (x : V.Denot) × Has n.log p k (Shown x) in let rule : Rules (Event V.Denot) = rules rl.holds rl.shows rl.keeps in
+    qed 𝓛 ((raw (denote.Triple.Entry.alive 𝓛 En.signature κs qs) ⊛ ‵ (owns (types_at En.signature.params κs) a y.0.4)) ∷ raw (fact 𝓤 _) ∷ raw (fact 𝓤 _) ∷ raw (fact 𝓤 There) ∷ []) ∵ keep ! (3 ∷ 0 ∷ []) $ heard ! There (λ there.
+    let x : V.Denot = there.0 in let γ : ℕ = id_at names k in
+    split ! $ move ! (1 ∷ []) $ fsplit ! $ fsplit ! $ keep ! (1 ∷ 3 ∷ []) $ unhide ! $ fsplit ! $ drop ! $
+    use1 𝓛 (later (‵ (standing R names k x))) (books.recalls 𝓛 E'.coded rule n.book names n.log (sem 𝓛 (standing R names k x)) (λ log below. trades.has 𝓛 R names log (event p k (Some (Shown x))) (trades.later n.log log p k (Shown x) below there.1))) $
+    enter ! 𝓣.C 𝓣.Λ fn (at ∷ vint w64 p ∷ vint w64 k ∷ []) Post $ alloc_all ! (λ l. pass_all ! refl ((tt, tt), ((tt, record { fits = are.1.0.1 }), ((tt, record { fits = are.1.1.0.1 }), tt))) $ await ! tt $
+    let r : S.Denot = record { marker = record {}; of = γ; value = x } in use1 𝓛 (‵ (S.own_val r (token ∷ []))) (standing_made 𝓛 R names k x) $
+    sets ! (agg ! (no_more !)) refl (tt, tt) $ sets ! (agg ! (and_then ! (get ! refl) (no_more !))) refl (tt, (tt, tt)) $
+    let Of : Type 0 = γ ≡ γ in let Told : Type 0 = Has n.log p k (Shown x) in
+    use0 𝓛 (raw (fact 𝓤 Told)) (fact_i 𝓤 Told (emp 𝓤) there.1) $ use0 𝓛 (raw (fact 𝓤 Of)) (fact_i 𝓤 Of (emp 𝓤) refl) $ join ! $ nothing ! $ nothing ! $ fjoin ! $ nothing ! $ fjoin ! $ nothing ! $ fjoin ! $
+    returns ! (look_at ! 0 refl) $ free_all ! refl $ keep ! (3 ∷ 0 ∷ 2 ∷ 1 ∷ []) $ by ! (leaves 𝓛 En hs c y token r (tt, (tt, (tt, tt))) (tt, (tt, (tt, tt)))))))
