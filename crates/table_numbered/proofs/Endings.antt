@@ -6,36 +6,36 @@ use mathlib.Core.List.{IsPrefix}
 use mathlib.Core.Logic.{dite}
 use native.Mathlib.Decide.{ℕ_discrete}
 use Rattle.table_terms.specs.Laws.{IsLaw, AllApart}
-use Rattle.table_slab.specs.Tokens.{id_at}
+use Rattle.table_slab.specs.Endings.{EndView, IsLeft}
 use Rattle.table_numbered.specs.declared.event.Numbered.{Numbered}
 use Rattle.table_numbered.specs.declared.event.Stored.{Stored}
 use Rattle.table_numbered.specs.declared.event.Stored.TheVariants.{Entry}
 use Rattle.table_numbered.specs.Words.{numbered, alike, marked}
 use Rattle.table_numbered.specs.History.{History, Has, Stands, IsFree, HasSize, IsFull, IsReached, OneValue}
-use Rattle.table_numbered.specs.Ending.{IsLeft, AreLeft, TakesOut}
+use Rattle.table_numbered.specs.Ending.{AreLeft, TakesOut}
 use Rattle.table_numbered.proofs.Apart.{apart_more}
 use Rattle.table_numbered.proofs.Marks.{alike_lawful}
 use Rattle.table_numbered.proofs.Histories.{false_unless, has_on, stands_on, full_more, same_value, has_inside, one_bucket}
 
-module _ {V : Type 0} (names : List ℕ) where
+module _ {V : Type 0} where
   -- what was left is left, of a longer history and of one more bucket
-  pub left_on : (i : ℕ) (old new : History (Numbered V)) (slab : List ℕ) → IsPrefix old new → AreLeft names i old slab → AreLeft names (i + 1) new slab
+  pub left_on : (i : ℕ) (old new : History (Numbered V)) (slab : EndView) → IsPrefix old new → AreLeft i old slab → AreLeft (i + 1) new slab
   left_on i old new slab on left k = elim (left k) [
     | inl is ↦ inl is
     | inr (q, v, lt, there) ↦ inr (q, v, omega (arith, lt), stands_on old new q (numbered k v) on there)
   ]
 
   -- one slot was taken out, of the entry of the bucket i
-  pub left_next : (i number : ℕ) (v : V) (old new : History (Numbered V)) (slab next : List ℕ) → IsPrefix old new → AreLeft names i old slab → Stands new i (numbered number v) → ((k : ℕ) → k ≢ number → id_at next k ≡ id_at slab k) → AreLeft names (i + 1) new next
+  pub left_next : (i number : ℕ) (v : V) (old new : History (Numbered V)) (slab next : EndView) → IsPrefix old new → AreLeft i old slab → Stands new i (numbered number v) → ((k : ℕ) → k ≢ number → IsLeft slab k → IsLeft next k) → AreLeft (i + 1) new next
   left_next i number v old new slab next on left there others k = dite (ℕ_discrete k number)
       (λ (is : k ≡ number). inr (i, v, omega arith, subst (λ (j : ℕ). Stands new i (numbered j v)) (sym is) there))
       (λ (ne : k ≢ number). elim (left k) [
-        | inl is ↦ inl (others k ne ∙ is)
+        | inl is ↦ inl (others k ne is)
         | inr (q, w, lt, stood) ↦ inr (q, w, omega (arith, lt), stands_on old new q (numbered k w) on stood)
       ])
 
   -- the slot of the entry of the bucket i was not taken out before
-  pub left_here : {same : V → V → Bool} {hash : V → ℕ} (law : IsLaw same hash) (i number : ℕ) (v : V) (old new : History (Numbered V)) (slab : List ℕ) → IsPrefix old new → IsReached (alike same) (marked hash) new → OneValue new → AreLeft names i old slab → Stands new i (numbered number v) → IsLeft names slab number
+  pub left_here : {same : V → V → Bool} {hash : V → ℕ} (law : IsLaw same hash) (i number : ℕ) (v : V) (old new : History (Numbered V)) (slab : EndView) → IsPrefix old new → IsReached (alike same) (marked hash) new → OneValue new → AreLeft i old slab → Stands new i (numbered number v) → IsLeft slab number
   left_here {same} {hash} law i number v old new slab on r one left there = elim (left number) [
     | inl is ↦ is
     | inr (q, w, lt, stood) ↦

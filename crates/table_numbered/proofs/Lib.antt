@@ -1,5 +1,6 @@
 mod Books
 mod Made
+mod Rights
 mod Marks
 mod Trades
 mod Histories

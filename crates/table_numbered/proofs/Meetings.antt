@@ -2,6 +2,7 @@
 use Rattle.std.proofs.Common.{◌≡◌, ◌≢◌, ℕ, ◌+◌, ◌*◌, ◌/◌, ◌%◌, ◌^◌, ◌<◌, ◌≤◌, Bool, true, false, Some, refl, ap, sym, subst, ◌∙◌, arith}
 use Rattle.std.specs.Prelude.{Option, None}
 use mathlib.Core.List.{IsPrefix}
+use Rattle.table_slab.specs.Slabs.{SlabView}
 use Rattle.table_numbered.specs.declared.event.Numbered.{Numbered}
 use Rattle.table_numbered.specs.declared.event.Stored.TheVariants.{Entry}
 use Rattle.table_numbered.specs.declared.place.Claim.{Claim}
@@ -47,18 +48,18 @@ module _ {V : Type 0} (same : V → V → Bool) (hash : V → ℕ) where
   more_than_1 word full open_ = omega (arith, full, open_)
 
   -- what a claim tells does not depend on when its caller looked last
-  pub claims_after : (names : Rattle.std.proofs.Common.List ℕ) (v : V) (k p : ℕ) (old mid new : History (Numbered V)) (r : Claim V) → IsPrefix old mid → Claims same hash names v k p mid new r → Claims same hash names v k p old new r
-  claims_after names v k p old mid new (claim.Placed e) on told = (told.0, adds_after (alike same) (marked hash) p (event p (Some (Entry (numbered k v)))) old mid new on told.1)
-  claims_after names v k p old mid new (claim.Met j e back) on told = told
-  claims_after names v k p old mid new (claim.Passed back) on told = told
-  claims_after names v k p old mid new (claim.Closed back) on told = told
+  pub claims_after : {A : Type 0} (s : SlabView) (v : V) (k p : ℕ) (old mid new : History (Numbered V)) (r : Claim V A) → IsPrefix old mid → Claims same hash s v k p mid new r → Claims same hash s v k p old new r
+  claims_after s v k p old mid new (claim.Placed e) on told = (told.0, adds_after (alike same) (marked hash) p (event p (Some (Entry (numbered k v)))) old mid new on told.1)
+  claims_after s v k p old mid new (claim.Met j e back) on told = told
+  claims_after s v k p old mid new (claim.Passed back) on told = told
+  claims_after s v k p old mid new (claim.Closed back) on told = told
 
   -- the same of a value that was met under another name
-  pub claims_of : (names : Rattle.std.proofs.Common.List ℕ) (u v : V) (j k p : ℕ) (old new : History (Numbered V)) (r : Claim V) → u ≡ v → j ≡ k → Claims same hash names u j p old new r → Claims same hash names v k p old new r
-  claims_of names u v j k p old new r is number told = subst (λ (z : V × ℕ). Claims same hash names z.0 z.1 p old new r) (λ i. (is i, number i)) told
+  pub claims_of : {A : Type 0} (s : SlabView) (u v : V) (j k p : ℕ) (old new : History (Numbered V)) (r : Claim V A) → u ≡ v → j ≡ k → Claims same hash s u j p old new r → Claims same hash s v k p old new r
+  claims_of s u v j k p old new r is number told = subst (λ (z : V × ℕ). Claims same hash s z.0 z.1 p old new r) (λ i. (is i, number i)) told
 
-  pub coming_as : (names : Rattle.std.proofs.Common.List ℕ) (v : V) (k : ℕ) (c : Coming V) → IsComing same hash names v k c → IsComing same hash names c.value c.number c
-  coming_as names v k c t = subst (λ (z : V × ℕ). IsComing same hash names z.0 z.1 c) (λ i. (sym t.value i, sym t.number i)) t
+  pub coming_as : {A : Type 0} (s : SlabView) (v : V) (k : ℕ) (c : Coming V A) → IsComing same hash s v k c → IsComing same hash s c.value c.number c
+  coming_as s v k c t = subst (λ (z : V × ℕ). IsComing same hash s z.0 z.1 c) (λ i. (sym t.value i, sym t.number i)) t
 
   -- what is shown of an entry that was placed just now is what was placed
   pub placed : (p k : ℕ) (e w x v : V) (old new : History (Numbered V)) → e ≡ w → Stands new p (numbered k w) → x ≡ v → Adds (alike same) (marked hash) (Entry (numbered k x)) p old new → (e ≡ v) × Adds (alike same) (marked hash) (Entry (numbered k v)) p old new

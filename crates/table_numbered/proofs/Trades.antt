@@ -1,6 +1,6 @@
 -- What the step that publishes trades. Assumes `Logic`.
 --     has       what is kept of an entry of a history may be had
---     offers    the right to a room is an update that publishes it
+--     offers    the right to a number is an update that publishes it
 use Rattle.std.proofs.Common.{◌≡◌, ℕ, zero, suc, ◌<◌, List, [], ◌∷◌, ◌++◌, length, inl, inr, refl, ap, ◌∙◌, sym, subst, arith}
 use Rattle.std.specs.Prelude.{Contains, Option, Some, None, slice_index_or}
 use seplogic.Ra.Ura.{Ura}
@@ -10,19 +10,18 @@ use types.Logic.{Logic, sem}
 use types.Kit.{‵, raw, ◌⊛◌, ◌$◌, ◌∵◌, !, qed, by, move, drop, split, fsplit, fjoin, frame, each, assume, suffices, use1, use2, given, learn, check, rewrite, done}
 use contract.Monad.{fact, fact_i, fact_mono}
 use native.Mathlib.Decide.{ℕ_discrete}
-use Rattle.table_slab.proofs.Tokens.{standings_agree}
+use Rattle.table_slab.proofs.Shelved.{right_publishes, standing_twice, standings_agree}
 use Rattle.table_numbered.proofs.Apart.{first_or_other}
-use types.Tokens.{res_dup}
 use denote.RattleType.{RattleType}
 use denote.Steps.{nothing, heard}
 use Rattle.logbook.specs.Kept.{offer_owns}
-use Rattle.table_slab.specs.Slot.{room, written}
+use Rattle.table_slab.specs.Slabs.{SlabView}
+use Rattle.table_slab.specs.Shelved.{slab_of, right, standing}
 use Rattle.table_numbered.specs.declared.event.Event.{Event}
 use Rattle.table_numbered.specs.declared.event.Stored.{Stored}
 use Rattle.table_numbered.specs.declared.event.Stored.TheVariants.{Entry, Closed}
 use Rattle.table_numbered.specs.declared.event.Numbered.{Numbered}
 use Rattle.table_numbered.specs.Words.{numbered}
-use Rattle.table_slab.specs.Tokens.{id_at}
 use Rattle.std.proofs.lemmas.List.Elements.{Contains-append_left}
 use mathlib.Core.List.{IsPrefix}
 use Rattle.table_numbered.specs.History.{event, Has, Stands, OneValue, Moved}
@@ -71,9 +70,12 @@ module _ {M : Type 1} {𝓤 : Ura M} (𝓛 : Logic 𝓤) (R : RattleType) (names
   abbrev One : E → Fml
   One e = kept_in R names e.value
 
+  abbrev s : SlabView
+  s = slab_of names
+
   kept_twice : (v : Option (Stored (Numbered R.Denot))) → ⟦ kept_in R names v ⟧ ⊢ ⟦ kept_in R names v ⟧ ∗ ⟦ kept_in R names v ⟧
   kept_twice None = qed 𝓛 (‵ ftrue ∷ []) ∵ nothing ! $ done !
-  kept_twice (Some (Entry e)) = qed 𝓛 (‵ (written R (id_at names e.number) e.value) ∷ []) ∵ res_dup ! $ done !
+  kept_twice (Some (Entry e)) = standing_twice 𝓛 R s e.number e.value
   kept_twice (Some Closed) = qed 𝓛 (‵ ftrue ∷ []) ∵ nothing ! $ done !
 
   pushes : (es : List E) (e : E) → ⟦ K es ⟧ ∗ ⟦ One e ⟧ ⊢ ⟦ K (es ++ e ∷ []) ⟧
@@ -103,8 +105,8 @@ module _ {M : Type 1} {𝓤 : Ura M} (𝓛 : Logic 𝓤) (R : RattleType) (names
   told o u alike = qed 𝓛 (‵ (kept_in R names o) ∷ ‵ (kept_in R names u) ∷ []) ∵ drop ! $ drop ! $ by ! (fact_i 𝓤 (Alike o u) (emp 𝓤) alike)
 
   entries_alike : (e f : Numbered R.Denot) → Dec (e.number ≡ f.number) → ⟦ kept_in R names (Some (Entry e)) ⟧ ∗ ⟦ kept_in R names (Some (Entry f)) ⟧ ⊢ fact 𝓤 (Alike (Some (Entry e)) (Some (Entry f)))
-  entries_alike e f (yes is) = qed 𝓛 (‵ (written R (id_at names e.number) e.value) ∷ ‵ (written R (id_at names f.number) f.value) ∷ []) ∵ rewrite ! 1 (λ (k : ℕ). ‵ (written R (id_at names k) f.value)) (sym is) refl $
-      by ! (via 𝓤 _ (standings_agree 𝓛 R (id_at names e.number) e.value f.value) (fact_mono 𝓤 _ (Alike (Some (Entry e)) (Some (Entry f))) (λ one k x y o u. sym (value_of e k x o) ∙ (one ∙ value_of f k y u))))
+  entries_alike e f (yes is) = qed 𝓛 (‵ (standing R s e.number e.value) ∷ ‵ (standing R s f.number f.value) ∷ []) ∵ rewrite ! 1 (λ (k : ℕ). ‵ (standing R s k f.value)) (sym is) refl $
+      by ! (via 𝓤 _ (standings_agree 𝓛 R s e.number e.value f.value) (fact_mono 𝓤 _ (Alike (Some (Entry e)) (Some (Entry f))) (λ one k x y o u. sym (value_of e k x o) ∙ (one ∙ value_of f k y u))))
   entries_alike e f (no apart) = told (Some (Entry e)) (Some (Entry f)) (λ k x y o u. absurd (apart (number_of e k x o ∙ sym (number_of f k y u))))
 
   alike : (o u : Option (Stored (Numbered R.Denot))) → ⟦ kept_in R names o ⟧ ∗ ⟦ kept_in R names u ⟧ ⊢ fact 𝓤 (Alike o u)
@@ -168,14 +170,14 @@ module _ {M : Type 1} {𝓤 : Ura M} (𝓛 : Logic 𝓤) (R : RattleType) (names
     Gain = traded R names (ask ∷ [])
 
     abbrev Right : Fml
-    Right = room R (id_at names k) (Some x)
+    Right = right R s k (Some x)
 
     abbrev Known : Fml
-    Known = written R (id_at names k) x
+    Known = standing R s k x
 
     runs : (xs ys : List E) (r : ℕ) → Moved ask xs ys r → ⟦ K xs ⟧ ∗ ⟦ Right ⟧ ⊢ upd 𝓤 (⟦ K ys ⟧ ∗ ⟦ Gain r ⟧)
     runs xs ys r (inl e) = subst (λ (z : List E × ℕ). ⟦ K xs ⟧ ∗ ⟦ Right ⟧ ⊢ upd 𝓤 (⟦ K z.0 ⟧ ∗ ⟦ Gain z.1 ⟧)) (λ i. (sym e.1 i, sym e.0 i))
-        (qed 𝓛 (‵ (K xs) ∷ ‵ Right ∷ []) ∵ suffices ! _ (upd_i 𝓤 (⟦ K (xs ++ ask ∷ []) ⟧ ∗ ⟦ Gain 1 ⟧)) $ move ! (1 ∷ []) $ use1 𝓛 (‵ Known) (𝓛.names.obs-res (id_at names k) _) $ res_dup ! $ move ! (2 ∷ 0 ∷ []) $
+        (qed 𝓛 (‵ (K xs) ∷ ‵ Right ∷ []) ∵ suffices ! _ (upd_i 𝓤 (⟦ K (xs ++ ask ∷ []) ⟧ ∗ ⟦ Gain 1 ⟧)) $ move ! (1 ∷ []) $ use1 𝓛 (‵ Known) (right_publishes 𝓛 R s k x) $ use1 𝓛 (‵ Known ⊛ ‵ Known) (standing_twice 𝓛 R s k x) $ split ! $ move ! (2 ∷ 0 ∷ []) $
         use2 𝓛 (‵ (K (xs ++ ask ∷ []))) (pushes xs ask) $ frame ! $ nothing ! $ move ! (1 ∷ 0 ∷ []) $ fjoin ! $ done !)
     runs xs ys r (inr e) = subst (λ (z : List E × ℕ). ⟦ K xs ⟧ ∗ ⟦ Right ⟧ ⊢ upd 𝓤 (⟦ K z.0 ⟧ ∗ ⟦ Gain z.1 ⟧)) (λ i. (sym e.1 i, sym e.0 i)) (upd_i 𝓤 (⟦ K xs ⟧ ∗ ⟦ Right ⟧))
 
@@ -231,7 +233,7 @@ module _ {M : Type 1} {𝓤 : Ura M} (𝓛 : Logic 𝓤) (R : RattleType) (names
 module _ (R : RattleType) (names : List ℕ) where
   kept_quiet : (v : Option (Stored (Numbered R.Denot))) → base.Shift.Keyless (kept_in R names v)
   kept_quiet None = tt
-  kept_quiet (Some (Entry e)) = tt
+  kept_quiet (Some (Entry e)) = λ z. (tt, ((λ ε. tt), (λ is. tt)))
   kept_quiet (Some Closed) = tt
 
   pub quiet : (es : List (Happening R.Denot)) → base.Shift.Keyless (all_kept R names es)

@@ -1,19 +1,15 @@
 -- The end of a generation: its values, which are taken out of the slab.
 use Rattle.std.specs.Prelude.{◌≡◌, ℕ, ◌<◌, ◌⊎◌, ◌++◌, Bool, List, Contains}
 use Rattle.table_terms.specs.Laws.{AllApart}
-use Rattle.table_slab.specs.Tokens.{id_at}
+use Rattle.table_slab.specs.Endings.{EndView, IsLeft}
 use Rattle.table_numbered.specs.Words.{numbered}
 use Rattle.table_numbered.specs.declared.event.Numbered.{Numbered}
 use Rattle.table_numbered.specs.History.{History, Stands}
 
--- the slot k is still that of the slab
-abbrev pub IsLeft : List ℕ → List ℕ → ℕ → Type 0
-IsLeft names slab k = id_at slab k ≡ id_at names k
-
 module _ {V : Type 0} where
-  -- each slot is left, but for those of the entries of the buckets before i
-  abbrev pub AreLeft : List ℕ → ℕ → History (Numbered V) → List ℕ → Type 0
-  AreLeft names i log slab = (k : ℕ) → IsLeft names slab k
+  -- each number is left, but for those of the entries of the buckets before i
+  abbrev pub AreLeft : ℕ → History (Numbered V) → EndView → Type 0
+  AreLeft i log slab = (k : ℕ) → IsLeft slab k
       ⊎ ((q : ℕ) × (v : V) × (q < i) × Stands log q (numbered k v))
 
   -- the values of a history, each once, are put behind those that are there

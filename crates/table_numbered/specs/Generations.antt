@@ -4,9 +4,11 @@ use Rattle.std.specs.Int.{IsPowerOfTwo}
 use Rattle.std.specs.Borrow.{Bor}
 use mathlib.Core.List.{IsPrefix}
 use Rattle.logbook.specs.Pages.{Book, Named}
-use Rattle.table_slab.specs.Tokens.{IsNumber, IsRight}
-use Rattle.table_slab.specs.declared.slot.Right.{Right}
-use Rattle.table_numbered.specs.Words.{mark_of, numbered, alike, marked, of_value}
+use Rattle.table_slab.specs.Held.{IsRightTo}
+use Rattle.table_slab.specs.Shelved.{slab_of}
+use Rattle.table_slab.specs.Slabs.{SlabView}
+use Rattle.table_slab.specs.declared.slab.Right.{Right}
+use Rattle.table_numbered.specs.Words.{IsNumber, mark_of, numbered, alike, marked, of_value}
 use Rattle.table_numbered.specs.Probing.{bucket_at}
 use Rattle.table_numbered.specs.declared.event.Numbered.{Numbered}
 use Rattle.table_numbered.specs.declared.event.Stored.TheVariants.{Entry, Closed}
@@ -21,14 +23,14 @@ use Rattle.table_numbered.specs.declared.place.Placing.{Placing}
 use Rattle.table_numbered.specs.declared.place.Placing.TheVariants as placing
 use Rattle.table_numbered.specs.History.{event, History, Has, IsUntouched, HasSize, Stands, IsEntry, NonePasses, HasPassed, IsReached, Adds}
 
--- which generation it is, how many buckets it has, and the names of the slab that its entries lie in
+-- which generation it is, how many buckets it has, and the slab that its entries lie in
 pub record SetView : Type 0 where
   pub book : Book
   pub size : ℕ
-  pub names : List ℕ
+  pub slab : SlabView
 
-abbrev pub set_view : Book → ℕ → List ℕ → SetView
-set_view b n names = record { book = b; size = n; names = names }
+abbrev pub set_view : Book → ℕ → SlabView → SetView
+set_view b n s = record { book = b; size = n; slab = s }
 
 -- which generation it is, and the history that it was made with
 pub record GenerationView (V : Type 0) : Type 0 where
@@ -37,7 +39,7 @@ pub record GenerationView (V : Type 0) : Type 0 where
 
 abbrev pub generation_view : {V : Type 0} → Book → List Named → List ℕ → History (Numbered V)
     → GenerationView V
-generation_view b ws names log = record { of = set_view b (length ws) names; start = log }
+generation_view b ws names log = record { of = set_view b (length ws) (slab_of names); start = log }
 
 -- a word that this book counts
 abbrev pub IsWord : Book → Named → Type 0
@@ -51,7 +53,7 @@ AreWords b ws = (k : ℕ) (d : Named) → k < length ws
 module _ {V : Type 0} (same : V → V → Bool) (hash : V → ℕ) where
   -- a history of this generation, that was reached
   abbrev pub IsOf : SetView → Book → List ℕ → History (Numbered V) → Type 0
-  IsOf t b names log = (b ≡ t.book) × (names ≡ t.names) × HasSize t.size log
+  IsOf t b names log = (b ≡ t.book) × (slab_of names ≡ t.slab) × HasSize t.size log
       × IsReached (alike same) (marked hash) log
 
   -- a generation between two calls
@@ -59,7 +61,7 @@ module _ {V : Type 0} (same : V → V → Bool) (hash : V → ℕ) where
     pub words : AreWords b ws
     pub power : IsPowerOfTwo (length ws)
     pub few : length ws ≤ 2 ^ 32
-    pub of : IsOf (set_view b (length ws) names) b names log
+    pub of : IsOf (set_view b (length ws) (slab_of names)) b names log
 
 module _ {V : Type 0} (test : V → Bool) where
   -- what a probe meets in the bucket p
@@ -103,24 +105,25 @@ module _ {V : Type 0} (test : V → Bool) where
 
 module _ {V : Type 0} (same : V → V → Bool) (hash : V → ℕ) where
   -- v is on its way, with the right to the empty slot k
-  pub record IsComing (names : List ℕ) (v : V) (k : ℕ) (c : Coming V) : Type 0 where
+  pub record IsComing {A : Type 0} (s : SlabView) (v : V) (k : ℕ) (c : Coming V A) : Type 0 where
     pub value : c.value ≡ v
     pub mark : c.mark ≡ mark_of (hash v)
     pub number : c.number ≡ k
-    pub right : IsRight names k None c.right
+    pub right : IsRightTo s k c.right
+    pub empty : c.right.room.value ≡ None
     pub small : IsNumber k
 
-  module _ (names : List ℕ) (v : V) (k : ℕ) where
+  module _ (s : SlabView) (v : V) (k : ℕ) where
     -- v is placed in the bucket p, in the slot k; or it comes back, and the bucket has an entry that is the same,
     -- has another one, or is closed
-    abbrev pub Claims : ℕ → History (Numbered V) → History (Numbered V) → Claim V → Type 0
+    abbrev pub Claims : {A : Type 0} → ℕ → History (Numbered V) → History (Numbered V) → Claim V A → Type 0
     Claims p old new (claim.Placed e) =
         (e.now ≡ v) × Adds (alike same) (marked hash) (Entry (numbered k v)) p old new
     Claims p old new (claim.Met j e back) =
-        IsComing names v k back × (same v e.now ≡ true) × Stands new p (numbered j e.now)
+        IsComing s v k back × (same v e.now ≡ true) × Stands new p (numbered j e.now)
     Claims p old new (claim.Passed back) =
-        IsComing names v k back × ((e : Numbered V) × Stands new p e × (same v e.value ≡ false))
-    Claims p old new (claim.Closed back) = IsComing names v k back × Has new p Closed
+        IsComing s v k back × ((e : Numbered V) × Stands new p e × (same v e.value ≡ false))
+    Claims p old new (claim.Closed back) = IsComing s v k back × Has new p Closed
 
   -- v is placed with the number k in a history that goes on from the known one, and nothing before it is the same
   pub record IsPlaced (k : ℕ) (v : V) (old new : History (Numbered V)) : Type 0 where
@@ -131,23 +134,23 @@ module _ {V : Type 0} (same : V → V → Bool) (hash : V → ℕ) where
     pub then : new ≡ before ++ event place (Some (Entry (numbered k v))) ∷ []
 
   -- what comes back of an insert: the value, and the right to the empty slot
-  abbrev pub ComesBack : List ℕ → V → ℕ → V → Right V → Type 0
-  ComesBack names v k back right = (back ≡ v) × IsRight names k None right
+  abbrev pub ComesBack : {A : Type 0} → SlabView → V → ℕ → V → Right V A → Type 0
+  ComesBack s v k back right = (back ≡ v) × IsRightTo s k right × (right.room.value ≡ None)
 
   -- what an insert answers, by the histories that its caller knew before and knows after
-  abbrev pub Inserts : V → ℕ → History (Numbered V) → History (Numbered V) → Placing V → Type 0
+  abbrev pub Inserts : {A : Type 0} → V → ℕ → History (Numbered V) → History (Numbered V) → Placing V A → Type 0
   Inserts v k old new (placing.Placed e) = (e.now ≡ v) × IsPlaced k v old new
   Inserts v k old new (placing.Found j e back right) = Passes (same v) (IsEntry new) j e.now
   Inserts v k old new (placing.Full back right) = NonePasses (of_value (same v)) (IsEntry new)
 
   -- what comes back of an insert that placed nothing
-  abbrev pub GivesBack : List ℕ → V → ℕ → Placing V → Type 0
-  GivesBack names v k (placing.Placed e) = Unit {0}
-  GivesBack names v k (placing.Found j e back right) = ComesBack names v k back right
-  GivesBack names v k (placing.Full back right) = ComesBack names v k back right
+  abbrev pub GivesBack : {A : Type 0} → SlabView → V → ℕ → Placing V A → Type 0
+  GivesBack s v k (placing.Placed e) = Unit {0}
+  GivesBack s v k (placing.Found j e back right) = ComesBack s v k back right
+  GivesBack s v k (placing.Full back right) = ComesBack s v k back right
 
   -- an insert is Full only where no bucket is left
-  abbrev pub IsFullBy : ℕ → V → History (Numbered V) → Placing V → Type 0
+  abbrev pub IsFullBy : {A : Type 0} → ℕ → V → History (Numbered V) → Placing V A → Type 0
   IsFullBy n v log (placing.Placed e) = Unit {0}
   IsFullBy n v log (placing.Found j e back right) = Unit {0}
   IsFullBy n v log (placing.Full back right) = IsSpent (same v) n (mark_of (hash v)) log

@@ -3,9 +3,8 @@ use Rattle.std.specs.Prelude.{◌≡◌, ◌≢◌, ℕ, ◌<◌, ◌⊎◌, ◌
 use mathlib.Core.List.{IsPrefix}
 use Rattle.logbook.specs.Pages.{Cell, cell, Step, View}
 use Rattle.table_terms.specs.Laws.{AllApart}
-use Rattle.table_slab.specs.Tokens.{IsNumber}
 use Rattle.table_numbered.specs.Probing.{bucket_at}
-use Rattle.table_numbered.specs.Words.{word_of, numbered}
+use Rattle.table_numbered.specs.Words.{IsNumber, word_of, numbered}
 use Rattle.table_numbered.specs.declared.event.Event.{Event}
 use Rattle.table_numbered.specs.declared.event.Stored.{Stored}
 use Rattle.table_numbered.specs.declared.event.Stored.TheVariants.{Entry, Closed}

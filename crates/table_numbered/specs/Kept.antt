@@ -2,7 +2,7 @@
 use Rattle.std.specs.Prelude.{ℕ, zero, suc, List, [], ◌∷◌, Option, Some, None}
 use base.Fml.{Fml, ftrue, fsep}
 use denote.RattleType.{RattleType}
-use Rattle.table_slab.specs.Tokens.{right, standing}
+use Rattle.table_slab.specs.Shelved.{slab_of, right, standing}
 use Rattle.table_numbered.specs.declared.event.Event.{Event}
 use Rattle.table_numbered.specs.declared.event.Stored.{Stored}
 use Rattle.table_numbered.specs.declared.event.Stored.TheVariants.{Entry, Closed}
@@ -11,7 +11,7 @@ use Rattle.table_numbered.specs.declared.event.Numbered.{Numbered}
 module _ (R : RattleType) (names : List ℕ) where
   abbrev pub kept_in : Option (Stored (Numbered R.Denot)) → Fml
   kept_in None = ftrue
-  kept_in (Some (Entry e)) = standing R names e.number e.value
+  kept_in (Some (Entry e)) = standing R (slab_of names) e.number e.value
   kept_in (Some Closed) = ftrue
 
   abbrev pub all_kept : List (Event (Stored (Numbered R.Denot))) → Fml
@@ -21,7 +21,7 @@ module _ (R : RattleType) (names : List ℕ) where
   -- the right to the slot of an entry
   abbrev pub right_in : Option (Stored (Numbered R.Denot)) → Fml
   right_in None = ftrue
-  right_in (Some (Entry e)) = right R names e.number (Some e.value)
+  right_in (Some (Entry e)) = right R (slab_of names) e.number (Some e.value)
   right_in (Some Closed) = ftrue
 
   abbrev pub right_of : List (Event (Stored (Numbered R.Denot))) → Fml

@@ -1,5 +1,5 @@
 -- What a bucket's word says.
-use Rattle.std.specs.Prelude.{ℕ, ◌+◌, ◌*◌, ◌/◌, ◌%◌, ◌^◌, Bool}
+use Rattle.std.specs.Prelude.{ℕ, ◌+◌, ◌*◌, ◌/◌, ◌%◌, ◌^◌, ◌<◌, Bool}
 use Rattle.table_numbered.specs.declared.event.Stored.{Stored}
 use Rattle.table_numbered.specs.declared.event.Stored.TheVariants.{Entry, Closed}
 use Rattle.table_numbered.specs.declared.event.Numbered.{Numbered}
@@ -26,6 +26,10 @@ marked hash e = mark_of (hash e.value)
 -- a test of an entry's value
 abbrev pub of_value : {V : Type 0} → (V → Bool) → Numbered V → Bool
 of_value test e = test e.value
+
+-- a number that a word has room for
+abbrev pub IsNumber : ℕ → Type 0
+IsNumber k = k + 2 < 2 ^ 32
 
 -- 0 is empty, 1 is closed; an entry has its mark, and its number
 abbrev pub word_of : {V : Type 0} → (Numbered V → ℕ) → Stored (Numbered V) → ℕ

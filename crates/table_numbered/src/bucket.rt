@@ -1,7 +1,8 @@
 //! The steps on a bucket's word.
 ghost use Rattle.std.specs.Prelude.{◌≡◌, ◌≢◌, ℕ, ◌<◌, true, Some, IsSome, IfOk, IfErr};
 ghost use mathlib.Core.List.{IsPrefix};
-ghost use Rattle.table_slab.specs.Tokens.{id_at};
+ghost use Rattle.table_slab.specs.Held.{IsRightTo, StandsAt};
+ghost use Rattle.table_slab.specs.Shelved.{slab_of};
 ghost use Rattle.table_numbered.specs.Words.{numbered, alike, marked, word_of};
 ghost use Rattle.table_numbered.specs.History.{Has, Stands, IsInside, size_of, Fits, Says, IsReached, Adds};
 ghost use Rattle.table_numbered.specs.Generations.{IsWord};
@@ -10,13 +11,14 @@ ghost use Rattle.table_numbered.specs.declared.event.Stored.TheVariants.{Entry, 
 use crate::law::SetLaw;
 use crate::rule::{Bucket, Look, Nothing, Publish, Token};
 use crate::trade::{Carrying, Publishing, Trade, carrying, closing, publishing, returned};
+use std::alloc::Allocator;
 use table_slab::{Right, Standing};
 
 /// What comes back from a bucket that was set before.
 #[derive(Drop)]
-pub(crate) struct Lost<V> {
+pub(crate) struct Lost<V, A: Allocator> {
     pub found: u64,
-    pub right: Right<V>,
+    pub right: Right<V, A>,
 }
 
 /// Returns the word that the bucket has by now.
@@ -33,35 +35,37 @@ pub(crate) fn look<V, L: SetLaw<V>>(word: &Bucket<V, L>, seen: &mut Token<V, L>)
 }
 
 /// Publishes what lies in the slot by one exchange, unless the bucket was set before.
-pub(crate) fn publish<V, L: SetLaw<V>>(
+pub(crate) fn publish<V, L: SetLaw<V>, A: Allocator>(
     word: &Bucket<V, L>,
     seen: &mut Token<V, L>,
     place: u64,
     number: u64,
     bits: u64,
-    right: Right<V>,
-) -> Result<(), Lost<V>>
+    right: Right<V, A>,
+) -> Result<(), Lost<V, A>>
     requires word { IsWord seen.old.book word.now }
     requires place { place ≡ word.now.key }
     requires inside { IsInside word.now.key seen.old.log }
-    requires of { right.of ≡ id_at seen.old.names number }
-    requires full { IsSome right.value }
-    requires bits { (x : V) → right.value ≡ Some x
+    requires of { IsRightTo (slab_of seen.old.names) number right }
+    requires full { IsSome right.room.value }
+    requires bits { (x : V) → right.room.value ≡ Some x
         → bits ≡ word_of (marked L.hash_of) (Entry (numbered number x)) }
-    requires fits { (x : V) → right.value ≡ Some x
+    requires fits { (x : V) → right.room.value ≡ Some x
         → Fits (alike L.same) (marked L.hash_of) (size_of seen.old.log) seen.old.log
         (Entry (numbered number x)) place }
     ensures same { (seen.new.book ≡ seen.old.book) × (seen.new.names ≡ seen.old.names) }
     ensures longer { IsPrefix seen.old.log seen.new.log }
     ensures reached { IsReached (alike L.same) (marked L.hash_of) seen.new.log }
-    ensures ok { IfOk result (λ _. (x : V) × (right.value ≡ Some x)
+    ensures ok { IfOk result (λ _. (x : V) × (right.room.value ≡ Some x)
         × Adds (alike L.same) (marked L.hash_of) (Entry (numbered number x)) place seen.old.log
         seen.new.log) }
-    ensures err { IfErr result (λ l. (l.right.of ≡ right.of) × (l.right.value ≡ right.value)
+    ensures err { IfErr result (λ l. IsRightTo (slab_of seen.old.names) number l.right
+        × (l.right.room.value ≡ right.room.value)
         × (l.found ≢ 0)
         × Says (alike L.same) (marked L.hash_of) place l.found seen.new.log) }
 {
-    let mut offer: Publishing<V, L> = publishing(seen, place, number, right);
+    let Right { site, room } = right;
+    let mut offer: Publishing<V, L> = publishing(seen, place, number, site, room);
     let mut pen = seen.no_pen();
     let found = word.compare_exchange::<Publish<V, L>, Trade<V>>(
         0, bits, seen, &mut offer, &mut pen,
@@ -69,32 +73,34 @@ pub(crate) fn publish<V, L: SetLaw<V>>(
     if found == 0 {
         return Ok(());
     }
-    let right = returned(offer.into_gain(), place, number);
+    let (site, room) = returned(offer.into_gain(), place, number);
+    let right = Right { site, room };
     Err(Lost { found, right })
 }
 
 /// Stores an entry that lies in its slot for good, by one exchange. False: the bucket was set before.
-pub(crate) fn carry<V, L: SetLaw<V>>(
+pub(crate) fn carry<V, L: SetLaw<V>, A: Allocator>(
     word: &Bucket<V, L>,
     seen: &mut Token<V, L>,
     place: u64,
     number: u64,
     bits: u64,
-    standing: Standing<V>,
+    standing: Standing<V, A>,
 ) -> bool
     requires word { IsWord seen.old.book word.now }
     requires place { place ≡ word.now.key }
     requires inside { IsInside word.now.key seen.old.log }
-    requires of { standing.of ≡ id_at seen.old.names number }
-    requires bits { bits ≡ word_of (marked L.hash_of) (Entry (numbered number standing.value)) }
+    requires of { StandsAt (slab_of seen.old.names) number standing }
+    requires bits { bits ≡ word_of (marked L.hash_of) (Entry (numbered number standing.written.value)) }
     requires fits { Fits (alike L.same) (marked L.hash_of) (size_of seen.old.log) seen.old.log
-        (Entry (numbered number standing.value)) place }
+        (Entry (numbered number standing.written.value)) place }
     ensures same { (seen.new.book ≡ seen.old.book) × (seen.new.names ≡ seen.old.names) }
     ensures longer { IsPrefix seen.old.log seen.new.log }
     ensures reached { IsReached (alike L.same) (marked L.hash_of) seen.new.log }
-    ensures carried { result ≡ true → Stands seen.new.log place (numbered number standing.value) }
+    ensures carried { result ≡ true → Stands seen.new.log place (numbered number standing.written.value) }
 {
-    let mut offer: Carrying<V, L> = carrying(seen, place, number, standing);
+    let Standing { site, written } = standing;
+    let mut offer: Carrying<V, L> = carrying(seen, place, number, site, written);
     let mut pen = seen.no_pen();
     let found = word.compare_exchange::<Publish<V, L>, Nothing>(
         0, bits, seen, &mut offer, &mut pen,

@@ -14,14 +14,15 @@ use crate::rule::Token;
 use crate::sought::SameAs;
 use crate::word::{first_bucket, word_of_entry};
 use std::alloc::Allocator;
+use table_cell::Low;
 use table_slab::{Slab, Standing};
 use table_terms::probe::next_bucket;
 
 /// An entry on its way from one generation to the next: it stays where it lies.
 #[derive(Drop)]
-pub(crate) struct Load<'a, V> {
+pub(crate) struct Load<'a, V, A: Allocator> {
     pub entry: &'a V,
-    pub standing: Standing<V>,
+    pub standing: Standing<V, A>,
     pub mark: u64,
     pub number: u64,
 }
@@ -37,18 +38,18 @@ pub(crate) enum Step {
     Stuck,
 }
 
-impl<V, L: SetLaw<V>, A: Allocator> Generation<V, L, A> {
+impl<V, L: SetLaw<V>, A: Low + Copy> Generation<V, L, A> {
     /// Stores the entry in this bucket by one exchange. False: it was set before.
-    fn store(&self, seen: &mut Token<V, L>, index: usize, load: &Load<V>) -> bool
+    fn store(&self, seen: &mut Token<V, L>, index: usize, load: &Load<V, A>) -> bool
         requires of { IsOf L.same L.hash_of self.now.of seen.old.book seen.old.names seen.old.log }
         requires inside { index < self.now.of.size }
-        requires load { IsLoad L.hash_of self.now.of.names load.now }
+        requires load { IsLoad L.hash_of self.now.of.slab load.now }
         requires reached { Reaches (alike L.same) (marked L.hash_of) self.now.of.size seen.old.log
-            (numbered load.now.number load.now.standing.value) index }
+            (numbered load.now.number load.now.standing.written.value) index }
         ensures of { IsOf L.same L.hash_of self.now.of seen.new.book seen.new.names seen.new.log }
         ensures longer { IsPrefix seen.old.log seen.new.log }
         ensures stored { result ≡ true
-            → Stands seen.new.log index (numbered load.now.number load.now.standing.value) }
+            → Stands seen.new.log index (numbered load.now.number load.now.standing.written.value) }
     {
         let bits = word_of_entry(load.mark, load.number);
         let standing = load.standing.again();
@@ -58,13 +59,13 @@ impl<V, L: SetLaw<V>, A: Allocator> Generation<V, L, A> {
 
     /// Stores the entry in this bucket if it is empty, and else tells what is there. An entry is read only where its mark is that
     /// of the one on its way.
-    fn tread(&self, slab: &Slab<V, A>, seen: &mut Token<V, L>, index: usize, load: &Load<V>) -> Step
-        requires slab { slab.now ≡ self.now.of.names }
+    fn tread(&self, slab: &Slab<V, A>, seen: &mut Token<V, L>, index: usize, load: &Load<V, A>) -> Step
+        requires slab { slab.now ≡ self.now.of.slab }
         requires of { IsOf L.same L.hash_of self.now.of seen.old.book seen.old.names seen.old.log }
         requires inside { index < self.now.of.size }
-        requires load { IsLoad L.hash_of self.now.of.names load.now }
+        requires load { IsLoad L.hash_of self.now.of.slab load.now }
         requires reached { Reaches (alike L.same) (marked L.hash_of) self.now.of.size seen.old.log
-            (numbered load.now.number load.now.standing.value) index }
+            (numbered load.now.number load.now.standing.written.value) index }
         ensures of { IsOf L.same L.hash_of self.now.of seen.new.book seen.new.names seen.new.log }
         ensures longer { IsPrefix seen.old.log seen.new.log }
         ensures treads { Treads L.same load.now index seen.new.log result }
@@ -85,14 +86,14 @@ impl<V, L: SetLaw<V>, A: Allocator> Generation<V, L, A> {
     }
 
     /// Stores the entry in the first empty bucket of its probe. False: there is none.
-    pub(crate) fn carry(&self, slab: &Slab<V, A>, seen: &mut Token<V, L>, load: &Load<V>) -> bool
-        requires slab { slab.now ≡ self.now.of.names }
+    pub(crate) fn carry(&self, slab: &Slab<V, A>, seen: &mut Token<V, L>, load: &Load<V, A>) -> bool
+        requires slab { slab.now ≡ self.now.of.slab }
         requires of { IsOf L.same L.hash_of self.now.of seen.old.book seen.old.names seen.old.log }
-        requires load { IsLoad L.hash_of self.now.of.names load.now }
+        requires load { IsLoad L.hash_of self.now.of.slab load.now }
         ensures of { IsOf L.same L.hash_of self.now.of seen.new.book seen.new.names seen.new.log }
         ensures longer { IsPrefix seen.old.log seen.new.log }
         ensures carried { result ≡ true → (q : ℕ)
-            × Stands seen.new.log q (numbered load.now.number load.now.standing.value) }
+            × Stands seen.new.log q (numbered load.now.number load.now.standing.written.value) }
     {
         let count = self.buckets();
         let mut index = first_bucket(load.mark, count);

@@ -1,9 +1,10 @@
-//! The values of a generation, once no one shares its slab.
+//! The values of a generation, once its slab ends.
 ghost use Rattle.std.specs.Prelude.{◌≡◌, ℕ, ◌<◌, ◌+◌, ◌≤◌, length, vec_capacity, MatchOption};
 ghost use mathlib.Core.List.{IsPrefix};
 ghost use Rattle.table_numbered.specs.Words.{numbered};
 ghost use Rattle.table_numbered.specs.History.{Has, Stands, IsFree, IsFull};
 ghost use Rattle.table_numbered.specs.Generations.{IsOf};
+ghost use Rattle.table_slab.specs.Endings.{IsLeft};
 ghost use Rattle.table_numbered.specs.Ending.{AreLeft, TakesOut};
 
 use crate::generation::Generation;
@@ -11,18 +12,20 @@ use crate::law::SetLaw;
 use crate::rule::Token;
 use crate::trade::known;
 use crate::word::number_of_word;
-use std::alloc::Allocator;
-use table_slab::Slab;
+use table_cell::Low;
+use table_slab::Ending;
 
-impl<V: Drop, L: SetLaw<V>, A: Allocator> Generation<V, L, A> {
+impl<V: Drop, L: SetLaw<V>, A: Low + Copy> Generation<V, L, A> {
     /// Closes the bucket, and takes the value of its entry out of the slab, if it has one.
-    fn take_at(&self, slab: &mut Slab<V, A>, seen: &mut Token<V, L>, index: usize) -> Option<V>
+    fn take_at(&self, slab: &mut Ending<V, A>, seen: &mut Token<V, L>, index: usize) -> Option<V>
         requires of { IsOf L.same L.hash_of self.now.of seen.old.book seen.old.names seen.old.log }
         requires inside { index < self.now.of.size }
-        requires left { AreLeft self.now.of.names index seen.old.log slab.old }
+        requires slab { slab.old.slab ≡ self.now.of.slab }
+        requires left { AreLeft index seen.old.log slab.old }
         ensures of { IsOf L.same L.hash_of self.now.of seen.new.book seen.new.names seen.new.log }
         ensures longer { IsPrefix seen.old.log seen.new.log }
-        ensures left { AreLeft self.now.of.names (index + 1) seen.new.log slab.new }
+        ensures slab { slab.new.slab ≡ slab.old.slab }
+        ensures left { AreLeft (index + 1) seen.new.log slab.new }
         ensures set { (s : _) × Has seen.new.log index s }
         ensures taken { MatchOption result (IsFree seen.new.log index)
             (λ v. (k : ℕ) × Stands seen.new.log index (numbered k v)) }
@@ -37,8 +40,9 @@ impl<V: Drop, L: SetLaw<V>, A: Allocator> Generation<V, L, A> {
     }
 
     /// Takes the value of each bucket's entry out.
-    fn take_all(&self, slab: &mut Slab<V, A>, seen: &mut Token<V, L>, room: Vec<V, A>) -> Vec<V, A>
-        requires slab { slab.old ≡ self.now.of.names }
+    fn take_all(&self, slab: &mut Ending<V, A>, seen: &mut Token<V, L>, room: Vec<V, A>) -> Vec<V, A>
+        requires slab { slab.old.slab ≡ self.now.of.slab }
+        requires left { (k : ℕ) → IsLeft slab.old k }
         requires of { IsOf L.same L.hash_of self.now.of seen.old.book seen.old.names seen.old.log }
         requires room { length room.items + self.now.of.size ≤ vec_capacity room }
         ensures of { IsOf L.same L.hash_of self.now.of seen.new.book seen.new.names seen.new.log }
@@ -58,11 +62,12 @@ impl<V: Drop, L: SetLaw<V>, A: Allocator> Generation<V, L, A> {
     /// Ends the generation, and moves the values of its whole history out of the slab, each once, behind those that are there.
     pub fn into_values(
         self,
-        slab: &mut Slab<V, A>,
+        slab: &mut Ending<V, A>,
         seen: &mut Token<V, L>,
         room: Vec<V, A>,
     ) -> Vec<V, A>
-        requires slab { slab.old ≡ self.of.names }
+        requires slab { slab.old.slab ≡ self.of.slab }
+        requires left { (k : ℕ) → IsLeft slab.old k }
         requires of { IsOf L.same L.hash_of self.of seen.old.book seen.old.names seen.old.log }
         requires room { length room.items + self.of.size ≤ vec_capacity room }
         ensures of { IsOf L.same L.hash_of self.of seen.new.book seen.new.names seen.new.log }

@@ -13,12 +13,13 @@ use crate::trade::{Ids, known, start};
 use logbook::Word;
 use std::alloc::{AllocError, Allocator};
 use std::marker::Model;
+use table_cell::Low;
 use table_slab::Slab;
 
 /// A fixed number of buckets, each of which is set once by any thread: to the number of an entry, which lies in the slab that is
 /// handed to each call.
 ///
-/// A contract sees which generation it is, how many buckets it has, the names of its slab, and the history that it was made with.
+/// A contract sees which generation it is, how many buckets it has, its slab, and the history that it was made with.
 #[derive(Drop)]
 pub struct Generation<V, L: SetLaw<V>, A: Allocator> {
     pub(crate) words: Vec<Bucket<V, L>, A>,
@@ -39,18 +40,20 @@ impl<V, L: SetLaw<V>, A: Allocator> Model for Generation<V, L, A> {
 /// The names of a slab.
 pub(crate) struct SlabIds;
 
-impl<V, A: Allocator> Ids<Slab<V, A>> for SlabIds {
-    ghost ids = { λ slab. slab };
+impl<V, A: Low + Copy> Ids<Slab<V, A>> for SlabIds {
+    ghost use Rattle.table_slab.specs.Shelved.{names_of};
+
+    ghost ids = { λ slab. names_of slab };
 }
 
-impl<V, L: SetLaw<V>, A: Allocator> Generation<V, L, A> {
+impl<V, L: SetLaw<V>, A: Low + Copy> Generation<V, L, A> {
     /// Makes an empty one of this many buckets, a power of two, over the slab. It takes one block of memory, and nothing where
     /// that is refused.
     pub fn new(alloc: A, slab: &Slab<V, A>, buckets: usize) -> Result<Self, AllocError>
         requires power { IsPowerOfTwo buckets }
         requires few { buckets ≤ 2 ^ 32 }
         ensures size { IfOk result (λ g. g.of.size ≡ buckets) }
-        ensures names { IfOk result (λ g. g.of.names ≡ slab.now) }
+        ensures slab { IfOk result (λ g. g.of.slab ≡ slab.now) }
         ensures empty { IfOk result (λ g. g.start ≡ event buckets None ∷ []) }
     {
         let mut words = Vec::with_capacity(alloc, buckets)?;
@@ -98,7 +101,7 @@ impl<V, L: SetLaw<V>, A: Allocator> Generation<V, L, A> {
         index: usize,
         number: u64,
     ) -> &'a V
-        requires slab { slab.now ≡ self.now.of.names }
+        requires slab { slab.now ≡ self.now.of.slab }
         requires of { IsOf L.same L.hash_of self.now.of seen.now.book seen.now.names seen.now.log }
         requires there { (x : V) × Stands seen.now.log index (numbered number x) }
         ensures stands { Stands seen.now.log index (numbered number result.now) }

@@ -15,7 +15,7 @@ use crate::law::SetLaw;
 use crate::rule::Token;
 use crate::trade::known;
 use crate::word::{mark_of_word, number_of_word};
-use std::alloc::Allocator;
+use table_cell::Low;
 use table_slab::Slab;
 
 /// Why there is no next generation.
@@ -27,7 +27,7 @@ pub enum Refused {
     Buckets,
 }
 
-impl<V, L: SetLaw<V>, A: Allocator> Generation<V, L, A> {
+impl<V, L: SetLaw<V>, A: Low + Copy> Generation<V, L, A> {
     /// Closes the bucket, unless it was set before. Returns the word that it had.
     pub(crate) fn close_at(&self, seen: &mut Token<V, L>, index: usize) -> u64
         requires of { IsOf L.same L.hash_of self.now.of seen.old.book seen.old.names seen.old.log }
@@ -48,13 +48,14 @@ impl<V, L: SetLaw<V>, A: Allocator> Generation<V, L, A> {
         seen: &Token<V, L>,
         index: usize,
         word: u64,
-    ) -> Load<'a, V>
-        requires slab { slab.now ≡ self.now.of.names }
+    ) -> Load<'a, V, A>
+        requires slab { slab.now ≡ self.now.of.slab }
         requires of { IsOf L.same L.hash_of self.now.of seen.now.book seen.now.names seen.now.log }
         requires set { 2 ≤ word }
         requires says { Says (alike L.same) (marked L.hash_of) index word seen.now.log }
-        ensures load { IsLoad L.hash_of self.now.of.names result }
-        ensures stands { Stands seen.now.log index (numbered result.number result.standing.value) }
+        ensures load { IsLoad L.hash_of self.now.of.slab result }
+        ensures stands { Stands seen.now.log index
+            (numbered result.number result.standing.written.value) }
     {
         let number = number_of_word(word);
         let standing = known(seen, index as u64, number);
@@ -75,12 +76,12 @@ impl<V, L: SetLaw<V>, A: Allocator> Generation<V, L, A> {
         next: &Self,
         fresh: &mut Token<V, L>,
     ) -> bool
-        requires slab { slab.now ≡ self.now.of.names }
+        requires slab { slab.now ≡ self.now.of.slab }
         requires of { IsOf L.same L.hash_of self.now.of seen.old.book seen.old.names seen.old.log }
         requires inside { index < self.now.of.size }
         requires next { IsOf L.same L.hash_of next.now.of fresh.old.book fresh.old.names
             fresh.old.log }
-        requires names { next.now.of.names ≡ self.now.of.names }
+        requires same { next.now.of.slab ≡ self.now.of.slab }
         ensures of { IsOf L.same L.hash_of self.now.of seen.new.book seen.new.names seen.new.log }
         ensures longer { IsPrefix seen.old.log seen.new.log }
         ensures set { (s : _) × Has seen.new.log index s }
@@ -105,11 +106,11 @@ impl<V, L: SetLaw<V>, A: Allocator> Generation<V, L, A> {
         next: &Self,
         fresh: &mut Token<V, L>,
     ) -> bool
-        requires slab { slab.now ≡ self.now.of.names }
+        requires slab { slab.now ≡ self.now.of.slab }
         requires of { IsOf L.same L.hash_of self.now.of seen.old.book seen.old.names seen.old.log }
         requires next { IsOf L.same L.hash_of next.now.of fresh.old.book fresh.old.names
             fresh.old.log }
-        requires names { next.now.of.names ≡ self.now.of.names }
+        requires same { next.now.of.slab ≡ self.now.of.slab }
         ensures of { IsOf L.same L.hash_of self.now.of seen.new.book seen.new.names seen.new.log }
         ensures longer { IsPrefix seen.old.log seen.new.log }
         ensures full { result ≡ true → IsFull self.now.of.size seen.new.log }
@@ -143,14 +144,14 @@ impl<V, L: SetLaw<V>, A: Allocator> Generation<V, L, A> {
         slab: &Slab<V, A>,
         seen: &mut Token<V, L>,
     ) -> Result<Self, Refused>
-        requires slab { slab.now ≡ self.now.of.names }
+        requires slab { slab.now ≡ self.now.of.slab }
         requires of { IsOf L.same L.hash_of self.now.of seen.old.book seen.old.names seen.old.log }
         ensures of { IsOf L.same L.hash_of self.now.of seen.new.book seen.new.names seen.new.log }
         ensures longer { IsPrefix seen.old.log seen.new.log }
         ensures memory { result ≡ Err Memory → seen.new.log ≡ seen.old.log }
         ensures full { IfOk result (λ _. IsFull self.now.of.size seen.new.log) }
         ensures size { IfOk result (λ g. g.of.size ≡ 2 * self.now.of.size) }
-        ensures names { IfOk result (λ g. g.of.names ≡ slab.now) }
+        ensures slab { IfOk result (λ g. g.of.slab ≡ slab.now) }
         ensures carried { IfOk result (λ g. Carries seen.new.log g.start) }
     {
         let count = self.buckets();

@@ -10,7 +10,7 @@ use crate::law::SetLaw;
 use crate::rule::Token;
 use crate::sought::Sought;
 use crate::word::{first_bucket, mark_of_hash, mark_of_word, number_of_word};
-use std::alloc::Allocator;
+use table_cell::Low;
 use table_slab::Slab;
 use table_terms::probe::next_bucket;
 
@@ -38,7 +38,7 @@ pub enum Judged<'a, V> {
     Spent,
 }
 
-impl<V, L: SetLaw<V>, A: Allocator> Generation<V, L, A> {
+impl<V, L: SetLaw<V>, A: Low + Copy> Generation<V, L, A> {
     /// Compares what is sought with what the bucket has. An entry is read only where its mark is that of what is sought.
     pub(crate) fn meet<'a, S: Sought<V, L>>(
         &self,
@@ -48,7 +48,7 @@ impl<V, L: SetLaw<V>, A: Allocator> Generation<V, L, A> {
         mark: u64,
         sought: &S,
     ) -> Meeting<'a, V>
-        requires slab { slab.now ≡ self.now.of.names }
+        requires slab { slab.now ≡ self.now.of.slab }
         requires of { IsOf L.same L.hash_of self.now.of seen.old.book seen.old.names seen.old.log }
         requires inside { index < self.now.of.size }
         requires mark { mark ≡ mark_of (S.sought_hash sought.now) }
@@ -82,7 +82,7 @@ impl<V, L: SetLaw<V>, A: Allocator> Generation<V, L, A> {
         seen: &mut Token<V, L>,
         sought: &S,
     ) -> Judged<'a, V>
-        requires slab { slab.now ≡ self.now.of.names }
+        requires slab { slab.now ≡ self.now.of.slab }
         requires of { IsOf L.same L.hash_of self.now.of seen.old.book seen.old.names seen.old.log }
         ensures of { IsOf L.same L.hash_of self.now.of seen.new.book seen.new.names seen.new.log }
         ensures longer { IsPrefix seen.old.log seen.new.log }
@@ -113,7 +113,7 @@ impl<V, L: SetLaw<V>, A: Allocator> Generation<V, L, A> {
         seen: &mut Token<V, L>,
         sought: &S,
     ) -> Option<(u64, &'a V)>
-        requires slab { slab.now ≡ self.now.of.names }
+        requires slab { slab.now ≡ self.now.of.slab }
         requires of { IsOf L.same L.hash_of self.now.of seen.old.book seen.old.names seen.old.log }
         ensures of { IsOf L.same L.hash_of self.now.of seen.new.book seen.new.names seen.new.log }
         ensures longer { IsPrefix seen.old.log seen.new.log }

@@ -1,7 +1,6 @@
 //! What a bucket's word says, and where a probe begins.
 ghost use Rattle.std.specs.Prelude.{◌≡◌, ℕ, ◌+◌, ◌*◌, ◌/◌, ◌%◌, ◌^◌, ◌<◌, ◌≤◌};
-ghost use Rattle.table_slab.specs.Tokens.{IsNumber};
-ghost use Rattle.table_numbered.specs.Words.{spreading, mark_of};
+ghost use Rattle.table_numbered.specs.Words.{IsNumber, spreading, mark_of};
 ghost use Rattle.table_numbered.specs.Probing.{bucket_at};
 
 /// An odd number of 64 bits, whose multiples spread over all of them.

@@ -5,7 +5,7 @@ use Rattle.table_numbered.proofs.Probes.{goes_first, goes_on, goes_reaches}
 use Rattle.table_numbered.proofs.generation.Generation.carry.Goals as goal
 
 pub first_bucket-index-requires-clause-mark : goal.first_bucket-index-requires-clause-mark
-first_bucket-index-requires-clause-mark g c = omega (arith, c.requires.load.mark, mark_small (g.L.Law.hash_of c.args.load.now.standing.value))
+first_bucket-index-requires-clause-mark g c = omega (arith, c.requires.load.mark, mark_small (g.L.Law.hash_of c.args.load.now.standing.written.value))
 
 pub loop-tried-init : goal.loop-tried-init
 loop-tried-init g c = record {
@@ -19,7 +19,7 @@ tread-requires-clause-inside g c = c.loop-tried.invariant.goes.inside
 
 pub tread-requires-clause-reached : goal.tread-requires-clause-reached
 tread-requires-clause-reached g c = let l = c.args.load.now in
-    goes_reaches g.L.Law.same g.L.Law.hash_of l.number l.standing.value c.loop-tried.invariant.goes (subst (λ (m : ℕ). c.loop-tried._tried < m) c.buckets-count.ensures.size c.loop-tried-test.true)
+    goes_reaches g.L.Law.same g.L.Law.hash_of l.number l.standing.written.value c.loop-tried.invariant.goes (subst (λ (m : ℕ). c.loop-tried._tried < m) c.buckets-count.ensures.size c.loop-tried-test.true)
 
 pub next_bucket-index-requires-clause-within : goal.next_bucket-index-requires-clause-within
 next_bucket-index-requires-clause-within g c = subst (λ (m : ℕ). c.loop-tried.index < m) (sym c.buckets-count.ensures.size) c.loop-tried.invariant.goes.inside

@@ -1,4 +1,5 @@
-use Rattle.std.proofs.Common.{ℕ, List, sym, subst, arith}
+use Rattle.std.proofs.Common.{sym, subst, arith}
+use Rattle.table_slab.specs.Slabs.{SlabView}
 use Rattle.table_numbered.specs.Words.{numbered, alike, marked}
 use Rattle.table_numbered.specs.Carrying.{IsLoad}
 use Rattle.table_numbered.proofs.Carried.{carries_closed, carries_one, is_closed, set_then}
@@ -16,11 +17,11 @@ pub load-load-requires-clause-says : goal.load-load-requires-clause-says
 load-load-requires-clause-says g c = c.close_at-word.ensures.says (λ zero. omega (arith, zero, c.if-word-lt2.false))
 
 pub carry-requires-clause-load : goal.carry-requires-clause-load
-carry-requires-clause-load g c = subst (λ (names : List ℕ). IsLoad g.L.Law.hash_of names c.load-load.result) (sym c.requires.names) c.load-load.ensures.load
+carry-requires-clause-load g c = subst (λ (s : SlabView). IsLoad g.L.Law.hash_of s c.load-load.result) (sym c.requires.same) c.load-load.ensures.load
 
 pub returns-clause-set : goal.returns-clause-set
 returns-clause-set g c = set_then (alike g.L.Law.same) (marked g.L.Law.hash_of) c.close_at-word.new.seen.log c.args.index c.close_at-word.result c.close_at-word.ensures.closed c.close_at-word.ensures.says
 
 pub returns-clause-carried : goal.returns-clause-carried
 returns-clause-carried g c = λ yes. let l = c.load-load.result in let p = c.carry.ensures.carried yes in
-    carries_one (alike g.L.Law.same) (marked g.L.Law.hash_of) c.close_at-word.new.seen.log c.carry.new.seen.log c.args.index p.0 (numbered l.number l.standing.value) c.close_at-word.ensures.of.3 c.load-load.ensures.stands p.1
+    carries_one (alike g.L.Law.same) (marked g.L.Law.hash_of) c.close_at-word.new.seen.log c.carry.new.seen.log c.args.index p.0 (numbered l.number l.standing.written.value) c.close_at-word.ensures.of.3 c.load-load.ensures.stands p.1

@@ -10,4 +10,4 @@ pub offer-requires-clause-reached : goal.offer-requires-clause-reached
 offer-requires-clause-reached g c = reaches_on (alike g.L.Law.same) (marked g.L.Law.hash_of) c.args.self.now.of.size c.args.index c.args.seen.now.log c.look_at-found.new.seen.log (numbered c.args.coming.number c.args.coming.value) c.look_at-found.ensures.longer c.requires.reached
 
 pub returns-clause-told : goal.returns-clause-told
-returns-clause-told g c = claims_after g.L.Law.same g.L.Law.hash_of c.args.self.now.of.names c.args.coming.value c.args.coming.number c.args.index c.args.seen.now.log c.look_at-found.new.seen.log c.offer.new.seen.log c.offer.result c.look_at-found.ensures.longer c.offer.ensures.told
+returns-clause-told g c = claims_after g.L.Law.same g.L.Law.hash_of c.args.self.now.of.slab c.args.coming.value c.args.coming.number c.args.index c.args.seen.now.log c.look_at-found.new.seen.log c.offer.new.seen.log c.offer.result c.look_at-found.ensures.longer c.offer.ensures.told

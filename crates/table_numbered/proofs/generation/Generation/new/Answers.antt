@@ -4,6 +4,7 @@ use Rattle.std.specs.Int.{IsPowerOfTwo}
 use Rattle.table_numbered.specs.declared.event.Numbered.{Numbered}
 use Rattle.table_numbered.specs.Words.{alike, marked}
 use Rattle.table_numbered.specs.History.{History, event, HasSize}
+use Rattle.table_slab.specs.Shelved.{slab_of}
 use Rattle.table_numbered.specs.Generations.{IsWord, AreWords, IsOf, set_view}
 use Rattle.table_numbered.proofs.Laid.{words_push}
 use Rattle.table_numbered.proofs.Steps.{kept_first}
@@ -32,6 +33,6 @@ invariant_of-result g c = let inv = c.loop-made.invariant in let e = c.open_row-
       words = inv.words;
       power = subst IsPowerOfTwo (sym long) c.requires.power;
       few = omega (arith, long, c.requires.few);
-      of = subst (λ (log : History (Numbered g.row.V.Denot)). IsOf g.L.Law.same g.L.Law.hash_of (set_view b (length ws) names) b names log) (sym e.1)
+      of = subst (λ (log : History (Numbered g.row.V.Denot)). IsOf g.L.Law.same g.L.Law.hash_of (set_view b (length ws) (slab_of names)) b names log) (sym e.1)
           (refl, refl, subst (λ (n : ℕ). HasSize n first) (sym long) begins, (replicate c.args.buckets (0, true), kept_first (alike g.L.Law.same) (marked g.L.Law.hash_of) c.args.buckets));
     }

@@ -15,6 +15,7 @@ loop-claimed-init g c = record {
     mark = c.mark_of_hash-mark.ensures.mark ∙ ap mark_of c.hash.ensures;
     number = refl;
     right = c.requires.right;
+    empty = c.requires.empty;
     small = c.requires.number;
   };
   of = c.requires.of;
@@ -26,7 +27,7 @@ pub claim-requires-clause-inside : goal.claim-requires-clause-inside
 claim-requires-clause-inside g c = c.loop-claimed.invariant.goes.inside
 
 pub claim-requires-clause-coming : goal.claim-requires-clause-coming
-claim-requires-clause-coming g c = coming_as g.L.Law.same g.L.Law.hash_of c.args.self.now.of.names c.args.value c.args.number c.loop-claimed.coming c.loop-claimed.invariant.coming
+claim-requires-clause-coming g c = coming_as g.L.Law.same g.L.Law.hash_of c.args.self.now.of.slab c.args.value c.args.number c.loop-claimed.coming c.loop-claimed.invariant.coming
 
 pub claim-requires-clause-reached : goal.claim-requires-clause-reached
 claim-requires-clause-reached g c = let inv = c.loop-claimed.invariant in
@@ -41,14 +42,14 @@ returns-clause-told g c = let inv = c.loop-claimed.invariant in
     goes_round g.L.Law.same g.L.Law.hash_of (λ v is. ap mark_of (sym (g.L.Law.lawful.agrees c.args.value v is))) inv.goes (omega (arith, c.loop-claimed-test.false, c.loop-claimed.auto._claimed-end, c.buckets-count.ensures.size)) inv.of.2 inv.of.3
 
 pub returns-clause-back : goal.returns-clause-back
-returns-clause-back g c = let coming = c.loop-claimed.invariant.coming in (coming.value, coming.right)
+returns-clause-back g c = let coming = c.loop-claimed.invariant.coming in (coming.value, coming.right, coming.empty)
 
 pub returns-clause-full : goal.returns-clause-full
 returns-clause-full g c = (c.loop-claimed._claimed, c.loop-claimed.invariant.goes.passed, inl (omega (arith, c.loop-claimed-test.false, c.loop-claimed.auto._claimed-end, c.buckets-count.ensures.size)))
 
 pub loop-claimed-preserved : goal.loop-claimed-preserved
 loop-claimed-preserved g c = let inv = c.loop-claimed.invariant in let e = c.claim.ensures in
-    let told = claims_of g.L.Law.same g.L.Law.hash_of c.args.self.now.of.names c.loop-claimed.coming.value c.args.value c.loop-claimed.coming.number c.args.number c.loop-claimed.index c.loop-claimed.seen.log c.claim.new.seen.log c.claim.result inv.coming.value inv.coming.number e.told in
+    let told = claims_of g.L.Law.same g.L.Law.hash_of c.args.self.now.of.slab c.loop-claimed.coming.value c.args.value c.loop-claimed.coming.number c.args.number c.loop-claimed.index c.loop-claimed.seen.log c.claim.new.seen.log c.claim.result inv.coming.value inv.coming.number e.told in
     let met = rw c.in-Passed.is at told in record {
       coming = met.0;
       of = e.of;
@@ -58,7 +59,7 @@ loop-claimed-preserved g c = let inv = c.loop-claimed.invariant in let e = c.cla
 
 pub returns-in-Placed-clause-told : goal.returns-in-Placed-clause-told
 returns-in-Placed-clause-told g c = let inv = c.loop-claimed.invariant in
-    let told = claims_of g.L.Law.same g.L.Law.hash_of c.args.self.now.of.names c.loop-claimed.coming.value c.args.value c.loop-claimed.coming.number c.args.number c.loop-claimed.index c.loop-claimed.seen.log c.claim.new.seen.log (claim.Placed c.in-Placed.entry) inv.coming.value inv.coming.number c.in-Placed.ensures.told in
+    let told = claims_of g.L.Law.same g.L.Law.hash_of {A = g.row.A.Denot} c.args.self.now.of.slab c.loop-claimed.coming.value c.args.value c.loop-claimed.coming.number c.args.number c.loop-claimed.index c.loop-claimed.seen.log c.claim.new.seen.log (claim.Placed c.in-Placed.entry) inv.coming.value inv.coming.number c.in-Placed.ensures.told in
     (told.0, goes_placed g.L.Law.lawful inv.goes c.args.number c.args.seen.now.log c.claim.new.seen.log inv.longer inv.of.2 told.1)
 
 pub returns-in-Closed-clause-told : goal.returns-in-Closed-clause-told

@@ -1,7 +1,6 @@
 use Rattle.std.proofs.Common.{◌≡◌, ◌∷◌, ◌++◌, ◌∙◌, [], ℕ, List, length, refl, ap, sym, arith, inl, length-append, append_assoc, vec_capacity}
 use Rattle.std.proofs.lemmas.List.{append-nil}
 use base.Growing.{prefix_refl, prefix_trans}
-use Rattle.table_slab.specs.Tokens.{id_at}
 use Rattle.table_numbered.proofs.Endings.{taken_first, taken_none, taken_some, taken_out}
 use Rattle.table_numbered.proofs.generation.Generation.take_all.Goals.{in-Some, in_default}
 use Rattle.table_numbered.proofs.generation.Generation.take_all.Goals as goal
@@ -12,7 +11,8 @@ loop-index-init g c = (
   record {
     of = c.requires.of;
     longer = prefix_refl c.args.seen.now.log;
-    left = λ k. inl (ap (λ (names : List ℕ). id_at names k) c.requires.slab);
+    slab = refl;
+    left = λ k. inl (c.requires.left k);
     taken = taken_first g.L.Law.same g.L.Law.hash_of c.args.seen.now.log;
     behind = sym (append-nil c.args.room.items);
     room = omega arith;
@@ -28,6 +28,7 @@ loop-index-preserved g c = let inv = c.loop-index.invariant in let old = c.loop-
         record {
           of = e.of;
           longer = prefix_trans c.args.seen.now.log old new inv.1.longer e.longer;
+          slab = e.slab ∙ inv.1.slab;
           left = e.left;
           taken = taken_some g.L.Law.same g.L.Law.hash_of c.loop-index.index old new inv.0 e.longer e.of.3 e.set inv.1.taken g.L.Law.lawful e.taken.0 value e.taken.1;
           behind = items ∙ (ap (λ (vs : List g.row.V.Denot). vs ++ value ∷ []) inv.1.behind ∙ append_assoc c.args.room.items inv.0 (value ∷ []));
@@ -41,6 +42,7 @@ loop-index-preserved g c = let inv = c.loop-index.invariant in let old = c.loop-
         record {
           of = e.of;
           longer = prefix_trans c.args.seen.now.log old new inv.1.longer e.longer;
+          slab = e.slab ∙ inv.1.slab;
           left = e.left;
           taken = taken_none g.L.Law.same g.L.Law.hash_of c.loop-index.index old new inv.0 e.longer e.of.3 e.set inv.1.taken e.taken;
           behind = items ∙ inv.1.behind;
@@ -49,6 +51,9 @@ loop-index-preserved g c = let inv = c.loop-index.invariant in let old = c.loop-
         },
       ))
 ]
+
+pub take_at-requires-clause-slab : goal.take_at-requires-clause-slab
+take_at-requires-clause-slab g c = c.loop-index.invariant.1.slab ∙ c.requires.slab
 
 pub returns-clause-full : goal.returns-clause-full
 returns-clause-full g c = λ p lt. c.loop-index.invariant.1.taken.full p (omega (arith, lt, c.loop-index-test.false, c.loop-index.auto.index-end, c.len-index-end.ensures, ap (λ x. x.of.size) c.self.view_is))

@@ -9,7 +9,8 @@ abbrev pub invariant-loop-index : goal.invariant-loop-index
 invariant-loop-index g l = (values : List g.row.V.Denot) × record {
   of : IsOf g.L.Law.same g.L.Law.hash_of l.self.of l.seen.book l.seen.names l.seen.log;
   longer : IsPrefix l.fn.seen.log l.seen.log;
-  left : AreLeft l.self.of.names l.index l.seen.log l.slab;
+  slab : l.slab.slab ≡ l.fn.slab.slab;
+  left : AreLeft l.index l.seen.log l.slab;
   taken : Taken g.L.Law.same g.L.Law.hash_of l.index l.seen.log values;
   behind : l.room.items ≡ l.fn.room.items ++ values;
   room : length l.room.items ≤ length l.fn.room.items + l.index;

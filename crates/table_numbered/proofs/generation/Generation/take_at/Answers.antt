@@ -1,5 +1,6 @@
-use Rattle.std.proofs.Common.{ℕ, List, refl, sym, ◌∙◌, ap, subst, arith}
-use Rattle.table_slab.specs.Tokens.{id_at}
+use Rattle.std.proofs.Common.{ℕ, sym, ◌∙◌, subst, arith}
+use Rattle.table_slab.specs.Held.{StandsAt}
+use Rattle.table_slab.specs.Slabs.{SlabView}
 use Rattle.table_numbered.specs.Words.{numbered, alike, marked}
 use Rattle.table_numbered.specs.History.{Stands}
 use Rattle.table_numbered.proofs.Histories.{closed_free}
@@ -9,7 +10,7 @@ use Rattle.table_numbered.proofs.Endings.{left_on, left_next, left_here}
 use Rattle.table_numbered.proofs.generation.Generation.take_at.Goals as goal
 
 pub returns-then-word-lt2-clause-left : goal.returns-then-word-lt2-clause-left
-returns-then-word-lt2-clause-left g c = left_on c.args.self.now.of.names c.args.index c.args.seen.now.log c.close_at-word.new.seen.log c.args.slab.now c.close_at-word.ensures.longer c.requires.left
+returns-then-word-lt2-clause-left g c = left_on c.args.index c.args.seen.now.log c.close_at-word.new.seen.log c.args.slab.now c.close_at-word.ensures.longer c.requires.left
 
 pub returns-then-word-lt2-clause-set : goal.returns-then-word-lt2-clause-set
 returns-then-word-lt2-clause-set g c = set_then (alike g.L.Law.same) (marked g.L.Law.hash_of) c.close_at-word.new.seen.log c.args.index c.close_at-word.result c.close_at-word.ensures.closed c.close_at-word.ensures.says
@@ -31,17 +32,14 @@ known-standing-requires g c = let log = c.close_at-word.new.seen.log in
     }
 
 pub take_out-requires-clause-number : goal.take_out-requires-clause-number
-take_out-requires-clause-number g c = c.close_at-word.ensures.of.3.1.number c.args.index (numbered c.number_of_word-number.result c.known-standing.result.value) c.known-standing.ensures.value
+take_out-requires-clause-number g c = subst (λ (s : SlabView). StandsAt s c.number_of_word-number.result c.known-standing.result) (c.close_at-word.ensures.of.1 ∙ sym c.requires.slab) c.known-standing.ensures.of
 
-pub take_out-requires-clause-standing : goal.take_out-requires-clause-standing
-take_out-requires-clause-standing g c = let k = c.number_of_word-number.result in let e = c.close_at-word.ensures in (
-  c.known-standing.ensures.of ∙ (ap (λ (names : List ℕ). id_at names k) e.of.1 ∙
-      sym (left_here c.args.self.now.of.names g.L.Law.lawful c.args.index k c.known-standing.result.value c.args.seen.now.log c.close_at-word.new.seen.log c.args.slab.now e.longer e.of.3 c.known-standing.ensures.one c.requires.left c.known-standing.ensures.value)),
-  refl,
-)
+pub take_out-requires-clause-left : goal.take_out-requires-clause-left
+take_out-requires-clause-left g c = let k = c.number_of_word-number.result in let e = c.close_at-word.ensures in
+    left_here g.L.Law.lawful c.args.index k c.known-standing.result.written.value c.args.seen.now.log c.close_at-word.new.seen.log c.args.slab.now e.longer e.of.3 c.known-standing.ensures.one c.requires.left c.known-standing.ensures.value
 
 pub returns-clause-left : goal.returns-clause-left
-returns-clause-left g c = left_next c.args.self.now.of.names c.args.index c.number_of_word-number.result c.known-standing.result.value c.args.seen.now.log c.close_at-word.new.seen.log c.args.slab.now c.take_out.new.self
+returns-clause-left g c = left_next c.args.index c.number_of_word-number.result c.known-standing.result.written.value c.args.seen.now.log c.close_at-word.new.seen.log c.args.slab.now c.take_out.new.self
     c.close_at-word.ensures.longer c.requires.left c.known-standing.ensures.value c.take_out.ensures.others
 
 pub returns-clause-set : goal.returns-clause-set
