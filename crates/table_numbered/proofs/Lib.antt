@@ -1,6 +1,6 @@
 mod Books
 mod Made
-mod Rights
+mod Copies
 mod Marks
 mod Trades
 mod Histories
