@@ -59,7 +59,13 @@ impl<V, L: SetLaw<V>, A: Low + Copy> Generation<V, L, A> {
 
     /// Stores the entry in this bucket if it is empty, and else tells what is there. An entry is read only where its mark is that
     /// of the one on its way.
-    fn tread(&self, slab: &Slab<V, A>, seen: &mut Token<V, L>, index: usize, load: &Load<V, A>) -> Step
+    fn tread(
+        &self,
+        slab: &Slab<V, A>,
+        seen: &mut Token<V, L>,
+        index: usize,
+        load: &Load<V, A>,
+    ) -> Step
         requires slab { slab.now ≡ self.now.of.slab }
         requires of { IsOf L.same L.hash_of self.now.of seen.old.book seen.old.names seen.old.log }
         requires inside { index < self.now.of.size }

@@ -40,7 +40,12 @@ impl<V: Drop, L: SetLaw<V>, A: Low + Copy> Generation<V, L, A> {
     }
 
     /// Takes the value of each bucket's entry out.
-    fn take_all(&self, slab: &mut Ending<V, A>, seen: &mut Token<V, L>, room: Vec<V, A>) -> Vec<V, A>
+    fn take_all(
+        &self,
+        slab: &mut Ending<V, A>,
+        seen: &mut Token<V, L>,
+        room: Vec<V, A>,
+    ) -> Vec<V, A>
         requires slab { slab.old.slab ≡ self.now.of.slab }
         requires left { (k : ℕ) → IsLeft slab.old k }
         requires of { IsOf L.same L.hash_of self.now.of seen.old.book seen.old.names seen.old.log }
