@@ -11,10 +11,10 @@ use mathlib.Core.Logic.{dite}
 use native.Mathlib.Decide.{ℕ_discrete, dec_lt}
 use Rattle.table_chain.specs.declared.event.Stored.{Stored}
 use Rattle.table_chain.specs.declared.event.Stored.TheVariants.{Shown, End}
-use Rattle.table_chain.specs.History.{History, Has, Stands, HasSize, numbers_of, word_of, Joins, IsReached, Told}
+use Rattle.table_chain.specs.History.{History, Has, Stands, HasSize, word_of, Joins, IsReached, Told}
 use Rattle.table_chain.specs.Chains.{IsEnd, IsWhole, MayStand, IsFinal, AreValues}
 use Rattle.table_chain.proofs.Trades.{later}
-use Rattle.table_chain.proofs.Steps.{numbers_is, slots_is, size_on, shown_is}
+use Rattle.table_chain.proofs.Steps.{slots_is, size_on, shown_is}
 
 module _ {G : Type 0} (Begins : G → Type 0) (Follows : G → G → Type 0) where
   abbrev Reached : History G → Type 0
@@ -27,10 +27,9 @@ module _ {G : Type 0} (Begins : G → Type 0) (Follows : G → G → Type 0) whe
   number_out (Shown g) k n is open_ = (g, refl, is)
   number_out End k n is open_ = absurd (open_ is)
 
-  pub value_shown : (log : History G) (p n : ℕ) → Reached log → Says p n log → n ≢ 0 → n ≢ 1 → (g : G) × Has log p (n - 2) (Shown g) × (2 ≤ n) × (n - 2 < numbers_of log)
+  pub value_shown : (log : History G) (p n : ℕ) → Reached log → Says p n log → n ≢ 0 → n ≢ 1 → (g : G) × Has log p (n - 2) (Shown g) × (2 ≤ n)
   value_shown log p n r t full open_ = let x = t.1 full in let o = number_out x.1 x.0 n x.3 open_ in let is : x.0 ≡ n - 2 = omega (arith, o.2) in
-      let there : Has log p (n - 2) (Shown o.0) = subst (λ (z : ℕ × Stored G). Has log p z.0 z.1) (λ i. (is i, o.1 i)) x.2 in
-      (o.0, there, omega (arith, o.2), omega (arith, r.1.numbered p (n - 2) o.0 there, numbers_is (length r.0) r.1.numbers log r.1.size))
+      (o.0, subst (λ (z : ℕ × Stored G). Has log p z.0 z.1) (λ i. (is i, o.1 i)) x.2, omega (arith, o.2))
 
   end_is : (s : Stored G) (k n : ℕ) → n ≡ word_of s k → n ≡ 1 → s ≡ End
   end_is (Shown g) k n is one = absurd (omega (arith, is, one))
@@ -47,10 +46,10 @@ module _ {G : Type 0} (Begins : G → Type 0) (Follows : G → G → Type 0) whe
 
   -- what a later history says of a slot whose value is known
   pub known_shown : (log after : History G) (p n k : ℕ) (g : G) → IsPrefix log after → Reached after → Says p n after → Has log p k (Shown g)
-      → Has after p (n - 2) (Shown g) × (2 ≤ n) × (n - 2 < numbers_of after) × (k ≡ n - 2)
+      → Has after p (n - 2) (Shown g) × (2 ≤ n) × (k ≡ n - 2)
   known_shown log after p n k g on r t there = let has : Has after p k (Shown g) = later log after p k (Shown g) on there in let says : n ≡ k + 2 = word_says after p n k g r t has in
       let is : k ≡ n - 2 = omega (arith, says) in
-      (subst (λ (i : ℕ). Has after p i (Shown g)) is has, omega (arith, says), omega (arith, says, r.1.numbered p k g has, numbers_is (length r.0) r.1.numbers after r.1.size), is)
+      (subst (λ (i : ℕ). Has after p i (Shown g)) is has, omega (arith, says), is)
 
   pub stands_on : (l m : History G) (p : ℕ) (g : G) → IsPrefix l m → Stands l p g → Stands m p g
   stands_on l m p g on there = (there.0, later l m p there.0 (Shown g) on there.1)
@@ -60,8 +59,8 @@ module _ {G : Type 0} (Begins : G → Type 0) (Follows : G → G → Type 0) whe
   values_push l m n on before here p lt = dite (ℕ_discrete p n) (λ (is : p ≡ n). subst (λ (i : ℕ). (g : G) × Stands m i g) (sym is) here)
       (λ (ne : p ≢ n). let v = before p (omega (arith, lt, ne)) in (v.0, stands_on l m p v.0 on v.1))
 
-  pub slot_within : (slots numbers : ℕ) (log : History G) → HasSize slots numbers log → Reached log → (p k : ℕ) (s : Stored G) → Has log p k s → p < slots
-  slot_within slots numbers log size r p k s there = omega (arith, r.1.inside p k s there, slots_is (length r.0) r.1.numbers log r.1.size, slots_is slots numbers log size)
+  pub slot_within : (slots : ℕ) (log : History G) → HasSize slots log → Reached log → (p k : ℕ) (s : Stored G) → Has log p k s → p < slots
+  slot_within slots log size r p k s there = omega (arith, r.1.inside p k s there, slots_is (length r.0) log r.1.size, slots_is slots log size)
 
   -- a value that stands in a slot is the one that does
   pub one_value : (log : History G) (p k j : ℕ) (g h : G) → Reached log → Has log p k (Shown g) → Has log p j (Shown h) → g ≡ h
@@ -91,22 +90,22 @@ module _ {G : Type 0} (Begins : G → Type 0) (Follows : G → G → Type 0) whe
     behind = λ q is. let b = may.behind q is in (b.0, (b.1.0, later l m q b.1.0 (Shown b.0) on b.1.1), b.2);
   }
 
-  pub ends : (n slots numbers : ℕ) (log : History G) → HasSize slots numbers log → IsWhole slots n log → (after : History G) → IsPrefix log after → Reached after → (p : ℕ) (g : G) → Stands after p g → p < n
-  ends n slots numbers log size whole after on r p g there = dite (dec_lt p n) (λ (lt : p < n). lt) (λ (no : p < n → ⊥). absurd (let at = below after r p n there.0 g (omega (arith, no)) there.1 in elim whole.last [
-    | inl all ↦ let here = r.1.inside n at.0 (Shown at.1) at.2 in omega (arith, all, here, slots_is (length r.0) r.1.numbers after r.1.size, slots_is slots numbers after (size_on slots numbers log after size on))
+  pub ends : (n slots : ℕ) (log : History G) → HasSize slots log → IsWhole slots n log → (after : History G) → IsPrefix log after → Reached after → (p : ℕ) (g : G) → Stands after p g → p < n
+  ends n slots log size whole after on r p g there = dite (dec_lt p n) (λ (lt : p < n). lt) (λ (no : p < n → ⊥). absurd (let at = below after r p n there.0 g (omega (arith, no)) there.1 in elim whole.last [
+    | inl all ↦ let here = r.1.inside n at.0 (Shown at.1) at.2 in omega (arith, all, here, slots_is (length r.0) after r.1.size, slots_is slots after (size_on slots log after size on))
     | inr last ↦ let no : Shown at.1 ≡ End = (r.1.once n at.0 last.0 (Shown at.1) End at.2 (later log after n last.0 End on last.1)).1 in cc
   ]))
 
-  pub final : (n slots numbers : ℕ) (log : History G) → HasSize slots numbers log → IsWhole slots n log → IsFinal Begins Follows log
-  final n slots numbers log size whole after on r p g there = let lt : p < n = ends n slots numbers log size whole after on r p g there in let v = whole.values p lt in
+  pub final : (n slots : ℕ) (log : History G) → HasSize slots log → IsWhole slots n log → IsFinal Begins Follows log
+  final n slots log size whole after on r p g there = let lt : p < n = ends n slots log size whole after on r p g there in let v = whole.values p lt in
       let is : v.0 ≡ g = one_value after p v.1.0 there.0 v.0 g r (later log after p v.1.0 (Shown v.0) on v.1.1) there.1 in (v.1.0, subst (λ (x : G). Has log p v.1.0 (Shown x)) is v.1.1)
 
   -- the values of a chain that has ended
-  pub are_values : (n slots numbers : ℕ) (log : History G) (gs : List G) → HasSize slots numbers log → Reached log → IsWhole slots n log → length gs ≡ n
+  pub are_values : (n slots : ℕ) (log : History G) (gs : List G) → HasSize slots log → Reached log → IsWhole slots n log → length gs ≡ n
       → ((p : ℕ) (d : G) → p < length gs → Stands log p (slice_index_or gs p d)) → AreValues log gs
-  are_values n slots numbers log gs size r whole long each = record {
+  are_values n slots log gs size r whole long each = record {
     each = each;
-    none = λ p g there. omega (arith, long, ends n slots numbers log size whole log ([], append-nil log) r p g there);
+    none = λ p g there. omega (arith, long, ends n slots log size whole log ([], append-nil log) r p g there);
   }
 
   -- what any other history says of a slot is what is handed out there

@@ -3,49 +3,46 @@ use Rattle.std.proofs.Common.{◌≡◌, ◌≢◌, ℕ, ◌+◌, ◌-◌, ◌<�
 use Rattle.std.specs.Prelude.{slice_index_or}
 use mathlib.Core.List.{IsPrefix}
 use Rattle.logbook.specs.Pages.{Book, Named}
-use Rattle.table_slab.specs.Tokens.{id_at}
+use Rattle.table_slab.specs.Endings.{EndView, IsLeft}
 use Rattle.table_chain.specs.declared.event.Stored.TheVariants.{Shown}
 use Rattle.table_chain.specs.History.{History, Has, Told, IsReached}
 use Rattle.table_chain.specs.Chains.{IsEnding}
-use Rattle.table_chain.proofs.Steps.{numbers_is, size_on}
 use Rattle.table_chain.proofs.Chained.{known_shown, rise}
 
 module _ {G : Type 0} (Begins : G → Type 0) (Follows : G → G → Type 0) where
   -- what the word of the next slot says
-  pub record NextShown (log after : History G) (names left : List ℕ) (taken n : ℕ) : Type 0 where
+  pub record NextShown (log after : History G) (left : EndView) (taken n : ℕ) : Type 0 where
     pub number : ℕ
     pub value : G
     pub there : Has log taken number (Shown value)
     pub later : Has after taken (n - 2) (Shown value)
     pub set : 2 ≤ n
     pub is : number ≡ n - 2
-    pub inside : n - 2 < length left
-    pub named : id_at left (n - 2) ≡ id_at names (n - 2)
+    pub is_left : IsLeft left (n - 2)
 
-  pub next_shown : (b : Book) (names left : List ℕ) (log after : History G) (ws : List Named) (count taken n : ℕ) (w : Named) → IsEnding Begins Follows b names log ws left count taken → taken < count
-      → w ≡ slice_index_or ws taken w → IsPrefix log after → IsReached Begins Follows after → Told Begins Follows w.key n after → NextShown log after names left taken n
+  pub next_shown : (b : Book) (names : List ℕ) (left : EndView) (log after : History G) (ws : List Named) (count taken n : ℕ) (w : Named) → IsEnding Begins Follows b names log ws left count taken → taken < count
+      → w ≡ slice_index_or ws taken w → IsPrefix log after → IsReached Begins Follows after → Told Begins Follows w.key n after → NextShown log after left taken n
   next_shown b names left log after ws count taken n w e lt is on r t = let v = e.whole.values taken lt in let word = e.laid.words taken w (omega (arith, lt, e.whole.within)) in
       let key : w.key ≡ taken = ap (λ (x : Named). x.key) is ∙ word.1 in
       let ks = known_shown Begins Follows log after taken n v.1.0 v.0 on r (subst (λ (p : ℕ). Told Begins Follows p n after) key t) v.1.1 in
-      let left_is : id_at left v.1.0 ≡ id_at names v.1.0 = e.left_in taken v.1.0 v.0 (omega arith) v.1.1 in record {
+      record {
         number = v.1.0;
         value = v.0;
         there = v.1.1;
         later = ks.0;
         set = ks.1;
-        is = ks.3;
-        inside = omega (arith, ks.2, e.long, numbers_is (length ws) (length names) after (size_on (length ws) (length names) log after e.laid.size on));
-        named = subst (λ (k : ℕ). id_at left k ≡ id_at names k) ks.3 left_is;
+        is = ks.2;
+        is_left = subst (IsLeft left) ks.2 (e.left_in taken v.1.0 v.0 (omega arith) v.1.1);
       }
 
   -- once the value of the next slot is taken out, the later ones lie as they did
-  pub ending_on : (b : Book) (names left new : List ℕ) (log : History G) (ws : List Named) (count taken k : ℕ) (g : G) → IsEnding Begins Follows b names log ws left count taken → taken < count
-      → Has log taken k (Shown g) → length new ≡ length left → ((j : ℕ) → j ≢ k → id_at new j ≡ id_at left j) → IsEnding Begins Follows b names log ws new count (taken + 1)
-  ending_on b names left new log ws count taken k g e lt there long others = record {
+  pub ending_on : (b : Book) (names : List ℕ) (left new : EndView) (log : History G) (ws : List Named) (count taken k : ℕ) (g : G) → IsEnding Begins Follows b names log ws left count taken → taken < count
+      → Has log taken k (Shown g) → new.slab ≡ left.slab → ((j : ℕ) → j ≢ k → IsLeft left j → IsLeft new j) → IsEnding Begins Follows b names log ws new count (taken + 1)
+  ending_on b names left new log ws count taken k g e lt there slab others = record {
     laid = e.laid;
     whole = e.whole;
     left_in = λ p j h le other. let above : k < j = rise Begins Follows log e.laid.reached p taken k j g h (omega (arith, le)) there other in
-        others j (λ is. omega (arith, is, above)) ∙ e.left_in p j h (omega (arith, le)) other;
-    long = long ∙ e.long;
+        others j (λ is. omega (arith, is, above)) (e.left_in p j h (omega (arith, le)) other);
+    slab = slab ∙ e.slab;
     some = omega (arith, lt);
   }

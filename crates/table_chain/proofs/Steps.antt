@@ -1,5 +1,5 @@
 -- What the steps on a word add to a history, and what they tell.
-use Rattle.std.proofs.Common.{◌≡◌, ◌≢◌, ℕ, zero, suc, ◌+◌, ◌^◌, ◌<◌, ◌++◌, ◌⊎◌, ◌==◌, Bool, true, false, List, [], ◌∷◌, length, set, Option, Some, None, refl, ap, sym, subst, ◌∙◌, arith, length-set, inl, inr}
+use Rattle.std.proofs.Common.{◌≡◌, ◌≢◌, ℕ, zero, suc, ◌+◌, ◌<◌, ◌++◌, ◌⊎◌, ◌==◌, Bool, true, false, List, [], ◌∷◌, length, set, Option, Some, None, refl, ap, sym, subst, ◌∙◌, arith, length-set, inl, inr}
 use Rattle.std.proofs.lemmas.Bool.Decides.{nat_tests}
 use Rattle.std.proofs.lemmas.List.{append-nil, get_or-set_same, get_or-set_other, get_or-replicate, length-replicate}
 use Rattle.std.proofs.lemmas.List.Elements.{Contains-push, Contains-push_cases}
@@ -14,18 +14,15 @@ use Rattle.logbook.specs.Pages.{Cell, cell, keeps, no_nib, step, Moves, Goes}
 use Rattle.table_chain.specs.declared.event.Event.{Event}
 use Rattle.table_chain.specs.declared.event.Stored.{Stored}
 use Rattle.table_chain.specs.declared.event.Stored.TheVariants.{Shown, End}
-use Rattle.table_chain.specs.History.{History, event, Has, IsUntouched, HasSize, numbers_of, slots_of, IsInside, Moved, word_of, Joins, Fits, IsKept, IsReached, Told, Looks, Adds, Stores}
+use Rattle.table_chain.specs.History.{History, event, Has, IsUntouched, HasSize, slots_of, IsInside, Moved, word_of, Joins, Fits, IsKept, IsReached, Told, Looks, Adds, Stores}
 use Rattle.table_chain.proofs.Trades.{later}
 
 module _ {G : Type 0} where
-  pub numbers_is : (n r : ℕ) (log : History G) → HasSize n r log → numbers_of log ≡ r
-  numbers_is n r log has = ap numbers_of (sym has.1)
+  pub slots_is : (n : ℕ) (log : History G) → HasSize n log → slots_of log ≡ n
+  slots_is n log has = ap slots_of (sym has.1)
 
-  pub slots_is : (n r : ℕ) (log : History G) → HasSize n r log → slots_of log ≡ n
-  slots_is n r log has = ap slots_of (sym has.1)
-
-  pub size_on : (n r : ℕ) (l m : History G) → HasSize n r l → IsPrefix l m → HasSize n r m
-  size_on n r l m has on = prefix_trans (event n r None ∷ []) l m has on
+  pub size_on : (n : ℕ) (l m : History G) → HasSize n l → IsPrefix l m → HasSize n m
+  size_on n l m has on = prefix_trans (event n 0 None ∷ []) l m has on
 
   abbrev or_stored : Stored G → Option (Stored G) → Stored G
   or_stored d None = d
@@ -60,27 +57,19 @@ module _ {G : Type 0} where
     fits_on l m p k s on fits g is = joins_on l m p k g on (fits g is)
 
     -- what is stored in an empty slot
-    adds_kept : (cs : List Cell) (log : History G) (p k : ℕ) (s : Stored G) → Kept cs log → p < length cs → ((g : G) → s ≡ Shown g → k < numbers_of log)
-        → Fits Begins Follows log p k s → (cell cs p).0 ≡ 0 → Kept (set cs p (word_of s k, true)) (log ++ event p k (Some s) ∷ [])
-    adds_kept cs log p k s t here few fits empty =
+    adds_kept : (cs : List Cell) (log : History G) (p k : ℕ) (s : Stored G) → Kept cs log → p < length cs → Fits Begins Follows log p k s → (cell cs p).0 ≡ 0 → Kept (set cs p (word_of s k, true)) (log ++ event p k (Some s) ∷ [])
+    adds_kept cs log p k s t here fits empty =
         let w : Cell = (word_of s k, true) in let later_log : History G = log ++ event p k (Some s) ∷ [] in let new : List Cell = set cs p w in
         let long : length new ≡ length cs = length-set cs p w in let on : IsPrefix log later_log = (event p k (Some s) ∷ [], refl) in
         let it : cell new p ≡ w = get_or-set_same cs p w (0, false) here in
         let others : (q : ℕ) → q ≢ p → cell new q ≡ cell cs q = λ q ne. get_or-set_other cs p q w (0, false) ne in
-        let nothing : IsUntouched log p = t.free p empty in
-        let count : numbers_of log ≡ t.numbers = numbers_is (length cs) t.numbers log t.size in record {
-          numbers = t.numbers;
-          few = t.few;
-          size = subst (λ (m : ℕ). HasSize m t.numbers later_log) (sym long) (size_on (length cs) t.numbers log later_log t.size on);
+        let nothing : IsUntouched log p = t.free p empty in record {
+          size = subst (λ (m : ℕ). HasSize m later_log) (sym long) (size_on (length cs) log later_log t.size on);
           home = λ q lt. dite (ℕ_discrete q p) (λ (is : q ≡ p). subst (λ (i : ℕ). (cell new i).1 ≡ true) (sym is) (ap (λ (c : Cell). c.1) it))
               (λ (ne : q ≢ p). ap (λ (c : Cell). c.1) (others q ne) ∙ t.home q (omega (arith, lt, long)));
           inside = λ q j u there. elim (has_push log p k q j s u there) [
             | inl old ↦ omega (arith, t.inside q j u old, long)
             | inr is ↦ omega (arith, here, is.0, long)
-          ];
-          numbered = λ q j g there. elim (has_push log p k q j s (Shown g) there) [
-            | inl old ↦ t.numbered q j g old
-            | inr is ↦ omega (arith, few g is.2, is.1, count)
           ];
           free = λ q no j u there. dite (ℕ_discrete q p)
               (λ (is : q ≡ p). word_not_0 s k (sym (ap (λ (c : Cell). c.0) it) ∙ subst (λ (i : ℕ). (cell new i).0 ≡ 0) is no))
@@ -119,7 +108,7 @@ module _ {G : Type 0} where
     as_it_is (c ∷ cs) (suc p) n there e = λ i. c ∷ as_it_is cs p n (omega arith) e i
 
     inside_here : (cs : List Cell) (seen log : History G) (p : ℕ) → Kept cs log → IsPrefix seen log → IsInside p seen → p < length cs
-    inside_here cs seen log p t on inside = omega (arith, inside.3, slots_is inside.0 inside.1 log (size_on inside.0 inside.1 seen log inside.2 on), slots_is (length cs) t.numbers log t.size)
+    inside_here cs seen log p t on inside = omega (arith, inside.2, slots_is inside.0 log (size_on inside.0 seen log inside.1 on), slots_is (length cs) log t.size)
 
     abbrev Shows : History G → History G
     Shows log = log
@@ -141,10 +130,10 @@ module _ {G : Type 0} where
       abbrev Then : ℕ → (History G × (Rattle.logbook.specs.Pages.Nib × Option ℕ)) → Type 0
       Then = Stores Begins Follows (step p 0 w ask) (seen, (no_nib, None))
 
-      goes : (cs : List Cell) (log : History G) → Kept cs log → IsPrefix seen log → p < length cs → ((g : G) → s ≡ Shown g → k < numbers_of log) → Fits Begins Follows log p k s
+      goes : (cs : List Cell) (log : History G) → Kept cs log → IsPrefix seen log → p < length cs → Fits Begins Follows log p k s
           → (b : Bool) → ((cell cs p).0 == 0) ≡ b → Goes (IsKept Begins Follows) Shows (Moved ask) p (seen, (no_nib, None)) (λ n. either (n == 0) w n) Then cs log
-      goes cs log t on here few fits true is =
-          let empty : (cell cs p).0 ≡ 0 = grind (arith, nat_tests) in let new : Kept (set cs p (w, true)) (log ++ ask ∷ []) = adds_kept cs log p k s t here few fits empty in
+      goes cs log t on here fits true is =
+          let empty : (cell cs p).0 ≡ 0 = grind (arith, nat_tests) in let new : Kept (set cs p (w, true)) (log ++ ask ∷ []) = adds_kept cs log p k s t here fits empty in
           let kept : Kept (set cs p (either ((cell cs p).0 == 0) w (cell cs p).0, true)) (log ++ ask ∷ []) = rw is new in (
             keeps,
             ask ∷ [],
@@ -154,7 +143,7 @@ module _ {G : Type 0} where
             inr (1, refl, refl, inl (refl, refl)),
             rw is ((log, on, refl, t.free p empty, (cs, t), (set cs p (w, true), new)), refl),
           )
-      goes cs log t on here few fits false is =
+      goes cs log t on here fits false is =
           let none : log ++ [] ≡ log = append-nil log in let same : set cs p ((cell cs p).0, true) ≡ cs = as_it_is cs p (cell cs p).0 here (λ i. ((cell cs p).0, sym (t.home p here) i)) in
           let old : Kept (set cs p ((cell cs p).0, true)) (log ++ []) = subst (λ (z : List Cell × History G). Kept z.0 z.1) (λ i. (sym same i, sym none i)) t in
           let kept : Kept (set cs p (either ((cell cs p).0 == 0) w (cell cs p).0, true)) (log ++ []) = rw is old in (
@@ -167,11 +156,9 @@ module _ {G : Type 0} where
             rw is (subst (λ (l : History G). Told Begins Follows p (cell cs p).0 l × IsReached Begins Follows l × (mathlib.Core.Path.Path (Option ℕ) (Some 0) (Some 0))) (sym none) (told cs log p t here, (cs, t), refl)),
           )
 
-      pub stores_moves : IsInside p seen → ((g : G) → s ≡ Shown g → k < numbers_of seen) → Fits Begins Follows seen p k s
+      pub stores_moves : IsInside p seen → Fits Begins Follows seen p k s
           → Moves (IsKept Begins Follows) Shows (Moved ask) p (seen, (no_nib, None)) (λ n. either (n == 0) w n) Then
-      stores_moves inside few fits cs log t on away = let here : p < length cs = inside_here cs seen log p t on inside in
-          let r : numbers_of log ≡ inside.1 = numbers_is inside.0 inside.1 log (size_on inside.0 inside.1 seen log inside.2 on) in let r' : numbers_of seen ≡ inside.1 = numbers_is inside.0 inside.1 seen inside.2 in
-          (here, t.home p here, goes cs log t on here (λ g is. omega (arith, few g is, r, r')) (fits_on seen log p k s on fits) ((cell cs p).0 == 0) refl)
+      stores_moves inside fits cs log t on away = let here : p < length cs = inside_here cs seen log p t on inside in (here, t.home p here, goes cs log t on here (fits_on seen log p k s on fits) ((cell cs p).0 == 0) refl)
 
     -- the same of a slot and an entry that were met under other names
     pub adds_at : (p q : ℕ) (e f : Event G) (old new : History G) → p ≡ q → f ≡ e → Adds Begins Follows f q old new → Adds Begins Follows e p old new
@@ -193,22 +180,19 @@ module _ {G : Type 0} where
     ]
 
 -- a history that begins says of no slot that something was stored there
-pub nothing_first : {G : Type 0} (n r p k : ℕ) (s : Stored G) → Has (event n r None ∷ []) p k s → ⊥
-nothing_first n r p k s (zero, lt, is) = false≢true (ap (λ (e : Event _). is_some e.value) is)
-nothing_first n r p k s (suc j, lt, is) = omega (arith, lt)
+pub nothing_first : {G : Type 0} (n p k : ℕ) (s : Stored G) → Has (event n 0 None ∷ []) p k s → ⊥
+nothing_first n p k s (zero, lt, is) = false≢true (ap (λ (e : Event _). is_some e.value) is)
+nothing_first n p k s (suc j, lt, is) = omega (arith, lt)
 
 module _ {G : Type 0} (Begins : G → Type 0) (Follows : G → G → Type 0) where
-  pub kept_first : (n r : ℕ) → r + 2 < 2 ^ 32 → IsKept Begins Follows (replicate n (0, true)) (event n r None ∷ [])
-  kept_first n r few = let cs : List Cell = replicate n (0, true) in let long : length cs ≡ n = length-replicate n (0, true) in let log : History G = event n r None ∷ [] in let begins : HasSize n r log = ([], refl) in
+  pub kept_first : (n : ℕ) → IsKept Begins Follows (replicate n (0, true)) (event n 0 None ∷ [])
+  kept_first n = let cs : List Cell = replicate n (0, true) in let long : length cs ≡ n = length-replicate n (0, true) in let log : History G = event n 0 None ∷ [] in let begins : HasSize n log = ([], refl) in
       let cell_is : (p : ℕ) → p < n → cell cs p ≡ (0, true) = λ p lt. get_or-replicate n p (0, true) (0, false) lt in record {
-        numbers = r;
-        few = few;
-        size = subst (λ (m : ℕ). HasSize m r log) (sym long) begins;
+        size = subst (λ (m : ℕ). HasSize m log) (sym long) begins;
         home = λ p lt. ap (λ (c : Cell). c.1) (cell_is p (omega (arith, lt, long)));
-        inside = λ p k s there. absurd (nothing_first n r p k s there);
-        numbered = λ p k g there. absurd (nothing_first n r p k (Shown g) there);
-        free = λ p empty k s there. nothing_first n r p k s there;
-        once = λ p k j s t there other. absurd (nothing_first n r p k s there);
+        inside = λ p k s there. absurd (nothing_first n p k s there);
+        free = λ p empty k s there. nothing_first n p k s there;
+        once = λ p k j s t there other. absurd (nothing_first n p k s there);
         set = λ p lt full. absurd (full (ap (λ (c : Cell). c.0) (cell_is p (omega (arith, lt, long)))));
-        joined = λ p k g there. absurd (nothing_first n r p k (Shown g) there);
+        joined = λ p k g there. absurd (nothing_first n p k (Shown g) there);
       }

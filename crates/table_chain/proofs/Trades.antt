@@ -11,8 +11,8 @@ use types.Kit.{‵, ◌⊛◌, ◌$◌, ◌∵◌, !, qed, by, move, split, fspl
 use denote.RattleType.{RattleType}
 use denote.Steps.{nothing}
 use Rattle.logbook.specs.Kept.{offer_owns}
-use Rattle.table_slab.specs.Tokens.{right, standing}
-use Rattle.table_slab.proofs.Tokens.{right_publishes, standing_twice, standing_quiet}
+use Rattle.table_slab.specs.Shelved.{slab_of, right, standing}
+use Rattle.table_slab.proofs.Shelved.{right_publishes, standing_twice}
 use Rattle.table_chain.specs.declared.event.Event.{Event}
 use Rattle.table_chain.specs.declared.event.Stored.{Stored}
 use Rattle.table_chain.specs.declared.event.Stored.TheVariants.{Shown, End}
@@ -49,7 +49,7 @@ module _ {M : Type 1} {𝓤 : Ura M} (𝓛 : Logic 𝓤) (R : RattleType) (names
 
   kept_twice : (k : ℕ) (v : Option (Stored R.Denot)) → ⟦ kept_in R names k v ⟧ ⊢ ⟦ kept_in R names k v ⟧ ∗ ⟦ kept_in R names k v ⟧
   kept_twice k None = qed 𝓛 (‵ ftrue ∷ []) ∵ nothing ! $ done !
-  kept_twice k (Some (Shown x)) = standing_twice 𝓛 R names k x
+  kept_twice k (Some (Shown x)) = standing_twice 𝓛 R (slab_of names) k x
   kept_twice k (Some End) = qed 𝓛 (‵ ftrue ∷ []) ∵ nothing ! $ done !
 
   pushes : (es : List E) (e : E) → ⟦ K es ⟧ ∗ ⟦ One e ⟧ ⊢ ⟦ K (es ++ e ∷ []) ⟧
@@ -73,14 +73,14 @@ module _ {M : Type 1} {𝓤 : Ura M} (𝓛 : Logic 𝓤) (R : RattleType) (names
     Gain = traded R names (ask ∷ [])
 
     abbrev Right : Fml
-    Right = right R names k (Some x)
+    Right = right R (slab_of names) k (Some x)
 
     abbrev Known : Fml
-    Known = standing R names k x
+    Known = standing R (slab_of names) k x
 
     runs : (xs ys : List E) (r : ℕ) → Moved ask xs ys r → ⟦ K xs ⟧ ∗ ⟦ Right ⟧ ⊢ upd 𝓤 (⟦ K ys ⟧ ∗ ⟦ Gain r ⟧)
     runs xs ys r (inl e) = subst (λ (z : List E × ℕ). ⟦ K xs ⟧ ∗ ⟦ Right ⟧ ⊢ upd 𝓤 (⟦ K z.0 ⟧ ∗ ⟦ Gain z.1 ⟧)) (λ i. (sym e.1 i, sym e.0 i))
-        (qed 𝓛 (‵ (K xs) ∷ ‵ Right ∷ []) ∵ suffices ! _ (upd_i 𝓤 (⟦ K (xs ++ ask ∷ []) ⟧ ∗ ⟦ Gain 1 ⟧)) $ move ! (1 ∷ []) $ use1 𝓛 (‵ Known) (right_publishes 𝓛 R names k x) $ use1 𝓛 (‵ Known ⊛ ‵ Known) (standing_twice 𝓛 R names k x) $ split ! $ move ! (2 ∷ 0 ∷ []) $
+        (qed 𝓛 (‵ (K xs) ∷ ‵ Right ∷ []) ∵ suffices ! _ (upd_i 𝓤 (⟦ K (xs ++ ask ∷ []) ⟧ ∗ ⟦ Gain 1 ⟧)) $ move ! (1 ∷ []) $ use1 𝓛 (‵ Known) (right_publishes 𝓛 R (slab_of names) k x) $ use1 𝓛 (‵ Known ⊛ ‵ Known) (standing_twice 𝓛 R (slab_of names) k x) $ split ! $ move ! (2 ∷ 0 ∷ []) $
         use2 𝓛 (‵ (K (xs ++ ask ∷ []))) (pushes xs ask) $ frame ! $ nothing ! $ move ! (1 ∷ 0 ∷ []) $ fjoin ! $ done !)
     runs xs ys r (inr e) = subst (λ (z : List E × ℕ). ⟦ K xs ⟧ ∗ ⟦ Right ⟧ ⊢ upd 𝓤 (⟦ K z.0 ⟧ ∗ ⟦ Gain z.1 ⟧)) (λ i. (sym e.1 i, sym e.0 i)) (upd_i 𝓤 (⟦ K xs ⟧ ∗ ⟦ Right ⟧))
 
@@ -113,7 +113,7 @@ later l m p k s on there = subst (λ (log : List (Event _)). Has log p k s) on.1
 module _ (R : RattleType) (names : List ℕ) where
   kept_quiet : (k : ℕ) (v : Option (Stored R.Denot)) → base.Shift.Keyless (kept_in R names k v)
   kept_quiet k None = tt
-  kept_quiet k (Some (Shown x)) = standing_quiet R names k x
+  kept_quiet k (Some (Shown x)) = λ at. (tt, ((λ ε. tt), (λ is. tt)))
   kept_quiet k (Some End) = tt
 
   pub quiet : (es : List (Event R.Denot)) → base.Shift.Keyless (all_kept R names es)

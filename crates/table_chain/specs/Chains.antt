@@ -2,9 +2,10 @@
 use Rattle.std.specs.Prelude.{◌≡◌, ℕ, suc, ◌<◌, ◌≤◌, ◌⊎◌, true, List, length, slice_index_or, Some}
 use mathlib.Core.List.{IsPrefix}
 use Rattle.logbook.specs.Pages.{Book, Named}
-use Rattle.table_slab.specs.Tokens.{id_at}
+use Rattle.table_slab.specs.Endings.{EndView, IsLeft}
 use Rattle.table_chain.specs.declared.event.Stored.TheVariants.{Shown, End}
 use Rattle.table_chain.specs.History.{History, event, Has, Stands, IsUntouched, HasSize, IsReached, Adds}
+use Rattle.table_slab.specs.Shelved.{slab_of}
 use Rattle.table_chain.specs.declared.show.Showing.{Showing}
 use Rattle.table_chain.specs.declared.show.Showing.TheVariants as showing
 
@@ -29,12 +30,12 @@ AreWords b ws = (k : ℕ) (d : Named) → k < length ws → IsWord b (slice_inde
 module _ {G : Type 0} (Begins : G → Type 0) (Follows : G → G → Type 0) where
   pub record IsLaid (b : Book) (names : List ℕ) (log : History G) (ws : List Named) : Type 0 where
     pub words : AreWords b ws
-    pub size : HasSize (length ws) (length names) log
+    pub size : HasSize (length ws) log
     pub reached : IsReached Begins Follows log
 
   -- a history of this chain, that was reached
   abbrev pub IsOf : ChainView G → Book → List ℕ → History G → Type 0
-  IsOf c b names log = (b ≡ c.book) × (names ≡ c.names) × HasSize c.slots (length c.names) log × IsReached Begins Follows log
+  IsOf c b names log = (b ≡ c.book) × (names ≡ c.names) × HasSize c.slots log × IsReached Begins Follows log
 
   -- g may be shown in the slot p: first, if it may begin, and else behind a value that it follows
   pub record MayStand (log : History G) (p : ℕ) (g : G) : Type 0 where
@@ -71,9 +72,9 @@ module _ {G : Type 0} where
     pub each : (p : ℕ) (d : G) → p < length gs → Stands log p (slice_index_or gs p d)
     pub none : (p : ℕ) (g : G) → Stands log p g → p < length gs
 
-  -- the slab's names are those of the book at each number that stands in a slot from n on
-  abbrev pub AreLeft : List ℕ → List ℕ → ℕ → History G → Type 0
-  AreLeft names left n log = (p k : ℕ) (g : G) → n ≤ p → Has log p k (Shown g) → id_at left k ≡ id_at names k
+  -- no value that stands in a slot from n on was taken out
+  abbrev pub AreLeft : EndView → ℕ → History G → Type 0
+  AreLeft left n log = (p k : ℕ) (g : G) → n ≤ p → Has log p k (Shown g) → IsLeft left k
 
 -- the history of a chain that has ended, how many values stand there, and how many were handed out
 pub record EndingView (G : Type 0) : Type 0 where
@@ -90,9 +91,9 @@ module _ {G : Type 0} (Begins : G → Type 0) (Follows : G → G → Type 0) whe
   IsFinal log = (later : History G) → IsPrefix log later → IsReached Begins Follows later → (p : ℕ) (g : G) → Stands later p g → Stands log p g
 
   -- the slots from `taken` on are as the history says, up to the last
-  pub record IsEnding (b : Book) (names : List ℕ) (log : History G) (ws : List Named) (left : List ℕ) (count taken : ℕ) : Type 0 where
+  pub record IsEnding (b : Book) (names : List ℕ) (log : History G) (ws : List Named) (left : EndView) (count taken : ℕ) : Type 0 where
     pub laid : IsLaid Begins Follows b names log ws
     pub whole : IsWhole (length ws) count log
-    pub left_in : AreLeft names left taken log
-    pub long : length left ≡ length names
+    pub slab : left.slab ≡ slab_of names
+    pub left_in : AreLeft left taken log
     pub some : taken ≤ count

@@ -1,5 +1,5 @@
--- The history of a chain: how many slots and numbers there are, and then what was stored in which slot, and under which number.
-use Rattle.std.specs.Prelude.{◌≡◌, ◌≢◌, ℕ, suc, ◌+◌, ◌^◌, ◌<◌, ◌⊎◌, ◌++◌, ◌==◌, true, List, [], ◌∷◌, length, Contains, Option, Some, None, MatchBool}
+-- The history of a chain: how many slots there are, and then what was stored in which slot, and under which number.
+use Rattle.std.specs.Prelude.{◌≡◌, ◌≢◌, ℕ, suc, ◌+◌, ◌<◌, ◌⊎◌, ◌++◌, ◌==◌, true, List, [], ◌∷◌, length, Contains, Option, Some, None, MatchBool}
 use mathlib.Core.List.{IsPrefix}
 use Rattle.logbook.specs.Pages.{Cell, cell, Step, View}
 use Rattle.table_chain.specs.declared.event.Event.{Event}
@@ -25,13 +25,9 @@ module _ {G : Type 0} where
   abbrev pub IsUntouched : History G → ℕ → Type 0
   IsUntouched log p = (k : ℕ) (s : Stored G) → Has log p k s → ⊥
 
-  -- the history begins with how many slots and numbers there are
-  abbrev pub HasSize : ℕ → ℕ → History G → Type 0
-  HasSize n r log = IsPrefix (event n r None ∷ []) log
-
-  abbrev pub numbers_of : History G → ℕ
-  numbers_of [] = 0
-  numbers_of (e ∷ es) = e.number
+  -- the history begins with how many slots there are
+  abbrev pub HasSize : ℕ → History G → Type 0
+  HasSize n log = IsPrefix (event n 0 None ∷ []) log
 
   abbrev pub slots_of : History G → ℕ
   slots_of [] = 0
@@ -39,7 +35,7 @@ module _ {G : Type 0} where
 
   -- the slot p is one of the chain whose history this is
   abbrev pub IsInside : ℕ → History G → Type 0
-  IsInside p log = (n : ℕ) × (r : ℕ) × HasSize n r log × (p < n)
+  IsInside p log = (n : ℕ) × HasSize n log × (p < n)
 
   -- an update runs where its entry is added, or else it gives back what it was made of
   abbrev pub Moved : Event G → History G → History G → ℕ → Type 0
@@ -65,12 +61,9 @@ module _ {G : Type 0} where
     Fits log p k s = (g : G) → s ≡ Shown g → Joins log p k g
 
     pub record IsKept (cells : List Cell) (log : History G) : Type 0 where
-      pub numbers : ℕ
-      pub few : numbers + 2 < 2 ^ 32
-      pub size : HasSize (length cells) numbers log
+      pub size : HasSize (length cells) log
       pub home : (p : ℕ) → p < length cells → (cell cells p).1 ≡ true
       pub inside : (p k : ℕ) (s : Stored G) → Has log p k s → p < length cells
-      pub numbered : (p k : ℕ) (g : G) → Has log p k (Shown g) → k < numbers
       -- nothing was stored in a slot that is empty
       pub free : (p : ℕ) → (cell cells p).0 ≡ 0 → IsUntouched log p
       -- a slot has one thing, under one number, for good

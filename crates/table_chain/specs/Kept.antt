@@ -2,7 +2,7 @@
 use Rattle.std.specs.Prelude.{ℕ, zero, suc, List, [], ◌∷◌, Option, Some, None}
 use base.Fml.{Fml, ftrue, fsep}
 use denote.RattleType.{RattleType}
-use Rattle.table_slab.specs.Tokens.{right, standing}
+use Rattle.table_slab.specs.Shelved.{slab_of, right, standing}
 use Rattle.table_chain.specs.declared.event.Event.{Event}
 use Rattle.table_chain.specs.declared.event.Stored.{Stored}
 use Rattle.table_chain.specs.declared.event.Stored.TheVariants.{Shown, End}
@@ -10,7 +10,7 @@ use Rattle.table_chain.specs.declared.event.Stored.TheVariants.{Shown, End}
 module _ (R : RattleType) (names : List ℕ) where
   abbrev pub kept_in : ℕ → Option (Stored R.Denot) → Fml
   kept_in k None = ftrue
-  kept_in k (Some (Shown x)) = standing R names k x
+  kept_in k (Some (Shown x)) = standing R (slab_of names) k x
   kept_in k (Some End) = ftrue
 
   abbrev pub all_kept : List (Event R.Denot) → Fml
@@ -20,7 +20,7 @@ module _ (R : RattleType) (names : List ℕ) where
   -- the right to what an entry asks for
   abbrev pub right_in : ℕ → Option (Stored R.Denot) → Fml
   right_in k None = ftrue
-  right_in k (Some (Shown x)) = right R names k (Some x)
+  right_in k (Some (Shown x)) = right R (slab_of names) k (Some x)
   right_in k (Some End) = ftrue
 
   abbrev pub right_of : List (Event R.Denot) → Fml

@@ -1,46 +1,54 @@
 //! The chain, and how threads read it.
-ghost use Rattle.std.specs.Prelude.{◌≡◌, ◌≢◌, ℕ, ◌+◌, ◌<◌, ◌≤◌, ◌^◌, length, MatchOption, IfOk, IfErr};
+ghost use Rattle.std.specs.Prelude.{◌≡◌, ◌≢◌, ℕ, ◌+◌, ◌<◌, ◌≤◌, MatchOption, IfOk, IfErr};
 ghost use mathlib.Core.List.{IsPrefix};
 ghost use Rattle.table_chain.specs.History.{Stands, Told};
-ghost use Rattle.table_chain.specs.Chains.{IsOf, IsOpen, IsEnd, AreWords};
+ghost use Rattle.table_chain.specs.Chains.{IsOf, IsOpen, IsEnd, IsLaid, chain_view};
+ghost use Rattle.table_slab.specs.Shelved.{names_of};
 
 use crate::rule::{ChainRule, Follows, SlotWord, Token};
 use crate::show::Showing;
 use crate::trade::{Names, known, start};
 use crate::word::look;
 use logbook::Word;
-use std::alloc::{AllocError, Allocator};
+use std::alloc::AllocError;
 use std::marker::Model;
+use table_cell::Low;
 use table_slab::Slab;
+
+/// The first chunk of a chain's slab has one slot.
+const FIRST_CHUNK_BITS: u32 = 0;
 
 /// A fixed number of slots, filled in order: any thread may show a value in the next slot, where it stays until the chain is dropped.
 /// Each value follows the one before it, as `F` says. No call takes a lock.
-pub struct Chain<G: Drop, F: Follows<G>, A: Allocator> {
+pub struct Chain<G: Drop, F: Follows<G>, A: Low + Copy> {
     pub(crate) words: Vec<SlotWord<G, F>, A>,
     pub(crate) slab: Slab<G, A>,
     pub(crate) start: Token<G, F>,
 }
 
-impl<G: Drop, F: Follows<G>, A: Allocator> Model for Chain<G, F, A> {
+impl<G: Drop, F: Follows<G>, A: Low + Copy> Model for Chain<G, F, A> {
     ghost use Rattle.std.specs.Prelude.{◌≡◌};
     ghost use Rattle.table_chain.specs.Chains.{ChainView, chain_view, IsLaid};
+    ghost use Rattle.table_slab.specs.Shelved.{names_of};
 
     ghost Value = { ChainView G };
 
     ghost view = { λ c. chain_view c.start.book c.words.items c.start.names c.start.log };
 
     ghost invariant = { λ c. IsLaid F.begins F.follows c.start.book c.start.names c.start.log c.words.items
-        × (c.slab ≡ c.start.names) };
+        × (names_of c.slab ≡ c.start.names) };
 }
 
 /// The names of a slab.
 pub(crate) struct SlabNames;
 
-impl<G: Drop, A: Allocator> Names<Slab<G, A>> for SlabNames {
-    ghost names = { λ slab. slab };
+impl<G: Drop, A: Low + Copy> Names<Slab<G, A>> for SlabNames {
+    ghost use Rattle.table_slab.specs.Shelved.{names_of};
+
+    ghost names = { λ slab. names_of slab };
 }
 
-impl<G: Drop, F: Follows<G>, A: Allocator> Chain<G, F, A> {
+impl<G: Drop, F: Follows<G>, A: Low + Copy> Chain<G, F, A> {
     /// Returns a token that knows what the chain had when it was made: its first value.
     pub fn start(&self) -> Token<G, F>
         ensures of { IsOf F.begins F.follows self.now result.book result.names result.log }
@@ -148,46 +156,38 @@ impl<G: Drop, F: Follows<G>, A: Allocator> Chain<G, F, A> {
     }
 }
 
-impl<G: Drop, F: Follows<G>, A: Allocator> Chain<G, F, A> {
+impl<G: Drop, F: Follows<G>, A: Low + Copy> Chain<G, F, A> {
     /// Takes the chain apart. Its values stay in the slab.
-    pub(crate) fn into_parts(self) -> (Vec<SlotWord<G, F>, A>, Slab<G, A>)
-        ensures words { AreWords self.book result.0.items }
-        ensures slots { length result.0.items ≡ self.slots }
-        ensures slab { result.1 ≡ self.names }
+    pub(crate) fn into_parts(self) -> (Vec<SlotWord<G, F>, A>, Slab<G, A>, Token<G, F>)
+        ensures view { self ≡ chain_view result.2.book result.0.items result.2.names result.2.log }
+        ensures laid { IsLaid F.begins F.follows result.2.book result.2.names result.2.log result.0.items }
+        ensures slab { names_of result.1 ≡ result.2.names }
     {
-        let Chain {
-            words,
-            slab,
-            start: _,
-        } = self;
-        (words, slab)
+        let Chain { words, slab, start } = self;
+        (words, slab, start)
     }
 }
 
-impl<G: Drop, F: Follows<G>, A: Allocator> Drop for Chain<G, F, A> {
-    /// Drops each value, and frees the memory.
+impl<G: Drop, F: Follows<G>, A: Low + Copy> Drop for Chain<G, F, A> {
+    /// Drops each value, and frees the memory. If the memory to end the slab is refused, the values are not dropped.
     fn drop(self) {
         let mut seen = self.start();
-        drop(self.into_ending(&mut seen));
+        match self.into_ending(&mut seen) {
+            Ok(ending) => drop(ending),
+            Err(chain) => drop(chain.into_parts()),
+        }
     }
 }
 
-impl<G: Drop, F: Follows<G>, A: Allocator + Copy> Chain<G, F, A> {
-    /// Allocates the words of `slots` slots, and a slab of `numbers` values. A refused request leaves nothing.
-    pub(crate) fn empty(
-        alloc: A,
-        slots: usize,
-        numbers: usize,
-    ) -> Result<Chain<G, F, A>, AllocError>
-        requires few { numbers + 2 < 2 ^ 32 }
+impl<G: Drop, F: Follows<G>, A: Low + Copy> Chain<G, F, A> {
+    /// Allocates the words of `slots` slots, and an empty slab. A refused request leaves nothing.
+    pub(crate) fn empty(alloc: A, slots: usize) -> Result<Chain<G, F, A>, AllocError>
         ensures slots { IfOk result (λ c. c.slots ≡ slots) }
-        ensures numbers { IfOk result (λ c. length c.names ≡ numbers) }
     {
-        let slab = Slab::new(alloc, numbers)?;
+        let slab = Slab::new(alloc, FIRST_CHUNK_BITS)?;
         let mut words = Vec::with_capacity(alloc, slots)?;
-        let numbers = numbers as u64;
-        let begun = start::<Slab<G, A>, SlabNames, G, F>(&slab, slots as u64, numbers);
-        let (seen, mut pens) = Token::open_row::<u64, ChainRule<G, F>>(&numbers, begun, slots);
+        let begun = start::<Slab<G, A>, SlabNames, G, F>(&slab, slots as u64);
+        let (seen, mut pens) = Token::open_row::<(), ChainRule<G, F>>(&(), begun, slots);
         for _made in 0..slots {
             words.push_reserved(Word::tracked(0, &mut pens.take()));
         }
@@ -214,17 +214,16 @@ impl<G: Drop, F: Follows<G>, A: Allocator + Copy> Chain<G, F, A> {
         }
     }
 
-    /// Makes a chain of `slots` slots whose first value is `first`, with memory for `numbers` values. A value that loses a race uses up one of
-    /// them. `Err` returns `first`: memory was refused.
-    pub fn new(alloc: A, slots: usize, numbers: usize, first: G) -> Result<Chain<G, F, A>, G>
+    /// Makes a chain of `slots` slots whose first value is `first`. Memory for later values is asked for as they are shown. `Err` returns
+    /// `first`: memory was refused.
+    pub fn new(alloc: A, slots: usize, first: G) -> Result<Chain<G, F, A>, G>
         requires slots { 0 < slots }
-        requires few { numbers + 2 < 2 ^ 32 }
         requires begins { F.begins first }
         ensures slots { IfOk result (λ c. c.slots ≡ slots) }
         ensures first { IfOk result (λ c. Stands c.start 0 first) }
         ensures back { IfErr result (λ g. g ≡ first) }
     {
-        let mut chain = match Chain::empty(alloc, slots, numbers) {
+        let mut chain = match Chain::empty(alloc, slots) {
             Ok(chain) => chain,
             Err(_) => return Err(first),
         };

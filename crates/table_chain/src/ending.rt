@@ -1,8 +1,8 @@
 //! The end of a chain: its owner takes the values out.
 ghost use Rattle.std.specs.Prelude.{◌≡◌, ℕ, ◌+◌, ◌<◌, ◌≤◌, MatchOption, IfOk, IfErr, length, vec_capacity};
 ghost use mathlib.Core.List.{IsPrefix};
-ghost use Rattle.table_chain.specs.History.{Stands};
-ghost use Rattle.table_chain.specs.Chains.{IsOf, IsWhole, IsFinal, AreValues};
+ghost use Rattle.table_chain.specs.History.{Stands, HasSize, IsReached};
+ghost use Rattle.table_chain.specs.Chains.{IsOf, IsWhole, IsFinal, AreValues, AreWords};
 
 use crate::chain::Chain;
 use crate::rule::{Follows, SlotWord, Token};
@@ -10,18 +10,19 @@ use crate::trade::known;
 use crate::word::{close, look};
 use std::alloc::Allocator;
 use std::marker::Model;
-use table_slab::Remains;
+use table_cell::Low;
+use table_slab::Ending as SlabEnding;
 
 /// A chain that no thread shares any more. It returns the values one by one; dropping it drops the rest.
-pub struct Ending<G: Drop, F: Follows<G>, A: Allocator> {
+pub struct Ending<G: Drop, F: Follows<G>, A: Low + Copy> {
     words: Vec<SlotWord<G, F>, A>,
-    remains: Remains<G, A>,
+    left: SlabEnding<G, A>,
     seen: Token<G, F>,
     count: usize,
     taken: usize,
 }
 
-impl<G: Drop, F: Follows<G>, A: Allocator> Model for Ending<G, F, A> {
+impl<G: Drop, F: Follows<G>, A: Low + Copy> Model for Ending<G, F, A> {
     ghost use Rattle.table_chain.specs.Chains.{EndingView, ending_view, IsEnding};
 
     ghost Value = { EndingView G };
@@ -29,43 +30,54 @@ impl<G: Drop, F: Follows<G>, A: Allocator> Model for Ending<G, F, A> {
     ghost view = { λ e. ending_view e.seen.log e.count e.taken };
 
     ghost invariant = { λ e. IsEnding F.begins F.follows e.seen.book e.seen.names e.seen.log e.words.items
-        e.remains e.count e.taken };
+        e.left e.count e.taken };
 }
 
-impl<G: Drop, F: Follows<G>, A: Allocator> Chain<G, F, A> {
-    /// Closes the first empty slot, so that no value can be shown any more. Returns the number of values.
-    fn close_behind(&self, seen: &mut Token<G, F>) -> usize
-        requires of { IsOf F.begins F.follows self.now seen.old.book seen.old.names seen.old.log }
-        ensures of { IsOf F.begins F.follows self.now seen.new.book seen.new.names seen.new.log }
-        ensures longer { IsPrefix seen.old.log seen.new.log }
-        ensures whole { IsWhole self.now.slots result seen.new.log }
-    {
-        for slot in 0..self.words.len() {
-            if close(&self.words[slot], seen, slot as u64) {
-                return slot;
-            }
+/// Closes the first empty slot, so that no value can be shown any more. Returns the number of values.
+fn close_behind<G, F: Follows<G>, A: Allocator>(
+    words: &Vec<SlotWord<G, F>, A>,
+    seen: &mut Token<G, F>,
+) -> usize
+    requires words { AreWords seen.old.book words.now.items }
+    requires size { HasSize (length words.now.items) seen.old.log }
+    requires reached { IsReached F.begins F.follows seen.old.log }
+    ensures same { (seen.new.book ≡ seen.old.book) × (seen.new.names ≡ seen.old.names) }
+    ensures longer { IsPrefix seen.old.log seen.new.log }
+    ensures reached { IsReached F.begins F.follows seen.new.log }
+    ensures whole { IsWhole (length words.now.items) result seen.new.log }
+{
+    for slot in 0..words.len() {
+        if close(&words[slot], seen, slot as u64) {
+            return slot;
         }
-        self.words.len()
     }
+    words.len()
+}
 
-    /// Ends the chain. No value can be shown any more.
-    pub fn into_ending(self, seen: &mut Token<G, F>) -> Ending<G, F, A>
+impl<G: Drop, F: Follows<G>, A: Low + Copy> Chain<G, F, A> {
+    /// Ends the chain. No value can be shown any more. `Err` returns the chain unchanged: memory was refused.
+    pub fn into_ending(self, seen: &mut Token<G, F>) -> Result<Ending<G, F, A>, Chain<G, F, A>>
         requires of { IsOf F.begins F.follows self seen.old.book seen.old.names seen.old.log }
         ensures of { IsOf F.begins F.follows self seen.new.book seen.new.names seen.new.log }
         ensures longer { IsPrefix seen.old.log seen.new.log }
-        ensures log { result.log ≡ seen.new.log }
-        ensures taken { result.taken ≡ 0 }
-        ensures whole { IsWhole self.slots result.count seen.new.log }
+        ensures log { IfOk result (λ e. e.log ≡ seen.new.log) }
+        ensures taken { IfOk result (λ e. e.taken ≡ 0) }
+        ensures whole { IfOk result (λ e. IsWhole self.slots e.count seen.new.log) }
+        ensures back { IfErr result (λ c. c ≡ self) }
     {
-        let count = self.close_behind(seen);
-        let (words, slab) = self.into_parts();
-        Ending {
+        let (words, slab, start) = self.into_parts();
+        let left = match slab.end() {
+            Ok(left) => left,
+            Err(slab) => return Err(Chain { words, slab, start }),
+        };
+        let count = close_behind(&words, seen);
+        Ok(Ending {
             words,
-            remains: slab.into_remains(),
+            left,
             seen: seen.again(),
             count,
             taken: 0,
-        }
+        })
     }
 
     /// Ends the chain, and returns all values that were ever shown, in the order of slots. `Err` returns the chain unchanged: memory was
@@ -86,7 +98,7 @@ impl<G: Drop, F: Follows<G>, A: Allocator> Chain<G, F, A> {
             Ok(values) => values,
             Err(_) => return Err(self),
         };
-        let mut ending = self.into_ending(seen);
+        let mut ending = self.into_ending(seen)?;
         while let Some(value) = ending.next() {
             values.push_reserved(value);
         }
@@ -94,7 +106,7 @@ impl<G: Drop, F: Follows<G>, A: Allocator> Chain<G, F, A> {
     }
 }
 
-impl<G: Drop, F: Follows<G>, A: Allocator> Ending<G, F, A> {
+impl<G: Drop, F: Follows<G>, A: Low + Copy> Ending<G, F, A> {
     /// Returns the value of the next slot. `None` means that all values were returned.
     pub fn next(&mut self) -> Option<G>
         ensures log { self.new.log ≡ self.old.log }
@@ -111,11 +123,11 @@ impl<G: Drop, F: Follows<G>, A: Allocator> Ending<G, F, A> {
         let number = look(&self.words[slot], &mut later) - 2;
         let standing = known(&later, slot as u64, number);
         self.taken = slot + 1;
-        Some(self.remains.take_out(number, &standing))
+        Some(self.left.take_out(number, &standing))
     }
 }
 
-impl<G: Drop, F: Follows<G>, A: Allocator> Drop for Ending<G, F, A> {
+impl<G: Drop, F: Follows<G>, A: Low + Copy> Drop for Ending<G, F, A> {
     /// Drops each value that `next` did not return.
     fn drop(mut self) {
         while let Some(value) = self.next() {
@@ -123,7 +135,7 @@ impl<G: Drop, F: Follows<G>, A: Allocator> Drop for Ending<G, F, A> {
         }
         let Ending {
             words: _,
-            remains: _,
+            left: _,
             seen: _,
             count: _,
             taken: _,

@@ -7,8 +7,9 @@ ghost use Rattle.table_chain.specs.Chains.{IsOf, IsFinal, AreValues};
 use crate::chain::Chain;
 use crate::rule::{Follows, Token};
 use std::alloc::Allocator;
+use table_cell::Low;
 
-impl<G: Drop, F: Follows<G>, A: Allocator> Chain<G, F, A> {
+impl<G: Drop, F: Follows<G>, A: Low + Copy> Chain<G, F, A> {
     /// Adds what `other` knows to `seen`. Each of the two histories is a prefix of the result.
     pub fn learn(&self, seen: &mut Token<G, F>, other: &Token<G, F>)
         requires of { IsOf F.begins F.follows self.now seen.old.book seen.old.names seen.old.log }

@@ -42,11 +42,11 @@ impl<G, F: Follows<G>> Rule<Event<G>, u64> for ChainRule<G, F> {
     ghost moves = { λ ask old new answer. Moved ask old new answer };
 }
 
-impl<G, F: Follows<G>> Opening<u64, Event<G>> for ChainRule<G, F> {
+impl<G, F: Follows<G>> Opening<(), Event<G>> for ChainRule<G, F> {
     ghost use Rattle.std.specs.Prelude.{[], ◌∷◌, None};
     ghost use Rattle.table_chain.specs.History.{event};
 
-    ghost log = { λ count numbers. event count numbers None ∷ [] };
+    ghost log = { λ count _. event count 0 None ∷ [] };
 }
 
 /// Callers that look trade nothing.

@@ -1,17 +1,18 @@
 //! How threads show values.
-ghost use Rattle.std.specs.Prelude.{◌≡◌, ◌≢◌, ℕ, suc, ◌+◌, ◌<◌, true, length, None};
+ghost use Rattle.std.specs.Prelude.{◌≡◌, ◌≢◌, ℕ, suc, ◌+◌, ◌^◌, ◌<◌, true, None};
 ghost use mathlib.Core.List.{IsPrefix};
-ghost use Rattle.table_slab.specs.Tokens.{IsRight};
+ghost use Rattle.table_slab.specs.Held.{IsRightTo};
 ghost use Rattle.table_chain.specs.History.{Has, Told, Joins};
 ghost use Rattle.table_chain.specs.Chains.{IsOf, MayStand, Shows};
+ghost use Rattle.table_slab.specs.Shelved.{slab_of};
 ghost use Rattle.table_chain.specs.declared.event.Stored.TheVariants as stored;
 
 use crate::chain::Chain;
 use crate::rule::{Follows, Token};
 use crate::trade::known;
 use crate::word::{Lost, publish};
-use std::alloc::Allocator;
-use table_slab::Numbered;
+use table_cell::Low;
+use table_slab::{Right, Run};
 
 /// The outcome of `Chain::show`.
 #[derive(Drop)]
@@ -20,11 +21,14 @@ pub enum Showing<'a, G> {
     Shown(&'a G),
     /// The slot has this other value. The caller's value is returned.
     Other(&'a G, G),
-    /// There is no memory for the value, or the chain has ended. The value is returned.
+    /// There is no memory for the value, or no number is left, or the chain has ended. The value is returned.
     Refused(G),
 }
 
-impl<G: Drop, F: Follows<G>, A: Allocator> Chain<G, F, A> {
+/// The greatest number that a word can have.
+const GREATEST: u64 = u64::MAX - 2;
+
+impl<G: Drop, F: Follows<G>, A: Low + Copy> Chain<G, F, A> {
     /// Returns `next` to the caller, beside the value that the slot has.
     fn other<'a>(&'a self, seen: &Token<G, F>, slot: usize, found: u64, next: G) -> Showing<'a, G>
         requires of { IsOf F.begins F.follows self.now seen.now.book seen.now.names seen.now.log }
@@ -38,15 +42,18 @@ impl<G: Drop, F: Follows<G>, A: Allocator> Chain<G, F, A> {
         }
     }
 
-    /// Returns true if the value of the slot before has a smaller number. So no two slots have one number.
+    /// Returns true if the number fits a word, and the value of the slot before has a smaller one. So no two slots have one number.
     fn rises(&self, seen: &mut Token<G, F>, slot: usize, number: u64) -> bool
         requires of { IsOf F.begins F.follows self.now seen.old.book seen.old.names seen.old.log }
         requires inside { slot < self.now.slots }
-        requires number { number < length self.now.names }
         ensures of { IsOf F.begins F.follows self.now seen.new.book seen.new.names seen.new.log }
         ensures longer { IsPrefix seen.old.log seen.new.log }
+        ensures few { result ≡ true → number + 2 < 2 ^ 64 }
         ensures rises { result ≡ true → (q k : ℕ) (g : G) → slot ≡ suc q → Has seen.new.log q k (stored.Shown g) → k < number }
     {
+        if number > GREATEST {
+            return false;
+        }
         if slot == 0 {
             return true;
         }
@@ -66,13 +73,13 @@ impl<G: Drop, F: Follows<G>, A: Allocator> Chain<G, F, A> {
         if found != 0 {
             return self.other(seen, slot, found, next);
         }
-        let Some(free) = self.slab.next() else {
+        let Ok((number, right)) = self.slab.number(&mut Run::new(), 1) else {
             return Showing::Refused(next);
         };
-        if !self.rises(seen, slot, free.number) {
+        if !self.rises(seen, slot, number) {
             return Showing::Refused(next);
         }
-        self.show_under(seen, slot, free, next)
+        self.show_under(seen, slot, number, right, next)
     }
 
     /// Shows `next` under a number that no other value has.
@@ -80,19 +87,20 @@ impl<G: Drop, F: Follows<G>, A: Allocator> Chain<G, F, A> {
         &'a self,
         seen: &mut Token<G, F>,
         slot: usize,
-        free: Numbered<G>,
+        number: u64,
+        right: Right<G, A>,
         next: G,
     ) -> Showing<'a, G>
         requires of { IsOf F.begins F.follows self.now seen.old.book seen.old.names seen.old.log }
         requires inside { slot < self.now.slots }
-        requires number { free.number < length self.now.names }
-        requires right { IsRight self.now.names free.number None free.right }
-        requires joins { Joins F.begins F.follows seen.old.log slot free.number next }
+        requires few { number + 2 < 2 ^ 64 }
+        requires right { IsRightTo (slab_of self.now.names) number right }
+        requires empty { right.room.value ≡ None }
+        requires joins { Joins F.begins F.follows seen.old.log slot number next }
         ensures of { IsOf F.begins F.follows self.now seen.new.book seen.new.names seen.new.log }
         ensures longer { IsPrefix seen.old.log seen.new.log }
         ensures told { Shows F.begins F.follows slot next seen.old.log seen.new.log result }
     {
-        let Numbered { number, right } = free;
         let right = self.slab.put(number, right, next);
         match publish(&self.words[slot], seen, slot as u64, number, right) {
             Ok(()) => {

@@ -1,14 +1,17 @@
 //! What the step that shows a value trades: the right to its number for what everyone may know, or else the right comes back.
 ghost use Rattle.std.specs.Prelude.{◌≡◌, ℕ, Some, None, [], ◌∷◌, IsSome};
-ghost use Rattle.table_slab.specs.Tokens.{id_at};
+ghost use Rattle.table_slab.specs.Held.{IsRightTo, StandsAt};
+ghost use Rattle.table_slab.specs.Slabs.{IsSlot};
 ghost use Rattle.table_chain.specs.History.{event, Has};
+ghost use Rattle.table_slab.specs.Shelved.{slab_of};
 ghost use Rattle.table_chain.specs.declared.event.Stored.TheVariants.{Shown, End};
 
 use crate::event::Event;
 use crate::rule::{ChainRule, Follows, Nothing, Token};
 use logbook::{Gain, Gained, Offer, Start};
+use std::alloc::Allocator;
 use std::marker::PhantomData;
-use table_slab::{Right, Standing};
+use table_slab::{Chunk, Right, Room, Site, Standing, Written};
 
 /// What the step is to trade.
 pub struct Trade<G> {
@@ -35,10 +38,9 @@ pub trait Names<X> {
 pub(crate) fn start<X, N: Names<X>, G, F: Follows<G>>(
     _about: &X,
     _slots: u64,
-    _numbers: u64,
 ) -> Start<Event<G>, u64, ChainRule<G, F>>
     ensures names { result.names ≡ N.names _about.now }
-    ensures shown { result.shown ≡ event _slots _numbers None ∷ [] }
+    ensures shown { result.shown ≡ event _slots 0 None ∷ [] }
 {
     Start {
         marker: PhantomData,
@@ -46,21 +48,23 @@ pub(crate) fn start<X, N: Names<X>, G, F: Follows<G>>(
 }
 
 /// The update that shows what lies under the number in the slot.
-pub(crate) fn offering<G, F: Follows<G>>(
+pub(crate) fn offering<G, F: Follows<G>, A: Allocator>(
     _seen: &Token<G, F>,
     _slot: u64,
     _number: u64,
-    right: Right<G>,
+    site: Site<Chunk<G, A>>,
+    room: Room<G>,
 ) -> Offering<G, F>
-    requires of { right.of ≡ id_at _seen.now.names _number }
-    requires full { IsSome right.value }
+    requires of { IsSlot (slab_of _seen.now.names) _number site.cell site.value room.of }
+    requires full { IsSome room.value }
     ensures names { result.names ≡ _seen.now.names }
-    ensures ask { (x : G) × (right.value ≡ Some x)
+    ensures ask { (x : G) × (room.value ≡ Some x)
         × (result.ask ≡ event _slot _number (Some (Shown x))) }
     ensures about { result.about ≡ result.ask ∷ [] }
     ensures state { result.state ≡ None }
 {
-    let Right { marker: _ } = right;
+    let Site { marker: _ } = site;
+    let Room { marker: _ } = room;
     Offer {
         marker: PhantomData,
     }
@@ -81,30 +85,74 @@ pub(crate) fn closing<G, F: Follows<G>>(_seen: &Token<G, F>, _slot: u64) -> Plai
 }
 
 /// The right, where the slot was set before.
-pub(crate) fn returned<G>(
+fn returned<G, A: Allocator>(
     gained: Gained<Event<G>, u64, Trade<G>>,
     _slot: u64,
     _number: u64,
-) -> Right<G>
+) -> (Site<Chunk<G, A>>, Room<G>)
     requires lost { gained.answer ≡ 0 }
     requires about { (x : G) × (gained.about ≡ event _slot _number (Some (Shown x)) ∷ []) }
-    ensures of { result.of ≡ id_at gained.names _number }
+    ensures of { IsSlot (slab_of gained.names) _number result.0.cell result.0.value result.1.of }
     ensures value { (x : G) × (gained.about ≡ event _slot _number (Some (Shown x)) ∷ [])
-        × (result.value ≡ Some x) }
+        × (result.1.value ≡ Some x) }
 {
     let Gained { marker: _ } = gained;
-    Right {
-        marker: PhantomData,
-    }
+    (
+        Site {
+            marker: PhantomData,
+        },
+        Room {
+            marker: PhantomData,
+        },
+    )
+}
+
+/// The right, where the slot was set before.
+pub(crate) fn right_back<G, A: Allocator>(
+    gained: Gained<Event<G>, u64, Trade<G>>,
+    slot: u64,
+    number: u64,
+) -> Right<G, A>
+    requires lost { gained.answer ≡ 0 }
+    requires about { (x : G) × (gained.about ≡ event slot number (Some (Shown x)) ∷ []) }
+    ensures of { IsRightTo (slab_of gained.names) number result }
+    ensures value { (x : G) × (gained.about ≡ event slot number (Some (Shown x)) ∷ [])
+        × (result.room.value ≡ Some x) }
+{
+    let (site, room) = returned(gained, slot, number);
+    Right { site, room }
+}
+
+/// What everyone knows of the slot of the slab whose value stands in a slot of the chain.
+fn recalled<G, F: Follows<G>, A: Allocator>(
+    _seen: &Token<G, F>,
+    _slot: u64,
+    _number: u64,
+) -> (Site<Chunk<G, A>>, Written<G>)
+    requires there { (x : G) × Has _seen.now.log _slot _number (Shown x) }
+    ensures of { IsSlot (slab_of _seen.now.names) _number result.0.cell result.0.value result.1.of }
+    ensures value { Has _seen.now.log _slot _number (Shown result.1.value) }
+{
+    (
+        Site {
+            marker: PhantomData,
+        },
+        Written {
+            marker: PhantomData,
+        },
+    )
 }
 
 /// What everyone knows of the value that stands in a slot.
-pub(crate) fn known<G, F: Follows<G>>(_seen: &Token<G, F>, _slot: u64, _number: u64) -> Standing<G>
-    requires there { (x : G) × Has _seen.now.log _slot _number (Shown x) }
-    ensures of { result.of ≡ id_at _seen.now.names _number }
-    ensures value { Has _seen.now.log _slot _number (Shown result.value) }
+pub(crate) fn known<G, F: Follows<G>, A: Allocator>(
+    seen: &Token<G, F>,
+    slot: u64,
+    number: u64,
+) -> Standing<G, A>
+    requires there { (x : G) × Has seen.now.log slot number (Shown x) }
+    ensures of { StandsAt (slab_of seen.now.names) number result }
+    ensures value { Has seen.now.log slot number (Shown result.written.value) }
 {
-    Standing {
-        marker: PhantomData,
-    }
+    let (site, written) = recalled(seen, slot, number);
+    Standing { site, written }
 }

@@ -1,20 +1,22 @@
 //! The steps on a slot's word.
 ghost use Rattle.std.specs.Prelude.{◌≡◌, ◌≢◌, ℕ, ◌+◌, ◌^◌, ◌<◌, true, false, Some, IsSome, IfOk, IfErr};
 ghost use mathlib.Core.List.{IsPrefix};
-ghost use Rattle.table_slab.specs.Tokens.{id_at};
-ghost use Rattle.table_chain.specs.History.{event, Has, Stands, IsInside, numbers_of, Told, IsReached, Joins, Adds};
+ghost use Rattle.table_slab.specs.Held.{IsRightTo};
+ghost use Rattle.table_chain.specs.History.{event, Has, Stands, IsInside, Told, IsReached, Joins, Adds};
 ghost use Rattle.table_chain.specs.Chains.{IsWord};
+ghost use Rattle.table_slab.specs.Shelved.{slab_of};
 ghost use Rattle.table_chain.specs.declared.event.Stored.TheVariants.{Shown, End};
 
 use crate::rule::{Follows, Look, Nothing, SlotWord, Store, Token};
-use crate::trade::{Offering, Plainly, Trade, closing, offering, returned};
+use crate::trade::{Offering, Plainly, Trade, closing, offering, right_back};
+use std::alloc::Allocator;
 use table_slab::Right;
 
 /// What comes back from a slot that was set before.
 #[derive(Drop)]
-pub struct Lost<G> {
+pub struct Lost<G, A: Allocator> {
     pub found: u64,
-    pub right: Right<G>,
+    pub right: Right<G, A>,
 }
 
 /// Returns the number that the word has by now.
@@ -31,30 +33,30 @@ pub(crate) fn look<G, F: Follows<G>>(word: &SlotWord<G, F>, seen: &mut Token<G, 
 }
 
 /// Shows what lies under the number by one exchange, unless the slot was set before.
-pub(crate) fn publish<G, F: Follows<G>>(
+pub(crate) fn publish<G, F: Follows<G>, A: Allocator>(
     word: &SlotWord<G, F>,
     seen: &mut Token<G, F>,
     slot: u64,
     number: u64,
-    right: Right<G>,
-) -> Result<(), Lost<G>>
+    right: Right<G, A>,
+) -> Result<(), Lost<G, A>>
     requires word { IsWord seen.old.book word.now }
     requires slot { slot ≡ word.now.key }
     requires inside { IsInside word.now.key seen.old.log }
-    requires number { number < numbers_of seen.old.log }
-    requires few { number + 2 < 2 ^ 32 }
-    requires of { right.of ≡ id_at seen.old.names number }
-    requires full { IsSome right.value }
-    requires joins { (x : G) → right.value ≡ Some x → Joins F.begins F.follows seen.old.log word.now.key number x }
+    requires few { number + 2 < 2 ^ 64 }
+    requires of { IsRightTo (slab_of seen.old.names) number right }
+    requires full { IsSome right.room.value }
+    requires joins { (x : G) → right.room.value ≡ Some x → Joins F.begins F.follows seen.old.log word.now.key number x }
     ensures same { (seen.new.book ≡ seen.old.book) × (seen.new.names ≡ seen.old.names) }
     ensures longer { IsPrefix seen.old.log seen.new.log }
     ensures reached { IsReached F.begins F.follows seen.new.log }
-    ensures ok { IfOk result (λ _. (x : G) × (right.value ≡ Some x)
+    ensures ok { IfOk result (λ _. (x : G) × (right.room.value ≡ Some x)
         × Adds F.begins F.follows (event slot number (Some (Shown x))) slot seen.old.log seen.new.log) }
-    ensures err { IfErr result (λ l. (l.right.of ≡ right.of) × (l.right.value ≡ right.value)
-        × (l.found ≢ 0) × Told F.begins F.follows slot l.found seen.new.log) }
+    ensures err { IfErr result (λ l. IsRightTo (slab_of seen.old.names) number l.right
+        × (l.right.room.value ≡ right.room.value) × (l.found ≢ 0) × Told F.begins F.follows slot l.found seen.new.log) }
 {
-    let mut offer: Offering<G, F> = offering(seen, slot, number, right);
+    let Right { site, room } = right;
+    let mut offer: Offering<G, F> = offering(seen, slot, number, site, room);
     let mut pen = seen.no_pen();
     let found = word.compare_exchange::<Store<G, F>, Trade<G>>(
         0,
@@ -66,7 +68,7 @@ pub(crate) fn publish<G, F: Follows<G>>(
     if found == 0 {
         return Ok(());
     }
-    let right = returned(offer.into_gain(), slot, number);
+    let right = right_back(offer.into_gain(), slot, number);
     Err(Lost { found, right })
 }
 

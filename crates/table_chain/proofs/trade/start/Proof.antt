@@ -40,15 +40,15 @@ start_spec 𝓤 𝓛 𝓜 𝓡 wired X N V L LX LN LV LL gn dn g d _ _ =
     let inst = bounded (a_type ∷ a_type ∷ a_type ∷ a_type ∷ []) (X, (N, (V, (L, tt)))) (dcons dn (dcons d dnil)) in let fn = inst_fn inst code.function in let c = clauses X N V L gn dn g d 𝓛 𝓜.mem 𝓡.returns in
     let E' : RattleType = Events.the_row R in let P' : RattleType = ChainRule.the_row R W in let rl = rule_impl.ghosts R W g rule_impl.no_dict in let All : RattleType = Tuple (E' ∷ u64 ∷ P' ∷ []) in
     let S : RattleType = Start.the_row E' u64 P' rl in let about = RefOf (0 ∷ []) tt (plain (λ _. X')) (λ _. tt) in let number = plain (λ _. u64) in
-    let hs : Stays En.signature.params En.kept = (stay_dropped about yes, (stay_dropped number yes, (stay_dropped number yes, tt))) in
-    proved 𝓛 En hs c 𝓜 𝓡 (Goes-dropped 𝓛 5 about yes (λ κs x f. refl), (Goes-dropped 𝓛 5 number yes (λ κs x f. refl), (Goes-dropped 𝓛 5 number yes (λ κs x f. refl), tt))) (#self inst) fn (code.unfolded 𝓤 H 𝓜 𝓡 wired (X, (N, (V, (L, tt)))) dn d)
-    (λ κs. (shr_vals, (uint_vals w64, (uint_vals w64, tt)))) (λ κs. (shr_Tells (named 0) κs.0 X', (uint_Tells w64, (uint_Tells w64, tt)))) (λ κs qs bounds a gh are.
-    let names : List ℕ = gn.names a.0.now in let n : ℕ = a.1.0 in let k : ℕ = a.1.1.0 in let at : Val = vptr a.0.ref_ptr.0 a.0.ref_ptr.1 in let es : List (Event V.Denot) = event n k None ∷ [] in
-    let y : (walk_of 𝓛 En hs c).Ghost = ((κs, qs, bounds, a, (at ∷ [], (vint w64 n ∷ [], (vint w64 k ∷ [], tt)))), gh) in let Post : Val → SProp 𝓤 = (walk_of 𝓛 En hs c).post y in
+    let hs : Stays En.signature.params En.kept = (stay_dropped about yes, (stay_dropped number yes, tt)) in
+    proved 𝓛 En hs c 𝓜 𝓡 (Goes-dropped 𝓛 5 about yes (λ κs x f. refl), (Goes-dropped 𝓛 5 number yes (λ κs x f. refl), tt)) (#self inst) fn (code.unfolded 𝓤 H 𝓜 𝓡 wired (X, (N, (V, (L, tt)))) dn d)
+    (λ κs. (shr_vals, (uint_vals w64, tt))) (λ κs. (shr_Tells (named 0) κs.0 X', (uint_Tells w64, tt))) (λ κs qs bounds a gh are.
+    let names : List ℕ = gn.names a.0.now in let n : ℕ = a.1.0 in let at : Val = vptr a.0.ref_ptr.0 a.0.ref_ptr.1 in let es : List (Event V.Denot) = event n 0 None ∷ [] in
+    let y : (walk_of 𝓛 En hs c).Ghost = ((κs, qs, bounds, a, (at ∷ [], (vint w64 n ∷ [], tt))), gh) in let Post : Val → SProp 𝓤 = (walk_of 𝓛 En hs c).post y in
     qed 𝓛 ((raw (denote.Triple.Entry.alive 𝓛 En.signature κs qs) ⊛ ‵ (owns (types_at En.signature.params κs) a y.0.4)) ∷ raw ((c κs a).requires gh) ∷ []) ∵ split ! $ keep ! (0 ∷ []) $
     nothing ! $ nothing ! $ fjoin ! $ use0 𝓛 (‵ ((Token All).own_val (record {}, tt) (token ∷ []))) (token_made All 𝓛) $ fjoin ! $
-    enter ! 𝓣.C 𝓣.Λ fn (at ∷ vint w64 n ∷ vint w64 k ∷ []) Post $ alloc_all ! (λ l. pass_all ! refl ((tt, tt), ((tt, record { fits = are.1.0.1 }), ((tt, record { fits = are.1.1.0.1 }), tt))) $
+    enter ! 𝓣.C 𝓣.Λ fn (at ∷ vint w64 n ∷ []) Post $ alloc_all ! (λ l. pass_all ! refl ((tt, tt), ((tt, record { fits = are.1.0.1 }), tt)) $
     sets ! (agg ! (no_more !)) refl (tt, tt) $ sets ! (agg ! (and_then ! (get ! refl) (no_more !))) refl (tt, (tt, tt)) $
     let r : S.Denot = record { marker = record {}; names = names; shown = es } in let Names : Type 0 = names ≡ names in let Shown : Type 0 = es ≡ es in
-    use0 𝓛 (raw (fact 𝓤 Shown)) (fact_i 𝓤 Shown (emp 𝓤) refl) $ use0 𝓛 (raw (fact 𝓤 Names)) (fact_i 𝓤 Names (emp 𝓤) refl) $ join ! $ nothing ! $ nothing ! $ fjoin ! $ nothing ! $ fjoin ! $ nothing ! $ fjoin ! $
-    returns ! (look_at ! 0 refl) $ free_all ! refl $ keep ! (3 ∷ 0 ∷ 2 ∷ 1 ∷ []) $ by ! (leaves 𝓛 En hs c y token r (tt, (tt, (tt, tt))) (tt, (tt, (tt, tt))))))
+    use0 𝓛 (raw (fact 𝓤 Shown)) (fact_i 𝓤 Shown (emp 𝓤) refl) $ use0 𝓛 (raw (fact 𝓤 Names)) (fact_i 𝓤 Names (emp 𝓤) refl) $ join ! $ nothing ! $ nothing ! $ fjoin ! $ nothing ! $ fjoin ! $
+    returns ! (look_at ! 0 refl) $ free_all ! refl $ keep ! (3 ∷ 0 ∷ 2 ∷ 1 ∷ []) $ by ! (leaves 𝓛 En hs c y token r (tt, (tt, tt)) (tt, (tt, tt)))))

@@ -9,5 +9,5 @@ compare_exchange-found-requires g c = let offer = c.closing-offer.ensures in let
   sym c.requires.word.1,
   pen.0 ∙ sym c.requires.word.1,
   offer.names,
-  rw (offer.state, offer.ask, pen.1, c.requires.slot) (stores_moves g.F.Follows.begins g.F.Follows.follows c.args.word.now.key 0 End c.args.seen.now.log c.requires.inside (λ x is. absurd (let no : End ≡ Shown x = is in cc)) (λ x is. absurd (let no : End ≡ Shown x = is in cc))),
+  rw (offer.state, offer.ask, pen.1, c.requires.slot) (stores_moves g.F.Follows.begins g.F.Follows.follows c.args.word.now.key 0 End c.args.seen.now.log c.requires.inside (λ x is. absurd (let no : End ≡ Shown x = is in cc))),
 )

@@ -12,7 +12,7 @@ compare_exchange-found-requires g c = let offer = c.offering-offer.ensures in le
   sym c.requires.word.1,
   pen.0 ∙ sym c.requires.word.1,
   offer.names,
-  rw (offer.state, offer.ask.2, pen.1, c.requires.slot) (stores_moves g.F.Follows.begins g.F.Follows.follows c.args.word.now.key c.args.number (Shown x) c.args.seen.now.log c.requires.inside (λ y is. c.requires.number)
+  rw (offer.state, offer.ask.2, pen.1, c.requires.slot) (stores_moves g.F.Follows.begins g.F.Follows.follows c.args.word.now.key c.args.number (Shown x) c.args.seen.now.log c.requires.inside
       (λ y is. subst (Joins g.F.Follows.begins g.F.Follows.follows c.args.seen.now.log c.args.word.now.key c.args.number) (shown_is x y is) (c.requires.joins x offer.ask.1))),
 )
 

@@ -1,5 +1,6 @@
 use Rattle.std.proofs.Common.{◌≡◌, ℕ, None, true, length, [], ◌∷◌, sym, refl, ap, subst, ◌∙◌, arith, length-append}
 use Rattle.std.specs.Prelude.{replicate}
+use Rattle.table_slab.specs.Shelved.{names_of}
 use Rattle.table_chain.specs.History.{History, event, HasSize, IsReached}
 use Rattle.table_chain.specs.Chains.{IsWord, AreWords}
 use Rattle.table_chain.proofs.Laid.{words_push}
@@ -8,7 +9,7 @@ use Rattle.table_chain.proofs.Trades.{quiet}
 use Rattle.table_chain.proofs.chain.Chain.empty.Goals as goal
 
 pub open_row-seen-requires : goal.open_row-seen-requires
-open_row-seen-requires g c = (kept_first g.F.Follows.begins g.F.Follows.follows c.args.slots c.args.numbers c.requires.few, quiet (denote.Param.param 0 g.row.G) c.start-begun.result.names, c.start-begun.ensures.shown)
+open_row-seen-requires g c = (kept_first g.F.Follows.begins g.F.Follows.follows c.args.slots, quiet (denote.Param.param 0 g.row.G) c.start-begun.result.names, c.start-begun.ensures.shown)
 
 pub loop-made-preserved : goal.loop-made-preserved
 loop-made-preserved g c = let inv = c.loop-made.invariant in let ws = c.loop-made.words.items in let w = c.tracked.result in let pen = c.take.ensures.pen in let rest = c.take.ensures.rest in let is = c.tracked.ensures.0 in
@@ -25,13 +26,12 @@ loop-made-preserved g c = let inv = c.loop-made.invariant in let ws = c.loop-mad
 pub invariant_of-result : goal.invariant_of-result
 invariant_of-result g c = let inv = c.loop-made.invariant in let e = c.open_row-seen.ensures in
     let long : c.args.slots ≡ length c.loop-made.words.items = omega (arith, inv.long, inv.left, c.loop-made-test.false, c.loop-made.auto._made-end) in
-    let names : c.open_row-seen.result.0.names ≡ c.in_ok-slab.slab = e.0 ∙ c.start-begun.ensures.names in
-    let count : c.args.numbers ≡ length c.open_row-seen.result.0.names = omega (arith, c.in_ok-slab.ensures.count, ap length names) in
-    let first : History g.row.G.Denot = event c.args.slots c.args.numbers None ∷ [] in let begins : HasSize c.args.slots c.args.numbers first = ([], refl) in (
+    let names : c.open_row-seen.result.0.names ≡ names_of c.in_ok-slab.slab = e.0 ∙ c.start-begun.ensures.names in
+    let first : History g.row.G.Denot = event c.args.slots 0 None ∷ [] in let begins : HasSize c.args.slots first = ([], refl) in (
       record {
         words = inv.words;
-        size = subst (λ (z : ℕ × ℕ × History g.row.G.Denot). HasSize z.0 z.1 z.2) (λ i. (long i, count i, sym e.1 i)) begins;
-        reached = subst (λ (l : History g.row.G.Denot). IsReached g.F.Follows.begins g.F.Follows.follows l) (sym e.1) (replicate c.args.slots (0, true), kept_first g.F.Follows.begins g.F.Follows.follows c.args.slots c.args.numbers c.requires.few);
+        size = subst (λ (z : ℕ × History g.row.G.Denot). HasSize z.0 z.1) (λ i. (long i, sym e.1 i)) begins;
+        reached = subst (λ (l : History g.row.G.Denot). IsReached g.F.Follows.begins g.F.Follows.follows l) (sym e.1) (replicate c.args.slots (0, true), kept_first g.F.Follows.begins g.F.Follows.follows c.args.slots);
       },
       sym names,
     )

@@ -19,10 +19,10 @@ loop-value-preserved g c = let inv = c.loop-value.invariant in let some = c.in-S
 
 pub returns-clause-values : goal.returns-clause-values
 returns-clause-values g c = let inv = c.loop-value.invariant in let e = c.into_ending-ending.ensures in let none = c.in_default.ensures.some in let log = c.into_ending-ending.new.seen.log in
-    are_values g.F.Follows.begins g.F.Follows.follows c.into_ending-ending.result.count c.args.self.slots (length c.args.self.names) log c.loop-value.values.items e.of.2 e.of.3 e.whole
+    are_values g.F.Follows.begins g.F.Follows.follows c.into_ending-ending.result.count c.args.self.slots log c.loop-value.values.items e.of.2 e.of.3 e.whole
     (omega (arith, inv.taken, none.0, inv.count))
     (λ p d lt. subst (λ (l : History g.row.G.Denot). Stands l p (slice_index_or c.loop-value.values.items p d)) (inv.log ∙ e.log) (inv.each p d lt))
 
 pub returns-clause-ended : goal.returns-clause-ended
 returns-clause-ended g c = let e = c.into_ending-ending.ensures in
-    final g.F.Follows.begins g.F.Follows.follows c.into_ending-ending.result.count c.args.self.slots (length c.args.self.names) c.into_ending-ending.new.seen.log e.of.2 e.whole
+    final g.F.Follows.begins g.F.Follows.follows c.into_ending-ending.result.count c.args.self.slots c.into_ending-ending.new.seen.log e.of.2 e.whole

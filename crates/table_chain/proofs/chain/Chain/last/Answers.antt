@@ -1,4 +1,4 @@
-use Rattle.std.proofs.Common.{[], length, arith}
+use Rattle.std.proofs.Common.{[], arith}
 use Rattle.std.proofs.lemmas.List.{append-nil}
 use Rattle.table_chain.specs.declared.event.Stored.TheVariants.{Shown}
 use Rattle.table_chain.proofs.Chained.{slot_within, stands_on}
@@ -9,7 +9,7 @@ loop-last-init g c = let of = c.requires.of in let there = c.requires.there in r
   of = of;
   longer = ([], append-nil c.args.seen.now.log);
   forth = omega arith;
-  inside = slot_within g.F.Follows.begins g.F.Follows.follows c.args.self.now.slots (length c.args.self.now.names) c.args.seen.now.log of.2 of.3 c.args.from there.1.0 (Shown there.0) there.1.1;
+  inside = slot_within g.F.Follows.begins g.F.Follows.follows c.args.self.now.slots c.args.seen.now.log of.2 of.3 c.args.from there.1.0 (Shown there.0) there.1.1;
   there = there;
 }
 

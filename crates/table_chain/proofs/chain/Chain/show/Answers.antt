@@ -8,7 +8,7 @@ returns-then-found-ne0-clause-told g c = c.other.ensures.told c.args.seen.now.lo
 
 pub show_under-requires-clause-joins : goal.show_under-requires-clause-joins
 show_under-requires-clause-joins g c = let old = c.args.seen.now.log in let mid = c.look_at-found.new.seen.log in let log = c.rises.new.seen.log in
-    joins g.F.Follows.begins g.F.Follows.follows log c.args.slot c.in-Some.free.number c.args.next
+    joins g.F.Follows.begins g.F.Follows.follows log c.args.slot c.in-Ok.number c.args.next
     (may_on g.F.Follows.begins g.F.Follows.follows old log c.args.slot c.args.next (prefix_trans old mid log c.look_at-found.ensures.longer c.rises.ensures.longer) c.requires.fits)
     (λ q j f is there. c.rises.ensures.rises c.if-not-rises.false q j f is there)
 
