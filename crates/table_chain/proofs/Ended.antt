@@ -4,9 +4,10 @@ use Rattle.std.specs.Prelude.{slice_index_or}
 use mathlib.Core.List.{IsPrefix}
 use Rattle.logbook.specs.Pages.{Book, Named}
 use Rattle.table_slab.specs.Endings.{EndView, IsLeft}
+use Rattle.table_slab.specs.Shelved.{slab_of}
 use Rattle.table_chain.specs.declared.event.Stored.TheVariants.{Shown}
 use Rattle.table_chain.specs.History.{History, Has, Told, IsReached}
-use Rattle.table_chain.specs.Chains.{IsEnding}
+use Rattle.table_chain.specs.Chains.{IsLaid, IsWhole, IsEnding}
 use Rattle.table_chain.proofs.Chained.{known_shown, rise}
 
 module _ {G : Type 0} (Begins : G → Type 0) (Follows : G → G → Type 0) where
@@ -45,4 +46,15 @@ module _ {G : Type 0} (Begins : G → Type 0) (Follows : G → G → Type 0) whe
         others j (λ is. omega (arith, is, above)) (e.left_in p j h (omega (arith, le)) other);
     slab = slab ∙ e.slab;
     some = omega (arith, lt);
+  }
+
+  -- before any value is taken out
+  pub ending_first : (b : Book) (names : List ℕ) (left : EndView) (log : History G) (ws : List Named) (count : ℕ) → IsLaid Begins Follows b names log ws → IsWhole (length ws) count log
+      → left.slab ≡ slab_of names → ((k : ℕ) → IsLeft left k) → IsEnding Begins Follows b names log ws left count 0
+  ending_first b names left log ws count laid whole slab all = record {
+    laid = laid;
+    whole = whole;
+    slab = slab;
+    left_in = λ p k g le there. all k;
+    some = omega arith;
   }

@@ -1,17 +1,17 @@
 //! One thread: shown one behind another, full, refused, and the end.
-ghost use Rattle.std.specs.Prelude.{◌≡◌, ◌+◌, ◌<◌, ◌^◌};
 ghost use Rattle.test_chain.specs.Known.{Knows};
 
 use super::counting::{Fared, Numbers, Seen, assert_same, made, push};
-use std::alloc::{Allocator, Global};
+use std::alloc::Global;
 use std::sync::Arc;
 use std::sync::atomic::AtomicU64;
 use std::sync::atomic::Ordering::SeqCst;
 use std::test::Fail;
+use table_cell::Low;
 use testkit_refusing::{Refusing, Rule};
 
 /// How three numbers fare that are shown one behind another.
-fn pushed<A: Allocator>(
+fn pushed<A: Low + Copy>(
     chain: &Numbers<A>,
     seen: &mut Seen,
     drops: &Arc<AtomicU64>,
@@ -27,7 +27,7 @@ fn pushed<A: Allocator>(
 }
 
 /// How a fourth number fares, and the values that come out then, each the last digit behind those before it.
-fn ended<A: Allocator>(
+fn ended<A: Low + Copy>(
     chain: Numbers<A>,
     seen: &mut Seen,
     drops: &Arc<AtomicU64>,
@@ -36,7 +36,9 @@ fn ended<A: Allocator>(
 {
     let fourth = push(&chain, seen, 4, drops.clone()?);
     let mut digits = 0u64;
-    let mut ending = chain.into_ending(seen);
+    let Ok(mut ending) = chain.into_ending(seen) else {
+        return Ok((fourth, 0));
+    };
     for _value in 0..4u8 {
         if let Some(value) = ending.next() {
             digits = digits.wrapping_mul(10).wrapping_add(value.number);
@@ -48,7 +50,7 @@ fn ended<A: Allocator>(
 #[test]
 fn values_come_out_in_the_order_of_slots(rt: HostRuntime) -> Result<(), Fail> {
     let drops = Arc::new(rt.alloc(), AtomicU64::new(0))?;
-    let chain = made(rt.alloc(), 9, drops.clone()?).ok_or("a chain")?;
+    let chain = made(rt.alloc(), drops.clone()?).ok_or("a chain")?;
     let mut seen = chain.start();
     let pushed = pushed(&chain, &mut seen, &drops)?;
     assert_same(
@@ -62,29 +64,32 @@ fn values_come_out_in_the_order_of_slots(rt: HostRuntime) -> Result<(), Fail> {
 }
 
 #[test]
-fn a_value_without_a_number_is_refused(rt: HostRuntime) -> Result<(), Fail> {
+fn a_value_without_memory_is_refused(rt: HostRuntime) -> Result<(), Fail> {
     let drops = Arc::new(rt.alloc(), AtomicU64::new(0))?;
-    let chain = made(rt.alloc(), 2, drops.clone()?).ok_or("a chain")?;
+    let heap = Refusing::new(rt.alloc(), Rule::new(0, usize::MAX, 0, 0));
+    let chain = made(&heap, drops.clone()?).ok_or("a chain")?;
     let mut seen = chain.start();
+    heap.refuse(0, 1);
     let pushed = pushed(&chain, &mut seen, &drops)?;
     assert_same(
         &rt,
         pushed,
-        (Fared::Shown(1), Fared::Refused, Fared::Refused),
+        (Fared::Refused, Fared::Shown(2), Fared::Shown(3)),
     );
-    assert_same(&rt, drops.load(SeqCst), 2);
+    assert_same(&rt, drops.load(SeqCst), 1);
     drop(chain);
     assert_same(&rt, drops.load(SeqCst), 4);
+    assert_same(&rt, heap.granted(), heap.given_back());
     Ok(())
 }
 
 #[test]
 fn what_is_dropped_half_way_drops_the_rest(rt: HostRuntime) -> Result<(), Fail> {
     let drops = Arc::new(rt.alloc(), AtomicU64::new(0))?;
-    let chain = made(rt.alloc(), 9, drops.clone()?).ok_or("a chain")?;
+    let chain = made(rt.alloc(), drops.clone()?).ok_or("a chain")?;
     let mut seen = chain.start();
     let _pushed = pushed(&chain, &mut seen, &drops)?;
-    let mut ending = chain.into_ending(&mut seen);
+    let mut ending = chain.into_ending(&mut seen).ok().ok_or("an end")?;
     let first = ending.next();
     assert_same(&rt, first.map(|value| value.number), Some(7));
     assert_same(&rt, drops.load(SeqCst), 1);
@@ -96,16 +101,18 @@ fn what_is_dropped_half_way_drops_the_rest(rt: HostRuntime) -> Result<(), Fail> 
 /// Whether a chain was made, where of the requests for it the first `passing` are granted and the next is refused.
 fn made_with(alloc: Global, passing: u64, drops: Arc<AtomicU64>) -> bool {
     let heap = Refusing::new(alloc, Rule::new(0, usize::MAX, passing, 1));
-    made(&heap, 9, drops).is_some()
+    made(&heap, drops).is_some()
 }
 
 #[test]
 fn a_refused_chain_leaves_nothing(rt: HostRuntime) -> Result<(), Fail> {
     let drops = Arc::new(rt.alloc(), AtomicU64::new(0))?;
-    let (first, second, third) = (drops.clone()?, drops.clone()?, drops.clone()?);
-    assert!(rt; !made_with(rt.alloc(), 0, first));
-    assert!(rt; !made_with(rt.alloc(), 1, second));
-    assert!(rt; made_with(rt.alloc(), 2, third));
-    assert_same(&rt, drops.load(SeqCst), 3);
+    for passing in 0u64..4 {
+        let mine = drops.clone()?;
+        assert!(rt; !made_with(rt.alloc(), passing, mine));
+    }
+    let last = drops.clone()?;
+    assert!(rt; made_with(rt.alloc(), 5, last));
+    assert_same(&rt, drops.load(SeqCst), 5);
     Ok(())
 }

@@ -1,14 +1,14 @@
 //! Chains of numbers that count how many of them were dropped.
-ghost use Rattle.std.specs.Prelude.{◌≡◌, ◌+◌, ◌<◌, ◌^◌, IfSome};
+ghost use Rattle.std.specs.Prelude.{◌≡◌, ◌<◌, IfSome};
 ghost use Rattle.table_chain.specs.History.{Stands};
 ghost use Rattle.test_chain.specs.Known.{Knows};
 
-use std::alloc::Allocator;
 use std::fmt::Debug;
 use std::process::Abort;
 use std::sync::Arc;
 use std::sync::atomic::AtomicU64;
 use std::sync::atomic::Ordering::SeqCst;
+use table_cell::Low;
 use table_chain::{Chain, Follows, Showing, Token};
 
 /// A number that counts its drops.
@@ -62,21 +62,16 @@ pub fn assert_same<X: PartialEq + Debug + Drop>(rt: &impl Abort, got: X, expecte
     assert_eq!(rt; got, expected);
 }
 
-/// A chain of four slots that begins with the number 7, with memory for this many numbers.
-pub fn made<A: Allocator + Copy>(
-    alloc: A,
-    numbers: usize,
-    drops: Arc<AtomicU64>,
-) -> Option<Numbers<A>>
-    requires few { numbers + 2 < 2 ^ 32 }
+/// A chain of four slots that begins with the number 7.
+pub fn made<A: Low + Copy>(alloc: A, drops: Arc<AtomicU64>) -> Option<Numbers<A>>
     ensures slots { IfSome result (λ c. c.slots ≡ 4) }
     ensures first { IfSome result (λ c. (g : _) × Stands c.start 0 g) }
 {
-    Chain::new(alloc, 4, numbers, Counting { number: 7, drops }).ok()
+    Chain::new(alloc, 4, Counting { number: 7, drops }).ok()
 }
 
 /// Shows the number in the second slot.
-pub fn show<A: Allocator>(chain: &Numbers<A>, number: u64, drops: Arc<AtomicU64>) -> Fared
+pub fn show<A: Low + Copy>(chain: &Numbers<A>, number: u64, drops: Arc<AtomicU64>) -> Fared
     requires slots { 1 < chain.now.slots }
     requires first { (g : _) × Stands chain.now.start 0 g }
 {
@@ -85,7 +80,7 @@ pub fn show<A: Allocator>(chain: &Numbers<A>, number: u64, drops: Arc<AtomicU64>
 }
 
 /// Shows the number behind the newest.
-pub fn push<A: Allocator>(
+pub fn push<A: Low + Copy>(
     chain: &Numbers<A>,
     seen: &mut Seen,
     number: u64,

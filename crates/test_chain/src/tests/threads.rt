@@ -10,7 +10,7 @@ use std::thread::Threads;
 
 /// A round: two threads show a number in the second slot. One of them does, and the other is shown that number and gets its own back.
 fn race(rt: &impl Threads, alloc: Global, drops: &Arc<AtomicU64>) -> Result<bool, Fail> {
-    let chain = made(alloc, 9, drops.clone()?).ok_or("a chain")?;
+    let chain = made(alloc, drops.clone()?).ok_or("a chain")?;
     let (mine, yours) = (drops.clone()?, drops.clone()?);
     let shared = &chain;
     let (one, two) = thread::join(

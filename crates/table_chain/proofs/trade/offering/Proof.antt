@@ -24,7 +24,7 @@ use denote.Struct.Struct.{Struct}
 use denote.Struct.Owning.{shape}
 use denote.Struct.Tuple.{Tuple}
 use denote.Triple.Walked.{Stays, stay_dropped, walk_of, Goes-dropped}
-use Rattle.atomic_table.proofs.Walks.{proved, leaves}
+use Rattle.std.proofs.raw_atomic.Walks.{proved, leaves}
 use Rattle.logbook.specs.Kept.{offer_owns}
 use Rattle.logbook.specs.contracts.tokens.Offer as Offer
 use Rattle.logbook.specs.contracts.tokens.Seen as Seen

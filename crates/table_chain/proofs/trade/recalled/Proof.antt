@@ -23,7 +23,7 @@ use denote.Ref.{shr_vals, shr_Tells}
 use denote.Plain.{uint_vals, uint_Tells}
 use denote.Struct.Tuple.{Tuple}
 use denote.Triple.Walked.{Stays, stay_dropped, walk_of, Goes-dropped}
-use Rattle.atomic_table.proofs.Walks.{proved, leaves}
+use Rattle.std.proofs.raw_atomic.Walks.{proved, leaves}
 use Rattle.logbook.specs.Kept.{Rules, rules}
 use Rattle.logbook.specs.contracts.tokens.Seen as Seen
 use Rattle.logbook.proofs.Fields.{token}

@@ -20,7 +20,7 @@ use denote.Builtin.{u64}
 use denote.Plain.{uint_vals, uint_Tells}
 use denote.Struct.Tuple.{Tuple}
 use denote.Triple.Walked.{Stays, stay_dropped, walk_of, Goes-dropped}
-use Rattle.atomic_table.proofs.Walks.{proved, leaves}
+use Rattle.std.proofs.raw_atomic.Walks.{proved, leaves}
 use Rattle.logbook.specs.contracts.tokens.Gained as Gained
 use Rattle.logbook.proofs.Fields.{token, token_told}
 use Rattle.core.proofs.cell.Inside.{Good}

@@ -21,7 +21,7 @@ use denote.Ref.{shr_vals, shr_Tells}
 use denote.Plain.{uint_vals, uint_Tells}
 use denote.Struct.Tuple.{Tuple}
 use denote.Triple.Walked.{Stays, stay_dropped, walk_of, Goes-dropped}
-use Rattle.atomic_table.proofs.Walks.{proved, leaves}
+use Rattle.std.proofs.raw_atomic.Walks.{proved, leaves}
 use Rattle.logbook.specs.contracts.tokens.Start as Start
 use Rattle.logbook.proofs.Fields.{token, Token, token_made}
 use Rattle.table_chain.specs.declared.event.Event.{Event}
