@@ -1,13 +1,14 @@
 -- A chain that has ended, slot by slot.
-use Rattle.std.proofs.Common.{◌≡◌, ◌≢◌, ℕ, ◌+◌, ◌-◌, ◌<◌, ◌≤◌, List, length, ap, subst, ◌∙◌, arith}
+use Rattle.std.proofs.Common.{◌≡◌, ◌≢◌, ℕ, ◌+◌, ◌-◌, ◌<◌, ◌≤◌, List, length, ap, sym, subst, ◌∙◌, arith}
 use Rattle.std.specs.Prelude.{slice_index_or}
 use mathlib.Core.List.{IsPrefix}
 use Rattle.logbook.specs.Pages.{Book, Named}
 use Rattle.table_slab.specs.Endings.{EndView, IsLeft}
 use Rattle.table_slab.specs.Shelved.{slab_of}
 use Rattle.table_chain.specs.declared.event.Stored.TheVariants.{Shown}
-use Rattle.table_chain.specs.History.{History, Has, Told, IsReached}
-use Rattle.table_chain.specs.Chains.{IsLaid, IsWhole, IsEnding}
+use Rattle.table_chain.specs.History.{History, Has, HasSize, Told, IsReached}
+use Rattle.table_chain.specs.Chains.{ChainView, chain_view, AreWords, IsOf, IsLaid, IsWhole, IsEnding}
+use Rattle.table_chain.proofs.Steps.{size_on}
 use Rattle.table_chain.proofs.Chained.{known_shown, rise}
 
 module _ {G : Type 0} (Begins : G → Type 0) (Follows : G → G → Type 0) where
@@ -49,7 +50,7 @@ module _ {G : Type 0} (Begins : G → Type 0) (Follows : G → G → Type 0) whe
   }
 
   -- before any value is taken out
-  pub ending_first : (b : Book) (names : List ℕ) (left : EndView) (log : History G) (ws : List Named) (count : ℕ) → IsLaid Begins Follows b names log ws → IsWhole (length ws) count log
+  pub ending_first : (b : Book) (names : List ℕ) (left : EndView) (log : History G) (ws : List Named) (count : ℕ) → IsLaid Begins Follows b log ws → IsWhole (length ws) count log
       → left.slab ≡ slab_of names → ((k : ℕ) → IsLeft left k) → IsEnding Begins Follows b names log ws left count 0
   ending_first b names left log ws count laid whole slab all = record {
     laid = laid;
@@ -57,4 +58,20 @@ module _ {G : Type 0} (Begins : G → Type 0) (Follows : G → G → Type 0) whe
     slab = slab;
     left_in = λ p k g le there. all k;
     some = omega arith;
+  }
+
+  -- how the parts of a chain lie, as a history of the chain says it
+  pub laid_so : (c : ChainView G) (b bk : Book) (ws : List Named) (names ns : List ℕ) (start log : History G) → c ≡ chain_view b ws names start → IsLaid Begins Follows b start ws → IsOf Begins Follows c bk ns log → IsLaid Begins Follows bk log ws
+  laid_so c b bk ws names ns start log view laid of = record {
+    words = subst (λ (x : Book). AreWords x ws) (sym (of.0 ∙ ap (λ (v : ChainView G). v.book) view)) laid.words;
+    size = subst (λ (n : ℕ). HasSize n log) (ap (λ (v : ChainView G). v.slots) view) of.2;
+    reached = of.3;
+  }
+
+  -- and as a later history says it
+  pub laid_on : (b bk : Book) (log after : History G) (ws : List Named) → bk ≡ b → IsPrefix log after → IsReached Begins Follows after → IsLaid Begins Follows b log ws → IsLaid Begins Follows bk after ws
+  laid_on b bk log after ws is on r laid = record {
+    words = subst (λ (x : Book). AreWords x ws) (sym is) laid.words;
+    size = size_on (length ws) log after laid.size on;
+    reached = r;
   }

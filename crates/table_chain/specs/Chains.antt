@@ -1,4 +1,4 @@
--- The words and the numbers of a chain.
+-- The words and the values of a chain.
 use Rattle.std.specs.Prelude.{◌≡◌, ℕ, suc, ◌<◌, ◌≤◌, ◌⊎◌, true, List, length, slice_index_or, Some}
 use mathlib.Core.List.{IsPrefix}
 use Rattle.logbook.specs.Pages.{Book, Named}
@@ -28,7 +28,7 @@ abbrev pub AreWords : Book → List Named → Type 0
 AreWords b ws = (k : ℕ) (d : Named) → k < length ws → IsWord b (slice_index_or ws k d) × ((slice_index_or ws k d).key ≡ k)
 
 module _ {G : Type 0} (Begins : G → Type 0) (Follows : G → G → Type 0) where
-  pub record IsLaid (b : Book) (names : List ℕ) (log : History G) (ws : List Named) : Type 0 where
+  pub record IsLaid (b : Book) (log : History G) (ws : List Named) : Type 0 where
     pub words : AreWords b ws
     pub size : HasSize (length ws) log
     pub reached : IsReached Begins Follows log
@@ -92,7 +92,7 @@ module _ {G : Type 0} (Begins : G → Type 0) (Follows : G → G → Type 0) whe
 
   -- the slots from `taken` on are as the history says, up to the last
   pub record IsEnding (b : Book) (names : List ℕ) (log : History G) (ws : List Named) (left : EndView) (count taken : ℕ) : Type 0 where
-    pub laid : IsLaid Begins Follows b names log ws
+    pub laid : IsLaid Begins Follows b log ws
     pub whole : IsWhole (length ws) count log
     pub slab : left.slab ≡ slab_of names
     pub left_in : AreLeft left taken log

@@ -35,7 +35,7 @@ impl<G: Drop, F: Follows<G>, A: Low + Copy> Model for Chain<G, F, A> {
 
     ghost view = { λ c. chain_view c.start.book c.words.items c.start.names c.start.log };
 
-    ghost invariant = { λ c. IsLaid F.begins F.follows c.start.book c.start.names c.start.log c.words.items
+    ghost invariant = { λ c. IsLaid F.begins F.follows c.start.book c.start.log c.words.items
         × (names_of c.slab ≡ c.start.names) };
 }
 
@@ -160,7 +160,7 @@ impl<G: Drop, F: Follows<G>, A: Low + Copy> Chain<G, F, A> {
     /// Takes the chain apart. Its values stay in the slab.
     pub(crate) fn into_parts(self) -> (Vec<SlotWord<G, F>, A>, Slab<G, A>, Token<G, F>)
         ensures view { self ≡ chain_view result.2.book result.0.items result.2.names result.2.log }
-        ensures laid { IsLaid F.begins F.follows result.2.book result.2.names result.2.log result.0.items }
+        ensures laid { IsLaid F.begins F.follows result.2.book result.2.log result.0.items }
         ensures slab { names_of result.1 ≡ result.2.names }
     {
         let Chain { words, slab, start } = self;

@@ -84,7 +84,7 @@ pub(crate) fn closing<G, F: Follows<G>>(_seen: &Token<G, F>, _slot: u64) -> Plai
     }
 }
 
-/// The right, where the slot was set before.
+/// Returns the two parts of the right, where the slot was set before.
 fn returned<G, A: Allocator>(
     gained: Gained<Event<G>, u64, Trade<G>>,
     _slot: u64,
@@ -107,7 +107,7 @@ fn returned<G, A: Allocator>(
     )
 }
 
-/// The right, where the slot was set before.
+/// Returns the right, where the slot was set before.
 pub(crate) fn right_back<G, A: Allocator>(
     gained: Gained<Event<G>, u64, Trade<G>>,
     slot: u64,
@@ -123,7 +123,7 @@ pub(crate) fn right_back<G, A: Allocator>(
     Right { site, room }
 }
 
-/// What everyone knows of the slot of the slab whose value stands in a slot of the chain.
+/// Returns the two parts of what everyone knows of the value that stands in a slot.
 fn recalled<G, F: Follows<G>, A: Allocator>(
     _seen: &Token<G, F>,
     _slot: u64,
@@ -143,7 +143,7 @@ fn recalled<G, F: Follows<G>, A: Allocator>(
     )
 }
 
-/// What everyone knows of the value that stands in a slot.
+/// Returns what everyone knows of the value that stands in a slot.
 pub(crate) fn known<G, F: Follows<G>, A: Allocator>(
     seen: &Token<G, F>,
     slot: u64,
