@@ -135,13 +135,13 @@ module _ {M : Type 1} {𝓤 : Ura M} (𝓛 : Logic 𝓤) (R : RattleType) (L : L
     told None j x = fsep (learnt R i (Some x)) (is_so (Agrees j x))
     told (Some y) j x = ftrue
 
-    nothing_known : (j : Option R.Denot) → ⟦ free R i ⟧ ∗ ⟦ learnt R i j ⟧ ⊢ guard 𝓤 (j ≡ None) ⟦ free R i ⟧
+    pub nothing_known : (j : Option R.Denot) → ⟦ free R i ⟧ ∗ ⟦ learnt R i j ⟧ ⊢ guard 𝓤 (j ≡ None) ⟦ free R i ⟧
     nothing_known None = qed 𝓛 (‵ (free R i) ∷ ‵ ftrue ∷ []) ∵ check ! refl $ keep ! (0 ∷ []) $ done !
     nothing_known (Some x) = qed 𝓛 (‵ (free R i) ∷ ‵ (learnt R i (Some x)) ∷ []) ∵ fsplit ! $ move ! (2 ∷ 1 ∷ []) $
         use2 𝓛 (given (code R (Some x) ≡ code R None) (‵ (fres i (code R (Some x))) ⊛ ‵ (fauth i (code R None)))) (𝓛.names.res_agree i (code R (Some x)) (code R None)) $
         learn ! (λ e. absurd (not_none {v = Some x} refl ((coded_option R.coded).inj (Some x) None e)))
 
-    learns : (v j : Option R.Denot) (x : R.Denot) → ⟦ fixes R i v x ⟧ ∗ ⟦ learnt R i j ⟧ ⊢ ⟦ fixes R i v x ⟧ ∗ ⟦ told v j x ⟧
+    pub learns : (v j : Option R.Denot) (x : R.Denot) → ⟦ fixes R i v x ⟧ ∗ ⟦ learnt R i j ⟧ ⊢ ⟦ fixes R i v x ⟧ ∗ ⟦ told v j x ⟧
     learns (Some y) j x = qed 𝓛 (‵ ftrue ∷ ‵ (learnt R i j) ∷ []) ∵ keep ! (0 ∷ []) $ nothing ! $ done !
     learns None None x = qed 𝓛 (‵ (fixed R i x) ∷ ‵ ftrue ∷ []) ∵ fsplit ! $ res_dup ! $ move ! (0 ∷ 2 ∷ []) $ fjoin ! $ frame ! $
         keep ! (0 ∷ []) $ nothing ! $ fpack ! (Agrees None x) (λ _. ftrue) tt $ move ! (1 ∷ 0 ∷ []) $ fjoin ! $ done !

@@ -39,6 +39,6 @@ module _ (R : RattleType) (s : IsSend R) (y : IsSync R) (k : Ty → Ptr → Fml)
   kept_keyless i w v Q null_ptr = λ _. blank_keyless R i v
   kept_keyless i w v Q (block_ptr b o) = (tested_keyless v (block_ptr b o), λ t. ((tt, (tt, y.shared t.0 b o (t.1 ∷ h ∷ []))), (right_keyless w b o t.0 t.1, λ _. fixes_keyless R i v t.0)))
 
-pub last_keyless : (R : RattleType) → IsSync R → (h : ℕ) (Q : R.Denot → Type 0) (p : Ptr) → Keyless (last R h Q p)
-last_keyless R y h Q null_ptr = tt
-last_keyless R y h Q (block_ptr b o) = (λ _. tt, λ x. ((tt, y.shared x b o (h ∷ [])), λ _. tt))
+pub last_keyless : (R : RattleType) → IsSync R → (h i : ℕ) (Q : R.Denot → Type 0) (p : Ptr) → Keyless (last R h i Q p)
+last_keyless R y h i Q null_ptr = (tt, tt)
+last_keyless R y h i Q (block_ptr b o) = ((tt, tt), (λ _. tt, λ x. ((tt, y.shared x b o (h ∷ [])), λ _. tt)))

@@ -167,7 +167,7 @@ module _ (R Y : RattleType) (f : HomedGhosts R.Denot) (g : Ghosts Y.Denot) where
 
   pub latest_made : {M : Type 1} {𝓤 : Ura M} {𝓛 : Logic 𝓤} {K : Type 0} {Γ : List (Item 𝓤)} {G : Goal 𝓤 𝓛.H} → K → (l : LatestView) (p : Ptr) (v : Val) → Good (layout Cell) v
       → Step K 𝓛 (‵ (Latest.own_val l (marked v ∷ [])) ∷ Γ) G
-      (‵ ((WithMark Cell Y).own_val (atomic_ptr_holding p, (record {}, tt)) (marked v ∷ [])) ∷ ‵ (last R l.home (λ x. f.fits x l.home) p) ∷ Γ) G
+      (‵ ((WithMark Cell Y).own_val (atomic_ptr_holding p, (record {}, tt)) (marked v ∷ [])) ∷ ‵ (last R l.home l.id (λ x. f.fits x l.home) p) ∷ Γ) G
   latest_made t l p v good = step (λ rest. let Fields : Ptr → Fml = λ s. (inside_latest.the_row R Y f g).own_val (record { inner = atomic_ptr_holding s; marker = record {} }) (marked v ∷ []) in
-      fjoin t $ fpack t Ptr (λ s. fsep (Fields s) (last R l.home (λ x. f.fits x l.home) s)) p $
+      fjoin t $ fpack t Ptr (λ s. fsep (Fields s) (last R l.home l.id (λ x. f.fits x l.home) s)) p $
       nothing t $ fpack t (Typed Latest.mir (marked v ∷ [])) (λ _. ftrue) (latest_good v good, tt) $ fjoin t $ rest)

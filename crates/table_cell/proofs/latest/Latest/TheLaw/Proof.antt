@@ -18,7 +18,7 @@ use Rattle.table_cell.proofs.latest.Latest.TheLaw.Statement.{statement}
 
 module _ (R Y : RattleType) (f : HomedGhosts R.Denot) (g : Ghosts Y.Denot) (L : Laws R) (LY : Laws Y) (l : LatestView) (b o : ℕ) where
   abbrev Beside : Ptr → Fml
-  Beside = last R l.home (λ x. f.fits x l.home)
+  Beside = last R l.home l.id (λ x. f.fits x l.home)
 
   is_pair : part_at (C.the_written R Y f g) full_share l b o ≡ InMemory R Y L LY Beside b o
   unfolding part_of

@@ -18,7 +18,7 @@ send T Y f g s sy y frees = record {
     (λ _. tt),
     λ p. (
       (fields_send T Y f g).owned (record { inner = atomic_ptr_holding p; marker = record {} }) vs,
-      last_keyless T y w.home (λ x. f.fits x w.home) p,
+      last_keyless T y w.home w.id (λ x. f.fits x w.home) p,
     ),
   );
   leaving = λ k d w. tt;

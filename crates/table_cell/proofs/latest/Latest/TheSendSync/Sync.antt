@@ -13,7 +13,7 @@ use Rattle.table_cell.proofs.Sent.{last_keyless}
 pub sync : (T Y : RattleType) (f : HomedGhosts T.Denot) (g : Ghosts Y.Denot) → IsSend T → IsSend Y → IsSync T → IsSync Y → Frees g g.dealloc_token → IsSync (the_row T Y f g)
 sync T Y f g s sy y yy frees = record {
   shared = λ w b o κ. (
-    (λ α. ((λ νs. chain-Keyless νs κ α), λ p. (tt, last_keyless T y w.home (λ x. f.fits x w.home) p))),
+    (λ α. ((λ νs. chain-Keyless νs κ α), λ p. (tt, last_keyless T y w.home w.id (λ x. f.fits x w.home) p))),
     (atomic.the_sync T).shared (atomic_ptr_holding null_ptr) b (o + 0) κ,
   );
 }
