@@ -1,10 +1,23 @@
--- A note behind a `&mut`, which lies open while the word is read, and is shut again with what it knows then.
-use Rattle.std.proofs.Common.{Option, refl}
+-- What a note knows is had twice. A note behind a `&mut` lies open while the word is read, and is shut again with what it knows then.
+-- Assumes `Logic`.
+use Rattle.std.proofs.Common.{ℕ, Option, Some, None, [], ◌∷◌, refl}
+use seplogic.Ra.Ura.{Ura}
+use base.Fml.{ftrue, fres}
+use base.Logic.{ent, sep}
+use types.Logic.{Logic, sem}
+use types.Kit.{‵, ◌$◌, ◌∵◌, !, qed, done}
+use types.Tokens.{res_dup}
+use denote.Steps.{nothing}
 use denote.RattleType.{RattleType}
-use Rattle.table_cell.specs.Notes.{learnt}
+use Rattle.table_cell.specs.Notes.{code, learnt}
 use Rattle.table_cell.specs.contracts.note.Note as note
 use Rattle.table_cell.proofs.Ajar.{Marked}
 use Rattle.table_cell.proofs.Tokens.{InMemory}
+
+module _ (R : RattleType) (i : ℕ) {M : Type 1} {𝓤 : Ura M} (𝓛 : Logic 𝓤) where
+  pub learnt_twice : (k : Option R.Denot) → ent 𝓤 (sem 𝓛 (learnt R i k)) (sep 𝓤 (sem 𝓛 (learnt R i k)) (sem 𝓛 (learnt R i k)))
+  learnt_twice None = qed 𝓛 (‵ ftrue ∷ []) ∵ nothing ! $ done !
+  learnt_twice (Some x) = qed 𝓛 (‵ (fres i (code R (Some x))) ∷ []) ∵ res_dup ! $ done !
 
 module _ (R : RattleType) where
   abbrev pub Note : RattleType

@@ -54,15 +54,14 @@ impl<T: Homed, A: Allocator> Latest<T, A> {
 
     /// From now on it names what this word was set to through `&`, which the note of the word has seen. The note that it hands out
     /// knows that a block was shown. The store is one step; the word is loaded before it.
-    pub fn show(&self, word: &Word<T, A>, seen: Note<T>) -> Note<()>
+    pub fn show(&self, word: &Word<T, A>, _seen: &Note<T>) -> Note<()>
         requires unset { word.now.value ≡ None }
         requires home { word.now.home ≡ self.now.home }
-        requires of { seen.of ≡ word.now.id }
-        requires seen { IsSome seen.known }
+        requires of { _seen.now.of ≡ word.now.id }
+        requires seen { IsSome _seen.now.known }
         ensures of { result.of ≡ self.now.id }
         ensures shown { IsSome result.known }
     {
-        let Note { mark: _ } = seen;
         let at = unsafe { word.inner.load::<Brand>(SeqCst) };
         unsafe { self.inner.store::<Brand>(at, SeqCst) };
         Note { mark: PhantomData }
