@@ -1,8 +1,9 @@
 //! The next generation of a shared table while it is made.
-ghost use Rattle.std.specs.Prelude.{◌≡◌, IfOk, length};
+ghost use Rattle.std.specs.Prelude.{◌≡◌, IfOk, IsSome, MatchOption, length};
 ghost use Rattle.std.specs.Box.{box_allocator};
 ghost use Rattle.std.specs.Fn.{FnReturnsAt};
 ghost use Rattle.std.specs.Int.{IsPowerOfTwo};
+ghost use Rattle.std.specs.Option.{IsSomeAnd};
 ghost use Rattle.table_shared.specs.Lineages.{IsOpen};
 ghost use Rattle.table_shared.specs.Growths.{IsFresh, AreNamed, CopiesNext, PassedAll, growth_of};
 
@@ -14,7 +15,7 @@ use crate::locks::OwnedLock;
 use crate::shown::Shown;
 use std::alloc::{AllocError, Allocator};
 use std::marker::Model;
-use table_cell::{Bucket, Home, Low};
+use table_cell::{Bucket, Home, Low, Note};
 use table_generations::atomic_value::AtomicValue;
 use table_generations::fixed::Generation;
 
@@ -113,16 +114,36 @@ impl<'a, T: AtomicValue, A: Allocator + Copy> Growth<'a, T, A> {
     }
 }
 
+/// What a growth has shown.
+#[derive(Drop)]
+pub(crate) struct Grown<T: AtomicValue, A: Allocator + Copy> {
+    /// Knows that a generation was shown since the table was shared.
+    pub(crate) since: Note<()>,
+    /// Knows the generation that the growth's word shows.
+    pub(crate) generation: Note<Generation<T, A>>,
+    /// The block that was given back, where the word was set before.
+    pub(crate) back: Option<Box<Generation<T, A>, A>>,
+}
+
 impl<'a, T: AtomicValue, A: Low + Copy> Growth<'a, T, A> {
     /// Shows the generation that was made, under all locks of its table.
-    pub(crate) fn show(self, _held: &OwnedLock<'_>, shown: &Shown<T, A>)
+    pub(crate) fn show(self, _held: &OwnedLock<'_>, shown: &Shown<T, A>) -> Grown<T, A>
         requires lock { _held.now.home ≡ self.home }
         requires whole { PassedAll self }
         requires home { shown.now.home ≡ self.home }
+        ensures since { (result.since.of ≡ shown.now.id) × IsSome result.since.known }
+        ensures shows { MatchOption result.back
+            (IsSomeAnd result.generation.known (λ g. g.contents ≡ self.entry.built))
+            (λ b. b.value.contents ≡ self.entry.built) }
     {
         let home = self.home;
         let (slot, block) = self.into_block();
-        let seen = show_block(slot.word, home, slot.alloc, block);
-        shown.show(slot.word, &seen);
+        let (generation, back) = show_block(slot.word, home, slot.alloc, block);
+        let since = shown.show(slot.word, &generation);
+        Grown {
+            since,
+            generation,
+            back,
+        }
     }
 }

@@ -1,5 +1,5 @@
 //! Which of the generations of a table is shown.
-ghost use Rattle.std.specs.Prelude.{◌≡◌, IfSome, IsSome, None, length};
+ghost use Rattle.std.specs.Prelude.{◌≡◌, IfSome, IfNone, IsSome, None, length};
 ghost use Rattle.std.specs.Int.{IsPowerOfTwo};
 
 use std::alloc::Allocator;
@@ -32,26 +32,50 @@ impl<T: AtomicValue, A: Allocator + Copy> Shown<T, A> {
         }
     }
 
-    /// The generation that was shown last, if one was since the table was shared.
+    /// A note of what is shown, which knows of nothing yet.
     #[inline(always)]
-    pub(crate) fn latest<'a>(&'a self, home: &'a Home) -> Option<&'a Generation<T, A>>
-        requires { self.now.home ≡ home.now.id }
+    pub(crate) fn note(&self) -> Note<()>
+        ensures { (result.of ≡ self.now.id) × (result.known ≡ None) }
+    {
+        self.latest.note()
+    }
+
+    /// The generation that was shown last, if one was since the table was shared. The note then knows that one was, and with such
+    /// a note there is one.
+    #[inline(always)]
+    pub(crate) fn latest<'a>(
+        &'a self,
+        home: &'a Home,
+        note: &mut Note<()>,
+    ) -> Option<&'a Generation<T, A>>
+        requires home { self.now.home ≡ home.now.id }
+        requires of { note.old.of ≡ self.now.id }
+        ensures of { note.new.of ≡ note.old.of }
         ensures home { IfSome result (λ g. g.now.home ≡ home.now.id) }
         ensures power { IfSome result (λ g. IsPowerOfTwo (length g.now.contents)) }
+        ensures none { IfNone result (note.old.known ≡ None) }
+        ensures known { IfSome result (λ g. IsSome note.new.known) }
     {
-        match self.latest.name() {
+        match self.latest.name(note) {
             Some(name) => Some(name.get(home)),
             None => None,
         }
     }
 
-    /// From now on the generation of this word is the one that was shown last. The note has seen it in the word.
-    pub(crate) fn show(&self, word: &Word<Generation<T, A>, A>, _seen: &Note<Generation<T, A>>)
+    /// From now on the generation of this word is the one that was shown last. The note has seen it in the word; the one that is
+    /// handed out knows that a generation was shown.
+    pub(crate) fn show(
+        &self,
+        word: &Word<Generation<T, A>, A>,
+        seen: &Note<Generation<T, A>>,
+    ) -> Note<()>
         requires unset { word.now.value ≡ None }
         requires home { word.now.home ≡ self.now.home }
-        requires of { _seen.now.of ≡ word.now.id }
-        requires seen { IsSome _seen.now.known }
+        requires of { seen.now.of ≡ word.now.id }
+        requires seen { IsSome seen.now.known }
+        ensures of { result.of ≡ self.now.id }
+        ensures shown { IsSome result.known }
     {
-        self.latest.show(word);
+        self.latest.show(word, seen)
     }
 }

@@ -1,5 +1,5 @@
 //! The table that threads share.
-ghost use Rattle.std.specs.Prelude.{◌≡◌, ◌⊎◌, IfSome, IfNone, [], ◌∷◌, length};
+ghost use Rattle.std.specs.Prelude.{◌≡◌, ◌⊎◌, IfSome, IfNone, IsSome, None, [], ◌∷◌, length};
 ghost use Rattle.std.specs.Int.{IsPowerOfTwo};
 ghost use Rattle.std.specs.Option.{ForSome, IsSomeAnd};
 ghost use Rattle.table_terms.specs.Capacities.{IsFirstCapacity};
@@ -15,7 +15,7 @@ use crate::shown::Shown;
 use crate::size::Size;
 use std::alloc::{Allocator, Global};
 use std::marker::Model;
-use table_cell::Home;
+use table_cell::{Home, Note};
 use table_core::{Answer, CallState};
 use table_generations::atomic_value::AtomicValue;
 use table_generations::fixed::Generation;
@@ -52,7 +52,7 @@ impl<T: AtomicValue, A: Allocator + Copy> Model for LockFreeRawTable<T, A> {
 
     ghost Value = { SharedTable T };
 
-    ghost view = { λ t. table_of t.first_capacity t.lineage };
+    ghost view = { λ t. table_of t.first_capacity t.lineage t.shown.id };
 
     ghost invariant = { λ t. IsFirstCapacity t.first_capacity × (t.lineage.home ≡ t.home.id)
         × (t.shown.home ≡ t.home.id) };
@@ -149,7 +149,22 @@ impl<T: AtomicValue, A: Allocator + Copy> LockFreeRawTable<T, A> {
         ensures number { IfSome result (λ c. IsNumber self.now.first_capacity self.now.shared
             (length c.generation.now.contents) c.number) }
     {
-        if let Some(generation) = self.shown.latest(&self.home) {
+        self.current_noted(&mut self.shown.note())
+    }
+
+    /// The generation that is current now, for who may know that one was shown since the table was shared: then there is one. The
+    /// note knows of one afterwards where the call has met it.
+    #[inline(always)]
+    pub(crate) fn current_noted(&self, note: &mut Note<()>) -> Option<Current<'_, T, A>>
+        requires of { note.old.of ≡ self.now.latest }
+        ensures of { note.new.of ≡ note.old.of }
+        ensures none { IfNone result (LastIsBare self.now.shared × (note.old.known ≡ None)) }
+        ensures home { IfSome result (λ c. c.generation.now.home ≡ self.now.home) }
+        ensures power { IfSome result (λ c. IsPowerOfTwo (length c.generation.now.contents)) }
+        ensures number { IfSome result (λ c. IsNumber self.now.first_capacity self.now.shared
+            (length c.generation.now.contents) c.number) }
+    {
+        if let Some(generation) = self.shown.latest(&self.home, note) {
             return Some(self.numbered(generation));
         }
         Some(self.numbered(self.lineage.last_held()?))

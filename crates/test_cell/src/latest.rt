@@ -29,7 +29,26 @@ fn word_of(alloc: Global, home: &Home, number: u64) -> Word<Entry<u64>, Global>
 fn number_of(home: &Home, latest: &Latest<Entry<u64>, Global>) -> Option<u64>
     requires { latest.now.home ≡ home.now.id }
 {
-    Some(latest.name()?.get(home).value)
+    let mut note = latest.note();
+    Some(latest.name(&mut note)?.get(home).value)
+}
+
+/// Shows the word, if it is set, and what is shown then.
+fn shown_of(
+    home: &Home,
+    latest: &Latest<Entry<u64>, Global>,
+    word: &Word<Entry<u64>, Global>,
+) -> Option<u64>
+    requires home { (latest.now.home ≡ home.now.id) × (word.now.home ≡ home.now.id) }
+    requires unset { word.now.value ≡ None }
+{
+    let mut seen = word.note();
+    let _name = word.name_if_set(&mut seen)?;
+    let mut note = latest.show(word, &seen);
+    let Some(name) = latest.name(&mut note) else {
+        unreachable!()
+    };
+    Some(name.get(home).value)
 }
 
 /// Ends the word, and frees its block.
@@ -42,7 +61,7 @@ fn end(word: Word<Entry<u64>, Global>, closed: &Closed, alloc: Global)
     }
 }
 
-/// What is shown before the first word, then of 1, 2 and 1 again, and of a word that isn't set.
+/// What is shown before the first word, then of 1, 2 and 1 again, and after a word that isn't set.
 fn life(alloc: Global) -> [Option<u64>; 5] {
     let home = Home::new();
     let latest = Latest::new(&alloc, &home);
@@ -50,21 +69,21 @@ fn life(alloc: Global) -> [Option<u64>; 5] {
     let second = word_of(alloc, &home, 2);
     let unset = Word::new(&alloc, &home);
     let before = number_of(&home, &latest);
-    latest.show(&first);
-    let one = number_of(&home, &latest);
-    latest.show(&second);
-    let two = number_of(&home, &latest);
-    latest.show(&first);
-    let again = number_of(&home, &latest);
-    latest.show(&unset);
-    let none = number_of(&home, &latest);
+    let one = shown_of(&home, &latest, &first);
+    let two = shown_of(&home, &latest, &second);
+    let again = shown_of(&home, &latest, &first);
+    let none = shown_of(&home, &latest, &unset);
+    let after = none.or(number_of(&home, &latest));
     let closed = home.close();
     end(first, &closed, alloc);
     end(second, &closed, alloc);
-    [before, one, two, again, none]
+    [before, one, two, again, after]
 }
 
 #[test]
 fn a_latest_word_names_what_was_shown_last(rt: HostRuntime) {
-    assert_eq!(rt; life(rt.alloc()), [None, Some(1), Some(2), Some(1), None]);
+    assert_eq!(rt;
+        life(rt.alloc()),
+        [None, Some(1), Some(2), Some(1), Some(1)]
+    );
 }

@@ -1,10 +1,11 @@
 //! Growth of a shared table, step by step, under its lock held alone.
-ghost use Rattle.std.specs.Prelude.{◌≡◌, IfOk, length};
+ghost use Rattle.std.specs.Prelude.{◌≡◌, IfOk, IsSome, MatchOption, length};
 ghost use Rattle.std.specs.Int.{IsPowerOfTwo};
+ghost use Rattle.std.specs.Option.{IsSomeAnd};
 ghost use Rattle.table_shared.specs.Begun.{Begins};
 ghost use Rattle.table_shared.specs.Growths.{PassedAll};
 
-use crate::growth::Growth;
+use crate::growth::{Grown, Growth};
 use crate::locks::OwnedLock;
 use crate::table::{Current, LockFreeRawTable};
 use std::alloc::{AllocError, Allocator};
@@ -81,11 +82,15 @@ impl<T: AtomicValue, A: Low + Copy> LockFreeRawTable<T, A> {
     }
 
     /// Shows the generation that was made, under all locks of the table: from then on it is the current one.
-    pub(crate) fn show(&self, held: &OwnedLock<'_>, growth: Growth<'_, T, A>)
+    pub(crate) fn show(&self, held: &OwnedLock<'_>, growth: Growth<'_, T, A>) -> Grown<T, A>
         requires lock { held.now.home ≡ self.now.home }
         requires home { growth.home ≡ self.now.home }
         requires whole { PassedAll growth }
+        ensures since { (result.since.of ≡ self.now.latest) × IsSome result.since.known }
+        ensures shows { MatchOption result.back
+            (IsSomeAnd result.generation.known (λ g. g.contents ≡ growth.entry.built))
+            (λ b. b.value.contents ≡ growth.entry.built) }
     {
-        growth.show(held, &self.shown);
+        growth.show(held, &self.shown)
     }
 }

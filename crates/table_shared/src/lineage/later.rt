@@ -1,5 +1,5 @@
 //! Words for the generations that are made after a table was shared.
-ghost use Rattle.std.specs.Prelude.{◌≡◌, ◌≤◌, ◌<◌, IfOk, IfSome, IsSome, length, vec_capacity, []};
+ghost use Rattle.std.specs.Prelude.{◌≡◌, ◌≤◌, ◌<◌, IfOk, IfSome, IsSome, Some, MatchOption, length, vec_capacity, []};
 ghost use Rattle.std.specs.Box.{box_allocator};
 ghost use Rattle.table_shared.specs.Lineages.{IsOpen, AreRoomy};
 
@@ -31,24 +31,25 @@ pub(crate) struct Slot<'a, T: AtomicValue, A: Allocator + Copy> {
     pub(crate) word: &'a Word<Generation<T, A>, A>,
 }
 
-/// Shows a block by a word. If the word was set before, the block is given back. The note has seen what the word shows.
+/// Shows a block by a word, with a note that has seen what the word shows: this block. If the word was set before, it is given back.
 pub(crate) fn show_block<X: Homed + Drop, A: Low + Copy>(
     word: &Word<X, A>,
     home: &Home,
     alloc: A,
     block: Box<X, A>,
-) -> Note<X>
+) -> (Note<X>, Option<Box<X, A>>)
     requires open { IsOpen home.now.id alloc word.now }
     requires from { box_allocator block ≡ alloc }
     requires fits { X.fits block.value home.now.id }
-    ensures of { result.of ≡ word.now.id }
-    ensures seen { IsSome result.known }
+    ensures of { result.0.of ≡ word.now.id }
+    ensures seen { IsSome result.0.known }
+    ensures shows { MatchOption result.1 (result.0.known ≡ Some block.value) (λ b. b.value ≡ block.value) }
 {
     let mut note = word.note();
-    if let (_, Some(back)) = word.offer(home, LooseBlock::of(block), &mut note) {
-        drop(back.into_box(alloc));
+    match word.offer(home, LooseBlock::of(block), &mut note) {
+        (_, None) => (note, None),
+        (_, Some(back)) => (note, Some(back.into_box(alloc))),
     }
-    note
 }
 
 impl<T: AtomicValue, A: Allocator + Copy> Later<T, A> {
