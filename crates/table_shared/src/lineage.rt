@@ -161,7 +161,10 @@ impl<T: AtomicValue, A: Low + Copy> Lineage<T, A> {
             return Err(AllocError);
         };
         let _seen = show_block(&self.later, home, self.alloc, block);
-        self.later(home).ok_or(AllocError)
+        match self.later(home) {
+            Some(later) => Ok(later),
+            None => Err(AllocError),
+        }
     }
 
     /// The word of the generation of this number, which isn't shown yet. Refused where memory is, or where there are
