@@ -116,12 +116,11 @@ impl<'a, T: AtomicValue, A: Allocator + Copy> Growth<'a, T, A> {
 
 /// The result of publishing a generation.
 #[derive(Drop)]
-/// Proof for contracts that a generation was published since the table was shared.
 pub(crate) struct Grown<T: AtomicValue, A: Allocator + Copy> {
-    /// Knows that a generation was shown since the table was shared.
+    /// A note that a generation was published since the table was shared, for contracts only.
     /// Proof for contracts of which generation the growth's word holds.
     pub(crate) since: Note<()>,
-    /// Knows the generation that the growth's word shows.
+    /// A note of which generation the growth's word holds, for contracts only.
     pub(crate) generation: Note<Generation<T, A>>,
     /// The block of the growth, returned if the word was set before.
     pub(crate) back: Option<Box<Generation<T, A>, A>>,

@@ -21,7 +21,6 @@ pub enum Wanted<'a, T: AtomicValue, A: Allocator + Copy> {
     /// Memory was refused, or the capacity can't double. The current generation stays; words that were made for later generations
     /// are kept.
     Failed,
-    /// The next generation, to be copied into and shown.
     /// The next generation, to be filled and published.
     Begun(Growth<'a, T, A>),
 }
