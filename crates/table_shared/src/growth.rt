@@ -118,7 +118,6 @@ impl<'a, T: AtomicValue, A: Allocator + Copy> Growth<'a, T, A> {
 #[derive(Drop)]
 pub(crate) struct Grown<T: AtomicValue, A: Allocator + Copy> {
     /// A note that a generation was published since the table was shared, for contracts only.
-    /// Proof for contracts of which generation the growth's word holds.
     pub(crate) since: Note<()>,
     /// A note of which generation the growth's word holds, for contracts only.
     pub(crate) generation: Note<Generation<T, A>>,

@@ -29,7 +29,7 @@ impl<T: AtomicValue, A: Allocator + Copy> LockFreeRawTable<T, A> {
     /// Returns the target of an entry that the test accepts, or `None`. Any thread may call it at any time. It takes no lock,
     /// does not allocate, and always returns.
     ///
-    /// `hash` is the hash of the targets that the test accepts. `None` is no proof that no entry is accepted.
+    /// `hash` is the hash of the targets that the test accepts. No clause says what `None` means.
     pub fn lookup<F: Fn(&T::Target) -> bool>(&self, hash: u64, test: F) -> Option<&T::Target>
         requires callable { F.IsAlwaysCallable test }
         ensures accepted { IfSome result (λ found. FnReturnsAt F.Fn test found.now true) }
