@@ -1,4 +1,4 @@
-//! Tables over several shards that threads share, and how a table held alone becomes a shared one. Users name it by
+//! Tables over several shards that threads share, and the step from a single-owner table to a shared one. Users name them through
 //! `lock_free_hashtable`.
 #![tactic(auto)]
 
