@@ -53,7 +53,7 @@ pub trait AloneTable<T: AtomicValue, L: Law<T::Target>> {
         ensures later { IsLater shows self.old self.new }
         ensures counted { shows.counted self.new }
 
-        // with lawful ones
+        // with lawful closures
         ensures lawful { InsertAnswers T.target L.same L.hash_of (FnReturnsAtPair E.Fn eq.now)
             (FnReturnsAt H.Fn hash_fn.now) (shows.lawful T.Target T.target L.same L.hash_of
             self.old) (entries_of shows self.old) hash value result

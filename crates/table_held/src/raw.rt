@@ -299,7 +299,7 @@ impl<T: AtomicValue, A: Allocator + Copy> HeldRawTable<T, A> {
         ensures first { self.new.first_capacity ≡ self.old.first_capacity }
         ensures counted { IsCounted self.new }
 
-        // with lawful ones
+        // with lawful closures
         ensures lawful { InsertAnswers T.target L.same L.hash_of (FnReturnsAtPair E.Fn eq.now)
             (FnReturnsAt H.Fn hash_fn.now) (IsLawful T.target L.same L.hash_of self.old)
             (entries self.old) hash value result (IsLawful T.target L.same L.hash_of self.new) }
