@@ -178,7 +178,7 @@ impl<S: AsStr + Drop, H: TextHash, A: Allocator + Copy, B: Allocator + Copy> Int
     }
 }
 
-/// Tells whether the text of the number is this one. Returns false if no text has the number.
+/// Returns whether the text of the number is this one. Returns false if no text has the number.
 fn is_text_of<S: AsStr>(texts: &[S], number: NonZeroU32, text: &str) -> bool
     ensures { TellsText (map S.text texts.now) (non_zero_u32_get number) text.now result }
 {

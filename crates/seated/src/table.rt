@@ -108,11 +108,11 @@ impl<A: Allocator + Copy> NumberTable<A> {
         NumberAnswer::Full
     }
 
-    /// Tells whether `v` is in the table. After the call the seat knows `v` exactly if the result is true; if it knew `v` before,
-    /// the result is true.
+    /// Returns whether `v` is in the table. The result is true if and only if the seat knows `v` after the call. A seat that knew
+    /// `v` before gets true.
     ///
     /// False promises nothing about numbers that other seats placed: no clause says when a seat finds them. Tested, not proved: a
-    /// seat that was told nothing finds what other seats placed before. The code reads each bucket at most once. Takes no lock
+    /// seat that has learned nothing finds what other seats placed before. The code reads each bucket at most once. Takes no lock
     /// and does not allocate.
     pub fn contains(&self, seat: &mut Seat, v: NonZeroU64) -> bool
         requires { IsSeatOf self.now seat.old }

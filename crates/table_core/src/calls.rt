@@ -53,7 +53,7 @@ impl<A: Allocator + Copy> Model for Calls<A> {
     ghost invariant = { λ c. IsIndexed c.all.items c.positions c.values c.sharing c.owning };
 }
 
-/// Tells whether a call in this phase holds the lock shared.
+/// Returns whether a call in this phase holds the lock shared.
 fn shares(phase: Phase) -> bool
     ensures { result ≡ holds_shared phase }
 {
@@ -69,7 +69,7 @@ fn shares(phase: Phase) -> bool
     )
 }
 
-/// Tells whether a call in this phase holds the lock exclusively.
+/// Returns whether a call in this phase holds the lock exclusively.
 fn owns(phase: Phase) -> bool
     ensures { result ≡ holds_owned phase }
 {
@@ -218,28 +218,28 @@ impl<A: Allocator + Copy> Calls<A> {
         }
     }
 
-    /// Tells whether a call has this number.
+    /// Returns whether a call has this number.
     pub fn is_used(&self, number: u64) -> bool
         ensures { result ≡ is_used number self.now }
     {
         self.positions.contains_key(&number)
     }
 
-    /// Tells whether an insert has this value.
+    /// Returns whether an insert has this value.
     pub fn is_used_value(&self, value: u64) -> bool
         ensures { result ≡ is_used_value value self.now }
     {
         self.values.contains(&value)
     }
 
-    /// Tells whether a call holds the lock exclusively.
+    /// Returns whether a call holds the lock exclusively.
     pub fn is_owned(&self) -> bool
         ensures { result ≡ is_owned self.now }
     {
         self.owning > 0
     }
 
-    /// Tells whether a call holds the lock.
+    /// Returns whether a call holds the lock.
     pub fn is_locked(&self) -> bool
         ensures { result ≡ is_locked self.now }
     {

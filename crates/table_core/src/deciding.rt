@@ -67,7 +67,7 @@ fn in_phase(state: CallState, phase: Phase) -> CallState
     CallState { phase, ..state }
 }
 
-/// Tells whether a probe stands at a bucket of its generation.
+/// Returns whether a probe stands at a bucket of its generation.
 #[inline(always)]
 fn stands(state: CallState) -> bool
     ensures { result ≡ stands_at_bucket state }

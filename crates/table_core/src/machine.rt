@@ -81,7 +81,7 @@ fn exchange(bucket: Option<Entry>, hash: u64, accepted: bool) -> Answer
     }
 }
 
-/// Takes the lock, unless it is held.
+/// Returns `Taken`, or `None` if the lock is held.
 fn take_unless(held: bool) -> Option<Answer>
     ensures { result ≡ takes_unless held }
 {
@@ -506,7 +506,7 @@ impl<A: Allocator + Copy> Machine<A> {
             .begin(self.alloc, number, opening.value, opening.state)
     }
 
-    /// Tells whether a call of this number, with this value, can't begin, since one of them was used.
+    /// Returns whether a call of this number, with this value, can't begin, since one of them was used.
     fn may_not_begin(&self, number: u64, value: Option<u64>) -> bool
         ensures { result ≡ may_not_begin number value self.now.calls }
     {

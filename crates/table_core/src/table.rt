@@ -205,7 +205,7 @@ impl<A: Allocator + Copy> Table<A> {
         }
     }
 
-    /// Tells whether a generation is the current one; for `None`, whether there is still no generation.
+    /// Returns whether a generation is the current one; for `None`, whether there is still no generation.
     pub fn is_current(&self, walked: Option<u64>) -> bool
         ensures { result ≡ is_current self.now.gens walked }
     {

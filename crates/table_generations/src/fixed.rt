@@ -138,7 +138,7 @@ impl<T: AtomicValue, A: Allocator + Copy> Generation<T, A> {
         self.size
     }
 
-    /// Tells whether at least half of the buckets were set through `&mut`.
+    /// Returns whether at least half of the buckets were set through `&mut`.
     pub fn wants_growth(&self) -> bool
         ensures { IsTrue result ↔ (length self.now.contents ≤ 2 * self.now.size) }
     {

@@ -12,8 +12,8 @@ use table_generations::atomic_value::{AtomicValue, Law};
 /// and the value is returned.
 pub type Told<P, T> = Result<(P, Option<T>), T>;
 
-/// A table with one owner, under the equality and hash of `L`. A contract sees the table by what it shows: its entries, the entry
-/// at each place, whether it is counted and whether it is lawful.
+/// A table with one owner, under the equality and hash of `L`. A contract sees the table by its entries, the entry at each place,
+/// whether its number of entries is right (`counted`), and whether it is lawful, as [`HeldRawTable`](crate::HeldRawTable) says.
 ///
 /// An implementor also promises, by `no_entries_is_lawful`, that a table without entries is lawful.
 pub trait AloneTable<T: AtomicValue, L: Law<T::Target>> {

@@ -27,7 +27,7 @@ use table_terms::capacity;
 pub use table_terms::capacity::FIRST_CAPACITY;
 pub use table_values::IntoIter;
 
-/// Tells whether the first generation of a table may have `first` buckets: `first` is a power of two from 16 to 2^30.
+/// Returns whether the first generation of a table may have `first` buckets: `first` is a power of two from 16 to 2^30.
 pub fn is_first_capacity(first: usize) -> bool
     ensures { IsTrue result ↔ IsFirstCapacity first }
 {
@@ -37,9 +37,10 @@ pub fn is_first_capacity(first: usize) -> bool
 /// An insertion-only hash table with one owner. It takes no lock, does no atomic read-modify-write, and never waits. Values are
 /// compared, hashed and shown by their targets.
 ///
-/// Each call takes a hash and closures from its caller. If these are lawful, the table answers as a growing list without equal
-/// entries. Lawful means: `eq` is one equivalence, the hash agrees with it, and a test accepts only targets of the hash given.
-/// With any other closures the answers may be wrong, but no value is lost or stored twice.
+/// Each call takes a hash and closures from its caller. A call is lawful if `eq` is one equivalence, the hash agrees with it and
+/// is that of the value, and a test accepts only targets of the hash given. A new table is lawful, and lawful calls keep it so:
+/// no two of its entries are equal, and each is found by its hash. Then the table answers as a growing list without equal
+/// entries. With any other closures the answers may be wrong, but no value is lost or stored twice.
 ///
 /// A hash should vary in all 64 bits: a probe begins at the low bits, and bits 32 to 39 let it skip most calls of `eq`. For a
 /// number call `table_terms::law::hash_number`. A product with an odd number isn't enough, since multiples of 2^16 share its low
@@ -138,7 +139,7 @@ impl<T: AtomicValue, A: Allocator + Copy> HeldRawTable<T, A> {
         self.current.size()
     }
 
-    /// Tells whether the table has no entry.
+    /// Returns whether the table has no entry.
     pub fn is_empty_alone(&self) -> bool
         ensures { IsTrue result ↔ (length (entries self.now) ≡ 0) }
     {
@@ -270,7 +271,8 @@ impl<T: AtomicValue, A: Allocator + Copy> HeldRawTable<T, A> {
         }
     }
 
-    /// Inserts the value unless `eq` accepts an entry as equal, and returns the place of the entry, which `target_at` shows.
+    /// Inserts the value unless `eq` accepts an entry as equal, and returns the place of the entry. `target_at` returns the
+    /// target at a place.
     ///
     /// `hash` is the hash of the value's target. `eq` is called with the target of the value first and the target of an entry
     /// second. `hash_fn` returns the hash of an entry's target and is called during growth. The closures are borrowed, so that a

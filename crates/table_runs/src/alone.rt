@@ -132,8 +132,8 @@ where
 
 /// Runs the calls, one after the other, and returns their replies in order.
 ///
-/// Every insert uses `eq` and `hash_fn`. `test` is called with the key of a look-up and the target of an entry, and tells whether
-/// the entry matches the key. `L` names their equality and hash, for contracts only.
+/// Every insert uses `eq` and `hash_fn`. `test` is called with the key of a look-up and the target of an entry, and returns
+/// whether the entry matches the key. `L` names their equality and hash, for contracts only.
 ///
 /// The replies are stored in memory of `alloc`, which is reserved before the first call. `Err`: that memory was refused; the
 /// calls are returned, and the table is unchanged. An empty list of calls needs no memory and is never refused.

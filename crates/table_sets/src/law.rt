@@ -5,7 +5,7 @@ use table_held::Law;
 
 /// A law with code: an equality of targets and a hash that agrees with it. The code is proved to compute what [`Law`] names.
 pub trait SetLaw<V>: Law<V> {
-    /// Tells whether two targets are equal.
+    /// Returns whether two targets are equal.
     fn is_same(one: &V, other: &V) -> bool
         ensures { result ≡ Self.same one.now other.now };
 
@@ -22,7 +22,7 @@ pub trait KeyLaw<K, V>: SetLaw<V> {
 
     ghost key_hash: { K → ℕ };
 
-    /// Tells whether the target matches the key.
+    /// Returns whether the target matches the key.
     fn is_met(key: &K, target: &V) -> bool
         ensures { result ≡ meets key.now target.now };
 

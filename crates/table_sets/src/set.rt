@@ -106,7 +106,7 @@ impl<T: AtomicValue, L: SetLaw<T::Target>, A: Allocator + Copy> HeldSet<T, L, A>
         )
     }
 
-    /// Tells whether an entry is equal to this target. Does not allocate and does not change the set.
+    /// Returns whether an entry is equal to this target. Does not allocate and does not change the set.
     pub fn contains(&self, target: &T::Target) -> bool
         ensures { MatchBool result (OnePasses T.target (L.same target.now) self.now)
             (NonePasses T.target (L.same target.now) self.now) }
@@ -122,7 +122,7 @@ impl<T: AtomicValue, L: SetLaw<T::Target>, A: Allocator + Copy> HeldSet<T, L, A>
         self.lawful.table().len_alone()
     }
 
-    /// Tells whether the set has no entry.
+    /// Returns whether the set has no entry.
     pub fn is_empty(&self) -> bool
         ensures { IsTrue result ↔ (self.now ≡ []) }
     {

@@ -107,7 +107,7 @@ impl<T: AtomicValue, const SHARDS: usize, A: Allocator + Copy> HeldShardedTable<
         sum
     }
 
-    /// Tells whether the table has no entry.
+    /// Returns whether the table has no entry.
     pub fn is_empty_alone(&self) -> bool
         ensures { IsTrue result ↔ (length (entries self.now) ≡ 0) }
     {

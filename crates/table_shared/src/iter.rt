@@ -13,7 +13,7 @@ use table_generations::fixed::Generation;
 
 /// An iterator over the targets of a table's entries. It stays with the generation that was current when it was made, and reads
 /// each bucket when it comes to it. A contract sees the number of buckets that are left, and those of their entries that were set
-/// before the table was shared: each of these is returned, in order.
+/// through `&mut`, by the owner before the table was shared or by growth: each of these is returned, in order.
 #[derive(Drop)]
 pub struct Iter<'a, T: AtomicValue, A: Allocator + Copy = Global> {
     home: &'a Home,

@@ -31,7 +31,7 @@ pub(crate) trait Probing<X> {
 
     ghost says: { Self → X → Bool → Type 0 };
 
-    /// Tells whether the closure accepts the target.
+    /// Returns whether the closure accepts the target.
     fn accepts(&self, target: &X) -> bool
         requires { callable self.now }
         ensures { says self.now target.now result };

@@ -73,7 +73,7 @@ impl<T: AtomicValue, A: Allocator + Copy> LockFreeRawTable<T, A> {
         )
     }
 
-    /// Tells whether the generation of this number is still the current one; for `None`, whether there is still no generation.
+    /// Returns whether the generation of this number is still the current one; for `None`, whether there is still no generation.
     pub(crate) fn is_current(&self, walked: Option<u64>) -> bool {
         match (self.current(), walked) {
             (None, None) => true,

@@ -129,7 +129,7 @@ impl<T: AtomicValue, A: Allocator + Copy> LockFreeRawTable<T, A> {
         self.size.get()
     }
 
-    /// Tells whether no entry is counted so far. Takes no lock.
+    /// Returns whether no entry is counted so far. Takes no lock.
     pub fn is_empty(&self) -> bool {
         self.len() == 0
     }
@@ -209,7 +209,7 @@ impl<T: AtomicValue, A: Allocator + Copy> LockFreeRawTable<T, A> {
         }
     }
 
-    /// Tells whether the counted entries are at least half as many as the buckets of this generation.
+    /// Returns whether the counted entries are at least half as many as the buckets of this generation.
     pub(crate) fn wants_growth(&self, current: &Generation<T, A>) -> bool {
         current.capacity() / 2 <= self.size.get()
     }

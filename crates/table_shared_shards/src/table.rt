@@ -125,7 +125,7 @@ impl<T: AtomicValue, const SHARDS: usize, A: Allocator + Copy> ShardedLockFreeRa
         capped_total(shards.iter().map(|shard| shard.len()))
     }
 
-    /// Tells whether no entry is counted so far in any shard. Takes no lock.
+    /// Returns whether no entry is counted so far in any shard. Takes no lock.
     pub fn is_empty(&self) -> bool {
         self.len() == 0
     }

@@ -5,7 +5,7 @@ ghost use Rattle.table_terms.specs.Capacities.{IsFirstCapacity};
 /// The capacity of the first generation of a table made by `new`.
 pub const FIRST_CAPACITY: usize = 16;
 
-/// Tells whether the first generation of a table may have `first` buckets: `first` is a power of two from 16 to 2^30.
+/// Returns whether the first generation of a table may have `first` buckets: `first` is a power of two from 16 to 2^30.
 pub fn is_first_capacity(first: u64) -> bool
     ensures { IsTrue result ↔ IsFirstCapacity first }
 {

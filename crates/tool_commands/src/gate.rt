@@ -8,7 +8,7 @@ use tool_call_texts::faults::Fault;
 
 /// A gate that workers ask before each of their inserts. Workers and inserts are numbered from 0.
 pub trait Gate {
-    /// Tells whether the worker may make this insert. A worker asks once before each insert, and ends after a no.
+    /// Returns whether the worker may make this insert. A worker asks once before each insert, and ends after a no.
     fn may_pass(&self, worker: usize, call: usize) -> bool;
 
     /// Records that the worker has the result of this insert.
@@ -88,7 +88,7 @@ impl MeetingGate {
         }
     }
 
-    /// Waits for the flag, and tells whether it was set in time. Now and then it also looks whether the gate was given up.
+    /// Waits for the flag, and returns whether it was set in time. Now and then it also looks whether the gate was given up.
     fn sees(&self, flag: &AtomicBool) -> bool {
         for turn in 0..self.turns {
             if flag.load(Ordering::SeqCst) {
@@ -106,7 +106,7 @@ impl MeetingGate {
         false
     }
 
-    /// Tells whether one of the two workers may make this insert, by the progress of the other.
+    /// Returns whether one of the two workers may make this insert, by the progress of the other.
     fn may_go_on(&self, own: &Progress, other: &Progress, call: usize) -> bool
         ensures later { 1 < call → IsTrue result }
     {

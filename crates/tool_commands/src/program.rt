@@ -44,9 +44,9 @@ pub fn run_program<
     }
 }
 
-/// Runs the command that the arguments after the program's name name, and returns the exit status. Replies go to the output and
-/// the message of a fault to `messages`, each on a line of its own. A message that can't be written is dropped. If the arguments
-/// name no command, nothing is read and only the usage is written.
+/// Runs the command that is named by the arguments after the program's name, and returns the exit status. Replies go to the
+/// output and the message of a fault to `messages`, each on a line of its own. A message that can't be written is dropped. If the
+/// arguments name no command, nothing is read and only the usage is written.
 pub fn run_words<
     R: Threads + Wait + Sync,
     A: Low + Copy + Send + Sync,

@@ -60,7 +60,7 @@ pub trait PairStore<A: Allocator + Copy> {
         ensures { OnOk result (AppendsNumbers shows self.now numbers.old.items numbers.new.items) };
 }
 
-/// Tells whether the pairs are equal.
+/// Returns whether the pairs are equal.
 fn is_same(new: &(u64, u64), entry: &(u64, u64)) -> bool
     ensures { result ≡ same_pair new.now entry.now }
 {

@@ -18,7 +18,7 @@ pub trait ValueTable<A: Allocator + Copy> {
     fn insert_value<R: Wait>(&self, rt: &R, alloc: A, value: u32) -> Result<u32, AllocError>
         ensures { IfOk result (λ entry. entry ≡ value) };
 
-    /// Tells whether a look-up finds the value.
+    /// Returns whether a look-up finds the value.
     fn finds_value(&self, value: u32) -> bool;
 
     /// Returns the number of entries that an iterator shows.

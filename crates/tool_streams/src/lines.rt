@@ -34,8 +34,8 @@ impl<R: Read + Drop, A: Allocator + Copy> Lines<R, A> {
         }
     }
 
-    /// Reads the next line, which `line` then returns, and tells whether there was one. If no whole line is buffered, it flushes
-    /// the output first, since a read may wait. After the reader has reported its end it is not called again.
+    /// Reads the next line, which `line` then returns, and returns whether there was one. If no whole line is buffered, it
+    /// flushes the output first, since a read may wait. After the reader has reported its end it is not called again.
     pub fn read_line<W: Write>(&mut self, output: &mut W) -> Result<bool, StreamFault>
         ensures reads { IfOk result (λ found. ReadsLine (lines_left R.remaining self.old)
             (lines_left R.remaining self.new) self.new.line.items found) }

@@ -34,7 +34,7 @@ impl<W: Write> Output<W> {
         }
     }
 
-    /// Tells whether a write has failed because the reader of the output, such as the next program of a pipe, has closed it.
+    /// Returns whether a write has failed because the reader of the output, such as the next program of a pipe, has closed it.
     pub fn is_reader_gone(&self) -> bool
         ensures { result ≡ self.now.reader_gone }
     {

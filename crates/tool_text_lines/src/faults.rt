@@ -23,7 +23,7 @@ pub enum Fault {
 }
 
 impl Fault {
-    /// Tells whether the fault lies in the text that was read. Then its message names the text.
+    /// Returns whether the fault lies in the text that was read. Then its message names the text.
     pub fn is_of_text(self) -> bool
         ensures { result ≡ is_of_text self }
     {

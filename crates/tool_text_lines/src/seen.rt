@@ -42,7 +42,7 @@ impl<'a, A: Allocator + Copy> Seen<'a, A> {
         }
     }
 
-    /// Tells whether the line is in the set, and adds it. A known line needs no memory.
+    /// Returns whether the line was in the set, and adds it. A known line needs no memory.
     ///
     /// `Err`: the line is new, and memory was refused. The set holds the same lines as before.
     pub fn seen_before(&mut self, line: &[u8]) -> Result<bool, AllocError>
@@ -59,7 +59,7 @@ impl<'a, A: Allocator + Copy> Seen<'a, A> {
         Ok(false)
     }
 
-    /// Tells whether the line, whose hash is `hash`, is in the set.
+    /// Returns whether the line, whose hash is `hash`, is in the set.
     fn knows(&self, hash: u64, line: &[u8]) -> bool
         requires { hash ≡ mixed_hash line.now }
         ensures { (lines : List (List ℕ)) → HoldsLines (λ v. v.0) (λ line. line.now) self.now lines

@@ -45,7 +45,7 @@ pub fn parse_request<S: AsStr>(words: &[S]) -> Option<Request<'_, S>>
     Some(Request::Run { tool, names })
 }
 
-/// Tells whether the arguments are just `--help` or just `-h`.
+/// Returns whether the arguments are just `--help` or just `-h`.
 fn is_help<S: AsStr>(words: &[S]) -> bool
     ensures { IsTrue result ↔ IsHelp (map S.text words.now) }
 {

@@ -61,7 +61,7 @@ fn look_at_bucket<'a, T: AtomicValue, A: Allocator + Copy>(
 }
 
 impl<T: AtomicValue, A: Allocator + Copy> Generation<T, A> {
-    /// Tells whether the generation has a bucket. If it has, their number is a power of two.
+    /// Returns whether the generation has a bucket. If it has, their number is a power of two.
     pub fn has_buckets(&self) -> bool
         ensures some { IsTrue result ↔ (0 < length self.now.contents) }
         ensures power { IsTrue result → IsPowerOfTwo (length self.now.contents) }

@@ -78,7 +78,7 @@ pub(crate) fn read_window<T: AtomicValue, A: Allocator + Copy, H: Fn(&T::Target)
 }
 
 impl<'a, T: AtomicValue, A: Allocator + Copy> Growth<'a, T, A> {
-    /// Tells whether every bucket of the earlier generation was copied.
+    /// Returns whether every bucket of the earlier generation was copied.
     fn has_passed_all(&self) -> bool
         ensures { IsTrue result ↔ PassedAll self.now }
     {
