@@ -12,7 +12,7 @@ use table_shared as raw;
 use table_shared::LockFreeRawTable;
 
 /// An iterator over the targets of the entries of a table's shards, shard by shard. The iterator of a shard is made after that of
-/// the one before has ended. A contract sees the shards that are still ahead, and the iterator of the current shard.
+/// the one before has ended. A contract sees the shards that are still to come, and the iterator of the current one.
 #[derive(Drop)]
 pub struct Iter<'a, T: AtomicValue, const SHARDS: usize, A: Allocator + Copy = Global> {
     walk: raw::Iter<'a, T, A>,
