@@ -1,9 +1,9 @@
 //! A single-owner, insertion-only hash table.
 //!
-//! A [`HeldRawTable`] holds values and never two that the caller's closure accepts as equal. It compares and hashes the target of
-//! a value, which [`AtomicValue`] defines. Each call takes the hash of a target and closures that compare and hash; a [`Law`] is
-//! a type that names, for contracts only, the equality and the hash that the caller means. A [`Place`] is the address of a bucket
-//! that shows an entry; it stays valid when the table grows. This crate and those below it use no threads and no locks.
+//! A [`HeldRawTable`] is a set of values: of several equal ones it keeps the first. It compares and hashes the target of a value,
+//! which [`AtomicValue`] defines. Each call takes the hash of a target and closures that compare and hash; a [`Law`] is a type
+//! that names, for contracts only, the equality and the hash that the caller means. A [`Place`] is the address of a bucket that
+//! shows an entry; it stays valid when the table grows. This crate and those below it use no threads and no locks.
 #![tactic(auto)]
 
 pub mod alone;
