@@ -94,7 +94,7 @@ impl<T: AtomicValue, A: Allocator + Copy> LockFreeRawTable<T, A> {
         LockFreeRawTable::with_first_capacity(self.alloc, self.first_capacity)
     }
 
-    /// Makes a table of these generations. `base` is the last and becomes the current one. Does not allocate.
+    /// Makes a table of these generations. `base` is the last; if it has a bucket, it becomes the current one. Does not allocate.
     pub fn of_parts(
         first_capacity: usize,
         home: Home,
