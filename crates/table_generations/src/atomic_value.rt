@@ -6,8 +6,8 @@ use std::num::{NonZeroU32, NonZeroU64};
 use std::sync::Arc;
 pub use table_terms::law::Law;
 
-/// A value that a table can hold: an `InPlace`, `Box`, `Arc`, `NonZeroU64` or `NonZeroU32`, or of a type of the caller's. The
-/// table compares and hashes what the value leads to, its target.
+/// A value that a table can hold: an `InPlace`, `Box`, `Arc`, `NonZeroU64` or `NonZeroU32`, or a value of the caller's own type.
+/// The table compares and hashes what the value leads to, its target.
 ///
 /// An implementor promises that the target is a function of the value, `target`, and that `deref` returns it.
 pub trait AtomicValue: Drop {
