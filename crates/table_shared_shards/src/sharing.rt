@@ -1,4 +1,4 @@
-//! The step from a single-owner table to one that threads share.
+//! The conversion of a single-owner table into one that threads share.
 ghost use Rattle.std.specs.Prelude.{◌≡◌, ℕ, List, [], ◌∷◌};
 ghost use Rattle.table_shared_shards.specs.SharedTables.{IsCurrent};
 

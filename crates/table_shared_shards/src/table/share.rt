@@ -1,4 +1,4 @@
-//! The step from a single-owner table over shards to one that threads share.
+//! The conversion of a single-owner table over shards into one that threads share.
 ghost use Rattle.std.specs.Prelude.{◌≡◌, ◌<◌, length, map};
 ghost use Rattle.std.specs.Int.{IsPowerOfTwo};
 ghost use Rattle.table_shared_shards.specs.SharedShards.{SharesOne};
