@@ -32,7 +32,7 @@ impl TextHash for Times31 {
     }
 }
 
-/// A hash in which each bit depends on each byte, for texts from others.
+/// A hash in which each bit depends on each byte, for texts that others choose.
 #[derive(Clone, Copy)]
 pub struct Mixed;
 

@@ -11,8 +11,9 @@ use std::alloc::{Allocator, Global};
 use std::marker::Model;
 use std::num::NonZeroU32;
 
-/// Different texts, numbered from 1 on in the order of first appearance, with one owner. `H` hashes the texts: choose `Mixed` if
-/// others choose the texts. Each text has two heap blocks, one for its bytes and one for its number in the table.
+/// A single-owner interner that stores its texts. Different texts are numbered from 1 on, in the order of first appearance. `H`
+/// hashes the texts: choose `Mixed` if others choose the texts. Each text has two heap blocks, one for its bytes and one for its
+/// number in the table.
 ///
 /// A contract sees the list of the texts, each as its bytes.
 #[derive(Drop)]

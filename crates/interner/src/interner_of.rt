@@ -16,9 +16,9 @@ use std::num::NonZeroU32;
 use std::snapshot::Snapshot;
 use table_held::{HeldRawTable, InPlace};
 
-/// Different texts of type `S`, numbered from 1 on in the order of first appearance, with one owner. `H` hashes the texts: choose
-/// `Mixed` if others choose the texts. The texts lie in one vector, in memory of an `A`. The table has a heap block for each
-/// number, from a `B`.
+/// A single-owner interner of texts of type `S`, which the caller makes. Different texts are numbered from 1 on, in the order of
+/// first appearance. `H` hashes the texts: choose `Mixed` if others choose the texts. The texts lie in one vector, in memory of
+/// an `A`. The table has a heap block for each number, from a `B`.
 ///
 /// A contract sees the list of the texts, each as its bytes.
 #[derive(Drop)]
