@@ -1,4 +1,4 @@
-//! The same calls on a raw table and on four shards: both tell the same.
+//! The same calls on a raw table and on four shards: both return the same replies.
 ghost use Rattle.std.specs.Prelude.{◌≡◌, IfOk, [], length, map};
 ghost use Rattle.table_held.specs.Shown.{Stands};
 ghost use Rattle.table_held.specs.Table.{held};
@@ -12,21 +12,21 @@ use lock_free_hashtable::sharded::HeldShardedTable;
 use lock_free_hashtable::{HeldRawTable, InPlace};
 use std::alloc::{AllocError, Global};
 
-/// A word, which lies in its table.
+/// A word, which is stored in its table's block.
 pub type Word = InPlace<u64>;
 
-/// What is asked of a table of words.
+/// A request to a table of words.
 #[derive(Clone, Copy, Debug)]
 pub enum Ask {
     /// Insert the word.
     Insert(u64),
-    /// Look for the word.
+    /// Look up the word.
     Find(u64),
     /// Count the words.
     Count,
 }
 
-/// The call that asks this. A word is its own hash.
+/// Returns the call that makes this request. A word is its own hash.
 fn call_of(ask: Ask) -> Call<Word, u64>
     ensures { result ≡ asked_of_words ask }
 {
@@ -43,7 +43,7 @@ fn call_of(ask: Ask) -> Call<Word, u64>
     }
 }
 
-/// The calls that ask these, in order.
+/// Returns the calls that make these requests, in order.
 fn calls_of(alloc: Global, asks: &[Ask]) -> Result<Vec<Call<Word, u64>>, AllocError>
     ensures { IfOk result (λ calls. calls.items ≡ map asked_of_words asks.now) }
 {
@@ -54,17 +54,17 @@ fn calls_of(alloc: Global, asks: &[Ask]) -> Result<Vec<Call<Word, u64>>, AllocEr
     Ok(calls)
 }
 
-/// What two tables were told of the same calls, reply by reply.
+/// The replies of two tables to the same calls, in order.
 #[derive(Drop)]
 pub struct ToldTwice {
     pub one: Vec<Reply<Word>>,
     pub other: Vec<Reply<Word>>,
 }
 
-/// Asks the same of two tables without entries, of any kinds. Where neither was refused memory for an insert, both were told
-/// the same, reply by reply, and have the same entries.
+/// Makes the same requests to two tables without entries, of any kinds. If memory was refused to no insert, both return the same
+/// replies, in order, and have the same entries.
 ///
-/// An Err: memory was refused for the calls or for the replies.
+/// `Err`: memory was refused for the calls or for the replies.
 pub fn ask_two<B: AloneTable<Word, Words>, C: AloneTable<Word, Words>>(
     alloc: Global,
     one: &mut B,
@@ -79,7 +79,7 @@ pub fn ask_two<B: AloneTable<Word, Words>, C: AloneTable<Word, Words>>(
 {
     let same = |a: &u64, b: &u64| *a == *b;
     let hash = |a: &u64| *a;
-    // A law is a function that does nothing: to call it is to know what it says.
+    // The theorem is a function that does nothing. Calling it makes its clauses known.
     new_tables_agree::<Word, Words, u64, B, C, _, _, _>(&same, &hash, &same);
     let calls = calls_of(alloc, asks)?;
     let Ok(told) = run_calls::<_, Words, _, _, _, _, _, _>(alloc, one, calls, same, hash, same)
@@ -98,7 +98,7 @@ pub fn ask_two<B: AloneTable<Word, Words>, C: AloneTable<Word, Words>>(
     })
 }
 
-/// A raw table and four shards after the same calls, and what they were told.
+/// A raw table and four shards after the same calls, and their replies.
 #[derive(Drop)]
 pub struct Both {
     pub raw: HeldRawTable<Word>,
@@ -106,7 +106,7 @@ pub struct Both {
     pub told: ToldTwice,
 }
 
-/// Asks the same of a new raw table and of four new shards: see `ask_two`.
+/// Makes the same requests to a new raw table and to four new shards; see `ask_two`.
 pub fn ask_both(alloc: Global, asks: &[Ask]) -> Result<Both, AllocError>
     ensures raw { IfOk result (λ both. length both.told.one.items ≡ length asks.now) }
     ensures shards { IfOk result (λ both. length both.told.other.items ≡ length asks.now) }

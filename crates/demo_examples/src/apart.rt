@@ -1,4 +1,4 @@
-//! Words in any table held alone that keeps its entries apart: what was inserted is found.
+//! Words in any single-owner table that has no two equal entries: an inserted word is found.
 ghost use Rattle.std.specs.Prelude.{◌≡◌, IfOk, IfErr, Some};
 ghost use Rattle.std.specs.List.Sorted.{IsPermutation};
 ghost use Rattle.table_held.specs.Shown.{IsLater, ShowsAt, entries_of, value_of};
@@ -8,18 +8,18 @@ use crate::held::Words;
 use lock_free_hashtable::alone::laws::inserted_is_found_again;
 use lock_free_hashtable::alone::{AloneTable, KeepsApart};
 
-/// A word's place in a table, and what a look-up of the word shows.
+/// A word's place in a table, and the result of a look-up of the word.
 #[derive(Clone, Copy, Debug)]
 pub struct LookupAt<P> {
     pub place: P,
     pub shown: Option<u64>,
 }
 
-/// Inserts the word, unless an equal one is an entry, and looks it up: the look-up shows the very entry that the insert
-/// named, and it is equal to the word. The table is of any kind, a raw one or one over shards.
+/// Inserts the word unless an equal one is an entry, and looks it up. The look-up returns the very entry whose place the insert
+/// returned, and it is equal to the word. The table is of any kind, a raw one or one over shards.
 ///
-/// An Err hands the word back, and the entries are those before. The table holds words before and after, and each place keeps
-/// its entry, whatever is answered.
+/// `Err`: the insert was refused. The word is returned, and the entries are unchanged. In each case the table holds words before
+/// and after, and each place keeps its entry.
 pub fn insert_then_find_in<B: KeepsApart<Box<u64>, Words>>(
     table: &mut B,
     word: Box<u64>,

@@ -1,4 +1,4 @@
-//! Words in a table held alone: what was inserted is found.
+//! Words in a single-owner table: an inserted word is found.
 ghost use Rattle.std.specs.Prelude.{◌≡◌, IfOk, IfErr};
 ghost use Rattle.table_held.specs.Table.{entries, entry_at, IsLater};
 ghost use Rattle.std.specs.List.Sorted.{IsPermutation};
@@ -8,7 +8,7 @@ ghost use Rattle.demo_examples.specs.Words.{HoldsWords};
 use lock_free_hashtable::raw::laws::inserted_is_found_again;
 use lock_free_hashtable::{HeldRawTable, Law, Place};
 
-/// Two words are the same if they are equal, and a word is its own hash. Contracts alone name it.
+/// The equality and hash of words: two are equal if their numbers are, and a word is its own hash. Only contracts use it.
 pub struct Words;
 
 impl Law<u64> for Words {
@@ -21,18 +21,18 @@ impl Law<u64> for Words {
     ghost lawful = { words_lawful };
 }
 
-/// A word's place in its table, and what a look-up of the word shows.
+/// A word's place in its table, and the result of a look-up of the word.
 #[derive(Clone, Copy, Debug)]
 pub struct Lookup {
     pub place: Place,
     pub shown: Option<u64>,
 }
 
-/// Inserts the word, unless an equal one is an entry, and looks it up: the look-up shows the very entry that the insert
-/// named, and it is equal to the word.
+/// Inserts the word unless an equal one is an entry, and looks it up. The look-up returns the very entry whose place the insert
+/// returned, and it is equal to the word.
 ///
-/// An Err hands the word back: memory was refused, and the entries are those before. The table holds words before and after,
-/// and each place keeps its entry, whatever is answered.
+/// `Err`: memory was refused, or the capacity can't double. The word is returned, and the entries are unchanged. In each case the
+/// table holds words before and after, and each place keeps its entry.
 pub fn insert_then_find(
     table: &mut HeldRawTable<Box<u64>>,
     word: Box<u64>,
@@ -50,7 +50,7 @@ pub fn insert_then_find(
     let hash = |a: &u64| *a;
     let is_wanted = |a: &u64| *a == wanted;
     let (place, _) = table.place_alone::<Words, _, _>(wanted, word, &same, &hash)?;
-    // A law is a function that does nothing: to call it is to know what it says.
+    // The theorem is a function that does nothing. Calling it makes its clauses known.
     inserted_is_found_again::<Box<u64>, Words, HeldRawTable<Box<u64>>, _, _, _>(
         &same, &hash, &is_wanted,
     );

@@ -1,4 +1,4 @@
-//! Two seats at a table of numbers: each finds what the other placed, once they have met.
+//! Two seats of a number table: after they have met, each finds what the other placed.
 ghost use Rattle.std.specs.Prelude.{◌≡◌, ◌≢◌, IsTrue};
 ghost use Rattle.std.specs.Int.NonZero.{non_zero_u64_get};
 ghost use Rattle.seated.specs.Tables.{IsSeatOf};
@@ -7,7 +7,7 @@ use seated::{NumberAnswer, NumberTable, Seat};
 use std::alloc::Allocator;
 use std::num::NonZeroU64;
 
-/// What two seats were told: first by their inserts, and after they had met by a look for the other's number.
+/// The results of two seats: those of their inserts, and after they had met those of a look-up of the other's number.
 #[derive(Clone, Copy, Debug)]
 pub struct Met {
     pub first_insert: NumberAnswer,
@@ -16,10 +16,10 @@ pub struct Met {
     pub second_finds: bool,
 }
 
-/// Each seat inserts a number, then they meet, and each looks for the number of the other: it is found unless the table was
-/// full for it. One number is never placed by both.
+/// Inserts a number through each of two seats, lets them meet, and looks up the number of each through the other seat. It is
+/// found unless the table was full when it was inserted. The two seats never both place one number.
 ///
-/// Other threads may use the table with seats of their own at the same time. No call waits or asks for memory.
+/// Other threads may use the table with seats of their own at the same time. No call waits or allocates.
 pub fn insert_and_meet<A: Allocator + Copy>(
     table: &NumberTable<A>,
     first: &mut Seat,

@@ -1,4 +1,4 @@
-//! What `insert_alone` leaves, for callers that need to name the table after it.
+//! The table that `insert_alone` leaves, for callers that need to name it.
 ghost use Rattle.std.specs.Prelude.{◌≡◌, Some, IfOk};
 ghost use Rattle.std.specs.Fn.{FnReturnsAt, FnReturnsAtPair};
 ghost use Rattle.demo_examples.specs.Unshown.{IsUnshown, LeavesUnshown};
@@ -9,7 +9,7 @@ use lock_free_hashtable::raw::laws::inserted_is_found_again;
 use lock_free_hashtable::{AtomicValue, HeldRawTable, Law};
 use std::alloc::Allocator;
 
-/// Lets go of the target that an insert shows.
+/// Drops the target that an insert returns.
 fn unshown<T, V>(told: Result<(&V, Option<T>), T>) -> Result<Option<T>, T>
     ensures { IsUnshown told.entry result }
 {
@@ -19,7 +19,7 @@ fn unshown<T, V>(told: Result<(&V, Option<T>), T>) -> Result<Option<T>, T>
     }
 }
 
-/// Inserts the value by `insert_alone`, and lets go of what that shows. So its contract can say what the table is.
+/// Inserts the value by `insert_alone`, and drops the target that it returns, so its contract can say what the table is.
 ///
 /// It is proved by hand, once for all tables and closures. Its callers need no proof by hand.
 pub fn insert_unshown<
@@ -39,9 +39,9 @@ pub fn insert_unshown<
     unshown(told)
 }
 
-/// Inserts both words, one after the other, and then looks up the first: the look-up shows it, whatever the second did.
+/// Inserts both words, one after the other, and then looks up the first. The look-up returns it, whatever the second insert did.
 ///
-/// An Err hands back the word that was refused. The table holds words before and after.
+/// `Err`: an insert was refused, and its word is returned. The table holds words before and after.
 pub fn insert_two_then_find(
     table: &mut HeldRawTable<Box<u64>>,
     one: Box<u64>,

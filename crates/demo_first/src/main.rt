@@ -1,4 +1,4 @@
-//! Inserts three numbers, of which two are equal, and looks one up.
+//! Inserts three numbers, two of which are equal, and looks one up.
 #![tactic(auto)]
 
 use std::io;

@@ -1,4 +1,4 @@
-//! Names become numbers: each different name of a program has one number, which gives the name back.
+//! Gives each different name of a program one number, which leads back to the name.
 #![tactic(auto)]
 
 use interner::Interner;

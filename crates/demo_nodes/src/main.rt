@@ -1,4 +1,4 @@
-//! Equal nodes become one node: a graph of expressions in which each different node stands once.
+//! A graph of expressions in which equal nodes become one node.
 #![tactic(auto)]
 
 ghost use Rattle.std.specs.Prelude.{◌≡◌};
@@ -10,7 +10,7 @@ use std::sync::Arc;
 use table_sets::{HeldSet, Law, SetLaw, Shown};
 use table_terms::law::hash_number;
 
-/// A symbol with its operands, which are the numbers of other nodes, or 0 where there is none.
+/// A symbol with its operands, which are the numbers of other nodes, or 0 for no operand.
 #[derive(Clone, Copy, Drop)]
 pub struct Shape {
     symbol: char,
@@ -25,7 +25,7 @@ pub struct Node {
     number: u64,
 }
 
-/// Nodes are the same if their shapes are, whatever their numbers.
+/// The equality and hash of nodes: two are equal if their shapes are, whatever their numbers.
 pub struct NodeLaw;
 
 impl Law<Node> for NodeLaw {
@@ -39,7 +39,7 @@ impl Law<Node> for NodeLaw {
     ghost lawful = { lawful_by shape_law (λ n. n.shape) };
 }
 
-/// Mixes one number more into those before.
+/// Mixes one more number into a hash.
 fn mix(before: u64, more: u64) -> u64
     ensures { result ≡ mixed before more }
 {
@@ -85,7 +85,7 @@ impl Graph {
         Ok(number)
     }
 
-    /// The number of the node with this symbol and these operands.
+    /// Returns the number of the node with this symbol and these operands.
     fn join(&mut self, symbol: char, left: u64, right: u64) -> Result<u64, AllocError> {
         self.number_of(Shape {
             symbol,

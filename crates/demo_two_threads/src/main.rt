@@ -1,4 +1,4 @@
-//! Two threads insert the same thousand numbers into one table: each number is placed by one of them, and the other finds it.
+//! Inserts the same thousand numbers into one table from two threads: one thread places a number, and the other finds it.
 #![tactic(auto)]
 
 use lock_free_hashtable::{InPlace, LockFreeRawTable};
@@ -7,11 +7,11 @@ use std::sync::Wait;
 use std::{io, thread};
 use table_terms::law::hash_number;
 
-/// Inserts the numbers below a thousand, and answers how many of them this call placed. Err: no memory.
+/// Inserts the numbers below a thousand, and returns how many of them this call placed. An `Err` means that memory was refused.
 fn insert_all<R: Wait>(rt: &R, table: &LockFreeRawTable<InPlace<u64>>) -> Result<u64, AllocError> {
     let mut placed: u64 = 0;
     for number in 0..1000 {
-        // It may wait for the table's lock, so it is handed `rt`.
+        // An insert may wait for the table's lock, so it takes `rt`.
         match table.insert(
             rt,
             hash_number(number),

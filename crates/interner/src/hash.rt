@@ -1,19 +1,20 @@
-//! How texts are hashed.
+//! The hashes of texts.
 ghost use Rattle.std.specs.Prelude.{◌≡◌, ◌<◌, ◌^◌, ℕ, List};
 ghost use Rattle.interner.specs.Hashes.{text_hash, text_hash_small, mixed_bytes, mixed_hash, mixed_hash_small};
 
-/// A hash of texts: one function of their bytes, so that equal texts have one hash.
+/// A hash of texts: a function of their bytes, so equal texts have one hash.
 pub trait TextHash {
     ghost hash_of: { List ℕ → ℕ };
 
     ghost small: { (text : List ℕ) → hash_of text < 2 ^ 64 };
 
-    /// The hash of a text, given as its bytes.
+    /// Returns the hash of a text, given as its bytes.
     fn hash(text: &[u8]) -> u64
         ensures { result ≡ hash_of text.now };
 }
 
-/// From 0 on, 31 times the hash and the next byte, modulo 2^64. Whoever chooses the texts can choose many of one hash.
+/// The polynomial hash with factor 31: starts at 0, and for each byte multiplies by 31 and adds the byte, modulo 2^64. Somebody
+/// who chooses the texts can choose many with one hash.
 #[derive(Clone, Copy)]
 pub struct Times31;
 
@@ -31,7 +32,7 @@ impl TextHash for Times31 {
     }
 }
 
-/// A hash each bit of which depends on each byte: for texts that others write.
+/// A hash in which each bit depends on each byte, for texts that others choose.
 #[derive(Clone, Copy)]
 pub struct Mixed;
 
@@ -48,7 +49,8 @@ impl TextHash for Mixed {
     }
 }
 
-/// The bytes, one after another, mixed into the upper bits: from 1 on, the sum of it and the next byte, times an odd number.
+/// Mixes the bytes, in order, into the upper bits: starts at 1, and for each byte adds it and multiplies by an odd number, modulo
+/// 2^64.
 fn mix_bytes(text: &[u8]) -> u64
     ensures { result ≡ mixed_bytes text.now }
 {

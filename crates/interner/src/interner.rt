@@ -1,4 +1,4 @@
-//! The interner.
+//! The interner that stores its own texts.
 ghost use Rattle.std.specs.Prelude.{◌≡◌, ◌-◌, ◌≤◌, [], length, option_copied, slice_get};
 ghost use Rattle.std.specs.Int.NonZero.{non_zero_u32_get};
 ghost use Rattle.interner.specs.Texts.{greatest_number, AllDifferent, FindsNumber};
@@ -11,8 +11,9 @@ use std::alloc::{Allocator, Global};
 use std::marker::Model;
 use std::num::NonZeroU32;
 
-/// Different texts, numbered from 1 on in the order of first appearance. One owner holds them alone. They are hashed by `H`: by
-/// `Mixed` where others choose them. Each text has two blocks, that of its bytes and that of its number in the table.
+/// A single-owner interner that stores its texts. Different texts are numbered from 1 on, in the order of first appearance. `H`
+/// hashes the texts: choose `Mixed` if others choose the texts. Each text has two heap blocks, one for its bytes and one for its
+/// number in the table.
 ///
 /// A contract sees the list of the texts, each as its bytes.
 #[derive(Drop)]
@@ -30,7 +31,7 @@ impl<A: Allocator + Copy, H: TextHash> Model for Interner<A, H> {
 }
 
 impl<A: Allocator + Copy> Interner<A> {
-    /// No text has a number yet. Texts are hashed by `Times31`. It takes no memory.
+    /// Makes an empty interner, which hashes texts by `Times31`. Does not allocate.
     pub fn new(alloc: A) -> Self
         ensures { result ≡ [] }
     {
@@ -39,7 +40,7 @@ impl<A: Allocator + Copy> Interner<A> {
 }
 
 impl<A: Allocator + Copy, H: TextHash> Interner<A, H> {
-    /// No text has a number yet. Texts are hashed by `H`. It takes no memory.
+    /// Makes an empty interner, which hashes texts by `H`. Does not allocate.
     pub fn with_hash(alloc: A) -> Self
         ensures { result ≡ [] }
     {
@@ -49,10 +50,12 @@ impl<A: Allocator + Copy, H: TextHash> Interner<A, H> {
         }
     }
 
-    /// The number of the text. A new text gets the next one; a known text is never refused.
+    /// Returns the number of the text. A new text gets the next number; a known text is never refused and needs no memory.
     ///
-    /// `Refused::Numbers`: the text is new, and all 2^32 - 1 numbers are given; no memory was asked for.
-    /// `Refused::NoMemory`: the text is new, and memory was refused. A refused call changes nothing.
+    /// - `Refused::Numbers`: the text is new, and all 2^32 - 1 numbers are taken. Nothing was allocated.
+    /// - `Refused::NoMemory`: the text is new, and memory was refused.
+    ///
+    /// A refused call leaves the texts and their numbers unchanged.
     pub fn intern_alone(&mut self, text: &str) -> Result<NonZeroU32, Refused>
         ensures interns { Interns self.old text.now result self.new }
         ensures different { AllDifferent self.new }
@@ -60,9 +63,12 @@ impl<A: Allocator + Copy, H: TextHash> Interner<A, H> {
         self.intern_up_to(text, u32::MAX)
     }
 
-    /// Interns the text as `intern_alone` does, but gives no number above `greatest`.
+    /// Returns the number of the text as `intern_alone` does, but gives no number above `greatest` to a new text.
     ///
-    /// `Refused::Numbers`: the text is new, and `greatest` or more numbers are given; no memory was asked for.
+    /// - `Refused::Numbers`: the text is new, and `greatest` or more numbers are taken. Nothing was allocated.
+    /// - `Refused::NoMemory`: the text is new, and memory was refused.
+    ///
+    /// A refused call leaves the texts and their numbers unchanged.
     pub fn intern_up_to(&mut self, text: &str, greatest: u32) -> Result<NonZeroU32, Refused>
         ensures interns { InternsUpTo greatest self.old text.now result self.new }
         ensures different { AllDifferent self.new }
@@ -84,7 +90,7 @@ impl<A: Allocator + Copy, H: TextHash> Interner<A, H> {
         }
     }
 
-    /// The number of the text, or None where it has none. It takes no memory and changes nothing.
+    /// Returns the number of the text, or `None` if it has none. Does not allocate and does not change the interner.
     pub fn number_alone(&self, text: &str) -> Option<NonZeroU32>
         ensures finds { FindsNumber self.now text.now result }
         ensures different { AllDifferent self.now }
@@ -92,14 +98,14 @@ impl<A: Allocator + Copy, H: TextHash> Interner<A, H> {
         self.texts.number_alone(text)
     }
 
-    /// The text of the number, or None where the number is not given. It takes no memory and changes nothing.
+    /// Returns the text of the number, or `None` if no text has it. Does not allocate and does not change the interner.
     pub fn text_alone(&self, number: NonZeroU32) -> Option<&str>
         ensures { option_copied result ≡ slice_get self.now (non_zero_u32_get number - 1) }
     {
         self.texts.text_alone(number)
     }
 
-    /// How many texts have a number.
+    /// Returns the number of texts.
     pub fn len_alone(&self) -> usize
         ensures length { result ≡ length self.now }
         ensures few { result ≤ greatest_number }

@@ -1,4 +1,4 @@
-//! The interner of texts that its caller keeps.
+//! The interner of texts that the caller makes.
 ghost use Rattle.std.specs.Prelude.{◌≡◌, ◌+◌, ◌-◌, ◌<◌, ◌≤◌, ◌++◌, [], ◌∷◌, length, map, OnOk, OnErr, Contains};
 ghost use Rattle.std.specs.Prelude.{option_copied, option_map, slice_get};
 ghost use Rattle.std.specs.Int.NonZero.{non_zero_u32_get};
@@ -16,9 +16,9 @@ use std::num::NonZeroU32;
 use std::snapshot::Snapshot;
 use table_held::{HeldRawTable, InPlace};
 
-/// Different texts of type `S`, numbered from 1 on in the order of first appearance. One owner holds them alone. They are hashed by
-/// `H`: by `Mixed` where others choose them. The texts lie in one vector, whose room comes from an `A`; the table has a block for
-/// each number, which comes from a `B`.
+/// A single-owner interner of texts of type `S`, which the caller makes. Different texts are numbered from 1 on, in the order of
+/// first appearance. `H` hashes the texts: choose `Mixed` if others choose the texts. The texts lie in one vector, in memory of
+/// an `A`. The table has a heap block for each number, from a `B`.
 ///
 /// A contract sees the list of the texts, each as its bytes.
 #[derive(Drop)]
@@ -53,7 +53,7 @@ impl<S: AsStr + Drop, H: TextHash, A: Allocator + Copy, B: Allocator + Copy> Int
     A,
     B,
 > {
-    /// No text has a number yet. It takes no memory.
+    /// Makes an empty interner. Does not allocate. `alloc` is the allocator of the texts' vector, and `blocks` that of the table.
     pub fn new(alloc: A, blocks: B) -> Self
         ensures { result ≡ [] }
     {
@@ -64,7 +64,7 @@ impl<S: AsStr + Drop, H: TextHash, A: Allocator + Copy, B: Allocator + Copy> Int
         }
     }
 
-    /// The number of the text, or None where it has none. It takes no memory and changes nothing.
+    /// Returns the number of the text, or `None` if it has none. Does not allocate and does not change the interner.
     pub fn number_alone(&self, text: &str) -> Option<NonZeroU32>
         ensures finds { FindsNumber self.now text.now result }
         ensures different { AllDifferent self.now }
@@ -72,7 +72,7 @@ impl<S: AsStr + Drop, H: TextHash, A: Allocator + Copy, B: Allocator + Copy> Int
         self.number_by_hash(H::hash(text.as_bytes()), text)
     }
 
-    /// The text of the number, or None where the number is not given. It takes no memory and changes nothing.
+    /// Returns the text of the number, or `None` if no text has it. Does not allocate and does not change the interner.
     pub fn text_alone(&self, number: NonZeroU32) -> Option<&str>
         ensures { option_copied result ≡ slice_get self.now (non_zero_u32_get number - 1) }
     {
@@ -80,7 +80,7 @@ impl<S: AsStr + Drop, H: TextHash, A: Allocator + Copy, B: Allocator + Copy> Int
         Some(text.as_str())
     }
 
-    /// How many texts have a number.
+    /// Returns the number of texts.
     pub fn len_alone(&self) -> usize
         ensures length { result ≡ length self.now }
         ensures few { result ≤ greatest_number }
@@ -89,10 +89,12 @@ impl<S: AsStr + Drop, H: TextHash, A: Allocator + Copy, B: Allocator + Copy> Int
         self.by_number.len()
     }
 
-    /// Gives the text, which has no number, the next one, and keeps it.
+    /// Adds a text, gives it the next number, and returns that number. The caller shows that the text has no number yet.
     ///
-    /// `Refused::Numbers`: all 2^32 - 1 numbers are given; no memory was asked for. `Refused::NoMemory`: memory was refused. A refused
-    /// call changes nothing, and drops the text.
+    /// - `Refused::Numbers`: all 2^32 - 1 numbers are taken. Nothing was allocated.
+    /// - `Refused::NoMemory`: memory was refused.
+    ///
+    /// A refused call leaves the texts and their numbers unchanged, and drops the text.
     pub fn add_alone(&mut self, text: S) -> Result<NonZeroU32, Refused>
         requires new { ¬ Contains self.old (S.text text) }
         ensures interns { Interns self.old (S.text text) result self.new }
@@ -106,7 +108,7 @@ impl<S: AsStr + Drop, H: TextHash, A: Allocator + Copy, B: Allocator + Copy> Int
         }
     }
 
-    /// The number of the text, whose hash this is.
+    /// Returns the number of the text, whose hash is `hash`, or `None` if it has none.
     pub(crate) fn number_by_hash(&self, hash: u64, text: &str) -> Option<NonZeroU32>
         requires { hash ≡ H.hash_of text.now }
         ensures finds { FindsNumber self.now text.now result }
@@ -136,14 +138,15 @@ impl<S: AsStr + Drop, H: TextHash, A: Allocator + Copy, B: Allocator + Copy> Int
         }
     }
 
-    /// Asks for the room of one text more, if there is none.
+    /// Reserves room for one more text, unless there is room.
     pub(crate) fn reserve_one(&mut self) -> Result<(), AllocError>
         ensures { self.new ≡ self.old }
     {
         self.by_number.reserve(1)
     }
 
-    /// Gives the text, which has none, this number, the next one. An Err changes nothing.
+    /// Adds a text that has no number, and gives it this one, which is the next. An `Err` leaves the texts and their numbers
+    /// unchanged.
     pub(crate) fn add(&mut self, hash: u64, text: S, number: NonZeroU32) -> Result<(), AllocError>
         requires hash { hash ≡ H.hash_of (S.text text) }
         requires new { ¬ Contains self.old (S.text text) }
@@ -175,7 +178,7 @@ impl<S: AsStr + Drop, H: TextHash, A: Allocator + Copy, B: Allocator + Copy> Int
     }
 }
 
-/// Whether the text of the number is this one. No text has a number that isn't given.
+/// Returns whether the text of the number is this one. Returns false if no text has the number.
 fn is_text_of<S: AsStr>(texts: &[S], number: NonZeroU32, text: &str) -> bool
     ensures { TellsText (map S.text texts.now) (non_zero_u32_get number) text.now result }
 {
@@ -185,7 +188,7 @@ fn is_text_of<S: AsStr>(texts: &[S], number: NonZeroU32, text: &str) -> bool
     }
 }
 
-/// The hash of the text of the number, or `new` where the number isn't given yet.
+/// Returns the hash of the text of the number, or `new` if no text has the number yet.
 fn hash_in<S: AsStr, H: TextHash>(texts: &[S], number: NonZeroU32, new: u64) -> u64
     ensures { HashesText H.hash_of (map S.text texts.now) (non_zero_u32_get number) new result }
 {

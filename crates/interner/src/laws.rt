@@ -1,8 +1,8 @@
-//! Laws that callers of an interner rest on, each the contract of a function that does nothing.
+//! Theorems about interners, each the contract of a function that does nothing.
 ghost use Rattle.interner.specs.Again.{LaterIsReflexive, LaterIsTransitive, InternsLater, NumbersStay, FindsAgain, OneText, OneNumber};
 
-/// An interner only grows: to be later is reflexive and transitive, and every `intern_alone` leaves a later one. A text
-/// keeps its number in every later one.
+/// States that an interner only grows. Every `intern_alone` leaves a later interner, the relation "later" is reflexive and
+/// transitive, and a text keeps its number in every later one.
 pub fn numbers_stay()
     ensures reflexive { LaterIsReflexive }
     ensures transitive { LaterIsTransitive }
@@ -10,12 +10,12 @@ pub fn numbers_stay()
     ensures stay { NumbersStay }
 {}
 
-/// A text that was interned is found again, in every later interner, and its number gives it back.
+/// States that an interned text is found again in every later interner, and that its number leads back to it.
 pub fn interned_is_found_again()
     ensures { FindsAgain }
 {}
 
-/// Two texts with one number are equal, and equal texts have one number.
+/// States that two texts with one number are equal, and that equal texts have one number.
 pub fn numbers_name_texts()
     ensures text { OneText }
     ensures number { OneNumber }

@@ -1,7 +1,7 @@
-//! Texts to numbers and back, for one owner: each different text has one number, from 1 on, in the order of first
-//! appearance.
+//! A single-owner interner: each different text gets one number, from 1 on, in the order of first appearance.
 //!
-//! An [`Interner`] holds its texts alone. A contract sees it as the list of its texts, the one of number 1 first.
+//! An [`Interner`] stores its texts; an [`InternerOf`] takes texts that the caller has made. A contract sees an interner as the
+//! list of its texts, the text of number 1 first.
 #![tactic(auto)]
 
 pub mod hash;

@@ -1,4 +1,4 @@
-//! What the table is told of a text.
+//! The entry of a text in the interner's table.
 ghost use Rattle.std.specs.Prelude.{◌≡◌};
 
 use crate::hash::TextHash;
@@ -8,14 +8,15 @@ use std::num::NonZeroU32;
 use std::snapshot::Snapshot;
 use table_held::Law;
 
-/// The number of a text. In memory there is the number alone: the text is known to contracts, and lies where its number leads.
+/// The number of a text. In memory it is only the number. The text is known to contracts; the code finds it in the interner's
+/// vector, by the number.
 #[derive(Drop)]
 pub struct Numbered<S> {
     pub number: NonZeroU32,
     pub text: Snapshot<S>,
 }
 
-/// Numbers are the same if their texts are, and the hash of a number is that of its text.
+/// The equality and hash of numbered texts: two are equal if their texts are, and the hash is that of the text.
 pub struct TextLaw<H> {
     _hash: PhantomData<H>,
 }

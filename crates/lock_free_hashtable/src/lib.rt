@@ -1,13 +1,17 @@
-//! An insertion-only hash table, held by one owner or shared by threads, whose calls keep proved promises.
+//! An insertion-only hash table, for one owner or shared by threads, with proved contracts.
 //!
-//! A [`HeldRawTable`] keeps one value for each target: what a value leads to, as its [`AtomicValue`] says. Its calls take
-//! the hash of a target and closures that compare and hash; a [`Law`] says what their caller means by them. A [`Place`]
-//! names a bucket that shows an entry, and stays good over growth. [`LockFreeRawTable`] is the one that threads share,
-//! [`sharded`] has both over several shards, and [`alone`] has lists of calls on any table held alone. [`stepped`] has calls on a
-//! shared table that take one step at a time.
+//! - A [`HeldRawTable`] has one owner.
+//! - A [`LockFreeRawTable`] is shared by threads.
+//! - [`sharded`] has both over several shards.
+//! - [`alone`] runs lists of calls on any single-owner table.
+//! - [`stepped`] has calls on a shared table that take one step at a time.
 //!
-//! This crate names what the crates below it make: it has no code of its own. Who needs one owner's table alone names
-//! `table_held`, below which nothing knows of threads.
+//! A table holds values and compares their targets, which [`AtomicValue`] defines. Calls take the hash of a target and closures
+//! that compare and hash; a [`Law`] is a type that names, for contracts only, the equality and the hash that the caller means. A
+//! [`Place`] is the address of a bucket that shows an entry; it stays valid when the table grows.
+//!
+//! This crate re-exports what the crates below it define and has no code of its own. A program that needs only the single-owner
+//! table can name `table_held`, which uses no threads.
 #![tactic(auto)]
 
 pub mod raw;

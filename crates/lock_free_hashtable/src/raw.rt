@@ -1,6 +1,6 @@
-//! One table, held alone or shared by threads.
+//! One table, for one owner or shared by threads.
 //!
-//! A [`HeldRawTable`] is filled by its owner; [`Share::share`] makes a [`LockFreeRawTable`] of it.
+//! The owner of a [`HeldRawTable`] fills it; [`Share::share`] turns it into a [`LockFreeRawTable`].
 
 pub use table_cell::Low;
 pub use table_held::raw::{

@@ -1,5 +1,5 @@
-//! The same over several shards, each a table of its own. [`Share::share`] makes a [`ShardedLockFreeRawTable`] of a
-//! [`HeldShardedTable`].
+//! Tables over several shards, each a table of its own. [`Share::share`] turns a [`HeldShardedTable`] into a
+//! [`ShardedLockFreeRawTable`].
 
 pub use table_runs::alone::laws;
 pub use table_shards::sharded::{HeldIntoIter, HeldIter, HeldShardedTable, ShardPlace, place};

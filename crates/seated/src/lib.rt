@@ -1,8 +1,8 @@
-//! A set of numbers that running threads share with no lock.
+//! A set of numbers that threads share without a lock.
 //!
-//! A [`NumberTable`] has a fixed number of words. Each thread works on it with a [`Seat`] of its own, a token of no bytes.
-//! Contracts say of a seat which numbers it knows to be in the table, and which of them it placed: no number is
-//! placed for two seats, and what a seat knows, or learns when it meets another seat, it finds again.
+//! A [`NumberTable`] has a fixed number of words. Each thread uses it through a [`Seat`] of its own, a permit that takes no
+//! bytes. Contracts say of a seat which numbers it knows to be in the table, and which of them it placed. No number is placed for
+//! two seats. A seat finds again each number that it knows, or that it learned from another seat.
 #![tactic(auto)]
 
 mod rule;

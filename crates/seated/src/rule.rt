@@ -1,4 +1,4 @@
-//! The rule of a number table, and the steps that keep it.
+//! The rule that holds between any two steps on a number table, and the steps that keep it.
 ghost use Rattle.seated.specs.Steps.{Reads, Claims};
 ghost use Rattle.seated.specs.Views.{unchanged, newcomer_of, note_of, gift_of};
 
@@ -6,7 +6,7 @@ use crate::seat::View;
 use atomic_table::{Join, Play, Split, TableRule};
 use std::marker::PhantomData;
 
-/// The key is the number of words.
+/// The rule of a number table. Its key is the number of words.
 pub struct NumberRule;
 
 impl TableRule<(), View, u64> for NumberRule {
@@ -25,7 +25,7 @@ impl Play<(), View> for Read {
     ghost then = { Reads unchanged };
 }
 
-/// Reads a bucket and raises the seat's turn.
+/// Reads a bucket and raises the turn of the seat.
 pub(crate) struct ReadAndRaise;
 
 impl Play<(), View> for ReadAndRaise {
@@ -34,7 +34,7 @@ impl Play<(), View> for ReadAndRaise {
     ghost then = { Reads with_next_turn };
 }
 
-/// Reads a bucket and forgets what was said of a giver, once that was compared.
+/// Reads a bucket, compares what the seat holds from a giver with its own numbers, and then forgets it.
 pub(crate) struct ReadAndForget;
 
 impl Play<(), View> for ReadAndForget {
@@ -50,14 +50,14 @@ impl Play<(), View> for Claim {
     ghost then = { Claims };
 }
 
-/// What can be cut off a seat: the view that it starts with, by the seat's.
+/// A part that can be split off a seat: its view, computed from the seat's.
 pub(crate) trait Part {
     ghost use Rattle.seated.specs.declared.seat.View.{View};
 
     ghost of: { View → View };
 }
 
-/// Cuts the part off a seat, which keeps its own view.
+/// Splits the part off a seat, which keeps its own view.
 pub(crate) struct Cut<P>(PhantomData<P>);
 
 impl<P: Part> Split<View> for Cut<P> {
@@ -73,21 +73,21 @@ impl Part for Newcomer {
     ghost of = { newcomer_of };
 }
 
-/// A note of what the seat knows.
+/// A copy of what the seat knows.
 pub(crate) struct Note;
 
 impl Part for Note {
     ghost of = { note_of };
 }
 
-/// A gift: what the seat knows, and what it placed so far.
+/// A copy of what the seat knows, with the numbers that it has placed so far.
 pub(crate) struct Gift;
 
 impl Part for Gift {
     ghost of = { gift_of };
 }
 
-/// Takes in another seat, a note or a gift.
+/// Joins another seat, a `Note` or a `Gift` to a seat.
 pub(crate) struct TakeIn;
 
 impl Join<View> for TakeIn {

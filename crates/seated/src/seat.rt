@@ -1,35 +1,36 @@
-//! What a thread holds of a number table.
+//! The permit by which a thread uses a number table.
 use std::collections::LinkedList;
 
-/// What a seat knows. It stands in contracts alone: no value of it is ever made.
+/// The knowledge of a seat. It exists in contracts only: no value of this type is ever made.
 pub(crate) struct View {
-    /// How many words the table has.
+    /// The number of words of the table.
     pub size: u64,
     /// Pairs of a bucket and the number that it holds.
     pub known: LinkedList<(u64, u64)>,
     /// The numbers that the seat placed.
     pub own: LinkedList<u64>,
-    /// How often the seat gave, in meetings.
+    /// The number of meetings in which the seat gave.
     pub turn: u64,
-    /// In a meeting, until it is compared with the seat's own: what the other seat placed.
+    /// The numbers that the other seat of a meeting placed, until they are compared with the seat's own.
     pub giver_own: LinkedList<u64>,
-    /// The other seat's turn, once it was raised for that meeting.
+    /// The turn of the other seat, after it was raised for that meeting.
     pub giver_turn: u64,
 }
 
-/// A thread's part in a [`NumberTable`](crate::NumberTable). It takes no bytes and may cross threads, but is used by one at a time.
+/// The right of one thread at a time to use a [`NumberTable`](crate::NumberTable). It takes no bytes, and may be sent to another
+/// thread.
 ///
-/// The first seat comes with the table, and each further one from a `split`. Use a seat with the table that it came from.
-/// A seat that is dropped leaves its numbers in the table; only what it knew is gone.
+/// The first seat comes with the table, and each further one from a `split`. A seat may be used only with the table that it came
+/// from. Dropping a seat leaves its numbers in the table; only what the seat knew is lost.
 #[derive(Drop)]
 pub struct Seat {
     pub(crate) inner: atomic_table::Seat<(), View>,
 }
 
-/// What an insert did.
+/// The result of an insert.
 #[derive(Clone, Copy, PartialEq, Eq, Debug)]
 pub enum NumberAnswer {
-    /// The number was not in the table, and this call placed it. No other call ever answers so for this number.
+    /// The number was not in the table, and this call placed it. No other call returns `Placed` for this number.
     Placed,
     /// The number was in the table.
     Found,

@@ -1,4 +1,4 @@
-//! The table and its calls.
+//! The number table and its calls.
 ghost use Rattle.std.specs.Prelude.{◌≡◌, ◌<◌, true, length};
 ghost use Rattle.std.specs.Int.{is_power_of_two};
 
@@ -13,13 +13,13 @@ use table_terms::probe::{first_bucket, next_bucket};
 
 /// A set of numbers other than 0, which threads share by reference.
 ///
-/// It has a fixed number of words, each of which is empty or holds one number for good. A number's first bucket is the
-/// number modulo the number of words, and a probe goes on to the next bucket, round the end.
-/// No call waits, and only `new` asks for memory.
+/// It has a fixed number of words. Each word is empty, or holds one number that never changes. The first bucket of a number is
+/// the number modulo the number of words; a probe goes on to the next bucket and wraps around. No call takes a lock or waits, and
+/// only `new` allocates.
 #[derive(Drop)]
 pub struct NumberTable<A: Allocator + Copy = Global> {
     table: Table<(), View, u64, NumberRule, A>,
-    /// As long as the table, for `close`.
+    /// Memory of the table's length, for `close`.
     room: Vec<u64, A>,
     ghost some_words: { 0 < table.shared.table_id.words },
     ghost power: { is_power_of_two table.shared.table_id.words ≡ true },
@@ -40,10 +40,10 @@ impl<A: Allocator + Copy> NumberTable<A> {
     ghost use Rattle.seated.specs.Tables.{word_count, IsSeatOf};
     ghost use Rattle.seated.specs.Views.{join_of};
 
-    /// An empty table of `count` words, a power of two, and its first seat.
+    /// Makes an empty table of `count` words, and its first seat. The caller shows that `count` is a power of two.
     ///
-    /// It asks for memory for the words, and for the room into which `close` will copy them. Where a request is refused,
-    /// what was granted is given back.
+    /// It allocates the words, and the memory into which `close` will copy them. If a request is refused, it frees what was
+    /// allocated.
     pub fn new(alloc: A, count: usize) -> Result<(NumberTable<A>, Seat), AllocError>
         requires { IsTrue (is_power_of_two count) }
         ensures table { IfOk result (λ r. (word_count r.0 ≡ count) × IsSeatOf r.0 r.1) }
@@ -54,7 +54,7 @@ impl<A: Allocator + Copy> NumberTable<A> {
         Ok((NumberTable { table, room }, Seat { inner: seat }))
     }
 
-    /// How many words the table has, and so how many numbers at most: a power of two.
+    /// Returns the number of words, a power of two, which is also the greatest number of entries.
     pub fn word_count(&self) -> usize
         ensures count { result ≡ word_count self.now }
         ensures power { IsPowerOfTwo result }
@@ -62,7 +62,7 @@ impl<A: Allocator + Copy> NumberTable<A> {
         self.table.word_count()
     }
 
-    /// Returns 0 where x was placed, and else the number that the bucket holds.
+    /// Tries to place `x` in this bucket. Returns 0 if it was placed, and otherwise the number that the bucket holds.
     fn claim(&self, seat: &mut Seat, bucket: usize, x: u64) -> u64
         requires table { seat.old.inner.table_id ≡ self.now.table.shared.table_id }
         requires size { seat.old.inner.me.0.size ≡ seat.old.inner.table_id.words }
@@ -79,9 +79,9 @@ impl<A: Allocator + Copy> NumberTable<A> {
             .compare_exchange::<Claim>(&mut seat.inner, bucket, 0, x)
     }
 
-    /// Places `v`, unless it is in the table or each word holds another number.
+    /// Inserts `v`, unless it is in the table or each word holds another number.
     ///
-    /// It tries each bucket of the table at most once, with at most one exchange.
+    /// It tries each bucket of the table at most once, with at most one exchange. Takes no lock and does not allocate.
     pub fn insert(&self, seat: &mut Seat, v: NonZeroU64) -> NumberAnswer
         requires { IsSeatOf self.now seat.old }
         ensures seat { IsSeatOf self.now seat.new }
@@ -108,10 +108,12 @@ impl<A: Allocator + Copy> NumberTable<A> {
         NumberAnswer::Full
     }
 
-    /// Whether `v` is in the table: true exactly where the seat then knows it, and so wherever it knew it before.
+    /// Returns whether `v` is in the table. The result is true if and only if the seat knows `v` after the call. A seat that knew
+    /// `v` before gets true.
     ///
-    /// Of numbers that other seats placed no clause says when the seat finds them: false promises nothing of these. That a seat
-    /// which was told nothing finds what others placed before is only tested. By the code each bucket is read at most once.
+    /// False promises nothing about numbers that other seats placed: no clause says when a seat finds them. Tested, not proved: a
+    /// seat that has learned nothing finds what other seats placed before. The code reads each bucket at most once. Takes no lock
+    /// and does not allocate.
     pub fn contains(&self, seat: &mut Seat, v: NonZeroU64) -> bool
         requires { IsSeatOf self.now seat.old }
         ensures seat { IsSeatOf self.now seat.new }
@@ -136,9 +138,9 @@ impl<A: Allocator + Copy> NumberTable<A> {
         false
     }
 
-    /// Gives the seat back, and with it a second one, which knows nothing and has placed nothing.
+    /// Returns the seat and a second one, which knows nothing and has placed nothing.
     ///
-    /// A seat takes no bytes, so no memory is asked for and the answer is always `Ok`.
+    /// A seat takes no bytes, so nothing is allocated and the result is always `Ok`.
     pub fn split(&self, seat: Seat) -> Result<(Seat, Seat), Seat>
         requires { IsSeatOf self.now seat }
         ensures ok { IsOk result }
@@ -155,7 +157,8 @@ impl<A: Allocator + Copy> NumberTable<A> {
         Ok((first, Seat { inner: second }))
     }
 
-    /// A seat that knows what both knew and owns what both placed, which have no number in common.
+    /// Joins two seats into one, which knows what both knew and owns the numbers that both placed. These have no number in
+    /// common.
     pub fn join(&self, first: Seat, second: Seat) -> Seat
         requires first { IsSeatOf self.now first }
         requires second { IsSeatOf self.now second }
@@ -171,7 +174,7 @@ impl<A: Allocator + Copy> NumberTable<A> {
         seat
     }
 
-    /// The seat takes in another one.
+    /// Joins another seat to this one.
     fn take_in(&self, seat: &mut Seat, other: atomic_table::Seat<(), View>)
         requires table { (seat.old.inner.table_id ≡ self.now.table.shared.table_id)
             × (other.table_id ≡ self.now.table.shared.table_id) }
@@ -200,10 +203,9 @@ impl<A: Allocator + Copy> NumberTable<A> {
         }
     }
 
-    /// Each seat learns what the other knew, and reads each word of the table once.
+    /// Lets each of two seats learn what the other knew. Each reads every word of the table once.
     ///
-    /// The seats keep their own numbers, which have none in common.
-    /// Notes take no bytes, so no memory is asked for and the answer is always `Ok`.
+    /// The seats keep their own numbers, of which none is common to both. Nothing is allocated, and the result is always `Ok`.
     pub fn meet(&self, first: &mut Seat, second: &mut Seat) -> Result<(), AllocError>
         requires first { IsSeatOf self.now first.old }
         requires second { IsSeatOf self.now second.old }
@@ -218,7 +220,8 @@ impl<A: Allocator + Copy> NumberTable<A> {
         ensures apart { Disjoint (own_numbers first.new) (own_numbers second.new) }
     {
         let shared = &self.table.shared;
-        // With the second's turn in its note, the first's turn gets above it, so that its gift can be told from the second's own.
+        // With the second seat's turn in its note, the first seat's turn rises above it, so that the gift of the first can be
+        // told from the numbers of the second.
         let note = shared.split_seat::<Cut<Note>>(&mut second.inner);
         self.take_in(first, note);
         shared.load::<ReadAndRaise>(&mut first.inner, 0);
@@ -230,7 +233,7 @@ impl<A: Allocator + Copy> NumberTable<A> {
         Ok(())
     }
 
-    /// The words, 0 for an empty one. No memory is asked for.
+    /// Closes the table and returns its words, 0 for an empty one. Does not allocate.
     pub fn close(self, seat: Seat) -> Vec<u64, A>
         requires { IsSeatOf self seat }
         ensures laid_out { IsLaidOut (word_count self) result.items }

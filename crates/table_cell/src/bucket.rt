@@ -1,4 +1,4 @@
-//! A bucket that is set at most once.
+//! A bucket, which is set at most once.
 ghost use Rattle.std.specs.Prelude.{◌≡◌, IfOk, IfErr, IfSome, IfNone, IsSome, None, Some, OnOk, option_copied, option_map};
 ghost use Rattle.table_cell.specs.Contents.{vacant, own, named, bucket, shown, owned, entry_from, naming, word_naming, NamesEntry, Lies, NamesNone, KeepsOwn, Reads, HandsBack, Keeps, Misses};
 
@@ -12,51 +12,51 @@ use std::alloc::{Allocator, Global};
 use std::marker::Model;
 use std::mem::size_of;
 
-/// What the block of a bucket holds: a value, and the eight bits of the hash that was given with it.
+/// The content of an entry's heap block: a value, and eight bits of the hash with which it was inserted.
 #[derive(Drop)]
 pub struct Entry<T> {
     pub value: T,
     pub bits: u8,
 }
 
-/// An entry fits every home: it names no block.
+/// An entry fits every home, since it names no block.
 impl<T> Homed for Entry<T> {
     ghost fits = { λ _ _. Unit {0} };
 }
 
-/// What stands beside the word of a bucket, so that a probe that skips follows nothing.
+/// The mark of a bucket. It is stored apart from the word, so that a probe that skips the bucket follows no pointer.
 #[derive(Clone, Copy)]
 pub enum Mark {
     /// The word is null, or was set through `&`.
     Vacant,
     /// The word owns the block of an entry with these bits.
     Own(u8),
-    /// The word names the block of an entry with these bits.
+    /// The word names the block of an entry with these bits, and another bucket owns it.
     Named(u8),
 }
 
-/// A value that a bucket held alone did not take.
+/// A value that a bucket did not take through `&mut`.
 #[derive(Drop)]
 pub enum Refusal<T> {
     /// The bucket was set before.
     Taken(T),
-    /// The block was refused. The bucket is as it was.
+    /// Memory for the block was refused. The bucket is unchanged.
     NoMemory(T),
 }
 
-/// A value that a shared bucket did not take.
+/// A value that a bucket did not take through `&`.
 #[derive(Drop)]
 pub enum Missed<'a, T> {
     /// The bucket was set before, to this entry.
     Taken(T, &'a Entry<T>),
-    /// The block was refused. The bucket was not touched.
+    /// Memory for the block was refused. The bucket was not touched.
     NoMemory(T),
 }
 
-/// A bucket of one home and one allocator: vacant, with an entry of its own, or with the name of an entry that another
-/// bucket owns. A vacant one is set through `&mut`, or once through `&`.
+/// A bucket of one home and one allocator. It is vacant, owns an entry, or names an entry that another bucket owns. A vacant
+/// bucket is set through `&mut`, or at most once through `&`.
 ///
-/// A bucket that is dropped frees no block: `take` ends it.
+/// Dropping a bucket frees no block; `take` does.
 #[derive(Drop)]
 pub struct Bucket<T: Drop, A: Allocator + Copy> {
     pub(crate) mark: Mark,
@@ -83,7 +83,7 @@ impl<T: Drop, A: Allocator + Copy> Model for Bucket<T, A> {
     ghost invariant = { λ b. IsMarked b.mark b.word };
 }
 
-/// A bucket looked at through `&`: its mark and its word, whatever lies around them.
+/// A view of a bucket through `&`: its mark and its word, wherever these are stored.
 #[derive(Drop)]
 pub struct BucketRef<'a, T: Drop, A: Allocator + Copy> {
     pub(crate) mark: Mark,
@@ -101,7 +101,7 @@ impl<'a, T: Drop, A: Allocator + Copy> Model for BucketRef<'a, T, A> {
 }
 
 impl<T: Drop, A: Allocator + Copy> Bucket<T, A> {
-    /// A vacant bucket. It takes no memory.
+    /// Makes a vacant bucket. Does not allocate.
     pub fn new(alloc: &A, home: &Home) -> Self
         ensures lies { Lies home.now.id alloc.now result }
         ensures vacant { result.content ≡ vacant }
@@ -112,7 +112,7 @@ impl<T: Drop, A: Allocator + Copy> Bucket<T, A> {
         }
     }
 
-    /// The bucket, to be looked at.
+    /// Returns a view of the bucket.
     pub fn as_ref(&self) -> BucketRef<'_, T, A>
         ensures { result ≡ self.now }
     {
@@ -122,10 +122,10 @@ impl<T: Drop, A: Allocator + Copy> Bucket<T, A> {
         }
     }
 
-    /// Sets the bucket to the value, in a block of its own. The block is asked for before the bucket is looked at.
+    /// Sets the bucket to the value, in a new heap block. Allocates the block before it looks at the bucket.
     ///
-    /// It is for a bucket that no `place` has set: it knows of what was placed alone, as do `get_alone`, `naming` and
-    /// `take_alone`, and would forget what was set through `&`.
+    /// It is meant for a bucket that no `place` has set. It sees only what was set through `&mut`, as do `get_alone`, `naming`
+    /// and `take_alone`, and would overwrite what was set through `&`.
     pub fn place_alone(
         &mut self,
         home: &Home,
@@ -155,7 +155,7 @@ impl<T: Drop, A: Allocator + Copy> Bucket<T, A> {
         }
     }
 
-    /// A bucket that names what this word names. The block is read for the bits.
+    /// Makes a bucket that names what this word names. Reads the block for the bits.
     pub fn of_naming(home: &Home, word: Word<Entry<T>, A>) -> Self
         requires { NamesEntry home.now.id word }
         ensures { IfSome word.value (λ e. result ≡ bucket word.from home.now.id (named e)) }
@@ -167,7 +167,7 @@ impl<T: Drop, A: Allocator + Copy> Bucket<T, A> {
         }
     }
 
-    /// Ends the bucket, and hands out the value that it owns alone.
+    /// Consumes the bucket, and returns the value that it owns, if that was set through `&mut`.
     pub fn take_alone(self, closed: &Closed, alloc: A) -> Option<T>
         requires { Lies closed.now.id alloc self }
         ensures { result ≡ option_map (λ e. e.value) (owned self.content) }
@@ -180,8 +180,8 @@ impl<T: Drop, A: Allocator + Copy> Bucket<T, A> {
         }
     }
 
-    /// Ends the bucket, and hands out the value that it owns, alone or since it was set through `&`: then the one that the
-    /// note knows, if it knows one.
+    /// Consumes the bucket, and returns the value that it owns, whether it was set through `&mut` or `&`. A value set through `&`
+    /// is the one that the note knows, if it knows one.
     pub fn take(self, closed: &Closed, alloc: A, note: Note<Entry<T>>) -> Option<T>
         requires lies { Lies closed.now.id alloc self }
         requires of { note.of ≡ self.id }
@@ -203,7 +203,7 @@ impl<T: Drop, A: Allocator + Copy> Bucket<T, A> {
 }
 
 impl<T: Drop, A: Allocator + Copy> Bucket<T, A> {
-    /// A bucket that owns the entry in this block.
+    /// Makes a bucket that owns the entry in this block.
     fn owning(home: &Home, block: LooseBlock<Entry<T>, A>) -> Self
         ensures { result ≡ bucket block.from home.now.id (own block.value) }
     {
@@ -215,8 +215,9 @@ impl<T: Drop, A: Allocator + Copy> Bucket<T, A> {
         }
     }
 
-    /// Ends the bucket, and hands out the entry that it owns, alone or since it was set through `&`, in a bucket of another
-    /// home: then the one that the note knows, if it knows one. That bucket is vacant where this one owned nothing.
+    /// Consumes the bucket, and returns a bucket of another home that owns the same entry, whether that was set through `&mut` or
+    /// `&`. An entry set through `&` is the one that the note knows, if it knows one. The new bucket is vacant if this one owned
+    /// nothing.
     pub fn rehomed(self, closed: &Closed, home: &Home, alloc: A, note: Note<Entry<T>>) -> Self
         requires lies { Lies closed.now.id alloc self }
         requires of { note.of ≡ self.id }
@@ -241,14 +242,14 @@ impl<T: Drop, A: Allocator + Copy> Bucket<T, A> {
 }
 
 impl<'a, T: Drop, A: Allocator + Copy> BucketRef<'a, T, A> {
-    /// The eight bits of the entry that the bucket holds alone. Nothing is followed.
+    /// Returns the mark of the bucket, which knows only what was set through `&mut`. Follows no pointer.
     pub fn mark(&self) -> Mark
         ensures { Reads self.now.content result }
     {
         self.mark
     }
 
-    /// A bucket that names the entry of this one. Nothing is followed.
+    /// Returns a bucket that names the entry of this one, or `None` if this one is vacant. Follows no pointer.
     pub fn naming(&self, alloc: A) -> Option<Bucket<T, A>>
         requires { self.now.from ≡ alloc }
         ensures { result ≡ option_map (bucket alloc self.now.home) (naming self.now.content) }
@@ -264,7 +265,7 @@ impl<'a, T: Drop, A: Allocator + Copy> BucketRef<'a, T, A> {
         })
     }
 
-    /// A word that names the entry of this bucket, also where that was set through `&`. Nothing is followed.
+    /// Returns a word that names the entry of this bucket, also if that was set through `&`. Follows no pointer.
     pub fn naming_word(&self, alloc: A, note: &mut Note<Entry<T>>) -> Option<Word<Entry<T>, A>>
         requires from { self.now.from ≡ alloc }
         requires of { note.old.of ≡ self.now.id }
@@ -283,7 +284,7 @@ impl<'a, T: Drop, A: Allocator + Copy> BucketRef<'a, T, A> {
         Some(Word::of_name(name, &alloc))
     }
 
-    /// The entry of a bucket that is set alone. Its mark isn't read.
+    /// Returns the entry of a bucket that was set through `&mut`, without reading its mark.
     pub fn entry(&self, home: &'a Home) -> &'a Entry<T>
         requires home { self.now.home ≡ home.now.id }
         requires set { IsSome (shown self.now.content) }
@@ -292,7 +293,7 @@ impl<'a, T: Drop, A: Allocator + Copy> BucketRef<'a, T, A> {
         self.word.name().get(home)
     }
 
-    /// The entry that the bucket holds alone.
+    /// Returns the entry of the bucket, if it was set through `&mut`.
     pub fn get_alone(&self, home: &'a Home) -> Option<&'a Entry<T>>
         requires { self.now.home ≡ home.now.id }
         ensures { option_copied result ≡ shown self.now.content }
@@ -303,14 +304,15 @@ impl<'a, T: Drop, A: Allocator + Copy> BucketRef<'a, T, A> {
         }
     }
 
-    /// A note of what the bucket is set to through `&`, which knows nothing yet.
+    /// Returns a note for the bucket, which knows nothing yet. It will know to what the bucket is set through `&`.
     pub fn note(&self) -> Note<Entry<T>>
         ensures { (result.of ≡ self.now.id) × (result.known ≡ None) }
     {
         self.word.note()
     }
 
-    /// The entry that the bucket holds, or was set to through `&`: then the note knows it. What a note knows is shown again.
+    /// Returns the entry of the bucket. If that was set through `&`, the note knows it from then on. With a note that knows an
+    /// entry, the result is that entry.
     pub fn get(&self, home: &'a Home, note: &mut Note<Entry<T>>) -> Option<&'a Entry<T>>
         requires home { self.now.home ≡ home.now.id }
         requires of { note.old.of ≡ self.now.id }
@@ -328,8 +330,8 @@ impl<'a, T: Drop, A: Allocator + Copy> BucketRef<'a, T, A> {
 }
 
 impl<'a, T: Drop, A: Low + Copy> BucketRef<'a, T, A> {
-    /// Sets a vacant bucket by one exchange. The block is asked for before the bucket is looked at. The note then knows the
-    /// entry that was placed here, or the one that came first.
+    /// Sets a vacant bucket by one exchange. Allocates the block before it looks at the bucket. The note then knows the entry
+    /// that was placed, or the one that came first.
     pub fn place(
         &self,
         home: &'a Home,

@@ -1,4 +1,4 @@
-//! How long blocks live.
+//! The life of heap blocks.
 ghost use Rattle.std.specs.Prelude.{◌≡◌, ℕ, [], ◌∷◌};
 ghost use base.Fml.{flft, fdead};
 ghost use base.Fraction.{full_share};
@@ -6,9 +6,9 @@ ghost use denote.Sharing.{said, ends};
 
 use std::marker::{Model, PhantomData, Send, Sync};
 
-/// The life of blocks: as long as it is borrowed they may be read. It takes no space.
+/// The life of a set of heap blocks: while the home is borrowed, its blocks may be read. It takes no space.
 ///
-/// It is not dropped: `close` ends it, and then each block goes to whoever has the right to it.
+/// It is not dropped. `close` ends it, and then each block goes to the owner of the right to it.
 pub struct Home {
     mark: PhantomData<*const u8>,
     pub ghost id: { ℕ },
@@ -21,12 +21,12 @@ impl Model for Home {
 }
 
 impl Home {
-    /// A home with no block.
+    /// Makes a home with no block.
     pub fn new() -> Home {
         Home { mark: PhantomData }
     }
 
-    /// From here on no block is read.
+    /// Ends the home. No block of it is read any more.
     pub fn close(self) -> Closed
         ensures { result.id ≡ self.id }
     {
@@ -35,7 +35,7 @@ impl Home {
     }
 }
 
-/// A home that has ended.
+/// Evidence that a home has ended.
 #[derive(Drop)]
 pub struct Closed {
     mark: PhantomData<*const u8>,
@@ -48,7 +48,7 @@ impl Model for Closed {
     ghost also_shares = { λ h _. said (fdead (h.id ∷ [])) };
 }
 
-/// What lies in the blocks of a home. `fits` says that a value belongs to the home with that id.
+/// The content of a home's blocks. `fits` says that a value belongs to the home with that id.
 pub trait Homed {
     ghost fits: { Self → ℕ → Type 0 };
 }

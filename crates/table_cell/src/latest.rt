@@ -14,9 +14,10 @@ use std::ptr::null_mut;
 use std::sync::atomic::AtomicPtr;
 use std::sync::atomic::Ordering::SeqCst;
 
-/// The block that was shown last: null, or the address of a block that a word holds.
+/// A word that holds the block that was published last: null, or the address of a block that a `Word` holds.
 ///
-/// It owns nothing. What it names lives as long as its home, also once another block is shown. Anyone may call it at any time.
+/// It owns nothing. A block that it named stays alive as long as its home, also after another block is published. Any thread may
+/// call it at any time.
 pub struct Latest<T: Homed, A: Allocator> {
     inner: AtomicPtr<T>,
     marker: PhantomData<A>,
@@ -35,7 +36,7 @@ impl<T: Homed, A: Allocator> Move for Latest<T, A> {
 }
 
 impl<T: Homed, A: Allocator> Latest<T, A> {
-    /// Nothing was shown yet. It takes no memory.
+    /// Makes a word that names no block yet. Does not allocate.
     pub fn new(_alloc: &A, _home: &Home) -> Latest<T, A>
         ensures { result.home ≡ _home.now.id }
     {
@@ -45,15 +46,15 @@ impl<T: Homed, A: Allocator> Latest<T, A> {
         }
     }
 
-    /// A note of what is shown, which knows of nothing yet.
+    /// Returns a note for this word, which knows nothing yet. It will know whether a block was published.
     pub fn note(&self) -> Note<()>
         ensures { (result.of ≡ self.now.id) × (result.known ≡ None) }
     {
         Note { mark: PhantomData }
     }
 
-    /// From now on it names what this word was set to through `&`, which the note of the word has seen. The note that it hands out
-    /// knows that a block was shown. The store is one step; the word is loaded before it.
+    /// Publishes the block to which this word was set through `&`. `_seen` is a note that knows what the word was set to. The
+    /// note returned knows that a block was published. Loads the word, and then does one store.
     pub fn show(&self, word: &Word<T, A>, _seen: &Note<T>) -> Note<()>
         requires unset { word.now.value ≡ None }
         requires home { word.now.home ≡ self.now.home }
@@ -67,8 +68,8 @@ impl<T: Homed, A: Allocator> Latest<T, A> {
         Note { mark: PhantomData }
     }
 
-    /// The name of the block that was shown last, if one was. The note then knows that one was, and with such a note there is a name.
-    /// One load.
+    /// Returns the name of the block that was published last, or `None` if none was. The note then knows that one was; with such
+    /// a note the result is never `None`. Does one load.
     pub fn name(&self, note: &mut Note<()>) -> Option<Name<T>>
         requires of { note.old.of ≡ self.now.id }
         ensures of { note.new.of ≡ note.old.of }

@@ -1,4 +1,4 @@
-//! Blocks that live as long as a home, and buckets that name them by their addresses.
+//! Heap blocks that live as long as a home, and buckets that hold the addresses of blocks.
 #![tactic(auto)]
 
 mod bucket;

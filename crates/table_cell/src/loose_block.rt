@@ -1,4 +1,4 @@
-//! A block that no box owns, on its way into a word or out of one.
+//! A heap block that no box owns, on its way into a word or out of one.
 ghost use Rattle.std.specs.Prelude.{◌≡◌};
 ghost use Rattle.std.specs.Box.{box_allocator};
 ghost use Rattle.table_cell.specs.Words.{freeable};
@@ -6,10 +6,10 @@ ghost use Rattle.table_cell.specs.Words.{freeable};
 use std::alloc::Allocator;
 use std::marker::{Model, PhantomData};
 
-/// The address of a block, and the right to free it. Contracts also know the value there, and the allocator that the block
-/// came from.
+/// The address of a heap block, and the right to free it. Contracts also know the value in it, and the allocator that it came
+/// from.
 ///
-/// Nothing frees it by itself: it is put into a word, or made a box again.
+/// Nothing frees it automatically: it is put into a word, or made a box again.
 pub struct LooseBlock<T, A: Allocator> {
     pub(crate) at: *mut T,
     pub(crate) allocator: PhantomData<A>,
@@ -22,7 +22,7 @@ impl<T, A: Allocator> Model for LooseBlock<T, A> {
 }
 
 impl<T: Drop, A: Allocator> LooseBlock<T, A> {
-    /// Takes a box apart, and lets its allocator go.
+    /// Takes a box apart, and drops its handle of the allocator.
     pub fn of(block: Box<T, A>) -> LooseBlock<T, A>
         ensures { (result.value ≡ block.value) × (result.from ≡ box_allocator block) }
     {
@@ -35,7 +35,7 @@ impl<T: Drop, A: Allocator> LooseBlock<T, A> {
 }
 
 impl<T, A: Allocator> LooseBlock<T, A> {
-    /// A box again, by the allocator that the block came from.
+    /// Makes a box of the block again. `alloc` is the allocator that the block came from.
     pub fn into_box(self, alloc: A) -> Box<T, A>
         requires { alloc ≡ self.from }
         ensures { result.value ≡ self.value }

@@ -6,11 +6,11 @@ ghost use Rattle.table_cell.specs.Words.{testable};
 
 use std::alloc::{Allocator, Global};
 
-/// An allocator whose blocks may be compared with null: each begins below the 2^63rd byte of the memory that it is of.
+/// An allocator whose blocks may be compared with null: each begins below byte 2^63 of the memory that it belongs to.
 ///
-/// No allocator's contract says so, and so who implements it proves it.
+/// No allocator's contract says so, so an implementor proves it.
 pub unsafe trait Low: Allocator {
-    /// The block at this address may be compared with null. Nothing is read.
+    /// States that the block at this address may be compared with null. Reads nothing.
     unsafe fn show_low(at: *const u8)
         ghost g: { Self × Ty }
         requires* { sem 𝓛 (Self.dealloc_token g.0 g.1 at) }

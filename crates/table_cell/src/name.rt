@@ -1,13 +1,14 @@
-//! Where a block lies.
+//! The address of a block.
 ghost use Rattle.std.specs.Prelude.{◌≡◌, ℕ};
 ghost use Rattle.table_cell.specs.Words.{named};
 
 use crate::home::Home;
 use std::marker::Model;
 
-/// A block by its address, to be read as long as its home is borrowed. A block has any number of names, and none owns it.
+/// A name of a block: its address, by which the block can be read as long as its home is borrowed. A block has any number of
+/// names, and none owns it.
 ///
-/// `value` is what the name shows, now and ever.
+/// `value` is what the block holds, which never changes.
 #[derive(Drop)]
 pub struct Name<T> {
     pub(crate) at: *mut T,
@@ -20,7 +21,7 @@ impl<T> Model for Name<T> {
 }
 
 impl<T> Name<T> {
-    /// What lies in the block.
+    /// Returns the content of the block.
     pub fn get<'a>(self, home: &'a Home) -> &'a T
         requires { home.now.id ≡ self.home }
         ensures { result.now ≡ self.value }

@@ -1,4 +1,4 @@
-//! Looks at a word, and what they showed.
+//! Knowledge of what a word was set to.
 ghost use Rattle.std.specs.Prelude.{ℕ, Option};
 ghost use Rattle.std.specs.Coded.{coded_option};
 ghost use denote.Sharing.{said};
@@ -6,9 +6,9 @@ ghost use Rattle.table_cell.specs.Notes.{learnt};
 
 use std::marker::{Model, PhantomData, Send, Sync};
 
-/// Keeps, for contracts, what looks at one word have shown. While no look finds the word set there is nothing to keep. From
-/// then on it is the value there, since a word is set through `&` once at most. A `Note<()>` is one of a `Latest`, and keeps that a
-/// block was shown. In memory a note is empty.
+/// A note of one word: for contracts, the value that calls have seen in the word so far, or none. Since a word is set through `&`
+/// at most once, a value once known stays. A `Note<()>` belongs to a `Latest`, and knows whether a block was published. A note
+/// takes no bytes.
 #[derive(Drop)]
 pub struct Note<T> {
     pub(crate) mark: PhantomData<*const T>,

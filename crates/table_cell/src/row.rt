@@ -1,4 +1,4 @@
-//! Buckets in a row: their marks apart from their words, 10 bytes a bucket.
+//! Buckets in a row. Their marks and their words are stored apart, in 10 bytes a bucket.
 ghost use Rattle.std.specs.Prelude.{◌≡◌, ◌<◌, length, replicate, [], slice_set, IfOk, IfErr, OnOk};
 ghost use Rattle.table_cell.specs.Contents.{vacant, own, entry_from, Lies, HandsBack};
 ghost use Rattle.table_cell.specs.Rows.{content_at, bucket_at, AreOfOneRow, TakesFirst};
@@ -13,13 +13,13 @@ use std::alloc::{AllocError, Allocator};
 use std::marker::Model;
 use std::vec;
 
-/// Buckets of one home and one allocator, in a row. What a probe skips it skips by the marks alone, which lie close together.
+/// A row of buckets of one home and one allocator. A probe skips buckets by their marks, which lie close together in memory.
 ///
-/// A row that is dropped frees no block: `into_buckets` hands the buckets out.
+/// Dropping a row frees no block; `into_buckets` returns its buckets.
 #[derive(Drop)]
 pub struct Row<T: Drop, A: Allocator + Copy> {
     alloc: A,
-    /// Never set: it says of which home the buckets are.
+    /// Never set. It tells contracts the home of the buckets.
     origin: Word<Entry<T>, A>,
     marks: Vec<Mark, A>,
     words: Vec<Word<Entry<T>, A>, A>,
@@ -36,7 +36,7 @@ impl<T: Drop, A: Allocator + Copy> Model for Row<T, A> {
 }
 
 impl<T: Drop, A: Allocator + Copy> Row<T, A> {
-    /// No bucket at all. It takes no memory.
+    /// Makes a row without buckets. Does not allocate.
     pub fn new(alloc: A, home: &Home) -> Self
         ensures of { (result.from ≡ alloc) × (result.home ≡ home.now.id) }
         ensures none { result.contents ≡ [] }
@@ -49,7 +49,8 @@ impl<T: Drop, A: Allocator + Copy> Row<T, A> {
         }
     }
 
-    /// So many vacant buckets. It asks for memory twice, once for the marks and once for the words; no bucket, no memory.
+    /// Makes a row of `capacity` vacant buckets. Allocates twice, for the marks and for the words. For a capacity of 0 it does
+    /// not allocate.
     pub fn vacant(alloc: A, home: &Home, capacity: usize) -> Result<Self, AllocError>
         ensures of { IfOk result (λ r. (r.from ≡ alloc) × (r.home ≡ home.now.id)) }
         ensures vacant { IfOk result (λ r. r.contents ≡ replicate capacity vacant) }
@@ -68,21 +69,21 @@ impl<T: Drop, A: Allocator + Copy> Row<T, A> {
         })
     }
 
-    /// The allocator of the buckets.
+    /// Returns the allocator of the buckets.
     pub fn alloc(&self) -> A
         ensures { result ≡ self.now.from }
     {
         self.alloc
     }
 
-    /// The number of buckets.
+    /// Returns the number of buckets.
     pub fn len(&self) -> usize
         ensures { result ≡ length self.now.contents }
     {
         self.marks.len()
     }
 
-    /// The bucket at this index, to be looked at.
+    /// Returns a view of the bucket at this index.
     pub fn at(&self, index: usize) -> BucketRef<'_, T, A>
         requires { index < length self.now.contents }
         ensures { result ≡ bucket_at self.now index }
@@ -93,7 +94,7 @@ impl<T: Drop, A: Allocator + Copy> Row<T, A> {
         }
     }
 
-    /// Puts a bucket into the place of a vacant one, which no `place` has set.
+    /// Replaces a vacant bucket, which no `place` has set, by another one.
     pub fn put(&mut self, index: usize, new: Bucket<T, A>)
         requires within { index < length self.old.contents }
         requires vacant { content_at self.old.contents index ≡ vacant }
@@ -107,8 +108,8 @@ impl<T: Drop, A: Allocator + Copy> Row<T, A> {
         self.words[index] = word;
     }
 
-    /// Sets the bucket at this index to the value, in a block of its own. The block is asked for before the bucket is looked
-    /// at. See `Bucket::place_alone`.
+    /// Sets the bucket at this index to the value, in a new heap block. Allocates the block before it looks at the bucket. See
+    /// `Bucket::place_alone`.
     pub fn place_alone(
         &mut self,
         home: &Home,
@@ -143,7 +144,7 @@ impl<T: Drop, A: Allocator + Copy> Row<T, A> {
         }
     }
 
-    /// Takes the row apart. It takes no memory.
+    /// Takes the row apart. Does not allocate.
     pub fn into_buckets(self) -> Buckets<T, A>
         ensures { result ≡ self }
     {
@@ -162,7 +163,7 @@ impl<T: Drop, A: Allocator + Copy> Row<T, A> {
     }
 }
 
-/// The buckets of a row that are left, in their order. Those that are dropped free no block.
+/// An iterator over the buckets of a row, in order. Dropping it frees none of their blocks.
 #[derive(Drop)]
 pub struct Buckets<T: Drop, A: Allocator + Copy> {
     alloc: A,
@@ -183,14 +184,14 @@ impl<T: Drop, A: Allocator + Copy> Model for Buckets<T, A> {
 }
 
 impl<T: Drop, A: Allocator + Copy> Buckets<T, A> {
-    /// The allocator of the buckets.
+    /// Returns the allocator of the buckets.
     pub fn alloc(&self) -> A
         ensures { result ≡ self.now.from }
     {
         self.alloc
     }
 
-    /// The next bucket.
+    /// Returns the next bucket, or `None` at the end.
     pub fn next_bucket(&mut self) -> Option<Bucket<T, A>>
         ensures { TakesFirst self.old result self.new }
     {

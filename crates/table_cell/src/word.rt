@@ -17,9 +17,9 @@ use std::ptr::null_mut;
 use std::sync::atomic::AtomicPtr;
 use std::sync::atomic::Ordering::SeqCst;
 
-/// Null, or the address of a block for good: of a block that the word owns, or of one that another word owns.
+/// A word: null, or the address of a block that never changes. The word owns the block, or another word does.
 ///
-/// A word that is dropped forgets its block: `into_block` hands it out.
+/// Dropping a word forgets its block; `into_block` returns it.
 pub struct Word<T: Homed, A: Allocator> {
     pub(crate) inner: AtomicPtr<T>,
     marker: PhantomData<A>,
@@ -38,7 +38,7 @@ impl<T: Homed, A: Allocator> Move for Word<T, A> {
 }
 
 impl<T: Homed, A: Allocator> Word<T, A> {
-    /// Null. It takes no memory.
+    /// Makes a null word. Does not allocate.
     pub fn new(_alloc: &A, _home: &Home) -> Word<T, A>
         ensures { (result.from ≡ _alloc.now) × (result.home ≡ _home.now.id) × (result.owning ≡ true)
             × (result.value ≡ None) }
@@ -49,7 +49,7 @@ impl<T: Homed, A: Allocator> Word<T, A> {
         }
     }
 
-    /// Names the block of another word, and owns nothing.
+    /// Makes a word that names the block of another word, and owns nothing.
     pub fn of_name(name: Name<T>, _alloc: &A) -> Word<T, A>
         requires { T.fits name.value name.home }
         ensures { result ≡ word_view _alloc.now name.home false (Some name.value) }
@@ -61,7 +61,7 @@ impl<T: Homed, A: Allocator> Word<T, A> {
         }
     }
 
-    /// Owns a block.
+    /// Makes a word that owns a block.
     pub fn own(home: &Home, block: LooseBlock<T, A>) -> Word<T, A>
         requires { T.fits block.value home.now.id }
         ensures { result ≡ word_view block.from home.now.id true (Some block.value) }
@@ -73,7 +73,7 @@ impl<T: Homed, A: Allocator> Word<T, A> {
         }
     }
 
-    /// The name of the block that a set word holds.
+    /// Returns the name of the block that a set word holds.
     pub fn name(&self) -> Name<T>
         requires { IsSome self.now.value }
         ensures { (result.home ≡ self.now.home) × Shows T.fits self.now result.value }
@@ -82,14 +82,15 @@ impl<T: Homed, A: Allocator> Word<T, A> {
         Name { at }
     }
 
-    /// A note of what the word is set to, which knows nothing yet.
+    /// Returns a note for this word, which knows nothing yet. It will know to what the word is set.
     pub fn note(&self) -> Note<T>
         ensures { (result.of ≡ self.now.id) × (result.known ≡ None) }
     {
         Note { mark: PhantomData }
     }
 
-    /// The name of the block, if the word was set by now. The note then knows its value. What a note knows is shown again.
+    /// Returns the name of the block, if the word was set through `&` by now. The note then knows its value. With a note that
+    /// knows a value, the result is the name of a block with that value.
     pub fn name_if_set(&self, note: &mut Note<T>) -> Option<Name<T>>
         requires unset { self.now.value ≡ None }
         requires of { note.old.of ≡ self.now.id }
@@ -106,7 +107,7 @@ impl<T: Homed, A: Allocator> Word<T, A> {
         Some(Name { at })
     }
 
-    /// The word as one that is set to the value that the note knows. Nothing is read.
+    /// Returns the word as one that is set to the value that the note knows. Reads nothing.
     fn known_by(self, note: Note<T>) -> Word<T, A>
         requires { (note.of ≡ self.id) × (self.value ≡ None) × IsSome note.known }
         ensures same { (result.from ≡ self.from) × (result.home ≡ self.home)
@@ -117,7 +118,8 @@ impl<T: Homed, A: Allocator> Word<T, A> {
         self
     }
 
-    /// The word as one whose value is known, with its name, if it was set through `&`. One that wasn't is as it was.
+    /// Returns the word as one whose value is known, with its name, if it was set through `&`. A word that wasn't is returned
+    /// unchanged.
     pub fn settled(self, note: Note<T>) -> (Word<T, A>, Option<Name<T>>)
         requires unset { self.value ≡ None }
         requires of { note.of ≡ self.id }
@@ -134,7 +136,7 @@ impl<T: Homed, A: Allocator> Word<T, A> {
         }
     }
 
-    /// The block of a set word, once its home has ended.
+    /// Returns the block of a set word, after its home has ended.
     pub fn into_block(self, closed: &Closed) -> LooseBlock<T, A>
         requires { (closed.now.id ≡ self.home) × (self.owning ≡ true) × IsSome self.value }
         ensures { (result.from ≡ self.from) × Shows T.fits self result.value }
@@ -147,8 +149,8 @@ impl<T: Homed, A: Allocator> Word<T, A> {
         }
     }
 
-    /// The block, if the word was set through `&`, once its home has ended: of the value that the note knows, if it knows
-    /// one.
+    /// Returns the block, if the word was set through `&`, after its home has ended. It holds the value that the note knows, if
+    /// it knows one.
     pub fn into_block_if_set(self, closed: &Closed, note: Note<T>) -> Option<LooseBlock<T, A>>
         requires owns { (closed.now.id ≡ self.home) × (self.owning ≡ true) }
         requires unset { self.value ≡ None }
@@ -165,8 +167,8 @@ impl<T: Homed, A: Allocator> Word<T, A> {
 }
 
 impl<T: Homed, A: Low> Word<T, A> {
-    /// Sets the word by one exchange, unless it was set before. Shows what the word then names, which the note then knows.
-    /// A block that came second comes back.
+    /// Sets the word by one exchange, unless it was set before. Returns a reference to what the word then names, which the note
+    /// then knows. If another block came first, returns this block.
     pub fn offer<'a>(
         &'a self,
         home: &'a Home,

@@ -1,37 +1,37 @@
-//! Where a call stands, and what its events find.
+//! The states of a call, and what its events find.
 ghost use Rattle.std.specs.Prelude.{◌≡◌};
 ghost use Rattle.table_core.specs.Calls.{starting, insert_start, lookup_start, length_start, walk_start};
 
-/// Where a call stands. The phase says which events it can take.
+/// The phase of a call. It determines which events the call can take.
 #[derive(Clone, Copy, Debug, PartialEq, Eq)]
 pub enum Phase {
-    /// An insert wants the lock, shared with others.
+    /// The insert needs the lock, shared with others.
     WantShared,
-    /// It holds the lock shared, and has not loaded a generation.
+    /// The insert holds the lock shared, and has not loaded a generation.
     Shared,
-    /// It looks for its value's equal or for an empty bucket.
+    /// The insert searches for an equal entry or an empty bucket.
     Probe,
-    /// It stands at a bucket that was empty when it was read.
+    /// The insert stands at a bucket that was empty when it was read.
     AtEmpty,
-    /// Its value is in its bucket and isn't counted yet.
+    /// The value is in its bucket and isn't counted yet.
     Placed,
-    /// It has an outcome, and releases the shared lock.
+    /// The insert has an outcome, and releases the shared lock.
     LeaveOk,
-    /// It found no room, and releases the shared lock in order to grow.
+    /// The insert found no room, and releases the shared lock in order to grow the table.
     LeaveGrow,
-    /// It was refused memory, and releases the shared lock.
+    /// Memory was refused, and the insert releases the shared lock.
     LeaveRefused,
-    /// It asks whether its generation is half full.
+    /// The insert checks whether its generation is half full.
     AskSize,
-    /// It wants the lock for itself.
+    /// The insert needs the lock exclusively.
     WantOwned,
-    /// It holds the lock alone.
+    /// The insert holds the lock exclusively.
     Owned,
-    /// It holds the lock alone and copies into the next generation.
+    /// The insert holds the lock exclusively and copies into the next generation.
     Building,
-    /// It is done with growth, and releases the lock.
+    /// The insert is done with growth, and releases the lock.
     LeaveOwned,
-    /// Its growth failed, and it releases the lock.
+    /// The growth failed, and the insert releases the lock.
     LeaveFailed,
     /// A look-up loads the current generation.
     LookLoad,
@@ -45,14 +45,14 @@ pub enum Phase {
     WalkLoad,
     /// A walk reads the buckets in turn.
     WalkAt,
-    /// It has its reply.
+    /// The call has its reply.
     Done,
 }
 
-/// What a call has reached, and in which bucket of the generation that it walks its entry is.
+/// The outcome of a call, with the index of its entry's bucket in the generation that the call probes.
 #[derive(Clone, Copy, Debug, PartialEq, Eq)]
 pub enum Outcome {
-    /// Nothing yet, or a reply that names no entry.
+    /// No outcome yet, or a reply that names no entry.
     Pending,
     /// The call's own value was placed.
     New { index: u64 },
@@ -60,27 +60,27 @@ pub enum Outcome {
     Existing { index: u64 },
 }
 
-/// A call's phase and its numbers. It holds no value.
+/// The state of a call: its phase and its numbers. It holds no value.
 #[derive(Clone, Copy, Debug, PartialEq, Eq)]
 pub struct CallState {
-    /// Where it stands.
+    /// The phase.
     pub phase: Phase,
-    /// The hash that it was given.
+    /// The hash that was given to the call.
     pub hash: u64,
-    /// The generation that it loaded last, if there was one.
+    /// The number of the generation that it loaded last, if there was one.
     pub walked: Option<u64>,
-    /// How many buckets that generation has.
+    /// The number of buckets of that generation.
     pub capacity: u64,
-    /// The bucket at which it stands.
+    /// The index of the bucket at which it stands.
     pub index: u64,
-    /// How many set buckets its probe has passed.
+    /// The number of set buckets that its probe has passed.
     pub seen: u64,
-    /// What it has reached.
+    /// The outcome so far.
     pub outcome: Outcome,
 }
 
 impl CallState {
-    /// Where an insert of a value with this hash starts.
+    /// Returns the first state of an insert of a value with this hash.
     #[inline(always)]
     pub fn insert(hash: u64) -> CallState
         ensures { result ≡ insert_start hash }
@@ -88,7 +88,7 @@ impl CallState {
         CallState::in_first_phase(Phase::WantShared, hash)
     }
 
-    /// Where a look-up of this hash starts.
+    /// Returns the first state of a look-up of this hash.
     #[inline(always)]
     pub fn lookup(hash: u64) -> CallState
         ensures { result ≡ lookup_start hash }
@@ -96,14 +96,14 @@ impl CallState {
         CallState::in_first_phase(Phase::LookLoad, hash)
     }
 
-    /// Where a length starts.
+    /// Returns the first state of a call that returns the number of entries.
     pub fn length() -> CallState
         ensures { result ≡ length_start }
     {
         CallState::in_first_phase(Phase::LenLoad, 0)
     }
 
-    /// Where a walk over all entries starts.
+    /// Returns the first state of a walk over all entries.
     pub fn walk() -> CallState
         ensures { result ≡ walk_start }
     {
@@ -126,15 +126,15 @@ impl CallState {
     }
 }
 
-/// What an event found.
+/// The answer to an event: what it found.
 #[derive(Clone, Copy, Debug, PartialEq, Eq)]
 pub enum Answer {
     /// The lock is held now.
     Taken,
     /// The lock is released, other than after a failed growth.
     Released,
-    /// The lock is released after a failed growth, and whether the walked generation is the current
-    /// one still, or there is none still.
+    /// The lock is released after a failed growth. `still_current` tells whether the generation that the call loaded is still the
+    /// current one, or there is still none.
     ReleasedAfterFailure { still_current: bool },
     /// There is no generation yet.
     NoGeneration,
@@ -142,16 +142,15 @@ pub enum Answer {
     Loaded { number: u64, capacity: u64 },
     /// The bucket is empty.
     Empty,
-    /// The bucket is set, its bits are those of the call's hash, and this is what the closure said.
+    /// The bucket is set, its bits are those of the call's hash, and this is the closure's answer.
     Holds { accepted: bool },
-    /// The bucket is set, and the closure was not asked: its bits are others than those of the call's
-    /// hash, or the call is a walk.
+    /// The bucket is set, and the closure was not called: its bits differ from those of the call's hash, or the call is a walk.
     HoldsUnasked,
-    /// The bucket was still empty, and holds the call's value now.
+    /// The bucket was still empty, and now holds the call's value.
     Won,
-    /// The memory for the value was refused.
+    /// Memory for the value was refused.
     MemoryRefused,
-    /// The size has one more.
+    /// The size was increased by one.
     Counted,
     /// The size.
     Sized { size: u64 },
@@ -159,7 +158,7 @@ pub enum Answer {
     Begun,
     /// Growth is not wanted any more.
     Unwanted,
-    /// Growth is wanted, and there is no memory for it or no greater capacity.
+    /// Growth is wanted, but memory was refused or the capacity can't double.
     Failed,
     /// One entry was copied.
     Copied,

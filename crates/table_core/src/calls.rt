@@ -1,4 +1,4 @@
-//! The calls that have begun, by number, with who holds the lock.
+//! The calls that have begun, by number, and which of them hold the lock.
 ghost use Rattle.std.specs.Prelude.{◌≡◌, ℕ, nat_eq, ◌||◌, ◌≤◌, ◌<◌, ◌+◌, ◌^◌, ◌++◌, ◌∷◌, [], Option, Some, None, false, length, slice_set, vec_len, OnOk, OnErr};
 ghost use Rattle.std.specs.HashSet as set;
 ghost use Rattle.std.specs.List.{slice_get};
@@ -13,7 +13,7 @@ use std::hash::{BuildHasherDefault, FoldHasher};
 use std::marker::Model;
 use std::mem;
 
-/// A call: its number, the value of an insert, the list so far of a walk, and where it stands.
+/// A call: its number, the value of an insert, the list that a walk has made so far, and its state.
 #[derive(Drop)]
 pub struct Call<A: Allocator + Copy> {
     number: u64,
@@ -30,8 +30,8 @@ impl<A: Allocator + Copy> Model for Call<A> {
     ghost view = { λ c. record { number = c.number; value = c.value; list = c.list.items; state = c.state } };
 }
 
-/// All calls of a schedule, in the order in which they began. Where a call of a number stands, which
-/// values are used and who holds the lock is known without a scan of the calls.
+/// All calls of a schedule, in the order in which they began. The state of a call, the values in use and the holders of the lock
+/// are found without a scan of the calls.
 #[derive(Drop)]
 pub struct Calls<A: Allocator + Copy> {
     all: Vec<Call<A>, A>,
@@ -53,7 +53,7 @@ impl<A: Allocator + Copy> Model for Calls<A> {
     ghost invariant = { λ c. IsIndexed c.all.items c.positions c.values c.sharing c.owning };
 }
 
-/// Whether a call in this phase holds the lock shared.
+/// Returns whether a call in this phase holds the lock shared.
 fn shares(phase: Phase) -> bool
     ensures { result ≡ holds_shared phase }
 {
@@ -69,7 +69,7 @@ fn shares(phase: Phase) -> bool
     )
 }
 
-/// Whether a call in this phase holds the lock alone.
+/// Returns whether a call in this phase holds the lock exclusively.
 fn owns(phase: Phase) -> bool
     ensures { result ≡ holds_owned phase }
 {
@@ -79,7 +79,7 @@ fn owns(phase: Phase) -> bool
     )
 }
 
-/// A count in which one call was counted, if `before`, and is counted now, if `after`.
+/// Returns a count of calls after one of them changed: it was counted if `before`, and is counted now if `after`.
 fn recount(count: usize, before: bool, after: bool) -> usize
     requires counted { one_if before ≤ count }
     requires small { count < 2 ^ 63 }
@@ -93,14 +93,14 @@ fn recount(count: usize, before: bool, after: bool) -> usize
 }
 
 impl<A: Allocator + Copy> Call<A> {
-    /// Where the call stands.
+    /// Returns the state of the call.
     pub fn state(&self) -> CallState
         ensures { result ≡ self.now.state }
     {
         self.state
     }
 
-    /// The value of an insert.
+    /// Returns the value of an insert.
     pub fn value(&self) -> Option<u64>
         ensures { result ≡ self.now.value }
     {
@@ -130,7 +130,7 @@ impl<A: Allocator + Copy> Call<A> {
     }
 }
 
-/// The value of an insert is used now.
+/// Marks the value of an insert as used.
 fn use_value<A: Allocator + Copy>(
     values: &mut HashSet<u64, BuildHasherDefault<FoldHasher>, A>,
     value: Option<u64>,
@@ -145,7 +145,7 @@ fn use_value<A: Allocator + Copy>(
     Ok(())
 }
 
-/// The state of the call at a position.
+/// Returns the state of the call at a position.
 fn state_at<A: Allocator + Copy>(all: &[Call<A>], at: usize) -> CallState
     requires { at < length all.now }
     ensures { (c : SpecCall) → slice_get all.now at ≡ Some c → result ≡ c.state }
@@ -188,7 +188,7 @@ fn take_list_at<A: Allocator + Copy>(all: &mut Vec<Call<A>, A>, at: usize, alloc
 }
 
 impl<A: Allocator + Copy> Calls<A> {
-    /// No calls. It takes no memory.
+    /// Makes an empty collection. Does not allocate.
     pub fn new(alloc: A) -> Self
         ensures { result ≡ [] }
     {
@@ -201,14 +201,14 @@ impl<A: Allocator + Copy> Calls<A> {
         }
     }
 
-    /// The place of the call of a number.
+    /// Returns the position of the call of this number.
     pub fn position(&self, number: u64) -> Option<usize>
         ensures { result ≡ position_of number self.now }
     {
         self.positions.get(&number).copied()
     }
 
-    /// Where the call of a number stands, if there is one.
+    /// Returns the state of the call of this number, if there is one.
     pub fn state_of(&self, number: u64) -> Option<CallState>
         ensures { result ≡ state_of number self.now }
     {
@@ -218,35 +218,35 @@ impl<A: Allocator + Copy> Calls<A> {
         }
     }
 
-    /// Whether a call has this number.
+    /// Returns whether a call has this number.
     pub fn is_used(&self, number: u64) -> bool
         ensures { result ≡ is_used number self.now }
     {
         self.positions.contains_key(&number)
     }
 
-    /// Whether an insert has this value.
+    /// Returns whether an insert has this value.
     pub fn is_used_value(&self, value: u64) -> bool
         ensures { result ≡ is_used_value value self.now }
     {
         self.values.contains(&value)
     }
 
-    /// Whether a call holds the lock alone.
+    /// Returns whether a call holds the lock exclusively.
     pub fn is_owned(&self) -> bool
         ensures { result ≡ is_owned self.now }
     {
         self.owning > 0
     }
 
-    /// Whether a call holds the lock.
+    /// Returns whether a call holds the lock.
     pub fn is_locked(&self) -> bool
         ensures { result ≡ is_locked self.now }
     {
         self.sharing > 0 || self.owning > 0
     }
 
-    /// A call more, in its first state.
+    /// Adds a call, in its first state.
     pub fn begin(
         &mut self,
         alloc: A,
@@ -274,7 +274,7 @@ impl<A: Allocator + Copy> Calls<A> {
         Ok(())
     }
 
-    /// The call at a position.
+    /// Returns the call at a position.
     pub fn get(&self, at: usize) -> &Call<A>
         requires { at < length self.now }
         ensures { slice_get self.now at ≡ Some result.now }
@@ -282,7 +282,7 @@ impl<A: Allocator + Copy> Calls<A> {
         &self.all[at]
     }
 
-    /// The next state of the call at a position.
+    /// Sets the state of the call at a position.
     pub fn set_state(&mut self, at: usize, state: CallState)
         requires { at < length self.old }
         ensures { (c : SpecCall) → slice_get self.old at ≡ Some c
@@ -294,7 +294,7 @@ impl<A: Allocator + Copy> Calls<A> {
         self.owning = recount(self.owning, owns(before), owns(state.phase));
     }
 
-    /// One value more in the list of the walk at a position.
+    /// Appends a value to the list of the walk at a position.
     pub fn list_value(&mut self, at: usize, value: u64) -> Result<(), AllocError>
         requires { at < length self.old }
         ensures ok { (c : SpecCall) → slice_get self.old at ≡ Some c

@@ -1,4 +1,4 @@
-//! Where an answer takes a call: the table of events as code.
+//! The next state of a call after an answer: the table of events as code.
 ghost use Rattle.std.specs.Prelude.{◌≡◌, true, Some, None, nat_lt, ◌/◌, ◌%◌, ◌+◌, ◌<◌, if◌then◌else◌};
 ghost use Rattle.table_core.specs.Calls.{decide as after_answer, stands_at_bucket, to, probes, passes, finds_entry};
 ghost use Rattle.table_core.specs.Calls.{at_set_bucket, insert_meets, lookup_meets, walk_passes, growth_ends, growth_fails};
@@ -8,11 +8,11 @@ use crate::call::Phase::*;
 use crate::call::{Answer, CallState, Outcome, Phase};
 use table_terms::probe::remainder;
 
-/// The state of a call after what its event found.
+/// Returns the state of a call after the answer to its event.
 ///
-/// Every rule of where an answer takes a call is here, and only here. It takes no memory. An answer
-/// that has no place in the call's phase, or whose numbers can't be (a capacity of 0, a bucket or a
-/// count of buckets beyond the capacity), gives the state back as it was.
+/// This function holds every rule for the next state of a call, and nothing else does. It does not allocate. It returns the state
+/// unchanged for an answer that has no place in the call's phase, or whose numbers are impossible (a capacity of 0, a bucket or a
+/// count of buckets beyond the capacity).
 #[inline(always)]
 pub fn decide(state: CallState, answer: Answer) -> CallState
     ensures { result ≡ after_answer state answer }
@@ -59,7 +59,7 @@ pub fn decide(state: CallState, answer: Answer) -> CallState
     }
 }
 
-/// Another phase, and nothing else.
+/// Returns the state with another phase.
 #[inline(always)]
 fn in_phase(state: CallState, phase: Phase) -> CallState
     ensures { result ≡ to phase state }
@@ -67,7 +67,7 @@ fn in_phase(state: CallState, phase: Phase) -> CallState
     CallState { phase, ..state }
 }
 
-/// Whether a probe stands at a bucket of its generation.
+/// Returns whether a probe stands at a bucket of its generation.
 #[inline(always)]
 fn stands(state: CallState) -> bool
     ensures { result ≡ stands_at_bucket state }
@@ -75,7 +75,7 @@ fn stands(state: CallState) -> bool
     state.index < state.capacity && state.seen < state.capacity
 }
 
-/// Another phase at the same bucket.
+/// Returns the state with another phase, at the same bucket.
 #[inline(always)]
 fn at_bucket(state: CallState, phase: Phase) -> CallState
     ensures { result ≡ (if stands_at_bucket state then to phase state else state) }
@@ -87,7 +87,7 @@ fn at_bucket(state: CallState, phase: Phase) -> CallState
     }
 }
 
-/// An insert that found no generation.
+/// Returns the state of an insert that found no generation.
 #[inline(always)]
 fn after_empty_load(state: CallState) -> CallState
     ensures { result ≡ record state { phase = Phase.LeaveGrow; walked = None } }
@@ -99,7 +99,7 @@ fn after_empty_load(state: CallState) -> CallState
     }
 }
 
-/// A call that has this generation.
+/// Returns the state of a call that has loaded this generation.
 #[inline(always)]
 fn in_generation(state: CallState, phase: Phase, number: u64, capacity: u64) -> CallState
     ensures { result ≡ record state { phase = phase; walked = Some number; capacity = capacity } }
@@ -112,7 +112,7 @@ fn in_generation(state: CallState, phase: Phase, number: u64, capacity: u64) -> 
     }
 }
 
-/// A probe from the bucket of its hash.
+/// Returns the state of a probe that begins at the bucket of its hash.
 #[inline(always)]
 fn probe(state: CallState, phase: Phase, number: u64, capacity: u64) -> CallState
     ensures { result ≡ (if nat_lt 0 capacity then probes phase state number capacity else state) }
@@ -127,7 +127,7 @@ fn probe(state: CallState, phase: Phase, number: u64, capacity: u64) -> CallStat
     }
 }
 
-/// The bucket after this one, round the end.
+/// Returns the index of the bucket after this one. Wraps around at the end.
 #[inline(always)]
 fn bucket_after(index: u64, capacity: u64) -> u64
     requires { index < capacity }
@@ -137,7 +137,7 @@ fn bucket_after(index: u64, capacity: u64) -> u64
     if next < capacity { next } else { 0 }
 }
 
-/// The next bucket, or the phase `turned` once all buckets were seen.
+/// Returns the state at the next bucket, or in the phase `turned` after all buckets were passed.
 #[inline(always)]
 fn pass(state: CallState, on: Phase, turned: Phase) -> CallState
     requires { stands_at_bucket state ≡ true }
@@ -160,7 +160,7 @@ fn pass(state: CallState, on: Phase, turned: Phase) -> CallState
     }
 }
 
-/// The entry in the call's bucket is accepted.
+/// Returns the state of a call that accepts the entry in its bucket.
 #[inline(always)]
 fn accept_here(state: CallState, phase: Phase) -> CallState
     ensures { result ≡ finds_entry phase state }
@@ -172,7 +172,7 @@ fn accept_here(state: CallState, phase: Phase) -> CallState
     }
 }
 
-/// A call at a set bucket: it accepts the entry, or passes it.
+/// Returns the state of a call at a set bucket, which accepts the entry or passes it.
 #[inline(always)]
 fn after_met(state: CallState, accepted: bool, found: Phase, on: Phase, turned: Phase) -> CallState
     ensures { result ≡ (if stands_at_bucket state then at_set_bucket found on turned state accepted
@@ -187,7 +187,7 @@ fn after_met(state: CallState, accepted: bool, found: Phase, on: Phase, turned: 
     }
 }
 
-/// An insert at a set bucket.
+/// Returns the state of an insert at a set bucket.
 #[inline(always)]
 fn after_insert_met(state: CallState, accepted: bool) -> CallState
     ensures { result ≡ (if stands_at_bucket state then insert_meets state accepted else state) }
@@ -195,7 +195,7 @@ fn after_insert_met(state: CallState, accepted: bool) -> CallState
     after_met(state, accepted, LeaveOk, Probe, LeaveGrow)
 }
 
-/// A look-up at a set bucket.
+/// Returns the state of a look-up at a set bucket.
 #[inline(always)]
 fn after_lookup_met(state: CallState, accepted: bool) -> CallState
     ensures { result ≡ (if stands_at_bucket state then lookup_meets state accepted else state) }
@@ -203,7 +203,7 @@ fn after_lookup_met(state: CallState, accepted: bool) -> CallState
     after_met(state, accepted, Done, LookProbe, Done)
 }
 
-/// An insert whose value is counted.
+/// Returns the state of an insert whose value is counted.
 #[inline(always)]
 fn after_count(state: CallState) -> CallState
     ensures { result ≡ (if stands_at_bucket state then record state
@@ -219,7 +219,7 @@ fn after_count(state: CallState) -> CallState
     }
 }
 
-/// An insert that has the size of its generation: growth is due where it is at least half of the
+/// Returns the state of an insert that has read the size of its generation. Growth is due if the size is at least half of the
 /// capacity.
 #[inline(always)]
 fn after_insert_size(state: CallState, size: u64) -> CallState
@@ -236,7 +236,7 @@ fn after_insert_size(state: CallState, size: u64) -> CallState
     }
 }
 
-/// A length that has its size.
+/// Returns the state of a length that has read the size.
 #[inline(always)]
 fn after_length_size(state: CallState) -> CallState
     ensures { result ≡ (if nat_lt 0 state.capacity then to Phase.Done state else state) }
@@ -247,7 +247,7 @@ fn after_length_size(state: CallState) -> CallState
     in_phase(state, Phase::Done)
 }
 
-/// A length that has its generation.
+/// Returns the state of a length that has loaded its generation.
 #[inline(always)]
 fn after_length_load(state: CallState, number: u64, capacity: u64) -> CallState
     ensures { result ≡ (if nat_lt 0 capacity then record state
@@ -259,7 +259,7 @@ fn after_length_load(state: CallState, number: u64, capacity: u64) -> CallState
     in_generation(state, Phase::LenSize, number, capacity)
 }
 
-/// A walk that has its generation.
+/// Returns the state of a walk that has loaded its generation.
 #[inline(always)]
 fn after_walk_load(state: CallState, number: u64, capacity: u64) -> CallState
     ensures { result ≡ (if nat_lt 0 capacity then record state
@@ -274,7 +274,7 @@ fn after_walk_load(state: CallState, number: u64, capacity: u64) -> CallState
     }
 }
 
-/// A walk that has read a bucket: one bucket further, or its end.
+/// Returns the state of a walk that has read a bucket: at the next bucket, or at the end.
 #[inline(always)]
 fn after_walk_read(state: CallState) -> CallState
     ensures { result ≡ (if nat_lt state.index state.capacity then walk_passes state else state) }
@@ -295,7 +295,7 @@ fn after_walk_read(state: CallState) -> CallState
     }
 }
 
-/// An insert whose growth is over: without an outcome it starts over.
+/// Returns the state of an insert whose growth is over. Without an outcome it begins again.
 #[inline(always)]
 fn after_growth(state: CallState) -> CallState
     ensures { result ≡ growth_ends state }
@@ -306,8 +306,8 @@ fn after_growth(state: CallState) -> CallState
     }
 }
 
-/// An insert whose growth has failed: without an outcome it looks again where another generation is
-/// current by now.
+/// Returns the state of an insert whose growth has failed. Without an outcome it begins again if another generation is current by
+/// now.
 #[inline(always)]
 fn after_failed_growth(state: CallState, still_current: bool) -> CallState
     ensures { result ≡ growth_fails state still_current }

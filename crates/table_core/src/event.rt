@@ -2,29 +2,28 @@
 ghost use Rattle.std.specs.Prelude.{◌≡◌, true};
 ghost use Rattle.table_core.specs.Machine.{number_of, in_range};
 
-/// One event of a schedule: what a call with this number does next, and what its closure and its
-/// memory answer it.
+/// One event of a schedule: the next step of the call with this number, with the answers of its closure and of the allocator.
 ///
-/// `accepted` is the closure's answer at a set bucket, and `granted` says whether the memory that
-/// was asked for was there. Where nothing was asked they are not looked at.
+/// `accepted` is the closure's answer at a set bucket. `granted` tells whether the memory that was asked for was granted. Each is
+/// ignored if nothing was asked.
 #[derive(Clone, Copy, Debug, PartialEq, Eq)]
 pub enum Event {
-    /// Starts an insert of a value with its hash.
+    /// Begins an insert of a value with its hash.
     Insert {
         call: u64,
         value: u64,
         hash: u64,
     },
-    /// Starts a look-up of a hash.
+    /// Begins a look-up of a hash.
     Lookup {
         call: u64,
         hash: u64,
     },
-    /// Starts a length.
+    /// Begins a call that returns the number of entries.
     Len {
         call: u64,
     },
-    /// Starts a walk over all entries.
+    /// Begins a walk over all entries.
     Walk {
         call: u64,
     },
@@ -32,7 +31,7 @@ pub enum Event {
     Share {
         call: u64,
     },
-    /// Takes the lock alone.
+    /// Takes the lock exclusively.
     Own {
         call: u64,
     },
@@ -55,7 +54,7 @@ pub enum Event {
         accepted: bool,
         granted: bool,
     },
-    /// Adds one to the size of the walked generation.
+    /// Adds one to the size of the generation that the call probes.
     Add {
         call: u64,
     },
@@ -63,7 +62,7 @@ pub enum Event {
     Size {
         call: u64,
     },
-    /// Looks, holding the lock alone, whether growth is wanted, and begins it.
+    /// Checks, with the lock held exclusively, whether growth is wanted, and begins it.
     Check {
         call: u64,
         granted: bool,
@@ -80,7 +79,7 @@ pub enum Event {
 }
 
 impl Event {
-    /// The number of the call that it is of.
+    /// Returns the number of the event's call.
     pub fn call(self) -> u64
         ensures number { result ≡ number_of self }
         ensures in_range { in_range self ≡ true }

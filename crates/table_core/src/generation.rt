@@ -1,4 +1,4 @@
-//! One generation: its set buckets alone, so that memory goes with entries.
+//! One generation. It stores only its set buckets, so its memory depends on the entries.
 ghost use Rattle.std.specs.Prelude.{◌≡◌, ◌<◌, ◌≤◌, None, map, length, IfOk};
 ghost use Rattle.std.specs.Result.{OnOk, OnErr};
 ghost use Rattle.table_terms.specs.Capacities.{IsCapacity};
@@ -10,7 +10,7 @@ use std::alloc::{AllocError, Allocator};
 use std::collections::BTreeMap;
 use std::marker::Model;
 
-/// What a set bucket holds: its index, a value, and eight bits of the hash of its insert.
+/// A set bucket: its index, its value, and eight bits of the hash with which the value was inserted.
 #[derive(Clone, Copy)]
 pub struct Entry {
     pub index: u64,
@@ -18,17 +18,17 @@ pub struct Entry {
     pub bits: u8,
 }
 
-/// What a set bucket holds, beside its index.
+/// The content of a set bucket, without its index.
 #[derive(Clone, Copy)]
 pub struct Slot {
     pub value: u64,
     pub bits: u8,
-    /// So many buckets from this one on, in turn, are known to be set; at least this one.
+    /// The number of buckets from this one on, wrapping around, that are known to be set. It is at least 1.
     pub run: u64,
 }
 
-/// A generation of buckets: its capacity, its size, and its set buckets by their indices. Its memory
-/// goes with the set buckets, never with the capacity.
+/// A generation of buckets: its capacity, its size, and its set buckets by their indices. Its memory depends on the set buckets,
+/// never on the capacity.
 #[derive(Drop)]
 pub struct Generation<A: Allocator + Copy> {
     capacity: u64,
@@ -49,7 +49,7 @@ impl<A: Allocator + Copy> Model for Generation<A> {
     ghost invariant = { λ g. IsCapacity g.capacity × (g.size ≤ length g.slots.entries) × RunsHold g.capacity (map entry_of g.slots.entries) g.slots.entries };
 }
 
-/// The entries that a map keeps, in order of their indices.
+/// Returns the entries of a map, in the order of their indices.
 fn entries_in<A: Allocator + Copy>(
     slots: &BTreeMap<u64, Slot, A>,
     alloc: A,
@@ -66,7 +66,7 @@ fn entries_in<A: Allocator + Copy>(
         .collect(alloc)
 }
 
-/// The bucket so many after one, round the end.
+/// Returns the index of the bucket `steps` after this one. Wraps around at the end.
 fn index_after(index: u64, steps: u64, capacity: u64) -> u64
     requires { index < capacity }
     ensures { result ≡ bucket_at capacity index steps }
@@ -80,7 +80,7 @@ fn index_after(index: u64, steps: u64, capacity: u64) -> u64
 }
 
 impl<A: Allocator + Copy> Generation<A> {
-    /// A generation without entries. It takes no memory.
+    /// Makes a generation without entries. Does not allocate.
     pub fn new(alloc: A, capacity: u64) -> Self
         requires { IsCapacity capacity }
         ensures { result ≡ fresh capacity }
@@ -92,6 +92,7 @@ impl<A: Allocator + Copy> Generation<A> {
         }
     }
 
+    /// Returns the capacity.
     pub fn capacity(&self) -> u64
         ensures value { result ≡ self.now.capacity }
         ensures power { IsCapacity result }
@@ -99,20 +100,21 @@ impl<A: Allocator + Copy> Generation<A> {
         self.capacity
     }
 
+    /// Returns the number of counted entries.
     pub fn size(&self) -> u64
         ensures { result ≡ self.now.size }
     {
         self.size
     }
 
-    /// How many buckets are set.
+    /// Returns the number of set buckets.
     pub fn len(&self) -> usize
         ensures { result ≡ length self.now.entries }
     {
         self.slots.len()
     }
 
-    /// The entry in a bucket.
+    /// Returns the entry in a bucket, if the bucket is set.
     pub fn at(&self, index: u64) -> Option<Entry>
         ensures { result ≡ bucket self.now.entries index }
     {
@@ -126,7 +128,7 @@ impl<A: Allocator + Copy> Generation<A> {
         }
     }
 
-    /// All entries, in order of their indices.
+    /// Returns all entries, in the order of their indices.
     pub fn entries(&self, alloc: A) -> Result<Vec<Entry, A>, AllocError>
         ensures { IfOk result (λ v. v.items ≡ self.now.entries) }
     {
@@ -150,7 +152,7 @@ impl<A: Allocator + Copy> Generation<A> {
         Ok(())
     }
 
-    /// Counts one entry more.
+    /// Counts one more entry.
     pub fn count(&mut self)
         requires { self.old.size < length self.old.entries }
         ensures { self.new ≡ count self.old }
@@ -160,7 +162,7 @@ impl<A: Allocator + Copy> Generation<A> {
         self.size += 1;
     }
 
-    /// How many buckets from this one on, in turn, are known to be set; 0 if it is empty.
+    /// Returns the number of buckets from this one on, wrapping around, that are known to be set. Returns 0 if this one is empty.
     fn known_run(&self, index: u64) -> u64
         requires { index < self.now.capacity }
         ensures set { AllSet self.now index result }
@@ -173,7 +175,7 @@ impl<A: Allocator + Copy> Generation<A> {
         }
     }
 
-    /// Notes that so many buckets from this one on are set, for later searches.
+    /// Records that `run` buckets from this one on are set, for later searches.
     fn note_run(&mut self, index: u64, run: u64)
         requires some { 1 ≤ run }
         requires few { run ≤ length self.old.entries }
@@ -185,8 +187,8 @@ impl<A: Allocator + Copy> Generation<A> {
         }
     }
 
-    /// The first empty bucket from a hash's own on. Set buckets that earlier searches passed are passed in runs, and each
-    /// run that is passed takes in the next: no long run is looked through bucket by bucket again.
+    /// Returns the first empty bucket from that of a hash on. It passes set buckets that earlier searches passed in runs, and
+    /// joins each run that it passes to the next, so no long run is searched bucket by bucket again.
     fn first_empty(&mut self, hash: u64) -> u64
         requires { bucket self.old.entries (first_empty self.old hash) ≡ None }
         ensures index { result ≡ first_empty self.old hash }
@@ -207,13 +209,13 @@ impl<A: Allocator + Copy> Generation<A> {
         index
     }
 
-    /// Copies an entry to the first empty bucket from a hash's own on, and counts it.
+    /// Copies an entry to the first empty bucket from that of a hash on, and counts it.
     pub fn copy(&mut self, entry: Entry, hash: u64) -> Result<(), AllocError>
         requires { bucket self.old.entries (first_empty self.old hash) ≡ None }
         ensures ok { OnOk result (self.new ≡ copy_in self.old entry (first_empty self.old hash)) }
         ensures err { OnErr result (self.new ≡ self.old) }
     {
-        // no more entries are counted than there are
+        // No more entries are counted than there are.
         let _counted = &self.size;
         let index = self.first_empty(hash);
         self.fill(Entry { index, ..entry })?;

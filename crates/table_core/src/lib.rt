@@ -1,5 +1,4 @@
-//! The table's steps as a pure machine: any number of threads, growth, walks and refusals are lists
-//! of events.
+//! The steps of the table as a pure state machine: any number of threads, growth, iteration and refusals are lists of events.
 #![tactic(auto)]
 
 pub mod call;

@@ -1,4 +1,4 @@
-//! What each event finds, tells and changes.
+//! The answers, replies and changes of each event.
 ghost use Rattle.std.specs.Prelude.{◌≡◌, ◌≢◌, ◌<◌, true, false, if◌then◌else◌, Option, Some, None, length, slice_set, OnOk, OnErr, IfOk, IfSome};
 ghost use Rattle.std.specs.Option.{option_map, is_some};
 ghost use Rattle.std.specs.List.{slice_get};
@@ -40,7 +40,7 @@ impl<A: Allocator + Copy> Model for Machine<A> {
     ghost view = { λ m. record { table = m.table; calls = m.calls } };
 }
 
-/// What a set bucket shows to a call.
+/// Returns what a set bucket shows to a call.
 fn show_entry(entry: Entry, hash: u64, accepted: bool) -> Answer
     ensures { result ≡ holds entry hash accepted }
 {
@@ -51,7 +51,7 @@ fn show_entry(entry: Entry, hash: u64, accepted: bool) -> Answer
     }
 }
 
-/// What a read of a bucket finds.
+/// Returns what reading a bucket finds.
 fn read_bucket(bucket: Option<Entry>, hash: u64, accepted: bool) -> Answer
     ensures { result ≡ read bucket hash accepted }
 {
@@ -61,7 +61,7 @@ fn read_bucket(bucket: Option<Entry>, hash: u64, accepted: bool) -> Answer
     }
 }
 
-/// What a walk's read of a bucket finds.
+/// Returns what a walk finds when it reads a bucket.
 fn read_bucket_unasked(bucket: Option<Entry>) -> Answer
     ensures { result ≡ read_unasked bucket }
 {
@@ -71,7 +71,7 @@ fn read_bucket_unasked(bucket: Option<Entry>) -> Answer
     }
 }
 
-/// What an exchange of a bucket finds.
+/// Returns what an exchange of a bucket finds.
 fn exchange(bucket: Option<Entry>, hash: u64, accepted: bool) -> Answer
     ensures { result ≡ exchanged bucket hash accepted }
 {
@@ -81,28 +81,28 @@ fn exchange(bucket: Option<Entry>, hash: u64, accepted: bool) -> Answer
     }
 }
 
-/// The lock, unless it is held.
+/// Returns `Taken`, or `None` if the lock is held.
 fn take_unless(held: bool) -> Option<Answer>
     ensures { result ≡ takes_unless held }
 {
     if held { None } else { Some(Answer::Taken) }
 }
 
-/// What a call is told that gives its value back.
+/// Returns the reply of a call that returns its value.
 fn tell_refused<A: Allocator + Copy>(value: Option<u64>) -> Option<Reply<A>>
     ensures { option_map reply_of result ≡ refused value }
 {
     Some(Reply::Refused(value?))
 }
 
-/// What an insert is told that has placed its value.
+/// Returns the reply of an insert that has placed its value.
 fn tell_placed<A: Allocator + Copy>(value: Option<u64>) -> Option<Reply<A>>
     ensures { option_map reply_of result ≡ reply_placed value }
 {
     Some(Reply::Placed(value?))
 }
 
-/// What an insert is told that has accepted this entry.
+/// Returns the reply of an insert that has accepted this entry.
 fn tell_found<A: Allocator + Copy>(entry: Option<Entry>, value: Option<u64>) -> Option<Reply<A>>
     ensures { option_map reply_of result ≡ reply_found entry value }
 {
@@ -112,14 +112,14 @@ fn tell_found<A: Allocator + Copy>(entry: Option<Entry>, value: Option<u64>) -> 
     }
 }
 
-/// The bucket at which a call stands.
+/// Returns the bucket at which a call stands.
 fn bucket_of<A: Allocator + Copy>(table: &Table<A>, state: CallState) -> Option<Entry>
     ensures { result ≡ bucket_stood_at table.now state }
 {
     table.at(state.walked, state.index)
 }
 
-/// What a call is told by its outcome.
+/// Returns the reply of a call by its outcome.
 fn tell_outcome<A: Allocator + Copy>(table: &Table<A>, call: &Call<A>) -> Option<Reply<A>>
     ensures { option_map reply_of result ≡ by_outcome table.now call.now }
 {
@@ -131,8 +131,7 @@ fn tell_outcome<A: Allocator + Copy>(table: &Table<A>, call: &Call<A>) -> Option
     }
 }
 
-/// What a call is told that ends after its growth has failed: without an outcome it gives its value
-/// back.
+/// Returns the reply of a call that ends after its growth has failed. Without an outcome it returns its value.
 fn tell_failure<A: Allocator + Copy>(table: &Table<A>, call: &Call<A>) -> Option<Reply<A>>
     ensures { option_map reply_of result ≡ by_failure table.now call.now }
 {
@@ -142,7 +141,7 @@ fn tell_failure<A: Allocator + Copy>(table: &Table<A>, call: &Call<A>) -> Option
     }
 }
 
-/// What a look-up is told that ends at a set bucket.
+/// Returns the reply of a look-up that ends at a set bucket.
 fn tell_lookup<A: Allocator + Copy>(
     table: &Table<A>,
     state: CallState,
@@ -157,7 +156,7 @@ fn tell_lookup<A: Allocator + Copy>(
     Some(Reply::Some(entry.value))
 }
 
-/// What a call, other than a walk at a bucket, is told that ends by an answer.
+/// Returns the reply of a call that ends by this answer. The call is not a walk at a bucket.
 fn tell_ended<A: Allocator + Copy>(
     alloc: A,
     table: &Table<A>,
@@ -185,8 +184,7 @@ fn tell_ended<A: Allocator + Copy>(
     }
 }
 
-/// What a call, other than a walk at a bucket, is told whose next state is this: nothing before its
-/// end.
+/// Returns the reply of a call whose next state is this: none before its end. The call is not a walk at a bucket.
 fn tell<A: Allocator + Copy>(
     alloc: A,
     table: &Table<A>,
@@ -205,7 +203,7 @@ fn tell<A: Allocator + Copy>(
     }
 }
 
-/// The value of a call into the bucket at which it stands.
+/// Puts the value of a call into the bucket at which it stands.
 fn place_value<A: Allocator + Copy>(
     table: &mut Table<A>,
     value: Option<u64>,
@@ -229,7 +227,7 @@ fn place_value<A: Allocator + Copy>(
     )
 }
 
-/// What an event changes in the table.
+/// Applies what an event changes in the table.
 fn change<A: Allocator + Copy>(
     alloc: A,
     table: &mut Table<A>,
@@ -257,7 +255,7 @@ fn change<A: Allocator + Copy>(
 }
 
 impl<A: Allocator + Copy> Machine<A> {
-    /// No generation and no call. The first generation will have `first` buckets.
+    /// Makes a machine without generations and calls. The first generation will have `first` buckets.
     pub fn new(alloc: A, first: u64) -> Self
         requires { IsFirstCapacity first }
         ensures { result ≡ empty first }
@@ -269,22 +267,21 @@ impl<A: Allocator + Copy> Machine<A> {
         }
     }
 
-    /// How many buckets all generations have together, the one being built included.
+    /// Returns the number of buckets of all generations together, with the one being built.
     pub fn buckets(&self) -> u64
         ensures { result ≡ buckets self.now.table }
     {
         self.table.buckets()
     }
 
-    /// Where the call of a number stands, if there is one.
+    /// Returns the state of the call of this number, if there is one.
     pub fn state_of(&self, call: u64) -> Option<CallState>
         ensures { result ≡ state_of call self.now.calls }
     {
         self.calls.state_of(call)
     }
 
-    /// What an event of a call finds; nothing where it has no place in the call's phase, or has to
-    /// wait.
+    /// Returns what an event of a call finds, or `None` if the event has no place in the call's phase or has to wait.
     fn answer(&self, state: CallState, event: Event) -> Option<Answer>
         ensures { result ≡ finds self.now state event }
     {
@@ -321,21 +318,21 @@ impl<A: Allocator + Copy> Machine<A> {
         }
     }
 
-    /// What a read finds at the call's bucket.
+    /// Returns what a read finds at the call's bucket.
     fn read(&self, state: CallState, accepted: bool) -> Answer
         ensures { result ≡ read (bucket_stood_at self.now.table state) state.hash accepted }
     {
         read_bucket(bucket_of(&self.table, state), state.hash, accepted)
     }
 
-    /// What a walk's read finds there.
+    /// Returns what a walk's read finds at the call's bucket.
     fn read_unasked(&self, state: CallState) -> Answer
         ensures { result ≡ read_unasked (bucket_stood_at self.now.table state) }
     {
         read_bucket_unasked(bucket_of(&self.table, state))
     }
 
-    /// What an exchange finds there.
+    /// Returns what an exchange finds at the call's bucket.
     fn put(&self, state: CallState, accepted: bool, granted: bool) -> Answer
         ensures { result ≡ (if granted then exchanged (bucket_stood_at self.now.table state)
             state.hash accepted else Answer.MemoryRefused) }
@@ -347,7 +344,7 @@ impl<A: Allocator + Copy> Machine<A> {
         }
     }
 
-    /// What a release of the lock finds after a failed growth.
+    /// Returns what releasing the lock finds after a failed growth.
     fn free_after_failure(&self, state: CallState) -> Answer
         ensures { result ≡ released_after_failure self.now.table state }
     {
@@ -356,7 +353,7 @@ impl<A: Allocator + Copy> Machine<A> {
         }
     }
 
-    /// What a look at the size of the walked generation finds.
+    /// Returns what reading the size of the call's generation finds.
     fn size(&self, state: CallState) -> Option<Answer>
         ensures { result ≡ sized (walked_gen self.now.table state) }
     {
@@ -364,7 +361,7 @@ impl<A: Allocator + Copy> Machine<A> {
         Some(Answer::Sized { size })
     }
 
-    /// Whether an entry is left to copy.
+    /// Returns `Copied` if an entry is left to copy.
     fn copy(&self) -> Option<Answer>
         ensures { result ≡ finds_copy (next_copied self.now.table) }
     {
@@ -372,7 +369,7 @@ impl<A: Allocator + Copy> Machine<A> {
         Some(Answer::Copied)
     }
 
-    /// Whether all entries are copied.
+    /// Returns `Shown` if all entries are copied.
     fn show(&self) -> Option<Answer>
         ensures { result ≡ finds_show (next_copied self.now.table) }
     {
@@ -383,7 +380,7 @@ impl<A: Allocator + Copy> Machine<A> {
     }
 }
 
-/// The entry that an answer shows to a walk.
+/// Returns the entry that an answer shows to a walk.
 fn entry_shown<A: Allocator + Copy>(
     table: &Table<A>,
     state: CallState,
@@ -397,7 +394,7 @@ fn entry_shown<A: Allocator + Copy>(
     }
 }
 
-/// An entry more in the list of the walk at a position.
+/// Appends an entry to the list of the walk at a position.
 fn list_entry<A: Allocator + Copy>(
     calls: &mut Calls<A>,
     at: usize,
@@ -416,7 +413,7 @@ fn list_entry<A: Allocator + Copy>(
     }
 }
 
-/// The next state of the walk at a position, which takes its list where it finishes.
+/// Sets the next state of the walk at a position, and takes its list if it finishes.
 fn end_walk<A: Allocator + Copy>(
     alloc: A,
     calls: &mut Calls<A>,
@@ -437,7 +434,7 @@ fn end_walk<A: Allocator + Copy>(
     }
 }
 
-/// The walk at a position reads a bucket.
+/// Lets the walk at a position read a bucket.
 fn walk<A: Allocator + Copy>(
     alloc: A,
     table: &Table<A>,
@@ -462,7 +459,7 @@ fn walk<A: Allocator + Copy>(
 }
 
 impl<A: Allocator + Copy> Machine<A> {
-    /// The call at a position takes its event, if it has a row.
+    /// Lets the call at a position take its event, if the table of events has a row for it.
     fn go(&mut self, at: usize, event: Event) -> Result<Option<Reply<A>>, AllocError>
         requires within { at < length self.old.calls }
         requires reached { IsReached self.old }
@@ -492,7 +489,7 @@ impl<A: Allocator + Copy> Machine<A> {
         Ok(reply)
     }
 
-    /// A call begins, unless its number or its value is used.
+    /// Begins a call, unless its number or its value is used.
     fn begin(&mut self, number: u64, opening: Opening) -> Result<(), AllocError>
         requires { (holds_shared opening.state.phase ≡ false)
             × (holds_owned opening.state.phase ≡ false) }
@@ -509,7 +506,7 @@ impl<A: Allocator + Copy> Machine<A> {
             .begin(self.alloc, number, opening.value, opening.state)
     }
 
-    /// Whether a call of this number, with this value, can't begin: one of them was used.
+    /// Returns whether a call of this number, with this value, can't begin, since one of them was used.
     fn may_not_begin(&self, number: u64, value: Option<u64>) -> bool
         ensures { result ≡ may_not_begin number value self.now.calls }
     {
@@ -519,7 +516,7 @@ impl<A: Allocator + Copy> Machine<A> {
         }
     }
 
-    /// The call of an event that begins none takes it.
+    /// Lets the call of an event that begins no call take the event.
     fn go_on(&mut self, event: Event) -> Result<Option<Finished<A>>, AllocError>
         requires reached { IsReached self.old }
         requires going { opening event ≡ None }
@@ -538,7 +535,7 @@ impl<A: Allocator + Copy> Machine<A> {
         }
     }
 
-    /// Takes one event. Where memory is refused the machine is as it was.
+    /// Takes one event. If memory is refused the machine is unchanged.
     pub fn step(&mut self, event: Event) -> Result<Option<Finished<A>>, AllocError>
         requires { IsReached self.old }
         ensures ok { OnOk result (self.new ≡ happens self.old event) }
@@ -556,14 +553,14 @@ impl<A: Allocator + Copy> Machine<A> {
     }
 }
 
-/// How a call begins.
+/// The value and the first state of a call.
 #[derive(Clone, Copy)]
 struct Opening {
     value: Option<u64>,
     state: CallState,
 }
 
-/// How the call of an event begins, if the event begins one.
+/// Returns the value and the first state of the call that an event begins, if it begins one.
 fn opening_of(event: Event) -> Option<Opening>
     ensures opening { result ≡ opening event }
     ensures unlocked { IfSome result (λ o. (holds_shared o.state.phase ≡ false)

@@ -1,4 +1,4 @@
-//! The machine as its users see it, and whole schedules.
+//! The machine in a reachable state, and whole schedules.
 ghost use Rattle.std.specs.Prelude.{◌≡◌, ◌++◌, option_to_list, OnOk, OnErr, IfOk};
 ghost use Rattle.table_terms.specs.Capacities.{IsFirstCapacity};
 ghost use Rattle.table_core.specs.Calls.{state_of};
@@ -12,7 +12,7 @@ use crate::reply::Finished;
 use std::alloc::{AllocError, AllocFailed, Allocator, Global};
 use std::marker::Model;
 
-/// The memory that was asked for was refused.
+/// The error of a request for memory that was refused.
 #[derive(Clone, Copy, Debug)]
 pub struct NoMemory;
 
@@ -28,7 +28,7 @@ impl<T: Drop> From<AllocFailed<T>> for NoMemory {
     }
 }
 
-/// A table with its calls, in a state that some schedule leads to. All its memory is of one allocator.
+/// A table with its calls, in a state that some schedule leads to. All its memory comes from one allocator.
 #[derive(Drop)]
 pub struct State<A: Allocator + Copy = Global> {
     machine: Machine<A>,
@@ -46,15 +46,15 @@ impl<A: Allocator + Copy> Model for State<A> {
 }
 
 impl<A: Allocator + Copy> State<A> {
-    /// No generation and no call. The first generation will have 16 buckets. It takes no memory.
+    /// Makes a state without generations and calls. The first generation will have 16 buckets. Does not allocate.
     pub fn new(alloc: A) -> Self
         ensures { result ≡ empty 16 }
     {
         State::with_first_capacity(alloc, 16)
     }
 
-    /// No generation and no call. The first generation will have `first` buckets, a power of two
-    /// from 16 to 2^30. It takes no memory.
+    /// Makes a state without generations and calls. The first generation will have `first` buckets, a power of two from 16 to
+    /// 2^30. Does not allocate.
     pub fn with_first_capacity(alloc: A, first: u64) -> Self
         requires { IsFirstCapacity first }
         ensures { result ≡ empty first }
@@ -64,9 +64,9 @@ impl<A: Allocator + Copy> State<A> {
         }
     }
 
-    /// Takes one event: the call that finishes by it, with its reply. An event that isn't enabled
-    /// changes nothing. Where memory is refused the state is as it was; it is asked for only by an event
-    /// that begins a call, places a value, begins, goes on with or ends a growth, or shows a walk an entry.
+    /// Takes one event, and returns the call that finishes by it, with its reply. An event that isn't enabled changes nothing. If
+    /// memory is refused the state is unchanged. Only these events allocate: those that begin a call, place a value, begin,
+    /// continue or end a growth, or show an entry to a walk.
     pub fn step(&mut self, event: Event) -> Result<Option<Finished<A>>, NoMemory>
         ensures ok { OnOk result (self.new ≡ happens self.old event) }
         ensures reply { IfOk result (λ r. r ≡ finishes self.old event) }
@@ -77,14 +77,14 @@ impl<A: Allocator + Copy> State<A> {
         Ok(finished)
     }
 
-    /// Where the call of a number stands, if one has begun. It changes nothing.
+    /// Returns the state of the call of this number, if one has begun. Does not change the state.
     pub fn state_of(&self, call: u64) -> Option<CallState>
         ensures { result ≡ state_of call self.now.calls }
     {
         self.machine.state_of(call)
     }
 
-    /// How many buckets all generations have together, the one being built included.
+    /// Returns the number of buckets of all generations together, with the one being built.
     pub fn buckets(&self) -> u64
         ensures { result ≡ buckets self.now.table }
     {
@@ -92,7 +92,7 @@ impl<A: Allocator + Copy> State<A> {
     }
 }
 
-/// A reply more, if there is one.
+/// Appends a reply, if there is one.
 fn push_finished<A: Allocator + Copy>(
     replies: &mut Vec<Finished<A>, A>,
     finished: Option<Finished<A>>,
@@ -105,16 +105,16 @@ fn push_finished<A: Allocator + Copy>(
     }
 }
 
-/// The replies of a schedule, in the order in which its calls finish, on a first generation of 16
-/// buckets.
+/// Runs a schedule from a first generation of 16 buckets, and returns the replies in the order in which its calls finish. The
+/// list lies in memory of `alloc`; an `Err` means that memory was refused.
 pub fn run<A: Allocator + Copy>(alloc: A, events: &[Event]) -> Result<Vec<Finished<A>, A>, NoMemory>
     ensures { IfOk result (λ v. v.items ≡ replies (empty 16) events.now) }
 {
     run_with(alloc, 16, events)
 }
 
-/// The replies of a schedule, in the order in which its calls finish. The first generation has
-/// `first` buckets, a power of two from 16 to 2^30.
+/// Runs a schedule from a first generation of `first` buckets, a power of two from 16 to 2^30, and returns the replies in the
+/// order in which its calls finish. The list lies in memory of `alloc`; an `Err` means that memory was refused.
 pub fn run_with<A: Allocator + Copy>(
     alloc: A,
     first: u64,

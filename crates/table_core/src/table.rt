@@ -11,13 +11,13 @@ use crate::generation::{Entry, Generation};
 use std::alloc::{AllocError, Allocator};
 use std::marker::Model;
 
-/// The table: its generations from the first on, and the one being built.
+/// The table: its generations, oldest first, and the one being built.
 #[derive(Drop)]
 pub struct Table<A: Allocator + Copy> {
     first: u64,
     generations: Vec<Generation<A>, A>,
     growing: Option<Generation<A>>,
-    /// The entries of the current generation in order, while another one is being built.
+    /// The entries of the current generation, in order, while the next one is being built.
     source: Vec<Entry, A>,
     copied: usize,
 }
@@ -34,7 +34,7 @@ impl<A: Allocator + Copy> Model for Table<A> {
     ghost invariant = { λ t. IsTable t.first t.generations.items t.growing t.source.items };
 }
 
-/// The generation of a number.
+/// Returns the generation of this number.
 fn generation_of<A: Allocator + Copy>(
     generations: &[Generation<A>],
     walked: Option<u64>,
@@ -49,7 +49,7 @@ fn generation_of<A: Allocator + Copy>(
     }
 }
 
-/// The current generation.
+/// Returns the current generation.
 fn current_of<A: Allocator + Copy>(generations: &[Generation<A>]) -> Option<&Generation<A>>
     ensures { option_copied result ≡ last_of generations.now }
 {
@@ -60,7 +60,7 @@ fn current_of<A: Allocator + Copy>(generations: &[Generation<A>]) -> Option<&Gen
     }
 }
 
-/// The capacity of the generation after these.
+/// Returns the capacity of the generation after these.
 fn next_capacity<A: Allocator + Copy>(first: u64, generations: &[Generation<A>]) -> u64
     requires allowed { IsFirstCapacity first }
     requires room { checked (last_of generations.now) true ≡ Answer.Begun }
@@ -73,7 +73,7 @@ fn next_capacity<A: Allocator + Copy>(first: u64, generations: &[Generation<A>])
     }
 }
 
-/// The entries of the last of these generations.
+/// Returns the entries of the last of these generations.
 fn entries_of_last<A: Allocator + Copy>(
     generations: &[Generation<A>],
     alloc: A,
@@ -86,7 +86,7 @@ fn entries_of_last<A: Allocator + Copy>(
     }
 }
 
-/// The capacities of some generations together.
+/// Returns the sum of the capacities of these generations.
 fn capacity_of<A: Allocator + Copy>(generations: &[Generation<A>]) -> u64
     requires { sum_by (λ (g : Gen). g.capacity) generations.now < 2 ^ 64 }
     ensures { result ≡ sum_by (λ (g : Gen). g.capacity) generations.now }
@@ -133,7 +133,7 @@ fn count_walked<A: Allocator + Copy>(generations: &mut Vec<Generation<A>, A>, wa
 }
 
 impl<A: Allocator + Copy> Table<A> {
-    /// No generation. The first one will have so many buckets. It takes no memory.
+    /// Makes a table without generations. The first one will have `first` buckets. Does not allocate.
     pub fn new(alloc: A, first: u64) -> Self
         requires { IsFirstCapacity first }
         ensures { result ≡ record { first = first; gens = []; building = None } }
@@ -147,7 +147,7 @@ impl<A: Allocator + Copy> Table<A> {
         }
     }
 
-    /// What a load finds.
+    /// Returns what loading the current generation finds.
     pub fn load(&self) -> Answer
         ensures { result ≡ loads self.now }
     {
@@ -160,7 +160,7 @@ impl<A: Allocator + Copy> Table<A> {
         }
     }
 
-    /// The bucket of an index in a generation.
+    /// Returns the entry at an index of a generation, if that bucket is set.
     pub fn at(&self, walked: Option<u64>, index: u64) -> Option<Entry>
         ensures { result ≡ bucket_in (gen_of self.now.gens walked) index }
     {
@@ -170,7 +170,7 @@ impl<A: Allocator + Copy> Table<A> {
         }
     }
 
-    /// The size of a generation.
+    /// Returns the size of a generation.
     pub fn size(&self, walked: Option<u64>) -> Option<u64>
         ensures { result ≡ option_map (λ (g : Gen). g.size) (gen_of self.now.gens walked) }
     {
@@ -180,7 +180,7 @@ impl<A: Allocator + Copy> Table<A> {
         }
     }
 
-    /// What a look at the current generation finds: whether growth is wanted, and begins.
+    /// Returns what checking the current generation finds: whether growth is wanted, and begins.
     pub fn check(&self, granted: bool) -> Answer
         ensures { result ≡ checked (current self.now) granted }
     {
@@ -205,7 +205,7 @@ impl<A: Allocator + Copy> Table<A> {
         }
     }
 
-    /// Whether a generation is the current one, or there is none still.
+    /// Returns whether a generation is the current one; for `None`, whether there is still no generation.
     pub fn is_current(&self, walked: Option<u64>) -> bool
         ensures { result ≡ is_current self.now.gens walked }
     {
@@ -215,7 +215,7 @@ impl<A: Allocator + Copy> Table<A> {
         }
     }
 
-    /// The next entry to be copied into the generation that is being built.
+    /// Returns the next entry to copy into the generation that is being built.
     pub fn next(&self) -> Option<Entry>
         ensures { result ≡ next_copied self.now }
     {
@@ -247,7 +247,7 @@ impl<A: Allocator + Copy> Table<A> {
         count_walked(&mut self.generations, walked);
     }
 
-    /// Begins a generation of the first capacity, or of twice the current one.
+    /// Begins a generation of the first capacity, or of twice the capacity of the current one.
     pub fn begin_growth(&mut self, alloc: A) -> Result<(), AllocError>
         requires { checked (current self.old) true ≡ Answer.Begun }
         ensures ok { OnOk result (self.new ≡ begin_growth self.old) }
@@ -261,7 +261,7 @@ impl<A: Allocator + Copy> Table<A> {
         Ok(())
     }
 
-    /// Copies the next entry to the first empty bucket from a hash's own on.
+    /// Copies the next entry to the first empty bucket from that of a hash on.
     pub fn copy_next(&mut self, hash: u64) -> Result<(), AllocError>
         requires { (b : Build) → self.old.building ≡ Some b
             → bucket b.gen.entries (first_empty b.gen hash) ≡ None }
@@ -278,7 +278,7 @@ impl<A: Allocator + Copy> Table<A> {
         Ok(())
     }
 
-    /// The generation that was built is the current one.
+    /// Makes the generation that was built the current one.
     pub fn show(&mut self, alloc: A) -> Result<(), AllocError>
         ensures ok { OnOk result (self.new ≡ show_built self.old) }
         ensures err { OnErr result (self.new ≡ self.old) }
@@ -292,7 +292,7 @@ impl<A: Allocator + Copy> Table<A> {
         Ok(())
     }
 
-    /// How many buckets all generations have together, the one being built included.
+    /// Returns the number of buckets of all generations together, with the one being built.
     pub fn buckets(&self) -> u64
         ensures { result ≡ buckets self.now }
     {

@@ -1,4 +1,4 @@
-//! What holds of every schedule: contracts of functions that do nothing.
+//! Theorems about every schedule, each the contract of a function that does nothing.
 ghost use Rattle.std.specs.Prelude.{ℕ, List, Option, [], ◌∷◌, ◌++◌};
 ghost use Rattle.table_core.specs.Calls.{Call};
 ghost use Rattle.table_terms.specs.Capacities.{IsFirstCapacity};
@@ -15,8 +15,8 @@ ghost use Rattle.table_core.specs.declared.call.CallState.{CallState};
 ghost use Rattle.table_core.specs.declared.call.Phase.{Phase};
 ghost use Rattle.table_core.specs.declared.event.Event.{Event};
 
-/// The machine takes exactly the steps of the table of events, and who holds the lock changes only
-/// where a call takes it or lets it go.
+/// States that the machine takes exactly the steps of the table of events, and that the holders of the lock change only if a call
+/// takes or releases it.
 pub fn events_are_steps()
     ensures step { (w : World) (x : Event) → Step w x (acts w x) (happens w x) (finishes w x) }
     ensures only_step { (w : World) (x : Event) (a : Act) (v : World) (r : Option Finished)
@@ -25,7 +25,7 @@ pub fn events_are_steps()
         (list : List ℕ) (t : Table) (o : Option Reply) → LockStays w c p x a s list t o }
 {}
 
-/// What holds of every schedule, whatever the closures answer.
+/// States what holds of every schedule, whatever the closures answer.
 pub fn schedules_keep_values()
     ensures values_stay { (f : ℕ) (s : List Event) → IsFirstCapacity f → ValuesStay f s }
     ensures kept_is_placed { (f : ℕ) (s : List Event) → IsFirstCapacity f → KeptIsPlaced f s }
@@ -52,7 +52,7 @@ pub fn schedules_keep_values()
         → LoadsOnce f s n g }
 {}
 
-/// What holds of every lawful schedule: it is a growing list without equal entries.
+/// States what holds of every lawful schedule: it behaves as a growing list without equal entries.
 pub fn schedules_are_lists()
     ensures right { (l : Law) (f : ℕ) (s : List Event) (x : Event) (r : Finished)
         → IsFirstCapacity f → Right l f s x r }
@@ -69,8 +69,8 @@ pub fn schedules_are_lists()
         → IsFirstCapacity f → IsFirstCapacity g → SameClasses l f s k g t }
 {}
 
-/// Worked schedules: what their calls are told, how those stand in the one history, how many buckets
-/// they leave, and that each is lawful for some law.
+/// States facts of worked schedules: the replies of their calls, the order of these in the one history, the number of buckets
+/// that they leave, and that each is lawful for some law.
 pub fn worked_schedules()
     ensures lost_to_equal { IsWorked 16 lost_to_equal told_lost_to_equal told_lost_to_equal 16 }
     ensures larger_first { IsWorked 32 lost_to_equal told_lost_to_equal told_lost_to_equal 32 }

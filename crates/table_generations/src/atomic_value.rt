@@ -1,4 +1,4 @@
-//! Values that a table holds.
+//! Values that a table can hold.
 ghost use Rattle.std.specs.Prelude.{◌≡◌};
 
 use std::alloc::Allocator;
@@ -6,26 +6,27 @@ use std::num::{NonZeroU32, NonZeroU64};
 use std::sync::Arc;
 pub use table_terms::law::Law;
 
-/// A value that a table can hold. The table compares and hashes what the value leads to, its target.
+/// A value that a table can hold: an `InPlace`, `Box`, `Arc`, `NonZeroU64` or `NonZeroU32`, or a value of the caller's own type.
+/// The table compares and hashes what the value leads to, its target.
 ///
-/// Who implements it promises that the target is one function of the value, `target`, and that `deref` shows it.
+/// An implementor promises that the target is a function of the value, `target`, and that `deref` returns it.
 pub trait AtomicValue: Drop {
-    /// What is compared, hashed and shown.
+    /// The type of the target, which is compared, hashed and shown.
     type Target;
 
     ghost target: { Self → Self.Target };
 
-    /// The target of the value.
+    /// Returns the target of the value.
     fn deref(&self) -> &Self::Target
         ensures { result.now ≡ target self.now };
 }
 
-/// A value that lies in the table's own block, where its target is read: the first choice for a value of the caller's own
-/// making. It asks for no block beside the table's, and a look-up reads one line of memory less than by a `Box`.
+/// A value that is stored in the table's own heap block. It is the first choice for a caller's own type: it needs no block beside
+/// the table's, and a look-up reads one cache line less than with a `Box`.
 #[derive(Drop)]
 pub struct InPlace<T>(pub T);
 
-// `T: Drop`, here and for `Box` and `Arc`: a value can be dropped only where what it holds can be, and a table drops its values.
+// `T: Drop`, here and for `Box` and `Arc`: a table drops its values, and a value can be dropped only if its parts can be.
 impl<T: Drop> AtomicValue for InPlace<T> {
     type Target = T;
 

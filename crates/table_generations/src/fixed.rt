@@ -1,4 +1,4 @@
-//! One generation: a fixed table of buckets.
+//! One generation: a fixed number of buckets.
 ghost use Rattle.std.specs.Prelude.{◌≡◌, ◌+◌, ◌-◌, ◌*◌, ◌<◌, ◌≤◌, ◌↔◌, length, option_copied, option_map, IfOk, Some, IsTrue};
 ghost use Rattle.std.specs.Fn.{FnReturnsAt, FnReturnsAtPair};
 ghost use Rattle.std.specs.Int.{IsPowerOfTwo};
@@ -18,7 +18,8 @@ use std::marker::Model;
 use table_cell::{Bucket, BucketRef, Entry, Home, Mark, Refusal as BucketRefusal, Row};
 use table_terms::probe::{bits_of_hash, first_bucket, next_bucket};
 
-/// How a probe ended: at the index of an entry that was accepted; at the index of an empty bucket; or after a whole turn.
+/// The result of a probe: the index and the entry of a bucket that was accepted, the index of an empty bucket, or `Full` after
+/// every bucket was passed.
 #[derive(Clone, Copy)]
 pub enum ProbeEnd<'a, T> {
     Accepted(usize, &'a Entry<T>),
@@ -26,7 +27,7 @@ pub enum ProbeEnd<'a, T> {
     Full,
 }
 
-/// What a probe learns of one bucket.
+/// The result of comparing one bucket.
 #[derive(Clone, Copy)]
 enum Comparison<'a, T> {
     Vacant,
@@ -39,11 +40,11 @@ enum Comparison<'a, T> {
 pub enum Refusal<T> {
     /// All buckets are set, and no entry was accepted as equal.
     Full(T),
-    /// The block was refused. The generation is as it was.
+    /// Memory for the entry's block was refused. The generation is unchanged.
     NoMemory(T),
 }
 
-/// A generation: as many buckets as its capacity, a power of two, or none; all of one home and one allocator.
+/// A generation: buckets of one home and one allocator. Their number, its capacity, is a power of two, or 0.
 #[derive(Drop)]
 pub struct Generation<T: AtomicValue, A: Allocator + Copy> {
     row: Row<T, A>,
@@ -60,7 +61,7 @@ impl<T: AtomicValue, A: Allocator + Copy> Model for Generation<T, A> {
     ghost invariant = { λ g. IsGeneration g.row.contents g.size };
 }
 
-/// What the test says of an entry.
+/// Calls the test with the target of an entry.
 fn compare_entry<'a, T: AtomicValue, F: Fn(&T::Target) -> bool>(
     entry: &'a Entry<T>,
     test: &F,
@@ -76,7 +77,8 @@ fn compare_entry<'a, T: AtomicValue, F: Fn(&T::Target) -> bool>(
     }
 }
 
-/// What a probe for these bits learns of a bucket. An entry with other bits is not asked about, and its block not read.
+/// Compares a bucket with the eight bits that a probe seeks. For an entry with other bits it calls no closure and doesn't read
+/// the block.
 fn compare_bucket<'a, T: AtomicValue, A: Allocator + Copy, F: Fn(&T::Target) -> bool>(
     home: &'a Home,
     bucket: &BucketRef<'a, T, A>,
@@ -100,7 +102,7 @@ fn compare_bucket<'a, T: AtomicValue, A: Allocator + Copy, F: Fn(&T::Target) -> 
 impl<T: AtomicValue, A: Allocator + Copy> Generation<T, A> {
     ghost use Rattle.table_generations.specs.Generations.{IsBlank};
 
-    /// No bucket at all. It takes no memory.
+    /// Makes a generation without buckets. Does not allocate.
     pub fn none(alloc: A, home: &Home) -> Self
         ensures { IsBlank alloc home.now.id 0 result }
     {
@@ -110,7 +112,7 @@ impl<T: AtomicValue, A: Allocator + Copy> Generation<T, A> {
         }
     }
 
-    /// Empty buckets. It asks for memory twice: for their marks, and for their words.
+    /// Makes a generation of `capacity` empty buckets. Allocates twice: for their marks and for their words.
     pub fn with_capacity(alloc: A, home: &Home, capacity: usize) -> Result<Self, AllocError>
         requires { IsPowerOfTwo capacity }
         ensures { IfOk result (IsBlank alloc home.now.id capacity) }
@@ -121,14 +123,14 @@ impl<T: AtomicValue, A: Allocator + Copy> Generation<T, A> {
         })
     }
 
-    /// The number of buckets.
+    /// Returns the number of buckets.
     pub fn capacity(&self) -> usize
         ensures { result ≡ length self.now.contents }
     {
         self.row.len()
     }
 
-    /// The number of buckets that are set alone.
+    /// Returns the number of buckets that were set through `&mut`.
     pub fn size(&self) -> usize
         ensures size { result ≡ self.now.size }
         ensures counted { result ≡ length (shown_entries self.now.contents) }
@@ -136,14 +138,14 @@ impl<T: AtomicValue, A: Allocator + Copy> Generation<T, A> {
         self.size
     }
 
-    /// Whether at least half of the buckets are set alone.
+    /// Returns whether at least half of the buckets were set through `&mut`.
     pub fn wants_growth(&self) -> bool
         ensures { IsTrue result ↔ (length self.now.contents ≤ 2 * self.now.size) }
     {
         self.row.len() - self.size <= self.size
     }
 
-    /// The entry that the bucket at this index shows: its own, or the one that it names.
+    /// Returns the entry that the bucket at this index shows: its own, or the one that it names.
     pub fn entry_shown<'a>(&'a self, home: &'a Home, index: usize) -> Option<&'a Entry<T>>
         requires home { self.now.home ≡ home.now.id }
         requires within { index < length self.now.contents }
@@ -152,7 +154,7 @@ impl<T: AtomicValue, A: Allocator + Copy> Generation<T, A> {
         self.row.at(index).get_alone(home)
     }
 
-    /// A bucket that names the entry that the bucket at this index shows. No block is read.
+    /// Returns a bucket that names the entry shown at this index, or `None` if that bucket is empty. Reads no block.
     pub fn naming(&self, index: usize) -> Option<Bucket<T, A>>
         requires { index < length self.now.contents }
         ensures { result ≡ option_map (bucket self.now.from self.now.home)
@@ -161,7 +163,7 @@ impl<T: AtomicValue, A: Allocator + Copy> Generation<T, A> {
         self.row.at(index).naming(self.row.alloc())
     }
 
-    /// Empty buckets of the same home and the same allocator.
+    /// Makes a generation of `capacity` empty buckets, of the same home and the same allocator. Allocates twice.
     pub fn sibling(&self, home: &Home, capacity: usize) -> Result<Self, AllocError>
         requires home { self.now.home ≡ home.now.id }
         requires power { IsPowerOfTwo capacity }
@@ -170,7 +172,7 @@ impl<T: AtomicValue, A: Allocator + Copy> Generation<T, A> {
         Generation::with_capacity(self.row.alloc(), home, capacity)
     }
 
-    /// Looks at the buckets from the hash's first one on, and stops at an empty one or at an accepted entry.
+    /// Probes: reads the buckets in order, from the first one of the hash on, until an empty one or an accepted entry.
     pub fn probe<'a, F: Fn(&T::Target) -> bool>(
         &'a self,
         home: &'a Home,
@@ -197,7 +199,7 @@ impl<T: AtomicValue, A: Allocator + Copy> Generation<T, A> {
         ProbeEnd::Full
     }
 
-    /// A probe for an entry that `eq` accepts as equal to the key: the key is handed in first.
+    /// Probes for an entry that `eq` accepts as equal to the key. `eq` is called with the key first.
     fn probe_same<'a, E: Fn(&T::Target, &T::Target) -> bool>(
         &'a self,
         home: &'a Home,
@@ -214,8 +216,8 @@ impl<T: AtomicValue, A: Allocator + Copy> Generation<T, A> {
         self.probe(home, hash, &|target: &T::Target| eq(key, target))
     }
 
-    /// Places the value at the first empty bucket, unless an entry before it is accepted as equal. Says at which index the
-    /// entry of the answer is shown.
+    /// Inserts the value at the first empty bucket, unless an entry before it is accepted as equal. Returns the index of the
+    /// bucket that shows the entry, and the value if it was not placed. Allocates a block for a value that is placed.
     pub fn insert<E: Fn(&T::Target, &T::Target) -> bool>(
         &mut self,
         home: &Home,
@@ -247,7 +249,7 @@ impl<T: AtomicValue, A: Allocator + Copy> Generation<T, A> {
         }
     }
 
-    /// Puts a bucket that names an entry into the place of the first empty one of this hash, without asking about equals.
+    /// Puts a bucket that names an entry at the first empty bucket of this hash. Calls no `eq`.
     pub fn insert_unique(&mut self, home: &Home, hash: u64, name: Bucket<T, A>)
         requires home { self.old.home ≡ home.now.id }
         requires room { self.old.size < length self.old.contents }

@@ -1,4 +1,4 @@
-//! A generation made of the entries of the one before.
+//! Growth: a generation that is made of the entries of the one before.
 ghost use Rattle.std.specs.Prelude.{◌≡◌, ◌+◌, ◌-◌, ◌<◌, ◌≤◌, length, min, IfOk};
 ghost use Rattle.std.specs.Fn.{FnReturnsAt};
 ghost use Rattle.std.specs.Int.{IsPowerOfTwo};
@@ -12,19 +12,19 @@ use crate::fixed::Generation;
 use std::alloc::{AllocError, Allocator};
 use table_cell::Home;
 
-/// So many buckets are read before the entries of the first of them are named. Entries lie far apart in memory, and in a loop
-/// that does nothing else their reads overlap.
+/// The number of buckets that are read before the entries of the first of them are inserted. Entries lie far apart in memory, and
+/// in a loop that only reads them, the reads overlap.
 const WINDOW: usize = 64;
 
-/// An entry that was read before it is named: the bucket that shows it, and the hash that was answered for it.
+/// An entry that was read and not inserted yet: the index of its bucket, and its hash.
 #[derive(Clone, Copy)]
 struct Ahead {
     index: usize,
     hash: u64,
 }
 
-/// Reads the buckets from this one on, as many as the window is wide or as are left, and asks for the hashes of their entries.
-/// Says how many entries were found: so many of the first places of the window hold them, in their order.
+/// Reads the next buckets, from index `first` on, as many as the window has room for or as are left, and calls `hash_fn` for
+/// their entries. Returns the number of entries found; they lie at the front of the window, in order.
 fn read_window<T: AtomicValue, A: Allocator + Copy, H: Fn(&T::Target) -> u64>(
     home: &Home,
     old: &Generation<T, A>,
@@ -56,7 +56,7 @@ fn read_window<T: AtomicValue, A: Allocator + Copy, H: Fn(&T::Target) -> u64>(
     found
 }
 
-/// Names the entry that a bucket shows, if there is one, in the generation being built.
+/// Names the entry shown at this index, if there is one, in the generation that is built.
 fn rehash_one<T: AtomicValue, A: Allocator + Copy>(
     home: &Home,
     old: &Generation<T, A>,
@@ -83,7 +83,7 @@ fn rehash_one<T: AtomicValue, A: Allocator + Copy>(
     }
 }
 
-/// Names the entries of the next buckets, from this one on, as many as the window is wide or as are left.
+/// Names the entries of the next buckets, from index `first` on, as many as the window has room for or as are left.
 fn rehash_window<T: AtomicValue, A: Allocator + Copy, H: Fn(&T::Target) -> u64>(
     home: &Home,
     old: &Generation<T, A>,
@@ -116,7 +116,8 @@ fn rehash_window<T: AtomicValue, A: Allocator + Copy, H: Fn(&T::Target) -> u64>(
     }
 }
 
-/// A generation of this capacity that names every entry of the old one, by the hashes that `hash_fn` gives.
+/// Makes a generation of this capacity that names every entry of the old one. `hash_fn` returns the hash of an entry's target.
+/// Allocates twice; an `Err` means that memory was refused.
 pub fn rehashed<T: AtomicValue, A: Allocator + Copy, H: Fn(&T::Target) -> u64>(
     home: &Home,
     old: &Generation<T, A>,

@@ -1,7 +1,7 @@
-//! The layer below the tables: values, generations of buckets and their growth.
+//! The layer below the tables: values, generations of buckets, and growth.
 //!
-//! A [`fixed::Generation`] is a fixed table of buckets of one home. A bucket owns the block of an entry, or names the block
-//! that a bucket of an earlier generation owns; [`growth`] makes a generation of more buckets that names each entry.
+//! A [`fixed::Generation`] is a fixed number of buckets of one home. A bucket owns the heap block of an entry, or names the block
+//! that a bucket of an earlier generation owns. [`growth`] makes a generation with more buckets, which names each entry.
 #![tactic(auto)]
 
 pub mod atomic_value;

@@ -1,4 +1,4 @@
-//! Tables that one owner holds alone, as what lists of calls and their laws ask of each.
+//! The interface of single-owner tables, by which runs of calls are stated for any such table.
 ghost use Rattle.std.specs.Prelude.{◌≡◌, IfSome, IfNone, IsSome, option_copied};
 ghost use Rattle.std.specs.Fn.{FnReturnsAt, FnReturnsAtPair};
 ghost use Rattle.table_held.specs.Shown.{IsLater, entries_of};
@@ -7,28 +7,32 @@ mod raw;
 
 use table_generations::atomic_value::{AtomicValue, Law};
 
-/// What an insert of a value of type `T` is told, on a table whose entries live at places of type `P`: `AloneTable::place_alone`
-/// says what each answer means.
+/// The result of an insert into a table whose entries live at places of type `P`. `Ok((place, None))`: the value was placed.
+/// `Ok((place, Some(value)))`: an equal entry lives at `place`, and the value is returned. `Err(value)`: the insert was refused,
+/// and the value is returned.
 pub type Told<P, T> = Result<(P, Option<T>), T>;
 
-/// A table that one owner holds alone, under the law `L`. Contracts see it by what it shows. Who implements it promises
-/// besides that a table without entries is lawful.
+/// A table with one owner, under the equality and hash of `L`. A contract sees the table by its entries, the entry at each place,
+/// whether its number of entries is right (`counted`), and whether it is lawful, as [`HeldRawTable`](crate::HeldRawTable) says.
+///
+/// An implementor also promises, by `no_entries_is_lawful`, that a table without entries is lawful.
 pub trait AloneTable<T: AtomicValue, L: Law<T::Target>> {
     ghost use Rattle.table_held.specs.Shown.{Shows, value_of, CountsAsList, PlacesAsList, LooksUpAsList, LawfulWithoutEntries};
     ghost use Rattle.table_held.specs.Shown.{ShowsAt, FindsOne, FindsNone, InsertKeeps, InsertAnswers};
 
-    /// Names an entry of the table.
+    /// The address of an entry in the table.
     type Place: Copy;
 
     ghost shows: { Shows Self T Self.Place };
 
-    /// Inserts the value, unless an entry is accepted as equal, and says where the entry lives.
+    /// Inserts the value unless `eq` accepts an entry as equal, and returns the place of the entry.
     ///
-    /// `hash` is that of the value's target. `eq` is asked with the target of the value first and that of an entry
-    /// second; `hash_fn` gives the hash of an entry's target.
+    /// `hash` is the hash of the value's target. `eq` is called with the target of the value first and the target of an entry
+    /// second. `hash_fn` returns the hash of an entry's target.
     ///
-    /// Ok with None: the value is an entry now. Ok with a value: that value was handed in, and the entry at the place was
-    /// accepted as its equal. Err: the insert was refused; the value comes back, and the entries are as they were.
+    /// - `Ok((place, None))`: the value is now an entry, at `place`.
+    /// - `Ok((place, Some(value)))`: the value was not placed and is returned; `eq` accepted the entry at `place`.
+    /// - `Err(value)`: the insert was refused; the value is returned, and the entries are unchanged.
     fn place_alone<E, H>(
         &mut self,
         hash: u64,
@@ -49,7 +53,7 @@ pub trait AloneTable<T: AtomicValue, L: Law<T::Target>> {
         ensures later { IsLater shows self.old self.new }
         ensures counted { shows.counted self.new }
 
-        // with lawful ones
+        // with lawful closures
         ensures lawful { InsertAnswers T.target L.same L.hash_of (FnReturnsAtPair E.Fn eq.now)
             (FnReturnsAt H.Fn hash_fn.now) (shows.lawful T.Target T.target L.same L.hash_of
             self.old) (entries_of shows self.old) hash value result
@@ -57,12 +61,14 @@ pub trait AloneTable<T: AtomicValue, L: Law<T::Target>> {
         ensures as_list { PlacesAsList T.target L.same L.hash_of shows (FnReturnsAtPair E.Fn eq.now)
             (FnReturnsAt H.Fn hash_fn.now) self.old hash value result self.new };
 
-    /// The target of the entry that lives at a place of this table.
+    /// Returns the target of the entry at a place. The caller shows that an entry of this table lives there.
     fn target_at(&self, place: Self::Place) -> &T::Target
         requires { IsSome (value_of shows self.now place) }
         ensures { ShowsAt (value_of shows self.now place) (λ v. result.now ≡ T.target v) };
 
-    /// The target of an entry that the test accepts, or None. It changes nothing.
+    /// Returns the target of an entry that the test accepts, or `None`. Does not change the table.
+    ///
+    /// If the test and the table are lawful, `None` means that the test accepts no entry.
     fn lookup_alone<F: Fn(&T::Target) -> bool>(&self, hash: u64, test: F) -> Option<&T::Target>
         requires { F.IsAlwaysCallable test }
         ensures accepted { IfSome result (λ found. FindsOne T.target (FnReturnsAt F.Fn test)
@@ -73,7 +79,7 @@ pub trait AloneTable<T: AtomicValue, L: Law<T::Target>> {
         ensures as_list { LooksUpAsList T.target L.same L.hash_of shows (FnReturnsAt F.Fn test)
             self.now hash (option_copied result) };
 
-    /// The number of entries, or the greatest usize if there are more.
+    /// Returns the number of entries, or `usize::MAX` if there are more.
     fn len_alone(&self) -> usize
         ensures counted { shows.counted self.now }
         ensures as_list { CountsAsList shows self.now result };
@@ -81,11 +87,11 @@ pub trait AloneTable<T: AtomicValue, L: Law<T::Target>> {
     ghost no_entries_is_lawful: { LawfulWithoutEntries shows T.target };
 }
 
-/// A table held alone that keeps its entries apart: no two of them are the same where it is lawful.
+/// A single-owner table in which no two entries are equal, if it is lawful.
 pub trait KeepsApart<T: AtomicValue, L: Law<T::Target>>: AloneTable<T, L> {
     ghost use Rattle.table_held.specs.Again.{LawfulIsApart};
 
-    /// It does nothing: to call it is to know what it says.
+    /// Does nothing. A caller calls it for its clause: a lawful table has no two equal entries.
     fn entries_are_apart()
         ensures { LawfulIsApart Self.shows T.target L.same L.hash_of };
 }

@@ -1,8 +1,9 @@
-//! The hash table that one owner holds alone.
+//! A single-owner, insertion-only hash table.
 //!
-//! A [`HeldRawTable`] keeps one value for each target: what a value leads to, as its `AtomicValue` says. Its calls take
-//! the hash of a target and closures that compare and hash; a `Law` says what their caller means by them. A [`Place`]
-//! names a bucket that shows an entry, and stays good over growth. Nothing below it knows of threads.
+//! A [`HeldRawTable`] is a set of values: of several equal ones it keeps the first. It compares and hashes the target of a value,
+//! which [`AtomicValue`] defines. Each call takes the hash of a target and closures that compare and hash; a [`Law`] is a type
+//! that names, for contracts only, the equality and the hash that the caller means. A [`Place`] is the address of a bucket that
+//! shows an entry; it stays valid when the table grows. This crate and those below it use no threads and no locks.
 #![tactic(auto)]
 
 pub mod alone;

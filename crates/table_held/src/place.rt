@@ -1,10 +1,11 @@
-//! Where an entry is shown.
+//! The address of a bucket that shows an entry.
 ghost use Rattle.std.specs.Prelude.{◌≡◌};
 
-/// The place of an entry of a table: a bucket that shows it. Every later `place_alone` keeps the entry there, whatever
-/// growth comes. Only a table hands one out, and it is meant for that table alone.
+/// The place of an entry in a table: the generation and the index of a bucket that shows the entry.
 ///
-/// An entry has a place in each generation that it came into, so two places may show one entry.
+/// A place stays valid: no later insert, and no growth, changes the entry that its bucket shows. Only a table makes a place, and
+/// it is meant for that table only. Growth gives an entry a bucket in the new generation too, so one entry may have several
+/// places.
 #[derive(Clone, Copy, Debug, PartialEq, Eq)]
 pub struct Place {
     pub(crate) generation: usize,
@@ -12,14 +13,14 @@ pub struct Place {
 }
 
 impl Place {
-    /// The number of the generation whose bucket shows the entry: the first is 0.
+    /// Returns the number of the bucket's generation. The first generation is 0.
     pub fn generation(self) -> usize
         ensures { result ≡ self.generation }
     {
         self.generation
     }
 
-    /// The index of that bucket.
+    /// Returns the index of the bucket in its generation.
     pub fn index(self) -> usize
         ensures { result ≡ self.index }
     {

@@ -1,4 +1,4 @@
-//! The table held alone.
+//! The single-owner table.
 ghost use Rattle.std.specs.Prelude.{◌≡◌, ℕ, ◌-◌, ◌+◌, ◌*◌, ◌<◌, ◌≤◌, ◌↔◌, max, length, [], slice_index_or};
 ghost use Rattle.std.specs.Prelude.{OnOk, OnErr, IfOk, IfSome, IfNone, IsSome, IsTrue, option_copied};
 ghost use Rattle.std.specs.Fn.{FnReturnsAt, FnReturnsAtPair};
@@ -27,22 +27,27 @@ use table_terms::capacity;
 pub use table_terms::capacity::FIRST_CAPACITY;
 pub use table_values::IntoIter;
 
-/// Whether a table's first generation may have `first` buckets: a power of two from 16 to 2^30.
+/// Returns whether the first generation of a table may have `first` buckets: `first` is a power of two from 16 to 2^30.
 pub fn is_first_capacity(first: usize) -> bool
     ensures { IsTrue result ↔ IsFirstCapacity first }
 {
     capacity::is_first_capacity(first as u64)
 }
 
-/// An insertion-only set that one owner holds alone: no lock, no atomic, no waiting. Values are compared, hashed and
-/// shown by their targets.
+/// An insertion-only hash table with one owner. It takes no lock, does no atomic read-modify-write, and never waits. Values are
+/// compared, hashed and shown by their targets.
 ///
-/// Each call takes the hash and the closures of its caller. With lawful ones (one equivalence, one hash that agrees
-/// with it, and tests that accept only targets of the hash asked for) the table answers as a growing list without equal
-/// entries; with any closures no value is lost or kept twice.
+/// Each call takes a hash and closures from its caller. A call is lawful if `eq` is one equivalence, the hash agrees with it and
+/// is that of the value, and a test accepts only targets of the hash given. A new table is lawful, and lawful calls keep it so:
+/// no two of its entries are equal, and each is found by its hash. Then the table answers as a growing list without equal
+/// entries. With any other closures the answers may be wrong, but no value is lost or stored twice.
 ///
-/// A hash should vary in all its 64 bits: a probe begins at the low bits, and bits 32 to 39 spare most calls of `eq`. For a number
-/// call `table_terms::law::hash_number(number)`. A product with an odd number isn't enough: multiples of 2^16 share its low 16 bits.
+/// A hash should vary in all 64 bits: a probe begins at the low bits, and bits 32 to 39 let it skip most calls of `eq`. For a
+/// number call `table_terms::law::hash_number`. A product with an odd number isn't enough, since multiples of 2^16 share its low
+/// 16 bits.
+///
+/// A bucket takes 10 bytes, and each entry has a heap block with its value and 8 bits of its hash. Old generations are kept until
+/// the table is dropped.
 pub struct HeldRawTable<T: AtomicValue, A: Allocator + Copy = Global> {
     first_capacity: usize,
     home: Home,
@@ -63,7 +68,7 @@ impl<T: AtomicValue, A: Allocator + Copy> Model for HeldRawTable<T, A> {
         × AreOfHome t.home.id t.earlier.items t.current };
 }
 
-/// The generation of this number: an earlier one, or the current one, which is the last.
+/// Returns the generation of this number: an earlier one, or the current one, which is the last.
 fn generation_at<'a, T: AtomicValue, A: Allocator + Copy>(
     earlier: &'a [Generation<T, A>],
     current: &'a Generation<T, A>,
@@ -90,7 +95,7 @@ impl<T: AtomicValue, A: Allocator + Copy> HeldRawTable<T, A> {
     ghost use Rattle.table_held.specs.contracts.raw.HeldRawTable.{the_row};
     ghost use Rattle.std.specs.Borrow.{sem};
 
-    /// The empty table, whose first generation will have 16 buckets. It takes no memory.
+    /// Makes an empty table, whose first generation will have 16 buckets. Does not allocate.
     pub fn new(alloc: A) -> Self
         ensures empty { result ≡ empty_table 16 }
         ensures stands { Stands result [] }
@@ -99,7 +104,8 @@ impl<T: AtomicValue, A: Allocator + Copy> HeldRawTable<T, A> {
         HeldRawTable::with_first_capacity(alloc, FIRST_CAPACITY)
     }
 
-    /// The empty table, whose first generation will have `first_capacity` buckets: see `is_first_capacity`. It takes no memory.
+    /// Makes an empty table, whose first generation will have `first_capacity` buckets. The caller shows that `is_first_capacity`
+    /// holds of it. Does not allocate.
     pub fn with_first_capacity(alloc: A, first_capacity: usize) -> Self
         requires { IsFirstCapacity first_capacity }
         ensures empty { result ≡ empty_table first_capacity }
@@ -117,14 +123,14 @@ impl<T: AtomicValue, A: Allocator + Copy> HeldRawTable<T, A> {
         }
     }
 
-    /// The empty table with this one's allocator and first capacity. It takes no memory.
+    /// Makes an empty table with the allocator and the first capacity of this one. Does not allocate.
     pub fn new_like(&self) -> Self
         ensures { result ≡ empty_table self.now.first_capacity }
     {
         HeldRawTable::with_first_capacity(self.alloc, self.first_capacity)
     }
 
-    /// The number of entries.
+    /// Returns the number of entries.
     pub fn len_alone(&self) -> usize
         ensures size { result ≡ self.now.size }
         ensures counted { result ≡ length (entries self.now) }
@@ -133,14 +139,14 @@ impl<T: AtomicValue, A: Allocator + Copy> HeldRawTable<T, A> {
         self.current.size()
     }
 
-    /// Whether there is no entry.
+    /// Returns whether the table has no entry.
     pub fn is_empty_alone(&self) -> bool
         ensures { IsTrue result ↔ (length (entries self.now) ≡ 0) }
     {
         self.len_alone() == 0
     }
 
-    /// The buckets of the current generation; 0 while there is no generation.
+    /// Returns the number of buckets of the current generation. It is 0 until the first insert makes a generation.
     pub fn capacity_alone(&self) -> usize
         ensures current { result ≡ capacity self.now }
         ensures doubled { IsDoubled self.now.first_capacity result }
@@ -148,7 +154,8 @@ impl<T: AtomicValue, A: Allocator + Copy> HeldRawTable<T, A> {
         self.current.capacity()
     }
 
-    /// The buckets of all generations together.
+    /// Returns the number of buckets of all generations together. For `n` entries and a first capacity `F` it is at most `max(F,
+    /// 8n - F)`.
     pub fn buckets_alone(&self) -> usize
         ensures all { result ≡ all_buckets self.now }
         ensures linear_in_entries { result ≤ max self.now.first_capacity
@@ -160,12 +167,12 @@ impl<T: AtomicValue, A: Allocator + Copy> HeldRawTable<T, A> {
         if capacity == 0 {
             return 0;
         }
-        // Each generation is twice the one before, so all together are twice this one less the first; in this order no
-        // sum passes 2^64.
+        // Each generation is twice the one before, so all of them together are twice the current one less the first. In this
+        // order no intermediate result passes 2^64.
         capacity - self.first_capacity + capacity
     }
 
-    /// Makes the first generation, if there is none. A refusal leaves the table as it was.
+    /// Makes the first generation unless there is one. An `Err` leaves the table unchanged.
     fn open_alone(&mut self) -> Result<(), AllocError>
         ensures opened { OnOk result (IsOpened self.old self.new) }
         ensures some { OnOk result (0 < capacity self.new) }
@@ -179,7 +186,8 @@ impl<T: AtomicValue, A: Allocator + Copy> HeldRawTable<T, A> {
         Ok(())
     }
 
-    /// Makes a generation of twice the capacity that names every entry. A refusal leaves the table as it was.
+    /// Makes a generation of twice the capacity, in which each entry is named. An `Err`, because memory was refused or the
+    /// capacity can't double, leaves the table unchanged.
     fn grow_alone<H: Fn(&T::Target) -> u64>(&mut self, hash_fn: &H) -> Result<(), AllocError>
         requires some { 0 < capacity self.old }
         requires wanted { capacity self.old ≤ 2 * self.old.size }
@@ -198,7 +206,7 @@ impl<T: AtomicValue, A: Allocator + Copy> HeldRawTable<T, A> {
         Ok(())
     }
 
-    /// Grows, if at least half of the buckets are set. A refused growth changes nothing.
+    /// Grows the table if at least half of the buckets are set. An `Err` leaves the table unchanged.
     fn grow_if_wanted<H: Fn(&T::Target) -> u64>(&mut self, hash_fn: &H) -> Result<(), AllocError>
         requires some { 0 < capacity self.old }
         requires callable { H.IsAlwaysCallable hash_fn.now }
@@ -212,8 +220,8 @@ impl<T: AtomicValue, A: Allocator + Copy> HeldRawTable<T, A> {
         Ok(())
     }
 
-    /// Places the value in the current generation, unless an entry is accepted as equal. Says where the answer's entry
-    /// is shown.
+    /// Inserts the value into the current generation unless `eq` accepts an entry as equal, and returns the place of the entry. A
+    /// refusal returns the value and leaves the table unchanged.
     fn try_place<E: Fn(&T::Target, &T::Target) -> bool>(
         &mut self,
         hash: u64,
@@ -234,7 +242,7 @@ impl<T: AtomicValue, A: Allocator + Copy> HeldRawTable<T, A> {
         }
     }
 
-    /// Places the value; where the generation is full for it, grows and starts over.
+    /// Inserts the value; if the current generation has no bucket left for it, grows the table and tries again.
     fn place_or_grow<E: Fn(&T::Target, &T::Target) -> bool, H: Fn(&T::Target) -> u64>(
         &mut self,
         hash: u64,
@@ -263,15 +271,19 @@ impl<T: AtomicValue, A: Allocator + Copy> HeldRawTable<T, A> {
         }
     }
 
-    /// Inserts the value, unless an entry is accepted as equal, and says where the entry lives: `target_at` shows it.
+    /// Inserts the value unless `eq` accepts an entry as equal, and returns the place of the entry. `target_at` returns the
+    /// target at a place.
     ///
-    /// `hash` is that of the value's target. `eq` is asked with the target of the value first and that of an entry
-    /// second. `hash_fn` gives the hash of an entry's target, and is asked in growth. The closures are borrowed, so that
-    /// generic callers can pass their own on. `L` names the law, for contracts alone.
+    /// `hash` is the hash of the value's target. `eq` is called with the target of the value first and the target of an entry
+    /// second. `hash_fn` returns the hash of an entry's target and is called during growth. The closures are borrowed, so that a
+    /// generic caller can pass its own on. `L` names an equality and a hash, for contracts only.
     ///
-    /// Ok with None: the value is an entry now. Ok with a value: that value was handed in, and the entry at the place was
-    /// accepted as its equal. Err: memory was refused or the capacity can't double; the value comes back, and the entries
-    /// are as they were. A refused growth after an Ok keeps the Ok.
+    /// - `Ok((place, None))`: the value is now an entry, at `place`.
+    /// - `Ok((place, Some(value)))`: the value was not placed and is returned; `eq` accepted the entry at `place`.
+    /// - `Err(value)`: memory was refused, or the capacity can't double. The value is returned, and the entries are unchanged.
+    ///
+    /// It allocates for the first generation, for the block of a new entry, and for growth, which follows an insert once half of
+    /// the buckets are set. If only that growth is refused, the insert still returns `Ok`.
     pub fn place_alone<
         L: Law<T::Target>,
         E: Fn(&T::Target, &T::Target) -> bool,
@@ -289,7 +301,7 @@ impl<T: AtomicValue, A: Allocator + Copy> HeldRawTable<T, A> {
         ensures first { self.new.first_capacity ≡ self.old.first_capacity }
         ensures counted { IsCounted self.new }
 
-        // with lawful ones
+        // with lawful closures
         ensures lawful { InsertAnswers T.target L.same L.hash_of (FnReturnsAtPair E.Fn eq.now)
             (FnReturnsAt H.Fn hash_fn.now) (IsLawful T.target L.same L.hash_of self.old)
             (entries self.old) hash value result (IsLawful T.target L.same L.hash_of self.new) }
@@ -304,7 +316,7 @@ impl<T: AtomicValue, A: Allocator + Copy> HeldRawTable<T, A> {
         Ok(placed)
     }
 
-    /// The target of the entry that lives at a place of this table.
+    /// Returns the target of the entry at a place. The caller shows that an entry of this table lives there.
     pub fn target_at(&self, place: Place) -> &T::Target
         requires { IsSome (entry_at self.now place) }
         ensures { ShowsAt (entry_at self.now place) (λ v. result.now ≡ T.target v) }
@@ -332,7 +344,7 @@ impl<T: AtomicValue, A: Allocator + Copy> HeldRawTable<T, A> {
         self.place_alone::<L, E, H>(hash, value, &eq, &hash_fn)
     }
 
-    /// Shows the target of the entry at the place that an insert named.
+    /// Returns the target of the entry at the place that an insert returned, with the rest of that insert's result.
     fn show_placed(&self, placed: Told<Place, T>) -> Result<(&T::Target, Option<T>), T>
         requires { IfOk placed (λ p. IsSome (entry_at self.now p.0)) }
         ensures { ResultShows T.target held placed result self.now }
@@ -341,11 +353,11 @@ impl<T: AtomicValue, A: Allocator + Copy> HeldRawTable<T, A> {
         Ok((self.target_at(place), back))
     }
 
-    /// Inserts the value, unless an entry is accepted as equal, and shows the entry's target.
+    /// Inserts the value unless `eq` accepts an entry as equal, and returns the target of the entry.
     ///
-    /// `place_alone` says what the arguments are and what each answer means. Clause `leaves` says which table is left: it speaks of
-    /// the value of `self` once the target is no longer borrowed. Only a proof by hand can use that clause. A caller that wants a
-    /// plain one calls `place_alone`, and then `target_at`.
+    /// Arguments and results are those of `place_alone`, with the target in place of the `Place`. Clause `leaves` describes the
+    /// table at the end of the loan, that is, once the target is no longer borrowed. Only a proof by hand can use that clause. A
+    /// caller that wants a plain clause calls `place_alone` and then `target_at`.
     pub fn insert_alone<
         L: Law<T::Target>,
         E: Fn(&T::Target, &T::Target) -> bool,
@@ -363,10 +375,10 @@ impl<T: AtomicValue, A: Allocator + Copy> HeldRawTable<T, A> {
         self.show_placed(placed)
     }
 
-    /// The target of an entry that the test accepts, or None. It takes no memory and changes nothing.
+    /// Returns the target of an entry that the test accepts, or `None`. Does not allocate and does not change the table.
     ///
-    /// A test is lawful if it is one function of the target and accepts only targets of the given hash. With a lawful
-    /// test on a lawful table, None means that no entry is accepted.
+    /// A test is lawful if it is one function of the target and accepts only targets of the given hash. If the test and the table
+    /// are lawful, `None` means that the test accepts no entry.
     pub fn lookup_alone<L: Law<T::Target>, F: Fn(&T::Target) -> bool>(
         &self,
         hash: u64,
@@ -391,7 +403,7 @@ impl<T: AtomicValue, A: Allocator + Copy> HeldRawTable<T, A> {
 }
 
 impl<T: AtomicValue, A: Allocator + Copy> Drop for HeldRawTable<T, A> {
-    /// Drops each entry once, and frees its block.
+    /// Drops the value of each entry once, and frees its block.
     fn drop(self) {
         drop(self.into_iter());
     }

@@ -1,4 +1,4 @@
-//! Lists of calls on a table that one owner holds alone, written once for every such table.
+//! Lists of calls on a single-owner table, written once for every such table.
 ghost use Rattle.std.specs.Prelude.{◌≡◌, ◌++◌, ◌∷◌, [], All, length, IfOk, IfErr, IsOk, vec_len};
 ghost use Rattle.std.specs.Fn.{FnReturnsAt, FnReturnsAtPair};
 ghost use Rattle.std.specs.List.Sorted.{IsPermutation};
@@ -13,38 +13,38 @@ use std::alloc::Allocator;
 use table_generations::atomic_value::{AtomicValue, Law};
 pub use table_held::alone::{AloneTable, KeepsApart, Told};
 
-/// A call on a table that keeps values of type `T` and is asked by keys of type `K`.
+/// A call on a table that holds values of type `T` and is searched with keys of type `K`.
 #[derive(Drop)]
 pub enum Call<T: Drop, K: Drop> {
     /// Insert the value, whose target has this hash.
     Insert { hash: u64, value: T },
-    /// Look for an entry that meets the key, and has this hash.
+    /// Look up an entry that matches the key and has this hash.
     Lookup { hash: u64, key: K },
     /// Count the entries.
     Len,
 }
 
-/// What a call is told. It shows entries by copies of their targets.
+/// The reply to a call. It shows entries by copies of their targets.
 #[derive(Drop)]
 pub enum Reply<T: AtomicValue>
 where
     T::Target: Copy,
 {
-    /// The value is an entry now.
+    /// The value is now an entry, with this target.
     Placed(T::Target),
-    /// An entry with this target was there, and the value comes back.
+    /// An entry with this target was there, and the value is returned.
     Found(T::Target, T),
-    /// Memory was refused or the capacity can't double: the value comes back, and the entries are as they were.
+    /// Memory was refused, or the capacity can't double. The value is returned, and the entries are unchanged.
     Refused(T),
-    /// The look-up accepts this entry.
+    /// The look-up accepts the entry with this target.
     Some(T::Target),
     /// The look-up finds no entry.
     None,
-    /// The number of entries, or the greatest usize if there are more.
+    /// The number of entries, or `usize::MAX` if there are more.
     Len(usize),
 }
 
-/// Inserts the value, and tells what came of it.
+/// Inserts the value and returns the reply.
 fn reply_insert<
     T: AtomicValue,
     L: Law<T::Target>,
@@ -76,7 +76,7 @@ where
     }
 }
 
-/// Looks for the key, and tells what was found.
+/// Looks up the key and returns the reply.
 fn reply_lookup<
     T: AtomicValue,
     L: Law<T::Target>,
@@ -97,7 +97,7 @@ where
     }
 }
 
-/// Makes the call, and tells what came of it.
+/// Runs the call and returns the reply.
 fn reply_call<
     T: AtomicValue,
     L: Law<T::Target>,
@@ -130,12 +130,13 @@ where
     }
 }
 
-/// Makes the calls, one after the other, and gives their replies in order.
+/// Runs the calls, one after the other, and returns their replies in order.
 ///
-/// `eq` and `hash_fn` are those of every insert, and `test` says of a look-up's key and the target of an entry whether the
-/// entry meets it. `L` names their law, for contracts alone. The replies lie in memory of `alloc`, which is reserved
-/// before the first call. Err: that memory was refused; the calls come back, and the table is as it was. No calls take
-/// none, and aren't refused.
+/// Every insert uses `eq` and `hash_fn`. `test` is called with the key of a look-up and the target of an entry, and returns
+/// whether the entry matches the key. `L` names their equality and hash, for contracts only.
+///
+/// The replies are stored in memory of `alloc`, which is reserved before the first call. `Err`: that memory was refused; the
+/// calls are returned, and the table is unchanged. An empty list of calls needs no memory and is never refused.
 pub fn run_calls<
     T: AtomicValue,
     L: Law<T::Target>,
@@ -169,7 +170,7 @@ where
     ensures refused { IfErr result (λ back. (back ≡ calls) × (table.new ≡ table.old)) }
     ensures of_none { vec_len calls ≡ 0 → IsOk result }
 
-    // with lawful ones
+    // with lawful closures
     ensures lawful { IfOk result (λ _. RunStaysLawful T.target L.same L.hash_of B.shows
         (FnReturnsAtPair E.Fn eq) (FnReturnsAt H.Fn hash_fn) table.old calls.items table.new) }
     ensures as_list { IfOk result (λ replies. RunAnswers T.target L.same L.hash_of B.shows
@@ -179,7 +180,7 @@ where
     let Ok(mut replies) = Vec::with_capacity(alloc, calls.len()) else {
         return Err(calls);
     };
-    // Its contract says that the table is counted, also where no call follows.
+    // Called for its contract, which says that the table is counted. That is needed if there is no call.
     let _ = table.len_alone();
     for call in calls {
         let reply = reply_call(table, call, &eq, &hash_fn, &test);

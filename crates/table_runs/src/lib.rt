@@ -1,4 +1,4 @@
-//! Lists of calls on any table held alone, and what follows from their contracts. Users name it by `lock_free_hashtable`.
+//! Lists of calls on any single-owner table, and theorems about them. Users name them through `lock_free_hashtable`.
 #![tactic(auto)]
 
 pub mod alone;

@@ -1,26 +1,27 @@
-//! How an insert into a set ends.
+//! The results of an insert into a set.
 
-/// How an insert into a set ended.
+/// The result of an insert into a set.
 #[derive(Clone, Copy, Debug, PartialEq, Eq, Drop)]
 pub enum Inserted<T> {
-    /// The value is an entry now.
+    /// The value is now an entry.
     Placed,
-    /// An entry is the same. The value comes back; a `get` of its target shows the entry.
+    /// An entry is equal to the value, which is returned. A `get` of its target returns the entry.
     Found(T),
-    /// Memory was refused, and no entry is the same. The value comes back.
+    /// Memory was refused, or the capacity can't double, and no entry is equal. The value is returned.
     Refused(T),
 }
 
-/// How an insert into a set ended, with what it shows by a `&`.
+/// The result of an insert into a set, with the target of the entry.
 ///
-/// A `HeldSet` promises more. Placed and Refused come only where no entry was the same. What Found shows was an entry. What is shown
-/// is the target of an entry that is left, and the value of Placed is an entry now. For a `SharedSet` these are only tested.
+/// A `HeldSet` promises more than the variants say. It returns `Placed` or `Refused` only if no entry was equal. `Found` shows an
+/// entry that was there before. The target shown is that of an entry in the set that is left, and the value of `Placed` is one of
+/// its entries. For a `SharedSet` these facts are tested, not proved.
 #[derive(Clone, Copy, Debug, PartialEq, Eq, Drop)]
 pub enum Shown<E, T> {
-    /// The target of the value.
+    /// The value was placed. Shows its target.
     Placed(E),
-    /// A target that is the same as that of the value, which comes back.
+    /// An equal entry was found. Shows its target and returns the value.
     Found(E, T),
-    /// The value comes back. No clause says why: by the code memory was refused, or the capacity can't double.
+    /// The value was refused and is returned. No clause says why; in the code, memory was refused or the capacity can't double.
     Refused(T),
 }

@@ -1,4 +1,4 @@
-//! A raw table of which the type says that it is lawful.
+//! A raw table whose type says that it is lawful.
 ghost use Rattle.std.specs.Prelude.{◌≡◌, [], IfOk, IsSome};
 ghost use Rattle.table_terms.specs.Capacities.{IsFirstCapacity};
 ghost use Rattle.table_held.specs.Table.{IsLawful, IsCounted, entries, entry_at};
@@ -12,7 +12,8 @@ use std::marker::{Model, PhantomData};
 use table_held::alone::Told;
 use table_held::{AtomicValue, HeldRawTable, Place};
 
-/// A raw table that is lawful by `L`. A contract sees the whole table.
+/// A raw table that is lawful by `L`: each entry can be found by its hash, and no two entries are equal. A contract sees the
+/// whole table.
 pub(crate) struct LawfulTable<T: AtomicValue, L: SetLaw<T::Target>, A: Allocator + Copy> {
     table: HeldRawTable<T, A>,
     law: PhantomData<L>,
@@ -29,7 +30,7 @@ impl<T: AtomicValue, L: SetLaw<T::Target>, A: Allocator + Copy> Model for Lawful
 }
 
 impl<T: AtomicValue, L: SetLaw<T::Target>, A: Allocator + Copy> LawfulTable<T, L, A> {
-    /// Makes the empty table.
+    /// Makes an empty table. Does not allocate.
     pub(crate) fn new(alloc: A) -> Self
         ensures { entries result ≡ [] }
     {
@@ -39,7 +40,7 @@ impl<T: AtomicValue, L: SetLaw<T::Target>, A: Allocator + Copy> LawfulTable<T, L
         }
     }
 
-    /// Makes the empty table, whose first generation will have `first_capacity` buckets.
+    /// Makes an empty table, whose first generation will have `first_capacity` buckets. Does not allocate.
     pub(crate) fn with_first_capacity(alloc: A, first_capacity: usize) -> Self
         requires { IsFirstCapacity first_capacity }
         ensures { entries result ≡ [] }
@@ -50,7 +51,8 @@ impl<T: AtomicValue, L: SetLaw<T::Target>, A: Allocator + Copy> LawfulTable<T, L
         }
     }
 
-    /// Inserts the value, unless an entry is the same, and says where the entry lives.
+    /// Inserts the value unless an entry is equal, and returns the place of the entry. A refused value is returned, and the
+    /// entries are unchanged.
     pub(crate) fn place(&mut self, value: T) -> Told<Place, T>
         ensures places { PlacesByLaw T.target L.same self.old value result self.new }
         ensures lawful { IsLawful T.target L.same L.hash_of self.new }
@@ -58,7 +60,7 @@ impl<T: AtomicValue, L: SetLaw<T::Target>, A: Allocator + Copy> LawfulTable<T, L
         place_by_law::<T, L, A>(&mut self.table, value)
     }
 
-    /// Shows the target of the entry at the place that an insert named.
+    /// Returns the target of the entry at the place that an insert returned, as a [`Shown`].
     pub(crate) fn show(&self, placed: Told<Place, T>) -> Shown<&T::Target, T>
         requires { IfOk placed (λ p. IsSome (entry_at self.now p.0)) }
         ensures { ShowsByLaw T.target placed self.now result }
@@ -70,7 +72,7 @@ impl<T: AtomicValue, L: SetLaw<T::Target>, A: Allocator + Copy> LawfulTable<T, L
         }
     }
 
-    /// Shows the raw table.
+    /// Returns the raw table.
     pub(crate) fn table(&self) -> &HeldRawTable<T, A>
         ensures is { result.now ≡ self.now }
         ensures lawful { IsLawful T.target L.same L.hash_of result.now }

@@ -1,7 +1,8 @@
-//! A set of values under one law, for one owner: a call takes a value, a target or a key, and no hash and no closure.
+//! Single-owner sets whose type fixes equality and hash: a call takes a value, a target or a key, and neither a hash nor a
+//! closure.
 //!
-//! A [`HeldSet`] is a table held alone whose law, a [`SetLaw`], stands in its type. A contract sees it as the list of its
-//! entries, of which no two are the same.
+//! A [`HeldSet`] is a [`HeldRawTable`](table_held::HeldRawTable) with a law in its type: a [`SetLaw`], which says which targets
+//! are equal and what their hash is. A contract sees a set as the list of its entries, of which no two are equal.
 #![tactic(auto)]
 
 pub mod inserted;

@@ -1,4 +1,4 @@
-//! Numbers under the law that each is the same as itself alone.
+//! Integers as targets of sets: a number is equal only to itself.
 
 use crate::law::SetLaw;
 use std::num::{NonZeroU32, NonZeroU64};

@@ -1,4 +1,4 @@
-//! Pairs, by a law of each part.
+//! Pairs as targets of sets, with a law for each part.
 ghost use Rattle.std.specs.Prelude.{◌≡◌};
 ghost use Rattle.table_sets.specs.Pairs.{mixed_hash};
 
@@ -7,13 +7,14 @@ use std::marker::PhantomData;
 use table_held::Law;
 use table_terms::law::hash_number;
 
-/// Two pairs are the same if their first parts are under `L` and their second parts under `M`. A hash mixes those of both.
+/// The law of pairs whose first parts are compared by `L` and whose second parts by `M`. Two pairs are equal if both parts are.
+/// The hash of a pair mixes the hashes of both parts.
 pub struct PairsOf<L, M> {
     first: PhantomData<L>,
     second: PhantomData<M>,
 }
 
-/// Mixes the hashes of two parts into one.
+/// Returns a hash made of the hashes of two parts. The order of the parts matters.
 pub fn mix_hashes(first: u64, second: u64) -> u64
     ensures { result ≡ mixed_hash first second }
 {

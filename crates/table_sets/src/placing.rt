@@ -1,4 +1,4 @@
-//! Inserts into a raw table by a law.
+//! Inserts into a raw table under a law.
 ghost use Rattle.table_held.specs.Table.{IsLawful, IsCounted};
 ghost use Rattle.table_sets.specs.Placing.{PlacesByLaw};
 
@@ -6,7 +6,8 @@ use crate::law::SetLaw;
 use std::alloc::Allocator;
 use table_held::{AtomicValue, HeldRawTable, Place};
 
-/// Inserts the value, unless an entry is the same by the law, and says where the entry lives.
+/// Inserts the value unless an entry is equal by `L`, and returns the place of the entry. A refused value is returned, and the
+/// entries are unchanged.
 pub(crate) fn place_by_law<T: AtomicValue, L: SetLaw<T::Target>, A: Allocator + Copy>(
     table: &mut HeldRawTable<T, A>,
     value: T,

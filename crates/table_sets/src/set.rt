@@ -1,4 +1,4 @@
-//! The set that one owner holds alone.
+//! The single-owner set.
 ghost use Rattle.std.specs.Prelude.{◌≡◌, ◌↔◌, [], length, IsTrue, MatchBool, option_copied};
 ghost use Rattle.std.specs.List.Sorted.{IsPermutation};
 ghost use Rattle.table_terms.specs.Capacities.{IsFirstCapacity};
@@ -11,7 +11,7 @@ use std::alloc::{Allocator, Global};
 use std::marker::Model;
 use table_held::{AtomicValue, HeldIter, HeldRawTable, IntoIter};
 
-/// Values of which no two are the same under the law `L`. One owner holds them alone.
+/// An insertion-only set with one owner, in which no two values are equal under the law `L`. It takes no lock and never waits.
 ///
 /// A contract sees the list of the entries, in an order that an insert may change.
 pub struct HeldSet<T: AtomicValue, L: SetLaw<T::Target>, A: Allocator + Copy = Global> {
@@ -33,7 +33,7 @@ impl<T: AtomicValue, L: SetLaw<T::Target>, A: Allocator + Copy> HeldSet<T, L, A>
     ghost use Rattle.table_held.specs.Table.{entries, IsLawful};
     ghost use Rattle.table_sets.specs.contracts.set.HeldSet.{the_row};
 
-    /// The empty set. It takes no memory.
+    /// Makes an empty set. Does not allocate.
     pub fn new(alloc: A) -> Self
         ensures { result ≡ [] }
     {
@@ -42,7 +42,8 @@ impl<T: AtomicValue, L: SetLaw<T::Target>, A: Allocator + Copy> HeldSet<T, L, A>
         }
     }
 
-    /// The empty set, whose first generation will have `first_capacity` buckets: see `is_first_capacity`. It takes no memory.
+    /// Makes an empty set, whose first generation will have `first_capacity` buckets. The caller shows that `is_first_capacity`
+    /// holds of it. Does not allocate.
     pub fn with_first_capacity(alloc: A, first_capacity: usize) -> Self
         requires { IsFirstCapacity first_capacity }
         ensures { result ≡ [] }
@@ -52,8 +53,9 @@ impl<T: AtomicValue, L: SetLaw<T::Target>, A: Allocator + Copy> HeldSet<T, L, A>
         }
     }
 
-    /// Inserts the value, unless an entry is the same. What isn't placed comes back, and the entries are those before; it is
-    /// refused where memory is, or where the capacity can't double.
+    /// Inserts the value unless an entry is equal. A value that isn't placed is returned, and the entries are those before, in
+    /// some order. It is refused if memory is, or if the capacity can't double. Allocates for the first buckets, for a new entry,
+    /// and for growth.
     pub fn insert(&mut self, value: T) -> Inserted<T>
         ensures inserts { Inserts T.target L.same self.old self.new value result }
         ensures apart { AllApart T.target L.same self.new }
@@ -65,10 +67,10 @@ impl<T: AtomicValue, L: SetLaw<T::Target>, A: Allocator + Copy> HeldSet<T, L, A>
         }
     }
 
-    /// Inserts the value, unless an entry is the same, and shows the target of the entry.
+    /// Inserts the value unless an entry is equal, and returns the target of the entry.
     ///
-    /// Clause `leaves` says which set is left: it speaks of the value of `self` once the target is no longer borrowed. Only a proof by
-    /// hand can use that clause. A caller that wants a plain one calls `insert`, and then `get`.
+    /// Clause `leaves` describes the set at the end of the loan, that is, once the target is no longer borrowed. Only a proof by
+    /// hand can use that clause. A caller that wants a plain clause calls `insert` and then `get`.
     pub fn insert_and_show(&mut self, value: T) -> Shown<&T::Target, T>
         ensures* leaves { sem 𝓛 (RestsAs (the_row T.row L.row A.row T.Target.row T.AtomicValue L.Law
             A.Allocator) self.entry (InsertLeaves T.target L.same self.old value result)) }
@@ -78,7 +80,8 @@ impl<T: AtomicValue, L: SetLaw<T::Target>, A: Allocator + Copy> HeldSet<T, L, A>
         self.lawful.show(placed)
     }
 
-    /// The target of the entry that is the same as this one, or None. It takes no memory and changes nothing.
+    /// Returns the target of the entry that is equal to `target`, or `None` if no entry is. Does not allocate and does not change
+    /// the set.
     pub fn get(&self, target: &T::Target) -> Option<&T::Target>
         ensures finds { Finds T.target (L.same target.now) self.now (option_copied result) }
         ensures apart { AllApart T.target L.same self.now }
@@ -89,7 +92,8 @@ impl<T: AtomicValue, L: SetLaw<T::Target>, A: Allocator + Copy> HeldSet<T, L, A>
         )
     }
 
-    /// The target of an entry that meets the key, or None. It takes no memory and changes nothing.
+    /// Returns the target of an entry that matches the key, or `None` if no entry does. Does not allocate and does not change the
+    /// set.
     pub fn get_by_key<K>(&self, key: &K) -> Option<&T::Target>
     where
         L: KeyLaw<K, T::Target>,
@@ -102,7 +106,7 @@ impl<T: AtomicValue, L: SetLaw<T::Target>, A: Allocator + Copy> HeldSet<T, L, A>
         )
     }
 
-    /// Whether an entry is the same as this target. It takes no memory and changes nothing.
+    /// Returns whether an entry is equal to this target. Does not allocate and does not change the set.
     pub fn contains(&self, target: &T::Target) -> bool
         ensures { MatchBool result (OnePasses T.target (L.same target.now) self.now)
             (NonePasses T.target (L.same target.now) self.now) }
@@ -110,7 +114,7 @@ impl<T: AtomicValue, L: SetLaw<T::Target>, A: Allocator + Copy> HeldSet<T, L, A>
         self.get(target).is_some()
     }
 
-    /// The number of entries.
+    /// Returns the number of entries.
     pub fn len(&self) -> usize
         ensures length { result ≡ length self.now }
         ensures apart { AllApart T.target L.same self.now }
@@ -118,14 +122,14 @@ impl<T: AtomicValue, L: SetLaw<T::Target>, A: Allocator + Copy> HeldSet<T, L, A>
         self.lawful.table().len_alone()
     }
 
-    /// Whether there is no entry.
+    /// Returns whether the set has no entry.
     pub fn is_empty(&self) -> bool
         ensures { IsTrue result ↔ (self.now ≡ []) }
     {
         self.lawful.table().is_empty_alone()
     }
 
-    /// A walk over the targets of the entries, each once. It takes no memory.
+    /// Returns an iterator over the targets of the entries, each once. Does not allocate.
     pub fn iter(&self) -> HeldIter<'_, T, A>
         ensures entries { result ≡ self.now }
         ensures apart { AllApart T.target L.same self.now }
@@ -133,7 +137,7 @@ impl<T: AtomicValue, L: SetLaw<T::Target>, A: Allocator + Copy> HeldSet<T, L, A>
         self.lawful.table().iter_alone()
     }
 
-    /// The raw table of the set, which is lawful. It takes no memory.
+    /// Takes out the raw table of the set, which is lawful. Does not allocate.
     pub fn into_table(self) -> HeldRawTable<T, A>
         ensures entries { entries result ≡ self }
         ensures lawful { IsLawful T.target L.same L.hash_of result }
@@ -150,7 +154,7 @@ impl<T: AtomicValue, L: SetLaw<T::Target>, A: Allocator + Copy> IntoIterator for
 
     ghost into_iter_gives = { λ s it. IsPermutation s it };
 
-    /// Takes the set apart, and hands out each of its values. It takes no memory.
+    /// Consumes the set and returns an iterator over its values. Does not allocate.
     fn into_iter(self) -> IntoIter<T, A> {
         self.into_table().into_iter()
     }
@@ -164,6 +168,7 @@ impl<'a, V: 'a, T: AtomicValue<Target = V>, L: SetLaw<V>, A: Allocator + Copy> I
 
     ghost into_iter_gives = { λ s it. it ≡ s.now };
 
+    /// Returns an iterator over the targets of the entries, each once. Does not allocate.
     fn into_iter(self) -> HeldIter<'a, T, A> {
         self.iter()
     }

@@ -1,4 +1,4 @@
-//! Texts under the law that each is the same as one of the same bytes.
+//! Texts as targets of sets, compared by their bytes.
 ghost use Rattle.std.specs.Prelude.{◌≡◌};
 ghost use Rattle.table_sets.specs.Texts.{text_hash};
 
@@ -7,10 +7,10 @@ use std::alloc::Allocator;
 use table_held::Law;
 use table_terms::law::{MIXING_FACTOR, hash_number};
 
-/// Texts are the same if their bytes are, and a text is looked up by a `&str` too.
+/// The law of texts: two texts are equal if their bytes are. A `String` can also be looked up with a `&str`.
 pub struct TextLaw;
 
-/// Returns the hash of a text. It depends on each byte and its place, and spreads texts over all 64 bits.
+/// Returns the hash of a text. It depends on each byte and its position, and spreads texts over all 64 bits.
 pub fn hash_text(text: &str) -> u64
     ensures { result ≡ text_hash text.now }
 {

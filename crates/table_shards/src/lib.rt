@@ -1,4 +1,4 @@
-//! Tables over several shards that one owner holds alone. Users name it by `lock_free_hashtable`.
+//! Single-owner tables over several shards. Users name them through `lock_free_hashtable`.
 #![tactic(auto)]
 
 pub mod sharded;

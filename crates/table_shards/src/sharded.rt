@@ -1,4 +1,4 @@
-//! A table over shards, held alone.
+//! A single-owner table over shards.
 ghost use Rattle.std.specs.Prelude.{◌≡◌, ◌≢◌, ℕ, ◌*◌, ◌/◌, ◌^◌, ◌<◌, ◌≤◌, ◌↔◌, length, []};
 ghost use Rattle.std.specs.Prelude.{map, min, IfOk, IfSome, IfNone, IsSome, IsTrue, option_copied};
 ghost use Rattle.std.specs.Fn.{FnReturnsAt, FnReturnsAtPair};
@@ -23,10 +23,10 @@ use table_generations::atomic_value::{AtomicValue, Law};
 use table_held::alone::Told;
 use table_held::raw::HeldRawTable;
 
-/// An insertion-only set over `SHARDS` raw tables that one owner holds alone. A value lies in the shard of its hash.
+/// An insertion-only hash table over `SHARDS` raw tables, with one owner. A value lies in the shard of its hash.
 ///
-/// `SHARDS` is a power of two, 1 included. Each call is that of the raw table, on the shard of the hash or on all shards,
-/// and promises the same.
+/// `SHARDS` is a power of two, 1 included. Each call does what the raw table's call does, on the shard of the hash or on all
+/// shards, and promises the same.
 #[derive(Drop)]
 pub struct HeldShardedTable<T: AtomicValue, const SHARDS: usize, A: Allocator + Copy = Global> {
     shards: [HeldRawTable<T, A>; SHARDS],
@@ -58,21 +58,22 @@ impl<T: AtomicValue, const SHARDS: usize, A: Allocator + Copy> HeldShardedTable<
     ghost use Rattle.table_shards.specs.contracts.sharded.HeldShardedTable.{the_row};
     ghost use Rattle.std.specs.Borrow.{sem};
 
-    /// The empty table; the first generation of each shard will have 16 buckets. It takes no memory.
+    /// Makes an empty table. The first generation of each shard will have 16 buckets. The caller shows that `SHARDS` is a power
+    /// of two. Does not allocate.
     pub fn new(alloc: A) -> Self
         requires { IsPowerOfTwo SHARDS }
         ensures empty { result ≡ empty_shards SHARDS 16 }
         ensures stands { Stands sharded result [] }
         ensures lawful { AreLawfulForAll T.target result }
     {
-        // Not by `with_first_capacity`: no proof shows its caller that so many shards fit in memory.
+        // Does not call `with_first_capacity`: no proof shows the caller of that function that this many shards fit in memory.
         let like: HeldRawTable<T, A> = HeldRawTable::new(alloc);
         let shards = array::from_fn(|_| like.new_like());
         HeldShardedTable { shards }
     }
 
-    /// The empty table; the first generation of each shard will have `first_capacity` buckets: see `is_first_capacity`.
-    /// It takes no memory.
+    /// Makes an empty table. The first generation of each shard will have `first_capacity` buckets. The caller shows that
+    /// `SHARDS` is a power of two, and that `is_first_capacity` holds of `first_capacity`. Does not allocate.
     pub fn with_first_capacity(alloc: A, first_capacity: usize) -> Self
         requires shards { IsPowerOfTwo SHARDS }
         requires first { IsFirstCapacity first_capacity }
@@ -85,7 +86,7 @@ impl<T: AtomicValue, const SHARDS: usize, A: Allocator + Copy> HeldShardedTable<
         HeldShardedTable { shards }
     }
 
-    /// The number of the shard of a hash: its top bits, exactly `hash * SHARDS / 2^64`.
+    /// Returns the number of the shard of a hash, which its top bits determine: `hash * SHARDS / 2^64`, rounded down.
     pub fn shard_of(hash: u64) -> usize
         ensures is { result ≡ number_of_shard SHARDS hash }
         ensures inside { 0 < SHARDS → result < SHARDS }
@@ -93,7 +94,7 @@ impl<T: AtomicValue, const SHARDS: usize, A: Allocator + Copy> HeldShardedTable<
         ((hash as u128 * SHARDS as u128) >> 64) as usize
     }
 
-    /// The number of entries, or the greatest usize if there are more.
+    /// Returns the number of entries, or `usize::MAX` if there are more.
     pub fn len_alone(&self) -> usize
         ensures counted { result ≡ min (length (entries self.now)) greatest_length }
         ensures each { AreCounted self.now }
@@ -106,14 +107,14 @@ impl<T: AtomicValue, const SHARDS: usize, A: Allocator + Copy> HeldShardedTable<
         sum
     }
 
-    /// Whether there is no entry.
+    /// Returns whether the table has no entry.
     pub fn is_empty_alone(&self) -> bool
         ensures { IsTrue result ↔ (length (entries self.now) ≡ 0) }
     {
         self.len_alone() == 0
     }
 
-    /// The buckets of the current generations of all shards, or the greatest usize if there are more.
+    /// Returns the number of buckets of the current generations of all shards, or `usize::MAX` if there are more.
     pub fn capacity_alone(&self) -> usize
         ensures { result ≡ capped_sum capacity self.now }
     {
@@ -124,7 +125,7 @@ impl<T: AtomicValue, const SHARDS: usize, A: Allocator + Copy> HeldShardedTable<
         sum
     }
 
-    /// The buckets of all generations of all shards, or the greatest usize if there are more.
+    /// Returns the number of buckets of all generations of all shards, or `usize::MAX` if there are more.
     pub fn buckets_alone(&self) -> usize
         ensures all { result ≡ capped_sum all_buckets self.now }
         ensures linear_in_entries { (k : ℕ) → k < length self.now
@@ -137,8 +138,8 @@ impl<T: AtomicValue, const SHARDS: usize, A: Allocator + Copy> HeldShardedTable<
         sum
     }
 
-    /// Inserts the value into the shard of its hash, unless an entry there is accepted as equal, and says where the entry
-    /// lives: see `HeldRawTable::place_alone`.
+    /// Inserts the value into the shard of its hash unless `eq` accepts an entry there as equal, and returns the place of the
+    /// entry. Arguments and results are those of `HeldRawTable::place_alone`.
     pub fn place_alone<
         L: Law<T::Target>,
         E: Fn(&T::Target, &T::Target) -> bool,
@@ -162,7 +163,7 @@ impl<T: AtomicValue, const SHARDS: usize, A: Allocator + Copy> HeldShardedTable<
         ensures shards { length self.new ≡ length self.old }
         ensures counted { AreCounted self.new }
 
-        // with lawful ones
+        // with lawful closures
         ensures lawful { InsertAnswers T.target L.same L.hash_of (FnReturnsAtPair E.Fn eq.now)
             (FnReturnsAt H.Fn hash_fn.now) (AreLawful T.target L.same L.hash_of self.old)
             (entries self.old) hash value result (AreLawful T.target L.same L.hash_of self.new) }
@@ -178,7 +179,7 @@ impl<T: AtomicValue, const SHARDS: usize, A: Allocator + Copy> HeldShardedTable<
         }
     }
 
-    /// The target of the entry that lives at a place of this table.
+    /// Returns the target of the entry at a place. The caller shows that an entry of this table lives there.
     pub fn target_at(&self, place: ShardPlace) -> &T::Target
         requires { IsSome (entry_at self.now place) }
         ensures { ShowsAt (entry_at self.now place) (λ v. result.now ≡ T.target v) }
@@ -204,7 +205,7 @@ impl<T: AtomicValue, const SHARDS: usize, A: Allocator + Copy> HeldShardedTable<
         self.place_alone::<L, E, H>(hash, value, &eq, &hash_fn)
     }
 
-    /// Shows the target of the entry at the place that an insert named.
+    /// Returns the target of the entry at the place that an insert returned, with the rest of that insert's result.
     fn show_placed(&self, placed: Told<ShardPlace, T>) -> Result<(&T::Target, Option<T>), T>
         requires { IfOk placed (λ p. IsSome (entry_at self.now p.0)) }
         ensures { ResultShows T.target sharded placed result self.now }
@@ -213,10 +214,11 @@ impl<T: AtomicValue, const SHARDS: usize, A: Allocator + Copy> HeldShardedTable<
         Ok((self.target_at(place), back))
     }
 
-    /// Inserts the value into the shard of its hash, unless an entry there is accepted as equal, and shows the entry's target.
+    /// Inserts the value into the shard of its hash unless `eq` accepts an entry there as equal, and returns the target of the
+    /// entry.
     ///
-    /// `HeldRawTable::place_alone` says what the arguments are and what each answer means. Clause `leaves` says which shards are left:
-    /// see `HeldRawTable::insert_alone`.
+    /// Arguments and results are those of `HeldRawTable::insert_alone`. Clause `leaves` describes the shards at the end of the
+    /// loan, as the clause of that call does.
     pub fn insert_alone<
         L: Law<T::Target>,
         E: Fn(&T::Target, &T::Target) -> bool,
@@ -234,8 +236,8 @@ impl<T: AtomicValue, const SHARDS: usize, A: Allocator + Copy> HeldShardedTable<
         self.show_placed(placed)
     }
 
-    /// The target of an entry that the test accepts, or None. It asks the shard of the hash alone: see
-    /// `HeldRawTable::lookup_alone`. It takes no memory and changes nothing.
+    /// Returns the target of an entry that the test accepts, or `None`. It reads only the shard of the hash; see
+    /// `HeldRawTable::lookup_alone`. Does not allocate and does not change the table.
     pub fn lookup_alone<L: Law<T::Target>, F: Fn(&T::Target) -> bool>(
         &self,
         hash: u64,
@@ -253,7 +255,7 @@ impl<T: AtomicValue, const SHARDS: usize, A: Allocator + Copy> HeldShardedTable<
         shards[HeldShardedTable::<T, SHARDS, A>::shard_of(hash)].lookup_alone::<L, F>(hash, test)
     }
 
-    /// The shards, in their order, to be kept as raw tables. It takes no memory, and no bucket is looked at.
+    /// Takes the table apart into its shards, in order. Does not allocate and reads no bucket.
     pub fn into_shards(self) -> [HeldRawTable<T, A>; SHARDS]
         ensures { result ≡ self }
     {

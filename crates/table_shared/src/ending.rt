@@ -1,4 +1,4 @@
-//! A shared table, taken apart.
+//! The end of a shared table: its values are moved out or dropped.
 ghost use Rattle.std.specs.Prelude.{◌≡◌, ◌+◌, ◌<◌, All, IfSome, length, vec_capacity, slice_index_or, map};
 ghost use Rattle.std.specs.Box.{box_allocator};
 ghost use Rattle.table_shared.specs.Lineages.{IsOpen, AreRoomy};
@@ -30,7 +30,7 @@ fn rehome_at<T: AtomicValue, A: Allocator + Copy>(
     *generation = old.rehomed(closed, home);
 }
 
-/// Moves what the generations own to the other home.
+/// Moves what each of the generations owns to the other home.
 pub(crate) fn rehome_all<T: AtomicValue, A: Allocator + Copy>(
     generations: &mut Vec<Generation<T, A>, A>,
     closed: &Closed,
@@ -45,7 +45,7 @@ pub(crate) fn rehome_all<T: AtomicValue, A: Allocator + Copy>(
     }
 }
 
-/// Moves what the generation in a block owns to the other home.
+/// Moves what the generation in this block owns to the other home, and returns the block.
 fn rehome_block<T: AtomicValue, A: Allocator + Copy>(
     block: Box<Generation<T, A>, A>,
     closed: &Closed,
@@ -61,7 +61,7 @@ fn rehome_block<T: AtomicValue, A: Allocator + Copy>(
     block
 }
 
-/// The generation that was shown by a word, moved to the other home.
+/// Takes the generation that a word holds, and moves what it owns to the other home. Returns `None` if the word is not set.
 fn take_later<T: AtomicValue, A: Allocator + Copy>(
     word: Word<Generation<T, A>, A>,
     closed: &Closed,
@@ -76,7 +76,7 @@ fn take_later<T: AtomicValue, A: Allocator + Copy>(
     Some(rehome_block(block, closed, home, alloc))
 }
 
-/// The later generations that were shown, moved to the other home. It takes no memory.
+/// Takes the later generations that were made, and moves what they own to the other home. Does not allocate.
 fn rehome_later<T: AtomicValue, A: Allocator + Copy>(
     later: Later<T, A>,
     closed: &Closed,
@@ -99,7 +99,8 @@ fn rehome_later<T: AtomicValue, A: Allocator + Copy>(
     room
 }
 
-/// The later generations that were shown, if there are words for them, moved to the other home. It takes no memory.
+/// Takes the later generations that were made, if the table has words for them, and moves what they own to the other home. Does
+/// not allocate.
 pub(crate) fn rehome_shown<T: AtomicValue, A: Allocator + Copy>(
     later: Word<Later<T, A>, A>,
     closed: &Closed,
@@ -116,7 +117,7 @@ pub(crate) fn rehome_shown<T: AtomicValue, A: Allocator + Copy>(
     }
 }
 
-/// Drops the values that the generation shown by a word owns, if there is one.
+/// Drops the values owned by the generation that a word holds, if it holds one.
 fn drop_shown<T: AtomicValue, A: Allocator + Copy>(
     word: Word<Generation<T, A>, A>,
     closed: &Closed,
@@ -145,7 +146,7 @@ fn drop_words<T: AtomicValue, A: Allocator + Copy>(later: Later<T, A>, closed: &
     }
 }
 
-/// Drops the values that the later generations own, if there are words for them.
+/// Drops the values that the later generations own, if the table has words for them.
 pub(crate) fn drop_later<T: AtomicValue, A: Allocator + Copy>(
     later: Word<Later<T, A>, A>,
     closed: &Closed,
@@ -171,7 +172,7 @@ pub(crate) fn drop_earlier<T: AtomicValue, A: Allocator + Copy>(
     }
 }
 
-/// So many, and the values that these generations own, if they can be counted.
+/// Returns `others` plus the number of values that these generations own, or `None` if the sum passes `usize::MAX`.
 fn count_earlier<T: AtomicValue, A: Allocator + Copy>(
     generations: &[Generation<T, A>],
     others: usize,
@@ -186,7 +187,7 @@ fn count_earlier<T: AtomicValue, A: Allocator + Copy>(
     Some(count)
 }
 
-/// So many, and the values that the generations in these blocks own, if they can be counted.
+/// Returns `others` plus the number of values that the generations in these blocks own, or `None` if the sum passes `usize::MAX`.
 fn count_later<T: AtomicValue, A: Allocator + Copy>(
     blocks: &[Box<Generation<T, A>, A>],
     others: usize,
@@ -201,8 +202,8 @@ fn count_later<T: AtomicValue, A: Allocator + Copy>(
     Some(count)
 }
 
-/// The values that these generations own. Where there are more than can be counted, those of the others than the current
-/// one are dropped: no memory holds so many.
+/// Returns an iterator over the values that these generations own. If there are more than `usize::MAX`, which no memory holds, it
+/// drops the values of all generations but the current one.
 pub(crate) fn hand_out<T: AtomicValue, A: Allocator + Copy>(
     closed: Closed,
     current: Generation<T, A>,

@@ -1,4 +1,4 @@
-//! The next generation of a shared table while it is made.
+//! The next generation of a shared table while it is built.
 ghost use Rattle.std.specs.Prelude.{◌≡◌, IfOk, IsSome, MatchOption, length};
 ghost use Rattle.std.specs.Box.{box_allocator};
 ghost use Rattle.std.specs.Fn.{FnReturnsAt};
@@ -19,17 +19,17 @@ use table_cell::{Bucket, Home, Low, Note};
 use table_generations::atomic_value::AtomicValue;
 use table_generations::fixed::Generation;
 
-/// The next generation while it is made, with all the memory that it needs. Dropped, it is given up: its buckets name
-/// entries and own none.
+/// The next generation while it is built, with all the memory that it needs. Dropping it abandons the generation; no value is
+/// lost, since its buckets name entries and own none.
 #[derive(Drop)]
 pub struct Growth<'a, T: AtomicValue, A: Allocator + Copy> {
     home: &'a Home,
     from: Option<&'a Generation<T, A>>,
-    /// So many buckets of the generation before are copied.
+    /// The number of buckets of the earlier generation that were copied.
     copied: usize,
     built: Generation<T, A>,
     slot: Slot<'a, T, A>,
-    /// Where the generation will lie.
+    /// The heap block that the generation will be moved to.
     block: Box<Generation<T, A>, A>,
 }
 
@@ -46,7 +46,7 @@ impl<'a, T: AtomicValue, A: Allocator + Copy> Model for Growth<'a, T, A> {
 }
 
 impl<'a, T: AtomicValue, A: Allocator + Copy> Growth<'a, T, A> {
-    /// A generation with no entry copied. Its block is asked for.
+    /// Makes a growth with no entry copied yet. Allocates the block of the generation; an `Err` means that this was refused.
     pub(crate) fn begun(
         home: &'a Home,
         from: Option<&'a Generation<T, A>>,
@@ -70,7 +70,7 @@ impl<'a, T: AtomicValue, A: Allocator + Copy> Growth<'a, T, A> {
         })
     }
 
-    /// Names the next entry that isn't copied yet in the generation that is made. False says that there is none.
+    /// Copies the next entry: names it in the generation that is built. Returns false if every bucket was copied.
     pub fn copy_next<H: Fn(&T::Target) -> u64>(&mut self, hash_fn: &H) -> bool
         requires { H.IsAlwaysCallable hash_fn.now }
         ensures home { self.new.home ≡ self.old.home }
@@ -96,7 +96,7 @@ impl<'a, T: AtomicValue, A: Allocator + Copy> Growth<'a, T, A> {
         false
     }
 
-    /// The generation that was made, in its block, with the word that is to show it.
+    /// Moves the generation into its block, and returns it with the word that is to hold it.
     fn into_block(self) -> (Slot<'a, T, A>, Box<Generation<T, A>, A>)
         ensures built { result.1.value.contents ≡ self.entry.built }
         ensures fits { (result.1.value.home ≡ self.entry.home) × IsPowerOfTwo (length result.1.value.contents) }
@@ -114,19 +114,19 @@ impl<'a, T: AtomicValue, A: Allocator + Copy> Growth<'a, T, A> {
     }
 }
 
-/// What a growth has shown.
+/// The result of publishing a generation.
 #[derive(Drop)]
 pub(crate) struct Grown<T: AtomicValue, A: Allocator + Copy> {
-    /// Knows that a generation was shown since the table was shared.
+    /// A note that a generation was published since the table was shared, for contracts only.
     pub(crate) since: Note<()>,
-    /// Knows the generation that the growth's word shows.
+    /// A note of which generation the growth's word holds, for contracts only.
     pub(crate) generation: Note<Generation<T, A>>,
-    /// The block that was given back, where the word was set before.
+    /// The block of the growth, returned if the word was set before.
     pub(crate) back: Option<Box<Generation<T, A>, A>>,
 }
 
 impl<'a, T: AtomicValue, A: Low + Copy> Growth<'a, T, A> {
-    /// Shows the generation that was made, under all locks of its table.
+    /// Publishes the generation that was built. The caller holds all locks of the table.
     pub(crate) fn show(self, _held: &OwnedLock<'_>, shown: &Shown<T, A>) -> Grown<T, A>
         requires lock { _held.now.home ≡ self.home }
         requires whole { PassedAll self }

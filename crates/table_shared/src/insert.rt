@@ -1,4 +1,4 @@
-//! Inserts: the steps of an insert in a row, with its parts in locals as long as nothing is rare.
+//! Inserts that run to their end. Their parts are kept in local variables on the common path.
 ghost use Rattle.std.specs.Prelude.{◌≡◌, Some, None};
 ghost use Rattle.std.specs.Fn.{FnReturnsAtPair};
 ghost use Rattle.table_core.specs.declared.call.Outcome.TheVariants.{Pending};
@@ -22,8 +22,8 @@ use table_generations::atomic_value::AtomicValue;
 use table_generations::fixed::Generation;
 use table_turns::{step, step_loaded};
 
-/// The same state, its parts written one by one, those that the caller knows as it knows them. The compiler keeps the state in
-/// registers then; one that is copied whole from step to step it keeps in memory.
+/// Returns the same state, built field by field from what the caller knows of it. The compiler then keeps the state in registers;
+/// a state that is copied whole from step to step is kept in memory.
 #[inline(always)]
 fn spelt(state: CallState, phase: Phase, number: u64, outcome: Outcome) -> CallState
     requires phase { state.phase ≡ phase }
@@ -43,11 +43,18 @@ fn spelt(state: CallState, phase: Phase, number: u64, outcome: Outcome) -> CallS
 }
 
 impl<T: AtomicValue, A: Low + Copy> LockFreeRawTable<T, A> {
-    /// Inserts the value, unless an entry is accepted as equal, and shows the target of the entry: its own, or the accepted
-    /// one beside the value, which comes back. The value comes back alone where memory was refused, or where the table can't
-    /// grow, and isn't in the table then; a growth that is refused after the value was placed or found changes no answer.
+    /// Inserts the value unless `eq` accepts an entry as equal, and returns the target of the entry.
     ///
-    /// Anyone may call it at any time; it may wait for the lock of the table, so no closure may insert into the same table.
+    /// `hash` is the hash of the value's target. `eq` is called with the target of the value first and the target of an entry
+    /// second. `hash_fn` returns the hash of an entry's target and is called during growth.
+    ///
+    /// - `Ok((target, None))`: the value was placed; `target` is its own.
+    /// - `Ok((target, Some(value)))`: the value was not placed and is returned; `eq` accepted `target`.
+    /// - `Err(value)`: memory was refused, or the table can't grow. The value is returned and is not in the table.
+    ///
+    /// A growth that is refused after the value was placed or found doesn't change the result. Any thread may call it at any
+    /// time. It takes the table's lock and may wait for it, so no closure may insert into the same table. Before it sets a bucket
+    /// it allocates a block for the value; it also allocates when the table grows.
     pub fn insert<R: Wait, E: Fn(&T::Target, &T::Target) -> bool, H: Fn(&T::Target) -> u64>(
         &self,
         rt: &R,
@@ -106,8 +113,8 @@ impl<T: AtomicValue, A: Low + Copy> LockFreeRawTable<T, A> {
         unreachable!()
     }
 
-    /// An insert at an empty bucket: its value is offered, counted once if it was taken, and the lock released. Who lost the
-    /// exchange goes on from what it met there.
+    /// Continues an insert at an empty bucket: offers its value there, and if the value was placed counts it once and releases
+    /// the lock. If another entry came first, the insert continues from that entry.
     #[inline(always)]
     fn place<'a, R: Wait, E: Fn(&T::Target, &T::Target) -> bool, H: Fn(&T::Target) -> u64>(
         &'a self,
@@ -145,7 +152,7 @@ impl<T: AtomicValue, A: Low + Copy> LockFreeRawTable<T, A> {
         self.go_on(rt, next, Some(generation), carried, Some(guard), asking)
     }
 
-    /// An insert that has an outcome releases the lock, and grows the table if half of its generation is set.
+    /// Ends an insert that has an outcome: releases the lock, and grows the table if half of its generation is set.
     #[inline(always)]
     fn settle<
         'a,
@@ -179,7 +186,7 @@ impl<T: AtomicValue, A: Low + Copy> LockFreeRawTable<T, A> {
         self.go_on(rt, state, Some(generation), carried, None, asking)
     }
 
-    /// The rest of an insert, from any step but the last, with the guard of the lock if it is shared.
+    /// Runs the rest of an insert, from any step but the last. `guard` is the lock if the insert holds it shared.
     #[inline(always)]
     fn go_on<'a, R: Wait, E: Fn(&T::Target, &T::Target) -> bool, H: Fn(&T::Target) -> u64>(
         &'a self,
@@ -211,8 +218,8 @@ impl<T: AtomicValue, A: Low + Copy> LockFreeRawTable<T, A> {
         )
     }
 
-    /// The same by parts. What is rare is kept out of `insert`, and gets the state and what is carried part by part: of what is
-    /// handed over whole the compiler keeps a copy in memory from the start, and that on the usual way too.
+    /// Runs the rest of an insert, as `go_on` does, from the fields of its state. The rare path is kept out of `insert` and gets
+    /// these values one by one: the compiler keeps a value that is passed whole in memory from the start, on the common path too.
     #[inline(never)]
     fn go_on_by_parts<'a, R: Wait, E: Fn(&T::Target, &T::Target) -> bool, H: Fn(&T::Target) -> u64>(
         &'a self,

@@ -1,4 +1,4 @@
-//! A walk over a table that threads share.
+//! Iteration by reference over a shared table.
 ghost use Rattle.std.specs.Prelude.{◌≡◌, ◌^◌, ◌<◌};
 ghost use Rattle.std.specs.Iterator.{at_most};
 ghost use Rattle.table_shared.specs.Walks.{WalksOn};
@@ -11,9 +11,9 @@ use table_cell::Home;
 use table_generations::atomic_value::AtomicValue;
 use table_generations::fixed::Generation;
 
-/// The targets of a table's entries. It stays with the generation that was current when it was made, and looks at each
-/// bucket when it comes to it. It is seen as the number of the buckets that are left, and the entries that they were set to
-/// alone: each of them is shown, in their order.
+/// An iterator over the targets of a table's entries. It stays with the generation that was current when it was made, and reads
+/// each bucket when it comes to it. A contract sees the number of buckets that are left, and those of their entries that were set
+/// through `&mut`, by the owner before the table was shared or by growth: each of these is returned, in order.
 #[derive(Drop)]
 pub struct Iter<'a, T: AtomicValue, A: Allocator + Copy = Global> {
     home: &'a Home,
@@ -38,6 +38,7 @@ impl<'a, V: 'a, T: AtomicValue<Target = V>, A: Allocator + Copy> Iterator for It
 
     ghost remaining = { λ it. at_most it.left };
 
+    /// Returns the target of the next entry, or `None` at the end.
     fn next(&mut self) -> Option<&'a V> {
         let generation = self.generation?;
         while self.left > 0 {
@@ -55,7 +56,7 @@ impl<'a, V: 'a, T: AtomicValue<Target = V>, A: Allocator + Copy> Iterator for It
 impl<'a, V: 'a, T: AtomicValue<Target = V>, A: Allocator + Copy> FusedIterator for Iter<'a, T, A> {}
 
 impl<T: AtomicValue, A: Allocator + Copy> LockFreeRawTable<T, A> {
-    /// A walk over the targets of the entries. It takes no lock and no memory.
+    /// Returns an iterator over the targets of the entries. Takes no lock and does not allocate.
     pub fn iter(&self) -> Iter<'_, T, A>
         ensures fits { result.left < 2 ^ 64 }
     {
@@ -77,6 +78,7 @@ impl<'a, V: 'a, T: AtomicValue<Target = V>, A: Allocator + Copy> IntoIterator
 
     type IntoIter = Iter<'a, T, A>;
 
+    /// Returns an iterator over the targets of the entries. Takes no lock and does not allocate.
     fn into_iter(self) -> Iter<'a, T, A> {
         self.iter()
     }

@@ -1,7 +1,7 @@
-//! The table that threads share: its generations, growth step by step, walks, and calls that go step by step.
+//! The table that threads share: its generations, its growth, iteration, and calls that run one step at a time.
 //!
-//! The generations that a table had when it was shared lie in it as they were; each later one lies in a block of its own,
-//! named by a word that is set once. Who looks up or inserts takes the current one by [`LockFreeRawTable::current`].
+//! The generations that a table had when it was shared stay in it. Each later one has a heap block of its own, whose address a
+//! word holds that is set once. Look-ups and inserts take the current generation from [`LockFreeRawTable::current`].
 #![tactic(auto)]
 
 mod apart;

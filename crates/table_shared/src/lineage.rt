@@ -1,4 +1,4 @@
-//! The generations of a shared table in their order.
+//! The generations of a shared table, in order.
 ghost use Rattle.std.specs.Prelude.{◌≡◌, ◌*◌, ◌^◌, ◌≤◌, IfOk, IfSome, IfNone, length, vec_capacity};
 ghost use Rattle.std.specs.Int.{IsPowerOfTwo};
 ghost use Rattle.table_shared.specs.Lineages.{AreOfHome, AreRoomy, IsOpen, IsNumber, LastIsBare, lineage_of};
@@ -14,8 +14,8 @@ use table_generations::atomic_value::AtomicValue;
 use table_generations::fixed::Generation;
 use table_values::IntoIter;
 
-/// The generations of a shared table: those that it had when it was shared, and the later ones, each shown once. The words
-/// for the later ones are made with the first of them.
+/// The generations of a shared table: those that it had when it was shared, and the later ones, each published once. The words
+/// that hold the later ones are made with the first of them.
 #[derive(Drop)]
 pub(crate) struct Lineage<T: AtomicValue, A: Allocator + Copy> {
     earlier: Vec<Generation<T, A>, A>,
@@ -34,7 +34,7 @@ impl<T: AtomicValue, A: Allocator + Copy> Model for Lineage<T, A> {
     ghost invariant = { λ l. IsLineage l.alloc l.earlier.items l.base l.later };
 }
 
-/// How often a capacity is to be doubled for another one, which is as large or larger. Both are powers of two.
+/// Returns how often the smaller capacity is doubled to make the larger one. Both are powers of two.
 fn doublings(small: usize, large: usize) -> u32
     requires powers { IsPowerOfTwo small × IsPowerOfTwo large }
     ensures { small ≤ large → large ≡ small * 2 ^ result }
@@ -43,7 +43,7 @@ fn doublings(small: usize, large: usize) -> u32
 }
 
 impl<T: AtomicValue, A: Allocator + Copy> Lineage<T, A> {
-    /// The generations of a table that is shared now. It takes no memory.
+    /// Makes the list of generations of a table that is shared now. Does not allocate.
     pub(crate) fn new(
         alloc: A,
         home: &Home,
@@ -62,7 +62,7 @@ impl<T: AtomicValue, A: Allocator + Copy> Lineage<T, A> {
         }
     }
 
-    /// How many generations there were when the table was shared.
+    /// Returns the number of generations that the table had when it was shared.
     pub(crate) fn held(&self) -> usize {
         if self.base.capacity() == 0 {
             return 0;
@@ -70,7 +70,7 @@ impl<T: AtomicValue, A: Allocator + Copy> Lineage<T, A> {
         self.earlier.len().saturating_add(1)
     }
 
-    /// The words for the later generations, if there are any.
+    /// Returns the words for the later generations, if they were made.
     fn later<'a>(&'a self, home: &'a Home) -> Option<&'a Later<T, A>>
         requires { self.now.home ≡ home.now.id }
         ensures { IfSome result (λ l. AreRoomy home.now.id l.now.alloc l.now.words.items
@@ -83,8 +83,8 @@ impl<T: AtomicValue, A: Allocator + Copy> Lineage<T, A> {
         }
     }
 
-    /// The number of the generation of so many buckets. The first is 0, and each has twice as many as the one before, so the
-    /// capacity tells it: a second load could be of another generation.
+    /// Returns the number of the generation that has this many buckets. The first is 0, and each has twice as many buckets as the
+    /// one before, so the capacity determines the number. Loading the number separately could give that of another generation.
     #[inline(always)]
     pub(crate) fn number_of(&self, first_capacity: usize, capacity: usize) -> u64
         requires powers { IsPowerOfTwo first_capacity × IsPowerOfTwo capacity }
@@ -98,7 +98,7 @@ impl<T: AtomicValue, A: Allocator + Copy> Lineage<T, A> {
         number as u64 + u64::from(doublings(known, capacity))
     }
 
-    /// The last of the generations that the table had when it was shared, if it had one with a bucket.
+    /// Returns the last of the generations that the table had when it was shared, if that one has a bucket.
     pub(crate) fn last_held(&self) -> Option<&Generation<T, A>>
         ensures none { IfNone result (LastIsBare self.now.shared) }
         ensures home { IfSome result (λ g. g.now.home ≡ self.now.home) }
@@ -112,8 +112,8 @@ impl<T: AtomicValue, A: Allocator + Copy> Lineage<T, A> {
 }
 
 impl<T: AtomicValue, A: Allocator + Copy> Lineage<T, A> {
-    /// Takes the generations apart, once their home has ended, and hands out each value that a bucket owns. It takes no
-    /// memory.
+    /// Consumes the generations after their home has ended, and returns an iterator over the values that their buckets own. Does
+    /// not allocate.
     pub(crate) fn into_values(self, closed: &Closed) -> IntoIter<T, A>
         requires { self.home ≡ closed.now.id }
     {
@@ -130,8 +130,8 @@ impl<T: AtomicValue, A: Allocator + Copy> Lineage<T, A> {
         hand_out(home.close(), base, earlier, later, alloc)
     }
 
-    /// Ends the generations once their home has: each value that a bucket owns is dropped, and its block is freed. It takes no
-    /// memory, and goes over each bucket once, where `into_values` moves what there is first.
+    /// Drops the generations after their home has ended: drops each value that a bucket owns, and frees its block. Does not
+    /// allocate. It reads each bucket once, while `into_values` moves all of them first.
     pub(crate) fn drop_values(self, closed: &Closed)
         requires { self.home ≡ closed.now.id }
     {
@@ -148,7 +148,7 @@ impl<T: AtomicValue, A: Allocator + Copy> Lineage<T, A> {
 }
 
 impl<T: AtomicValue, A: Low + Copy> Lineage<T, A> {
-    /// The words for the later generations, made if there are none. A refusal leaves the lineage as it was.
+    /// Returns the words for the later generations, and makes them if there are none. An `Err` leaves the generations unchanged.
     fn opened<'a>(&'a self, home: &'a Home) -> Result<&'a Later<T, A>, AllocError>
         requires { self.now.home ≡ home.now.id }
         ensures { IfOk result (λ l. AreRoomy home.now.id l.now.alloc l.now.words.items
@@ -167,8 +167,8 @@ impl<T: AtomicValue, A: Low + Copy> Lineage<T, A> {
         }
     }
 
-    /// The word of the generation of this number, which isn't shown yet. Refused where memory is, or where there are
-    /// no more words.
+    /// Returns the word for the generation of this number, which isn't published yet. Returns an `Err` if memory is refused or no
+    /// word is left.
     pub(crate) fn slot<'a>(
         &'a self,
         home: &'a Home,

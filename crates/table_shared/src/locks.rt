@@ -1,6 +1,6 @@
-//! The locks of a table: who places a value takes the one of its hash, and who makes a generation takes all.
+//! The lock of a table, striped: an insert takes the stripe of its hash, and a growth takes all stripes.
 //!
-//! What is taken tells whose it is: of which table, and of the locks of a growth, that no lane is left out.
+//! A guard carries, for contracts, the table that it belongs to. The guard of a growth is proved to hold every stripe.
 ghost use Rattle.std.specs.Prelude.{◌≡◌, ◌<◌, IfSome};
 ghost use Rattle.table_shared.specs.Lanes.{AreFourFrom};
 
@@ -14,11 +14,11 @@ use std::sync::{RwLock, RwLockReadGuard, RwLockWriteGuard, Wait};
 use table_cell::Home;
 use table_generations::atomic_value::AtomicValue;
 
-/// How many lanes a table has: a power of two.
+/// The number of stripes ("lanes") of a table's lock. It is a power of two.
 const LANES: usize = 8;
 
-/// A lock, and bytes with nothing in them, as many as a line of memory has together: so no two lanes are written on one line, but for
-/// those of a table that begins in the middle of one.
+/// One stripe of a table's lock, padded to 64 bytes, the size of a cache line. Two stripes share a line only if the table does
+/// not begin at the start of one.
 #[derive(Drop)]
 struct Lane {
     lock: RwLock<()>,
@@ -27,11 +27,11 @@ struct Lane {
 
 const _: () = prove!(size_of::<Lane>() == 64);
 
-// as many as an `OwnedLock` has
+// An `OwnedLock` has this many.
 const _: () = prove!(LANES == 8);
 
 impl Lane {
-    /// A lane that nobody holds.
+    /// Makes a stripe that nobody holds.
     fn new() -> Lane {
         Lane {
             lock: RwLock::new(()),
@@ -40,14 +40,14 @@ impl Lane {
     }
 }
 
-/// What stands for one lock. Who shares it takes the lane of a hash, so that inserts of different hashes seldom write to one line of
-/// memory; who wants it alone takes every lane, in their order.
+/// A readers-writer lock in stripes. A reader takes only the stripe of a hash, so that inserts of different hashes seldom write
+/// to one cache line. A writer takes every stripe, in order.
 #[derive(Drop)]
 pub(crate) struct Locks {
     lanes: [Lane; LANES],
 }
 
-/// The lane of a hash of one table, shared.
+/// A guard of one stripe of a table's lock, held shared.
 #[derive(Drop)]
 pub(crate) struct SharedLock<'a> {
     guard: RwLockReadGuard<'a, ()>,
@@ -62,7 +62,7 @@ impl<'a> Model for SharedLock<'a> {
     ghost view = { λ l. record { home = l.of.value.id } };
 }
 
-/// A lane that is held alone.
+/// A guard of one stripe, held exclusively.
 #[derive(Drop)]
 struct OneLane<'a> {
     guard: RwLockWriteGuard<'a, ()>,
@@ -77,7 +77,7 @@ impl<'a> Model for OneLane<'a> {
     ghost view = { λ l. record { number = l.number.value } };
 }
 
-/// Four lanes that are held alone.
+/// Guards of four stripes in a row, held exclusively.
 #[derive(Drop)]
 struct Four<'a> {
     one: OneLane<'a>,
@@ -86,7 +86,7 @@ struct Four<'a> {
     four: OneLane<'a>,
 }
 
-/// All lanes of one table, held alone.
+/// Guards of all stripes of one table, held exclusively.
 #[derive(Drop)]
 pub(crate) struct OwnedLock<'a> {
     low: Four<'a>,
@@ -106,20 +106,20 @@ impl<'a> Model for OwnedLock<'a> {
 }
 
 impl Locks {
-    /// Locks that nobody holds.
+    /// Makes stripes that nobody holds.
     pub(crate) fn new() -> Locks {
         Locks {
             lanes: array::from_fn(|_lane| Lane::new()),
         }
     }
 
-    /// The lane of a hash: by its low bits, by which hashes in a row differ.
+    /// Returns the stripe of a hash, by its low bits, in which consecutive hashes differ.
     #[inline(always)]
     fn lane(&self, hash: u64) -> &RwLock<()> {
         &self.lanes[hash as usize & (LANES - 1)].lock
     }
 
-    /// The lane of this hash, shared, of the table of this home. It waits for who holds all alone.
+    /// Takes the stripe of this hash, shared, for the table of this home. Waits while a writer holds it.
     #[inline(always)]
     fn share<R: Wait>(&self, rt: &R, hash: u64, home: &Home) -> SharedLock<'_>
         ensures { result.home ≡ home.now.id }
@@ -130,7 +130,7 @@ impl Locks {
         }
     }
 
-    /// The lane of this hash, shared, of the table of this home, if nobody holds it alone now.
+    /// Takes the stripe of this hash, shared, for the table of this home, if no writer holds it now.
     fn try_share(&self, hash: u64, home: &Home) -> Option<SharedLock<'_>>
         ensures { IfSome result (λ l. l.home ≡ home.now.id) }
     {
@@ -140,7 +140,7 @@ impl Locks {
         })
     }
 
-    /// The lane of this number, alone.
+    /// Takes the stripe of this number exclusively. Waits while anybody holds it.
     fn own_lane<R: Wait>(&self, rt: &R, number: u64) -> OneLane<'_>
         ensures { result.number ≡ number }
     {
@@ -150,7 +150,7 @@ impl Locks {
         }
     }
 
-    /// The lane of this number, alone, if nobody holds it now.
+    /// Takes the stripe of this number exclusively, if nobody holds it now.
     fn try_own_lane(&self, number: u64) -> Option<OneLane<'_>>
         ensures { IfSome result (λ l. l.number ≡ number) }
     {
@@ -160,7 +160,7 @@ impl Locks {
         })
     }
 
-    /// Four lanes from this one on, alone.
+    /// Takes four stripes exclusively, in order, from number `first` on. Waits for everybody who holds one.
     fn own_four<R: Wait>(&self, rt: &R, first: u64) -> Four<'_>
         requires { first < 5 }
         ensures { AreFourFrom first result }
@@ -173,7 +173,7 @@ impl Locks {
         }
     }
 
-    /// Four lanes from this one on, alone, if nobody holds any of them now.
+    /// Takes four stripes exclusively, from number `first` on, if nobody holds any of them now.
     fn try_own_four(&self, first: u64) -> Option<Four<'_>>
         requires { first < 5 }
         ensures { IfSome result (AreFourFrom first) }
@@ -186,7 +186,7 @@ impl Locks {
         })
     }
 
-    /// All lanes, alone, of the table of this home. It waits for everybody who holds one.
+    /// Takes all stripes exclusively, for the table of this home. Waits for everybody who holds one.
     fn own<R: Wait>(&self, rt: &R, home: &Home) -> OwnedLock<'_>
         ensures { result.home ≡ home.now.id }
     {
@@ -197,7 +197,7 @@ impl Locks {
         }
     }
 
-    /// All lanes, alone, of the table of this home, if nobody holds any of them now.
+    /// Takes all stripes exclusively, for the table of this home, if nobody holds any of them now.
     fn try_own(&self, home: &Home) -> Option<OwnedLock<'_>>
         ensures { IfSome result (λ l. l.home ≡ home.now.id) }
     {
@@ -210,7 +210,7 @@ impl Locks {
 }
 
 impl<T: AtomicValue, A: Allocator + Copy> LockFreeRawTable<T, A> {
-    /// The lane of this hash, shared. It waits for who holds all alone.
+    /// Takes the stripe of this hash, shared. Waits while a writer holds it.
     #[inline(always)]
     pub(crate) fn share<R: Wait>(&self, rt: &R, hash: u64) -> SharedLock<'_>
         ensures { result.home ≡ self.now.home }
@@ -218,21 +218,21 @@ impl<T: AtomicValue, A: Allocator + Copy> LockFreeRawTable<T, A> {
         self.locks.share(rt, hash, &self.home)
     }
 
-    /// The lane of this hash, shared, if nobody holds it alone now.
+    /// Takes the stripe of this hash, shared, if no writer holds it now.
     pub(crate) fn try_share(&self, hash: u64) -> Option<SharedLock<'_>>
         ensures { IfSome result (λ l. l.home ≡ self.now.home) }
     {
         self.locks.try_share(hash, &self.home)
     }
 
-    /// All lanes of the table, alone. It waits for everybody who holds one.
+    /// Takes all stripes of the table exclusively. Waits for everybody who holds one.
     pub(crate) fn own<R: Wait>(&self, rt: &R) -> OwnedLock<'_>
         ensures { result.home ≡ self.now.home }
     {
         self.locks.own(rt, &self.home)
     }
 
-    /// All lanes of the table, alone, if nobody holds any of them now.
+    /// Takes all stripes of the table exclusively, if nobody holds any of them now.
     pub(crate) fn try_own(&self) -> Option<OwnedLock<'_>>
         ensures { IfSome result (λ l. l.home ≡ self.now.home) }
     {

@@ -1,4 +1,4 @@
-//! Look-ups: one probe of the current generation, step by step by the core.
+//! Look-ups: one probe of the current generation, each step decided by `table_core`.
 ghost use Rattle.std.specs.Prelude.{◌≡◌, IfSome, true};
 ghost use Rattle.std.specs.Fn.{FnReturnsAt};
 ghost use Rattle.table_core.specs.declared.call.Phase.TheVariants.{LookProbe};
@@ -12,8 +12,8 @@ use table_core::{CallState, Phase};
 use table_generations::atomic_value::AtomicValue;
 use table_turns::step_loaded;
 
-/// A look-up that goes on to its next bucket, as it is. Its phase is spelt out, so that the compiler takes the steps of other
-/// phases out of the loop.
+/// Returns the same state, of a look-up that goes on to its next bucket. Its phase is written out, so that the compiler removes
+/// the steps of other phases from the loop.
 #[inline(always)]
 fn probing_on(state: CallState) -> CallState
     requires phase { state.phase ≡ LookProbe }
@@ -26,8 +26,10 @@ fn probing_on(state: CallState) -> CallState
 }
 
 impl<T: AtomicValue, A: Allocator + Copy> LockFreeRawTable<T, A> {
-    /// The target of an entry that the test accepts, or None. Anyone may call it at any time: it takes no lock and no memory,
-    /// and returns.
+    /// Returns the target of an entry that the test accepts, or `None`. Any thread may call it at any time. It takes no lock,
+    /// does not allocate, and always returns.
+    ///
+    /// `hash` is the hash of the targets that the test accepts. No clause says what `None` means.
     pub fn lookup<F: Fn(&T::Target) -> bool>(&self, hash: u64, test: F) -> Option<&T::Target>
         requires callable { F.IsAlwaysCallable test }
         ensures accepted { IfSome result (λ found. FnReturnsAt F.Fn test found.now true) }

@@ -1,9 +1,9 @@
-//! The probe: what is read or exchanged at a bucket, and where that takes the call.
+//! The probe: what is read or exchanged at a bucket, and the state of the call after it.
 //!
-//! A call stands at the bucket of its state's index in the generation that it walks. It looks at that very bucket: an empty
-//! one ends the probe, an entry with other bits than those of its hash is passed, and of any other it asks whom it probes
-//! for. Each function gives the state after the step. Its contract ties the step to what the bucket shows: only entries with
-//! the bits of the hash are asked about, and the answer is what was said of them.
+//! A call stands at the bucket of its state's index, in the generation that it probes. An empty bucket ends the probe. An entry
+//! whose eight hash bits differ from those of the call's hash is passed. For any other entry the caller's closure is called. Each
+//! function returns the state after the step. Its contract ties the step to what the bucket shows: the closure is called only for
+//! entries with the bits of the hash, and the answer is what the closure returned.
 ghost use Rattle.std.specs.Prelude.{◌≡◌, Bool, length, slice_index_or, true};
 ghost use Rattle.std.specs.Fn.{FnReturnsAt, FnReturnsAtPair};
 ghost use Rattle.table_generations.specs.Buckets.{content_at};
@@ -25,13 +25,13 @@ use table_generations::fixed::shared::Look;
 use table_terms::probe::bits_of_hash;
 use table_turns::{passed, step};
 
-/// Whom a probe asks of the target of an entry that has the bits of its hash.
+/// The closure that a probe calls with the target of an entry that has the bits of its hash.
 pub(crate) trait Probing<X> {
     ghost callable: { Self → Type 0 };
 
     ghost says: { Self → X → Bool → Type 0 };
 
-    /// Whether the target is accepted.
+    /// Returns whether the closure accepts the target.
     fn accepts(&self, target: &X) -> bool
         requires { callable self.now }
         ensures { says self.now target.now result };
@@ -54,7 +54,7 @@ impl<X, F: Fn(&X) -> bool> Probing<X> for Tested<'_, F> {
     }
 }
 
-/// The closure of an insert, which is asked with the target of its value first.
+/// The `eq` of an insert, with the value whose target is its first argument.
 #[derive(Drop)]
 pub(crate) struct Matched<'a, T, E> {
     pub(crate) value: &'a T,
@@ -73,17 +73,17 @@ impl<T: AtomicValue, E: Fn(&T::Target, &T::Target) -> bool> Probing<T::Target>
     }
 }
 
-/// Who calls a step. It has no value: each caller has a copy of the step of its own, which the compiler puts in line. A copy
-/// that several share stays out of line, and copies the whole state of the call in and out.
+/// A caller of a step. It has no value: it is a type parameter, by which each caller gets its own copy of the step, which the
+/// compiler inlines. A copy shared by several callers is not inlined, and copies the whole state of the call in and out.
 pub(crate) trait Caller {}
 
-/// A running call, as it reads a bucket.
+/// A call that runs to its end and reads a bucket.
 pub(crate) enum Reading {}
 
-/// A running insert, as it puts its value.
+/// An insert that runs to its end and offers its value.
 pub(crate) enum Putting {}
 
-/// A call that goes step by step.
+/// A call that runs one step at a time.
 pub(crate) enum Stepping {}
 
 impl Caller for Reading {}
@@ -92,31 +92,31 @@ impl Caller for Putting {}
 
 impl Caller for Stepping {}
 
-/// What a read of a bucket came to, with the state after it.
+/// The result of reading a bucket, with the state after it.
 #[derive(Drop)]
 pub(crate) enum Read<R> {
     /// The bucket was empty.
     Empty(CallState),
-    /// Its entry was passed: the closure said no, or wasn't asked.
+    /// The entry was passed. The flag tells whether the closure was called; if so it returned false.
     Passed(CallState, bool),
-    /// Its entry was accepted.
+    /// The entry was accepted.
     Met(CallState, R),
 }
 
-/// What an exchange at an empty bucket came to, with the state after it.
+/// The result of an exchange at an empty bucket, with the state after it.
 #[derive(Drop)]
 pub(crate) enum Put<'a, T, X> {
     /// The value is in the bucket, and isn't counted yet.
     Won(CallState, &'a X),
-    /// The memory for it was refused.
+    /// Memory for the value was refused.
     Refused(CallState, T),
-    /// Another entry came first, and was passed: the closure said no, or wasn't asked.
+    /// Another entry came first, and was passed. The flag tells whether the closure was called; if so it returned false.
     Passed(CallState, bool, T),
     /// Another entry came first, and was accepted.
     Met(CallState, &'a X, T),
 }
 
-/// The target of the entry that a look shows, if it has the bits that were sought.
+/// Returns the target of the entry that a look shows, if it has the bits that were sought.
 #[inline(always)]
 fn alike<T: AtomicValue>(look: Look<'_, T>) -> Option<&T::Target>
     ensures { ShowsAlike T.target look.entry result }
@@ -127,7 +127,7 @@ fn alike<T: AtomicValue>(look: Look<'_, T>) -> Option<&T::Target>
     }
 }
 
-/// The target of an entry, if it has the bits of this hash.
+/// Returns the target of an entry, if it has the bits of this hash.
 fn alike_entry<T: AtomicValue>(entry: &Entry<T>, hash: u64) -> Option<&T::Target>
     ensures { ShowsMarked T.target (bits_of hash) entry.now result }
 {
@@ -138,7 +138,7 @@ fn alike_entry<T: AtomicValue>(entry: &Entry<T>, hash: u64) -> Option<&T::Target
     }
 }
 
-/// A call meets an entry in its bucket, and asks about its target if the entry has the bits of its hash.
+/// Handles an entry in the call's bucket: calls the closure if the entry has the bits of the call's hash.
 #[inline(always)]
 fn meet<'a, C: Caller, T: AtomicValue, P: Probing<T::Target>>(
     state: CallState,
@@ -159,7 +159,7 @@ fn meet<'a, C: Caller, T: AtomicValue, P: Probing<T::Target>>(
     Read::Passed(step(state, passed(asked)), asked)
 }
 
-/// An insert that lost its exchange meets the entry that came first.
+/// Handles the entry that came first, for an insert that lost its exchange.
 #[inline(always)]
 fn meet_first<'a, T: AtomicValue, E: Fn(&T::Target, &T::Target) -> bool>(
     state: CallState,
@@ -185,7 +185,7 @@ fn meet_first<'a, T: AtomicValue, E: Fn(&T::Target, &T::Target) -> bool>(
 }
 
 impl<T: AtomicValue, A: Allocator + Copy> LockFreeRawTable<T, A> {
-    /// What a probe for the call's hash meets at the bucket where the call stands.
+    /// Returns what the bucket at which the call stands shows, compared by the bits of the call's hash.
     #[inline(always)]
     fn look<'a>(
         &'a self,
@@ -205,7 +205,7 @@ impl<T: AtomicValue, A: Allocator + Copy> LockFreeRawTable<T, A> {
         generation.look_at(self.home(), state.index as usize, sought, note)
     }
 
-    /// A call reads its bucket.
+    /// Reads the bucket at which the call stands.
     #[inline(always)]
     pub(crate) fn read_bucket<'a, C: Caller, P: Probing<T::Target>>(
         &'a self,
@@ -235,7 +235,8 @@ impl<T: AtomicValue, A: Allocator + Copy> LockFreeRawTable<T, A> {
 }
 
 impl<T: AtomicValue, A: Low + Copy> LockFreeRawTable<T, A> {
-    /// An insert offers its value to its bucket, by one exchange. Who loses it meets the entry that came first.
+    /// Offers the insert's value to its bucket by one exchange. If another entry came first, handles that entry. Allocates a
+    /// block for the value first.
     #[inline(always)]
     pub(crate) fn put_value<'a, C: Caller, E: Fn(&T::Target, &T::Target) -> bool>(
         &'a self,

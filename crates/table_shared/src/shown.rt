@@ -1,4 +1,4 @@
-//! Which of the generations of a table is shown.
+//! Which generation of a table is the current one.
 ghost use Rattle.std.specs.Prelude.{◌≡◌, IfSome, IfNone, IsSome, None, length};
 ghost use Rattle.std.specs.Int.{IsPowerOfTwo};
 
@@ -8,7 +8,7 @@ use table_cell::{Home, Latest, Note, Word};
 use table_generations::atomic_value::AtomicValue;
 use table_generations::fixed::Generation;
 
-/// The generation that was shown last. A store to it is the moment at which a generation becomes the current one.
+/// The generation that was published last. Storing to it is the moment at which a generation becomes the current one.
 #[derive(Drop)]
 pub(crate) struct Shown<T: AtomicValue, A: Allocator + Copy> {
     latest: Latest<Generation<T, A>, A>,
@@ -23,7 +23,7 @@ impl<T: AtomicValue, A: Allocator + Copy> Model for Shown<T, A> {
 }
 
 impl<T: AtomicValue, A: Allocator + Copy> Shown<T, A> {
-    /// None is shown yet, since the table was shared.
+    /// Makes it with no generation published since the table was shared.
     pub(crate) fn new(alloc: A, home: &Home) -> Self
         ensures { result.home ≡ home.now.id }
     {
@@ -32,7 +32,7 @@ impl<T: AtomicValue, A: Allocator + Copy> Shown<T, A> {
         }
     }
 
-    /// A note of what is shown, which knows of nothing yet.
+    /// Makes a note of what was published, which knows nothing yet.
     #[inline(always)]
     pub(crate) fn note(&self) -> Note<()>
         ensures { (result.of ≡ self.now.id) × (result.known ≡ None) }
@@ -40,8 +40,8 @@ impl<T: AtomicValue, A: Allocator + Copy> Shown<T, A> {
         self.latest.note()
     }
 
-    /// The generation that was shown last, if one was since the table was shared. The note then knows that one was, and with such
-    /// a note there is one.
+    /// Returns the generation that was published last, or `None` if none was since the table was shared. The note then knows that
+    /// one was; with such a note the result is never `None`.
     #[inline(always)]
     pub(crate) fn latest<'a>(
         &'a self,
@@ -62,8 +62,8 @@ impl<T: AtomicValue, A: Allocator + Copy> Shown<T, A> {
         }
     }
 
-    /// From now on the generation of this word is the one that was shown last. The note has seen it in the word; the one that is
-    /// handed out knows that a generation was shown.
+    /// Publishes the generation of this word: it is the last one from now on. `seen` is a note that knows what the word holds.
+    /// The note returned knows that a generation was published.
     pub(crate) fn show(
         &self,
         word: &Word<Generation<T, A>, A>,

@@ -1,4 +1,4 @@
-//! How many entries a table counts, the steps at that number, and whether a generation is still the current one.
+//! The number of entries of a table, the steps that use it, and whether a generation is still the current one.
 ghost use Rattle.std.specs.Prelude.{◌≡◌, ◌⊎◌, true, nat_lt};
 ghost use Rattle.table_core.specs.Calls.{stands_at_bucket, to};
 ghost use Rattle.table_core.specs.declared.call.Outcome.TheVariants.{New};
@@ -16,27 +16,27 @@ use table_core::{Answer, CallState};
 use table_generations::atomic_value::AtomicValue;
 use table_turns::step;
 
-/// How many entries are counted: each once, after it was placed and while the lock is held. Nothing but an insert that has
-/// placed its value changes it.
+/// The number of entries. Each is counted once, after it was placed and while the lock is held. Only an insert that has placed
+/// its value changes it.
 #[derive(Drop)]
 pub(crate) struct Size {
     counted: AtomicUsize,
 }
 
 impl Size {
-    /// So many entries are counted.
+    /// Makes a counter that begins at `entries`.
     pub(crate) fn new(entries: usize) -> Size {
         Size {
             counted: AtomicUsize::new(entries),
         }
     }
 
-    /// How many entries are counted by now.
+    /// Returns the number of entries counted so far.
     pub(crate) fn get(&self) -> usize {
         self.counted.load(SeqCst)
     }
 
-    /// One more is counted, while the lock is still held: growth waits for whoever holds it.
+    /// Counts one more entry. The caller still holds the lock, so that a growth, which takes all locks, waits for it.
     #[inline(always)]
     fn count(&self, _held: &SharedLock<'_>) {
         self.counted.fetch_add(1, SeqCst);
@@ -44,7 +44,7 @@ impl Size {
 }
 
 impl<T: AtomicValue, A: Allocator + Copy> LockFreeRawTable<T, A> {
-    /// A value that was placed is counted, while this lock of the table is still held.
+    /// Counts a value that was placed, while this lock of the table is still held.
     #[inline(always)]
     pub(crate) fn count(&self, held: &SharedLock<'_>, state: CallState) -> CallState
         requires lock { held.now.home ≡ self.now.home }
@@ -57,7 +57,7 @@ impl<T: AtomicValue, A: Allocator + Copy> LockFreeRawTable<T, A> {
         step(state, Answer::Counted)
     }
 
-    /// An insert that has an outcome asks whether its generation is half full.
+    /// Reads the number of entries, for an insert that has an outcome, and decides whether its generation is half full.
     #[inline(always)]
     pub(crate) fn ask_size(&self, state: CallState) -> CallState
         requires phase { state.phase ≡ AskSize }
@@ -73,7 +73,7 @@ impl<T: AtomicValue, A: Allocator + Copy> LockFreeRawTable<T, A> {
         )
     }
 
-    /// Whether the generation of this number is the current one, or there is none still.
+    /// Returns whether the generation of this number is still the current one; for `None`, whether there is still no generation.
     pub(crate) fn is_current(&self, walked: Option<u64>) -> bool {
         match (self.current(), walked) {
             (None, None) => true,

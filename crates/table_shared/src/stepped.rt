@@ -1,7 +1,7 @@
-//! Calls that take one step at a time, when they are told to.
+//! Calls that take one step at a time, on request.
 //!
-//! An [`InsertCall`] and a [`LookupCall`] take the very steps that [`LockFreeRawTable::insert`] and
-//! [`LockFreeRawTable::lookup`] take, so any schedule of calls can be run on a table by one thread.
+//! An [`InsertCall`] and a [`LookupCall`] take the same steps as [`LockFreeRawTable::insert`] and [`LockFreeRawTable::lookup`],
+//! so one thread can run any schedule of calls on a table.
 ghost use Rattle.std.specs.Prelude.{◌≡◌, ◌≢◌, None, true, IfSome};
 ghost use Rattle.std.specs.Fn.{FnReturnsAt, FnReturnsAtPair};
 ghost use Rattle.table_core.specs.Calls.{insert_start, lookup_start};
@@ -20,21 +20,21 @@ use table_cell::Low;
 use table_core::{CallState, Phase};
 use table_generations::atomic_value::AtomicValue;
 
-/// What a call came to that was told to take a step.
+/// The result of asking a call for one step.
 #[derive(Drop)]
 pub enum Progress<R> {
-    /// It has taken one, and isn't at its end.
+    /// The call has taken a step, and isn't at its end.
     Moved,
-    /// It has taken none, and nothing has changed: others hold the lock that it wants, or it was at its end.
+    /// The call has taken no step, and nothing has changed: others hold the lock that it needs, or it was at its end.
     Blocked,
-    /// It has taken its last one, and this is its reply.
+    /// The call has taken its last step. This is its result.
     Done(R),
 }
 
-/// An insert that goes one step at a time. Between two steps it holds the lock that its phase says.
+/// An insert that runs one step at a time. Between two steps it holds the lock that its phase names.
 ///
-/// Dropped before its end it is given up: a value that is placed stays and is counted, a value that isn't is dropped, a
-/// generation that it was making is forgotten, and its lock is released.
+/// Dropping it before its end abandons it. A value that was placed stays and is counted; a value that wasn't is dropped. A
+/// generation that it was building is discarded, and its lock is released.
 pub struct InsertCall<'a, T: AtomicValue, A: Low + Copy, E, H> {
     call: Inserting<'a, T, A, E, H>,
 }
@@ -59,7 +59,7 @@ where
     E: Fn(&T::Target, &T::Target) -> bool,
     H: Fn(&T::Target) -> u64,
 {
-    /// An insert that has taken no step. It takes no memory.
+    /// Makes an insert that has taken no step. Does not allocate.
     pub fn new(
         table: &'a LockFreeRawTable<T, A>,
         hash: u64,
@@ -87,15 +87,15 @@ where
         InsertCall { call }
     }
 
-    /// Where it stands.
+    /// Returns the state of the call.
     pub fn state(&self) -> CallState
         ensures { result ≡ self.now.state }
     {
         self.call.state
     }
 
-    /// One step. A lock that it wants is tried once, so it never waits; memory is asked for only to place its value and
-    /// to begin a growth. A refusal of either is a step too.
+    /// Takes one step. It tries once for a lock that it needs, so it never waits. It allocates only to place its value and to
+    /// begin a growth; a refusal is a step too.
     pub fn advance(&mut self) -> Progress<Result<(&'a T::Target, Option<T>), T>>
         requires may_step { MayStep E.IsAlwaysCallable H.IsAlwaysCallable T.target E.Fn self.old }
         ensures moved { IfMoved result
@@ -131,14 +131,14 @@ where
 }
 
 impl<T: AtomicValue, A: Low + Copy, E: Drop, H: Drop> Drop for InsertCall<'_, T, A, E, H> {
-    /// A value that is placed and not counted yet is counted; what is built is given up; the lock is released.
+    /// Counts a value that was placed and not counted yet, discards a generation that was being built, and releases the lock.
     fn drop(self) {
         let InsertCall { call } = self;
         call.count_placed();
     }
 }
 
-/// A look-up that goes one step at a time.
+/// A look-up that runs one step at a time.
 #[derive(Drop)]
 pub struct LookupCall<'a, T: AtomicValue, A: Allocator + Copy, F> {
     call: Looking<'a, T, A, F>,
@@ -153,7 +153,7 @@ impl<'a, T: AtomicValue, A: Allocator + Copy, F> Model for LookupCall<'a, T, A, 
 }
 
 impl<'a, T: AtomicValue, A: Allocator + Copy, F: Fn(&T::Target) -> bool> LookupCall<'a, T, A, F> {
-    /// A look-up that has taken no step. It takes no memory.
+    /// Makes a look-up that has taken no step. Does not allocate.
     pub fn new(table: &'a LockFreeRawTable<T, A>, hash: u64, test: F) -> LookupCall<'a, T, A, F>
         ensures starts { result.state ≡ lookup_start hash }
         ensures given { result.test ≡ test }
@@ -163,14 +163,14 @@ impl<'a, T: AtomicValue, A: Allocator + Copy, F: Fn(&T::Target) -> bool> LookupC
         }
     }
 
-    /// Where it stands.
+    /// Returns the state of the call.
     pub fn state(&self) -> CallState
         ensures { result ≡ self.now.state }
     {
         self.call.state
     }
 
-    /// One step. It takes no lock and no memory.
+    /// Takes one step. Takes no lock and does not allocate.
     pub fn advance(&mut self) -> Progress<Option<&'a T::Target>>
         requires callable { F.IsAlwaysCallable self.old.test }
         ensures moved { IfMoved result

@@ -23,22 +23,22 @@ use table_terms::capacity::FIRST_CAPACITY;
 use table_turns::{step, step_loaded};
 use table_values::IntoIter;
 
-/// An insertion-only set that threads share. A look-up takes no lock.
+/// An insertion-only hash table that threads share. A look-up takes no lock; an insert takes one.
 ///
-/// Its entries are counted by one number for the whole table: growth copies every entry while nothing is added, so the
-/// generation that is current has as many.
+/// One counter for the whole table counts the entries. Growth copies every entry while nothing is added, so the current
+/// generation has all of them.
 ///
-/// A hash should vary in all its 64 bits: a probe and a lane begin at the low bits, and bits 32 to 39 spare most calls of `eq`. For
-/// a number call `table_terms::law::hash_number(number)`. A product with an odd number isn't enough: multiples of 2^16 share its low 16
-/// bits.
+/// A hash should vary in all 64 bits: a probe and the choice of the lock stripe begin at the low bits, and bits 32 to 39 let a
+/// probe skip most calls of `eq`. For a number call `table_terms::law::hash_number`. A product with an odd number isn't enough,
+/// since multiples of 2^16 share its low 16 bits.
 pub struct LockFreeRawTable<T: AtomicValue, A: Allocator + Copy = Global> {
     pub(crate) first_capacity: usize,
     pub(crate) home: Home,
     pub(crate) lineage: Lineage<T, A>,
     pub(crate) shown: Shown<T, A>,
-    /// What is written by each insert, the locks and the size, lies between the two.
+    /// The locks and the size, which each insert writes, lie between this padding and the next.
     before: Apart,
-    /// Shared while a value is placed and counted, and held alone while a generation is made.
+    /// Held shared while a value is placed and counted, and exclusively while a generation is built.
     pub(crate) locks: Locks,
     pub(crate) size: Size,
     behind: Apart,
@@ -58,7 +58,7 @@ impl<T: AtomicValue, A: Allocator + Copy> Model for LockFreeRawTable<T, A> {
         × (t.shown.home ≡ t.home.id) };
 }
 
-/// A generation that was the current one at a moment of the call, and its own number: the first is 0.
+/// A generation that was the current one at some moment of the call, with its number. The first is 0.
 #[derive(Clone, Copy)]
 pub struct Current<'a, T: AtomicValue, A: Allocator + Copy> {
     pub number: u64,
@@ -66,7 +66,7 @@ pub struct Current<'a, T: AtomicValue, A: Allocator + Copy> {
 }
 
 impl<T: AtomicValue, A: Allocator + Copy> LockFreeRawTable<T, A> {
-    /// The empty table, whose first generation will have 16 buckets. It takes no memory.
+    /// Makes an empty table, whose first generation will have 16 buckets. Does not allocate.
     pub fn new(alloc: A) -> Self
         ensures first { result.first_capacity ≡ 16 }
         ensures empty { result.shared ≡ [] ∷ [] }
@@ -74,7 +74,8 @@ impl<T: AtomicValue, A: Allocator + Copy> LockFreeRawTable<T, A> {
         LockFreeRawTable::with_first_capacity(alloc, FIRST_CAPACITY)
     }
 
-    /// The empty table, whose first generation will have `first_capacity` buckets. It takes no memory.
+    /// Makes an empty table, whose first generation will have `first_capacity` buckets, a power of two from 16 to 2^30. Does not
+    /// allocate.
     pub fn with_first_capacity(alloc: A, first_capacity: usize) -> Self
         requires { IsFirstCapacity first_capacity }
         ensures first { result.first_capacity ≡ first_capacity }
@@ -85,7 +86,7 @@ impl<T: AtomicValue, A: Allocator + Copy> LockFreeRawTable<T, A> {
         LockFreeRawTable::of_parts(first_capacity, home, Vec::new(alloc), base, alloc)
     }
 
-    /// The empty table with this one's allocator and first capacity. It takes no memory.
+    /// Makes an empty table with the allocator and the first capacity of this one. Does not allocate.
     pub fn new_like(&self) -> Self
         ensures first { result.first_capacity ≡ self.now.first_capacity }
         ensures empty { result.shared ≡ [] ∷ [] }
@@ -93,7 +94,7 @@ impl<T: AtomicValue, A: Allocator + Copy> LockFreeRawTable<T, A> {
         LockFreeRawTable::with_first_capacity(self.alloc, self.first_capacity)
     }
 
-    /// The table of these generations, of which the last is the current one. It takes no memory.
+    /// Makes a table of these generations. `base` is the last; if it has a bucket, it becomes the current one. Does not allocate.
     pub fn of_parts(
         first_capacity: usize,
         home: Home,
@@ -123,25 +124,25 @@ impl<T: AtomicValue, A: Allocator + Copy> LockFreeRawTable<T, A> {
         }
     }
 
-    /// The number of entries that are counted by now. It takes no lock.
+    /// Returns the number of entries counted so far. Takes no lock.
     pub fn len(&self) -> usize {
         self.size.get()
     }
 
-    /// Whether no entry is counted. It takes no lock.
+    /// Returns whether no entry is counted so far. Takes no lock.
     pub fn is_empty(&self) -> bool {
         self.len() == 0
     }
 
-    /// What the table's blocks live in: with it a bucket of the table is read.
+    /// Returns the home of the table's blocks, with which a bucket of the table can be read.
     pub fn home(&self) -> &Home
         ensures { result.now.id ≡ self.now.home }
     {
         &self.home
     }
 
-    /// The generation that is current now, if there is one: always, where the last one had a bucket when the table was shared. It
-    /// takes no lock and no memory.
+    /// Returns the generation that is current now. Returns `None` only if the last generation had no bucket when the table was
+    /// shared. Takes no lock and does not allocate.
     pub fn current(&self) -> Option<Current<'_, T, A>>
         ensures none { IfNone result (LastIsBare self.now.shared) }
         ensures home { IfSome result (λ c. c.generation.now.home ≡ self.now.home) }
@@ -152,8 +153,8 @@ impl<T: AtomicValue, A: Allocator + Copy> LockFreeRawTable<T, A> {
         self.current_noted(&mut self.shown.note())
     }
 
-    /// The generation that is current now, for who may know that one was shown since the table was shared: then there is one. The
-    /// note knows of one afterwards where the call has met it.
+    /// Returns the generation that is current now. With a note that knows that one was published since the table was shared, the
+    /// result is never `None`. Updates the note if the call has met a published generation.
     #[inline(always)]
     pub(crate) fn current_noted(&self, note: &mut Note<()>) -> Option<Current<'_, T, A>>
         requires of { note.old.of ≡ self.now.latest }
@@ -170,7 +171,7 @@ impl<T: AtomicValue, A: Allocator + Copy> LockFreeRawTable<T, A> {
         Some(self.numbered(self.lineage.last_held()?))
     }
 
-    /// A generation of this table, with its number.
+    /// Returns a generation of this table with its number.
     #[inline(always)]
     fn numbered<'a>(&'a self, generation: &'a Generation<T, A>) -> Current<'a, T, A>
         requires power { IsPowerOfTwo (length generation.now.contents) }
@@ -186,7 +187,7 @@ impl<T: AtomicValue, A: Allocator + Copy> LockFreeRawTable<T, A> {
         }
     }
 
-    /// A call loads the current generation: what it walks then, where it stands, and what it found.
+    /// Loads the current generation for a call: returns the generation, the state of the call after it, and what was found.
     pub(crate) fn load(&self, state: CallState) -> (Option<&Generation<T, A>>, CallState, Answer)
         requires phase { (state.phase ≡ Shared) ⊎ (state.phase ≡ LookLoad) }
         ensures went { Went state result.1 result.2 }
@@ -208,7 +209,7 @@ impl<T: AtomicValue, A: Allocator + Copy> LockFreeRawTable<T, A> {
         }
     }
 
-    /// Whether at least half of the buckets of this generation are counted as set.
+    /// Returns whether the counted entries are at least half as many as the buckets of this generation.
     pub(crate) fn wants_growth(&self, current: &Generation<T, A>) -> bool {
         current.capacity() / 2 <= self.size.get()
     }
@@ -219,7 +220,7 @@ impl<T: AtomicValue, A: Allocator + Copy> IntoIterator for LockFreeRawTable<T, A
 
     type IntoIter = IntoIter<T, A>;
 
-    /// Takes the table apart, and hands out each value that it holds. It takes no memory.
+    /// Consumes the table and returns an iterator over its values. Does not allocate.
     fn into_iter(self) -> IntoIter<T, A> {
         let LockFreeRawTable {
             first_capacity: _,
@@ -238,7 +239,7 @@ impl<T: AtomicValue, A: Allocator + Copy> IntoIterator for LockFreeRawTable<T, A
 }
 
 impl<T: AtomicValue, A: Allocator + Copy> Drop for LockFreeRawTable<T, A> {
-    /// Drops each entry once, and frees its block.
+    /// Drops the value of each entry once, and frees its block.
     fn drop(self) {
         let LockFreeRawTable {
             first_capacity: _,

@@ -1,5 +1,5 @@
-//! Tables over several shards that threads share, and how a table held alone becomes a shared one. Users name it by
-//! `lock_free_hashtable`.
+//! Tables over several shards that threads share, and the conversion of a single-owner table into a shared one. Users name them
+//! through `lock_free_hashtable`.
 #![tactic(auto)]
 
 mod sharing;

@@ -1,4 +1,4 @@
-//! A table held alone becomes one that threads share.
+//! The conversion of a single-owner table into one that threads share.
 ghost use Rattle.std.specs.Prelude.{◌≡◌, ℕ, List, [], ◌∷◌};
 ghost use Rattle.table_shared_shards.specs.SharedTables.{IsCurrent};
 
@@ -14,7 +14,7 @@ pub trait Share {
     /// The values of the table.
     type Value;
 
-    /// The table that it becomes.
+    /// The table that threads share.
     type Shared;
 
     ghost capacities: { Self → List ℕ };
@@ -25,8 +25,8 @@ pub trait Share {
 
     ghost shared_rows: { Self.Shared → List (Rows Self.Value) };
 
-    /// Makes the table one that threads share. Each shard keeps its first capacity and its generations, bucket by bucket. `share`
-    /// can't be refused: it takes no memory.
+    /// Turns the table into one that threads share. Each shard keeps its first capacity and its generations, bucket by bucket.
+    /// Does not allocate, and can't be refused.
     fn share(self) -> Self::Shared
         ensures first { shared_capacities result ≡ capacities self }
         ensures shared { shared_rows result ≡ rows self };
@@ -45,6 +45,7 @@ impl<T: AtomicValue, A: Allocator + Copy> Share for HeldRawTable<T, A> {
 
     ghost shared_rows = { λ t. t.shared ∷ [] };
 
+    /// Turns the table into one that threads share, bucket by bucket. Does not allocate, and can't be refused.
     fn share(self) -> LockFreeRawTable<T, A>
         ensures first { result.first_capacity ≡ self.first_capacity }
         ensures shared { result.shared ≡ self.generations }

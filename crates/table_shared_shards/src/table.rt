@@ -22,11 +22,11 @@ use table_generations::atomic_value::AtomicValue;
 use table_shards::sharded::HeldShardedTable;
 use table_shared::LockFreeRawTable;
 
-/// An insertion-only set over `SHARDS` raw tables that threads share. A value lies in the shard of its hash, so inserts into
-/// different shards don't meet at one lock. A look-up takes no lock.
+/// An insertion-only hash table over `SHARDS` raw tables that threads share. A value lies in the shard of its hash, so inserts
+/// into different shards take different locks. A look-up takes no lock.
 ///
-/// `SHARDS` is a power of two, 1 included. Each call is that of the raw table, on the shard of the hash or on all shards,
-/// and promises the same.
+/// `SHARDS` is a power of two, 1 included. Each call does what the raw table's call does, on the shard of the hash or on all
+/// shards, and promises the same.
 pub struct ShardedLockFreeRawTable<
     T: AtomicValue,
     const SHARDS: usize,
@@ -56,19 +56,20 @@ impl<T: AtomicValue, const SHARDS: usize, A: Allocator + Copy> ShardedLockFreeRa
     ghost use Rattle.table_shards.specs.Shards.{shard_of as number_of_shard};
     ghost use Rattle.table_shared_shards.specs.SharedShards.{shard_at, AreEmptyShards};
 
-    /// The empty table; the first generation of each shard will have 16 buckets. It takes no memory.
+    /// Makes an empty table. The first generation of each shard will have 16 buckets. The caller shows that `SHARDS` is a power
+    /// of two. Does not allocate.
     pub fn new(alloc: A) -> Self
         requires { IsPowerOfTwo SHARDS }
         ensures { AreEmptyShards SHARDS 16 result }
     {
-        // Not by `with_first_capacity`: no proof shows its caller that so many shards fit in memory.
+        // Does not call `with_first_capacity`: no proof shows the caller of that function that this many shards fit in memory.
         let like = LockFreeRawTable::<T, A>::new(alloc);
         let shards = array::from_fn(|_| like.new_like());
         ShardedLockFreeRawTable { shards }
     }
 
-    /// The empty table; the first generation of each shard will have `first_capacity` buckets: see `is_first_capacity`.
-    /// It takes no memory.
+    /// Makes an empty table. The first generation of each shard will have `first_capacity` buckets. The caller shows that
+    /// `SHARDS` is a power of two, and that `is_first_capacity` holds of `first_capacity`. Does not allocate.
     pub fn with_first_capacity(alloc: A, first_capacity: usize) -> Self
         requires shards { IsPowerOfTwo SHARDS }
         requires first { IsFirstCapacity first_capacity }
@@ -79,7 +80,7 @@ impl<T: AtomicValue, const SHARDS: usize, A: Allocator + Copy> ShardedLockFreeRa
         ShardedLockFreeRawTable { shards }
     }
 
-    /// The number of the shard of a hash: its top bits, exactly `hash * SHARDS / 2^64`.
+    /// Returns the number of the shard of a hash, which its top bits determine: `hash * SHARDS / 2^64`, rounded down.
     pub fn shard_of(hash: u64) -> usize
         ensures is { result ≡ number_of_shard SHARDS hash }
         ensures inside { 0 < SHARDS → result < SHARDS }
@@ -87,7 +88,7 @@ impl<T: AtomicValue, const SHARDS: usize, A: Allocator + Copy> ShardedLockFreeRa
         HeldShardedTable::<T, SHARDS, A>::shard_of(hash)
     }
 
-    /// The shard of a hash: the one raw table that `insert` and `lookup` of this hash ask.
+    /// Returns the shard of a hash: the one raw table that `insert` and `lookup` with this hash use.
     pub fn shard(&self, hash: u64) -> &LockFreeRawTable<T, A>
         ensures of_hash { result.now ≡ shard_at self.now (number_of_shard SHARDS hash) }
     {
@@ -95,8 +96,8 @@ impl<T: AtomicValue, const SHARDS: usize, A: Allocator + Copy> ShardedLockFreeRa
         &shards[ShardedLockFreeRawTable::<T, SHARDS, A>::shard_of(hash)]
     }
 
-    /// The target of an entry that the test accepts, or None. It asks the shard of the hash alone: see
-    /// `LockFreeRawTable::lookup`. Anyone may call it at any time: it takes no lock and no memory, and returns.
+    /// Returns the target of an entry that the test accepts, or `None`. It reads only the shard of the hash; see
+    /// `LockFreeRawTable::lookup`. Any thread may call it at any time. It takes no lock, does not allocate, and always returns.
     pub fn lookup<F: Fn(&T::Target) -> bool>(&self, hash: u64, test: F) -> Option<&T::Target>
         requires callable { F.IsAlwaysCallable test }
         ensures accepted { IfSome result (λ found. FnReturnsAt F.Fn test found.now true) }
@@ -104,7 +105,7 @@ impl<T: AtomicValue, const SHARDS: usize, A: Allocator + Copy> ShardedLockFreeRa
         self.lookup_in(self.shard(hash), hash, test)
     }
 
-    /// A look-up in this shard, which has to be that of the hash.
+    /// Looks up in this shard, which has to be that of the hash.
     fn lookup_in<'a, F: Fn(&T::Target) -> bool>(
         &self,
         shard: &'a LockFreeRawTable<T, A>,
@@ -118,14 +119,13 @@ impl<T: AtomicValue, const SHARDS: usize, A: Allocator + Copy> ShardedLockFreeRa
         shard.lookup(hash, test)
     }
 
-    /// The number of entries that are counted by now, shard after shard, or the greatest usize if there are more. It takes no
-    /// lock.
+    /// Returns the number of entries counted so far, shard by shard, or `usize::MAX` if there are more. Takes no lock.
     pub fn len(&self) -> usize {
         let shards = self.shards.as_slice();
         capped_total(shards.iter().map(|shard| shard.len()))
     }
 
-    /// Whether no entry is counted in any shard. It takes no lock.
+    /// Returns whether no entry is counted so far in any shard. Takes no lock.
     pub fn is_empty(&self) -> bool {
         self.len() == 0
     }
@@ -135,10 +135,11 @@ impl<T: AtomicValue, const SHARDS: usize, A: Low + Copy> ShardedLockFreeRawTable
     ghost use Rattle.table_shards.specs.Shards.{shard_of as number_of_shard};
     ghost use Rattle.table_shared_shards.specs.SharedShards.{shard_at};
 
-    /// Inserts the value into the shard of its hash, unless an entry there is accepted as equal, and shows the target of the
-    /// entry: see `LockFreeRawTable::insert`. Where it is refused, the value comes back, and isn't in the table then.
+    /// Inserts the value into the shard of its hash unless `eq` accepts an entry there as equal, and returns the target of the
+    /// entry. Arguments and results are those of `LockFreeRawTable::insert`. A refused value is returned and is not in the table.
     ///
-    /// Anyone may call it at any time; it may wait for the lock of the shard, so no closure may insert into the same table.
+    /// Any thread may call it at any time. It takes the lock of the shard and may wait for it, so no closure may insert into the
+    /// same table. It allocates a block for the value, and when the shard grows.
     pub fn insert<R: Wait, E: Fn(&T::Target, &T::Target) -> bool, H: Fn(&T::Target) -> u64>(
         &self,
         rt: &R,
@@ -156,7 +157,7 @@ impl<T: AtomicValue, const SHARDS: usize, A: Low + Copy> ShardedLockFreeRawTable
         self.insert_in(self.shard(hash), rt, hash, value, eq, hash_fn)
     }
 
-    /// An insert into this shard, which has to be that of the hash.
+    /// Inserts into this shard, which has to be that of the hash.
     fn insert_in<'a, R: Wait, E: Fn(&T::Target, &T::Target) -> bool, H: Fn(&T::Target) -> u64>(
         &self,
         shard: &'a LockFreeRawTable<T, A>,

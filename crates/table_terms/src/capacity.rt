@@ -1,11 +1,11 @@
-//! How many buckets a table may begin with.
+//! The number of buckets with which a table may begin.
 ghost use Rattle.std.specs.Prelude.{◌↔◌, IsTrue};
 ghost use Rattle.table_terms.specs.Capacities.{IsFirstCapacity};
 
 /// The capacity of the first generation of a table made by `new`.
 pub const FIRST_CAPACITY: usize = 16;
 
-/// Whether a table's first generation may have `first` buckets: a power of two from 16 to 2^30.
+/// Returns whether the first generation of a table may have `first` buckets: `first` is a power of two from 16 to 2^30.
 pub fn is_first_capacity(first: u64) -> bool
     ensures { IsTrue result ↔ IsFirstCapacity first }
 {

@@ -1,12 +1,13 @@
-//! Laws that tables are used under.
+//! Laws: the equality and the hash under which a table is used.
 ghost use Rattle.std.specs.Prelude.{◌≡◌, ℕ, Bool};
 ghost use Rattle.table_terms.specs.Laws.{IsLaw, number_hash};
 
 use std::num::{NonZeroU32, NonZeroU64};
 
-/// What a caller means by equal targets, `same`, and by the hash of a target, `hash_of`. It is named in contracts alone.
+/// A law: an equality of targets, `same`, and a hash of targets, `hash_of`, that agrees with it. Only contracts use it; it has no
+/// code.
 ///
-/// Who implements it promises that `same` is an equivalence, and that same targets have the same hash, each below 2^64.
+/// An implementor promises that `same` is an equivalence, and that equal targets have the same hash, below 2^64.
 pub trait Law<V> {
     ghost same: { V → V → Bool };
 
@@ -15,10 +16,11 @@ pub trait Law<V> {
     ghost lawful: { IsLaw same hash_of };
 }
 
-/// An odd number that hashes multiply by: digits of pi.
+/// The odd number by which hashes multiply. Its digits are those of pi.
 pub const MIXING_FACTOR: u64 = 0xC0AC_29B7_C97C_50DD;
 
-/// Returns the hash of a number under `NumberLaw`. It spreads numbers in a row, and multiples of a power of two, over all 64 bits.
+/// Returns the hash of a number under `NumberLaw`. It spreads consecutive numbers, and multiples of a power of two, over all 64
+/// bits.
 pub fn hash_number(number: u64) -> u64
     ensures { result ≡ number_hash number }
 {
@@ -27,7 +29,7 @@ pub fn hash_number(number: u64) -> u64
     lower as u64 ^ (product >> 64) as u64
 }
 
-/// A number is the same as itself alone, and its hash is that of `hash_number`.
+/// The law of numbers: a number is equal only to itself, and its hash is that of `hash_number`.
 pub struct NumberLaw;
 
 impl Law<u16> for NumberLaw {
@@ -82,7 +84,7 @@ impl Law<NonZeroU64> for NumberLaw {
     ghost lawful = { number_lawful non_zero_u64_get };
 }
 
-/// Two pairs are the same if both parts are, and the hash of a pair is its first part.
+/// The law of pairs whose hash is their first part. Two pairs are equal if both parts are.
 pub struct PairLaw;
 
 impl Law<(u64, u64)> for PairLaw {

@@ -1,10 +1,10 @@
-//! Which buckets a probe looks at, and the bits of a hash that stand in a bucket.
+//! The buckets that a probe reads, and the bits of a hash that a bucket carries.
 ghost use Rattle.std.specs.Prelude.{◌≡◌, ◌+◌, ◌<◌, ◌%◌, ℕ};
 ghost use Rattle.std.specs.Int.{IsPowerOfTwo};
 ghost use Rattle.table_terms.specs.Hashes.{bits_of};
 ghost use Rattle.table_terms.specs.Probes.{bucket_at};
 
-/// The eight bits of a hash that a bucket carries: bits 32 to 39.
+/// Returns the eight bits of a hash that a bucket carries: bits 32 to 39.
 #[inline(always)]
 pub fn bits_of_hash(hash: u64) -> u8
     ensures { result ≡ bits_of hash }
@@ -12,7 +12,8 @@ pub fn bits_of_hash(hash: u64) -> u8
     (hash >> 32 & 0xff) as u8
 }
 
-/// The remainder of a hash by a count of buckets. Where the count is a power of two, as in every table, nothing is divided.
+/// Returns the remainder of a hash divided by a number of buckets. If that is a power of two, as in every table, it does no
+/// division.
 #[inline(always)]
 pub fn remainder(hash: u64, count: u64) -> u64
     requires { 0 < count }
@@ -25,7 +26,7 @@ pub fn remainder(hash: u64, count: u64) -> u64
     }
 }
 
-/// The first bucket of a probe for this hash, of `capacity` many.
+/// Returns the index of the first bucket that a probe for this hash reads, of `capacity` buckets.
 #[inline(always)]
 pub fn first_bucket(hash: u64, capacity: usize) -> usize
     requires { IsPowerOfTwo capacity }
@@ -35,7 +36,7 @@ pub fn first_bucket(hash: u64, capacity: usize) -> usize
     hash as usize & (capacity - 1)
 }
 
-/// The bucket that a probe looks at after this one.
+/// Returns the index of the bucket that a probe reads after this one. Wraps around at the end.
 #[inline(always)]
 pub fn next_bucket(bucket: usize, capacity: usize) -> usize
     requires within { bucket < capacity }

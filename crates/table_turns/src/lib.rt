@@ -1,4 +1,4 @@
-//! The steps of a call on a running table: each is the core's `decide`, and says what its caller needs of it.
+//! The steps of a call on a running table. Each is `decide` of `table_core`, with the postconditions that its caller needs.
 #![tactic(auto)]
 
 pub mod steps;

@@ -1,8 +1,8 @@
 //! One step of a running call, by what it found.
 //!
-//! A call on a running table keeps a `CallState`, and each of its steps is the core's `decide`: who drives a call does what the
-//! phase says and hands the answer to one of these functions. `step` is enough where phase and answer are known; the others say
-//! what holds afterwards where the next phase hangs on numbers.
+//! A call on a running table keeps a `CallState`, and each of its steps is `decide` of `table_core`. The driver of a call does
+//! what the phase says, and passes the answer to one of these functions. `step` is enough if phase and answer are known. The
+//! others also promise what holds afterwards if the next phase depends on numbers.
 ghost use Rattle.std.specs.Prelude.{◌≡◌, ◌⊎◌, true};
 ghost use Rattle.std.specs.Int.{IsPowerOfTwo};
 ghost use Rattle.table_core.specs.Calls.{decided, fits};
@@ -15,7 +15,7 @@ ghost use Rattle.table_turns.specs.Steps.{passed as passed_answer, released as r
 use table_core::{Answer, CallState, Phase, decide};
 use table_terms::probe::first_bucket;
 
-/// Where a call stands after an answer that fits its phase.
+/// Returns the state of a call after an answer that fits its phase.
 #[inline(always)]
 pub fn step(state: CallState, answer: Answer) -> CallState
     requires fits { fits state.phase state answer ≡ true }
@@ -25,8 +25,8 @@ pub fn step(state: CallState, answer: Answer) -> CallState
     decide(state, answer)
 }
 
-/// A call starts its probe in this generation, of so many buckets. As they are a power of two, the first one is found by a mask,
-/// where the core tests that of any capacity.
+/// Returns the state of a call that starts its probe in generation `number`, of `capacity` buckets. As that is a power of two, a
+/// mask finds the first bucket; `table_core` tests whether any capacity is one.
 #[inline(always)]
 pub fn step_loaded(state: CallState, number: u64, capacity: u64) -> CallState
     requires phase { (state.phase ≡ Shared) ⊎ (state.phase ≡ LookLoad) }
@@ -43,7 +43,7 @@ pub fn step_loaded(state: CallState, number: u64, capacity: u64) -> CallState
     }
 }
 
-/// What a call found that passes an entry, after it asked its closure or without asking.
+/// Returns the answer of a call that passes an entry: `asked` tells whether its closure was called.
 #[inline(always)]
 pub fn passed(asked: bool) -> Answer
     ensures { result ≡ passed_answer asked }
@@ -55,7 +55,7 @@ pub fn passed(asked: bool) -> Answer
     }
 }
 
-/// What a call found that releases its lock in this phase: `still_current` counts after a failed growth alone.
+/// Returns the answer of a call that releases its lock in this phase. `still_current` matters only after a failed growth.
 #[inline(always)]
 pub fn released(phase: Phase, still_current: bool) -> Answer
     ensures { result ≡ released_answer phase still_current }
@@ -66,7 +66,7 @@ pub fn released(phase: Phase, still_current: bool) -> Answer
     }
 }
 
-/// An insert releases its lock.
+/// Returns the state of an insert that releases its lock.
 #[inline(always)]
 pub fn step_released(state: CallState, still_current: bool) -> CallState
     requires leaves { Leaves state.phase }

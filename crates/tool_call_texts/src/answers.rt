@@ -1,4 +1,4 @@
-//! What the program replies to an event by which a call finishes.
+//! The reply of the program to an event that finishes a call.
 ghost use Rattle.std.specs.Prelude.{Some};
 
 use std::alloc::Allocator;

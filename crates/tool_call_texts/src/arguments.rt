@@ -1,4 +1,4 @@
-//! The command that the program's words name.
+//! The command that the program's arguments name.
 ghost use Rattle.std.specs.Prelude.{◌≤◌, map, IfSome, IfNone, ℕ};
 ghost use Rattle.tool_streams.specs.Numbers.{Writes};
 ghost use Rattle.tool_call_texts.specs.Arguments.{NamesFirst, NamesShards, NamesStress, NamesThreads, NamesCommand};
@@ -14,19 +14,19 @@ use tool_streams::numbers::parse_decimal;
 /// A command.
 #[derive(Clone, Copy)]
 pub enum Command {
-    /// Calls on a table held alone, whose first generation has so many buckets.
+    /// Runs calls on a single-owner table, whose first generation has `first` buckets.
     Calls { first: usize },
-    /// The same calls on a table over so many shards, whose first generations have so many buckets.
+    /// Runs the same calls on a table over `shards` shards, each with a first generation of `first` buckets.
     Shards { shards: ShardCount, first: usize },
-    /// A schedule of the machine, whose first generation has so many buckets.
+    /// Runs a schedule of the state machine, whose first generation has `first` buckets.
     Core { first: usize },
-    /// So many jobs of each kind, each by so many threads that share a table.
+    /// Runs `jobs` jobs of each kind, each by `threads` threads that share a table.
     Stress { threads: usize, jobs: u64 },
-    /// So many threads that share a table of numbers.
+    /// Runs `threads` threads that share a table of numbers.
     Seats { threads: usize },
 }
 
-/// Over how many shards a table is.
+/// The number of shards of a table.
 #[derive(Clone, Copy)]
 pub enum ShardCount {
     One,
@@ -36,7 +36,7 @@ pub enum ShardCount {
     Sixteen,
 }
 
-/// Reads the words after the program's name. `None` is for words that name no command.
+/// Parses the arguments after the program's name. Returns `None` if they name no command.
 pub fn parse_command<S: AsStr>(words: &[S]) -> Option<Command>
     ensures named { IfSome result (NamesCommand (map S.text words.now)) }
     ensures runnable { IfSome result IsRunnable }
@@ -73,7 +73,7 @@ pub fn parse_command<S: AsStr>(words: &[S]) -> Option<Command>
     }
 }
 
-/// Reads the words after a command's name: a first capacity, or none for 16.
+/// Parses the arguments after a command's name: a first capacity, or nothing for 16.
 fn parse_first<S: AsStr>(words: &[S]) -> Option<usize>
     ensures named { IfSome result (NamesFirst (map S.text words.now)) }
     ensures first { IfSome result IsFirstCapacity }
@@ -93,7 +93,7 @@ fn parse_first<S: AsStr>(words: &[S]) -> Option<usize>
     }
 }
 
-/// Reads the words after `shards`: a number of shards, and then a first capacity, or none for 16.
+/// Parses the arguments after `shards`: a number of shards, and then a first capacity, or nothing for 16.
 fn parse_shards<S: AsStr>(words: &[S]) -> Option<(ShardCount, usize)>
     ensures named { IfSome result (λ named. NamesShards (map S.text words.now) named.0 named.1) }
     ensures first { IfSome result (λ named. IsFirstCapacity named.1) }
@@ -110,7 +110,7 @@ fn parse_shards<S: AsStr>(words: &[S]) -> Option<(ShardCount, usize)>
     }
 }
 
-/// Reads a number of shards.
+/// Parses a number of shards: 1, 2, 4, 8 or 16.
 fn parse_shard_count(text: &[u8]) -> Option<ShardCount>
     ensures written { IfSome result (λ shards. Writes 10 20 text.now (number_of shards)) }
     ensures wrong { IfNone result ((shards : ShardCountOf)
@@ -126,7 +126,7 @@ fn parse_shard_count(text: &[u8]) -> Option<ShardCount>
     }
 }
 
-/// Reads the words after `stress`: a number of threads, from 2 to 64, and one of jobs, from 1 to 1000.
+/// Parses the arguments after `stress`: a number of threads, from 2 to 64, and a number of jobs, from 1 to 1000.
 fn parse_stress<S: AsStr>(words: &[S]) -> Option<(usize, u64)>
     ensures named { IfSome result (λ named. NamesStress (map S.text words.now) named.0 named.1) }
     ensures threads { IfSome result (λ named. IsThreadCount named.0) }
@@ -142,7 +142,7 @@ fn parse_stress<S: AsStr>(words: &[S]) -> Option<(usize, u64)>
     Some((threads, jobs))
 }
 
-/// Reads the words after `seats`: a number of threads, from 2 to 64.
+/// Parses the argument after `seats`: a number of threads, from 2 to 64.
 fn parse_threads<S: AsStr>(words: &[S]) -> Option<usize>
     ensures named { IfSome result (NamesThreads (map S.text words.now)) }
     ensures count { IfSome result IsThreadCount }
@@ -154,7 +154,7 @@ fn parse_threads<S: AsStr>(words: &[S]) -> Option<usize>
     }
 }
 
-/// Reads a number of threads, from 2 to 64.
+/// Parses a number of threads, from 2 to 64.
 fn parse_thread_count(text: &[u8]) -> Option<usize>
     ensures named { IfSome result (λ threads. Writes 10 20 text.now threads
         × IsThreadCount threads) }
@@ -165,7 +165,7 @@ fn parse_thread_count(text: &[u8]) -> Option<usize>
     Some(threads as usize)
 }
 
-/// Reads a number in decimal digits, from `least` to `most`.
+/// Parses a number in decimal digits, from `least` to `most`.
 fn parse_count(text: &[u8], least: u64, most: u64) -> Option<u64>
     ensures written { IfSome result (Writes 10 20 text.now) }
     ensures inside { IfSome result (λ n. (least ≤ n) × (n ≤ most)) }

@@ -1,27 +1,27 @@
-//! How the workers of a job end.
+//! The endings of a job's workers.
 ghost use Rattle.std.specs.Prelude.{◌≡◌, max};
 
 use crate::faults::Fault;
 use crate::job::Job;
 use tool_streams::faults::StreamFault;
 
-/// How a worker ended, or several: the worst that befell one of them. What is worse stands later.
+/// The ending of a worker, or the worst one of several. The variants are ordered from good to bad.
 #[derive(Clone, Copy, Drop, Debug, PartialEq, Eq)]
 pub enum Ending {
     /// Each call was made, and each look-up found its value.
     Well,
     /// A look-up missed its value.
     Missed,
-    /// The gate told a worker no, after which it made no more calls.
+    /// The gate refused a worker, which then made no more calls.
     Stuck,
-    /// Memory was refused to a worker, after which it made no more calls.
+    /// Memory was refused to a worker, which then made no more calls.
     Refused,
 }
 
 impl Ending {
     ghost use Rattle.tool_call_texts.specs.Stress.{badness, fault_of};
 
-    /// How both ended together.
+    /// Returns the worse of two endings.
     pub fn and(self, other: Ending) -> Ending
         ensures { badness result ≡ max (badness self) (badness other) }
     {
@@ -33,7 +33,7 @@ impl Ending {
         }
     }
 
-    /// The fault of a job whose workers ended so.
+    /// Returns the fault of a job whose workers have this ending.
     pub fn fault(self, job: Job) -> Option<Fault>
         ensures { result ≡ fault_of self job.kind job.number }
     {

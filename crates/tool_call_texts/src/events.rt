@@ -1,4 +1,4 @@
-//! How the lines of `core` are spelled.
+//! The spelling of the lines of `core`.
 ghost use Rattle.std.specs.Prelude.{◌≡◌, ◌≢◌, ◌∷◌, [], Bool, IfSome, IfNone};
 ghost use Rattle.tool_call_texts.specs.Events.{Letters, Number, said_by, answer, grant, pieces_of, SpellsPiece, SpellsPieces};
 ghost use Rattle.tool_call_texts.specs.Events.{SpellsAfter, SpellsBehind, SpellsEvent, SpellsScheduleLine};
@@ -14,11 +14,11 @@ use tool_streams::numbers::parse_number;
 pub enum ScheduleLine {
     /// The next event of the schedule.
     Step(Event),
-    /// Asks how many buckets all generations have.
+    /// A request for the number of buckets of all generations.
     Buckets,
 }
 
-/// Reads a whole line, without its line break. `None` is a line that is spelled in no such way.
+/// Parses a whole line, without its line break. Returns `None` for any other text.
 pub fn parse_schedule_line(text: &[u8]) -> Option<ScheduleLine>
     ensures spelled { IfSome result (SpellsScheduleLine text.now) }
     ensures bad { IfNone result ((line : LineOf) → ¬ SpellsScheduleLine text.now line) }
@@ -32,7 +32,7 @@ pub fn parse_schedule_line(text: &[u8]) -> Option<ScheduleLine>
     }
 }
 
-/// Reads an event: its word, and what follows it after a space.
+/// Parses an event: its word, and after a space the rest.
 fn parse_event(text: &[u8]) -> Option<Event>
     ensures spelled { IfSome result (SpellsEvent text.now) }
     ensures bad { IfNone result ((event : EventOf) → ¬ SpellsEvent text.now event) }
@@ -41,7 +41,7 @@ fn parse_event(text: &[u8]) -> Option<Event>
     parse_after(word, rest)
 }
 
-/// Reads what follows the word of an event: the call's number, and behind a space what else the event has.
+/// Parses what follows the word of an event: the number of the call, and after a space what else the event has.
 fn parse_after(word: &[u8], rest: &[u8]) -> Option<Event>
     ensures spelled { IfSome result (λ event. SpellsAfter word.now rest.now (pieces_of event)) }
     ensures bad { IfNone result ((event : EventOf)
@@ -59,7 +59,7 @@ fn parse_after(word: &[u8], rest: &[u8]) -> Option<Event>
     }
 }
 
-/// The event whose word is followed by the call's number alone.
+/// Returns the event whose word is followed by the number of the call only.
 fn event_of_call(word: &[u8], call: u64) -> Option<Event>
     ensures named { IfSome result (λ event. pieces_of event ≡ Letters word.now ∷ Number call ∷ []) }
     ensures unnamed { IfNone result ((event : EventOf)
@@ -79,7 +79,7 @@ fn event_of_call(word: &[u8], call: u64) -> Option<Event>
     }
 }
 
-/// Reads what follows the call's number, for the events that have more.
+/// Parses what follows the number of the call, for events that have more.
 fn parse_behind(word: &[u8], call: u64, text: &[u8]) -> Option<Event>
     ensures spelled { IfSome result (λ event. SpellsBehind word.now call text.now
         (pieces_of event)) }
@@ -119,7 +119,7 @@ fn parse_behind(word: &[u8], call: u64, text: &[u8]) -> Option<Event>
     }
 }
 
-/// Reads a closure's answer, and behind a space whether memory was granted.
+/// Parses a closure's answer, and after a space whether memory was granted.
 fn parse_put(text: &[u8]) -> Option<(bool, bool)>
     ensures spelled { IfSome result (λ put. SpellsPieces text.now
         (answer put.0 ∷ grant put.1 ∷ [])) }
@@ -131,7 +131,7 @@ fn parse_put(text: &[u8]) -> Option<(bool, bool)>
     Some((accepted, granted))
 }
 
-/// Reads a closure's answer.
+/// Parses a closure's answer.
 fn parse_answer(text: &[u8]) -> Option<bool>
     ensures spelled { IfSome result (λ b. SpellsPiece text.now (answer b)) }
     ensures bad { IfNone result ((b : Bool) → ¬ SpellsPiece text.now (answer b)) }
@@ -139,7 +139,7 @@ fn parse_answer(text: &[u8]) -> Option<bool>
     parse_either(text, b"y", b"n")
 }
 
-/// Reads whether memory was granted.
+/// Parses whether memory was granted.
 fn parse_grant(text: &[u8]) -> Option<bool>
     ensures spelled { IfSome result (λ b. SpellsPiece text.now (grant b)) }
     ensures bad { IfNone result ((b : Bool) → ¬ SpellsPiece text.now (grant b)) }
@@ -147,7 +147,7 @@ fn parse_grant(text: &[u8]) -> Option<bool>
     parse_either(text, b"ok", b"no")
 }
 
-/// Reads yes or no, in these letters.
+/// Parses one of two words, for true and for false.
 fn parse_either(text: &[u8], yes: &[u8], no: &[u8]) -> Option<bool>
     ensures spelled { IfSome result (λ b. SpellsPiece text.now (said_by yes.now no.now b)) }
     ensures bad { IfNone result ((b : Bool) → ¬ SpellsPiece text.now (said_by yes.now no.now b)) }

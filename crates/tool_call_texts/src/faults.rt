@@ -1,4 +1,4 @@
-//! What ends a run before its input does.
+//! The faults that end a run before its input does.
 ghost use Rattle.std.specs.Prelude.{◌≡◌, Some};
 ghost use Rattle.tool_call_texts.specs.Faults.{message_of, status_of, of_lines};
 ghost use Rattle.tool_call_texts.specs.declared.faults.Fault.{Fault as FaultOf};
@@ -7,18 +7,19 @@ use crate::kinds::Kind;
 use std::fmt;
 use tool_streams::faults::{LineFault, RunFault, StreamFault};
 
-/// Why a run ended. It is printed as its message.
+/// The reason for which a run ended. It is printed as its message.
 #[derive(Clone, Copy, Debug, PartialEq, Eq)]
 pub enum Fault {
-    /// The words name no command.
+    /// The arguments name no command.
     Usage,
-    /// This line, counted from 1, is spelled in no way that the command knows.
+    /// This line, counted from 1, is none that the command knows.
     BadLine(u64),
     Stream(StreamFault),
     NoThread,
-    /// The gate told a worker no.
+    /// The gate refused a worker.
     GateStuck,
-    /// In the job of this kind and number, counted from 0, a look-up missed a value, or a walk showed too few or too many.
+    /// In the job of this kind and number, counted from 0, a look-up missed a value, or an iterator showed too few entries or too
+    /// many.
     JobFailed { kind: Kind, job: u64 },
 }
 

@@ -4,21 +4,21 @@ ghost use Rattle.std.specs.Prelude.{◌≡◌, ◌<◌, ◌≤◌, Some};
 use crate::job::Job;
 use std::fmt;
 
-/// A kind of job: what its workers insert, and when they look it up.
+/// A kind of job: which values its workers insert, and when they look them up.
 #[derive(Clone, Copy, Debug, PartialEq, Eq)]
 pub enum Kind {
-    /// Each worker inserts values of its own, and once all have ended it looks them up.
+    /// Each worker inserts values of its own, and after all have ended it looks them up.
     InsertUnique,
-    /// All workers insert the same values, and once all have ended each looks all of them up.
+    /// All workers insert the same values, and after all have ended each looks up all of them.
     InsertSame,
-    /// Each worker inserts values of its own, and after each insert it looks the one before up.
+    /// Each worker inserts values of its own, and after each insert it looks up the value before.
     InsertLookup,
 }
 
 impl Kind {
     ghost use Rattle.tool_call_texts.specs.Stress.{inserts_of, entries_of, kind_text};
 
-    /// How many values each worker inserts.
+    /// Returns the number of values that each worker inserts.
     pub fn inserts(self) -> usize
         ensures { result ≡ inserts_of self }
     {
@@ -29,7 +29,7 @@ impl Kind {
         }
     }
 
-    /// How many different values so many workers insert together.
+    /// Returns the number of different values that `threads` workers insert together.
     pub fn entries(self, threads: usize) -> usize
         requires { threads ≤ 64 }
         ensures { result ≡ entries_of self threads }
@@ -41,7 +41,7 @@ impl Kind {
         }
     }
 
-    /// The job of this kind and number.
+    /// Makes the job of this kind and number.
     pub fn job(self, number: u64) -> Job
         requires { number < 1000 }
         ensures kind { result.kind ≡ self }
@@ -50,7 +50,7 @@ impl Kind {
         Job { kind: self, number }
     }
 
-    /// Its name.
+    /// Returns the name of the kind.
     fn name(self) -> &'static str
         ensures { result.now ≡ kind_text self }
     {

@@ -1,4 +1,5 @@
-//! What the program reads and writes: words, lines, replies, faults; and the command that asks the machine of all schedules.
+//! The texts that the program reads and writes: arguments, lines, replies and faults; and the command that runs schedules on the
+//! state machine.
 #![tactic(auto)]
 
 pub mod answers;

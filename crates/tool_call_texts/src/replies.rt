@@ -1,4 +1,4 @@
-//! What the program replies to a line.
+//! The replies of the program to a line.
 ghost use Rattle.std.specs.Prelude.{◌≡◌, ◌++◌, OnOk, OnErr, IfSome, Some, codes};
 ghost use Rattle.std.specs.Io.KnownBytes.{Appends};
 
@@ -10,7 +10,7 @@ use tool_streams::faults::StreamFault;
 /// The reply to one line.
 #[derive(Clone, Copy)]
 pub enum Reply<'a> {
-    /// How an insert ended. It is `Refused` where there was no memory for the pair, and no equal entry.
+    /// The result of an insert. It is `Refused` if memory for the pair was refused and no entry is equal.
     Inserted(Insertion),
     /// The number of the entry that a look-up found, if it found one.
     LookedUp(Option<u64>),

@@ -13,16 +13,16 @@ use table_core::state::State;
 use tool_streams::faults::StreamFault;
 use tool_streams::line_command::LineCommand;
 
-/// A schedule of the machine, so far. Its lines are events, and questions for the buckets. A line is written where a call
-/// finishes or the buckets are asked for.
+/// A schedule of the state machine, so far. Its lines are events, and requests for the number of buckets. A line is written when
+/// a call finishes or the number of buckets is requested.
 #[derive(Drop)]
 pub struct Schedule<A: Allocator + Copy> {
-    /// The machine after the events so far.
+    /// The state of the machine after the events so far.
     pub state: State<A>,
 }
 
 impl<A: Allocator + Copy> Schedule<A> {
-    /// No event so far, on a table whose first generation will have `first` buckets. It takes no memory.
+    /// Makes a schedule without events, on a table whose first generation will have `first` buckets. Does not allocate.
     pub fn new(alloc: A, first: usize) -> Self
         requires { IsFirstCapacity first }
         ensures { result.state ≡ empty first }
@@ -45,8 +45,8 @@ impl<A: Allocator + Copy> LineCommand for Schedule<A> {
         parse_schedule_line(text)
     }
 
-    /// Takes an event and writes the reply of the call that finishes by it, or writes how many buckets there are. Where memory
-    /// is refused the state and the output are as they were.
+    /// Takes an event and writes the reply of the call that finishes by it, or writes the number of buckets. If memory is refused
+    /// the state and the output are unchanged.
     fn take<W: Write>(&mut self, line: ScheduleLine, output: &mut W) -> Result<(), StreamFault>
         ensures fault { IfErr result (λ fault. fault ≢ StreamFault.ReadFailed) }
         ensures taken { OnOk result (self.new.state ≡ world_after self.old.state line) }

@@ -1,11 +1,11 @@
-//! How the lines of the input are spelled.
+//! The spelling of the lines of `calls`.
 ghost use Rattle.std.specs.Prelude.{◌≡◌, ◌++◌, ℕ, IfSome, IfNone, codes};
 ghost use Rattle.tool_call_texts.specs.Spelling.{SpellsPair, SpellsLine, HasNoSpace};
 ghost use Rattle.tool_call_texts.specs.declared.spelling.Line.{Line as LineOf};
 
 use tool_streams::numbers::parse_number;
 
-/// A line of `calls`: what is asked of the table.
+/// A line of `calls`: a request to the table.
 #[derive(Clone, Copy)]
 pub enum Line {
     Insert { hash: u64, number: u64 },
@@ -16,7 +16,7 @@ pub enum Line {
     Buckets,
 }
 
-/// Reads a whole line, without its line break. `None` is a line that is spelled in no such way.
+/// Parses a whole line, without its line break. Returns `None` for any other text.
 pub fn parse_line(text: &[u8]) -> Option<Line>
     ensures spelled { IfSome result (SpellsLine text.now) }
     ensures bad { IfNone result ((line : LineOf) → ¬ SpellsLine text.now line) }
@@ -38,7 +38,7 @@ pub fn parse_line(text: &[u8]) -> Option<Line>
     }
 }
 
-/// Reads two numbers with one space between them.
+/// Parses two numbers with one space between them.
 pub fn parse_pair(text: &[u8]) -> Option<(u64, u64)>
     ensures spelled { IfSome result (λ pair. SpellsPair text.now pair.0 pair.1) }
     ensures bad { IfNone result ((first second : ℕ) → ¬ SpellsPair text.now first second) }
@@ -49,7 +49,7 @@ pub fn parse_pair(text: &[u8]) -> Option<(u64, u64)>
     Some((first, second))
 }
 
-/// What stands before the first space, and after it.
+/// Splits the text at its first space. Returns `None` if there is none.
 pub fn split_at_space(text: &[u8]) -> Option<(&[u8], &[u8])>
     ensures parts { IfSome result (λ parts. text.now ≡ parts.0.now ++ codes " " ++ parts.1.now) }
     ensures first { IfSome result (λ parts. HasNoSpace parts.0.now) }

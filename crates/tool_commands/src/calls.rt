@@ -1,4 +1,4 @@
-//! The lines of `calls` and `shards`, asked of a table held alone.
+//! The lines of `calls` and `shards`, run on a single-owner table.
 ghost use Rattle.std.specs.Prelude.{◌≡◌, ◌≢◌, ◌++◌, ℕ, List, OnOk, IfErr, codes};
 ghost use Rattle.std.specs.Io.KnownBytes.{Appends};
 ghost use Rattle.tool_call_texts.specs.Faults.{IsInputFault};
@@ -29,7 +29,7 @@ impl<A: Allocator + Copy, B: PairStore<A>> LineCommand for PairTable<B, A> {
         parse_line(text)
     }
 
-    /// Asks the table, and writes its reply. The text is that of the list of pairs which the table holds.
+    /// Runs the line on the table, and writes the reply. The text is the reply of the list of pairs that the table holds.
     fn take<W: Write>(&mut self, line: Line, output: &mut W) -> Result<(), StreamFault>
         ensures fault { IfErr result (λ fault. fault ≢ StreamFault.ReadFailed) }
         ensures first { B.shows.counts.first self.new ≡ B.shows.counts.first self.old }
@@ -57,7 +57,7 @@ impl<A: Allocator + Copy, B: PairStore<A>> LineCommand for PairTable<B, A> {
     }
 }
 
-/// Answers the lines of the input on this table of pairs, whose pairs take their blocks from this memory.
+/// Answers the lines of the input on this table of pairs. `alloc` grants the blocks of the pairs.
 pub fn run_pairs<A: Allocator + Copy, B: PairStore<A> + Drop, I: Read, O: Write>(
     alloc: A,
     store: B,

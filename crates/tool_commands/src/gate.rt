@@ -1,4 +1,4 @@
-//! A gate that workers pass only where they run at the same time.
+//! A gate that workers pass only if they run at the same time.
 ghost use Rattle.std.specs.Prelude.{◌≡◌, ◌<◌, IsTrue};
 
 use std::hint::spin_loop;
@@ -6,28 +6,28 @@ use std::sync::atomic::{AtomicBool, Ordering};
 use std::thread::yield_now;
 use tool_call_texts::faults::Fault;
 
-/// What workers ask before each of their inserts. Workers and inserts are numbered from 0.
+/// A gate that workers ask before each of their inserts. Workers and inserts are numbered from 0.
 pub trait Gate {
-    /// Whether the worker may make this insert. It asks once before each, and ends after a no.
+    /// Returns whether the worker may make this insert. A worker asks once before each insert, and ends after a no.
     fn may_pass(&self, worker: usize, call: usize) -> bool;
 
-    /// The worker has its answer to this insert.
+    /// Records that the worker has the result of this insert.
     fn answered(&self, worker: usize, call: usize);
 
-    /// Not all workers come. A worker that waits at the gate for another is told no.
+    /// Records that not all workers come. A worker that waits at the gate for another is refused.
     fn give_up(&self);
 }
 
-/// What gives each run of workers a gate of its own.
+/// A source of gates, one for each run of workers.
 pub trait Gates {
-    /// Their type.
+    /// The type of the gates.
     type Gate: Gate + Sync + Drop;
 
-    /// A gate that nobody came to yet.
+    /// Makes a gate that no worker has come to yet.
     fn gate(&self) -> Self::Gate;
 }
 
-/// A worker can't be started, so the gate lets no other wait for it.
+/// Gives up the gate, since a worker can't be started, so that no other worker waits for it. Returns the fault.
 pub(crate) fn no_thread<G: Gate>(gate: &G) -> Fault
     ensures { result ≡ Fault.NoThread }
 {
@@ -35,26 +35,26 @@ pub(crate) fn no_thread<G: Gate>(gate: &G) -> Fault
     Fault::NoThread
 }
 
-/// How often the program's gate looks at most, within one question.
+/// The greatest number of looks that the program's gate takes for one question.
 pub const GATE_TURNS: u64 = 100_000_000;
 
-/// A look in so many lets another thread run first, so that a gate passes on few processors too.
+/// The number of looks after which the gate lets another thread run first, so that workers can pass on few processors, too.
 const LOOKS_TO_YIELD: u64 = 64;
 
-/// The program's gate. Workers 0 and 1 each wait at their first insert until the other is there too, and at their
-/// second until the other has the answer to its first. All else may pass at once.
+/// The program's gate. Workers 0 and 1 each wait at their first insert until the other has come to it, and at their second until
+/// the other has the result of its first. Everything else may pass at once.
 ///
-/// So a thread that runs the workers one after the other, or in turns, is told no.
+/// So the gate refuses workers that one thread runs one after the other, or in turns.
 #[derive(Drop)]
 pub struct MeetingGate {
-    /// It looks at most so often within one question.
+    /// The greatest number of looks for one question.
     pub turns: u64,
     is_given_up: AtomicBool,
     first: Progress,
     second: Progress,
 }
 
-/// How far a worker has come.
+/// The progress of one worker.
 #[derive(Drop)]
 struct Progress {
     is_entered: AtomicBool,
@@ -76,7 +76,7 @@ impl Gates for ProgramGates {
 }
 
 impl MeetingGate {
-    /// A gate for one run of the workers, which looks at most so often within one question.
+    /// Makes a gate for one run of the workers, which takes at most `turns` looks for one question.
     pub fn new(turns: u64) -> MeetingGate
         ensures turns { result.turns ≡ turns }
     {
@@ -88,7 +88,7 @@ impl MeetingGate {
         }
     }
 
-    /// Looks for the flag, and answers whether it was set in time. A look in so many is for the end of the wait.
+    /// Waits for the flag, and returns whether it was set in time. Now and then it also looks whether the gate was given up.
     fn sees(&self, flag: &AtomicBool) -> bool {
         for turn in 0..self.turns {
             if flag.load(Ordering::SeqCst) {
@@ -106,7 +106,7 @@ impl MeetingGate {
         false
     }
 
-    /// Of one of the two workers and the other.
+    /// Returns whether one of the two workers may make this insert, by the progress of the other.
     fn may_go_on(&self, own: &Progress, other: &Progress, call: usize) -> bool
         ensures later { 1 < call → IsTrue result }
     {

@@ -18,15 +18,15 @@ use tool_streams::faults::StreamFault;
 /// The workers that run at the same time.
 #[derive(Clone, Copy)]
 pub struct Crew {
-    /// How many there are.
+    /// The number of workers.
     pub threads: usize,
-    /// The bytes of the stack of each one's thread.
+    /// The bytes of the stack of each worker's thread.
     pub stack: usize,
     ghost few: { threads ≤ 64 },
 }
 
 impl Crew {
-    /// So many workers, with stacks of so many bytes.
+    /// Makes a crew of `threads` workers, with stacks of `stack` bytes.
     pub fn new(threads: usize, stack: usize) -> Crew
         requires { threads ≤ 64 }
         ensures { result.threads ≡ threads }
@@ -44,8 +44,8 @@ pub enum Part {
     Lookups,
 }
 
-/// Runs the job on this table, which is empty and no other job's, under a gate of its own, and answers how many entries a walk
-/// over the table then shows: as many as different values were inserted.
+/// Runs the job on this table, which is empty and used by no other job, under its own gate. Returns the number of entries that an
+/// iterator over the table then shows: as many as different values were inserted.
 pub fn run_job<
     R: Threads + Wait + Sync,
     A: Allocator + Copy + Send + Sync,
@@ -69,8 +69,8 @@ pub fn run_job<
     Ok(entries)
 }
 
-/// Runs a part of the job. Of the faults that hold the first is told, by this order: no thread, no memory, a gate that is
-/// stuck, a look-up that missed.
+/// Runs a part of the job. If several faults hold, returns the first in this order: no thread, no memory, a gate that is stuck, a
+/// look-up that missed.
 fn run_part<
     R: Threads + Wait + Sync,
     A: Allocator + Copy + Send + Sync,
@@ -86,7 +86,7 @@ fn run_part<
     }
 }
 
-/// Runs each worker in a thread of its own, and answers how they ended together once all have.
+/// Runs each worker in a thread of its own, and returns their joint ending after all have ended.
 fn start_workers<
     R: Threads + Wait + Sync,
     A: Allocator + Copy + Send + Sync,
@@ -124,7 +124,7 @@ fn start_workers<
     )
 }
 
-/// How these workers ended together, once all have.
+/// Waits for these workers, and returns their joint ending.
 fn join_all<R: Threads, A: Allocator>(rt: &R, workers: Vec<JoinHandle<Ending>, A>) -> Ending {
     let mut all = Ending::Well;
     for worker in workers {
@@ -133,7 +133,7 @@ fn join_all<R: Threads, A: Allocator>(rt: &R, workers: Vec<JoinHandle<Ending>, A
     all
 }
 
-/// What the worker does in this part of its job.
+/// Runs the worker's part of its job.
 fn work<R: Wait, A: Allocator + Copy, G: Gate, T: ValueTable<A>>(
     rt: &R,
     alloc: A,

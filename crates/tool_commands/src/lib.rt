@@ -1,4 +1,4 @@
-//! The commands of the program, over its words and streams.
+//! The commands of the program, over its arguments and streams.
 #![tactic(auto)]
 
 pub mod calls;

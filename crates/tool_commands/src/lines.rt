@@ -8,7 +8,7 @@ use tool_streams::line_command::{LineCommand, take_lines};
 use tool_streams::output::Output;
 use tool_streams::short_lines::ShortLines;
 
-/// Takes the lines of the input, one by one, until one is spelled in no way or the input ends: see `take_lines`.
+/// Takes the lines of the input, one by one, until one can't be parsed or the input ends; see `take_lines`.
 pub(crate) fn run_lines<C: LineCommand, I: Read, O: Write>(
     command: &mut C,
     lines: &mut ShortLines<I>,

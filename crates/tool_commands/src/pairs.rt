@@ -1,4 +1,4 @@
-//! Tables of pairs, held alone: two pairs are equal if both parts are, and the hash of a pair is its first part.
+//! Single-owner tables of pairs. Two pairs are equal if both parts are, and the hash of a pair is its first part.
 ghost use Rattle.std.specs.Prelude.{◌≡◌, ℕ, List, length, IfOk};
 ghost use Rattle.tool_commands.specs.Pairs.{InsertsAsPairs, LooksUpPair, ListsNumbers};
 
@@ -7,7 +7,7 @@ use std::alloc::{AllocError, Allocator};
 use std::marker::Model;
 use table_terms::insertion::Insertion;
 
-/// A table of pairs that one owner holds alone, over a raw table or one over shards.
+/// A single-owner table of pairs, over a raw table or one over shards.
 #[derive(Drop)]
 pub struct PairTable<B, A: Allocator + Copy> {
     table: B,
@@ -21,14 +21,14 @@ impl<B, A: Allocator + Copy> Model for PairTable<B, A> {
 }
 
 impl<A: Allocator + Copy, B: PairStore<A>> PairTable<B, A> {
-    /// This table, as one whose pairs take their blocks from this memory.
+    /// Makes a table of pairs of this table. `alloc` grants the blocks of the pairs.
     pub fn new(alloc: A, table: B) -> Self
         ensures { result ≡ table }
     {
         PairTable { table, alloc }
     }
 
-    /// Inserts the pair, unless it is an entry. It is refused only where it is none.
+    /// Inserts the pair, unless it is an entry. It is refused only if it is none.
     pub fn insert(&mut self, hash: u64, number: u64) -> Insertion
         ensures first { B.shows.counts.first self.new ≡ B.shows.counts.first self.old }
         ensures inserts { InsertsAsPairs B.shows self.old (hash, number) result self.new }
@@ -42,7 +42,7 @@ impl<A: Allocator + Copy, B: PairStore<A>> PairTable<B, A> {
         }
     }
 
-    /// The second part of the entry that is equal to the pair.
+    /// Returns the second part of the entry that is equal to the pair.
     pub fn lookup(&self, hash: u64, number: u64) -> Option<u64>
         ensures { (ps : List (ℕ × ℕ)) → B.shows.holds self.now ps
             → LooksUpPair ps (hash, number) result }
@@ -50,7 +50,7 @@ impl<A: Allocator + Copy, B: PairStore<A>> PairTable<B, A> {
         self.table.find_pair(hash, number)
     }
 
-    /// The number of entries, or the greatest that can be told.
+    /// Returns the number of entries, capped at the greatest that the table can report.
     pub fn length(&self) -> usize
         ensures { (ps : List (ℕ × ℕ)) → B.shows.holds self.now ps
             → result ≡ B.shows.counts.told (length ps) }
@@ -58,7 +58,7 @@ impl<A: Allocator + Copy, B: PairStore<A>> PairTable<B, A> {
         self.table.count()
     }
 
-    /// The buckets of the current generations.
+    /// Returns the number of buckets of the current generations.
     pub fn capacity(&self) -> usize
         ensures current { result ≡ B.shows.counts.capacity self.now }
         ensures doubled { B.shows.counts.doubled self.now }
@@ -66,7 +66,7 @@ impl<A: Allocator + Copy, B: PairStore<A>> PairTable<B, A> {
         self.table.capacity()
     }
 
-    /// The buckets of all generations.
+    /// Returns the number of buckets of all generations.
     pub fn buckets(&self) -> usize
         ensures all { result ≡ B.shows.counts.buckets self.now }
         ensures few { B.shows.counts.few self.now }
@@ -74,7 +74,7 @@ impl<A: Allocator + Copy, B: PairStore<A>> PairTable<B, A> {
         self.table.buckets()
     }
 
-    /// The second parts of all entries, in ascending order. Err: memory was refused.
+    /// Returns the second parts of all entries, in ascending order. An `Err` means that memory was refused.
     pub fn numbers(&self) -> Result<Vec<u64, A>, AllocError>
         ensures { IfOk result (λ numbers. (ps : List (ℕ × ℕ)) → B.shows.holds self.now ps
             → ListsNumbers ps numbers.items) }

@@ -1,4 +1,4 @@
-//! The program, over its words and streams.
+//! The program, over its arguments and streams.
 ghost use Rattle.std.specs.Prelude.{◌≡◌, ◌⊎◌, IfErr, map};
 ghost use Rattle.tool_call_texts.specs.Arguments.{NamesCommand, IsRunnable, IsFaultOf};
 ghost use Rattle.tool_call_texts.specs.Faults.{status_of};
@@ -28,8 +28,8 @@ use tool_streams::messages::end_with;
 use tool_streams::output::Output;
 use tool_streams::short_lines::ShortLines;
 
-/// Runs the command that the words of the environment stand for, and answers the status. `run_words` says what is written
-/// where. Words that are no text name no command.
+/// Runs the command that the arguments in the environment name, and returns the exit status; see `run_words`. Arguments that are
+/// not UTF-8 name no command.
 pub fn run_program<
     R: Threads + Wait + Sync,
     E: Env + Alloc,
@@ -44,9 +44,9 @@ pub fn run_program<
     }
 }
 
-/// Runs the command that the words after the program's name stand for, and answers the status. Replies go to the output,
-/// the message of a fault goes to `messages`, each on a line of its own. A message that cannot be written is dropped. Where
-/// the words name no command nothing is read, and only the usage is written.
+/// Runs the command that is named by the arguments after the program's name, and returns the exit status. Replies go to the
+/// output and the message of a fault to `messages`, each on a line of its own. A message that can't be written is dropped. If the
+/// arguments name no command, nothing is read and only the usage is written.
 pub fn run_words<
     R: Threads + Wait + Sync,
     A: Low + Copy + Send + Sync,
@@ -87,7 +87,7 @@ pub fn run_words_under<
     }
 }
 
-/// Runs the command, under these gates. The replies of the lines before a fault are written.
+/// Runs the command under these gates. The replies to the lines before a fault are written.
 fn run_command<
     R: Threads + Wait + Sync,
     A: Low + Copy + Send + Sync,
@@ -107,7 +107,7 @@ fn run_command<
     }
 }
 
-/// Runs the command on these lines, under these gates. What it replies may still be kept by the output.
+/// Runs the command on these lines, under these gates. The output may still hold back replies.
 fn run_lines_of<R: Threads + Wait + Sync, A: Low + Copy + Send + Sync, G: Gates, I: Read, O: Write>(
     rt: &R,
     alloc: A,

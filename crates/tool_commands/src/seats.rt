@@ -15,20 +15,20 @@ use std::thread::{Builder, JoinHandle, Threads};
 use tool_call_texts::faults::Fault;
 use tool_streams::faults::StreamFault;
 
-/// How many numbers the table holds. Each worker inserts one more.
+/// The capacity of the number table. Each worker inserts one number more.
 const WORDS: usize = 1024;
 
 /// The bytes of the stack of each of the program's workers.
 pub const WORKER_STACK: usize = 1 << 20;
 
-/// What one worker was told, or all of them together.
+/// The results of one worker, or of all of them together.
 #[derive(Clone, Copy, Drop)]
 pub struct Tally {
-    /// Answers `Placed`.
+    /// The number of results `Placed`.
     pub placed: u64,
-    /// Answers `Full`.
+    /// The number of results `Full`.
     pub full: u64,
-    /// Whether the gate told a worker no, after which it inserted nothing more.
+    /// True if the gate refused a worker, which then inserted nothing more.
     pub is_stuck: bool,
 }
 
@@ -43,7 +43,7 @@ impl Tally {
         }
     }
 
-    /// Both together. A count stops at the greatest number.
+    /// Adds two tallies. A count stops at the greatest number.
     fn and(self, other: Tally) -> Tally {
         Tally {
             placed: self.placed.saturating_add(other.placed),
@@ -53,11 +53,11 @@ impl Tally {
     }
 }
 
-/// Runs so many workers at once on one table under this gate, and prints how many answers were `Placed` in all, and how many
-/// `Full`. Where the gate told a worker no, nothing is printed.
+/// Runs `threads` workers at once on one table under this gate, and prints how many results were `Placed` in all, and how many
+/// `Full`. If the gate refused a worker, nothing is printed.
 ///
-/// Each worker's thread has a stack of `stack` bytes. Where a thread can't be started, as with a stack that is too large, no
-/// more are, the gate is given up, and the run ends by `NoThread` with nothing printed.
+/// Each worker's thread has a stack of `stack` bytes. If a thread can't be started, for example because the stack is too large,
+/// no more are started, the gate is given up, and the run ends with `NoThread` and prints nothing.
 pub fn run_seats<R: Threads + Wait, A: Allocator + Copy + Send + Sync, G: Gate + Sync, O: Write>(
     rt: &R,
     alloc: A,
@@ -78,7 +78,7 @@ pub fn run_seats<R: Threads + Wait, A: Allocator + Copy + Send + Sync, G: Gate +
     }
 }
 
-/// Runs the workers under the gate on a table of their own.
+/// Runs the workers under the gate, on a new table.
 fn run_workers<R: Threads + Wait, A: Allocator + Copy + Send + Sync, G: Gate + Sync>(
     rt: &R,
     alloc: A,
@@ -94,7 +94,7 @@ fn run_workers<R: Threads + Wait, A: Allocator + Copy + Send + Sync, G: Gate + S
     start_workers(rt, alloc, threads, stack, gate, &table, seat)
 }
 
-/// Runs each worker in a thread of its own, and adds up what they were told once all have ended.
+/// Runs each worker in a thread of its own, and returns the sum of their results after all have ended.
 fn start_workers<R: Threads + Wait, A: Allocator + Copy + Send + Sync, G: Gate + Sync>(
     rt: &R,
     alloc: A,
@@ -141,7 +141,7 @@ fn start_workers<R: Threads + Wait, A: Allocator + Copy + Send + Sync, G: Gate +
     )
 }
 
-/// What these workers were told together, once all have ended.
+/// Waits for these workers, and returns the sum of their results.
 fn join_all<R: Threads, A: Allocator>(rt: &R, workers: Vec<JoinHandle<Tally>, A>) -> Tally {
     let mut all = Tally::nothing();
     for worker in workers {
@@ -150,8 +150,8 @@ fn join_all<R: Threads, A: Allocator>(rt: &R, workers: Vec<JoinHandle<Tally>, A>
     all
 }
 
-/// Inserts 1 to one more than the table holds, in order, for as long as the gate lets it. The seat comes back with what the
-/// worker was told.
+/// Inserts the numbers from 1 to one more than the table holds, in order, as long as the gate lets it. Returns the seat and the
+/// worker's results.
 pub fn work<A: Allocator + Copy, G: Gate>(
     gate: &G,
     worker: usize,

@@ -1,4 +1,4 @@
-//! The command `shards`: the lines of `calls`, asked of a table over shards held alone.
+//! The command `shards`: the lines of `calls`, run on a single-owner table over shards.
 ghost use Rattle.std.specs.Prelude.{◌≤◌, IfErr};
 ghost use Rattle.std.specs.Int.{IsPowerOfTwo};
 ghost use Rattle.table_terms.specs.Capacities.{IsFirstCapacity};
@@ -13,8 +13,7 @@ use tool_call_texts::faults::Fault;
 use tool_streams::output::Output;
 use tool_streams::short_lines::ShortLines;
 
-/// Answers the lines of the input on a table over so many shards, of which each will have `first` buckets in its first
-/// generation.
+/// Answers the lines of the input on a table over this many shards. The first generation of each will have `first` buckets.
 pub fn run_shards<A: Allocator + Copy, I: Read, O: Write>(
     alloc: &A,
     shards: ShardCount,
@@ -34,7 +33,7 @@ pub fn run_shards<A: Allocator + Copy, I: Read, O: Write>(
     }
 }
 
-/// The empty table over `SHARDS` shards. The memory is borrowed, since a table over shards must be seen to fit in memory, and
+/// Makes an empty table over `SHARDS` shards. The allocator is borrowed: a table over shards must be proved to fit in memory, and
 /// the size of a borrow is known.
 fn over<const SHARDS: usize, A: Allocator + Copy>(
     alloc: &A,

@@ -1,4 +1,4 @@
-//! What tables of boxed pairs do each in their own way: a raw one, and one over shards.
+//! The operations of tables of boxed pairs that differ between a raw table and one over shards.
 ghost use Rattle.std.specs.Prelude.{◌≡◌, ℕ, ◌++◌, List, [], map, OnOk};
 ghost use Rattle.std.specs.Int.{IsPowerOfTwo};
 ghost use Rattle.std.specs.Borrow.{Bor};
@@ -17,63 +17,64 @@ use table_shards::sharded::HeldShardedTable;
 use table_terms::insertion::Insertion;
 use table_terms::law::PairLaw;
 
-/// What a table keeps: a pair in a block of its own.
+/// A value of the table: a pair in a heap block.
 pub type Boxed<A> = Box<(u64, u64), A>;
 
-/// A table of boxed pairs that one owner holds alone.
+/// A single-owner table of boxed pairs.
 pub trait PairStore<A: Allocator + Copy> {
     ghost use Rattle.std.specs.Prelude.{length, IfOk, OnErr};
     ghost use Rattle.tool_commands.specs.Pairs.{ShowsPairs, InsertsAsPairs, AppendsNumbers};
 
     ghost shows: { ShowsPairs Self };
 
-    /// Inserts the pair, unless an entry is equal. Err: the block for the pair was refused, and nothing has changed.
+    /// Inserts the pair, unless an entry is equal. An `Err` means that memory for the pair's block was refused; the table is
+    /// unchanged.
     fn place_pair(&mut self, alloc: A, hash: u64, number: u64) -> Result<Insertion, AllocError>
         ensures first { shows.counts.first self.new ≡ shows.counts.first self.old }
         ensures inserts { IfOk result (λ how. InsertsAsPairs shows self.old (hash, number) how
             self.new) }
         ensures unchanged { OnErr result (self.new ≡ self.old) };
 
-    /// The second part of the entry that is equal to the pair.
+    /// Returns the second part of the entry that is equal to the pair.
     fn find_pair(&self, hash: u64, number: u64) -> Option<u64>
         ensures { (ps : List (ℕ × ℕ)) → shows.holds self.now ps
             → LooksUpPair ps (hash, number) result };
 
-    /// The number of entries, or the greatest that can be told.
+    /// Returns the number of entries, capped at the greatest that the table can report.
     fn count(&self) -> usize
         ensures { (ps : List (ℕ × ℕ)) → shows.holds self.now ps
             → result ≡ shows.counts.told (length ps) };
 
-    /// The buckets of the current generations.
+    /// Returns the number of buckets of the current generations.
     fn capacity(&self) -> usize
         ensures current { result ≡ shows.counts.capacity self.now }
         ensures doubled { shows.counts.doubled self.now };
 
-    /// The buckets of all generations.
+    /// Returns the number of buckets of all generations.
     fn buckets(&self) -> usize
         ensures all { result ≡ shows.counts.buckets self.now }
         ensures few { shows.counts.few self.now };
 
-    /// Appends the second parts of all entries, in any order. Err: memory was refused.
+    /// Appends the second parts of all entries, in any order. An `Err` means that memory was refused.
     fn push_numbers(&self, numbers: &mut Vec<u64, A>) -> Result<(), AllocError>
         ensures { OnOk result (AppendsNumbers shows self.now numbers.old.items numbers.new.items) };
 }
 
-/// Whether the pairs are equal.
+/// Returns whether the pairs are equal.
 fn is_same(new: &(u64, u64), entry: &(u64, u64)) -> bool
     ensures { result ≡ same_pair new.now entry.now }
 {
     new.0 == entry.0 && new.1 == entry.1
 }
 
-/// The hash of a pair.
+/// Returns the hash of a pair.
 fn hash_pair(pair: &(u64, u64)) -> u64
     ensures { result ≡ pair_hash pair.now }
 {
     pair.0
 }
 
-/// How an insert ended that was answered so.
+/// Converts the result of an insert.
 fn insertion_of<P: Copy, T: Drop>(placed: Result<(P, Option<T>), T>) -> Insertion
     ensures { result ≡ insertion_told placed }
 {
@@ -84,7 +85,7 @@ fn insertion_of<P: Copy, T: Drop>(placed: Result<(P, Option<T>), T>) -> Insertio
     }
 }
 
-/// The second part of the entry that is equal to the pair.
+/// Returns the second part of the entry that is equal to the pair.
 fn find<A: Allocator + Copy, B: AloneTable<Boxed<A>, PairLaw>>(
     table: &B,
     hash: u64,
@@ -102,7 +103,7 @@ fn find<A: Allocator + Copy, B: AloneTable<Boxed<A>, PairLaw>>(
     Some(entry.1)
 }
 
-/// Appends the second parts of the pairs of a walk. Err: memory was refused.
+/// Appends the second parts of the pairs of an iterator. An `Err` means that memory was refused.
 fn push_seconds<'a, A: Allocator + Copy, W: Iterator<Item = &'a (u64, u64)> + Drop>(
     walk: W,
     numbers: &mut Vec<u64, A>,
@@ -135,7 +136,7 @@ impl<A: Allocator + Copy> Model for RawPairs<A> {
 }
 
 impl<A: Allocator + Copy> RawPairs<A> {
-    /// The empty table, whose first generation will have `first` buckets. It takes no memory.
+    /// Makes an empty table, whose first generation will have `first` buckets. Does not allocate.
     pub fn new(alloc: A, first: usize) -> Self
         requires { IsFirstCapacity first }
         ensures empty { raw_pairs.holds result [] }
@@ -181,7 +182,7 @@ impl<A: Allocator + Copy> PairStore<A> for RawPairs<A> {
     }
 }
 
-/// A table of pairs over so many shards: a pair lies in the shard of its hash.
+/// A table of pairs over `SHARDS` shards. A pair lies in the shard of its hash.
 #[derive(Drop)]
 pub struct ShardedPairs<const SHARDS: usize, A: Allocator + Copy> {
     table: HeldShardedTable<Boxed<A>, SHARDS, A>,
@@ -198,7 +199,7 @@ impl<const SHARDS: usize, A: Allocator + Copy> Model for ShardedPairs<SHARDS, A>
 }
 
 impl<const SHARDS: usize, A: Allocator + Copy> ShardedPairs<SHARDS, A> {
-    /// The empty table; the first generation of each shard will have `first` buckets. It takes no memory.
+    /// Makes an empty table. The first generation of each shard will have `first` buckets. Does not allocate.
     pub fn new(alloc: A, first: usize) -> Self
         requires shards { IsPowerOfTwo SHARDS }
         requires first { IsFirstCapacity first }

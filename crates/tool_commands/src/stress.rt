@@ -1,4 +1,4 @@
-//! The command `stress`: jobs of three kinds, each by many threads at once on a table that they share.
+//! The command `stress`: jobs of three kinds, each run by several threads at once on a table that they share.
 ghost use Rattle.std.specs.Prelude.{◌≡◌, ◌<◌, ◌≤◌, IfOk, OnOk, IfErr};
 ghost use Rattle.std.specs.Io.KnownBytes.{Appends};
 ghost use Rattle.tool_call_texts.specs.Faults.{IsJobFault, IsStressFault};
@@ -16,12 +16,12 @@ use tool_call_texts::faults::Fault;
 use tool_call_texts::kinds::Kind;
 use tool_streams::faults::StreamFault;
 
-/// Runs so many jobs of each kind, each by this crew on a table of its own and under a gate of its own. After the jobs of a
-/// kind it prints the kind, and how many entries the walk over the last one's table showed.
+/// Runs `jobs` jobs of each kind, each by this crew on a new table and under a new gate. After the jobs of a kind it prints the
+/// kind, and the number of entries that an iterator over the last table showed.
 ///
-/// The first fault ends the run: where a thread can't be started, memory is refused, the gate tells a worker no, a
-/// look-up misses a value that was inserted, or a walk shows another number of entries than were inserted. The lines of
-/// the kinds before are printed then.
+/// The first fault ends the run: a thread can't be started, memory is refused, the gate refuses a worker, a look-up misses a
+/// value that was inserted, or an iterator shows another number of entries than were inserted. The lines of the earlier kinds are
+/// printed then.
 pub fn run_stress<R: Threads + Wait + Sync, A: Low + Copy + Send + Sync, G: Gates, O: Write>(
     rt: &R,
     alloc: A,
@@ -41,7 +41,7 @@ pub fn run_stress<R: Threads + Wait + Sync, A: Low + Copy + Send + Sync, G: Gate
     run_kind(rt, alloc, crew, jobs, gates, Kind::InsertLookup, output)
 }
 
-/// Runs so many jobs of the kind, and prints it.
+/// Runs `jobs` jobs of the kind, and prints its line.
 fn run_kind<R: Threads + Wait + Sync, A: Low + Copy + Send + Sync, G: Gates, O: Write>(
     rt: &R,
     alloc: A,
@@ -64,7 +64,8 @@ fn run_kind<R: Threads + Wait + Sync, A: Low + Copy + Send + Sync, G: Gates, O: 
     }
 }
 
-/// Runs so many jobs of the kind, each on a table of its own, and answers how many entries the last one's walk showed.
+/// Runs `jobs` jobs of the kind, each on a new table, and returns the number of entries that an iterator over the last one
+/// showed.
 fn run_jobs<R: Threads + Wait + Sync, A: Low + Copy + Send + Sync, G: Gates>(
     rt: &R,
     alloc: A,

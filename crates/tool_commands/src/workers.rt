@@ -1,4 +1,4 @@
-//! What each worker of a job does on the table that they share.
+//! The calls of each worker of a job on the table that they share.
 ghost use Rattle.std.specs.Prelude.{◌≡◌, ◌<◌, IfOk};
 ghost use Rattle.tool_call_texts.specs.Stress.{inserts_of, value_of, value_hash};
 
@@ -13,35 +13,35 @@ use tool_call_texts::kinds::Kind;
 
 /// A table of values that the workers of a job share.
 pub trait ValueTable<A: Allocator + Copy> {
-    /// Inserts the value, and answers the entry that is shown: the value, or an equal one that was there. Err: memory was
-    /// refused.
+    /// Inserts the value, and returns the entry that is shown: the value, or an equal one that was there. An `Err` means that
+    /// memory was refused.
     fn insert_value<R: Wait>(&self, rt: &R, alloc: A, value: u32) -> Result<u32, AllocError>
         ensures { IfOk result (λ entry. entry ≡ value) };
 
-    /// Whether a look-up finds the value.
+    /// Returns whether a look-up finds the value.
     fn finds_value(&self, value: u32) -> bool;
 
-    /// How many entries a walk shows.
+    /// Returns the number of entries that an iterator shows.
     fn walked_entries(&self) -> usize;
 }
 
-/// The program's own: boxed numbers.
+/// The program's own table, of boxed numbers.
 pub type Values<A> = LockFreeRawTable<Box<u32, A>, A>;
 
-/// The hash of a value is so many times the value, modulo 2^64.
+/// The factor by which a value is multiplied for its hash, modulo 2^64.
 const SPREAD: u64 = 0x9E37_79B9_7F4A_7C15;
 
 /// A worker of a job.
 #[derive(Clone, Copy)]
 pub struct Worker {
     pub job: Job,
-    /// Its number among the workers, from 0 on.
+    /// The number of the worker, from 0 on.
     pub number: usize,
     ghost few: { number < 64 },
 }
 
 impl Worker {
-    /// The worker of this number in the job.
+    /// Makes the worker of this number in the job.
     pub fn new(job: Job, number: usize) -> Worker
         requires { number < 64 }
         ensures job { result.job ≡ job }
@@ -50,7 +50,7 @@ impl Worker {
         Worker { job, number }
     }
 
-    /// The value that it inserts by its call of this number.
+    /// Returns the value that the worker inserts by its call of this number.
     pub fn value(self, call: usize) -> u32
         requires { call < inserts_of self.job.kind }
         ensures { result ≡ value_of self.job.kind self.job.number self.number call }
@@ -63,7 +63,7 @@ impl Worker {
     }
 }
 
-/// The hash of a value.
+/// Returns the hash of a value.
 pub fn hash_of(value: u32) -> u64
     ensures { result ≡ value_hash value }
 {
@@ -95,8 +95,8 @@ impl<A: Low + Copy> ValueTable<A> for LockFreeRawTable<Box<u32, A>, A> {
     }
 }
 
-/// Makes the worker's call of this number, if the gate lets it: an insert, and in a job of the kind `InsertLookup` a
-/// look-up of the value that it inserted before.
+/// Makes the worker's call of this number, if the gate lets it: an insert, and in a job of the kind `InsertLookup` also a look-up
+/// of the value that it inserted before.
 pub fn make_call<R: Wait, A: Allocator + Copy, G: Gate, T: ValueTable<A>>(
     rt: &R,
     alloc: A,
@@ -124,7 +124,7 @@ pub fn make_call<R: Wait, A: Allocator + Copy, G: Gate, T: ValueTable<A>>(
     Ending::Well
 }
 
-/// Makes the worker's calls in order, until the gate says no or memory is refused.
+/// Makes the worker's calls in order, until the gate refuses one or memory is refused.
 pub fn insert_all<R: Wait, A: Allocator + Copy, G: Gate, T: ValueTable<A>>(
     rt: &R,
     alloc: A,
@@ -142,7 +142,7 @@ pub fn insert_all<R: Wait, A: Allocator + Copy, G: Gate, T: ValueTable<A>>(
     ending
 }
 
-/// Looks every value up that the worker inserted.
+/// Looks up every value that the worker inserted.
 pub fn look_all<A: Allocator + Copy, T: ValueTable<A>>(table: &T, worker: Worker) -> Ending {
     for call in 0..worker.job.kind.inserts() {
         if !table.finds_value(worker.value(call)) {

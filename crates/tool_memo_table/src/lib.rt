@@ -1,4 +1,4 @@
-//! A memo table: the answers of a recursive function, each kept once it is computed; and that table over lines of numbers.
+//! A memo table, which stores the results of a recursive function, and a command that runs it over lines of numbers.
 #![tactic(auto)]
 
 pub mod memo;

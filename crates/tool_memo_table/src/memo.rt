@@ -1,4 +1,4 @@
-//! A memo table: the answers of a recursive function, each kept once it is computed.
+//! A memo table, which stores each result of a recursive function once it is computed.
 ghost use Rattle.std.specs.Prelude.{◌≡◌, ◌+◌, ◌-◌, ◌*◌, ◌/◌, ◌%◌, ◌^◌, ◌<◌, ◌≤◌, IfOk, IfSome};
 ghost use Rattle.tool_memo_table.specs.Fibonacci.{fibonacci_word};
 
@@ -8,7 +8,7 @@ use table_generations::atomic_value::Law;
 use table_held::raw::HeldRawTable;
 use table_terms::law::hash_number;
 
-/// An argument and the function's answer to it. Every value of this type is right, so a table of them holds only right answers.
+/// An argument with the function's result. Every value of this type is right, so a table of such values holds only right results.
 #[derive(Drop)]
 pub struct Answer {
     argument: u64,
@@ -16,7 +16,7 @@ pub struct Answer {
     ghost right: { answer ≡ fibonacci_word argument },
 }
 
-/// Answers are the same if their arguments are, and the hash of an answer is that of its argument.
+/// The equality and hash of results: two are equal if their arguments are, and the hash is that of the argument.
 pub struct Arguments;
 
 impl Law<Answer> for Arguments {
@@ -29,7 +29,7 @@ impl Law<Answer> for Arguments {
     ghost lawful = { number_lawful (λ a. a.argument) };
 }
 
-/// The Fibonacci numbers modulo 2^64, with the answers that were computed kept in a table.
+/// The Fibonacci numbers modulo 2^64, with a table of the results computed so far.
 #[derive(Drop)]
 pub struct Memo<A: Allocator + Copy = Global> {
     answers: HeldRawTable<Box<Answer, A>, A>,
@@ -54,7 +54,7 @@ impl<A: Allocator + Copy> Memo<A> {
     ghost use Rattle.table_held.specs.Table.{empty_table};
     ghost use Rattle.tool_memo_table.specs.Memo.{Keeps, KeepsAll};
 
-    /// No answer is kept yet. It takes no memory.
+    /// Makes an empty memo table. Does not allocate.
     pub fn new(alloc: A) -> Self
         ensures { result ≡ empty_table 16 }
     {
@@ -64,7 +64,7 @@ impl<A: Allocator + Copy> Memo<A> {
         }
     }
 
-    /// The answer to the argument, if it is kept.
+    /// Returns the stored result for the argument, if there is one.
     fn recall(&self, argument: u64) -> Option<u64>
         ensures right { IfSome result (λ answer. answer ≡ fibonacci_word argument) }
         ensures found { IfSome result (λ answer. Keeps self.now argument) }
@@ -78,7 +78,7 @@ impl<A: Allocator + Copy> Memo<A> {
         Some(kept.answer)
     }
 
-    /// Keeps the answer. An Err is refused memory.
+    /// Stores a result. An `Err` means that memory was refused; the results stored before stay.
     fn keep(&mut self, kept: Answer) -> Result<(), AllocError>
         ensures kept { OnOk result (Keeps self.new kept.argument) }
         ensures stays { KeepsAll self.old self.new }
@@ -97,11 +97,11 @@ impl<A: Allocator + Copy> Memo<A> {
         }
     }
 
-    /// The Fibonacci number of the argument, modulo 2^64. What was asked before changes only how long it takes: at most
-    /// three answers are computed for each halving of the argument, so fewer than 200 a call.
+    /// Returns the Fibonacci number of the argument, modulo 2^64. Earlier calls change only the time that it takes: at most three
+    /// results are computed for each halving of the argument, so fewer than 200 in a call.
     ///
-    /// An Err is refused memory: no answer is wrong for want of it, those that are kept stay, and the call can be made again.
-    /// An argument that is below 2 or kept is never refused.
+    /// An `Err` means that memory was refused. The results that are stored stay, and the call can be repeated. A call with an
+    /// argument below 2, or one whose result is stored, is never refused.
     pub fn fibonacci(&mut self, argument: u64) -> Result<u64, AllocError>
         ensures right { IfOk result (λ answer. answer ≡ fibonacci_word argument) }
         ensures kept { OnOk result (2 ≤ argument → Keeps self.new argument) }
@@ -124,7 +124,7 @@ impl<A: Allocator + Copy> Memo<A> {
     }
 }
 
-/// The Fibonacci number of the argument, from the two at half of it.
+/// Returns the Fibonacci number of the argument, computed from the two at half of it.
 fn doubled(argument: u64, low: u64, high: u64) -> u64
     requires two { 2 ≤ argument }
     requires low { low ≡ fibonacci_word ((argument - 1) / 2) }
@@ -137,7 +137,7 @@ fn doubled(argument: u64, low: u64, high: u64) -> u64
     sum_of_products(high.wrapping_add(low), high, high, low)
 }
 
-/// a b + c d, modulo 2^64.
+/// Returns a b + c d, modulo 2^64.
 fn sum_of_products(a: u64, b: u64, c: u64, d: u64) -> u64
     ensures { result ≡ (a * b + c * d) % 2 ^ 64 }
 {

@@ -21,7 +21,7 @@ impl<A: Allocator + Copy> LineCommand for Memo<A> {
 
     ghost spells = { Writes 10 20 };
 
-    /// A line is 1 to 20 decimal digits, of a number below 2^64.
+    /// Parses a line: 1 to 20 decimal digits of a number below 2^64.
     fn parse(text: &[u8]) -> Option<u64> {
         parse_decimal(text)
     }
@@ -42,8 +42,8 @@ impl<A: Allocator + Copy> LineCommand for Memo<A> {
     }
 }
 
-/// Answers the lines of the input, each before more input is read, and returns the status. The message of a fault goes to
-/// `messages`; the answers to the lines before it are written.
+/// Answers the lines of the input, each before it reads more input, and returns the exit status. If there is a fault, it writes
+/// the message to `messages`, after the answers to the lines before it.
 pub fn run_memo<A: Allocator + Copy, I: Read + Drop, O: Write, M: Write>(
     alloc: A,
     input: I,

@@ -1,4 +1,4 @@
-//! The words that a program was called with.
+//! The arguments that a program was called with.
 ghost use Rattle.std.specs.Prelude.{◌≡◌, ◌⊎◌, IfErr, IsOk, OnErr};
 
 use crate::faults::{RunFault, StreamFault};
@@ -7,7 +7,7 @@ use std::env;
 use std::io::{ErrorKind, Write};
 use std::rt::Env;
 
-/// The words after the program's name. None: one of them is no text.
+/// Returns the arguments after the program's name, or `None` if one of them is not UTF-8.
 pub fn read_words<E: Env + Alloc>(env: &E) -> Result<Option<Vec<String<E::A>, E::A>>, StreamFault>
     ensures { OnErr result (result ≡ Err StreamFault.NoMemory) }
 {
@@ -22,8 +22,8 @@ pub fn read_words<E: Env + Alloc>(env: &E) -> Result<Option<Vec<String<E::A>, E:
     }
 }
 
-/// The words after the program's name. Err: the status by which the program ends without them, once its message is written:
-/// of `usage` where one of them is no text.
+/// Returns the arguments after the program's name. An `Err` is the exit status with which the program ends without them, after
+/// its message is written. If an argument is not UTF-8, that is the status of `usage`.
 pub fn words_or_status<E: Env + Alloc, F: RunFault, M: Write>(
     env: &E,
     usage: &F,

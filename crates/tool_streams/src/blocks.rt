@@ -1,10 +1,10 @@
 //! The blocks in which input is read and output is written.
 ghost use Rattle.std.specs.Prelude.{◌≡◌, length};
 
-/// The bytes of a block.
+/// The number of bytes of a block.
 pub const BLOCK: usize = 16384;
 
-/// A block of zeros.
+/// Returns a block of zeros.
 pub fn empty_block() -> [u8; BLOCK]
     ensures { length result ≡ BLOCK }
 {

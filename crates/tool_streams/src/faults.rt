@@ -1,20 +1,20 @@
-//! What ends a run over streams before its input does.
+//! The faults that end a run over streams before its input does.
 ghost use Rattle.std.specs.Prelude.{◌≡◌, ℕ, Some};
 ghost use Rattle.tool_streams.specs.Faults.{stream_message, line_message, line_status};
 ghost use Rattle.tool_streams.specs.declared.faults.LineFault.{LineFault as LineFaultOf};
 
 use std::fmt;
 
-/// Why a run of a program ended before its input did. It is printed as its message.
+/// The reason for which a run of a program ended before its input did. It is printed as its message.
 pub trait RunFault: fmt::Display {
     ghost status_of: { Self → ℕ };
 
-    /// The status that the program ends with.
+    /// Returns the exit status of the program.
     fn status(&self) -> u8
         ensures { result ≡ status_of self.now };
 }
 
-/// What the system refused.
+/// A request that the system refused.
 #[derive(Clone, Copy, Debug, PartialEq, Eq)]
 pub enum StreamFault {
     ReadFailed,
@@ -43,10 +43,10 @@ impl RunFault for StreamFault {
     }
 }
 
-/// Why a run over an input of lines ended before the input did.
+/// The reason for which a run over an input of lines ended before the input did.
 #[derive(Clone, Copy, Debug, PartialEq, Eq)]
 pub enum LineFault {
-    /// This line, counted from 1, is spelled in no way that the command knows.
+    /// This line, counted from 1, is none that the command knows.
     BadLine(u64),
     Stream(StreamFault),
 }

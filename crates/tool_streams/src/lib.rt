@@ -1,6 +1,6 @@
-//! Input of lines and output in blocks, over readers and writers: what the programs over text share.
+//! Input of lines and output in blocks, over readers and writers, for the programs over text.
 //!
-//! Output is kept in a block, which is flushed before a read that may wait.
+//! Output is held back in a block, which is flushed before a read that may wait.
 #![tactic(auto)]
 
 pub mod arguments;

@@ -11,23 +11,23 @@ use std::io::{Read, Write};
 pub trait LineCommand {
     ghost use Rattle.std.specs.Prelude.{List, IfSome, IfNone};
 
-    /// What a line asks.
+    /// The request of a line.
     type Line: Copy;
 
-    /// This text spells the line.
+    /// States that this text spells the line.
     ghost spells: { List ℕ → Self.Line → Type 0 };
 
-    /// Reads a whole line, without its line break. `None` is a line that is spelled in no way that the command knows.
+    /// Parses a whole line, without its line break. Returns `None` for a line that the command doesn't know.
     fn parse(text: &[u8]) -> Option<Self::Line>
         ensures spelled { IfSome result (spells text.now) }
         ensures bad { IfNone result ((line : Self.Line) → ¬ spells text.now line) };
 
-    /// Does what the line asks, and writes its reply on a line of its own. It reads nothing.
+    /// Runs the line, and writes its reply on a line of its own. Reads nothing.
     fn take<W: Write>(&mut self, line: Self::Line, output: &mut W) -> Result<(), StreamFault>
         ensures fault { IfErr result (λ fault. fault ≢ StreamFault.ReadFailed) };
 }
 
-/// Takes the lines of the input, one by one, until one is spelled in no way or the input ends. Every reply is sent before more
+/// Takes the lines of the input, one by one, until one can't be parsed or the input ends. Every reply is flushed before more
 /// input is read.
 pub fn take_lines<C: LineCommand, I: Read, O: Write>(
     command: &mut C,

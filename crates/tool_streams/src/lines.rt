@@ -1,4 +1,4 @@
-//! The lines of a reader, however long each is.
+//! The lines of a reader, of any length.
 ghost use Rattle.std.specs.Prelude.{◌≡◌, IfOk};
 ghost use Rattle.std.specs.Io.KnownBytes.{Keeps};
 ghost use Rattle.tool_streams.specs.Lines.{lines_left, ReadsLine};
@@ -7,7 +7,7 @@ use crate::faults::StreamFault;
 use std::alloc::Allocator;
 use std::io::{BufRead, BufReader, ErrorKind, Read, Write};
 
-/// The bytes that are asked of the input at once.
+/// The number of bytes that are read from the input at once.
 const BLOCK: usize = 65536;
 
 /// The lines of a reader: its bytes between line breaks (0A). A last part without a line break is a line too, unless it is empty.
@@ -15,12 +15,12 @@ const BLOCK: usize = 65536;
 pub struct Lines<R: Read, A: Allocator + Copy> {
     reader: BufReader<R, A>,
     line: Vec<u8, A>,
-    /// Whether the reader's end was seen. It is not asked again then.
+    /// True after the reader's end was seen. The reader is not called again then.
     at_end: bool,
 }
 
 impl<R: Read + Drop, A: Allocator + Copy> Lines<R, A> {
-    /// The lines of this reader, of which nothing is read yet.
+    /// Makes the lines of this reader, of which nothing is read yet. Allocates a buffer.
     pub fn new(alloc: A, reader: R) -> Result<Lines<R, A>, StreamFault>
         ensures { IfOk result (λ lines. Keeps (R.remaining reader) (lines_left R.remaining lines)) }
     {
@@ -34,8 +34,8 @@ impl<R: Read + Drop, A: Allocator + Copy> Lines<R, A> {
         }
     }
 
-    /// Reads the next line, which `line` then shows, and says whether there was one. Where no whole line is there yet, the output
-    /// is flushed first, since a read may wait. A reader that has said that nothing follows is not asked again.
+    /// Reads the next line, which `line` then returns, and returns whether there was one. If no whole line is buffered, it
+    /// flushes the output first, since a read may wait. After the reader has reported its end it is not called again.
     pub fn read_line<W: Write>(&mut self, output: &mut W) -> Result<bool, StreamFault>
         ensures reads { IfOk result (λ found. ReadsLine (lines_left R.remaining self.old)
             (lines_left R.remaining self.new) self.new.line.items found) }
@@ -68,7 +68,7 @@ impl<R: Read + Drop, A: Allocator + Copy> Lines<R, A> {
         Ok(true)
     }
 
-    /// The line that was read last, without its line break.
+    /// Returns the line that was read last, without its line break.
     pub fn line(&self) -> &[u8]
         ensures { result.now ≡ self.now.line.items }
     {

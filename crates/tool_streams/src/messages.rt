@@ -6,7 +6,7 @@ use crate::faults::RunFault;
 use std::io;
 use std::io::Write;
 
-/// Writes the message of the fault, if it can be written, and answers the status.
+/// Writes the message of the fault, if it can be written, and returns the exit status.
 pub fn end_with<F: RunFault, M: Write>(fault: &F, messages: &mut M) -> u8
     ensures { result ≡ F.status_of fault.now }
 {

@@ -1,8 +1,8 @@
-//! How numbers are spelled.
+//! The spelling of numbers.
 ghost use Rattle.std.specs.Prelude.{◌≤◌, ℕ, IfSome, IfNone};
 ghost use Rattle.tool_streams.specs.Numbers.{Writes, SpellsNumber};
 
-/// Reads a number: 1 to 20 decimal digits, or `0x` and 1 to 16 hexadecimal digits of either case.
+/// Parses a number: 1 to 20 decimal digits, or `0x` and 1 to 16 hexadecimal digits of either case.
 pub fn parse_number(text: &[u8]) -> Option<u64>
     ensures spelled { IfSome result (SpellsNumber text.now) }
     ensures bad { IfNone result ((n : ℕ) → ¬ SpellsNumber text.now n) }
@@ -13,7 +13,7 @@ pub fn parse_number(text: &[u8]) -> Option<u64>
     }
 }
 
-/// Reads 1 to 20 decimal digits of a number below 2^64.
+/// Parses 1 to 20 decimal digits of a number below 2^64.
 pub fn parse_decimal(text: &[u8]) -> Option<u64>
     ensures written { IfSome result (Writes 10 20 text.now) }
     ensures bad { IfNone result ((n : ℕ) → ¬ Writes 10 20 text.now n) }
@@ -21,7 +21,7 @@ pub fn parse_decimal(text: &[u8]) -> Option<u64>
     parse_digits(text, 10, 20)
 }
 
-/// Reads at most so many digits of the radix.
+/// Parses 1 to `most` digits of the radix.
 fn parse_digits(digits: &[u8], radix: u32, most: usize) -> Option<u64>
     requires two { 2 ≤ radix }
     requires letters { radix ≤ 36 }

@@ -1,4 +1,4 @@
-//! Output that is kept in a block until it is sent.
+//! Output that is held back in a block until it is flushed.
 ghost use Rattle.std.specs.Prelude.{◌≡◌, ◌≤◌, None, IfErr};
 ghost use Rattle.std.specs.Io.KnownBytes.{Keeps, WriteAppends};
 ghost use Rattle.std.specs.Io.{WritesAtMost};
@@ -8,13 +8,13 @@ use crate::blocks::{BLOCK, empty_block};
 use std::io;
 use std::io::{ErrorKind, Write};
 
-/// A writer whose bytes are kept until `flush` is called or the block is full.
+/// A writer that holds back its bytes until `flush` is called or the block is full.
 #[derive(Drop)]
 pub struct Output<W> {
     writer: W,
     block: [u8; BLOCK],
     kept: usize,
-    /// Whether a write failed since nobody reads any more.
+    /// True after a write failed because the reader has closed the output.
     reader_gone: bool,
     ghost in_block: { kept ≤ BLOCK },
 }
@@ -22,7 +22,7 @@ pub struct Output<W> {
 impl<W: Write> Output<W> {
     ghost use Rattle.tool_streams.specs.Output.{KeepsNothing};
 
-    /// Output to this writer, with nothing kept yet.
+    /// Makes an output to this writer, with nothing held back yet.
     pub fn new(writer: W) -> Output<W>
         ensures { KeepsNothing result }
     {
@@ -34,14 +34,15 @@ impl<W: Write> Output<W> {
         }
     }
 
-    /// Whether a write has failed since whoever read the output has gone, as the next program of a pipe.
+    /// Returns whether a write has failed because the reader of the output, such as the next program of a pipe, has closed it.
     pub fn is_reader_gone(&self) -> bool
         ensures { result ≡ self.now.reader_gone }
     {
         self.reader_gone
     }
 
-    /// Writes what is kept, and keeps nothing then, whatever the writer answers. After a failure some of it may have been written.
+    /// Writes what is held back. Nothing is held back afterwards, whatever the writer returns. After a failure some of it may
+    /// have been written.
     fn send(&mut self) -> io::Result<()>
         ensures kept { KeepsNothing self.new }
     {
@@ -51,7 +52,7 @@ impl<W: Write> Output<W> {
         self.note(sent)
     }
 
-    /// Notes why the writer has failed, if it has.
+    /// Records the reason if the writer has failed, and returns its result.
     fn note(&mut self, done: io::Result<()>) -> io::Result<()>
         ensures { self.new.kept ≡ self.old.kept }
     {
@@ -65,7 +66,7 @@ impl<W: Write> Output<W> {
 impl<W: Write> Write for Output<W> {
     ghost use Rattle.tool_streams.specs.Output.{KeepsNothing};
 
-    /// Keeps as many of the bytes as the block has room for, and sends a full block first. Where that fails, nothing is kept.
+    /// Holds back as many of the bytes as the block has room for; writes a full block first. If that fails, nothing is held back.
     fn write(&mut self, bytes: &[u8]) -> io::Result<usize>
         ensures bound { WritesAtMost result bytes.now }
         ensures bytes { WriteAppends None None result bytes.now }
@@ -81,7 +82,8 @@ impl<W: Write> Write for Output<W> {
         Ok(taken)
     }
 
-    /// Sends what is kept on, and makes no call where nothing is. Nothing is kept then, whatever the writer answers.
+    /// Writes what is held back and flushes the writer; calls neither if nothing is. Nothing is held back afterwards, whatever
+    /// the writer returns.
     fn flush(&mut self) -> io::Result<()>
         ensures bytes { Keeps None None }
         ensures kept { KeepsNothing self.new }

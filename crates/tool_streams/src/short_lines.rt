@@ -1,4 +1,4 @@
-//! The lines of a reader, none of which is longer than a block. They take no memory.
+//! The lines of a reader, none longer than a block. They need no heap memory.
 ghost use Rattle.std.specs.Prelude.{◌≢◌, ◌≤◌, ◌<◌, IfSome, IfErr};
 ghost use Rattle.tool_streams.specs.declared.blocks.TheConstants.{BLOCK};
 
@@ -22,15 +22,15 @@ pub enum Next<'a> {
 pub struct ShortLines<R> {
     reader: R,
     block: [u8; BLOCK],
-    /// Where the line that comes next begins.
+    /// The index at which the next line begins.
     start: usize,
-    /// No line break lies between `start` and here.
+    /// No line break lies between `start` and this index.
     searched: usize,
-    /// Where what was read ends.
+    /// The index at which the bytes read so far end.
     end: usize,
-    /// Whether the line that comes next has lost its first bytes.
+    /// True if the next line has lost its first bytes.
     too_long: bool,
-    /// Whether the reader said that nothing follows. It is not asked again then.
+    /// True after the reader has reported its end. The reader is not called again then.
     at_end: bool,
     ghost begun: { start ≤ searched },
     ghost found: { searched ≤ end },
@@ -38,7 +38,7 @@ pub struct ShortLines<R> {
 }
 
 impl<R: Read> ShortLines<R> {
-    /// The lines of this reader, of which nothing is read yet.
+    /// Makes the lines of this reader, of which nothing is read yet.
     pub fn new(reader: R) -> ShortLines<R> {
         ShortLines {
             reader,
@@ -51,7 +51,7 @@ impl<R: Read> ShortLines<R> {
         }
     }
 
-    /// Takes the next line. The output is flushed before each read, since a read may wait.
+    /// Returns the next line. Flushes the output before each read, since a read may wait.
     pub fn next_line<W: Write>(&mut self, output: &mut W) -> Result<Next<'_>, StreamFault>
         ensures memory { IfErr result (λ fault. fault ≢ StreamFault.NoMemory) }
     {
@@ -72,7 +72,7 @@ impl<R: Read> ShortLines<R> {
         Err(StreamFault::ReadFailed)
     }
 
-    /// Where the next line break lies.
+    /// Returns the index of the next line break.
     fn find_break(&mut self) -> Option<usize>
         ensures { IfSome result (λ at. (self.new.start ≤ at) × (at < self.new.end)) }
     {
@@ -88,7 +88,7 @@ impl<R: Read> ShortLines<R> {
         }
     }
 
-    /// Reads more behind what is there. An interrupted read is no failure: it is tried again.
+    /// Reads more bytes after those that are there. An interrupted read is no failure: the caller reads again.
     fn refill(&mut self) -> io::Result<()> {
         self.make_room();
         match self.reader.read(&mut self.block[self.end..]) {
@@ -100,7 +100,7 @@ impl<R: Read> ShortLines<R> {
         Ok(())
     }
 
-    /// Moves the line that was begun to the front. Where it fills the block, it is given up as too long.
+    /// Moves the line that was begun to the front. If it fills the block, discards it as too long.
     fn make_room(&mut self) {
         if self.start == 0 && self.end == BLOCK {
             self.too_long = true;
@@ -115,7 +115,7 @@ impl<R: Read> ShortLines<R> {
         self.end = rest;
     }
 
-    /// The line from `start` to its line break.
+    /// Returns the line from `start` to its line break.
     fn ended_line(&mut self, start: usize, line_break: usize) -> Next<'_>
         requires order { start ≤ line_break }
         requires in_block { line_break ≤ BLOCK }
@@ -128,7 +128,7 @@ impl<R: Read> ShortLines<R> {
         Next::Line(&lines.block[start..line_break])
     }
 
-    /// What is left at the end of the input.
+    /// Returns what is left at the end of the input.
     fn last_line(&mut self) -> Next<'_> {
         let start = self.start;
         self.start = self.end;

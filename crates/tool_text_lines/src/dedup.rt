@@ -1,4 +1,4 @@
-//! What the tool `dedup` does with a line: it writes each different one once, as it comes.
+//! The tool `dedup`: it writes each different line once, at its first appearance.
 ghost use Rattle.std.specs.Prelude.{OnOk};
 ghost use Rattle.std.specs.Io.KnownBytes.{Appends};
 ghost use Rattle.tool_text_lines.specs.Firsts.{with_break};
@@ -18,7 +18,7 @@ impl<A: Allocator + Copy> LineTool for Seen<'_, A> {
 
     ghost written = { deduped };
 
-    /// Writes the line, unless it is equal to one before it.
+    /// Writes the line, unless it is equal to an earlier one.
     fn take_line<W: Write>(&mut self, line: TextLine<'_>, output: &mut W) -> Result<(), Fault> {
         match self.seen_before(line.bytes) {
             Ok(true) => Ok(()),

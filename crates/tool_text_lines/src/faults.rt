@@ -1,4 +1,4 @@
-//! What ends a tool before its input does.
+//! The faults that end a tool before its input does.
 ghost use Rattle.std.specs.Prelude.{◌≡◌, Some};
 ghost use Rattle.tool_text_lines.specs.Faults.{message_of, status_of, is_of_text};
 ghost use Rattle.tool_text_lines.specs.declared.faults.Fault.{Fault as FaultOf};
@@ -6,24 +6,24 @@ ghost use Rattle.tool_text_lines.specs.declared.faults.Fault.{Fault as FaultOf};
 use std::fmt;
 use tool_streams::faults::{RunFault, StreamFault};
 
-/// Why a tool ended. It is printed as its message.
+/// The reason for which a tool ended. It is printed as its message.
 #[derive(Clone, Copy)]
 pub enum Fault {
     /// This line, counted from 1, is not UTF-8.
     NotUtf8(u64),
-    /// All 2^32 - 1 numbers are given, or one word stood 2^64 - 1 times.
+    /// All 2^32 - 1 numbers are taken, or one word occurred 2^64 - 1 times.
     TooManyWords,
     /// There is no file of this name.
     NoSuchFile,
     /// The file of this name can't be opened.
     NotOpened,
-    /// Whoever read the output has gone. It has no message.
+    /// The reader of the output has closed it. No message is written.
     ReaderGone,
     Stream(StreamFault),
 }
 
 impl Fault {
-    /// Whether the text that is read is to blame, which is then named.
+    /// Returns whether the fault lies in the text that was read. Then its message names the text.
     pub fn is_of_text(self) -> bool
         ensures { result ≡ is_of_text self }
     {

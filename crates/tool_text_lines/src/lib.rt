@@ -1,6 +1,7 @@
-//! Two tools over text: `words` counts the words of a text, `dedup` gives each different line once. The program `tool_text` runs either.
+//! Two tools over text: `words` counts the words of a text, and `dedup` writes each different line once. The program `tool_text`
+//! runs either.
 //!
-//! Each is a function over a reader and a writer, with what it keeps in memory in a type of its own.
+//! Each is a function over a reader and a writer. What it stores in memory has a type of its own.
 #![tactic(auto)]
 
 pub mod dedup;

@@ -1,4 +1,4 @@
-//! A tool that goes over the lines of texts, and the loops over them.
+//! A tool that reads the lines of texts, and the loops over them.
 ghost use Rattle.std.specs.Prelude.{OnOk, IfSome};
 ghost use Rattle.std.specs.List.{flat_map};
 ghost use Rattle.tool_text_lines.specs.Pieces.{lines_of};
@@ -14,9 +14,9 @@ use tool_streams::lines::Lines;
 /// A line of a text.
 #[derive(Clone, Copy)]
 pub struct TextLine<'a> {
-    /// Its bytes, without the line break.
+    /// The bytes of the line, without the line break.
     pub bytes: &'a [u8],
-    /// Which line of its text it is, counted from 1.
+    /// The number of the line in its text, counted from 1.
     pub number: u64,
 }
 
@@ -24,10 +24,10 @@ pub struct TextLine<'a> {
 pub trait LineTool {
     ghost use Rattle.std.specs.Prelude.{ℕ, List, ◌∷◌, []};
 
-    /// These lines were taken.
+    /// States that these lines were taken.
     ghost has_taken: { Self → List (List ℕ) → Type 0 };
 
-    /// What is written of lines while they are taken.
+    /// The bytes that are written while these lines are taken.
     ghost written: { List (List ℕ) → List ℕ };
 
     /// Takes the line.
@@ -36,7 +36,7 @@ pub trait LineTool {
             self.new (W.contents output.old) (W.contents output.new)) };
 }
 
-/// Takes each line of the texts. Whatever is written of the lines that are there is flushed before more input is waited for.
+/// Takes each line of the texts. It flushes what the lines so far have written before it waits for more input.
 pub fn take_texts<A: Allocator + Copy, L: LineTool, T: Texts, O: Write>(
     alloc: A,
     tool: &mut L,

@@ -1,4 +1,4 @@
-//! The program, over its words, files and streams.
+//! The program, over its arguments, files and streams.
 ghost use Rattle.std.specs.Prelude.{◌≡◌, ◌⊎◌, ◌++◌, ℕ, List, map, codes, OnOk, IfSome};
 ghost use Rattle.std.specs.Io.KnownBytes.{Appends};
 ghost use Rattle.tool_text_lines.specs.Tools.{AsksTool, AsksHelp, help, written_by};
@@ -20,7 +20,8 @@ use tool_streams::faults::StreamFault;
 use tool_streams::messages::end_with;
 use tool_streams::output::Output;
 
-/// Runs what the words of the environment ask for, and answers the status: see `run_over`. Words that are no text ask for nothing.
+/// Runs the tool that the arguments in the environment name, and returns the exit status; see `run_over`. Arguments that are not
+/// UTF-8 name no tool.
 pub fn run_program<
     E: Env + Alloc,
     F: TextFiles,
@@ -35,10 +36,15 @@ pub fn run_program<
     }
 }
 
-/// Runs what the words ask for, a tool over texts or help, and answers the status: 0 where all is written, 2 for words that ask for
-/// nothing and for a line that is wrong, 1 for what the system refused. Where the words ask for nothing, nothing is read, and only the
-/// usage is written. The message of a fault goes to `messages`, on a line of its own behind the tool's name; one that can't be written
-/// is dropped. Where whoever read the output has gone there is no message.
+/// Runs the tool that the arguments name, or writes help, and returns the exit status.
+///
+/// - 0: everything was written.
+/// - 2: the arguments name nothing, or a line is wrong.
+/// - 1: the system refused something.
+///
+/// If the arguments name nothing, nothing is read and only the usage is written. The message of a fault goes to `messages`, on a
+/// line of its own, after the tool's name. A message that can't be written is dropped. If the reader of the output has closed it
+/// there is no message.
 pub fn run_over<F: TextFiles, A: Allocator + Copy, S: AsStr, I: Read + Drop, O: Write, M: Write>(
     files: &F,
     alloc: A,
@@ -66,7 +72,7 @@ pub fn run_over<F: TextFiles, A: Allocator + Copy, S: AsStr, I: Read + Drop, O: 
     }
 }
 
-/// Writes what the program says of itself, and returns the status.
+/// Writes the help text, and returns the exit status.
 fn write_help<O: Write, M: Write>(output: &mut O, messages: &mut M) -> u8
     ensures status { (result ≡ 0) ⊎ (result ≡ 1) }
     ensures well { result ≡ 0 → messages.new ≡ messages.old }
@@ -79,7 +85,7 @@ fn write_help<O: Write, M: Write>(output: &mut O, messages: &mut M) -> u8
     }
 }
 
-/// Runs the tool over the texts, writes the message of a fault, and answers the status.
+/// Runs the tool over the texts, writes the message of a fault, and returns the exit status.
 fn run_over_texts<A: Allocator + Copy, T: Texts + Drop, O: Write, M: Write>(
     tool: Tool,
     alloc: A,
@@ -100,7 +106,7 @@ fn run_over_texts<A: Allocator + Copy, T: Texts + Drop, O: Write, M: Write>(
     }
 }
 
-/// The name of the text that was read last, if it is to blame for the fault.
+/// Returns the name of the text that was read last, if the fault lies in it.
 fn blamed(name: Option<&str>, fault: Fault) -> Option<&str> {
     if fault.is_of_text() {
         return name;
@@ -108,7 +114,7 @@ fn blamed(name: Option<&str>, fault: Fault) -> Option<&str> {
     None
 }
 
-/// Runs the tool over the texts. What was kept of the output is sent before a fault too.
+/// Runs the tool over the texts through a buffered output. Buffered bytes are written before a fault is returned, too.
 fn run_buffered<A: Allocator + Copy, T: Texts, O: Write>(
     tool: Tool,
     alloc: A,
@@ -125,10 +131,11 @@ fn run_buffered<A: Allocator + Copy, T: Texts, O: Write>(
     ended
 }
 
-/// Runs the tool over the texts: `dedup` writes each line that is not equal to one before it, with a line break, as it comes. `words`
-/// reads the texts to their ends, and then writes each different word of them with its number and its count, in the order of first
-/// appearance; where a line is not UTF-8 it writes nothing. Whatever is to be written of the lines that are there is flushed before more
-/// input is waited for.
+/// Runs the tool over the texts.
+///
+/// `dedup` writes each line that is not equal to an earlier one, with a line break, as it comes. `words` reads the texts to their
+/// ends, and then writes each different word with its number and its count, in the order of first appearance. If a line is not
+/// UTF-8, `words` writes nothing. What the lines so far have to write is flushed before more input is waited for.
 pub fn run_tool<A: Allocator + Copy, T: Texts, O: Write>(
     tool: Tool,
     alloc: A,

@@ -10,7 +10,7 @@ use std::marker::Model;
 use table_generations::atomic_value::{InPlace, Law};
 use table_held::raw::HeldRawTable;
 
-/// Lines, each kept once, in an arena: no line has a block of the heap to itself.
+/// A set of lines, each stored once in an arena: no line has a heap block of its own.
 #[derive(Drop)]
 pub struct Seen<'a, A: Allocator + Copy = Global> {
     lines: HeldRawTable<InPlace<&'a [u8]>, &'a Bump<A>>,
@@ -32,7 +32,7 @@ impl<'a, A: Allocator + Copy> Model for Seen<'a, A> {
 }
 
 impl<'a, A: Allocator + Copy> Seen<'a, A> {
-    /// No line was seen yet. It takes no memory.
+    /// Makes an empty set. Does not allocate.
     pub fn new(arena: &'a Bump<A>) -> Self
         ensures { HoldsLines (λ v. v.0) (λ line. line.now) result [] }
     {
@@ -42,9 +42,9 @@ impl<'a, A: Allocator + Copy> Seen<'a, A> {
         }
     }
 
-    /// Whether the line is one of those before. It is one of them from now on. A known line takes no memory.
+    /// Returns whether the line was in the set, and adds it. A known line needs no memory.
     ///
-    /// An Err: the line is new, and memory was refused. The lines are those before.
+    /// `Err`: the line is new, and memory was refused. The set holds the same lines as before.
     pub fn seen_before(&mut self, line: &[u8]) -> Result<bool, AllocError>
         ensures sees { IfOk result (λ seen. SeesLine (λ v. v.0) (λ line. line.now) self.old line.now
             seen self.new) }
@@ -59,7 +59,7 @@ impl<'a, A: Allocator + Copy> Seen<'a, A> {
         Ok(false)
     }
 
-    /// Whether the line, whose hash this is, was seen.
+    /// Returns whether the line, whose hash is `hash`, is in the set.
     fn knows(&self, hash: u64, line: &[u8]) -> bool
         requires { hash ≡ mixed_hash line.now }
         ensures { (lines : List (List ℕ)) → HoldsLines (λ v. v.0) (λ line. line.now) self.now lines
@@ -74,7 +74,7 @@ impl<'a, A: Allocator + Copy> Seen<'a, A> {
         }
     }
 
-    /// Keeps a line that was not seen. An Err is refused memory, and the lines are those before.
+    /// Adds a line that is not in the set. An `Err` means that memory was refused; the set holds the same lines as before.
     fn keep(&mut self, hash: u64, line: &[u8]) -> Result<(), AllocError>
         requires hash { hash ≡ mixed_hash line.now }
         ensures kept { OnOk result ((lines : List (List ℕ))
@@ -98,14 +98,14 @@ impl<'a, A: Allocator + Copy> Seen<'a, A> {
     }
 }
 
-/// A copy of the line in the arena.
+/// Copies the line into the arena.
 fn kept_in<'a, A: Allocator>(arena: &'a Bump<A>, line: &[u8]) -> Result<&'a [u8], AllocError>
     ensures { IfOk result (λ kept. kept.now ≡ line.now) }
 {
     Ok(arena.try_alloc_slice_copy(line)?)
 }
 
-/// Lines are the same if their bytes are, and the hash of a line is the mixed hash of its bytes.
+/// The equality and hash of lines: two are equal if their bytes are, and the hash is the mixed hash of the bytes.
 pub struct LineLaw;
 
 impl<'a> Law<&'a [u8]> for LineLaw {

@@ -8,31 +8,31 @@ use std::fs::{File, Files};
 use std::io;
 use std::io::{ErrorKind, Read};
 
-/// Texts, one after another.
+/// A sequence of texts.
 pub trait Texts {
-    /// What reads one of them.
+    /// The reader of one of the texts.
     type Text: Read + Drop;
 
-    /// The bytes of each text that is left, where they are known.
+    /// The bytes of each text that is left, if they are known.
     ghost left: { Self → Option (List (List ℕ)) } = { λ _. None };
 
-    /// Opens the next text. None: there is no other.
+    /// Opens the next text. Returns `None` if there is no other.
     fn next_text(&mut self) -> Result<Option<Self::Text>, Fault>
         ensures { IfOk result (λ text. GivesText (left self.old) (left self.new)
             (option_map Self.Text.remaining text)) };
 
-    /// The name of the text that was asked for last, if it has one.
+    /// Returns the name of the text that was opened last, if it has one.
     fn name(&self) -> Option<&str>;
 }
 
-/// One text without a name, as standard input.
+/// One text without a name, such as standard input.
 #[derive(Drop)]
 pub struct OneText<I> {
     text: Option<I>,
 }
 
 impl<I> OneText<I> {
-    /// This text, which is not read yet.
+    /// Makes a sequence of this text, which is not read yet.
     pub fn new(text: I) -> OneText<I>
         ensures { result.text ≡ Some text }
     {
@@ -54,9 +54,9 @@ impl<I: Read + Drop> Texts for OneText<I> {
     }
 }
 
-/// Files by their names, to be read.
+/// A source of files by their names.
 pub trait TextFiles {
-    /// What reads a file.
+    /// The reader of a file.
     type File: Read + Drop;
 
     /// Opens the file of this name.
@@ -77,19 +77,19 @@ impl<R: Files> TextFiles for SystemFiles<'_, R> {
     }
 }
 
-/// The texts of these names, in their order: `-` is standard input, every other one a file.
+/// The texts of these names, in order. `-` is standard input, and every other name is that of a file.
 #[derive(Drop)]
 pub struct NamedTexts<'a, F, S, I> {
     files: &'a F,
     names: &'a [S],
-    /// How many names were asked for.
+    /// The number of names that were asked for.
     asked: usize,
-    /// Standard input, until it is named.
+    /// Standard input, until its name was asked for.
     input: Option<I>,
 }
 
 impl<'a, F, S, I> NamedTexts<'a, F, S, I> {
-    /// The texts of these names, of which none is opened yet.
+    /// Makes a sequence of the texts of these names, none of which is opened yet.
     pub fn new(files: &'a F, names: &'a [S], input: I) -> NamedTexts<'a, F, S, I> {
         NamedTexts {
             files,
@@ -100,7 +100,7 @@ impl<'a, F, S, I> NamedTexts<'a, F, S, I> {
     }
 }
 
-/// What reads a named text. Standard input that was named before has nothing left.
+/// The reader of a named text. If standard input is named a second time it is empty.
 #[derive(Drop)]
 pub enum NamedText<I, F> {
     Input(Option<I>),

@@ -1,4 +1,4 @@
-//! What is asked for, and the fault that it ends by.
+//! The request of the arguments, and the fault by which a tool ends.
 ghost use Rattle.std.specs.Prelude.{◌≡◌, ◌↔◌, List, ℕ, map, IfSome, IfNone, IsTrue, Some};
 ghost use Rattle.tool_text_lines.specs.Faults.{status_of};
 ghost use Rattle.tool_text_lines.specs.Tools.{name_of, Asks, AsksTool, AsksHelp, IsHelp, names_in, usage, help};
@@ -16,15 +16,15 @@ pub enum Tool {
     Dedup,
 }
 
-/// What the words after the program's name ask for.
+/// The request that the arguments after the program's name make.
 pub enum Request<'a, S> {
-    /// What the program says of itself.
+    /// Write the help text.
     Help,
-    /// This tool over the texts of these names, or over standard input where there is none.
+    /// Run this tool over the texts of these names, or over standard input if there are none.
     Run { tool: Tool, names: &'a [S] },
 }
 
-/// Reads the words after the program's name. `None` is for words that ask for nothing.
+/// Parses the arguments after the program's name. Returns `None` if they make no request.
 pub fn parse_request<S: AsStr>(words: &[S]) -> Option<Request<'_, S>>
     ensures asked { IfSome result (Asks (map S.text) (map S.text words.now)) }
     ensures no_tool { IfNone result ((tool : ToolOf) (names : List (List ℕ))
@@ -45,7 +45,7 @@ pub fn parse_request<S: AsStr>(words: &[S]) -> Option<Request<'_, S>>
     Some(Request::Run { tool, names })
 }
 
-/// Returns whether these words are `--help` or `-h` alone.
+/// Returns whether the arguments are just `--help` or just `-h`.
 fn is_help<S: AsStr>(words: &[S]) -> bool
     ensures { IsTrue result ↔ IsHelp (map S.text words.now) }
 {
@@ -58,7 +58,7 @@ fn is_help<S: AsStr>(words: &[S]) -> bool
     }
 }
 
-/// The tool of this name.
+/// Returns the tool of this name.
 pub fn parse_tool(name: &str) -> Option<Tool>
     ensures named { IfSome result (λ tool. name.now ≡ name_of tool) }
     ensures wrong { IfNone result ((tool : ToolOf) → ¬ (name.now ≡ name_of tool)) }
@@ -70,7 +70,7 @@ pub fn parse_tool(name: &str) -> Option<Tool>
     }
 }
 
-/// The names of texts among the words after a tool's name: all of them, but for a first `--`.
+/// Returns the names of texts among the arguments after a tool's name: all of them, without a first `--`.
 fn parse_names<S: AsStr>(words: &[S]) -> &[S]
     ensures { map S.text result.now ≡ names_in (map S.text words.now) }
 {
@@ -91,7 +91,7 @@ impl fmt::Display for Tool {
     }
 }
 
-/// A fault of a tool. It is printed behind the tool's name and the name of the text, if that is to blame and has one.
+/// A fault of a tool. It is printed after the tool's name and, if the fault lies in a text with a name, that name.
 #[derive(Clone, Copy)]
 pub(crate) struct ToolFault<'a> {
     pub(crate) tool: Tool,
@@ -116,7 +116,7 @@ impl RunFault for ToolFault<'_> {
     }
 }
 
-/// The words ask for nothing.
+/// The fault of arguments that make no request.
 #[derive(Clone, Copy)]
 pub(crate) struct Usage;
 
@@ -139,7 +139,7 @@ impl RunFault for Usage {
     }
 }
 
-/// What the program says of itself, for who asks.
+/// The help text.
 #[derive(Clone, Copy)]
 pub(crate) struct Help;
 

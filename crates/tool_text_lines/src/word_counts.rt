@@ -13,8 +13,8 @@ use std::io::Write;
 use std::num::NonZeroU32;
 use tool_streams::faults::StreamFault;
 
-/// Different words, numbered from 1 on in the order of first appearance, each with how often it stood. They are hashed by `Mixed`,
-/// since others write them. The words lie in an arena: none has a block of the heap to itself.
+/// Different words, numbered from 1 on in the order of first appearance, each with the number of its occurrences. They are hashed
+/// by `Mixed`, since others write them. The words lie in an arena: none has a heap block of its own.
 #[derive(Drop)]
 pub struct WordCounts<'a, A: Allocator + Copy = Global> {
     interner: InternerOf<&'a str, Mixed, A, &'a Bump<A>>,
@@ -24,7 +24,7 @@ pub struct WordCounts<'a, A: Allocator + Copy = Global> {
 }
 
 impl<'a, A: Allocator + Copy> WordCounts<'a, A> {
-    /// No word is counted yet. It takes no memory.
+    /// Makes an empty collection. Does not allocate.
     pub fn new(alloc: A, arena: &'a Bump<A>) -> Self
         ensures { Counts [] result.interner result.counts.items }
     {
@@ -35,7 +35,7 @@ impl<'a, A: Allocator + Copy> WordCounts<'a, A> {
         }
     }
 
-    /// Counts the word once more. A known word takes no memory. A refusal changes nothing.
+    /// Counts one more occurrence of the word. A known word needs no memory. A refusal leaves words and counts unchanged.
     pub fn count(&mut self, word: &str) -> Result<(), Fault>
         ensures counts { OnOk result ((words : List (List ℕ))
             → Counts words self.old.interner self.old.counts.items
@@ -51,7 +51,7 @@ impl<'a, A: Allocator + Copy> WordCounts<'a, A> {
         }
     }
 
-    /// Counts the word of this number once more. It is refused only where it stood 2^64 - 1 times.
+    /// Counts one more occurrence of the word of this number. It is refused only if the word occurred 2^64 - 1 times.
     fn count_again(&mut self, number: NonZeroU32) -> Result<(), Fault>
         requires { non_zero_u32_get number ≤ length self.old.interner }
         ensures interner { self.new.interner ≡ self.old.interner }
@@ -97,7 +97,7 @@ impl<'a, A: Allocator + Copy> WordCounts<'a, A> {
         }
     }
 
-    /// Writes a line for each word: its number, the word and its count, with one space between them.
+    /// Writes a line for each word: its number, the word and its count, separated by single spaces.
     pub fn write_to<W: Write>(&self, output: &mut W) -> Result<(), Fault>
         ensures { OnOk result (Appends (W.contents output.old) (W.contents output.new)
             (word_lines 1 self.now.interner self.now.counts.items)) }
@@ -108,7 +108,7 @@ impl<'a, A: Allocator + Copy> WordCounts<'a, A> {
         Ok(())
     }
 
-    /// Writes the line of the word with so many before it.
+    /// Writes the line of the word with `before` words before it.
     fn write_line<W: Write>(&self, before: u32, output: &mut W) -> Result<(), Fault>
         requires given { before < length self.now.interner }
         requires few { length self.now.interner ≤ greatest_number }

@@ -1,4 +1,4 @@
-//! What the tool `words` does with a line: it counts the words of it.
+//! The tool `words`: it counts the words of each line.
 ghost use Rattle.std.specs.Prelude.{◌≡◌, ◌<◌, ◌++◌, ◌∷◌, slice_index, List, ℕ, [], true, false, length, OnOk, IfSome, IfNone, Some};
 ghost use Rattle.std.specs.Char.{is_ascii_whitespace};
 ghost use Rattle.tool_streams.specs.Lines.{AllAnswer};
@@ -21,13 +21,13 @@ impl<A: Allocator + Copy> LineTool for WordCounts<'_, A> {
 
     ghost written = { λ _. [] };
 
-    /// Counts the words of the line. It writes nothing.
+    /// Counts the words of the line. Writes nothing.
     fn take_line<W: Write>(&mut self, line: TextLine<'_>, _output: &mut W) -> Result<(), Fault> {
         count_words(self, line.bytes, line.number)
     }
 }
 
-/// Counts the words of a line, the one of this number. A word is a longest run of bytes that are no ASCII whitespace.
+/// Counts the words of the line with this number. A word is a longest run of bytes that are not ASCII whitespace.
 fn count_words<A: Allocator + Copy>(
     words: &mut WordCounts<'_, A>,
     line: &[u8],
@@ -48,7 +48,7 @@ fn count_words<A: Allocator + Copy>(
     Ok(())
 }
 
-/// The first word of the text, and what stands behind it. None where there is none.
+/// Splits the text after its first word. Returns `None` if there is no word.
 fn first_word(text: &[u8]) -> Option<(&[u8], &[u8])>
     ensures word { IfSome result (λ cut. words_of text.now ≡ cut.0.now ∷ words_of cut.1.now) }
     ensures shorter { IfSome result (λ cut. length cut.1.now < length text.now) }
@@ -61,7 +61,7 @@ fn first_word(text: &[u8]) -> Option<(&[u8], &[u8])>
     Some(cut_word(rest))
 }
 
-/// The text up to its first byte that is no ASCII whitespace, and from there on.
+/// Splits the text before its first byte that is not ASCII whitespace.
 fn cut_blanks(text: &[u8]) -> (&[u8], &[u8])
     ensures parts { text.now ≡ result.0.now ++ result.1.now }
     ensures blanks { AllAnswer is_ascii_whitespace true result.0.now }
@@ -76,7 +76,7 @@ fn cut_blanks(text: &[u8]) -> (&[u8], &[u8])
     (text, &[])
 }
 
-/// The text up to its first byte of ASCII whitespace, and from there on.
+/// Splits the text before its first byte of ASCII whitespace.
 fn cut_word(text: &[u8]) -> (&[u8], &[u8])
     ensures parts { text.now ≡ result.0.now ++ result.1.now }
     ensures word { AllAnswer is_ascii_whitespace false result.0.now }

@@ -1,4 +1,4 @@
-//! What a row owns, moved to another home once its own has ended.
+//! A row moved to another home after its own has ended.
 ghost use Rattle.std.specs.Prelude.{◌≡◌, ◌<◌, length, slice_index_or, All};
 ghost use Rattle.table_cell.specs.Contents.{Lies, NamesNone};
 ghost use Rattle.table_cell.specs.Rows.{AreMarked, buckets_of};
@@ -39,7 +39,7 @@ fn rehome_bucket<T: Drop, A: Allocator + Copy>(
     marks[index] = mark;
 }
 
-/// Moves what the buckets own to the other home.
+/// Moves what each bucket owns to the other home.
 fn rehome_buckets<T: Drop, A: Allocator + Copy>(
     marks: &mut Vec<Mark, A>,
     words: &mut Vec<Word<Entry<T>, A>, A>,
@@ -59,8 +59,8 @@ fn rehome_buckets<T: Drop, A: Allocator + Copy>(
 }
 
 impl<T: Drop, A: Allocator + Copy> Row<T, A> {
-    /// The row without its names, in another home: each bucket keeps the entry that it owns, alone or since it was set
-    /// through `&`. From then on it is as one held alone. It takes no memory.
+    /// Moves the row to another home, without the buckets that name entries. Each bucket keeps the entry that it owns, whether it
+    /// was set through `&mut` or `&`, and counts as set through `&mut` from then on. Does not allocate.
     pub fn rehomed(self, closed: &Closed, home: &Home) -> Self
         requires { self.home ≡ closed.now.id }
         ensures of { (result.from ≡ self.from) × (result.home ≡ home.now.id) }

@@ -1,4 +1,4 @@
-//! The values of one generation, taken out of it once its home has ended.
+//! The values of one generation, taken out after its home has ended.
 ghost use Rattle.std.specs.Prelude.{◌≡◌, []};
 ghost use Rattle.std.specs.Iterator.{YieldsFirst};
 ghost use Rattle.table_generations.specs.Buckets.{owned_values};
@@ -9,8 +9,8 @@ use std::alloc::Allocator;
 use std::marker::Model;
 use table_cell::{Buckets, Closed};
 
-/// The values that the buckets of a generation own, in the order of the buckets, seen as the list of those that are left.
-/// `drop_rest` drops them; who lets it go with values left leaves their blocks unfreed.
+/// An iterator over the values that the buckets of a generation own, in the order of the buckets. A contract sees the list of
+/// those that are left. `drop_rest` drops them; dropping the iterator instead leaks their blocks.
 #[derive(Drop)]
 pub struct OwnValues<T: AtomicValue, A: Allocator + Copy> {
     buckets: Buckets<T, A>,
@@ -25,7 +25,7 @@ impl<T: AtomicValue, A: Allocator + Copy> Model for OwnValues<T, A> {
 }
 
 impl<T: AtomicValue, A: Allocator + Copy> OwnValues<T, A> {
-    /// The next value, out of its block, which is freed.
+    /// Returns the next value, moved out of its block, which is freed.
     pub fn next_value(&mut self, closed: &Closed) -> Option<T>
         requires { self.old.home ≡ closed.now.id }
         ensures home { self.new.home ≡ self.old.home }
@@ -40,7 +40,7 @@ impl<T: AtomicValue, A: Allocator + Copy> OwnValues<T, A> {
         None
     }
 
-    /// Drops the values that are left, and frees their blocks: none is left.
+    /// Drops the values that are left, and frees their blocks.
     pub fn drop_rest(&mut self, closed: &Closed)
         requires { self.old.home ≡ closed.now.id }
         ensures { self.new.values ≡ [] }
@@ -52,7 +52,7 @@ impl<T: AtomicValue, A: Allocator + Copy> OwnValues<T, A> {
 }
 
 impl<T: AtomicValue, A: Allocator + Copy> Generation<T, A> {
-    /// Takes the generation apart. It takes no memory.
+    /// Takes the generation apart. Does not allocate.
     pub fn into_own_values(self) -> OwnValues<T, A>
         ensures home { result.home ≡ self.home }
         ensures values { result.values ≡ owned_values self.contents }
@@ -62,8 +62,8 @@ impl<T: AtomicValue, A: Allocator + Copy> Generation<T, A> {
         }
     }
 
-    /// Ends the generation: each value that a bucket owns, alone or since it was set through `&`, is dropped, and its block is
-    /// freed. It takes no memory.
+    /// Drops the generation: drops each value that a bucket owns, whether it was set through `&mut` or `&`, and frees its block.
+    /// Does not allocate.
     pub fn drop_values(self, closed: &Closed)
         requires { self.home ≡ closed.now.id }
     {

@@ -1,4 +1,4 @@
-//! What a generation owns, moved to another home once its own has ended.
+//! A generation moved to another home after its own has ended.
 ghost use Rattle.std.specs.Prelude.{◌≡◌, ◌≤◌, [], ◌∷◌, length};
 ghost use Rattle.table_cell.specs.Rehomed.{AreRehomed};
 ghost use Rattle.table_generations.specs.Buckets.{owned_values, shown_entries};
@@ -8,7 +8,7 @@ use crate::fixed::Generation;
 use std::alloc::Allocator;
 use table_cell::{BucketRef, Closed, Home, Mark, Row};
 
-/// 1 for a bucket that is set, and 0 for a vacant one.
+/// Returns 1 for a bucket that is set, and 0 for an empty one.
 fn count_one<T: AtomicValue, A: Allocator + Copy>(bucket: &BucketRef<'_, T, A>) -> usize
     ensures counted { result ≡ length (shown_entries (bucket.now.content ∷ [])) }
     ensures one { result ≤ 1 }
@@ -19,7 +19,7 @@ fn count_one<T: AtomicValue, A: Allocator + Copy>(bucket: &BucketRef<'_, T, A>) 
     }
 }
 
-/// How many buckets are set.
+/// Returns the number of buckets that are set.
 fn count_set<T: AtomicValue, A: Allocator + Copy>(row: &Row<T, A>) -> usize
     ensures { result ≡ length (shown_entries row.now.contents) }
 {
@@ -31,8 +31,8 @@ fn count_set<T: AtomicValue, A: Allocator + Copy>(row: &Row<T, A>) -> usize
 }
 
 impl<T: AtomicValue, A: Allocator + Copy> Generation<T, A> {
-    /// The generation without its names, in another home: each bucket keeps the entry that it owns, alone or since it was
-    /// set through `&`. From then on it is as one held alone. It takes no memory.
+    /// Moves the generation to another home, without the buckets that name entries. Each bucket keeps the entry that it owns,
+    /// whether it was set through `&mut` or `&`, and counts as set through `&mut` from then on. Does not allocate.
     pub fn rehomed(self, closed: &Closed, home: &Home) -> Self
         requires { self.home ≡ closed.now.id }
         ensures home { result.home ≡ home.now.id }

@@ -10,23 +10,23 @@ use crate::fixed::Generation;
 use std::alloc::Allocator;
 use table_cell::{BucketRef, Entry, Home, Homed, Low, Mark, Missed, Note, Word};
 
-/// What a probe for eight bits meets at a bucket.
+/// The result of comparing a bucket with the eight bits that a probe seeks.
 #[derive(Clone, Copy)]
 pub enum Look<'a, T> {
     /// The bucket was empty.
     Vacant,
-    /// An entry with other bits.
+    /// The bucket holds an entry with other bits.
     Other,
-    /// An entry with these bits.
+    /// The bucket holds an entry with these bits.
     Alike(&'a Entry<T>),
 }
 
-/// A generation that has a bucket fits the home of its buckets.
+/// A generation with buckets fits the home of its buckets.
 impl<T: AtomicValue, A: Allocator + Copy> Homed for Generation<T, A> {
     ghost fits = { λ g h. (g.home ≡ h) × IsPowerOfTwo (length g.contents) };
 }
 
-/// The entry, where it has these bits.
+/// Compares the bits of an entry.
 fn look_at_entry<T>(entry: &Entry<T>, sought: u8) -> Look<'_, T>
     ensures { Tells sought (Some entry.now) result }
 {
@@ -37,7 +37,7 @@ fn look_at_entry<T>(entry: &Entry<T>, sought: u8) -> Look<'_, T>
     }
 }
 
-/// What a probe for these bits meets at a bucket. The block of an entry whose mark has other bits isn't read.
+/// Compares a bucket with these bits. If the mark of the bucket has other bits, its block isn't read.
 fn look_at_bucket<'a, T: AtomicValue, A: Allocator + Copy>(
     home: &'a Home,
     bucket: &BucketRef<'a, T, A>,
@@ -61,7 +61,7 @@ fn look_at_bucket<'a, T: AtomicValue, A: Allocator + Copy>(
 }
 
 impl<T: AtomicValue, A: Allocator + Copy> Generation<T, A> {
-    /// Whether there is a bucket: then they are a power of two.
+    /// Returns whether the generation has a bucket. If it has, their number is a power of two.
     pub fn has_buckets(&self) -> bool
         ensures some { IsTrue result ↔ (0 < length self.now.contents) }
         ensures power { IsTrue result → IsPowerOfTwo (length self.now.contents) }
@@ -69,7 +69,7 @@ impl<T: AtomicValue, A: Allocator + Copy> Generation<T, A> {
         self.row.len() != 0
     }
 
-    /// Twice the number of buckets, if there is a bucket and twice as many can be counted.
+    /// Returns twice the number of buckets, or `None` if there is no bucket or the product passes `usize::MAX`.
     pub fn doubled(&self) -> Option<usize>
         ensures power { IfSome result (λ c. IsPowerOfTwo c) }
         ensures twice { IfSome result (λ c. c ≡ 2 * length self.now.contents) }
@@ -84,7 +84,7 @@ impl<T: AtomicValue, A: Allocator + Copy> Generation<T, A> {
         Some(twice)
     }
 
-    /// A note of what the bucket at this index is set to through `&`, which knows nothing yet.
+    /// Returns a note for the bucket at this index, which knows nothing yet. It will know to what the bucket is set through `&`.
     pub fn note_at(&self, index: usize) -> Note<Entry<T>>
         requires { index < length self.now.contents }
         ensures { (result.of ≡ slice_index_or self.now.ids index 0) × (result.known ≡ None) }
@@ -92,7 +92,7 @@ impl<T: AtomicValue, A: Allocator + Copy> Generation<T, A> {
         self.row.at(index).note()
     }
 
-    /// The entry in the bucket at this index, also where it was set through `&`: then the note knows it.
+    /// Returns the entry in the bucket at this index, also if it was set through `&`; the note then knows it.
     pub fn entry_at<'a>(
         &'a self,
         home: &'a Home,
@@ -109,7 +109,7 @@ impl<T: AtomicValue, A: Allocator + Copy> Generation<T, A> {
         self.row.at(index).get(home, note)
     }
 
-    /// What a probe for these bits meets at the bucket of this index.
+    /// Compares the bucket at this index with these bits.
     pub fn look_at<'a>(
         &'a self,
         home: &'a Home,
@@ -127,7 +127,7 @@ impl<T: AtomicValue, A: Allocator + Copy> Generation<T, A> {
         look_at_bucket(home, &self.row.at(index), sought, note)
     }
 
-    /// A word that names the entry in the bucket at this index, also where that was set through `&`. No block is read.
+    /// Returns a word that names the entry in the bucket at this index, also if that was set through `&`. Reads no block.
     pub fn naming_at(&self, index: usize, note: &mut Note<Entry<T>>) -> Option<Word<Entry<T>, A>>
         requires within { index < length self.now.contents }
         requires of { note.old.of ≡ slice_index_or self.now.ids index 0 }
@@ -140,8 +140,8 @@ impl<T: AtomicValue, A: Allocator + Copy> Generation<T, A> {
 }
 
 impl<T: AtomicValue, A: Low + Copy> Generation<T, A> {
-    /// Sets the bucket at this index by one exchange, unless it is set. The block is asked for first. The note then knows
-    /// the entry that was placed here, or the one that came first.
+    /// Sets the bucket at this index by one exchange, unless it is set. Allocates the entry's block first. The note then knows
+    /// the entry that was placed, or the one that came first.
     pub fn place_at<'a>(
         &'a self,
         home: &'a Home,

@@ -1,4 +1,4 @@
-//! A raw table held alone is a table held alone.
+//! The raw table as an [`AloneTable`].
 
 use crate::alone::{AloneTable, KeepsApart, Told};
 use crate::place::Place;

@@ -1,4 +1,4 @@
-//! The values of a table held alone, handed out.
+//! Iteration by value over a single-owner table.
 ghost use Rattle.std.specs.Prelude.{◌≡◌};
 ghost use Rattle.table_held.specs.Walks.{GivesEntries};
 
@@ -14,7 +14,7 @@ impl<T: AtomicValue, A: Allocator + Copy> IntoIterator for HeldRawTable<T, A> {
 
     ghost into_iter_gives = { λ t it. GivesEntries t it };
 
-    /// Takes the table apart, and hands out each value that it holds. It takes no memory.
+    /// Consumes the table and returns an iterator over its values. Does not allocate.
     fn into_iter(self) -> IntoIter<T, A> {
         let left = self.len_alone();
         let HeldRawTable {

@@ -1,4 +1,4 @@
-//! A walk over a table held alone.
+//! Iteration by reference over a single-owner table.
 ghost use Rattle.std.specs.Prelude.{◌≡◌, ◌^◌, ◌<◌, length, map, Some, IfSome};
 ghost use Rattle.std.specs.Iterator.{YieldsFirstRef, item_count, at_most, UpTo};
 ghost use Rattle.std.specs.Iterator.SizeHint.{IsWithinCount};
@@ -13,7 +13,8 @@ use table_cell::Home;
 use table_generations::atomic_value::AtomicValue;
 use table_generations::fixed::Generation;
 
-/// The targets of a table's entries, each once, in the order of the buckets. It is seen as the list of the entries that are left.
+/// An iterator over the targets of a table's entries, each once, in the order of the buckets of the current generation. A
+/// contract sees it as the list of the entries that are left.
 #[derive(Drop)]
 pub struct HeldIter<'a, T: AtomicValue, A: Allocator + Copy = Global> {
     home: &'a Home,
@@ -41,6 +42,7 @@ impl<'a, V: 'a, T: AtomicValue<Target = V>, A: Allocator + Copy> Iterator for He
 
     ghost remaining = { item_count (λ rest. rest) };
 
+    /// Returns the target of the next entry, or `None` at the end.
     fn next(&mut self) -> Option<&'a V> {
         while self.index < self.current.capacity() {
             let index = self.index;
@@ -53,6 +55,7 @@ impl<'a, V: 'a, T: AtomicValue<Target = V>, A: Allocator + Copy> Iterator for He
         None
     }
 
+    /// Returns the exact number of entries that are left, as both bounds.
     fn size_hint(&self) -> (usize, Option<usize>)
         ensures lower { IsWithinCount result.0 (at_most (length self.now)) }
         ensures upper { IfSome result.1 (UpTo (at_most (length self.now))) }
@@ -64,6 +67,7 @@ impl<'a, V: 'a, T: AtomicValue<Target = V>, A: Allocator + Copy> Iterator for He
 
 impl<'a, V: 'a, T: AtomicValue<Target = V>, A: Allocator + Copy> ExactSizeIterator
     for HeldIter<'a, T, A> {
+    /// Returns the exact number of entries that are left.
     fn len(&self) -> usize {
         self.left
     }
@@ -73,7 +77,7 @@ impl<'a, V: 'a, T: AtomicValue<Target = V>, A: Allocator + Copy> FusedIterator
     for HeldIter<'a, T, A> {}
 
 impl<T: AtomicValue, A: Allocator + Copy> HeldRawTable<T, A> {
-    /// A walk over the targets of the entries, each once. It takes no memory.
+    /// Returns an iterator over the targets of the entries, each once. Does not allocate.
     pub fn iter_alone(&self) -> HeldIter<'_, T, A>
         ensures entries { result ≡ entries self.now }
         ensures fits { length result < 2 ^ 64 }
@@ -96,6 +100,7 @@ impl<'a, V: 'a, T: AtomicValue<Target = V>, A: Allocator + Copy> IntoIterator
 
     ghost into_iter_gives = { λ t it. (it ≡ entries t.now) × (length it < 2 ^ 64) × WalksAsList t.now it };
 
+    /// Returns an iterator over the targets of the entries, each once. Does not allocate.
     fn into_iter(self) -> HeldIter<'a, T, A> {
         self.iter_alone()
     }

@@ -1,4 +1,4 @@
-//! A table held alone, taken apart for whoever goes on with its generations.
+//! The parts of a single-owner table, for a caller that goes on with its generations.
 ghost use Rattle.std.specs.Prelude.{◌≡◌};
 ghost use Rattle.table_generations.specs.Buckets.{shown_all};
 ghost use Rattle.table_terms.specs.Capacities.{IsFirstCapacity};
@@ -10,20 +10,20 @@ use table_cell::Home;
 use table_generations::atomic_value::AtomicValue;
 use table_generations::fixed::Generation;
 
-/// What a table held alone consists of. Its blocks live in `home`; who lets go of the parts forgets the blocks.
+/// The parts of a single-owner table. The blocks of its entries live in `home`. Dropping the parts leaks those blocks.
 pub struct HeldParts<T: AtomicValue, A: Allocator + Copy> {
-    /// How many buckets the first generation has, or will have.
+    /// The number of buckets that the first generation has, or will have.
     pub first_capacity: usize,
     pub home: Home,
-    /// The generations before the current one, the first of them first.
+    /// The generations before the current one, oldest first.
     pub earlier: Vec<Generation<T, A>, A>,
-    /// The current generation; it has no bucket while there is none.
+    /// The current generation. It has no bucket until the first insert makes one.
     pub current: Generation<T, A>,
     pub alloc: A,
 }
 
 impl<T: AtomicValue, A: Allocator + Copy> HeldRawTable<T, A> {
-    /// The table's parts, of which each bucket shows what it showed. It takes no memory, and no bucket is looked at.
+    /// Takes the table apart. Each bucket still shows the entry that it showed. Does not allocate and reads no bucket.
     pub fn into_parts(self) -> HeldParts<T, A>
         ensures first { result.first_capacity ≡ self.first_capacity }
         ensures allowed { IsFirstCapacity result.first_capacity }

@@ -1,4 +1,4 @@
-//! Laws of tables held alone and of lists of calls on them, each the contract of a function that does nothing.
+//! Theorems about single-owner tables and lists of calls on them, each the contract of a function that does nothing.
 ghost use Rattle.std.specs.Fn.{FnReturnsAt, FnReturnsAtPair};
 ghost use Rattle.table_runs.specs.Calls.{FnReturnsAtTwo};
 ghost use Rattle.table_runs.specs.Settled.{RepliesAgree, RepliesAgreeByClass, NewTablesAgree, NewTablesAgreeByClass};
@@ -8,19 +8,19 @@ ghost use Rattle.table_held.specs.Shown.{LawfulWithoutEntries};
 use crate::alone::{AloneTable, KeepsApart};
 use table_generations::atomic_value::{AtomicValue, Law};
 
-/// A place stays good: from a table to a later one every place keeps its entry, and to be later is reflexive and
-/// transitive. Every `place_alone` leaves a later one.
+/// States that a place stays valid. A later table keeps every entry at its place. The relation "later" is reflexive and
+/// transitive, and every `place_alone` leaves a later table.
 pub fn places_stay_good<T: AtomicValue, L: Law<T::Target>, B: AloneTable<T, L>>()
     ensures reflexive { LaterIsReflexive B.shows }
     ensures transitive { LaterIsTransitive B.shows }
 {}
 
-/// A table without entries is lawful for every equality and every hash.
+/// States that a table without entries is lawful for every equality and every hash.
 pub fn no_entries_is_lawful<T: AtomicValue, L: Law<T::Target>, B: AloneTable<T, L>>()
     ensures { LawfulWithoutEntries B.shows T.target }
 {}
 
-/// An insert by `eq` that was not refused names the place of an entry of the table that it leaves.
+/// States that an insert by `eq` that was not refused returns the place of an entry in the table that it leaves.
 pub fn answers_live<
     T: AtomicValue,
     L: Law<T::Target>,
@@ -30,9 +30,9 @@ pub fn answers_live<
     ensures { AnswersLive B.shows T.target (FnReturnsAtPair E.Fn eq.now) }
 {}
 
-/// What was inserted is found again. An insert of a value by `eq` and `hash_fn` was lawful and not refused; then a look-up
-/// by a `test` for "same as the value", on every later table that is still lawful (lawful inserts keep it so), shows the
-/// very entry at the place that the insert named.
+/// States that an inserted value is found again. Suppose that an insert of a value by `eq` and `hash_fn` was lawful and not
+/// refused, and that `test` is equality with the value. Then a look-up by `test` returns the very entry at the place that the
+/// insert returned, on every later table that is still lawful. Lawful inserts keep a table lawful.
 pub fn inserted_is_found_again<
     T: AtomicValue,
     L: Law<T::Target>,
@@ -47,18 +47,18 @@ pub fn inserted_is_found_again<
     B::entries_are_apart();
 }
 
-/// Two list runs of the same calls from one list without equal entries have the same replies, and end with the same list, if
-/// no reply is Refused and each look-up's key is met by at most one entry of the list that it comes to. That is so wherever
-/// all that meets a key is the same, which can be seen without the list.
+/// States when two runs of the same calls agree. Both begin with one list without equal entries, and no reply is `Refused`. If
+/// the key of each look-up matches at most one entry of the list at that moment, they have the same replies and end with the same
+/// list. This is so if all targets that match a key are equal, which can be checked without the list.
 pub fn replies_agree<T: AtomicValue, L: Law<T::Target>, K: Drop>()
     ensures by_list { RepliesAgree T.target K L.same }
     ensures by_class { RepliesAgreeByClass T.target K L.same }
 {}
 
-/// The same calls by `run_calls` on two tables without entries, of whatever kinds, have the same replies and leave the same
-/// entries, if the calls are lawful, no reply is Refused, and each look-up's key is met by at most one entry of the list that
-/// it comes to: so on a new raw table, and on new tables over any numbers of shards. That is so wherever all that meets a
-/// key is the same.
+/// States when `run_calls` agrees on two tables without entries, of any kinds: for example a new raw table, and new tables over
+/// any number of shards. If the calls are lawful, no reply is `Refused`, and the key of each look-up matches at most one entry at
+/// that moment, the replies are the same and the same entries are left. The last condition holds if all targets that match a key
+/// are equal.
 pub fn new_tables_agree<
     T: AtomicValue,
     L: Law<T::Target>,

@@ -1,4 +1,4 @@
-//! A table over shards is a table held alone.
+//! The table over shards as an `AloneTable`.
 
 use crate::sharded::{HeldShardedTable, ShardPlace};
 use std::alloc::Allocator;

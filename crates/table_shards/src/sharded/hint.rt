@@ -1,4 +1,4 @@
-//! How many entries a walk over shards has left.
+//! The number of entries that an iterator over shards has left.
 ghost use Rattle.std.specs.Prelude.{◌≡◌, ◌+◌, ◌≤◌, ◌^◌, length, MatchOption};
 ghost use Rattle.std.specs.Iterator.SizeHint.{IsExactHint};
 ghost use Rattle.std.specs.List.{flat_map};
@@ -8,7 +8,7 @@ use std::alloc::Allocator;
 use table_generations::atomic_value::AtomicValue;
 use table_held::raw::HeldRawTable;
 
-/// So many entries and those of the shards, counted; None where they are more than the greatest usize.
+/// Returns `entries_before` plus the number of entries of these shards, or `None` if the sum passes `usize::MAX`.
 fn count_with<T: AtomicValue, A: Allocator + Copy>(
     entries_before: usize,
     shards: &[HeldRawTable<T, A>],
@@ -23,7 +23,7 @@ fn count_with<T: AtomicValue, A: Allocator + Copy>(
     Some(count)
 }
 
-/// The size hint of a walk that has so many entries left in one shard, and then those of these shards.
+/// Returns the size hint of an iterator that has `entries_before` entries left in one shard, and then those of these shards.
 pub(super) fn hint_with<T: AtomicValue, A: Allocator + Copy>(
     entries_before: usize,
     shards: &[HeldRawTable<T, A>],

@@ -1,4 +1,4 @@
-//! The values of a table over shards held alone, handed out.
+//! Iteration by value over a single-owner table over shards.
 ghost use Rattle.std.specs.Prelude.{◌≡◌, length, IfSome};
 ghost use Rattle.std.specs.Iterator.{item_count, at_most, UpTo};
 ghost use Rattle.std.specs.Iterator.SizeHint.{IsWithinCount, IsExactHint};
@@ -15,9 +15,9 @@ use std::marker::Model;
 use table_generations::atomic_value::AtomicValue;
 use table_held::raw;
 
-/// The values of a table over shards, by value and each once, shard by shard: a shard is taken apart only where the values
-/// of the one before are out. It is seen as the list of the values that are left, whose order says nothing. Dropped early,
-/// it drops them.
+/// An iterator over the values of a table over shards, each once, shard by shard. A shard is taken apart only after all values of
+/// the one before were returned. A contract sees the list of the values that are left; their order means nothing. Dropping the
+/// iterator drops the values that are left.
 #[derive(Drop)]
 pub struct IntoIter<T: AtomicValue, const SHARDS: usize, A: Allocator + Copy = Global> {
     walk: raw::IntoIter<T, A>,
@@ -40,6 +40,7 @@ impl<T: AtomicValue, const SHARDS: usize, A: Allocator + Copy> Iterator for Into
 
     ghost remaining = { item_count (λ rest. rest) };
 
+    /// Returns the next value, or `None` at the end.
     fn next(&mut self) -> Option<T> {
         loop {
             if let Some(value) = self.walk.next() {
@@ -49,6 +50,7 @@ impl<T: AtomicValue, const SHARDS: usize, A: Allocator + Copy> Iterator for Into
         }
     }
 
+    /// Returns the exact number of values that are left; if that passes `usize::MAX`, returns `usize::MAX` and no upper bound.
     fn size_hint(&self) -> (usize, Option<usize>)
         ensures lower { IsWithinCount result.0 (at_most (length self.now)) }
         ensures upper { IfSome result.1 (UpTo (at_most (length self.now))) }
@@ -69,7 +71,7 @@ impl<T: AtomicValue, const SHARDS: usize, A: Allocator + Copy> IntoIterator
 
     ghost into_iter_gives = { λ t it. GivesEntries sharded t it };
 
-    /// Takes the table apart, and hands out each value that it holds, from the first shard to the last. It takes no memory.
+    /// Consumes the table and returns an iterator over its values, from the first shard to the last. Does not allocate.
     fn into_iter(self) -> IntoIter<T, SHARDS, A> {
         let HeldShardedTable { shards } = self;
         let mut later = Later { shards, begun: 0 };

@@ -1,4 +1,4 @@
-//! A walk over a table over shards held alone.
+//! Iteration by reference over a single-owner table over shards.
 ghost use Rattle.std.specs.Prelude.{◌≡◌, length, map, IfSome};
 ghost use Rattle.std.specs.Iterator.{YieldsFirstRef, item_count, at_most, UpTo};
 ghost use Rattle.std.specs.Iterator.SizeHint.{IsWithinCount, IsExactHint};
@@ -14,8 +14,8 @@ use table_generations::atomic_value::AtomicValue;
 use table_held::raw;
 use table_held::raw::HeldRawTable;
 
-/// The targets of the entries of a table over shards, each once, shard by shard: a shard's walk is begun only where the one
-/// before has ended. It is seen as the list of the entries that are left.
+/// An iterator over the targets of the entries of a table over shards, each once, shard by shard. A contract sees it as the list
+/// of the entries that are left.
 #[derive(Drop)]
 pub struct HeldIter<'a, T: AtomicValue, const SHARDS: usize, A: Allocator + Copy = Global> {
     walk: raw::HeldIter<'a, T, A>,
@@ -40,6 +40,7 @@ impl<'a, V: 'a, T: AtomicValue<Target = V>, const SHARDS: usize, A: Allocator + 
 
     ghost remaining = { item_count (λ rest. rest) };
 
+    /// Returns the target of the next entry, or `None` at the end.
     fn next(&mut self) -> Option<&'a V> {
         loop {
             if let Some(target) = self.walk.next() {
@@ -51,6 +52,7 @@ impl<'a, V: 'a, T: AtomicValue<Target = V>, const SHARDS: usize, A: Allocator + 
         }
     }
 
+    /// Returns the exact number of entries that are left; if that passes `usize::MAX`, returns `usize::MAX` and no upper bound.
     fn size_hint(&self) -> (usize, Option<usize>)
         ensures lower { IsWithinCount result.0 (at_most (length self.now)) }
         ensures upper { IfSome result.1 (UpTo (at_most (length self.now))) }
@@ -64,7 +66,7 @@ impl<'a, V: 'a, T: AtomicValue<Target = V>, const SHARDS: usize, A: Allocator + 
     for HeldIter<'a, T, SHARDS, A> {}
 
 impl<T: AtomicValue, const SHARDS: usize, A: Allocator + Copy> HeldShardedTable<T, SHARDS, A> {
-    /// A walk over the targets of the entries, each once, from the first shard to the last. It takes no memory.
+    /// Returns an iterator over the targets of the entries, each once, from the first shard to the last. Does not allocate.
     pub fn iter_alone(&self) -> HeldIter<'_, T, SHARDS, A>
         ensures entries { result ≡ entries self.now }
         ensures as_list { WalksAsList sharded self.now result }
@@ -87,6 +89,7 @@ impl<'a, V: 'a, T: AtomicValue<Target = V>, const SHARDS: usize, A: Allocator + 
 
     ghost into_iter_gives = { λ t it. (it ≡ entries t.now) × WalksAsList sharded t.now it };
 
+    /// Returns an iterator over the targets of the entries, each once, from the first shard to the last. Does not allocate.
     fn into_iter(self) -> HeldIter<'a, T, SHARDS, A> {
         self.iter_alone()
     }

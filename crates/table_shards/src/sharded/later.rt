@@ -1,4 +1,4 @@
-//! Shards that are taken out of a table, one after the other.
+//! Shards that are taken out of a table one after the other.
 ghost use Rattle.std.specs.Prelude.{◌≡◌, ◌+◌, ◌<◌, ◌∷◌, drop, length};
 ghost use Rattle.std.specs.Iterator.{YieldsFirst};
 
@@ -8,7 +8,8 @@ use std::mem;
 use table_generations::atomic_value::AtomicValue;
 use table_held::raw::HeldRawTable;
 
-/// The shards that weren't taken out, seen as their list. In place of each one that was, there is a table without entries.
+/// The shards that are still to be taken out. A contract sees their list. A shard that was taken out is replaced by an empty
+/// table.
 #[derive(Drop)]
 pub(super) struct Later<T: AtomicValue, const SHARDS: usize, A: Allocator + Copy> {
     pub(super) shards: [HeldRawTable<T, A>; SHARDS],
@@ -26,7 +27,7 @@ impl<T: AtomicValue, const SHARDS: usize, A: Allocator + Copy> Model for Later<T
     ghost invariant = { λ l. (length l.shards ≡ SHARDS) × (l.begun ≤ SHARDS) };
 }
 
-/// Takes a shard out: a table without entries stands in its place.
+/// Takes a shard out, and leaves an empty table in its place.
 fn take_at<T: AtomicValue, A: Allocator + Copy>(
     shards: &mut [HeldRawTable<T, A>],
     number: usize,
@@ -40,7 +41,7 @@ fn take_at<T: AtomicValue, A: Allocator + Copy>(
 }
 
 impl<T: AtomicValue, const SHARDS: usize, A: Allocator + Copy> Later<T, SHARDS, A> {
-    /// Takes out the next shard. It takes no memory.
+    /// Takes out the next shard, or returns `None` if none is left. Does not allocate.
     pub(super) fn next_shard(&mut self) -> Option<HeldRawTable<T, A>>
         ensures { YieldsFirst (λ rest. rest) self.old result self.new }
     {
@@ -52,7 +53,7 @@ impl<T: AtomicValue, const SHARDS: usize, A: Allocator + Copy> Later<T, SHARDS, 
         Some(take_at(self.shards.as_mut_slice(), number))
     }
 
-    /// The shards that are left.
+    /// Returns the shards that are left.
     pub(super) fn as_slice(&self) -> &[HeldRawTable<T, A>]
         ensures { result.now ≡ self.now }
     {

@@ -1,7 +1,7 @@
-//! Entries that are read ahead of their copies.
+//! Entries that are read before they are copied.
 //!
-//! Entries lie far apart in memory. In a loop that does nothing but read them the reads overlap; where each is named before
-//! the next is read, they don't.
+//! Entries lie far apart in memory. In a loop that only reads them, the reads overlap. If each entry were inserted before the
+//! next is read, they would not.
 ghost use Rattle.std.specs.Prelude.{◌≡◌, ◌<◌, ◌≤◌, ◌↔◌, ◌+◌, ◌-◌, IsTrue, length, min};
 ghost use Rattle.std.specs.Fn.{FnReturnsAt};
 ghost use Rattle.table_core.specs.declared.call.Phase.TheVariants.{Building};
@@ -19,18 +19,18 @@ use table_generations::atomic_value::AtomicValue;
 use table_generations::fixed::Generation;
 use table_turns::step;
 
-/// So many buckets are read before the entries of the first of them are named.
+/// The number of buckets that are read before the entries of the first of them are copied.
 pub(crate) const WINDOW: usize = 64;
 
-/// An entry that was read ahead of its copy: the hash that was answered for it, and a word that names it. A bucket in place of the
-/// word would have a gap behind its mark, which is copied too.
+/// An entry that was read and not copied yet: its hash, and a word that names it. A `Bucket` in place of the word would have
+/// padding after its mark, which would be copied too.
 #[derive(Drop)]
 pub(crate) struct Ahead<T: Drop, A: Allocator + Copy> {
     pub(crate) hash: u64,
     pub(crate) word: Word<Entry<T>, A>,
 }
 
-/// Reads the entry of a bucket, if there is one, and asks for its hash.
+/// Reads the entry of a bucket and calls `hash_fn` for its target. Returns `None` if the bucket is empty.
 fn read_ahead<T: AtomicValue, A: Allocator + Copy, H: Fn(&T::Target) -> u64>(
     home: &Home,
     from: &Generation<T, A>,
@@ -48,8 +48,8 @@ fn read_ahead<T: AtomicValue, A: Allocator + Copy, H: Fn(&T::Target) -> u64>(
     Some(Ahead { hash, word })
 }
 
-/// Reads the buckets from this one on, as many as the window is wide or as are left, in their order. Says how many entries
-/// were found: so many of the first places of the window hold them, in the same order.
+/// Reads the next buckets in order, from index `first` on: 64, or as many as are left. Returns the number of entries found; they
+/// lie at the front of `window`, in the same order.
 pub(crate) fn read_window<T: AtomicValue, A: Allocator + Copy, H: Fn(&T::Target) -> u64>(
     home: &Home,
     from: &Generation<T, A>,
@@ -78,7 +78,7 @@ pub(crate) fn read_window<T: AtomicValue, A: Allocator + Copy, H: Fn(&T::Target)
 }
 
 impl<'a, T: AtomicValue, A: Allocator + Copy> Growth<'a, T, A> {
-    /// Whether each bucket of the generation before is passed.
+    /// Returns whether every bucket of the earlier generation was copied.
     fn has_passed_all(&self) -> bool
         ensures { IsTrue result ↔ PassedAll self.now }
     {
@@ -88,8 +88,8 @@ impl<'a, T: AtomicValue, A: Allocator + Copy> Growth<'a, T, A> {
         }
     }
 
-    /// Reads the next buckets ahead, and then copies their entries in their order, each by a step of the call, which stays
-    /// where it stands.
+    /// Reads the next buckets, and then copies their entries in order, one step of the call for each. Returns the state of the
+    /// call, which does not change.
     fn copy_window<H: Fn(&T::Target) -> u64>(
         &mut self,
         _held: &OwnedLock<'_>,
@@ -127,8 +127,8 @@ impl<'a, T: AtomicValue, A: Allocator + Copy> Growth<'a, T, A> {
         state
     }
 
-    /// Copies all entries that are left, under all locks of the table, each by a step of the call, which stays where it stands. Their
-    /// hashes are asked for in their order, up to 64 buckets ahead of the copies.
+    /// Copies all entries that are left, one step of the call for each, and returns its state, which does not change. The caller
+    /// holds all locks of the table. `hash_fn` is called in the order of the buckets, up to 64 buckets ahead of the copies.
     #[inline(never)]
     pub(crate) fn copy_rest<H: Fn(&T::Target) -> u64>(
         &mut self,

@@ -1,4 +1,4 @@
-//! Growth of a shared table, step by step, under its lock held alone.
+//! Growth of a shared table, step by step, under all of its locks.
 ghost use Rattle.std.specs.Prelude.{◌≡◌, IfOk, IsSome, MatchOption, length};
 ghost use Rattle.std.specs.Int.{IsPowerOfTwo};
 ghost use Rattle.std.specs.Option.{IsSomeAnd};
@@ -13,20 +13,20 @@ use table_cell::Low;
 use table_generations::atomic_value::AtomicValue;
 use table_generations::fixed::Generation;
 
-/// What a look at the size finds, under the lock held alone.
+/// The result of looking at the size while all locks are held.
 #[derive(Drop)]
 pub enum Wanted<'a, T: AtomicValue, A: Allocator + Copy> {
     /// There is a generation, and fewer than half of its buckets are set.
     Unwanted,
-    /// Memory was refused, or the capacity can't double. The table shows what it showed; words for later generations that
-    /// were made stay.
+    /// Memory was refused, or the capacity can't double. The current generation stays; words that were made for later generations
+    /// are kept.
     Failed,
-    /// The next generation, to be copied into and shown.
+    /// The next generation, to be filled and published.
     Begun(Growth<'a, T, A>),
 }
 
 impl<T: AtomicValue, A: Low + Copy> LockFreeRawTable<T, A> {
-    /// The first generation, without an entry.
+    /// Begins the first generation, without an entry. Allocates for its buckets and its block.
     fn begin_first(&self, _held: &OwnedLock<'_>) -> Result<Growth<'_, T, A>, AllocError>
         requires lock { _held.now.home ≡ self.now.home }
         ensures { IfOk result (λ g. g.home ≡ self.now.home) }
@@ -36,7 +36,8 @@ impl<T: AtomicValue, A: Low + Copy> LockFreeRawTable<T, A> {
         Growth::begun(&self.home, None, built, slot)
     }
 
-    /// The generation after the current one, with twice the capacity.
+    /// Begins the generation after the current one, with twice the capacity. Allocates for its buckets and its block. An `Err`
+    /// means that memory was refused or that the capacity can't double.
     fn begin_after<'a>(
         &'a self,
         _held: &OwnedLock<'_>,
@@ -60,8 +61,8 @@ impl<T: AtomicValue, A: Low + Copy> LockFreeRawTable<T, A> {
         Growth::begun(&self.home, Some(current.generation), built, slot)
     }
 
-    /// Looks at the size again, under all locks of the table, and asks for all the memory of the next generation if it is still
-    /// wanted.
+    /// Checks again whether growth is wanted, and if so allocates all the memory of the next generation. The caller holds all
+    /// locks of the table.
     pub(crate) fn begin(&self, held: &OwnedLock<'_>) -> Wanted<'_, T, A>
         requires lock { held.now.home ≡ self.now.home }
         ensures { Begins self.now.home result }
@@ -81,7 +82,7 @@ impl<T: AtomicValue, A: Low + Copy> LockFreeRawTable<T, A> {
         }
     }
 
-    /// Shows the generation that was made, under all locks of the table: from then on it is the current one.
+    /// Publishes the generation that was built, which is the current one from then on. The caller holds all locks of the table.
     pub(crate) fn show(&self, held: &OwnedLock<'_>, growth: Growth<'_, T, A>) -> Grown<T, A>
         requires lock { held.now.home ≡ self.now.home }
         requires home { growth.home ≡ self.now.home }

@@ -1,4 +1,4 @@
-//! An insert between two steps: what it walks, builds and carries, and the lock that it holds.
+//! An insert between two steps: the generation that it probes, what it builds and carries, and the lock that it holds.
 ghost use Rattle.std.specs.Prelude.{◌≡◌, ◌≢◌};
 ghost use Rattle.table_shared.specs.Between.{IsBetween};
 ghost use Rattle.table_shared.specs.Carried.{IsAnswer, carried_by};
@@ -12,10 +12,10 @@ use table_core::{CallState, Phase};
 use table_generations::atomic_value::AtomicValue;
 use table_generations::fixed::Generation;
 
-/// What an insert carries: its value, the target of its own entry, or the target that it accepted beside its value.
+/// The data that an insert carries: its value, the target of its own entry, or an accepted target with its value.
 #[derive(Drop)]
 pub(crate) enum Carried<T, R> {
-    /// It was handed out.
+    /// The result was handed out, and nothing is left.
     Gone,
     Value(T),
     Own(R),
@@ -23,7 +23,7 @@ pub(crate) enum Carried<T, R> {
 }
 
 impl<T, R> Carried<T, R> {
-    /// The target and the value that are carried, if they are.
+    /// Returns the target and the value that are carried, each if there is one.
     #[inline(always)]
     pub(crate) fn into_parts(self) -> (Option<R>, Option<T>)
         ensures { carried_by result.0 result.1 ≡ self }
@@ -36,7 +36,7 @@ impl<T, R> Carried<T, R> {
         }
     }
 
-    /// What carries this target and this value, if there are any.
+    /// Makes the data that carries this target and this value, each if there is one.
     pub(crate) fn of_parts(target: Option<R>, value: Option<T>) -> Self
         ensures { result ≡ carried_by target value }
     {
@@ -48,7 +48,7 @@ impl<T, R> Carried<T, R> {
         }
     }
 
-    /// What is carried, as the answer of the insert.
+    /// Turns what is carried into the result of the insert.
     #[inline(always)]
     pub(crate) fn into_answer(self) -> Result<(R, Option<T>), T>
         requires there { self ≢ Carried.Gone }
@@ -71,7 +71,7 @@ pub(crate) enum Held<'a> {
     Alone(OwnedLock<'a>),
 }
 
-/// Whom an insert asks, and of which value.
+/// The closures of an insert, and for contracts the value that was handed in.
 #[derive(Drop)]
 pub(crate) struct Asking<T, E, H> {
     pub(crate) given: Snapshot<T>,
@@ -79,8 +79,7 @@ pub(crate) struct Asking<T, E, H> {
     pub(crate) hash_fn: H,
 }
 
-/// An insert between two steps: where it stands, the generation that it walks, what it builds and carries, and the lock that
-/// it holds.
+/// An insert between two steps: its state, the generation that it probes, what it builds and carries, and the lock that it holds.
 #[derive(Drop)]
 pub(crate) struct Inserting<'a, T: AtomicValue, A: Low + Copy, E, H> {
     pub(crate) table: &'a LockFreeRawTable<T, A>,
@@ -95,7 +94,8 @@ pub(crate) struct Inserting<'a, T: AtomicValue, A: Low + Copy, E, H> {
 }
 
 impl<'a, T: AtomicValue, A: Low + Copy, E, H> Inserting<'a, T, A, E, H> {
-    /// For an insert that is given up: a value that is placed and not counted yet is counted. The call stays where it stands.
+    /// Counts the value of an insert that is abandoned, if the value was placed and not counted yet. The state of the call does
+    /// not change.
     pub(crate) fn count_placed(&self) {
         if self.state.phase != Phase::Placed {
             return;

@@ -1,4 +1,4 @@
-//! The steps of an insert, each by what its phase says.
+//! The steps of an insert, one for each phase.
 ghost use Rattle.std.specs.Prelude.{◌≡◌, ◌≢◌, Some, true};
 ghost use Rattle.std.specs.Fn.{FnReturnsAtPair};
 ghost use Rattle.std.specs.Option.{ForSome};
@@ -27,7 +27,7 @@ where
     E: Fn(&T::Target, &T::Target) -> bool,
     H: Fn(&T::Target) -> u64,
 {
-    /// The lock of its table that it wants is taken.
+    /// Takes the lock that the phase asks for.
     fn take(&mut self, held: Held<'a>) -> Answer
         requires wanted { Wants self.old.state.phase (lock_of held) }
         requires lock { ForSome (table_in held) (λ home. home ≡ self.old.table.now.home) }
@@ -38,7 +38,7 @@ where
         Answer::Taken
     }
 
-    /// The current generation is loaded.
+    /// Loads the current generation.
     fn load(&mut self) -> Answer
         requires phase { self.old.state.phase ≡ Shared }
         ensures { Steps E.Fn self.old result self.new }
@@ -50,7 +50,7 @@ where
         answer
     }
 
-    /// An entry was passed.
+    /// Passes an entry that is not accepted.
     fn pass(&mut self, next: CallState, asked: bool) -> Answer
         requires phase { Meets self.old.state.phase }
         requires went { Went self.old.state next (passed_answer asked) }
@@ -62,7 +62,7 @@ where
         passed(asked)
     }
 
-    /// What was accepted is kept beside the value.
+    /// Keeps the accepted target beside the value.
     fn keep(&mut self, next: CallState, target: &'a T::Target) -> Answer
         requires phase { Meets self.old.state.phase }
         requires went { Went self.old.state next (Holds true) }
@@ -81,7 +81,7 @@ where
         Answer::Holds { accepted: true }
     }
 
-    /// The bucket is read. Where it is empty the call stands at it.
+    /// Reads the bucket. If it is empty the insert stays at it.
     fn read(&mut self) -> Answer
         requires phase { self.old.state.phase ≡ Probe }
         requires callable { E.IsAlwaysCallable self.old.asking.eq }
@@ -110,7 +110,7 @@ where
         }
     }
 
-    /// One exchange at an empty bucket. Who loses it passes or accepts the entry that came first.
+    /// Does one exchange at an empty bucket. If another entry came first, passes or accepts that entry.
     fn put(&mut self) -> Answer
         requires phase { self.old.state.phase ≡ AtEmpty }
         requires callable { E.IsAlwaysCallable self.old.asking.eq }
@@ -153,7 +153,7 @@ where
         }
     }
 
-    /// The placed value is counted.
+    /// Counts the placed value.
     fn count(&mut self) -> Answer
         requires phase { self.old.state.phase ≡ Placed }
         ensures { Steps E.Fn self.old result self.new }
@@ -165,7 +165,7 @@ where
         Answer::Counted
     }
 
-    /// The size is asked.
+    /// Reads the number of entries, and decides whether growth is wanted.
     fn ask_size(&mut self) -> Answer
         requires phase { self.old.state.phase ≡ AskSize }
         ensures { Steps E.Fn self.old result self.new }
@@ -175,7 +175,7 @@ where
         Answer::Sized { size }
     }
 
-    /// Growth is looked at again.
+    /// Checks again, under all locks, whether growth is wanted, and begins it.
     fn check(&mut self) -> Answer
         requires phase { self.old.state.phase ≡ Owned }
         ensures { Steps E.Fn self.old result self.new }
@@ -201,7 +201,7 @@ where
         }
     }
 
-    /// One entry is copied, or what was built is shown.
+    /// Copies one entry, or publishes the generation when every entry was copied.
     fn build(&mut self) -> Answer
         requires phase { self.old.state.phase ≡ Building }
         requires callable { H.IsAlwaysCallable self.old.asking.hash_fn }
@@ -223,7 +223,7 @@ where
         Answer::Shown
     }
 
-    /// All entries that are left are copied, each by a step. The call stands where it stood.
+    /// Copies all entries that are left, one step for each. The state does not change.
     fn copy_rest(&mut self)
         requires phase { self.old.state.phase ≡ Building }
         requires callable { H.IsAlwaysCallable self.old.asking.hash_fn }
@@ -239,7 +239,7 @@ where
         self.growth = Some(growth);
     }
 
-    /// A lock is released.
+    /// Releases the lock that the insert holds.
     fn leave(&mut self) -> Answer
         requires phase { Leaves self.old.state.phase }
         ensures { Steps E.Fn self.old result self.new }
@@ -254,7 +254,7 @@ where
         answer
     }
 
-    /// One step that takes no lock.
+    /// Takes one step that takes no lock.
     fn turn(&mut self) -> Answer
         requires phase { Turns self.old.state.phase }
         requires asks { Asks E.IsAlwaysCallable H.IsAlwaysCallable T.target E.Fn self.old.asking
@@ -278,7 +278,8 @@ where
         }
     }
 
-    /// One step, for which a lock that is wanted is tried once. Nothing changes where others hold it, or after the end.
+    /// Takes one step, and tries once if it needs a lock. Returns `None` and changes nothing if others hold that lock or the
+    /// insert is at its end.
     pub(crate) fn try_turn(&mut self) -> Option<Answer>
         requires asks { Asks E.IsAlwaysCallable H.IsAlwaysCallable T.target E.Fn self.old.asking
             self.old.carried }
@@ -294,7 +295,7 @@ where
         }
     }
 
-    /// One step, which waits for a lock that is wanted.
+    /// Takes one step, and waits for the lock if the step needs one.
     fn wait_turn<R: Wait>(&mut self, rt: &R) -> Answer
         requires unfinished { self.old.state.phase ≢ Done }
         requires asks { Asks E.IsAlwaysCallable H.IsAlwaysCallable T.target E.Fn self.old.asking
@@ -310,7 +311,7 @@ where
         }
     }
 
-    /// The answer of a finished call.
+    /// Returns the result of an insert that is at its end.
     pub(crate) fn finish(&mut self) -> Result<(&'a T::Target, Option<T>), T>
         requires there { self.old.carried ≢ Carried.Gone }
         requires over { self.old.state.phase ≡ Done }
@@ -321,7 +322,7 @@ where
         mem::replace(&mut self.carried, Carried::Gone).into_answer()
     }
 
-    /// Step by step to the end, from any phase but the last. Where a generation is built its entries are copied in a row.
+    /// Runs the insert to its end, from any phase but the last. While a generation is built, copies its entries in one go.
     pub(crate) fn go_on<R: Wait>(self, rt: &R) -> Result<(&'a T::Target, Option<T>), T>
         requires unfinished { self.state.phase ≢ Done }
         requires asks { Asks E.IsAlwaysCallable H.IsAlwaysCallable T.target E.Fn self.asking

@@ -1,4 +1,4 @@
-//! Words for the generations that are made after a table was shared.
+//! The words that hold the generations made after a table was shared.
 ghost use Rattle.std.specs.Prelude.{◌≡◌, ◌≤◌, ◌<◌, IfOk, IfSome, IsSome, Some, MatchOption, length, vec_capacity, []};
 ghost use Rattle.std.specs.Box.{box_allocator};
 ghost use Rattle.table_shared.specs.Lineages.{IsOpen, AreRoomy};
@@ -8,11 +8,11 @@ use table_cell::{Home, Homed, LooseBlock, Low, Note, Word};
 use table_generations::atomic_value::AtomicValue;
 use table_generations::fixed::Generation;
 
-/// At most so many generations are made after a table was shared: each has twice the buckets of the one before, and the
-/// first has at least 16, so the 60th has at least 2^63.
+/// The greatest number of generations that are made after a table was shared. Each has twice the buckets of the one before and
+/// the first has at least 16, so the 60th has at least 2^63.
 const LATER: usize = 60;
 
-/// A word for each later generation, and the room to take the generations out again.
+/// A word for each later generation, and a vector with room to take the generations out again.
 #[derive(Drop)]
 pub(crate) struct Later<T: AtomicValue, A: Allocator + Copy> {
     pub(crate) alloc: A,
@@ -24,14 +24,15 @@ impl<T: AtomicValue, A: Allocator + Copy> Homed for Later<T, A> {
     ghost fits = { λ l h. AreRoomy h l.alloc l.words.items l.room.items (vec_capacity l.room) };
 }
 
-/// The word of a later generation, and the allocator that the generation's block is of.
+/// The word of a later generation, and the allocator of the generation's block.
 #[derive(Drop)]
 pub(crate) struct Slot<'a, T: AtomicValue, A: Allocator + Copy> {
     pub(crate) alloc: A,
     pub(crate) word: &'a Word<Generation<T, A>, A>,
 }
 
-/// Shows a block by a word, with a note that has seen what the word shows: this block. If the word was set before, it is given back.
+/// Publishes a block through a word. Returns a note that knows what the word holds: this block, or the one that was there before,
+/// and then this block is returned.
 pub(crate) fn show_block<X: Homed + Drop, A: Low + Copy>(
     word: &Word<X, A>,
     home: &Home,
@@ -53,7 +54,7 @@ pub(crate) fn show_block<X: Homed + Drop, A: Low + Copy>(
 }
 
 impl<T: AtomicValue, A: Allocator + Copy> Later<T, A> {
-    /// Words of which none is set. It asks for memory twice.
+    /// Makes the words, none of which is set. Allocates twice.
     pub(crate) fn new(alloc: A, home: &Home) -> Result<Self, AllocError>
         ensures roomy { IfOk result (λ l. AreRoomy home.now.id alloc l.words.items l.room.items
             (vec_capacity l.room)) }
@@ -67,7 +68,7 @@ impl<T: AtomicValue, A: Allocator + Copy> Later<T, A> {
         Ok(Later { alloc, words, room })
     }
 
-    /// The word of the later generation of this index, if there are so many.
+    /// Returns the word of the later generation of this index, or `None` if there are not that many words.
     pub(crate) fn slot(&self, home: &Home, index: usize) -> Option<Slot<'_, T, A>>
         requires { AreRoomy home.now.id self.now.alloc self.now.words.items self.now.room.items
             (vec_capacity self.now.room) }

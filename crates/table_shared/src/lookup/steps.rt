@@ -1,4 +1,4 @@
-//! A look-up that goes one step at a time.
+//! A look-up that runs one step at a time.
 ghost use Rattle.std.specs.Prelude.{◌≡◌, ◌≢◌, true, IfSome};
 ghost use Rattle.std.specs.Fn.{FnReturnsAt};
 ghost use Rattle.table_core.specs.Calls.{lookup_start};
@@ -19,7 +19,7 @@ use table_generations::atomic_value::AtomicValue;
 use table_generations::fixed::Generation;
 use table_turns::passed;
 
-/// A look-up between two steps: where it stands, and the generation that it walks.
+/// A look-up between two steps: its state, and the generation that it probes.
 #[derive(Drop)]
 pub(crate) struct Looking<'a, T: AtomicValue, A: Allocator + Copy, F> {
     table: &'a LockFreeRawTable<T, A>,
@@ -30,7 +30,7 @@ pub(crate) struct Looking<'a, T: AtomicValue, A: Allocator + Copy, F> {
 }
 
 impl<'a, T: AtomicValue, A: Allocator + Copy, F: Fn(&T::Target) -> bool> Looking<'a, T, A, F> {
-    /// A look-up that has taken no step.
+    /// Makes a look-up that has taken no step.
     pub(crate) fn new(table: &'a LockFreeRawTable<T, A>, hash: u64, test: F) -> Self
         ensures { (result.state ≡ lookup_start hash) × (result.test ≡ test) }
     {
@@ -42,7 +42,7 @@ impl<'a, T: AtomicValue, A: Allocator + Copy, F: Fn(&T::Target) -> bool> Looking
         }
     }
 
-    /// The current generation is loaded.
+    /// Loads the current generation.
     fn load(&mut self) -> Answer
         requires phase { self.old.state.phase ≡ LookLoad }
         ensures went { Went self.old.state self.new.state result }
@@ -56,7 +56,7 @@ impl<'a, T: AtomicValue, A: Allocator + Copy, F: Fn(&T::Target) -> bool> Looking
         answer
     }
 
-    /// The bucket is read. A target that the test accepted is handed out.
+    /// Reads the bucket, and returns the target if the test accepted it.
     fn read(&mut self) -> (Answer, Option<&'a T::Target>)
         requires phase { self.old.state.phase ≡ LookProbe }
         requires callable { F.IsAlwaysCallable self.old.test }
@@ -91,7 +91,7 @@ impl<'a, T: AtomicValue, A: Allocator + Copy, F: Fn(&T::Target) -> bool> Looking
         }
     }
 
-    /// One step, which takes no lock. A target that the test accepted is handed out.
+    /// Takes one step, which takes no lock. Returns the target if the test accepted it.
     pub(crate) fn turn(&mut self) -> (Answer, Option<&'a T::Target>)
         requires unfinished { self.old.state.phase ≢ Done }
         requires callable { F.IsAlwaysCallable self.old.test }

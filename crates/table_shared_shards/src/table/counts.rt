@@ -1,8 +1,8 @@
-//! Counts of several shards, added.
+//! Sums of the counts of several shards.
 ghost use Rattle.std.specs.Iterator.{IsFinite};
 ghost use Rattle.table_shared_shards.specs.SharedShards.{AddsUp};
 
-/// The sum of these counts, or the greatest usize if it is more.
+/// Returns the sum of these counts, or `usize::MAX` if it is more.
 pub(super) fn capped_total<I: Iterator<Item = usize>>(counts: I) -> usize
     requires can { I.can_next counts }
     requires ends { IsFinite (I.remaining counts) }

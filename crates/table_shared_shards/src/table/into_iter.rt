@@ -1,4 +1,4 @@
-//! The values of a table over shards that threads shared, handed out.
+//! Iteration by value over a table over shards that threads shared.
 ghost use Rattle.std.specs.Prelude.{◌≡◌, ◌<◌, length, slice_index_or, slice_set, []};
 ghost use Rattle.std.specs.Iterator.{YieldsFirst, item_count};
 ghost use Rattle.table_shared_shards.specs.SharedShards.{GivesAt, TakesOne};
@@ -12,12 +12,12 @@ use table_generations::atomic_value::AtomicValue;
 use table_shared as raw;
 use table_shared::LockFreeRawTable;
 
-/// The values of a table's shards, by value and each once, shard after shard, seen as the list of those that are left.
-/// Dropped early, it drops them.
+/// An iterator over the values of a table's shards, each once, shard by shard. A contract sees the list of the values that are
+/// left. Dropping the iterator drops them.
 #[derive(Drop)]
 pub struct IntoIter<T: AtomicValue, const SHARDS: usize, A: Allocator + Copy = Global> {
     shards: [raw::IntoIter<T, A>; SHARDS],
-    /// The number of the first shard of which values may be left.
+    /// The number of the first shard that may have values left.
     first: usize,
 }
 
@@ -32,7 +32,7 @@ impl<T: AtomicValue, const SHARDS: usize, A: Allocator + Copy> Model for IntoIte
     ghost invariant = { λ it. length it.shards ≡ SHARDS };
 }
 
-/// The next value of the shard of this number, if one is left.
+/// Returns the next value of the shard of this number, if one is left.
 fn next_of<T: AtomicValue, A: Allocator + Copy>(
     shards: &mut [raw::IntoIter<T, A>],
     shard: usize,
@@ -50,6 +50,7 @@ impl<T: AtomicValue, const SHARDS: usize, A: Allocator + Copy> Iterator for Into
 
     ghost remaining = { item_count (λ rest. rest) };
 
+    /// Returns the next value, or `None` at the end.
     fn next(&mut self) -> Option<T> {
         while self.first < SHARDS {
             if let Some(value) = next_of(self.shards.as_mut_slice(), self.first) {
@@ -64,7 +65,7 @@ impl<T: AtomicValue, const SHARDS: usize, A: Allocator + Copy> Iterator for Into
 impl<T: AtomicValue, const SHARDS: usize, A: Allocator + Copy> FusedIterator
     for IntoIter<T, SHARDS, A> {}
 
-/// Takes the shard of this number apart, and leaves an empty one.
+/// Consumes the shard of this number, leaves an empty one, and returns an iterator over its values.
 fn take_apart<T: AtomicValue, A: Allocator + Copy>(
     shards: &mut [LockFreeRawTable<T, A>],
     shard: usize,
@@ -77,7 +78,7 @@ fn take_apart<T: AtomicValue, A: Allocator + Copy>(
 }
 
 impl<T: AtomicValue, const SHARDS: usize, A: Allocator + Copy> IntoIter<T, SHARDS, A> {
-    /// The values of these shards.
+    /// Makes an iterator over the values of these shards, and leaves empty ones.
     fn of_tables(tables: &mut [LockFreeRawTable<T, A>]) -> Self
         requires { length tables.old ≡ SHARDS }
     {
@@ -92,7 +93,7 @@ impl<T: AtomicValue, const SHARDS: usize, A: Allocator + Copy> IntoIterator
 
     type IntoIter = IntoIter<T, SHARDS, A>;
 
-    /// Takes the shards apart, and hands out each value that they hold. It takes no memory.
+    /// Consumes the table and returns an iterator over the values of its shards. Does not allocate.
     fn into_iter(self) -> IntoIter<T, SHARDS, A> {
         let ShardedLockFreeRawTable { mut shards } = self;
         IntoIter::of_tables(shards.as_mut_slice())

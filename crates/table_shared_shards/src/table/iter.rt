@@ -1,4 +1,4 @@
-//! A walk over the shards of a table that threads share.
+//! Iteration by reference over the shards of a table that threads share.
 ghost use Rattle.std.specs.Prelude.{◌≡◌};
 ghost use Rattle.std.specs.Iterator.{at_most};
 ghost use Rattle.table_shared_shards.specs.SharedShards.{WalksOn, IsInFirst, steps_left};
@@ -11,8 +11,8 @@ use table_generations::atomic_value::AtomicValue;
 use table_shared as raw;
 use table_shared::LockFreeRawTable;
 
-/// The targets of the entries of a table's shards, shard after shard. The walk of a shard is begun once that of the one
-/// before is exhausted. It is seen as the shards that it hasn't come to, and the walk over the one that it is in.
+/// An iterator over the targets of the entries of a table's shards, shard by shard. The iterator of a shard is made after that of
+/// the one before has ended. A contract sees the shards that are still to come, and the iterator of the current one.
 #[derive(Drop)]
 pub struct Iter<'a, T: AtomicValue, const SHARDS: usize, A: Allocator + Copy = Global> {
     walk: raw::Iter<'a, T, A>,
@@ -39,6 +39,7 @@ impl<'a, V: 'a, T: AtomicValue<Target = V>, const SHARDS: usize, A: Allocator + 
 
     ghost remaining = { λ it. at_most (steps_left it) };
 
+    /// Returns the target of the next entry, or `None` at the end.
     fn next(&mut self) -> Option<&'a V> {
         loop {
             if let Some(target) = self.walk.next() {
@@ -59,7 +60,8 @@ impl<T: AtomicValue, const SHARDS: usize, A: Allocator + Copy> ShardedLockFreeRa
     SHARDS,
     A,
 > {
-    /// A walk over the targets of the entries, from the first shard to the last. It takes no lock and no memory.
+    /// Returns an iterator over the targets of the entries, from the first shard to the last. Takes no lock and does not
+    /// allocate.
     pub fn iter(&self) -> Iter<'_, T, SHARDS, A>
         ensures begins { IsInFirst self.now result }
     {
@@ -81,6 +83,8 @@ impl<'a, V: 'a, T: AtomicValue<Target = V>, const SHARDS: usize, A: Allocator + 
 
     ghost into_iter_gives = { λ t it. IsInFirst t.now it };
 
+    /// Returns an iterator over the targets of the entries, from the first shard to the last. Takes no lock and does not
+    /// allocate.
     fn into_iter(self) -> Iter<'a, T, SHARDS, A> {
         self.iter()
     }

@@ -1,4 +1,4 @@
-//! A table over shards held alone becomes one that threads share.
+//! The conversion of a single-owner table over shards into one that threads share.
 ghost use Rattle.std.specs.Prelude.{◌≡◌, ◌<◌, length, map};
 ghost use Rattle.std.specs.Int.{IsPowerOfTwo};
 ghost use Rattle.table_shared_shards.specs.SharedShards.{SharesOne};
@@ -12,7 +12,7 @@ use table_held::raw::HeldRawTable;
 use table_shards::sharded::HeldShardedTable;
 use table_shared::LockFreeRawTable;
 
-/// Takes the shard of this number out, to be shared by threads, and leaves an empty one.
+/// Takes out the shard of this number, turns it into a shared one, and leaves an empty one.
 fn share_one<T: AtomicValue, A: Allocator + Copy>(
     shards: &mut [HeldRawTable<T, A>],
     shard: usize,
@@ -29,7 +29,7 @@ impl<T: AtomicValue, const SHARDS: usize, A: Allocator + Copy> ShardedLockFreeRa
     SHARDS,
     A,
 > {
-    /// The table of these shards, each in its place.
+    /// Makes a shared table of these shards, in order, and leaves empty ones.
     fn of_held(held: &mut [HeldRawTable<T, A>]) -> Self
         requires power { IsPowerOfTwo SHARDS }
         requires shards { length held.old ≡ SHARDS }
@@ -55,8 +55,8 @@ impl<T: AtomicValue, const SHARDS: usize, A: Allocator + Copy> Share
 
     ghost shared_rows = { λ ts. map (λ t. t.shared) ts };
 
-    /// The table, to be shared by threads: each shard as `HeldRawTable::share` makes it, in its place. It takes no memory, and
-    /// no bucket is looked at.
+    /// Turns the table into one that threads share, shard by shard, as `share` of a `HeldRawTable` does. Does not allocate and
+    /// reads no bucket.
     fn share(self) -> ShardedLockFreeRawTable<T, SHARDS, A>
         ensures first { map (λ t. t.first_capacity) result ≡ map (λ t. t.first_capacity) self }
         ensures shared { map (λ t. t.shared) result ≡ map (λ t. t.generations) self }
