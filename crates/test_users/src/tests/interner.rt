@@ -4,16 +4,11 @@ mod order;
 mod seats;
 mod texts;
 
+use super::assert_same;
 use interner::{Interner, Refused};
 use std::alloc::Allocator;
-use std::fmt::Debug;
 use std::num::NonZeroU32;
 use std::process::Abort;
-
-/// Both are the same.
-fn assert_same<X: PartialEq + Debug + Drop>(rt: &impl Abort, got: X, expected: X) {
-    assert_eq!(rt; got, expected);
-}
 
 /// The number of the text, interned, or 0 where memory was refused. None is refused for want of numbers.
 fn intern<A: Allocator + Copy>(rt: &impl Abort, interner: &mut Interner<A>, text: &str) -> u32 {

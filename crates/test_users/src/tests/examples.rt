@@ -8,15 +8,9 @@ mod schedules;
 mod shared;
 mod words;
 
+use super::assert_same;
 use std::alloc::Allocator;
-use std::fmt::Debug;
-use std::process::Abort;
 use tool_memo_table::memo::Memo;
-
-/// Both are the same.
-fn assert_same<X: PartialEq + Debug + Drop>(rt: &impl Abort, got: X, expected: X) {
-    assert_eq!(rt; got, expected);
-}
 
 /// The Fibonacci number of the argument by plain addition, modulo 2^64.
 fn slow_fibonacci(argument: u64) -> u64 {
