@@ -1,7 +1,7 @@
 use Rattle.std.proofs.Common.{◌≡◌, ◌∙◌, ◌∷◌, ap, sym, length}
 use Rattle.std.proofs.lemmas.List.Elements.{All-head, All-tail}
-use Rattle.table_values.proofs.Walks.{next_left}
-use Rattle.table_values.proofs.into_iter.IntoIterIterator.next.Goals as goal
+use Rattle.table_generations.proofs.Walks.{next_left}
+use Rattle.table_generations.proofs.values.into_iter.IntoIterIterator.next.Goals as goal
 
 pub loop-value-preserved : goal.loop-value-preserved
 loop-value-preserved g c =

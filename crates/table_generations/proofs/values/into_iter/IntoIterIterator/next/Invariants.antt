@@ -1,6 +1,6 @@
 use Rattle.std.proofs.Common.{◌≡◌, length}
-use Rattle.table_values.specs.Values.{all_left, AreCounted}
-use Rattle.table_values.proofs.into_iter.IntoIterIterator.next.Given as goal
+use Rattle.table_generations.specs.Values.{all_left, AreCounted}
+use Rattle.table_generations.proofs.values.into_iter.IntoIterIterator.next.Given as goal
 
 -- only generations that own nothing more were passed over
 abbrev pub invariant-loop-value : goal.invariant-loop-value

@@ -2,7 +2,7 @@
 use Rattle.std.proofs.Common.{◌≡◌, List, [], ◌∷◌, refl}
 use Rattle.table_generations.specs.Buckets.{owned_values}
 use Rattle.table_generations.specs.Generations.{GenerationView, OwnValuesView}
-use Rattle.table_values.specs.Values.{all_left}
+use Rattle.table_generations.specs.Values.{all_left}
 
 module _ {A T : Type 0} where
   -- where the values of one generation are out, those of the next one are taken

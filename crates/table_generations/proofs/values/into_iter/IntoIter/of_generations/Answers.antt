@@ -1,5 +1,5 @@
 use Rattle.std.proofs.Common.{◌∙◌}
-use Rattle.table_values.proofs.into_iter.IntoIter.of_generations.Goals as goal
+use Rattle.table_generations.proofs.values.into_iter.IntoIter.of_generations.Goals as goal
 
 pub invariant_of-result : goal.invariant_of-result
 invariant_of-result g c = record {

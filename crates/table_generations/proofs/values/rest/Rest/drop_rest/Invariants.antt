@@ -1,6 +1,6 @@
 use Rattle.std.proofs.Common.{◌≡◌, length}
 use Rattle.std.specs.Prelude.{All}
-use Rattle.table_values.proofs.rest.Rest.drop_rest.Given as goal
+use Rattle.table_generations.proofs.values.rest.Rest.drop_rest.Given as goal
 
 -- the generations that are left are of the home
 abbrev pub invariant-loop-generation : goal.invariant-loop-generation

@@ -3,16 +3,16 @@ ghost use Rattle.std.specs.Prelude.{◌≡◌, ◌++◌, All, length, Some, IfSo
 ghost use Rattle.std.specs.Iterator.{YieldsFirst, item_count, at_most, UpTo};
 ghost use Rattle.std.specs.Iterator.SizeHint.{IsWithinCount};
 ghost use Rattle.table_generations.specs.Buckets.{owned_values};
-ghost use Rattle.table_values.specs.Values.{all_owned, with_later};
+ghost use Rattle.table_generations.specs.Values.{all_owned, with_later};
 
-use crate::rest::Rest;
+use crate::atomic_value::AtomicValue;
+use crate::fixed::Generation;
+use crate::fixed::owning::OwnValues;
+use crate::values::rest::Rest;
 use std::alloc::{Allocator, Global};
 use std::iter::FusedIterator;
 use std::marker::Model;
 use table_cell::Closed;
-use table_generations::atomic_value::AtomicValue;
-use table_generations::fixed::Generation;
-use table_generations::fixed::owning::OwnValues;
 
 /// The values of a table, by value and each once, seen as the list of those that are left. Dropped early, it drops them.
 pub struct IntoIter<T: AtomicValue, A: Allocator + Copy = Global> {
@@ -24,7 +24,7 @@ pub struct IntoIter<T: AtomicValue, A: Allocator + Copy = Global> {
 
 impl<T: AtomicValue, A: Allocator + Copy> Model for IntoIter<T, A> {
     ghost use Rattle.std.specs.Prelude.{List};
-    ghost use Rattle.table_values.specs.Values.{all_left, AreCounted};
+    ghost use Rattle.table_generations.specs.Values.{all_left, AreCounted};
 
     ghost Value = { List T };
 

@@ -2,12 +2,12 @@
 ghost use Rattle.std.specs.Prelude.{◌≡◌, ◌++◌, All, [], map};
 ghost use Rattle.std.specs.Iterator.{YieldsFirst};
 
+use crate::atomic_value::AtomicValue;
+use crate::fixed::Generation;
 use std::alloc::Allocator;
 use std::marker::Model;
 use std::vec;
 use table_cell::Closed;
-use table_generations::atomic_value::AtomicValue;
-use table_generations::fixed::Generation;
 
 /// Generations that are left, seen as their list: those of one vector, and then those that lie in blocks.
 #[derive(Drop)]
@@ -20,7 +20,7 @@ impl<T: AtomicValue, A: Allocator + Copy> Model for Rest<T, A> {
     ghost use Rattle.std.specs.Prelude.{List};
     ghost use Rattle.std.specs.Vec.Iter.{into_iter_items};
     ghost use Rattle.table_generations.specs.Generations.{GenerationView};
-    ghost use Rattle.table_values.specs.Values.{with_later};
+    ghost use Rattle.table_generations.specs.Values.{with_later};
 
     ghost Value = { List (GenerationView A T) };
 
@@ -28,7 +28,7 @@ impl<T: AtomicValue, A: Allocator + Copy> Model for Rest<T, A> {
 }
 
 impl<T: AtomicValue, A: Allocator + Copy> Rest<T, A> {
-    ghost use Rattle.table_values.specs.Values.{with_later};
+    ghost use Rattle.table_generations.specs.Values.{with_later};
 
     /// The generations of the vector, and then those in blocks. It takes no memory.
     pub fn new(earlier: Vec<Generation<T, A>, A>, later: Vec<Box<Generation<T, A>, A>, A>) -> Self

@@ -1,6 +1,6 @@
 use Rattle.std.proofs.Common.{◌≡◌, ◌∙◌, ◌∷◌}
 use Rattle.std.proofs.lemmas.List.Elements.{All-head, All-tail}
-use Rattle.table_values.proofs.rest.Rest.drop_rest.Goals as goal
+use Rattle.table_generations.proofs.values.rest.Rest.drop_rest.Goals as goal
 
 pub drop_rest-requires : goal.drop_rest-requires
 drop_rest-requires g c =
