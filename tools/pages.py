@@ -10,7 +10,7 @@ It writes the parts of pages that follow from the sources:
 - each block below a line that ends in 'the whole of `FILE`:'.
 
 With --check it writes nothing, and ends by 1 where a part isn't what it would write. Either way it says so and ends by 1 where
-- PROMISES.md names a call or a clause that isn't there, or a public call of a crate that has a section there has no line;
+- PROMISES.md names a call or a clause that isn't there, or a public call of a crate or module that has a section there has no line;
 - a block below a line that ends in a file's name isn't part of that file, or a clause of CONTRACT.md isn't as its file has it;
 - a link leads to no file.
 
@@ -173,14 +173,16 @@ def calls_in(file, only, types):
             ghosts = []
 
 
-def calls_of(crate):
-    """The calls of a library, file by file."""
+def calls_of(section):
+    """The calls of a library, or of a module below its root (`crate::module`), file by file."""
+    crate, _, module = section.partition("::")
     root = folder_of(crate) / "src" / "lib.rt"
     if not root.exists():
         return []
     files = shown(root)
-    types = public_types(files)
-    return [call for file, only in sorted(files.items()) for call in calls_in(file, only, types)]
+    types, inner = public_types(files), root.parent / module
+    wanted = [file for file in sorted(files) if not module or inner in (file.with_suffix(""), *file.parents)]
+    return [call for file in wanted for call in calls_in(file, files[file], types)]
 
 
 # docs/PROMISES.md
@@ -210,7 +212,7 @@ class Promises:
             self.write_signatures()
         if line.startswith("## "):
             self.end_section()
-            section = re.match(r"## .*\(`(\w+)`\)$", line)
+            section = re.match(r"## .*\(`(\w+(?:::\w+)?)`\)$", line)
             self.crate = section.group(1) if section else ""
             self.begin_section()
         elif line.startswith("### "):
@@ -228,7 +230,7 @@ class Promises:
         self.unwritten = []
 
     def begin_section(self):
-        """A section of a crate's calls begins, or another one."""
+        """A section of the calls of a crate or module begins, or another one."""
         self.calls, self.owner = collections.defaultdict(list), ""
         if self.crate:
             for call in calls_of(self.crate):
@@ -236,7 +238,7 @@ class Promises:
         self.missing = {key for key, some in self.calls.items() if any(call.public for call in some)}
 
     def end_section(self):
-        """A section of a crate's calls ends: each of them has had its line."""
+        """A section of the calls of a crate or module ends: each of them has had its line."""
         self.write_signatures()
         for owner, name in sorted(self.missing):
             self.faults.append(f"{self.crate}: no line for {owner}::{name}")

@@ -6,3 +6,4 @@ pub mod Probes
 pub mod Rehashes
 pub mod Windows
 pub mod Owned
+mod Walks

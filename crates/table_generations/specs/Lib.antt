@@ -5,3 +5,4 @@ pub mod Generations
 pub mod Growth
 pub mod Looks
 pub mod Windows
+pub mod Values

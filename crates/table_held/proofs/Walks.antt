@@ -10,7 +10,7 @@ use Rattle.table_generations.specs.Generations.{GenerationView}
 use Rattle.table_held.specs.Table.{HeldTable, IsKept, table_of, contents_in, owned_rows, entries, held}
 use Rattle.table_held.specs.Walks.{WalksAsList, GivesEntries}
 use Rattle.table_held.proofs.Answered.{walks_as_list}
-use Rattle.table_values.specs.Values.{all_owned, with_later}
+use Rattle.table_generations.specs.Values.{all_owned, with_later}
 
 module _ {T : Type 0} where
   -- the entries as they stand answer a walk as each list that the table stands for does

@@ -23,9 +23,9 @@ pub use table_cell::Low;
 use table_generations::atomic_value::{AtomicValue, Law};
 use table_generations::fixed::{Generation, ProbeEnd, Refusal};
 use table_generations::growth::rehashed;
+pub use table_generations::values::IntoIter;
 use table_terms::capacity;
 pub use table_terms::capacity::FIRST_CAPACITY;
-pub use table_values::IntoIter;
 
 /// Returns whether the first generation of a table may have `first` buckets: `first` is a power of two from 16 to 2^30.
 pub fn is_first_capacity(first: usize) -> bool

@@ -8,7 +8,7 @@ use Rattle.std.proofs.lemmas.List.Elements.{All-nil, All-cons, All-head, All-tai
 use Rattle.std.proofs.lemmas.Grind.{flat_map-append}
 use Rattle.table_generations.specs.Buckets.{owned_values}
 use Rattle.table_generations.specs.Generations.{GenerationView}
-use Rattle.table_values.specs.Values.{all_owned, with_later}
+use Rattle.table_generations.specs.Values.{all_owned, with_later}
 use Rattle.table_shared.specs.Settled.{IsSettled, SettlesAt, AreSettledBelow}
 
 module _ {A T : Type 0} (home : ℕ) where

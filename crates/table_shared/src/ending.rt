@@ -2,7 +2,7 @@
 ghost use Rattle.std.specs.Prelude.{◌≡◌, ◌+◌, ◌<◌, All, IfSome, length, vec_capacity, slice_index_or, map};
 ghost use Rattle.std.specs.Box.{box_allocator};
 ghost use Rattle.table_shared.specs.Lineages.{IsOpen, AreRoomy};
-ghost use Rattle.table_values.specs.Values.{all_owned};
+ghost use Rattle.table_generations.specs.Values.{all_owned};
 ghost use Rattle.table_shared.specs.Settled.{IsSettled, SettlesAt};
 
 use crate::lineage::later::Later;
@@ -11,7 +11,7 @@ use std::mem;
 use table_cell::{Closed, Home, Word};
 use table_generations::atomic_value::AtomicValue;
 use table_generations::fixed::Generation;
-use table_values::{IntoIter, Rest};
+use table_generations::values::{IntoIter, Rest};
 
 /// Moves what the generation at this index owns to the other home.
 fn rehome_at<T: AtomicValue, A: Allocator + Copy>(

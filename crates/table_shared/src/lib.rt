@@ -23,5 +23,5 @@ pub use growth::begin::Wanted;
 pub use iter::Iter;
 pub use stepped::{InsertCall, LookupCall, Progress};
 pub use table::{Current, LockFreeRawTable};
+pub use table_generations::values::IntoIter;
 pub use table_terms::capacity::FIRST_CAPACITY;
-pub use table_values::IntoIter;

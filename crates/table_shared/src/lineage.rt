@@ -12,7 +12,7 @@ use std::marker::Model;
 use table_cell::{Closed, Home, Low, Word};
 use table_generations::atomic_value::AtomicValue;
 use table_generations::fixed::Generation;
-use table_values::IntoIter;
+use table_generations::values::IntoIter;
 
 /// The generations of a shared table: those that it had when it was shared, and the later ones, each published once. The words
 /// that hold the later ones are made with the first of them.

@@ -19,9 +19,9 @@ use table_cell::{Home, Note};
 use table_core::{Answer, CallState};
 use table_generations::atomic_value::AtomicValue;
 use table_generations::fixed::Generation;
+use table_generations::values::IntoIter;
 use table_terms::capacity::FIRST_CAPACITY;
 use table_turns::{step, step_loaded};
-use table_values::IntoIter;
 
 /// An insertion-only hash table that threads share. A look-up takes no lock; an insert takes one.
 ///

@@ -1,4 +1,4 @@
-//! Tests: what a running table tells is what the machine of all schedules tells, and calls that are dropped before their end.
+//! Tests of the machine of all schedules, of running tables that are compared with it, and of calls that are dropped before their end.
 #![tactic(auto)]
 
 #[cfg(test)]

@@ -5,7 +5,7 @@ ghost use Rattle.table_held.specs.Walks.{GivesEntries};
 use crate::raw::HeldRawTable;
 use std::alloc::Allocator;
 use table_generations::atomic_value::AtomicValue;
-use table_values::IntoIter;
+use table_generations::values::IntoIter;
 
 impl<T: AtomicValue, A: Allocator + Copy> IntoIterator for HeldRawTable<T, A> {
     type Item = T;

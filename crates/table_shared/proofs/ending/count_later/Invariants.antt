@@ -1,6 +1,6 @@
 use Rattle.std.proofs.Common.{◌≡◌, ◌+◌, length, take}
 use Rattle.std.specs.Prelude.{map}
-use Rattle.table_values.specs.Values.{all_owned}
+use Rattle.table_generations.specs.Values.{all_owned}
 use Rattle.table_shared.proofs.ending.count_later.Given as goal
 
 abbrev pub invariant-loop-index : goal.invariant-loop-index

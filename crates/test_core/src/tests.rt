@@ -1,5 +1,0 @@
-//! Tests of `table_core` over all of its modules.
-
-mod decisions;
-mod events;
-mod load;

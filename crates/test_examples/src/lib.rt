@@ -1,5 +1,0 @@
-//! Tests of the examples.
-#![tactic(auto)]
-
-#[cfg(test)]
-mod tests;

@@ -1,5 +1,0 @@
-//! Tests of the interner.
-#![tactic(auto)]
-
-#[cfg(test)]
-mod tests;

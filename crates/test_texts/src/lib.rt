@@ -1,5 +1,0 @@
-//! Tests of the tools over text.
-#![tactic(auto)]
-
-#[cfg(test)]
-mod tests;

@@ -1,0 +1,5 @@
+//! Tests of what stands on the tables: the interner, the tools over text, and the examples.
+#![tactic(auto)]
+
+#[cfg(test)]
+mod tests;
