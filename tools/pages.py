@@ -6,7 +6,7 @@
 It writes the parts of pages that follow from the sources:
 - docs/PROMISES.md: below each call its signature and the names of its clauses;
 - docs/STATUS.md: the table of sizes;
-- docs/ARCHITECTURE.md: the table of crates;
+- docs/ARCHITECTURE.md: the tables of crates, one for each kind, the lowest layer first;
 - each block below a line that ends in 'the whole of `FILE`:'.
 
 With --check it writes nothing, and ends by 1 where a part isn't what it would write. Either way it says so and ends by 1 where
@@ -297,12 +297,38 @@ def docs_of(crate):
     return said_of(next(file for name in ("lib.rt", "main.rt") if (file := folder_of(crate) / "src" / name).exists()))
 
 
-def crate_table():
-    """What each crate is, and what it stands on."""
-    rows = ["| Crate | What it is | Stands on |", "|---|---|---|"]
+# the kinds of crates, by the first words of their names; every other crate is a library
+KINDS = {
+    "Programs and what they run": ("tablerun", "tool"),
+    "Examples": ("demo",),
+    "Tests": ("test",),
+    "What tests share": ("testkit",),
+}
+LIBRARIES = "Tables, sets and other libraries"
+
+
+def kind_of(crate):
+    """The kind of a crate."""
+    return next((kind for kind, words in KINDS.items() if crate.partition("_")[0] in words), LIBRARIES)
+
+
+def layers():
+    """The layer of each crate: one above the highest crate of this repository that it stands on."""
+    found = {}
     for crate, below in crates():
-        rows.append(f"| `{crate}` | {docs_of(crate)} | {', '.join(f'`{name}`' for name in below)} |")
-    return "\n".join(rows)
+        found[crate] = 1 + max((found[name] for name in below if name in found), default=0)
+    return found
+
+
+def crate_tables():
+    """What the crates of each kind are, the lowest layer first."""
+    found, tables = layers(), []
+    for kind in (LIBRARIES, *KINDS):
+        rows = [f"### {kind}\n", "| Layer | Crate | What it is |", "|---|---|---|"]
+        for crate in sorted((crate for crate in found if kind_of(crate) == kind), key=found.get):
+            rows.append(f"| {found[crate]} | `{crate}` | {docs_of(crate)} |")
+        tables.append("\n".join(rows))
+    return "\n\n".join(tables)
 
 
 # The pages
@@ -326,7 +352,7 @@ def with_quotes(text):
 def written_pages():
     """Each page that the tool writes to, as it should be, and what is wrong with what is hand-written."""
     promises = Promises((DOCS / "PROMISES.md").read_text())
-    parts = {"sizes": sizes(), "crates": crate_table()}
+    parts = {"sizes": sizes(), "crates": crate_tables()}
     pages = {}
     for page in PAGES:
         text = promises.text() if page.name == "PROMISES.md" else page.read_text()
