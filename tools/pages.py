@@ -4,15 +4,19 @@
     tools/pages.py [--check]
 
 It writes the parts of pages that follow from the sources:
-- docs/PROMISES.md: below each call its signature and the names of its clauses;
+- docs/PROMISES.md: the signature of each call, without the bounds that the page's first table has;
 - docs/STATUS.md: the table of sizes;
 - docs/ARCHITECTURE.md: the tables of crates, one for each kind, the lowest layer first;
 - each block below a line that ends in 'the whole of `FILE`:'.
 
 With --check it writes nothing, and ends by 1 where a part isn't what it would write. Either way it says so and ends by 1 where
-- PROMISES.md names a call or a clause that isn't there, or a public call of a crate or module that has a section there has no line;
-- a block below a line that ends in a file's name isn't part of that file, or a clause of CONTRACT.md isn't as its file has it;
-- a link leads to no file.
+- PROMISES.md names a call or a clause that isn't there, or doesn't name a public call of a crate or module that has a section there;
+- an item of PROMISES.md doesn't say what its calls require and ensure: each named clause stands in the item, in the text above the items
+  of its part, in the text above the sections, or in the item of a call that it refers to by "like `TYPE`"; a condition without a name
+  wants the word "requires", and a call without a clause the words "no clause". An item that begins with "Inner:" only names its calls;
+- a block below a line that ends in a file's name isn't part of that file;
+- the section of EXAMPLE.md that explains a contract leaves out a clause of it, or explains another;
+- a link leads to no file or heading.
 
 A crate of which git tracks no file is a user's own: it is left out, and named on a line.
 """
@@ -60,14 +64,40 @@ class Call:
     requires: list
     ensures: list
 
-    def line(self):
-        """The signature and the names of the clauses, on one line."""
-        parts = [f"`{self.signature}`"]
-        for word, names in (("requires", self.requires), ("ensures", self.ensures)):
-            named = [f"`{name}`" if name else "one clause" for name in names]
-            if named:
-                parts.append(f"{word} " + ", ".join(named))
-        return "; ".join(parts)
+    def shown(self, usual):
+        """The signature without the bounds that are usual."""
+        return without_bounds(self.signature.removeprefix("unsafe ").removeprefix("fn "), usual)
+
+
+def parts_of(text):
+    """The parts of a list that its commas part, but for those in brackets."""
+    parts, depth = [""], 0
+    for at, letter in enumerate(text):
+        depth += (letter in "<([") - (letter in ")]" or (letter == ">" and text[at - 1] != "-"))
+        if letter == "," and depth == 0:
+            parts.append("")
+        else:
+            parts[-1] += letter
+    return [part.strip() for part in parts if part.strip()]
+
+
+def parameter_names(signature):
+    """The names of the parameters of a signature."""
+    rest = re.sub(r"^(unsafe )?fn \w+", "", signature)
+    rest = without_parameters(rest) if rest.startswith("<") else rest
+    ends = (at for at, letter in enumerate(rest) if letter == ")" and rest[: at + 1].count("(") == rest[: at + 1].count(")"))
+    return [part.partition(":")[0] for part in parts_of(rest[1 : next(ends)])]
+
+
+def without_bounds(signature, usual):
+    """A signature whose type parameters have only the bounds that aren't usual."""
+    name, rest = re.match(r"(\w+)(.*)", signature).groups()
+    after = without_parameters(rest) if rest.startswith("<") else rest
+    parameters = parts_of(rest[: len(rest) - len(after)].strip()[1:-1])
+    named = [part.partition(":")[0] if part in usual else part for part in parameters]
+    after, _, bounds = after.partition(" where ")
+    bounds = [part for part in parts_of(bounds) if part not in usual]
+    return name + (f"<{', '.join(named)}>" if named else "") + after + (f" where {', '.join(bounds)}" if bounds else "")
 
 
 def shown(root):
@@ -138,7 +168,7 @@ def signature_at(lines, at):
         clause = re.match(r"(requires|ensures)\*?\s*(\w*)\s*\{", stripped)
         if clause:
             clauses[clause.group(1)].append(clause.group(2))
-        elif not any(clauses.values()) and not stripped.startswith(("{", "ghost", "where", "//")):
+        elif not any(clauses.values()) and not stripped.startswith(("{", "ghost", "//")):
             parts.append(re.sub(r"\s*(\{|\{\}|;)$", "", stripped))
         begun = any(clauses.values())
         if stripped in ("{", "{}") or stripped.endswith(";") or (stripped.endswith(("{", "{}")) and not begun):
@@ -188,10 +218,51 @@ def calls_of(section):
 # docs/PROMISES.md
 
 
-def names_of(line):
-    """The names that a list item begins with, before its colon."""
-    item = re.match(r"\s*- ((?:`[\w:]+`(?:, )?)+):", line)
-    return re.findall(r"`([\w:]+)`", item.group(1)) if item else []
+ITEM = re.compile(r"- ((?:`[^`]+`(?:, )?)+):(.*)")
+LIKE = re.compile(r"\blike (?:those of )?`([A-Z]\w*)(?:::(\w+))?`")
+INNER = re.compile(r"- Inner: ((?:`[\w:]+`(?:, )?)+)")
+
+
+def words_in(text):
+    """The names that a text has between backticks."""
+    return set(re.findall(r"`(\w+)`", text))
+
+
+@dataclasses.dataclass
+class Named:
+    """A call that an item begins with, by its name there and its whole name, with the functions of this name and the clauses said of it."""
+
+    name: str
+    whole: str
+    calls: list
+    said: set = dataclasses.field(default_factory=set)
+
+    def shape(self):
+        """The names of the parameters."""
+        return [parameter_names(call.signature) for call in self.calls if call.public]
+
+    def ensured(self):
+        """The names of the clauses that the call ensures."""
+        return {name for call in self.calls if call.public for name in call.ensures if name}
+
+    def heads(self, usual, like):
+        """What the item begins with: signatures, or the name where another call has the same parameters."""
+        signatures = [call.shown(usual) for call in self.calls if call.public]
+        if not signatures or (like and like.shape() == self.shape()):
+            return [f"`{self.name}`"]
+        owner = self.name.rpartition("::")[0]
+        return [f"`{owner}::{one}`" if owner else f"`{one}`" for one in signatures]
+
+    def unsaid(self, text, above):
+        """What a text and the text above it don't say of the call, where these clauses are said."""
+        for call in (call for call in self.calls if call.public):
+            for name in call.requires + call.ensures:
+                if name and name not in self.said:
+                    yield f"{self.whole} doesn't say clause {name}"
+            if "" in call.requires and "require" not in text + above and not LIKE.search(text):
+                yield f"{self.whole} doesn't say what it requires"
+            if not call.requires + call.ensures and "no clause" not in text:
+                yield f"{self.whole} doesn't say that it has no clause"
 
 
 class Promises:
@@ -199,69 +270,90 @@ class Promises:
 
     def __init__(self, text):
         self.lines, self.faults = [], []
+        self.usual = set(re.findall(r"`(\w+: [^`]+)`", text.partition("\n## ")[0]))
         self.calls, self.missing, self.crate, self.owner = {}, set(), "", ""
-        self.item, self.unwritten = [], []
+        self.item, self.begin, self.items = [], 0, {}
+        self.level, self.above = "page", {"page": "", "section": "", "part": ""}
         for line in text.splitlines():
-            if not (self.crate and re.match(r"  - `(unsafe )?fn ", line)):
-                self.take(line)
+            self.take(line)
         self.end_section()
 
     def take(self, line):
-        """Takes a line that isn't of the tool's own."""
-        if not line.startswith("  ") or line.startswith("  - "):
-            self.write_signatures()
+        """Takes a line of the page."""
+        if line.startswith(("- ", "#")) or not line:
+            self.end_item()
         if line.startswith("## "):
             self.end_section()
             section = re.match(r"## .*\(`(\w+(?:::\w+)?)`\)$", line)
-            self.crate = section.group(1) if section else ""
-            self.begin_section()
+            self.begin_section(section.group(1) if section else "")
         elif line.startswith("### "):
             kind = re.match(r"### `(\w+)`", line)
             self.owner = kind.group(1) if kind else ""
-        self.lines.append(line)
-        if self.crate and line.startswith("- `"):
-            self.take_item(line)
-        elif self.crate and line.startswith("  - `"):
+            self.level, self.above["part"] = "part", ""
+        item, inner = (ITEM.match(line), INNER.match(line)) if self.crate else (None, None)
+        if item:
+            self.begin = len(self.lines)
+            self.item = [self.named(text) for text in re.findall(r"`((?:\w+::)?\w+)[^`]*`", item.group(1))]
+        elif inner:
+            for name in re.findall(r"`([\w:]+)`", inner.group(1)):
+                self.named(name)
+        elif self.item and line.startswith("  - `"):
             self.check_clauses(line)
+        elif not self.item:
+            self.above[self.level] += line + "\n"
+        self.lines.append(line)
 
-    def write_signatures(self):
-        """Writes the signatures of the calls of an item, once its text is written."""
-        self.lines += [f"  - {call.line()}" for call in self.unwritten if call.public]
-        self.unwritten = []
-
-    def begin_section(self):
-        """A section of the calls of a crate or module begins, or another one."""
-        self.calls, self.owner = collections.defaultdict(list), ""
-        if self.crate:
-            for call in calls_of(self.crate):
-                self.calls[call.owner, call.name].append(call)
+    def begin_section(self, crate):
+        """A section of the calls of a crate or module begins, or another one, which has no crate."""
+        self.crate, self.calls, self.owner = crate, collections.defaultdict(list), ""
+        self.level, self.above["section"], self.above["part"] = "section", "", ""
+        for call in calls_of(crate) if crate else []:
+            self.calls[call.owner, call.name].append(call)
         self.missing = {key for key, some in self.calls.items() if any(call.public for call in some)}
 
     def end_section(self):
-        """A section of the calls of a crate or module ends: each of them has had its line."""
-        self.write_signatures()
+        """A section of the calls of a crate or module ends: each of them has been named."""
+        self.end_item()
         for owner, name in sorted(self.missing):
             self.faults.append(f"{self.crate}: no line for {owner}::{name}")
+        self.missing = set()
 
-    def take_item(self, line):
-        """The calls that an item begins with."""
-        self.item = []
-        for name in names_of(line):
-            owner, _, call = name.rpartition("::")
-            keys = [key for key in ((owner or self.owner, call), ("", call)) if key in self.calls]
-            if not keys:
-                self.faults.append(f"{self.crate}: no call {owner or self.owner}::{call}")
-                continue
+    def named(self, name):
+        """The call of this name, which may begin with its type's."""
+        owner, _, call = name.rpartition("::")
+        owner = owner or self.owner
+        keys = [key for key in ((owner, call), ("", call)) if key in self.calls]
+        if keys:
             self.missing.discard(keys[0])
-            self.item += self.calls[keys[0]]
-        self.unwritten = list(self.item)
+        else:
+            self.faults.append(f"{self.crate}: no call {owner}::{call}")
+        return Named(name, f"{owner}::{call}", self.calls[keys[0]] if keys else [])
+
+    def end_item(self):
+        """An item ends: its signatures are written, and each clause of its calls has been named."""
+        text, above = "\n".join(self.lines[self.begin:]), self.above["section"] + self.above["part"]
+        heads = []
+        for named in self.item:
+            others = LIKE.findall(text)
+            like = [self.items.get(f"{owner}::{call or named.whole.rpartition('::')[2]}") for owner, call in others]
+            if others and not any(like):
+                self.faults.append(f"{self.crate}: {named.whole} is like a call that has no item above")
+            named.said = words_in(text + above + self.above["page"]).union(*(one.said for one in like if one))
+            lacking = {name for one in like if one for name in one.ensured() - named.ensured()} - words_in(text)
+            self.faults += [f"{self.crate}: {named.whole} has no clause {name}, which the one that it is like has" for name in sorted(lacking)]
+            self.faults += [f"{self.crate}: {fault}" for fault in named.unsaid(text, above)]
+            heads += named.heads(self.usual, next((one for one, (_, call) in zip(like, others) if one and not call), None))
+        if heads:
+            rest = ITEM.match(self.lines[self.begin]).group(2)
+            self.lines[self.begin] = f"- {', '.join(heads)}:{rest}"
+        self.items |= {named.whole: named for named in self.item}
+        self.item = []
 
     def check_clauses(self, line):
         """The clauses that a line below an item begins with are those of its calls."""
-        known = {name for call in self.item for name in call.requires + call.ensures}
-        for name in names_of(line):
-            if name not in known:
-                self.faults.append(f"{self.crate}: no clause {name} of {self.item[0].name if self.item else line}")
+        known = {name for named in self.item for call in named.calls for name in call.requires + call.ensures}
+        for name in words_in(line.partition(":")[0]) - known:
+            self.faults.append(f"{self.crate}: no clause {name} of {self.item[0].whole}")
 
     def text(self):
         return "\n".join(self.lines) + "\n"
@@ -369,22 +461,29 @@ def quote_faults(page, text):
 
 
 def clause_faults(page, text):
-    """The clauses of a page that reads a contract aloud, where they aren't as the file has them which the page names first."""
-    if page.name != "CONTRACT.md":
+    """The clauses of the contract that the page of examples quotes and explains, where the one differs from the other."""
+    if page.name != "EXAMPLE.md":
         return
-    file = re.search(r"crates/\S+\.rt", text).group()
-    code = " ".join((TOP / file).read_text().split())
-    for label, block in re.findall(r"^```(\w*)\n(.*?)^```", text, re.S | re.M):
-        for clause in [] if label else re.split(r"\n(?=requires|ensures)", block.strip()):
-            if " ".join(clause.split()) not in code:
-                yield f"{page.relative_to(TOP)}: not so in {file}: {clause.splitlines()[0]}"
+    section = text.partition("\n## What a contract says\n")[2].partition("\n## ")[0]
+    quoted = set(re.findall(r"^ *ensures (\w+)", section, re.M))
+    explained = {name for line in re.findall(r"^- ((?:`\w+`(?:, )?)+):", section, re.M) for name in words_in(line)}
+    for name in sorted(quoted ^ explained) or ([] if quoted else ["contract"]):
+        yield f"{page.relative_to(TOP)}: {name} is quoted and not explained, or explained and not quoted"
+
+
+def anchors(text):
+    """The names by which links lead to the headings of a page."""
+    return {re.sub(r"[^\w\- ]", "", head.lower()).replace(" ", "-") for head in re.findall(r"^#+ (.*)$", text, re.M)}
 
 
 def link_faults(page, text):
-    """The links of a page that lead to no file."""
-    for link in re.findall(r"\]\(([^)#:]+)(?:#[^)]*)?\)", text):
-        if not (page.parent / link).exists():
+    """The links of a page that lead to no file, or to no heading."""
+    for link, anchor in re.findall(r"\]\(([^)#:]*)(?:#([^)]*))?\)", text):
+        there = page.parent / link if link else page
+        if not there.exists():
             yield f"{page.relative_to(TOP)} links to {link}, which isn't there"
+        elif anchor and anchor not in anchors(text if there == page else there.read_text()):
+            yield f"{page.relative_to(TOP)} links to {link}#{anchor}, which isn't there"
 
 
 def main():
