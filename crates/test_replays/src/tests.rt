@@ -4,7 +4,6 @@ mod decisions;
 mod drawn;
 mod drops;
 mod events;
-mod interleaved;
 mod lanes;
 mod load;
 mod meetings;

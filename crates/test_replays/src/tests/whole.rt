@@ -2,26 +2,16 @@
 use std::alloc::Global;
 use std::process::Abort;
 use std::sync::Wait;
-use table_terms::capacity::is_first_capacity;
 use testkit_replay::fault::Fault;
+use testkit_replay::item::Ask;
+use testkit_replay::item::Ask::{Insert, Lookup};
 use testkit_replay::item::Said;
 use testkit_replay::item::Said::{Absent, Found, Placed, Refused, Shown};
-use testkit_replay::schedules::Ask;
-use testkit_replay::schedules::Ask::{Insert, Lookup};
-use testkit_replay::script::Manner;
-use testkit_replay::whole_calls::{Plan, Refusals, Top, Tops, run_whole};
-
-/// How many seeds there are for each first capacity.
-const SEEDS: u64 = 200;
-
-/// How many calls run one after the other.
-const TOPS: u64 = 40;
-
-/// No request is refused.
-const GRANTED: Refusals = (0, 0);
+use testkit_replay::script::{Manner, Script};
+use testkit_replay::whole::{GRANTED, Nest, Refusals, Top, run_nested};
 
 /// The first request is refused.
-pub(crate) const REFUSED: Refusals = (0, 1);
+const REFUSED: Refusals = (0, 1);
 
 /// The block of a value is granted, and its growth is refused.
 const GROWTH_REFUSED: Refusals = (1, 1);
@@ -106,12 +96,13 @@ pub(crate) fn assert_told(
 /// The calls of a row are told what it says, and the machine tells the same.
 fn assert_row<R: Abort + Wait>(rt: &R, alloc: Global, row: &Row) {
     let (filled, then, inside, expected) = *row;
-    let plan = Plan::Worked {
-        tops: Tops { filled, then },
+    let nest = Nest::Worked {
+        filled,
+        then,
         inside,
     };
-    assert!(rt; is_first_capacity(16));
-    let run = run_whole(rt, alloc, 16, Manner::Lawful, 0, plan);
+    let script = Script::new(Manner::Lawful, 0);
+    let run = run_nested(rt, alloc, 16, &script, nest);
     assert_told(rt, run, filled, expected);
 }
 
@@ -119,29 +110,5 @@ fn assert_row<R: Abort + Wait>(rt: &R, alloc: Global, row: &Row) {
 fn whole_calls_that_are_worked(rt: HostRuntime) {
     for row in &ROWS {
         assert_row(&rt, rt.alloc(), row);
-    }
-}
-
-/// The calls of a seed do what the machine does. One half of the seeds has careless closures, and one half is refused memory.
-fn assert_seed<R: Abort + Wait>(rt: &R, alloc: Global, first: u64, seed: u64) {
-    let manner = if seed % 2 == 0 {
-        Manner::Lawful
-    } else {
-        Manner::Careless
-    };
-    let plan = Plan::Drawn {
-        tops: TOPS,
-        refuses: seed % 4 >= 2,
-    };
-    assert!(rt; is_first_capacity(first));
-    let fault = run_whole(rt, alloc, first, manner, seed, plan).err();
-    assert!(rt; fault.is_none(), "{first} {seed} {fault:?}");
-}
-
-#[test]
-fn whole_calls_that_are_drawn(rt: HostRuntime) {
-    for seed in 0..SEEDS {
-        assert_seed(&rt, rt.alloc(), 16, seed);
-        assert_seed(&rt, rt.alloc(), 64, seed);
     }
 }
