@@ -8,15 +8,14 @@ mod events;
 pub mod fault;
 pub mod item;
 mod machine;
-mod nested;
 mod player;
 mod program;
+mod rehearsal;
 mod replay;
 mod running;
 pub mod script;
 pub mod stepped;
 mod stops;
-mod threads;
 pub mod whole;
 
 pub use crate::program::{first_stepped, first_whole, run_replays};

@@ -90,6 +90,11 @@ impl<R: Wait> Player<'_, '_, R> {
         Some(stop)
     }
 
+    /// Returns what the thread is to do at its next stop.
+    fn mark(&self) -> Option<Mark> {
+        Some(self.peek()?.mark)
+    }
+
     /// Takes the next stop.
     fn take(&self) {
         if let Some((index, _stop)) = self.find() {
@@ -112,7 +117,7 @@ impl<R: Wait> Player<'_, '_, R> {
 
     /// Returns what the table shows now.
     fn sight(&self) -> Sight {
-        Sight::of(self.ground.table, self.ground.first)
+        Sight::of(self.ground.table)
     }
 
     /// Waits for this turn, if there is one.
@@ -133,7 +138,7 @@ impl<R: Wait> Player<'_, '_, R> {
                 self.compare(stop);
                 self.leave(stop);
             }
-            stop => self.fail(difference(call, stop.map(|stop| stop.mark), mark)),
+            _ => self.fail(difference(call, self.mark(), mark)),
         }
     }
 
@@ -171,10 +176,7 @@ impl<R: Wait> Player<'_, '_, R> {
 
     /// Answers whether an entry is equal, as it was rehearsed.
     fn says<I: Inside>(&self, call: u64, entry: &Item, inside: &I) -> bool {
-        let accepted = match self.peek() {
-            Some(stop) => stop.mark == Mark::Asked(entry.number, true),
-            None => false,
-        };
+        let accepted = self.mark() == Some(Mark::Asked(entry.number, true));
         self.arrive(call, Mark::Asked(entry.number, accepted));
         inside.play(self);
         accepted
@@ -182,17 +184,13 @@ impl<R: Wait> Player<'_, '_, R> {
 
     /// Answers what the hash of an entry is, as it was rehearsed.
     fn rehashes<I: Inside>(&self, call: u64, entry: &Item, inside: &I) -> u64 {
-        let hash = match self.peek() {
-            Some(stop) => hash_at(stop.mark),
-            None => None,
-        };
-        match hash {
-            Some(hash) => {
+        match self.mark() {
+            Some(Mark::Hashed(_, hash)) => {
                 self.arrive(call, Mark::Hashed(entry.number, hash));
                 inside.play(self);
                 hash
             }
-            None => {
+            _ => {
                 self.copy(call, entry);
                 entry.hash
             }
@@ -253,12 +251,9 @@ impl<R: Wait> Player<'_, '_, R> {
     /// Plays the calls that begin here.
     fn play_inside<I: Inside>(&self, inside: &I) {
         for _stop in &self.rehearsed.stops {
-            match self.peek() {
-                Some(stop) => match stop.mark {
-                    Mark::Began(ask) => self.play_call(stop, ask, inside),
-                    _ => return,
-                },
-                None => return,
+            match (self.peek(), self.mark()) {
+                (Some(stop), Some(Mark::Began(ask))) => self.play_call(stop, ask, inside),
+                _ => return,
             }
         }
     }
@@ -324,14 +319,6 @@ impl<R: Wait> Drop for Player<'_, '_, R> {
             place: _,
             fault: _,
         } = self;
-    }
-}
-
-/// Returns the hash that is told at this mark.
-fn hash_at(mark: Mark) -> Option<u64> {
-    match mark {
-        Mark::Hashed(_, hash) => Some(hash),
-        _ => None,
     }
 }
 

@@ -11,6 +11,12 @@ use std::thread::Threads;
 /// How many schedules run if no number is given.
 const FEW: u64 = 20;
 
+/// Each of two threads makes 20 calls.
+const DRAWN: Turns<'static> = Turns::Drawn {
+    calls: 20,
+    refuses: false,
+};
+
 /// The status of a run without a fault.
 const WELL: u8 = 0;
 
@@ -83,7 +89,7 @@ pub fn first_whole<R: Threads + Wait + Sync>(
 ) -> Option<(u64, Fault)> {
     for index in 0..seeds {
         let seed = first_seed.wrapping_add(index);
-        if let Err(fault) = run_threads(rt, alloc, seed, Turns::Drawn) {
+        if let Err(fault) = run_threads(rt, alloc, seed, DRAWN) {
             return Some((seed, fault));
         }
     }

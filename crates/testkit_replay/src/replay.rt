@@ -3,7 +3,7 @@ use crate::events::{Answers, answers_of, event_at, takes};
 use crate::fault::{Fault, granted};
 use crate::item::{Ask, Item, Said};
 use crate::machine::Machine;
-use crate::running::{Calls, Running, Stepped, Table, Took};
+use crate::running::{Calls, Running, Table, Took};
 use crate::script::Script;
 use std::alloc::Global;
 use table_core::call::{CallState, Phase};
@@ -19,11 +19,10 @@ pub type Refusals = (u64, u64);
 /// No request is refused.
 pub const GRANTED: Refusals = (0, 0);
 
-/// A table, the memory that it asks, and the capacity of its first generation.
+/// A table, and the memory that it asks.
 #[derive(Clone, Copy)]
 pub(crate) struct Ground<'a, 'm> {
     pub(crate) alloc: Global,
-    pub(crate) first: u64,
     pub(crate) memory: &'m Refusing<Global>,
     pub(crate) table: &'a Table<'m>,
 }
@@ -66,10 +65,10 @@ pub(crate) fn run_course<S: Course>(
     let mut replay = Replay {
         ground: Ground {
             alloc,
-            first,
             memory: &memory,
             table: &table,
         },
+        first,
         script,
         machine: Machine::new(alloc, first)?,
         calls,
@@ -96,6 +95,8 @@ struct Call {
 pub(crate) struct Replay<'a, 'm, C: Calls> {
     pub(crate) ground: Ground<'a, 'm>,
     pub(crate) script: &'a Script,
+    /// How many buckets the first generation has.
+    first: u64,
     machine: Machine,
     calls: C,
     begun: Vec<Call>,
@@ -203,39 +204,35 @@ impl<'a, 'm, C: Calls> Replay<'a, 'm, C> {
         let left = self.ground.memory.refusals_left();
         // If no closure is asked, the machine is told of a yes: it would take it from an entry that is to be asked about.
         self.script.begin(true, 0, call.class);
-        let stepped = self.calls.advance(place)?;
-        let copies = stepped.state.phase == Phase::Building;
+        let (took, state) = self.calls.advance(place)?;
+        let copies = state.phase == Phase::Building;
         let answers = Answers {
             accepted: self.script.accepted(),
             hash: self.script.hash(),
             granted: self.ground.memory.refusals_left() == left,
         };
         if let Some(event) = event_at(call.number, call.state.phase, copies, answers) {
-            self.follow(place, event, stepped)?;
+            self.follow(place, event, took, state)?;
         }
-        Ok(stepped.took)
+        Ok(took)
     }
 
     /// Takes the step of the call at this place that is this event. If the call can't take it, only the machine hears of it.
     pub(crate) fn step_by(&mut self, place: usize, event: Event) -> Result<(), Fault> {
         let call = self.call_at(place)?;
         if !takes(call.state.phase, event) {
-            let blocked = Stepped {
-                took: Took::Blocked,
-                state: call.state,
-            };
-            return self.follow(place, event, blocked);
+            return self.follow(place, event, Took::Blocked, call.state);
         }
         let answers = answers_of(event);
         self.refuse((0, u64::from(!answers.granted)));
         self.script
             .begin(answers.accepted, answers.hash, call.class);
-        let stepped = self.calls.advance(place)?;
-        let copies = stepped.state.phase == Phase::Building;
+        let (took, state) = self.calls.advance(place)?;
+        let copies = state.phase == Phase::Building;
         if event_at(call.number, call.state.phase, copies, answers) != Some(event) {
             return Err(Fault::Step { call: call.number });
         }
-        self.follow(place, event, stepped)
+        self.follow(place, event, took, state)
     }
 
     /// Takes steps of all calls in turn, from a place on, each until it is blocked or ends. Fails if that takes more than `most` steps.
@@ -258,22 +255,42 @@ impl<'a, 'm, C: Calls> Replay<'a, 'm, C> {
     }
 
     /// Takes the event on the machine, after the step on the table: the call is told the same, and stands in the same state.
-    fn follow(&mut self, place: usize, event: Event, stepped: Stepped) -> Result<(), Fault> {
-        self.note(place, stepped);
+    fn follow(
+        &mut self,
+        place: usize,
+        event: Event,
+        took: Took,
+        state: CallState,
+    ) -> Result<(), Fault> {
+        self.note(place, took, state);
         let call = event.call();
         let finished = self.take(event)?;
-        compare_told(call, said_to(stepped.took), told_to(call, &finished))?;
-        if self.machine.state_of(call) != Some(stepped.state) {
+        let table = match took {
+            Took::Told(said) => Some(said),
+            Took::Moved | Took::Blocked => None,
+        };
+        let machine = match &finished {
+            Some(ended) if ended.call == call => Said::of_reply(&ended.reply),
+            _ => None,
+        };
+        if table != machine {
+            return Err(Fault::Told {
+                call,
+                table,
+                machine,
+            });
+        }
+        if self.machine.state_of(call) != Some(state) {
             return Err(Fault::Stands { call });
         }
         self.compare_length()
     }
 
     /// Notes where a step has led.
-    fn note(&mut self, place: usize, stepped: Stepped) {
+    fn note(&mut self, place: usize, took: Took, state: CallState) {
         if let Some(call) = self.begun.get_mut(place) {
-            call.state = stepped.state;
-            if matches!(stepped.took, Took::Told(_)) {
+            call.state = state;
+            if matches!(took, Took::Told(_)) {
                 self.going = self.going.wrapping_sub(1);
             }
         }
@@ -308,49 +325,24 @@ impl<'a, 'm, C: Calls> Replay<'a, 'm, C> {
 
     /// Compares the numbers of buckets.
     pub(crate) fn compare_buckets(&self) -> Result<(), Fault> {
-        if self.machine.buckets() == buckets(self.ground.table, self.ground.first) {
+        // Each generation has twice as many as the one before.
+        let buckets = match capacity(self.ground.table) {
+            0 => 0,
+            last => last.saturating_mul(2).saturating_sub(self.first),
+        };
+        if self.machine.buckets() == buckets {
             return Ok(());
         }
         Err(Fault::Buckets)
     }
 }
 
-/// Returns how many buckets all generations of a table have: each has twice as many as the one before.
-pub(crate) fn buckets(table: &Table<'_>, first: u64) -> u64 {
+/// Returns how many buckets the current generation of a table has, or 0 if there is none.
+pub(crate) fn capacity(table: &Table<'_>) -> u64 {
     match table.current() {
-        Some(current) => (current.generation.capacity() as u64)
-            .saturating_mul(2)
-            .saturating_sub(first),
+        Some(current) => current.generation.capacity() as u64,
         None => 0,
     }
-}
-
-/// Returns what a call was told by the table.
-fn said_to(took: Took) -> Option<Said> {
-    match took {
-        Took::Told(said) => Some(said),
-        Took::Moved | Took::Blocked => None,
-    }
-}
-
-/// Returns what this call was told by the machine.
-fn told_to(call: u64, finished: &Option<Finished>) -> Option<Said> {
-    match finished {
-        Some(finished) if finished.call == call => Said::of_reply(&finished.reply),
-        _ => None,
-    }
-}
-
-/// Compares what a call was told.
-fn compare_told(call: u64, table: Option<Said>, machine: Option<Said>) -> Result<(), Fault> {
-    if table == machine {
-        return Ok(());
-    }
-    Err(Fault::Told {
-        call,
-        table,
-        machine,
-    })
 }
 
 /// Compares the reply of a length or a walk of the machine with the table.

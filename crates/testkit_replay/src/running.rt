@@ -24,20 +24,13 @@ pub enum Took {
     Told(Said),
 }
 
-/// What a step came to, and where the call stands then.
-#[derive(Clone, Copy)]
-pub struct Stepped {
-    pub took: Took,
-    pub state: CallState,
-}
-
 /// Calls on a table, in the order in which they begin.
 pub trait Calls: Drop {
     /// Begins a call, whose value has this number if it inserts.
     fn begin(&mut self, value: u64, ask: Ask) -> Result<(), Fault>;
 
-    /// Takes one step of the call at this place.
-    fn advance(&mut self, place: usize) -> Result<Stepped, Fault>;
+    /// Takes one step of the call at this place, and returns what it came to, and where the call stands then.
+    fn advance(&mut self, place: usize) -> Result<(Took, CallState), Fault>;
 }
 
 /// A call that goes step by step.
@@ -54,7 +47,7 @@ impl<'a, 'm, E: Fn(&Item, &Item) -> bool, H: Fn(&Item) -> u64, F: Fn(&Item) -> b
     F,
 > {
     /// Takes one step.
-    fn advance(&mut self) -> Stepped
+    fn advance(&mut self) -> (Took, CallState)
         requires may_go { MayGo E.IsAlwaysCallable H.IsAlwaysCallable F.IsAlwaysCallable E.Fn
             self.old }
         ensures may_go { MayGo E.IsAlwaysCallable H.IsAlwaysCallable F.IsAlwaysCallable E.Fn
@@ -63,17 +56,11 @@ impl<'a, 'm, E: Fn(&Item, &Item) -> bool, H: Fn(&Item) -> u64, F: Fn(&Item) -> b
         match self {
             Steps::Insert(call) => {
                 let took = took_insert(&call.advance());
-                Stepped {
-                    took,
-                    state: call.state(),
-                }
+                (took, call.state())
             }
             Steps::Lookup(call) => {
                 let took = took_lookup(call.advance());
-                Stepped {
-                    took,
-                    state: call.state(),
-                }
+                (took, call.state())
             }
         }
     }
@@ -187,7 +174,7 @@ impl<
         granted(self.begun.push(steps))
     }
 
-    fn advance(&mut self, place: usize) -> Result<Stepped, Fault> {
+    fn advance(&mut self, place: usize) -> Result<(Took, CallState), Fault> {
         match self.begun.get_mut(place) {
             Some(steps) => Ok(steps.advance()),
             None => Err(Fault::Unfinished),

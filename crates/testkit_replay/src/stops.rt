@@ -1,22 +1,22 @@
 //! What whole calls do, as it was rehearsed: a list of stops.
 use crate::fault::{Fault, granted};
 use crate::item::{Ask, Said};
-use crate::replay::{Refusals, Replay, buckets};
+use crate::replay::{Refusals, Replay, capacity};
 use crate::running::{Calls, Table, Took};
 use std::alloc::Global;
 use table_core::call::Phase;
 
-/// What a table shows: its count, its buckets, and a number that is made of its entries in their order.
+/// What a table shows: its count, its capacity, and a number that is made of its entries in their order.
 #[derive(Clone, Copy, PartialEq)]
 pub(crate) struct Sight {
     length: u64,
-    buckets: u64,
+    capacity: u64,
     entries: u64,
 }
 
 impl Sight {
-    /// Returns what the table shows now, whose first generation has `first` buckets.
-    pub(crate) fn of(table: &Table<'_>, first: u64) -> Sight {
+    /// Returns what the table shows now.
+    pub(crate) fn of(table: &Table<'_>) -> Sight {
         let mut entries = 0u64;
         for entry in table.iter() {
             entries = entries
@@ -26,7 +26,7 @@ impl Sight {
         }
         Sight {
             length: table.len() as u64,
-            buckets: buckets(table, first),
+            capacity: capacity(table),
             entries,
         }
     }
@@ -34,14 +34,15 @@ impl Sight {
 
 /// Returns what the table of a replay shows.
 pub(crate) fn sight_of<C: Calls>(replay: &Replay<'_, '_, C>) -> Sight {
-    Sight::of(replay.ground.table, replay.ground.first)
+    Sight::of(replay.ground.table)
 }
 
-/// Who stops: one of two threads, or the one that watches how a call comes to a lock.
+/// Whose turn it is: a thread's, that of the calls inside of those of the one before, or that of who watches how a call comes to a lock.
 #[derive(Clone, Copy, PartialEq)]
 pub enum Actor {
     First,
     Second,
+    Third,
     Watcher,
 }
 
@@ -89,21 +90,6 @@ pub(crate) struct Stop {
     pub(crate) resumes: Option<u64>,
 }
 
-impl Stop {
-    /// Makes a stop of the first thread, which goes on.
-    pub(crate) fn new(call: u64, mark: Mark, sight: Sight) -> Stop {
-        Stop {
-            actor: Actor::First,
-            turn: 0,
-            call,
-            mark,
-            sight: Some(sight),
-            then: Then::GoesOn,
-            resumes: None,
-        }
-    }
-}
-
 /// An entry for whose hash a growth asks while both threads run, the hash that it is told, and what the table shows.
 #[derive(Clone, Copy, PartialEq)]
 pub(crate) struct Copied {
@@ -128,11 +114,6 @@ impl Rehearsed {
             copied: Vec::new(alloc),
             end: None,
         }
-    }
-
-    /// Adds a stop.
-    pub(crate) fn stop(&mut self, stop: Stop) -> Result<(), Fault> {
-        granted(self.stops.push(stop))
     }
 
     /// Returns what the calls were told, in the order in which they ended.

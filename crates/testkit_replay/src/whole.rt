@@ -1,17 +1,14 @@
 //! Whole calls, which do on a table what they were rehearsed to do: inside of one another, and on two threads.
 use crate::fault::Fault;
 use crate::item::Said;
-use crate::nested::Nesting;
-pub use crate::nested::{Nest, Top};
 use crate::player::play_as;
-pub use crate::replay::{GRANTED, Refusals};
+use crate::rehearsal::Rehearsal;
+pub use crate::rehearsal::{Turn, Turns, Until};
 use crate::replay::{Ground, any_request, new_table, run_course};
 use crate::script::{Manner, Script};
 use crate::stepped::FIRST;
 pub use crate::stops::Actor;
 use crate::stops::{Rehearsed, Sight};
-use crate::threads::Turning;
-pub use crate::threads::{Turns, Until};
 use std::alloc::Global;
 use std::sync::Wait;
 use std::sync::atomic::{AtomicU64, Ordering};
@@ -25,70 +22,54 @@ const BLOCK: usize = 16;
 /// How often a thread looks for its turn: for twenty seconds at most, if no turn begins.
 const LOOKS: u64 = 4000;
 
-/// Rehearses calls inside of one another beside the machine, plays them, and returns what each is told, in the order in which they end.
-/// The first generation has `first` buckets.
+/// What each call is told, by its number, in an order in which they may end.
+pub type Told = Vec<(u64, Said)>;
+
+/// Rehearses calls inside of one another beside the machine, plays them, and returns what each is told. The first generation has `first`
+/// buckets. What is drawn comes from the seed: one half of the seeds has careless closures.
 pub fn run_nested<R: Wait>(
     rt: &R,
     alloc: Global,
     first: u64,
-    script: &Script,
-    nest: Nest<'_>,
-) -> Result<Vec<(u64, Said)>, Fault> {
-    let mut nesting = Nesting::new(alloc, script, nest);
-    run_course(alloc, first, script, &mut nesting)?;
+    seed: u64,
+    turns: Turns<'_>,
+) -> Result<Told, Fault> {
+    let script = Script::new(Manner::of_seed(seed), seed);
+    let mut rehearsal = Rehearsal::new(alloc, &script, true, turns);
+    run_course(alloc, first, &script, &mut rehearsal)?;
     let memory = Refusing::new(alloc, any_request());
     let table = new_table(&memory, first)?;
     let ground = Ground {
         alloc,
-        first,
         memory: &memory,
         table: &table,
     };
-    let rehearsed = &nesting.rehearsed;
     let copied = AtomicU64::new(0);
-    let fault = play_as(rt, ground, rehearsed, &copied, Actor::First);
-    compare_end(ground, rehearsed, &copied, fault)?;
-    rehearsed.told(alloc)
+    let fault = play_as(rt, ground, &rehearsal.rehearsed, &copied, Actor::First);
+    compare_end(ground, &rehearsal.rehearsed, &copied, fault)?;
+    rehearsal.rehearsed.told(alloc)
 }
 
-/// Runs the nested calls of a seed, which are drawn. One half of the seeds has careless closures, and one half is refused memory.
-pub fn run_nested_drawn<R: Wait>(
-    rt: &R,
-    alloc: Global,
-    first: u64,
-    seed: u64,
-    tops: u64,
-) -> Result<(), Fault> {
-    let nest = Nest::Drawn {
-        tops,
-        refuses: seed % 4 >= 2,
-    };
-    let script = Script::new(Manner::of_seed(seed), seed);
-    run_nested(rt, alloc, first, &script, nest)?;
-    Ok(())
-}
-
-/// Rehearses the calls of two threads beside the machine, plays them on two threads, and returns what each is told, in an order in
-/// which they may end. What is drawn comes from the seed.
+/// Rehearses the calls of two threads beside the machine, plays them on two threads, and returns what each is told. What is drawn comes
+/// from the seed.
 pub fn run_threads<R: Threads + Wait + Sync>(
     rt: &R,
     alloc: Global,
     seed: u64,
     turns: Turns<'_>,
-) -> Result<Vec<(u64, Said)>, Fault> {
+) -> Result<Told, Fault> {
     let script = Script::new(Manner::Lawful, seed);
-    let mut turning = Turning::new(alloc, &script, turns);
-    run_course(alloc, FIRST, &script, &mut turning)?;
+    let mut rehearsal = Rehearsal::new(alloc, &script, false, turns);
+    run_course(alloc, FIRST, &script, &mut rehearsal)?;
     let memory = Refusing::new(alloc, Rule::new(BLOCK, BLOCK, 0, 0).in_turns(LOOKS));
     let table = new_table(&memory, FIRST)?;
     let ground = Ground {
         alloc,
-        first: FIRST,
         memory: &memory,
         table: &table,
     };
-    play_threads(rt, ground, &turning.rehearsed)?;
-    turning.rehearsed.told(alloc)
+    play_threads(rt, ground, &rehearsal.rehearsed)?;
+    rehearsal.rehearsed.told(alloc)
 }
 
 /// Plays what was rehearsed on two threads, with a third one that watches.
@@ -129,7 +110,7 @@ fn compare_end(
     if copied.load(Ordering::SeqCst) != rehearsed.copied.len() as u64 {
         return Err(Fault::Unfinished);
     }
-    if rehearsed.end != Some(Sight::of(ground.table, ground.first)) {
+    if rehearsed.end != Some(Sight::of(ground.table)) {
         return Err(Fault::Sight);
     }
     Ok(())

@@ -1,6 +1,7 @@
-//! Two calls that cut into each other.
+//! Calls that go step by step: two that cut into each other, and schedules that are drawn.
 use std::alloc::Global;
 use std::process::Abort;
+use testkit_replay::first_stepped;
 use testkit_replay::item::Ask;
 use testkit_replay::item::Ask::{Insert, Lookup};
 use testkit_replay::stepped::{Cut, run_cut};
@@ -48,4 +49,13 @@ fn two_calls_that_cut_into_each_other(rt: HostRuntime) {
             assert_cuts(&rt, rt.alloc(), start, second);
         }
     }
+}
+
+/// How many schedules are drawn.
+const SCHEDULES: u64 = 100;
+
+#[test]
+fn schedules_that_are_drawn(rt: HostRuntime) {
+    let fault = first_stepped(rt.alloc(), 0, SCHEDULES);
+    assert!(rt; fault.is_none(), "{fault:?}");
 }
