@@ -37,7 +37,7 @@ pub fn run_nested<R: Wait>(
     let script = Script::new(Manner::of_seed(seed), seed);
     let mut rehearsal = Rehearsal::new(alloc, &script, true, turns);
     run_course(alloc, first, &script, &mut rehearsal)?;
-    let memory = Refusing::new(alloc, any_request());
+    let memory = Refusing::new(alloc, any_request().in_turns(LOOKS));
     let table = new_table(&memory, first)?;
     let ground = Ground {
         alloc,
