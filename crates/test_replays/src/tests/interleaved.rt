@@ -4,6 +4,7 @@ use std::alloc::Global;
 use std::process::Abort;
 use std::sync::Wait;
 use std::thread::Threads;
+use testkit_replay::first_whole;
 use testkit_replay::item::Ask::Insert;
 use testkit_replay::item::Said::{Found, Placed};
 use testkit_replay::item::{Ask, Said};
