@@ -1,5 +1,4 @@
 //! Calls on a running table, which take one step at a time.
-ghost use Rattle.std.specs.Prelude.{All};
 ghost use Rattle.testkit_replay.specs.Running.{MayGo};
 
 use crate::fault::{Fault, granted};
@@ -117,7 +116,7 @@ impl<
     H: Fn(&Item) -> u64 + Copy,
     F: Fn(&Item) -> bool + Copy,
 > Model for Running<'a, 'm, E, H, F> {
-    ghost use Rattle.std.specs.Prelude.{All, ℕ, length, ◌×◌};
+    ghost use Rattle.std.specs.Prelude.{All, ℕ, length};
     ghost use Rattle.testkit_replay.specs.Running.{MayGo};
 
     ghost Value = { ℕ };
@@ -158,7 +157,7 @@ impl<
     F: Fn(&Item) -> bool + Copy,
 > Calls for Running<'_, '_, E, H, F> {
     fn begin(&mut self, value: u64, ask: Ask) -> Result<(), Fault> {
-        let steps = match ask {
+        match ask {
             Ask::Insert(class, hash) => {
                 let item = Item {
                     number: value,
@@ -167,11 +166,13 @@ impl<
                 };
                 let boxed = granted(Box::new(self.alloc, item))?;
                 let call = InsertCall::new(self.table, hash, boxed, self.eq, self.hash_fn);
-                Steps::Insert(call)
+                granted(self.begun.push(Steps::Insert(call)))
             }
-            Ask::Lookup(_, hash) => Steps::Lookup(LookupCall::new(self.table, hash, self.test)),
-        };
-        granted(self.begun.push(steps))
+            Ask::Lookup(_, hash) => {
+                let call = LookupCall::new(self.table, hash, self.test);
+                granted(self.begun.push(Steps::Lookup(call)))
+            }
+        }
     }
 
     fn advance(&mut self, place: usize) -> Result<(Took, CallState), Fault> {
