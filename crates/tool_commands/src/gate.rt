@@ -4,7 +4,6 @@ ghost use Rattle.std.specs.Prelude.{◌≡◌, ◌<◌, IsTrue};
 use std::hint::spin_loop;
 use std::sync::atomic::{AtomicBool, Ordering};
 use std::thread::yield_now;
-use tool_call_texts::faults::Fault;
 
 /// A gate that workers ask before each of their inserts. Workers and inserts are numbered from 0.
 pub trait Gate {
@@ -25,14 +24,6 @@ pub trait Gates {
 
     /// Makes a gate that no worker has come to yet.
     fn gate(&self) -> Self::Gate;
-}
-
-/// Gives up the gate, since a worker can't be started, so that no other worker waits for it. Returns the fault.
-pub(crate) fn no_thread<G: Gate>(gate: &G) -> Fault
-    ensures { result ≡ Fault.NoThread }
-{
-    gate.give_up();
-    Fault::NoThread
 }
 
 /// The greatest number of looks that the program's gate takes for one question.

@@ -3,12 +3,13 @@ ghost use Rattle.std.specs.Prelude.{◌≡◌, ◌<◌, ◌≤◌, IfOk, IfErr};
 ghost use Rattle.tool_call_texts.specs.Faults.{IsStartFault, IsJobFault};
 ghost use Rattle.tool_call_texts.specs.Stress.{entries_of};
 
-use crate::gate::{Gate, no_thread};
+use crate::gate::Gate;
+use crate::threads::{join_all, start};
 use crate::workers::{ValueTable, Worker, insert_all, look_all};
 use std::alloc::Allocator;
 use std::sync::Wait;
 use std::thread;
-use std::thread::{Builder, JoinHandle, Threads};
+use std::thread::Threads;
 use tool_call_texts::endings::Ending;
 use tool_call_texts::faults::Fault;
 use tool_call_texts::job::Job;
@@ -107,30 +108,12 @@ fn start_workers<
         {
             for number in 0..crew.threads {
                 let worker = Worker::new(job, number);
-                let started = Builder::new()
-                    .stack_size(crew.stack)
-                    .spawn_scoped(scope, move || -> Ending {
-                        work(rt, alloc, gate, table, worker, part)
-                    });
-                let Ok(handle) = started else {
-                    return Err(no_thread(gate));
-                };
-                let Ok(()) = workers.push(handle) else {
-                    return Err(Fault::Stream(StreamFault::NoMemory));
-                };
+                let run = move || -> Ending { work(rt, alloc, gate, table, worker, part) };
+                start(scope, crew.stack, gate, &mut workers, run)?;
             }
-            Ok(join_all(rt, workers))
+            Ok(join_all(rt, workers, Ending::Well, &Ending::and))
         },
     )
-}
-
-/// Waits for these workers, and returns their joint ending.
-fn join_all<R: Threads, A: Allocator>(rt: &R, workers: Vec<JoinHandle<Ending>, A>) -> Ending {
-    let mut all = Ending::Well;
-    for worker in workers {
-        all = all.and(worker.join(rt));
-    }
-    all
 }
 
 /// Runs the worker's part of its job.

@@ -11,4 +11,5 @@ pub mod seats;
 pub mod shards;
 pub mod stores;
 pub mod stress;
+mod threads;
 pub mod workers;

@@ -4,14 +4,15 @@ ghost use Rattle.seated.specs.Tables.{IsSeatOf};
 ghost use Rattle.seated.specs.Numbers.{own_numbers};
 ghost use Rattle.tool_call_texts.specs.Faults.{IsStartFault, IsThreadFault};
 
-use crate::gate::{Gate, no_thread};
+use crate::gate::Gate;
+use crate::threads::{join_all, start};
 use seated::{NumberAnswer, NumberTable, Seat};
 use std::alloc::Allocator;
 use std::io::Write;
 use std::num::NonZeroU64;
 use std::sync::Wait;
 use std::thread;
-use std::thread::{Builder, JoinHandle, Threads};
+use std::thread::Threads;
 use tool_call_texts::faults::Fault;
 use tool_streams::faults::StreamFault;
 
@@ -123,31 +124,14 @@ fn start_workers<R: Threads + Wait, A: Allocator + Copy + Send + Sync, G: Gate +
                     unreachable!()
                 };
                 last = rest;
-                let started = Builder::new().stack_size(stack).spawn_scoped(
-                    scope,
-                    move || -> Tally
-                        requires { IsSeatOf table.now own }
-                    { work(gate, worker, table, own).1 },
-                );
-                let Ok(handle) = started else {
-                    return Err(no_thread(gate));
-                };
-                let Ok(()) = workers.push(handle) else {
-                    return Err(Fault::Stream(StreamFault::NoMemory));
-                };
+                let run = move || -> Tally
+                    requires { IsSeatOf table.now own }
+                { work(gate, worker, table, own).1 };
+                start(scope, stack, gate, &mut workers, run)?;
             }
-            Ok(join_all(rt, workers))
+            Ok(join_all(rt, workers, Tally::nothing(), &Tally::and))
         },
     )
-}
-
-/// Waits for these workers, and returns the sum of their results.
-fn join_all<R: Threads, A: Allocator>(rt: &R, workers: Vec<JoinHandle<Tally>, A>) -> Tally {
-    let mut all = Tally::nothing();
-    for worker in workers {
-        all = all.and(worker.join(rt));
-    }
-    all
 }
 
 /// Inserts the numbers from 1 to one more than the table holds, in order, as long as the gate lets it. Returns the seat and the
