@@ -12,3 +12,4 @@ pub mod sharded;
 pub mod shared;
 mod sizes;
 pub mod texts;
+mod work;

@@ -6,6 +6,7 @@ use crate::numbers::{
 };
 use crate::report::{Report, refuse_words};
 use crate::sizes::measure_sizes;
+use crate::work::{MOST, ROUNDS, SAME, Work, part_for};
 use std::alloc::{AllocError, Global};
 use std::marker::Model;
 use std::rt::{Clock, Files};
@@ -15,52 +16,6 @@ use std::time::Instant;
 use std::{io, thread};
 use table_shared::LockFreeRawTable;
 use table_terms::law::hash_number;
-
-/// How often each thread inserts the same keys.
-const ROUNDS: u64 = 25;
-
-/// Those keys.
-const SAME: u64 = 10_000;
-
-/// The most threads that are measured.
-pub(crate) const MOST: u64 = 4;
-
-/// What several threads do at once.
-#[derive(Clone, Copy)]
-pub(crate) enum Work {
-    /// Each inserts the same keys, again and again.
-    Same,
-    /// Each inserts a part of the keys.
-    Inserts,
-    /// Each looks all keys up, in an order that begins elsewhere for each.
-    Hits,
-}
-
-impl Work {
-    /// What it is named beside the number of threads.
-    fn name(self) -> &'static str {
-        match self {
-            Work::Same => "d_same",
-            Work::Inserts => "e_ins",
-            Work::Hits => "f_hit",
-        }
-    }
-
-    /// How many keys so many threads place or find, and by how many calls.
-    fn wanted(self, threads: u64) -> (u64, u64) {
-        let all = match self {
-            Work::Same => return (SAME, (ROUNDS * SAME).wrapping_mul(threads)),
-            Work::Inserts => part_for(threads).wrapping_mul(threads),
-            Work::Hits => COUNT.wrapping_mul(threads),
-        };
-        (all, all)
-    }
-}
-
-/// How many keys each of so many threads begins after the one before it.
-fn part_for(threads: u64) -> u64 {
-    COUNT.checked_div(threads).unwrap_or(COUNT)
-}
 
 /// A set of numbers that threads share, each by what it knows of it.
 pub trait SharedKeys {
@@ -269,8 +224,7 @@ fn time_work<R: Print + Clock + Threads + Wait + Sync + AllocGlobal, S: SharedKe
     work: Work,
     threads: u64,
 ) -> io::Result<()> {
-    let name = work.name();
-    let name = format!(in rt.alloc(); "{name}{threads}")?;
+    let name = work.name(rt.alloc(), threads)?;
     let (wanted, operations) = work.wanted(threads);
     let start = Instant::now(rt)?;
     let done = count_work(rt, rt.alloc(), set, work, threads)?;
