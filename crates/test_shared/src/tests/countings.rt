@@ -1,5 +1,6 @@
 //! Counting values in a shared table whose memory keeps a rule. Four numbers in a row are equal.
 use super::numbers::{Told, insert_at};
+use super::waits::LOOKS;
 use lock_free_hashtable::raw::{LockFreeRawTable, is_first_capacity};
 use std::alloc::Global;
 use std::process::Abort;
@@ -10,9 +11,6 @@ use testkit_refusing::{Refusing, Rule};
 
 /// How many bytes the block of an entry has. No other request is that small in a table of `CAPACITY` buckets.
 const BLOCK: usize = 16;
-
-/// How often a request looks for the other one of its pair.
-const LOOKS: u64 = 1 << 27;
 
 /// A first capacity at which a round needs no growth.
 const CAPACITY: usize = 1024;

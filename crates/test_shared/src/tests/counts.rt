@@ -1,6 +1,6 @@
 //! What the count of a table says while threads insert, and what they are told where a generation is full.
 use super::numbers::{Boxed, Inserts, Numbers, Told, assert_same, assert_told, walk_length};
-use super::waits::look_for;
+use super::waits::{LOOKS, QUIET_LOOKS, look_for};
 use std::alloc::Global;
 use std::process::Abort;
 use std::sync::Wait;
@@ -16,16 +16,10 @@ use testkit_refusing::{Refusing, Rule};
 /// How many bytes the block of an entry has; all else that a table asks for is more.
 const BLOCK: usize = 16;
 
-/// How often a request looks for the other one of its pair, and a thread for what another one says.
-const LOOKS: u64 = 1 << 27;
-
 /// How many numbers two threads insert in a round, and how many rounds there are.
 const NUMBERS: u64 = 260;
 
 const ROUNDS: u64 = 20;
-
-/// How often a thread looks while another one waits for memory.
-const QUIET_LOOKS: u64 = 20_000;
 
 /// Memory of which growth asks one allocator, and entries ask another one above it.
 type Memory<'m> = Refusing<&'m Refusing<Global>>;

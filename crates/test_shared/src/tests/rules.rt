@@ -1,5 +1,6 @@
 //! The allocator of these tests: requests that are refused by lot, that are refused from now on, and that wait for one another.
 use super::numbers::assert_same;
+use super::waits::LOOKS;
 use std::alloc::{AllocError, Allocator, Global};
 use std::sync::atomic::{AtomicU64, Ordering};
 use std::thread;
@@ -19,9 +20,6 @@ const LOTS: [(u64, u64, u64, u64); 5] = [
 
 /// How many requests meet another one.
 const PAIRS: u64 = 200;
-
-/// How often a request looks for its other one.
-const LOOKS: u64 = 1 << 27;
 
 /// Whether a request of so many bytes is granted. The block is given back.
 fn grants<A: Allocator + Copy>(alloc: A, bytes: usize) -> bool {

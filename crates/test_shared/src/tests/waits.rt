@@ -16,11 +16,11 @@ const GROWS: u64 = 7;
 /// How often the tables are grown so.
 const ROUNDS: u64 = 20;
 
-/// How often a thread looks for what another one says, and how often it looks in vain, so that the other one comes to the
-/// lock.
-const LOOKS: u64 = 1 << 27;
+/// How often a thread looks for what another one says, and a request for the other one of its pair.
+pub(crate) const LOOKS: u64 = 1 << 27;
 
-const QUIET_LOOKS: u64 = 20_000;
+/// How often a thread looks in vain, so that another one comes to the lock or to its request for memory.
+pub(crate) const QUIET_LOOKS: u64 = 20_000;
 
 /// A table, and what the two threads say: that one copies, and that the other one is about to insert.
 #[derive(Drop)]
