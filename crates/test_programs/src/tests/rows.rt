@@ -27,8 +27,8 @@ const SCRIPTS: [&str; 34] = [
     "tablerun shards 16: i 0 1 = placed; i 0x1000000000000000 1 = placed; i 0xF000000000000000 1 = placed; c = 48; \
     b = 48; n = 3",
     // Eight entries fill half of a shard, which then grows; the other one stays.
-    "tablerun shards 2: i 0x8000000000000000 9 = placed; 1..8 = placed; c = 32; i 0 8 = placed; c = 48; b = 64; \
-    n = 9; w = [1, 2, 3, 4, 5, 6, 7, 8, 9]",
+    "tablerun shards 2: i 0x8000000000000000 9 = placed; i 0 1 = placed; i 0 2 = placed; i 0 3 = placed; i 0 4 = placed; \
+    i 0 5 = placed; i 0 6 = placed; i 0 7 = placed; c = 32; i 0 8 = placed; c = 48; b = 64; n = 9; w = [1, 2, 3, 4, 5, 6, 7, 8, 9]",
     // Each shard has the first capacity. There is a pair for each sixteenth of the hashes, and no shard grows.
     "tablerun shards 1 64: 0..16 << 60 = placed; c = 64",
     "tablerun shards 2 64: 0..16 << 60 = placed; c = 128",
