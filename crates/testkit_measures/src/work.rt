@@ -30,7 +30,7 @@ impl Work {
             Work::Inserts => "e_ins",
             Work::Hits => "f_hit",
         };
-        Ok(format!(in alloc; "{name}{threads}")?)
+        format!(in alloc; "{name}{threads}")
     }
 
     /// Returns how many keys so many threads place or find, and by how many calls.
