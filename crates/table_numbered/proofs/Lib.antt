@@ -1,0 +1,14 @@
+mod Books
+mod Made
+mod Copies
+mod Marks
+mod Trades
+mod Histories
+mod Rows
+mod Steps
+mod Probes
+mod Apart
+mod Laid
+mod Meetings
+mod Carried
+mod Endings

@@ -1,0 +1,48 @@
+-- What is next in a run, and what is left of it.
+use Rattle.std.proofs.Common.{◌≡◌, ℕ, zero, suc, ◌+◌, ◌-◌, ◌<◌, ◌≤◌, List, ◌∷◌, length, take, drop, sym, ap, ◌∙◌, subst, arith, slice_index_or}
+use Rattle.std.specs.Prelude.{Some, unwrap_or}
+use Rattle.std.proofs.Math.Seq.{drop-cons}
+use Rattle.table_slab.specs.Counting.{part}
+use Rattle.table_slab.specs.Slabs.{SlabView, id_at, IsSlot}
+use Rattle.table_slab.specs.Runs.{AreNext}
+use Rattle.table_slab.specs.declared.run.Run.{Run}
+use Rattle.table_slab.specs.declared.site.Site.{Site}
+use Rattle.table_slab.specs.declared.rights.Rooms.{Rooms}
+
+-- some names in a row begin with the one at their offset
+part_first : (names : List ℕ) (offset count : ℕ) → 0 < count → offset + count ≤ length names → part names offset count ≡ id_at names offset ∷ part names (offset + 1) (count - 1)
+part_first names offset zero some fits = absurd (omega arith)
+part_first names offset (suc count) some fits = let within : offset < length names = omega arith in let after : suc offset ≡ offset + 1 = omega arith in let rest : suc count - 1 ≡ count = omega arith in
+    ap (λ (xs : List ℕ). take (suc count) xs) (drop-cons names offset 0 within) ∙ (λ i. id_at names offset ∷ take (sym rest i) (drop (after i) names))
+
+abbrev first_of : List ℕ → ℕ
+first_of xs = slice_index_or xs 0 0
+
+abbrev rest_of : List ℕ → List ℕ
+rest_of xs = drop 1 xs
+
+module _ {T A : Type 0} (s : SlabView) (r : Run T A) (γ : ℕ) (γs : List ℕ) (are : AreNext s r) (begins : r.rooms.names ≡ γ ∷ γs) (some : 0 < r.left) where
+  abbrev names : List ℕ
+  names = are.site.value
+
+  splits : γ ∷ γs ≡ id_at names are.offset ∷ part names (are.offset + 1) (r.left - 1)
+  splits = sym begins ∙ are.rooms ∙ part_first names are.offset r.left some are.within
+
+  pub next_slot : (x : Site (List ℕ)) → r.site ≡ Some x → IsSlot s r.number x.cell x.value γ
+  next_slot x is = let same : are.site ≡ x = ap (λ o. unwrap_or o are.site) (sym are.known ∙ is) in let first : γ ≡ id_at names are.offset = ap first_of splits in
+      subst (λ (z : Site (List ℕ)). IsSlot s r.number z.cell z.value γ) same
+      (record { place = r.place; offset = are.offset; inside = are.inside; at = are.at; holds = are.holds; within = omega (arith, are.within, some); named = first })
+
+  pub next_rest : (rooms : Rooms T) → rooms.names ≡ γs → 0 < r.left - 1 → AreNext s (record r { number = r.number + 1; left = r.left - 1; rooms = rooms })
+  next_rest rooms is more = record {
+    site = are.site;
+    offset = are.offset + 1;
+    known = are.known;
+    inside = are.inside;
+    small = are.small;
+    holds = are.holds;
+    at = record { within = omega (arith, are.few, more); counted = omega (arith, are.at.counted) };
+    within = omega (arith, are.within, more);
+    few = omega (arith, are.few, more);
+    rooms = is ∙ ap rest_of splits;
+  }

@@ -1,0 +1,83 @@
+//! Numbers of a slab, by one thread.
+ghost use Rattle.table_slab.specs.Runs.{IsRunOf};
+
+use std::alloc::Global;
+use std::test::Fail;
+use table_slab::{Run, Slab};
+
+/// Takes so many numbers, one at a time.
+pub(crate) fn numbers(slab: &Slab<u64, Global>, alloc: Global, count: usize) -> Vec<u64> {
+    let mut run = Run::new();
+    let mut found = Vec::new(alloc);
+    for _taken in 0..count {
+        let Ok((number, _right)) = slab.number(&mut run, 1) else {
+            return found;
+        };
+        if found.push(number).is_err() {
+            return found;
+        }
+    }
+    found
+}
+
+/// Writes a value at a number, for good, and returns what is read there.
+fn write_and_read(
+    slab: &Slab<u64, Global>,
+    run: &mut Run<u64, Global>,
+    value: u64,
+) -> Option<(u64, u64)>
+    requires { IsRunOf slab.now run.old }
+    ensures { IsRunOf slab.now run.new }
+{
+    let (number, right) = slab.number(run, 3).ok()?;
+    let standing = slab.put(number, right, value).publish();
+    Some((number, *slab.get(number, &standing)))
+}
+
+/// Writes a value at a number, and takes it back.
+fn write_and_take_back(slab: &Slab<u64, Global>, value: u64) -> Option<u64> {
+    let mut run = Run::new();
+    let (number, right) = slab.number(&mut run, 3).ok()?;
+    let (value, _right) = slab.take(number, slab.put(number, right, value));
+    Some(value)
+}
+
+/// Writes a value at a number, for good, and takes it out of the slab that ends.
+fn write_and_end(slab: Slab<u64, Global>, value: u64) -> Option<u64> {
+    let mut run = Run::new();
+    let (number, right) = slab.number(&mut run, 3).ok()?;
+    let standing = slab.put(number, right, value).publish();
+    let Ok(mut ending) = slab.end() else {
+        return None;
+    };
+    Some(ending.take_out(number, &standing))
+}
+
+#[test]
+fn numbers_follow_each_other(rt: HostRuntime) -> Result<(), Fail> {
+    let slab = Slab::new(rt.alloc(), 1)?;
+    let taken = numbers(&slab, rt.alloc(), 7);
+    assert_eq!(rt; taken.as_slice(), [0, 1, 2, 3, 4, 5, 6].as_slice());
+    Ok(())
+}
+
+#[test]
+fn a_value_stands_at_its_number(rt: HostRuntime) -> Result<(), Fail> {
+    let slab = Slab::new(rt.alloc(), 0)?;
+    let mut run = Run::new();
+    let read = [
+        write_and_read(&slab, &mut run, 7),
+        write_and_read(&slab, &mut run, 8),
+        write_and_read(&slab, &mut run, 9),
+    ];
+    assert_eq!(rt; read, [Some((0, 7)), Some((1, 8)), Some((2, 9))]);
+    Ok(())
+}
+
+#[test]
+fn a_value_is_taken_back_and_one_is_taken_out(rt: HostRuntime) -> Result<(), Fail> {
+    let slab = Slab::new(rt.alloc(), 2)?;
+    assert_eq!(rt; write_and_take_back(&slab, 7), Some(7));
+    assert_eq!(rt; write_and_end(slab, 8), Some(8));
+    Ok(())
+}
