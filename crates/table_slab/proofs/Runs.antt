@@ -9,6 +9,7 @@ use Rattle.table_slab.specs.Runs.{AreNext}
 use Rattle.table_slab.specs.declared.run.Run.{Run}
 use Rattle.table_slab.specs.declared.site.Site.{Site}
 use Rattle.table_slab.specs.declared.rights.Rooms.{Rooms}
+use Rattle.table_slab.proofs.Places.{at_one_place}
 
 -- some names in a row begin with the one at their offset
 part_first : (names : List ℕ) (offset count : ℕ) → 0 < count → offset + count ≤ length names → part names offset count ≡ id_at names offset ∷ part names (offset + 1) (count - 1)
@@ -55,3 +56,14 @@ module _ {T A : Type 0} (s : SlabView) (r : Run T A) (γ : ℕ) (γs : List ℕ)
     fits = omega (arith, are.fits, more);
     rooms = is ∙ ap rest_of splits;
   }
+
+-- what is left of a run lies in its chunk
+module _ {T A : Type 0} {s : SlabView} {r : Run T A} (are : AreNext s r) {x : Site (List ℕ)} (is : r.site ≡ Some x) where
+  same_site : are.site ≡ x
+  same_site = ap (λ o. unwrap_or o are.site) (sym are.known ∙ is)
+
+  pub run_cell : x.cell ≡ id_at s.cells r.place
+  run_cell = sym (ap (λ (y : Site (List ℕ)). y.cell) same_site) ∙ are.holds
+
+  pub run_slots : {place offset : ℕ} → IsAt s.bits r.number place offset → r.rooms.names ≡ part x.value offset r.left
+  run_slots at = are.rooms ∙ (λ i. part (same_site i).value ((at_one_place are.at at).1 i) r.left)

@@ -97,3 +97,8 @@ module _ {M : Type 1} {𝓤 : Ura M} (𝓛 : Logic 𝓤) where
     rooms_split [] δs = qed 𝓛 (‵ (rooms R δs) ∷ []) ∵ nothing ! $ done !
     rooms_split (γ ∷ γs) δs = qed 𝓛 (‵ (rooms R (γ ∷ γs ++ δs)) ∷ []) ∵ fsplit ! $ move ! (1 ∷ []) $ use1 𝓛 (‵ (rooms R γs) ⊛ ‵ (rooms R δs)) (rooms_split γs δs) $ split ! $
         move ! (2 ∷ 0 ∷ []) $ fjoin ! $ done !
+
+    pub rooms_join : (γs δs : List GName) → ent 𝓤 (sep 𝓤 (sem 𝓛 (rooms R γs)) (sem 𝓛 (rooms R δs))) (sem 𝓛 (rooms R (γs ++ δs)))
+    rooms_join [] δs = qed 𝓛 (‵ (rooms R []) ∷ ‵ (rooms R δs) ∷ []) ∵ keep ! (1 ∷ []) $ done !
+    rooms_join (γ ∷ γs) δs = qed 𝓛 (‵ (rooms R (γ ∷ γs)) ∷ ‵ (rooms R δs) ∷ []) ∵ fsplit ! $ move ! (1 ∷ 2 ∷ []) $ use2 𝓛 (‵ (rooms R (γs ++ δs))) (rooms_join γs δs) $
+        move ! (1 ∷ 0 ∷ []) $ fjoin ! $ done !

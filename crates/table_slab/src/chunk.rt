@@ -3,6 +3,7 @@ ghost use Rattle.std.specs.Prelude.{◌≡◌, ℕ, ◌<◌, ◌≤◌, ◌+◌,
 ghost use Rattle.table_slab.specs.Counting.{part};
 
 use crate::counter::{Counter, Handed};
+use crate::rights::Rooms;
 use crate::slots::Slots;
 use std::alloc::{AllocError, Allocator};
 use std::marker::Model;
@@ -32,34 +33,42 @@ impl<T, A: Allocator> Homed for Chunk<T, A> {
 
 impl<T, A: Allocator> Chunk<T, A> {
     /// Returns the slots.
-    pub fn slots(&self) -> &Slots<T, A>
+    pub(crate) fn slots(&self) -> &Slots<T, A>
         ensures { result.now ≡ self.now }
     {
         &self.slots
     }
 
     /// Takes the slots out, and ends the counter.
-    pub fn into_slots(self) -> Slots<T, A>
+    pub(crate) fn into_slots(self) -> Slots<T, A>
         ensures { result ≡ self }
     {
         let Chunk { slots, counter: _ } = self;
         slots
     }
 
-    /// Hands out the next slots, up to `most`, of those below the offset `end`. Returns `None` if all of those are handed
-    /// out.
-    pub fn next(&self, most: u64, end: u64) -> Option<Handed<T>>
+    /// Hands out slots in a row, up to `most`, of those below the offset `end`: the returned ones, or else the next ones. `None`:
+    /// neither are there.
+    pub(crate) fn next(&self, most: u64, end: u64) -> Option<Handed<T>>
         ensures some { IfSome result (λ h. (0 < h.count) × (h.count ≤ most)) }
         ensures within { IfSome result (λ h. (h.offset + h.count ≤ end) × (h.offset + h.count ≤ length self.now)) }
         ensures rooms { IfSome result (λ h. h.rooms.names ≡ part self.now h.offset h.count) }
     {
         self.counter.next(most, end)
     }
+
+    /// Keeps `count` slots from `offset` on, to hand them out again. If the chunk already keeps returned slots, it drops the rights
+    /// instead, and these slots are never handed out again.
+    pub(crate) fn give_back(&self, offset: u64, count: u64, rooms: Rooms<T>)
+        requires { rooms.names ≡ part self.now offset count }
+    {
+        self.counter.give_back(offset, count, rooms);
+    }
 }
 
 impl<T, A: Allocator + Copy> Chunk<T, A> {
     /// Asks for memory for a chunk of so many slots. A refusal leaves nothing.
-    pub fn new(alloc: A, count: usize) -> Result<Self, AllocError>
+    pub(crate) fn new(alloc: A, count: usize) -> Result<Self, AllocError>
         ensures { IfOk result (λ c. length c ≡ count) }
     {
         let (slots, rooms) = Slots::new(alloc, count)?;

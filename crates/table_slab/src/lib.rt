@@ -14,7 +14,6 @@ mod slab;
 mod slots;
 
 pub use chunk::Chunk;
-pub use counter::{Counter, Handed};
 pub use ending::Ending;
 pub use laws::{rooms_apart, same_site, same_value};
 pub use numbering::{chunk_len, number_at, where_is};

@@ -6,7 +6,7 @@ ghost use Rattle.table_slab.specs.Runs.{IsRunOf};
 ghost use Rattle.table_slab.specs.Slabs.{SlabView};
 
 use crate::chunk::Chunk;
-use crate::numbering::{number_at, used_len};
+use crate::numbering::{number_at, used_len, where_is};
 use crate::rights::Rooms;
 use crate::site::Site;
 use crate::slab::{Right, Slab};
@@ -110,6 +110,28 @@ impl<T, A: Low + Copy> Slab<T, A> {
         }
     }
 
+    /// Takes back the numbers that a run has left, to hand them out again to a caller that wants at least as many. A chunk keeps one
+    /// returned run. If the chunk of these numbers already keeps one, these numbers are never handed out again.
+    pub fn give_back(&self, run: Run<T, A>)
+        requires { IsRunOf self.now run }
+    {
+        let Run {
+            place,
+            number,
+            left,
+            rooms,
+            site,
+        } = run;
+        if left == 0 {
+            return;
+        }
+        let Some(site) = site else {
+            return;
+        };
+        let seat = where_is(self.bits(), number);
+        self.chunk(place, &site).give_back(seat.1, left, rooms);
+    }
+
     /// Returns a run from the chunk at this place, or else from the next one that has a number.
     fn run_from(&self, first: u32, want: u64) -> Result<Run<T, A>, Refused>
         requires want { 0 < want }
@@ -126,7 +148,7 @@ impl<T, A: Low + Copy> Slab<T, A> {
         Err(Refused::Numbers)
     }
 
-    /// Returns a run from the chunk at this place, which is made if it isn't there. `None`: all of its slots are handed out.
+    /// Returns a run from the chunk at this place, which is made if it isn't there. `None`: the chunk has no slot to hand out.
     fn run_at(&self, place: u32, want: u64) -> Result<Option<Run<T, A>>, AllocError>
         requires inside { place < length self.now.cells }
         requires few { self.now.bits + place < 32 }

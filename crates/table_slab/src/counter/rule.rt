@@ -2,10 +2,13 @@
 use logbook::{Gain, Plain, Play, Rule, Seen};
 use std::marker::PhantomData;
 
-/// An entry of the log: so many slots were handed out by one step. No value of it is made.
+/// An entry of the log. It is ghost: no value of it is made.
 #[derive(Drop)]
-pub struct Taken {
-    pub count: u64,
+pub enum Event {
+    /// This many slots were handed out, from the next one on.
+    Taken(u64),
+    /// The second word was set, and names the returned slots from then on.
+    Left(u64),
 }
 
 /// The rule of the book of a counter.
@@ -14,9 +17,9 @@ pub struct Counts<T> {
 }
 
 /// A prefix of a counter's log that its holder has observed.
-pub type Token<T> = Seen<Taken, u64, Counts<T>>;
+pub type Token<T> = Seen<Event, u64, Counts<T>>;
 
-impl<T> Rule<Taken, u64> for Counts<T> {
+impl<T> Rule<Event, u64> for Counts<T> {
     ghost use Rattle.std.specs.Prelude.{[]};
     ghost use Rattle.table_slab.specs.Counting.{IsKept, Moved, left};
 
@@ -33,12 +36,12 @@ impl<T> Rule<Taken, u64> for Counts<T> {
     ghost moves = { λ ask old new answer. Moved ask old new answer };
 }
 
-/// What a step gains: the rights to the slots that it counts.
+/// What a step gains: the rights to the slots that it takes out.
 pub struct Gains<T> {
     of: PhantomData<T>,
 }
 
-impl<T> Gain<Taken, u64> for Gains<T> {
+impl<T> Gain<Event, u64> for Gains<T> {
     ghost use Rattle.table_slab.specs.Counting.{gained};
 
     ghost after = { λ names about answer. gained T.row names about answer };
@@ -47,16 +50,17 @@ impl<T> Gain<Taken, u64> for Gains<T> {
 /// A step that looks.
 pub struct Look;
 
-impl Play<Taken, u64> for Look {
+impl Play<Event, u64> for Look {
     ghost use Rattle.table_slab.specs.Counting.{Looks};
 
     ghost then = { Looks };
 }
 
-impl Plain<(), Taken, u64> for Look {
+impl Plain<(), Event, u64> for Look {
     ghost use Rattle.std.specs.Prelude.{Some};
+    ghost use Rattle.table_slab.specs.declared.counter.rule.Event.TheVariants.{Taken};
 
-    ghost ask = { λ about. record { count = 0 } };
+    ghost ask = { λ about. Taken 0 };
 
     ghost state = { λ about. Some 0 };
 }
@@ -64,17 +68,17 @@ impl Plain<(), Taken, u64> for Look {
 /// What a caller gains who trades nothing.
 pub struct Nothing;
 
-impl Gain<Taken, u64> for Nothing {
+impl Gain<Event, u64> for Nothing {
     ghost use base.Fml.{ftrue};
 
     ghost after = { λ names about answer. ftrue };
 }
 
-/// A step that takes slots.
-pub struct Take;
+/// A step that changes a word, and takes slots out.
+pub struct Swap;
 
-impl Play<Taken, u64> for Take {
-    ghost use Rattle.table_slab.specs.Counting.{Takes};
+impl Play<Event, u64> for Swap {
+    ghost use Rattle.table_slab.specs.Counting.{Swaps};
 
-    ghost then = { Takes };
+    ghost then = { Swaps };
 }

@@ -67,6 +67,16 @@ fn last_first(slab: &Slab<(), Global>) -> Option<u64> {
     last
 }
 
+/// Takes a number of a run and returns the others to the slab. Then it takes a number of another run.
+fn give_back_and_take(slab: &Slab<u64, Global>) -> Option<(u64, u64)> {
+    let mut run = Run::new();
+    let (first, _right) = slab.number(&mut run, 4).ok()?;
+    slab.give_back(run);
+    let mut other = Run::new();
+    let (second, _right) = slab.number(&mut other, 4).ok()?;
+    Some((first, second))
+}
+
 #[test]
 fn numbers_follow_each_other(rt: HostRuntime) -> Result<(), Fail> {
     let slab = Slab::new(rt.alloc(), 1)?;
@@ -101,5 +111,12 @@ fn the_last_number_is_two_to_the_thirty_two_less_three(rt: HostRuntime) -> Resul
     let slab = Slab::new(rt.alloc(), 0)?;
     assert_eq!(rt; last_first(&slab), Some((1 << 31) - 1));
     assert!(rt; matches!(next_with_others(&slab), Err(Refused::Numbers)));
+    Ok(())
+}
+
+#[test]
+fn a_returned_number_is_handed_out_again(rt: HostRuntime) -> Result<(), Fail> {
+    let slab = Slab::new(rt.alloc(), 3)?;
+    assert_eq!(rt; give_back_and_take(&slab), Some((0, 1)));
     Ok(())
 }

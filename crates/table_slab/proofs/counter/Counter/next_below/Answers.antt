@@ -1,6 +1,7 @@
-use Rattle.std.proofs.Common.{List, ℕ, ◌+◌, sym, ◌∙◌, ap}
+use Rattle.std.proofs.Common.{List, ℕ, ◌+◌, refl, sym, ◌∙◌, ap}
 use Rattle.logbook.specs.Pages.{Named, Book}
-use Rattle.table_slab.proofs.Counted.{looks_moves, takes_moves}
+use Rattle.table_slab.specs.declared.counter.rule.Event.TheVariants.{Taken}
+use Rattle.table_slab.proofs.Counted.{looks_first, takes_moves}
 use Rattle.table_slab.proofs.counter.Counter.next_below.Goals as goal
 
 pub load-offset-requires : goal.load-offset-requires
@@ -8,7 +9,7 @@ load-offset-requires g c = let word = c.self.invariant.0 in let look = c.plain-l
   ap (λ (w : Named). w.tracked) word,
   c.loop-try.invariant.seen.0 ∙ sym (ap (λ (w : Book × List ℕ). w.0) c.self.view_is) ∙ sym (ap (λ (w : Named). w.book) word),
   look.0,
-  rw (look.1, look.3, ap (λ (w : Named). w.key) word) (looks_moves c.loop-try.seen.log (record { count = 0 })),
+  rw (look.1, look.3, ap (λ (w : Named). w.key) word) (looks_first c.loop-try.seen.log (Taken 0)),
 )
 
 pub compare_exchange-found-requires : goal.compare_exchange-found-requires
@@ -17,5 +18,5 @@ compare_exchange-found-requires g c = let word = c.self.invariant.0 in let pen =
   book,
   pen.0 ∙ book,
   offer.names,
-  rw (offer.state, pen.1, ap (λ (w : Named). w.key) word) (takes_moves c.load-offset.new.seen.log c.taking-offer.result.ask c.load-offset.result (c.load-offset.result + c.min-count.result) (ap (λ (k : ℕ). c.load-offset.result + k) (sym offer.ask))),
+  rw (offer.state, offer.ask, pen.1, ap (λ (w : Named). w.key) word) (takes_moves c.load-offset.new.seen.log c.min-count.result c.load-offset.result (c.load-offset.result + c.min-count.result) refl),
 )

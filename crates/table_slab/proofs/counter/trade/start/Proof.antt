@@ -21,13 +21,13 @@ use denote.Triple.Walked.{Stays, stay_dropped, walk_of, Goes-dropped}
 use Rattle.std.proofs.raw_atomic.Walks.{proved, leaves}
 use Rattle.logbook.specs.contracts.tokens.Start as Start
 use Rattle.logbook.proofs.Fields.{token, Token, token_made}
-use Rattle.table_slab.specs.declared.counter.rule.Taken.{Taken}
-use Rattle.table_slab.specs.contracts.counter.rule.Taken as Events
+use Rattle.table_slab.specs.declared.counter.rule.Event.{Event}
+use Rattle.table_slab.specs.contracts.counter.rule.Event as Events
 use Rattle.table_slab.specs.contracts.counter.rule.Counts as Counts
 use Rattle.table_slab.specs.contracts.counter.rule.Gains as Gains
 use Rattle.table_slab.specs.contracts.rights.Rooms as Rooms
-use Rattle.table_slab.specs.contracts.counter.rule.CountsRuleTakenU64.TheImpl as rule_impl
-use Rattle.table_slab.specs.contracts.counter.rule.GainsGainTakenU64.TheImpl as gain_impl
+use Rattle.table_slab.specs.contracts.counter.rule.CountsRuleEventU64.TheImpl as rule_impl
+use Rattle.table_slab.specs.contracts.counter.rule.GainsGainEventU64.TheImpl as gain_impl
 use Rattle.table_slab.proofs.Made.{rooms_told}
 use Rattle.table_slab.specs.contracts.counter.trade.start.{ended, clauses}
 use Rattle.table_slab.specs.contracts.counter.trade.start.Key.{name as #self}
@@ -47,6 +47,6 @@ start_spec 𝓤 𝓛 𝓜 𝓡 wired V LV =
     use0 𝓛 (‵ ((Token All).own_val (record {}, tt) (token ∷ []))) (token_made All 𝓛) $ fjoin ! $ let r : S.Denot = record { marker = record {}; names = ns; shown = [] } in
     enter ! 𝓣.C 𝓣.Λ fn (token ∷ []) Post $ alloc_all ! (λ l. pass_all ! refl ((tt, (tt, tt)), tt) $
     sets ! (agg ! (no_more !)) refl (tt, tt) $ sets ! (agg ! (and_then ! (get ! refl) (no_more !))) refl (tt, (tt, tt)) $
-    let Names : Type 0 = ns ≡ ns in let Shown : Type 0 = mathlib.Core.Path.Path (List Taken) [] [] in
+    let Names : Type 0 = ns ≡ ns in let Shown : Type 0 = mathlib.Core.Path.Path (List Event) [] [] in
     use0 𝓛 (raw (fact 𝓤 Shown)) (fact_i 𝓤 Shown (emp 𝓤) refl) $ use0 𝓛 (raw (fact 𝓤 Names)) (fact_i 𝓤 Names (emp 𝓤) refl) $ join ! $ nothing ! $ nothing ! $ fjoin ! $
     returns ! (look_at ! 0 refl) $ free_all ! refl $ keep ! (3 ∷ 0 ∷ 2 ∷ 1 ∷ []) $ by ! (leaves 𝓛 En hs c y token r (tt, tt) (tt, tt))))

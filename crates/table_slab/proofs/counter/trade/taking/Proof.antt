@@ -5,7 +5,7 @@ use mir.Syntax.{a_type, named}
 use mir.Val.{Val, vint, vptr}
 use mir.MapTy.{inst_fn}
 use base.Logic.{SProp, emp}
-use types.Kit.{‵, raw, ◌⊛◌, ◌$◌, ◌∵◌, !, qed, by, keep, use0, split, join, fjoin}
+use types.Kit.{‵, raw, ◌⊛◌, ◌$◌, ◌∵◌, !, qed, by, keep, use0, use1, split, join, fjoin}
 use types.Run.{no_more, and_then, returns, enter}
 use types.ByLocal.{alloc_all, pass_all, free_all, look_at, get, sets}
 use types.Part.{agg}
@@ -26,14 +26,15 @@ use Rattle.logbook.specs.Kept.{offer_owns}
 use Rattle.logbook.specs.contracts.tokens.Offer as Offer
 use Rattle.logbook.specs.contracts.tokens.Seen as Seen
 use Rattle.logbook.proofs.Fields.{token, Token, token_made}
-use Rattle.table_slab.specs.declared.counter.rule.Taken.{Taken}
+use Rattle.table_slab.specs.declared.counter.rule.Event.{Event}
+use Rattle.table_slab.specs.declared.counter.rule.Event.TheVariants.{Taken}
 use Rattle.table_slab.specs.Counting.{Moved, left, gained}
-use Rattle.table_slab.specs.contracts.counter.rule.Taken as Events
+use Rattle.table_slab.specs.contracts.counter.rule.Event as Events
 use Rattle.table_slab.specs.contracts.counter.rule.Counts as Counts
 use Rattle.table_slab.specs.contracts.counter.rule.Gains as Gains
 use Rattle.table_slab.specs.contracts.rights.Rooms as Rooms
-use Rattle.table_slab.specs.contracts.counter.rule.CountsRuleTakenU64.TheImpl as rule_impl
-use Rattle.table_slab.specs.contracts.counter.rule.GainsGainTakenU64.TheImpl as gain_impl
+use Rattle.table_slab.specs.contracts.counter.rule.CountsRuleEventU64.TheImpl as rule_impl
+use Rattle.table_slab.specs.contracts.counter.rule.GainsGainEventU64.TheImpl as gain_impl
 use Rattle.table_slab.proofs.Trades as trades
 use Rattle.table_slab.specs.contracts.counter.trade.taking.{ended, clauses}
 use Rattle.table_slab.specs.contracts.counter.trade.taking.Key.{name as #self}
@@ -50,12 +51,12 @@ taking_spec 𝓤 𝓛 𝓜 𝓡 wired V LV =
     proved 𝓛 En hs c 𝓜 𝓡 (Goes-dropped 𝓛 2 seen yes (λ κs x f. refl), (Goes-dropped 𝓛 2 number yes (λ κs x f. refl), tt)) (#self inst) fn (code.unfolded 𝓤 H 𝓜 𝓡 wired (V, tt))
     (λ κs. (shr_vals, (uint_vals w64, tt))) (λ κs. (shr_Tells (named 0) κs.0 Sn, (uint_Tells w64, tt))) (λ κs qs bounds a gh are.
     let ns : List ℕ = a.0.now.names in let k : ℕ = a.1.0 in let at : Val = vptr a.0.ref_ptr.0 a.0.ref_ptr.1 in let y : (walk_of 𝓛 En hs c).Ghost = ((κs, qs, bounds, a, (at ∷ [], (vint w64 k ∷ [], tt))), gh) in let Post : Val → SProp 𝓤 = (walk_of 𝓛 En hs c).post y in
-    let ask : Taken = record { count = k } in
+    let ask : Event = Taken k in
     qed 𝓛 ((raw (denote.Triple.Entry.alive 𝓛 En.signature κs qs) ⊛ ‵ (owns (types_at En.signature.params κs) a y.0.4)) ∷ raw ((c κs a).requires gh) ∷ []) ∵ split ! $ keep ! (0 ∷ []) $
-    use0 𝓛 (‵ (offer_owns (left R ns) (Moved ask) (gained R ns (ask ∷ [])) None)) (trades.offers 𝓛 R ns ask) $ use0 𝓛 (‵ ((Token All).own_val (record {}, tt) (token ∷ []))) (token_made All 𝓛) $ fjoin ! $
+    nothing ! $ use1 𝓛 (‵ (offer_owns (left R ns) (Moved ask) (gained R ns (ask ∷ [])) None)) (trades.offers 𝓛 R ns ask) $ use0 𝓛 (‵ ((Token All).own_val (record {}, tt) (token ∷ []))) (token_made All 𝓛) $ fjoin ! $
     let r : Off.Denot = record { marker = record {}; names = ns; ask = ask; about = ask ∷ []; state = None } in
     enter ! 𝓣.C 𝓣.Λ fn (at ∷ vint w64 k ∷ []) Post $ alloc_all ! (λ l. pass_all ! refl ((tt, tt), ((tt, record { fits = are.1.0.1 }), tt)) $
     sets ! (agg ! (no_more !)) refl (tt, tt) $ sets ! (agg ! (and_then ! (get ! refl) (no_more !))) refl (tt, (tt, tt)) $
     let Names : Type 0 = ns ≡ ns in let State : Type 0 = mathlib.Core.Path.Path (Option ℕ) None None in
-    let About : Type 0 = ask ∷ [] ≡ ask ∷ [] in let Ask : Type 0 = k ≡ k in use0 𝓛 (raw (fact 𝓤 State)) (fact_i 𝓤 State (emp 𝓤) refl) $ use0 𝓛 (raw (fact 𝓤 About)) (fact_i 𝓤 About (emp 𝓤) refl) $ join ! $ use0 𝓛 (raw (fact 𝓤 Ask)) (fact_i 𝓤 Ask (emp 𝓤) refl) $ join ! $ use0 𝓛 (raw (fact 𝓤 Names)) (fact_i 𝓤 Names (emp 𝓤) refl) $ join ! $ nothing ! $ nothing ! $ fjoin ! $ nothing ! $ fjoin ! $
+    let About : Type 0 = ask ∷ [] ≡ ask ∷ [] in let Ask : Type 0 = ask ≡ ask in use0 𝓛 (raw (fact 𝓤 State)) (fact_i 𝓤 State (emp 𝓤) refl) $ use0 𝓛 (raw (fact 𝓤 About)) (fact_i 𝓤 About (emp 𝓤) refl) $ join ! $ use0 𝓛 (raw (fact 𝓤 Ask)) (fact_i 𝓤 Ask (emp 𝓤) refl) $ join ! $ use0 𝓛 (raw (fact 𝓤 Names)) (fact_i 𝓤 Names (emp 𝓤) refl) $ join ! $ nothing ! $ nothing ! $ fjoin ! $ nothing ! $ fjoin ! $
     returns ! (look_at ! 0 refl) $ free_all ! refl $ keep ! (3 ∷ 0 ∷ 2 ∷ 1 ∷ []) $ by ! (leaves 𝓛 En hs c y token r (tt, (tt, tt)) (tt, (tt, tt)))))
