@@ -1,7 +1,8 @@
 //! How threads show values.
-ghost use Rattle.std.specs.Prelude.{◌≡◌, ◌≢◌, ℕ, ◌+◌, ◌^◌, ◌<◌, None};
+ghost use Rattle.std.specs.Prelude.{◌≡◌, ◌≢◌, ◌<◌, None};
 ghost use mathlib.Core.List.{IsPrefix};
 ghost use Rattle.table_slab.specs.Held.{IsRightTo};
+ghost use Rattle.table_slab.specs.Numbering.{IsSmall};
 ghost use Rattle.table_chain.specs.History.{Told, MayStand};
 ghost use Rattle.table_chain.specs.Chains.{IsOf, Shows};
 ghost use Rattle.table_slab.specs.Shelved.{slab_of};
@@ -23,9 +24,6 @@ pub enum Showing<'a, G> {
     /// There is no memory for the value, or no number is left, or the chain has ended. The value is returned.
     Refused(G),
 }
-
-/// The greatest number that a word can have.
-const GREATEST: u64 = u64::MAX - 2;
 
 impl<G: Drop, F: Follows<G>, A: Low + Copy> Chain<G, F, A> {
     /// Returns `next` to the caller, beside the value that the slot has.
@@ -57,9 +55,6 @@ impl<G: Drop, F: Follows<G>, A: Low + Copy> Chain<G, F, A> {
         let Ok((number, right)) = self.slab.number(&mut Run::new(), 1) else {
             return Showing::Refused(next);
         };
-        if number > GREATEST {
-            return Showing::Refused(next);
-        }
         self.show_under(seen, slot, number, right, next)
     }
 
@@ -74,7 +69,7 @@ impl<G: Drop, F: Follows<G>, A: Low + Copy> Chain<G, F, A> {
     ) -> Showing<'a, G>
         requires of { IsOf F.begins F.follows self.now seen.old.book seen.old.names seen.old.log }
         requires inside { slot < self.now.slots }
-        requires few { number + 2 < 2 ^ 64 }
+        requires small { IsSmall number }
         requires right { IsRightTo (slab_of self.now.names) number right }
         requires empty { right.room.value ≡ None }
         requires may { MayStand F.begins F.follows seen.old.log slot next }
