@@ -7,7 +7,7 @@ use seplogic.Ra.Ura.{Ura}
 use base.Logic.{SProp, ent, sep, wand, all, upd, upd_i, id⊢, via, guard, guard_i, never, never_e}
 use base.Fml.{Fml, ftrue}
 use types.Logic.{Logic, sem}
-use types.Kit.{‵, raw, ◌⊛◌, ◌$◌, ◌∵◌, !, qed, by, move, drop, split, fsplit, fjoin, frame, each, assume, suffices, use1, use2, given, learn, check, rewrite, done}
+use types.Kit.{‵, ◌⊛◌, ◌$◌, ◌∵◌, !, qed, by, move, split, fsplit, fjoin, frame, each, assume, suffices, use1, use2, given, learn, check, rewrite, done}
 use native.Mathlib.Decide.{ℕ_discrete}
 use denote.RattleType.{RattleType}
 use denote.Steps.{nothing}

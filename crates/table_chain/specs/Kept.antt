@@ -2,7 +2,7 @@
 use Rattle.std.specs.Prelude.{ℕ, zero, suc, List, [], ◌∷◌, Option, Some, None}
 use base.Fml.{Fml, ftrue, fsep}
 use denote.RattleType.{RattleType}
-use Rattle.table_slab.specs.Shelved.{slab_of, right, standing}
+use Rattle.table_slab.specs.Shelved.{slab_of, right}
 use Rattle.table_slab.specs.Spent.{spent}
 use Rattle.table_chain.specs.declared.event.Event.{Event}
 use Rattle.table_chain.specs.declared.event.Stored.{Stored}

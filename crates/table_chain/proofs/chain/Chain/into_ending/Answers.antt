@@ -1,4 +1,4 @@
-use Rattle.std.proofs.Common.{◌≡◌, ℕ, sym, ap, subst, ◌∙◌}
+use Rattle.std.proofs.Common.{ℕ, sym, ap, subst, ◌∙◌}
 use Rattle.table_slab.specs.Shelved.{slab_of}
 use Rattle.table_chain.specs.Chains.{IsWhole}
 use Rattle.table_chain.proofs.Steps.{size_on}
