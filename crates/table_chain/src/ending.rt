@@ -63,6 +63,8 @@ impl<G: Drop, F: Follows<G>, A: Low + Copy> Chain<G, F, A> {
         ensures log { result.log ≡ seen.new.log }
         ensures taken { result.taken ≡ 0 }
         ensures whole { IsWhole self.slots result.count seen.new.log }
+        ensures counted { (p : ℕ) (g : G) → Stands seen.new.log p g → p < result.count }
+        ensures ended { IsFinal F.begins F.follows seen.new.log }
     {
         let (words, slab, _start) = self.into_parts();
         let count = close_behind(&words, seen);

@@ -27,6 +27,7 @@ impl<G: Drop, F: Follows<G>, A: Low + Copy> Chain<G, F, A> {
         ensures first { (g : G) → Stands seen.now.log 0 g → F.begins g }
         ensures later { (p : ℕ) (g : G) → Stands seen.now.log (suc p) g
             → (f : G) × Stands seen.now.log p f × F.follows f g }
+        ensures follows { (p : ℕ) (f g : G) → Stands seen.now.log p f → Stands seen.now.log (suc p) g → F.follows f g }
     {
         let _ = seen;
     }

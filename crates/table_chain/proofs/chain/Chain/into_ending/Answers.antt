@@ -1,7 +1,9 @@
-use Rattle.std.proofs.Common.{ℕ, sym, ap, subst, ◌∙◌}
+use Rattle.std.proofs.Common.{ℕ, [], sym, ap, subst, ◌∙◌}
+use Rattle.std.proofs.lemmas.List.{append-nil}
 use Rattle.table_slab.specs.Shelved.{slab_of}
 use Rattle.table_chain.specs.Chains.{IsWhole}
 use Rattle.table_chain.proofs.Steps.{size_on}
+use Rattle.table_chain.proofs.Chained.{ends, final}
 use Rattle.table_chain.proofs.Ended.{laid_so, laid_on, ending_first}
 use Rattle.table_chain.proofs.chain.Chain.into_ending.Goals as goal
 
@@ -27,3 +29,13 @@ returns-clause-of g c = let seen = c.args.seen.now in let e = c.close_behind-cou
 
 pub returns-clause-whole : goal.returns-clause-whole
 returns-clause-whole g c = subst (λ (n : ℕ). IsWhole n c.close_behind-count.result c.close_behind-count.new.seen.log) (sym (ap (λ x. x.slots) c.into_parts-words.ensures.view)) c.close_behind-count.ensures.whole
+
+pub returns-clause-counted : goal.returns-clause-counted
+returns-clause-counted g c = let e = c.close_behind-count.ensures in let log = c.close_behind-count.new.seen.log in
+    λ p x there. ends g.F.Follows.begins g.F.Follows.follows c.close_behind-count.result c.args.self.slots log (size_on c.args.self.slots c.args.seen.now.log log c.requires.of.2 e.longer)
+    (subst (λ (n : ℕ). IsWhole n c.close_behind-count.result log) (sym (ap (λ x. x.slots) c.into_parts-words.ensures.view)) e.whole) log ([], append-nil log) e.reached p x there
+
+pub returns-clause-ended : goal.returns-clause-ended
+returns-clause-ended g c = let e = c.close_behind-count.ensures in let log = c.close_behind-count.new.seen.log in
+    final g.F.Follows.begins g.F.Follows.follows c.close_behind-count.result c.args.self.slots log (size_on c.args.self.slots c.args.seen.now.log log c.requires.of.2 e.longer)
+    (subst (λ (n : ℕ). IsWhole n c.close_behind-count.result log) (sym (ap (λ x. x.slots) c.into_parts-words.ensures.view)) e.whole)
