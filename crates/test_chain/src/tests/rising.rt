@@ -25,29 +25,41 @@ type Rising = Chain<u64, Rises, Global>;
 type Seen = Token<u64, Rises>;
 
 /// Returns the number in the slot after one whose number is known, if it has one. It is greater.
-fn climb<'a>(chain: &'a Rising, seen: &mut Seen, slot: usize, here: u64) -> Option<&'a u64>
+fn climb<'a>(
+    chain: &'a Rising,
+    seen: &mut Seen,
+    slot: usize,
+    next: usize,
+    here: u64,
+) -> Option<&'a u64>
     requires sees { Sees chain.now seen.old.book seen.old.names seen.old.log }
-    requires inside { suc slot < chain.now.slots }
+    requires next { next ≡ suc slot }
+    requires inside { next < chain.now.slots }
     requires here { Stands seen.old.log slot here }
     ensures sees { Sees chain.now seen.new.book seen.new.names seen.new.log }
     ensures longer { IsPrefix seen.old.log seen.new.log }
-    ensures there { IfSome result (λ n. Stands seen.new.log (suc slot) n.now) }
+    ensures there { IfSome result (λ n. Stands seen.new.log next n.now) }
     ensures greater { IfSome result (λ n. here < n.now) }
 {
-    let next = chain.look(seen, slot + 1);
-    chain.each_follows(seen);
-    next
+    match chain.look(seen, next) {
+        Some(found) => {
+            chain.each_follows(seen);
+            Some(found)
+        }
+        None => None,
+    }
 }
 
 /// Shows a greater number in the slot after one whose number is known. Answers whether the slot has it then.
-fn rise(chain: &Rising, seen: &mut Seen, slot: usize, here: u64, next: u64) -> bool
+fn rise(chain: &Rising, seen: &mut Seen, slot: usize, next: usize, here: u64, number: u64) -> bool
     requires sees { Sees chain.now seen.old.book seen.old.names seen.old.log }
-    requires inside { suc slot < chain.now.slots }
+    requires next { next ≡ suc slot }
+    requires inside { next < chain.now.slots }
     requires here { Stands seen.old.log slot here }
-    requires greater { here < next }
+    requires greater { here < number }
 {
-    match chain.show(seen, slot + 1, next) {
-        Showing::Shown(shown) => *shown == next,
+    match chain.show(seen, next, number) {
+        Showing::Shown(shown) => *shown == number,
         Showing::Other(_, _) | Showing::Refused(_) => false,
     }
 }
@@ -67,10 +79,10 @@ fn made(alloc: Global) -> Result<Rising, Fail>
 fn a_walk_meets_each_number(rt: HostRuntime) -> Result<(), Fail> {
     let chain = made(rt.alloc())?;
     let mut seen = chain.start();
-    assert_same(&rt, climb(&chain, &mut seen, 0, 3), None);
+    assert_same(&rt, climb(&chain, &mut seen, 0, 1, 3), None);
     let mut shower = chain.start();
-    assert_same(&rt, rise(&chain, &mut shower, 0, 3, 5), true);
+    assert_same(&rt, rise(&chain, &mut shower, 0, 1, 3, 5), true);
     let mut walker = chain.start();
-    assert_same(&rt, climb(&chain, &mut walker, 0, 3), Some(&5));
+    assert_same(&rt, climb(&chain, &mut walker, 0, 1, 3), Some(&5));
     Ok(())
 }
