@@ -51,6 +51,16 @@ impl<G: Drop, F: Follows<G>, A: Low + Copy> Chain<G, F, A> {
     }
 }
 
+/// States that whatever any thread knows of a slot stands in the history that the chain ended with.
+pub fn end_knows_all<G: Drop, F: Follows<G>>(seen: &Token<G, F>, other: &Token<G, F>)
+    requires ended { IsFinal F.begins F.follows seen.now.log }
+    requires book { other.now.book ≡ seen.now.book }
+    ensures { (p : ℕ) (g : G) → Stands other.now.log p g → Stands seen.now.log p g }
+{
+    let mut both = seen.again();
+    both.learn(other);
+}
+
 /// States that whatever any thread knows of a slot is the value that was returned for it when the chain ended.
 pub fn values_are_all<G: Drop, F: Follows<G>, B: Allocator>(
     values: &Vec<G, B>,
