@@ -1,7 +1,7 @@
 -- What holds of each history of a chain that was reached.
 --     value_shown, end_shown      what a slot's word says
---     below, rise      each slot below one with a value has one; numbers rise from slot to slot
---     joins      what may stand in a slot joins the chain under a greater number
+--     below      each slot below one with a value has one
+--     differ_before    no two slots of an earlier history have one number
 --     final      no value comes any more behind a chain that has ended
 use Rattle.std.proofs.Common.{◌≡◌, ◌≢◌, ℕ, zero, suc, ◌+◌, ◌-◌, ◌<◌, ◌≤◌, List, [], length, refl, ap, sym, subst, ◌∙◌, arith, inl, inr}
 use Rattle.std.specs.Prelude.{slice_index_or}
@@ -11,8 +11,8 @@ use mathlib.Core.Logic.{dite}
 use native.Mathlib.Decide.{ℕ_discrete, dec_lt}
 use Rattle.table_chain.specs.declared.event.Stored.{Stored}
 use Rattle.table_chain.specs.declared.event.Stored.TheVariants.{Shown, End}
-use Rattle.table_chain.specs.History.{History, Has, Stands, HasSize, word_of, Joins, IsReached, Told}
-use Rattle.table_chain.specs.Chains.{IsEnd, IsWhole, MayStand, IsFinal, AreValues}
+use Rattle.table_chain.specs.History.{History, Has, Stands, HasSize, word_of, NumbersDiffer, IsReached, Told}
+use Rattle.table_chain.specs.Chains.{IsEnd, IsWhole, IsFinal, AreValues}
 use Rattle.table_chain.proofs.Trades.{later}
 use Rattle.table_chain.proofs.Steps.{slots_is, size_on, shown_is}
 
@@ -70,25 +70,7 @@ module _ {G : Type 0} (Begins : G → Type 0) (Follows : G → G → Type 0) whe
   below log r zero q k g le there = let is : 0 ≡ q = omega (arith, le) in (k, g, subst (λ (i : ℕ). Has log i k (Shown g)) is there)
   below log r (suc p) q k g le there = dite (ℕ_discrete q (suc p))
       (λ (is : q ≡ suc p). (k, g, subst (λ (i : ℕ). Has log i k (Shown g)) (sym is) there))
-      (λ (ne : q ≢ suc p). let b = (r.1.joined (suc p) k g there).behind p refl in below log r p q b.0 b.1 (omega (arith, le, ne)) b.2)
-
-  pub rise : (log : History G) → Reached log → (q p k j : ℕ) (g h : G) → p < q → Has log p k (Shown g) → Has log q j (Shown h) → k < j
-  rise log r zero p k j g h lt one other = absurd (omega (arith, lt))
-  rise log r (suc q) p k j g h lt one other = let b = (r.1.joined (suc q) j h other).behind q refl in dite (ℕ_discrete p q)
-      (λ (is : p ≡ q). let same = r.1.once q k b.0 (Shown g) (Shown b.1) (subst (λ (i : ℕ). Has log i k (Shown g)) is one) b.2 in omega (arith, same.0, b.4))
-      (λ (ne : p ≢ q). let less : k < b.0 = rise log r q p k b.0 g b.1 (omega (arith, lt, ne)) one b.2 in omega (arith, less, b.4))
-
-  pub joins : (log : History G) (p k : ℕ) (g : G) → MayStand Begins Follows log p g → ((q j : ℕ) (f : G) → p ≡ suc q → Has log q j (Shown f) → j < k) → Joins Begins Follows log p k g
-  joins log p k g may rises = record {
-    first = may.first;
-    behind = λ q is. let b = may.behind q is in (b.1.0, b.0, b.1.1, b.2, rises q b.1.0 b.0 is b.1.1);
-  }
-
-  pub may_on : (l m : History G) (p : ℕ) (g : G) → IsPrefix l m → MayStand Begins Follows l p g → MayStand Begins Follows m p g
-  may_on l m p g on may = record {
-    first = may.first;
-    behind = λ q is. let b = may.behind q is in (b.0, (b.1.0, later l m q b.1.0 (Shown b.0) on b.1.1), b.2);
-  }
+      (λ (ne : q ≢ suc p). let b = (r.1.joined (suc p) g (k, there)).behind p refl in below log r p q b.1.0 b.0 (omega (arith, le, ne)) b.1.1)
 
   pub ends : (n slots : ℕ) (log : History G) → HasSize slots log → IsWhole slots n log → (after : History G) → IsPrefix log after → Reached after → (p : ℕ) (g : G) → Stands after p g → p < n
   ends n slots log size whole after on r p g there = dite (dec_lt p n) (λ (lt : p < n). lt) (λ (no : p < n → ⊥). absurd (let at = below after r p n there.0 g (omega (arith, no)) there.1 in elim whole.last [
@@ -113,3 +95,6 @@ module _ {G : Type 0} (Begins : G → Type 0) (Follows : G → G → Type 0) whe
       → (p < length gs) × (slice_index_or gs p g ≡ g)
   all_handed_out log other both gs values ended on too r p g there = let after = stands_on other both p g too there in let lt : p < length gs = values.none p g (ended both on r p g after) in
       let here = stands_on log both p (slice_index_or gs p g) on (values.each p g lt) in (lt, one_value both p here.0 after.0 (slice_index_or gs p g) g r here.1 after.1)
+
+pub differ_before : {G : Type 0} (l m : History G) → IsPrefix l m → NumbersDiffer m → NumbersDiffer l
+differ_before l m on differ p q k f g one other = differ p q k f g (later l m p k (Shown f) on one) (later l m q k (Shown g) on other)

@@ -6,10 +6,10 @@ use Rattle.logbook.specs.Pages.{Book, Named}
 use Rattle.table_slab.specs.Endings.{EndView, IsLeft}
 use Rattle.table_slab.specs.Shelved.{slab_of}
 use Rattle.table_chain.specs.declared.event.Stored.TheVariants.{Shown}
-use Rattle.table_chain.specs.History.{History, Has, HasSize, Told, IsReached}
+use Rattle.table_chain.specs.History.{History, Has, NumbersDiffer, HasSize, Told, IsReached}
 use Rattle.table_chain.specs.Chains.{ChainView, chain_view, AreWords, IsOf, IsLaid, IsWhole, IsEnding}
 use Rattle.table_chain.proofs.Steps.{size_on}
-use Rattle.table_chain.proofs.Chained.{known_shown, rise}
+use Rattle.table_chain.proofs.Chained.{known_shown}
 
 module _ {G : Type 0} (Begins : G → Type 0) (Follows : G → G → Type 0) where
   -- what the word of the next slot says
@@ -39,12 +39,12 @@ module _ {G : Type 0} (Begins : G → Type 0) (Follows : G → G → Type 0) whe
 
   -- once the value of the next slot is taken out, the later ones lie as they did
   pub ending_on : (b : Book) (names : List ℕ) (left new : EndView) (log : History G) (ws : List Named) (count taken k : ℕ) (g : G) → IsEnding Begins Follows b names log ws left count taken → taken < count
-      → Has log taken k (Shown g) → new.slab ≡ left.slab → ((j : ℕ) → j ≢ k → IsLeft left j → IsLeft new j) → IsEnding Begins Follows b names log ws new count (taken + 1)
-  ending_on b names left new log ws count taken k g e lt there slab others = record {
+      → Has log taken k (Shown g) → NumbersDiffer log → new.slab ≡ left.slab → ((j : ℕ) → j ≢ k → IsLeft left j → IsLeft new j) → IsEnding Begins Follows b names log ws new count (taken + 1)
+  ending_on b names left new log ws count taken k g e lt there differ slab others = record {
     laid = e.laid;
     whole = e.whole;
-    left_in = λ p j h le other. let above : k < j = rise Begins Follows log e.laid.reached p taken k j g h (omega (arith, le)) there other in
-        others j (λ is. omega (arith, is, above)) (e.left_in p j h (omega (arith, le)) other);
+    left_in = λ p j h le other. others j (λ is. let same : taken ≡ p = differ taken p k g h there (subst (λ (n : ℕ). Has log p n (Shown h)) is other) in omega (arith, le, same))
+        (e.left_in p j h (omega (arith, le)) other);
     slab = slab ∙ e.slab;
     some = omega (arith, lt);
   }

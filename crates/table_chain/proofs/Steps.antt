@@ -1,5 +1,5 @@
 -- What the steps on a word add to a history, and what they tell.
-use Rattle.std.proofs.Common.{◌≡◌, ◌≢◌, ℕ, zero, suc, ◌+◌, ◌<◌, ◌++◌, ◌⊎◌, ◌==◌, Bool, true, false, List, [], ◌∷◌, length, set, Option, Some, None, refl, ap, sym, subst, ◌∙◌, arith, length-set, inl, inr}
+use Rattle.std.proofs.Common.{◌≡◌, ◌≢◌, ℕ, zero, suc, ◌<◌, ◌++◌, ◌⊎◌, ◌==◌, Bool, true, false, List, [], ◌∷◌, length, set, Option, Some, None, refl, ap, sym, subst, ◌∙◌, arith, length-set, inl, inr}
 use Rattle.std.proofs.lemmas.Bool.Decides.{nat_tests}
 use Rattle.std.proofs.lemmas.List.{append-nil, get_or-set_same, get_or-set_other, get_or-replicate, length-replicate}
 use Rattle.std.proofs.lemmas.List.Elements.{Contains-push, Contains-push_cases}
@@ -14,7 +14,7 @@ use Rattle.logbook.specs.Pages.{Cell, cell, keeps, no_nib, step, Moves, Goes}
 use Rattle.table_chain.specs.declared.event.Event.{Event}
 use Rattle.table_chain.specs.declared.event.Stored.{Stored}
 use Rattle.table_chain.specs.declared.event.Stored.TheVariants.{Shown, End}
-use Rattle.table_chain.specs.History.{History, event, Has, IsUntouched, HasSize, slots_of, IsInside, Moved, word_of, Joins, Fits, IsKept, IsReached, Told, Looks, Adds, Stores}
+use Rattle.table_chain.specs.History.{History, event, Has, IsUntouched, HasSize, slots_of, IsInside, Moved, word_of, MayStand, Fits, IsKept, IsReached, Told, Looks, Adds, Stores}
 use Rattle.table_chain.proofs.Trades.{later}
 
 module _ {G : Type 0} where
@@ -46,18 +46,18 @@ module _ {G : Type 0} where
     abbrev Kept : List Cell → History G → Type 0
     Kept = IsKept Begins Follows
 
-    -- what joins a chain joins each longer one
-    pub joins_on : (l m : History G) (p k : ℕ) (g : G) → IsPrefix l m → Joins Begins Follows l p k g → Joins Begins Follows m p k g
-    joins_on l m p k g on joins = record {
-      first = joins.first;
-      behind = λ q is. let b = joins.behind q is in (b.0, b.1, later l m q b.0 (Shown b.1) on b.2, b.3, b.4);
+    -- what may stand in a slot may stand there at each later time
+    pub may_on : (l m : History G) (p : ℕ) (g : G) → IsPrefix l m → MayStand Begins Follows l p g → MayStand Begins Follows m p g
+    may_on l m p g on may = record {
+      first = may.first;
+      behind = λ q is. let b = may.behind q is in (b.0, (b.1.0, later l m q b.1.0 (Shown b.0) on b.1.1), b.2);
     }
 
-    pub fits_on : (l m : History G) (p k : ℕ) (s : Stored G) → IsPrefix l m → Fits Begins Follows l p k s → Fits Begins Follows m p k s
-    fits_on l m p k s on fits g is = joins_on l m p k g on (fits g is)
+    fits_on : (l m : History G) (p : ℕ) (s : Stored G) → IsPrefix l m → Fits Begins Follows l p s → Fits Begins Follows m p s
+    fits_on l m p s on fits g is = may_on l m p g on (fits g is)
 
     -- what is stored in an empty slot
-    adds_kept : (cs : List Cell) (log : History G) (p k : ℕ) (s : Stored G) → Kept cs log → p < length cs → Fits Begins Follows log p k s → (cell cs p).0 ≡ 0 → Kept (set cs p (word_of s k, true)) (log ++ event p k (Some s) ∷ [])
+    adds_kept : (cs : List Cell) (log : History G) (p k : ℕ) (s : Stored G) → Kept cs log → p < length cs → Fits Begins Follows log p s → (cell cs p).0 ≡ 0 → Kept (set cs p (word_of s k, true)) (log ++ event p k (Some s) ∷ [])
     adds_kept cs log p k s t here fits empty =
         let w : Cell = (word_of s k, true) in let later_log : History G = log ++ event p k (Some s) ∷ [] in let new : List Cell = set cs p w in
         let long : length new ≡ length cs = length-set cs p w in let on : IsPrefix log later_log = (event p k (Some s) ∷ [], refl) in
@@ -91,9 +91,9 @@ module _ {G : Type 0} where
               (λ (is : q ≡ p). subst (λ (i : ℕ). (j : ℕ) × (u : Stored G) × Has later_log i j u × ((cell new i).0 ≡ word_of u j)) (sym is) (k, s, Contains-push log (event p k (Some s)), ap (λ (c : Cell). c.0) it))
               (λ (ne : q ≢ p). let same : (cell new q).0 ≡ (cell cs q).0 = ap (λ (c : Cell). c.0) (others q ne) in
               let r = t.set q (omega (arith, lt, long)) (λ zero. full (same ∙ zero)) in (r.0, r.1, later log later_log q r.0 r.1 on r.2, same ∙ r.3));
-          joined = λ q j g there. elim (has_push log p k q j s (Shown g) there) [
-            | inl old ↦ joins_on log later_log q j g on (t.joined q j g old)
-            | inr is ↦ joins_on log later_log q j g on (subst (λ (z : ℕ × ℕ). Joins Begins Follows log z.0 z.1 g) (λ i. (is.0 i, is.1 i)) (fits g is.2))
+          joined = λ q g there. elim (has_push log p k q there.0 s (Shown g) there.1) [
+            | inl old ↦ may_on log later_log q g on (t.joined q g (there.0, old))
+            | inr is ↦ may_on log later_log q g on (subst (λ (i : ℕ). MayStand Begins Follows log i g) is.0 (fits g is.2))
           ];
         }
 
@@ -130,7 +130,7 @@ module _ {G : Type 0} where
       abbrev Then : ℕ → (History G × (Rattle.logbook.specs.Pages.Nib × Option ℕ)) → Type 0
       Then = Stores Begins Follows (step p 0 w ask) (seen, (no_nib, None))
 
-      goes : (cs : List Cell) (log : History G) → Kept cs log → IsPrefix seen log → p < length cs → Fits Begins Follows log p k s
+      goes : (cs : List Cell) (log : History G) → Kept cs log → IsPrefix seen log → p < length cs → Fits Begins Follows log p s
           → (b : Bool) → ((cell cs p).0 == 0) ≡ b → Goes (IsKept Begins Follows) Shows (Moved ask) p (seen, (no_nib, None)) (λ n. either (n == 0) w n) Then cs log
       goes cs log t on here fits true is =
           let empty : (cell cs p).0 ≡ 0 = grind (arith, nat_tests) in let new : Kept (set cs p (w, true)) (log ++ ask ∷ []) = adds_kept cs log p k s t here fits empty in
@@ -156,9 +156,9 @@ module _ {G : Type 0} where
             rw is (subst (λ (l : History G). Told Begins Follows p (cell cs p).0 l × IsReached Begins Follows l × (mathlib.Core.Path.Path (Option ℕ) (Some 0) (Some 0))) (sym none) (told cs log p t here, (cs, t), refl)),
           )
 
-      pub stores_moves : IsInside p seen → Fits Begins Follows seen p k s
+      pub stores_moves : IsInside p seen → Fits Begins Follows seen p s
           → Moves (IsKept Begins Follows) Shows (Moved ask) p (seen, (no_nib, None)) (λ n. either (n == 0) w n) Then
-      stores_moves inside fits cs log t on away = let here : p < length cs = inside_here cs seen log p t on inside in (here, t.home p here, goes cs log t on here (fits_on seen log p k s on fits) ((cell cs p).0 == 0) refl)
+      stores_moves inside fits cs log t on away = let here : p < length cs = inside_here cs seen log p t on inside in (here, t.home p here, goes cs log t on here (fits_on seen log p s on fits) ((cell cs p).0 == 0) refl)
 
     -- the same of a slot and an entry that were met under other names
     pub adds_at : (p q : ℕ) (e f : Event G) (old new : History G) → p ≡ q → f ≡ e → Adds Begins Follows f q old new → Adds Begins Follows e p old new
@@ -194,5 +194,5 @@ module _ {G : Type 0} (Begins : G → Type 0) (Follows : G → G → Type 0) whe
         free = λ p empty k s there. nothing_first n p k s there;
         once = λ p k j s t there other. absurd (nothing_first n p k s there);
         set = λ p lt full. absurd (full (ap (λ (c : Cell). c.0) (cell_is p (omega (arith, lt, long)))));
-        joined = λ p k g there. absurd (nothing_first n p k (Shown g) there);
+        joined = λ p g there. absurd (nothing_first n p there.0 (Shown g) there.1);
       }

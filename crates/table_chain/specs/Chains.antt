@@ -1,5 +1,5 @@
 -- The words and the values of a chain.
-use Rattle.std.specs.Prelude.{◌≡◌, ℕ, suc, ◌<◌, ◌≤◌, ◌⊎◌, true, List, length, slice_index_or, Some}
+use Rattle.std.specs.Prelude.{◌≡◌, ℕ, ◌<◌, ◌≤◌, ◌⊎◌, true, List, length, slice_index_or, Some}
 use mathlib.Core.List.{IsPrefix}
 use Rattle.logbook.specs.Pages.{Book, Named}
 use Rattle.table_slab.specs.Endings.{EndView, IsLeft}
@@ -36,11 +36,6 @@ module _ {G : Type 0} (Begins : G → Type 0) (Follows : G → G → Type 0) whe
   -- a history of this chain, that was reached
   abbrev pub IsOf : ChainView G → Book → List ℕ → History G → Type 0
   IsOf c b names log = (b ≡ c.book) × (names ≡ c.names) × HasSize c.slots log × IsReached Begins Follows log
-
-  -- g may be shown in the slot p: first, if it may begin, and else behind a value that it follows
-  pub record MayStand (log : History G) (p : ℕ) (g : G) : Type 0 where
-    pub first : p ≡ 0 → Begins g
-    pub behind : (q : ℕ) → p ≡ suc q → (f : G) × Stands log q f × Follows f g
 
   -- g was shown in the slot p, which had nothing
   abbrev pub IsShown : ℕ → G → History G → History G → Type 0

@@ -21,6 +21,10 @@ module _ {G : Type 0} where
   abbrev pub Stands : History G → ℕ → G → Type 0
   Stands log p g = (k : ℕ) × Has log p k (Shown g)
 
+  -- no two slots have one number
+  abbrev pub NumbersDiffer : History G → Type 0
+  NumbersDiffer log = (p q k : ℕ) (f g : G) → Has log p k (Shown f) → Has log q k (Shown g) → p ≡ q
+
   -- nothing was stored in the slot
   abbrev pub IsUntouched : History G → ℕ → Type 0
   IsUntouched log p = (k : ℕ) (s : Stored G) → Has log p k s → ⊥
@@ -47,18 +51,14 @@ module _ {G : Type 0} where
   word_of End k = 1
 
   module _ (Begins : G → Type 0) (Follows : G → G → Type 0) where
-    -- g may stand behind what stands in the slot q, which has a smaller number
-    abbrev pub IsBehind : History G → ℕ → ℕ → G → Type 0
-    IsBehind log q k g = (j : ℕ) × (f : G) × Has log q j (Shown f) × Follows f g × (j < k)
-
-    -- g may stand in the slot p, under the number k
-    pub record Joins (log : History G) (p k : ℕ) (g : G) : Type 0 where
+    -- g may be shown in the slot p: first, if it may begin, and else behind a value that it follows
+    pub record MayStand (log : History G) (p : ℕ) (g : G) : Type 0 where
       pub first : p ≡ 0 → Begins g
-      pub behind : (q : ℕ) → p ≡ suc q → IsBehind log q k g
+      pub behind : (q : ℕ) → p ≡ suc q → (f : G) × Stands log q f × Follows f g
 
     -- s may be stored in the slot p
-    abbrev pub Fits : History G → ℕ → ℕ → Stored G → Type 0
-    Fits log p k s = (g : G) → s ≡ Shown g → Joins log p k g
+    abbrev pub Fits : History G → ℕ → Stored G → Type 0
+    Fits log p s = (g : G) → s ≡ Shown g → MayStand log p g
 
     pub record IsKept (cells : List Cell) (log : History G) : Type 0 where
       pub size : HasSize (length cells) log
@@ -73,7 +73,7 @@ module _ {G : Type 0} where
           → (k : ℕ) × (s : Stored G) × Has log p k s
           × ((cell cells p).0 ≡ word_of s k)
       -- the first value begins the chain, and each later one follows the one before it
-      pub joined : (p k : ℕ) (g : G) → Has log p k (Shown g) → Joins log p k g
+      pub joined : (p : ℕ) (g : G) → Stands log p g → MayStand log p g
 
     abbrev pub IsReached : History G → Type 0
     IsReached log = (cells : List Cell) × IsKept cells log

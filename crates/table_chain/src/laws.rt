@@ -27,6 +27,7 @@ impl<G: Drop, F: Follows<G>, A: Low + Copy> Chain<G, F, A> {
         ensures first { (g : G) → Stands seen.now.log 0 g → F.begins g }
         ensures later { (p : ℕ) (g : G) → Stands seen.now.log (suc p) g
             → (f : G) × Stands seen.now.log p f × F.follows f g }
+        ensures follows { (p : ℕ) (f g : G) → Stands seen.now.log p f → Stands seen.now.log (suc p) g → F.follows f g }
     {
         let _ = seen;
     }
@@ -48,6 +49,16 @@ impl<G: Drop, F: Follows<G>, A: Low + Copy> Chain<G, F, A> {
         let mut both = one.again();
         both.learn(other);
     }
+}
+
+/// States that whatever any thread knows of a slot stands in the history that the chain ended with.
+pub fn end_knows_all<G: Drop, F: Follows<G>>(seen: &Token<G, F>, other: &Token<G, F>)
+    requires ended { IsFinal F.begins F.follows seen.now.log }
+    requires book { other.now.book ≡ seen.now.book }
+    ensures { (p : ℕ) (g : G) → Stands other.now.log p g → Stands seen.now.log p g }
+{
+    let mut both = seen.again();
+    both.learn(other);
 }
 
 /// States that whatever any thread knows of a slot is the value that was returned for it when the chain ended.

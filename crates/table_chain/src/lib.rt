@@ -13,6 +13,6 @@ mod word;
 pub use chain::Chain;
 pub use ending::Ending;
 pub use event::{Event, Stored};
-pub use laws::values_are_all;
+pub use laws::{end_knows_all, values_are_all};
 pub use rule::{ChainRule, Follows, Token};
 pub use show::Showing;

@@ -1,11 +1,11 @@
 //! How threads show values.
-ghost use Rattle.std.specs.Prelude.{◌≡◌, ◌≢◌, ℕ, suc, ◌+◌, ◌^◌, ◌<◌, true, None};
+ghost use Rattle.std.specs.Prelude.{◌≡◌, ◌≢◌, ◌<◌, None};
 ghost use mathlib.Core.List.{IsPrefix};
 ghost use Rattle.table_slab.specs.Held.{IsRightTo};
-ghost use Rattle.table_chain.specs.History.{Has, Told, Joins};
-ghost use Rattle.table_chain.specs.Chains.{IsOf, MayStand, Shows};
+ghost use Rattle.table_slab.specs.Numbering.{IsSmall};
+ghost use Rattle.table_chain.specs.History.{Told, MayStand};
+ghost use Rattle.table_chain.specs.Chains.{IsOf, Shows};
 ghost use Rattle.table_slab.specs.Shelved.{slab_of};
-ghost use Rattle.table_chain.specs.declared.event.Stored.TheVariants as stored;
 
 use crate::chain::Chain;
 use crate::rule::{Follows, Token};
@@ -25,9 +25,6 @@ pub enum Showing<'a, G> {
     Refused(G),
 }
 
-/// The greatest number that a word can have.
-const GREATEST: u64 = u64::MAX - 2;
-
 impl<G: Drop, F: Follows<G>, A: Low + Copy> Chain<G, F, A> {
     /// Returns `next` to the caller, beside the value that the slot has.
     fn other<'a>(&'a self, seen: &Token<G, F>, slot: usize, found: u64, next: G) -> Showing<'a, G>
@@ -40,24 +37,6 @@ impl<G: Drop, F: Follows<G>, A: Low + Copy> Chain<G, F, A> {
             Some(there) => Showing::Other(there, next),
             None => Showing::Refused(next),
         }
-    }
-
-    /// Returns true if the number fits a word, and the value of the slot before has a smaller one. So no two slots have one number.
-    fn rises(&self, seen: &mut Token<G, F>, slot: usize, number: u64) -> bool
-        requires of { IsOf F.begins F.follows self.now seen.old.book seen.old.names seen.old.log }
-        requires inside { slot < self.now.slots }
-        ensures of { IsOf F.begins F.follows self.now seen.new.book seen.new.names seen.new.log }
-        ensures longer { IsPrefix seen.old.log seen.new.log }
-        ensures few { result ≡ true → number + 2 < 2 ^ 64 }
-        ensures rises { result ≡ true → (q k : ℕ) (g : G) → slot ≡ suc q → Has seen.new.log q k (stored.Shown g) → k < number }
-    {
-        if number > GREATEST {
-            return false;
-        }
-        if slot == 0 {
-            return true;
-        }
-        self.look_at(seen, slot - 1) < number + 2
     }
 
     /// Shows `next` in a slot by one exchange. If another value is there already, or wins the exchange, that value is returned beside `next`.
@@ -76,9 +55,6 @@ impl<G: Drop, F: Follows<G>, A: Low + Copy> Chain<G, F, A> {
         let Ok((number, right)) = self.slab.number(&mut Run::new(), 1) else {
             return Showing::Refused(next);
         };
-        if !self.rises(seen, slot, number) {
-            return Showing::Refused(next);
-        }
         self.show_under(seen, slot, number, right, next)
     }
 
@@ -93,10 +69,10 @@ impl<G: Drop, F: Follows<G>, A: Low + Copy> Chain<G, F, A> {
     ) -> Showing<'a, G>
         requires of { IsOf F.begins F.follows self.now seen.old.book seen.old.names seen.old.log }
         requires inside { slot < self.now.slots }
-        requires few { number + 2 < 2 ^ 64 }
+        requires small { IsSmall number }
         requires right { IsRightTo (slab_of self.now.names) number right }
         requires empty { right.room.value ≡ None }
-        requires joins { Joins F.begins F.follows seen.old.log slot number next }
+        requires may { MayStand F.begins F.follows seen.old.log slot next }
         ensures of { IsOf F.begins F.follows self.now seen.new.book seen.new.names seen.new.log }
         ensures longer { IsPrefix seen.old.log seen.new.log }
         ensures told { Shows F.begins F.follows slot next seen.old.log seen.new.log result }

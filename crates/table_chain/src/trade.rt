@@ -2,7 +2,7 @@
 ghost use Rattle.std.specs.Prelude.{◌≡◌, ℕ, Some, None, [], ◌∷◌, IsSome};
 ghost use Rattle.table_slab.specs.Held.{IsRightTo, StandsAt};
 ghost use Rattle.table_slab.specs.Slabs.{IsSlot};
-ghost use Rattle.table_chain.specs.History.{event, Has};
+ghost use Rattle.table_chain.specs.History.{event, Has, NumbersDiffer};
 ghost use Rattle.table_slab.specs.Shelved.{slab_of};
 ghost use Rattle.table_chain.specs.declared.event.Stored.TheVariants.{Shown, End};
 
@@ -123,7 +123,7 @@ pub(crate) fn right_back<G, A: Allocator>(
     Right { site, room }
 }
 
-/// Returns the two parts of what everyone knows of the value that stands in a slot.
+/// Returns the two parts of what everyone knows of the value that stands in a slot. It also states that no two slots have one number.
 fn recalled<G, F: Follows<G>, A: Allocator>(
     _seen: &Token<G, F>,
     _slot: u64,
@@ -132,6 +132,7 @@ fn recalled<G, F: Follows<G>, A: Allocator>(
     requires there { (x : G) × Has _seen.now.log _slot _number (Shown x) }
     ensures of { IsSlot (slab_of _seen.now.names) _number result.0.cell result.0.value result.1.of }
     ensures value { Has _seen.now.log _slot _number (Shown result.1.value) }
+    ensures numbers { NumbersDiffer _seen.now.log }
 {
     (
         Site {
@@ -143,7 +144,7 @@ fn recalled<G, F: Follows<G>, A: Allocator>(
     )
 }
 
-/// Returns what everyone knows of the value that stands in a slot.
+/// Returns what everyone knows of the value that stands in a slot. It also states that no two slots have one number.
 pub(crate) fn known<G, F: Follows<G>, A: Allocator>(
     seen: &Token<G, F>,
     slot: u64,
@@ -152,6 +153,7 @@ pub(crate) fn known<G, F: Follows<G>, A: Allocator>(
     requires there { (x : G) × Has seen.now.log slot number (Shown x) }
     ensures of { StandsAt (slab_of seen.now.names) number result }
     ensures value { Has seen.now.log slot number (Shown result.written.value) }
+    ensures numbers { NumbersDiffer seen.now.log }
 {
     let (site, written) = recalled(seen, slot, number);
     Standing { site, written }

@@ -1,8 +1,9 @@
 //! The steps on a slot's word.
-ghost use Rattle.std.specs.Prelude.{◌≡◌, ◌≢◌, ℕ, ◌+◌, ◌^◌, ◌<◌, true, false, Some, IsSome, IfOk, IfErr};
+ghost use Rattle.std.specs.Prelude.{◌≡◌, ◌≢◌, ℕ, true, false, Some, IsSome, IfOk, IfErr};
 ghost use mathlib.Core.List.{IsPrefix};
 ghost use Rattle.table_slab.specs.Held.{IsRightTo};
-ghost use Rattle.table_chain.specs.History.{event, Has, Stands, IsInside, Told, IsReached, Joins, Adds};
+ghost use Rattle.table_slab.specs.Numbering.{IsSmall};
+ghost use Rattle.table_chain.specs.History.{event, Has, Stands, IsInside, Told, IsReached, MayStand, Adds};
 ghost use Rattle.table_chain.specs.Chains.{IsWord};
 ghost use Rattle.table_slab.specs.Shelved.{slab_of};
 ghost use Rattle.table_chain.specs.declared.event.Stored.TheVariants.{Shown, End};
@@ -43,10 +44,10 @@ pub(crate) fn publish<G, F: Follows<G>, A: Allocator>(
     requires word { IsWord seen.old.book word.now }
     requires slot { slot ≡ word.now.key }
     requires inside { IsInside word.now.key seen.old.log }
-    requires few { number + 2 < 2 ^ 64 }
+    requires small { IsSmall number }
     requires of { IsRightTo (slab_of seen.old.names) number right }
     requires full { IsSome right.room.value }
-    requires joins { (x : G) → right.room.value ≡ Some x → Joins F.begins F.follows seen.old.log word.now.key number x }
+    requires may { (x : G) → right.room.value ≡ Some x → MayStand F.begins F.follows seen.old.log word.now.key x }
     ensures same { (seen.new.book ≡ seen.old.book) × (seen.new.names ≡ seen.old.names) }
     ensures longer { IsPrefix seen.old.log seen.new.log }
     ensures reached { IsReached F.begins F.follows seen.new.log }

@@ -20,10 +20,10 @@ use Rattle.table_slab.specs.Shelved.{Spot, IsSpot, chunk, right, right_at, stand
 use Rattle.table_slab.proofs.Seats.{same_cell, same_name}
 use Rattle.table_slab.proofs.Tokens.{res_same, room_publishes, written_twice, written_agree}
 
-abbrev code : List ℕ → Gv
+abbrev pub code : List ℕ → Gv
 code names = (coded_option (coded_list coded_ℕ)).code (Some names)
 
-one_code : (ms ns : List ℕ) → code ms ≡ code ns → ms ≡ ns
+pub one_code : (ms ns : List ℕ) → code ms ≡ code ns → ms ≡ ns
 one_code ms ns e = ap (λ (v : Option (List ℕ)). unwrap_or v []) ((coded_option (coded_list coded_ℕ)).inj (Some ms) (Some ns) e)
 
 module _ {M : Type 1} {𝓤 : Ura M} (𝓛 : Logic 𝓤) (R : RattleType) (s : SlabView) (number : ℕ) where

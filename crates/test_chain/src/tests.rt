@@ -1,3 +1,4 @@
 mod alone;
 mod counting;
+mod rising;
 mod threads;

@@ -1,12 +1,12 @@
 -- What stands beside a history has what is known of the number.
-use Rattle.std.proofs.Common.{◌≡◌, ℕ, List, [], ◌∷◌, refl, w64}
+use Rattle.std.proofs.Common.{ℕ, List, [], ◌∷◌, refl, w64}
 use Rattle.std.specs.Prelude.{Some}
 use mir.Syntax.{a_type, dcons, dnil, named}
 use mir.Val.{Val, vint, vptr, vstruct, vcons, vnil}
 use mir.MapTy.{inst_fn}
-use base.Logic.{SProp, emp}
+use base.Logic.{SProp, emp, guard}
 use types.Logic.{sem}
-use types.Kit.{‵, raw, ◌⊛◌, later, ◌$◌, ◌∵◌, !, qed, by, move, keep, drop, use0, use1, split, join, fsplit, fsplit3, fjoin, fpick, await}
+use types.Kit.{‵, raw, ◌⊛◌, given, later, learn, ◌$◌, ◌∵◌, !, qed, by, move, keep, drop, use0, use1, split, join, fsplit, fsplit3, fjoin, fpick, await}
 use types.Run.{no_more, and_then, returns, enter}
 use types.ByLocal.{alloc_all, pass_all, free_all, look_at, get, sets}
 use types.Part.{agg}
@@ -35,7 +35,7 @@ use Rattle.table_slab.specs.contracts.rights.Written as Written
 use Rattle.table_slab.specs.contracts.site.Site as Site
 use Rattle.table_chain.specs.declared.event.Event.{Event}
 use Rattle.table_chain.specs.declared.event.Stored.TheVariants.{Shown}
-use Rattle.table_chain.specs.History.{event, Has}
+use Rattle.table_chain.specs.History.{event, Has, NumbersDiffer}
 use Rattle.table_chain.specs.contracts.event.Event as Events
 use Rattle.table_chain.specs.contracts.rule.ChainRule as ChainRule
 use Rattle.table_chain.specs.contracts.rule.ChainRuleRuleEventU64.TheImpl as rule_impl
@@ -64,8 +64,8 @@ recalled_spec 𝓤 𝓛 𝓜 𝓡 wired V L S LV LL LS g d gs ds dds _ _ _ =
     qed 𝓛 ((raw (denote.Triple.Entry.alive 𝓛 En.signature κs qs) ⊛ ‵ (owns (types_at En.signature.params κs) a y.0.4)) ∷ raw (fact 𝓤 _) ∷ raw (fact 𝓤 _) ∷ raw (fact 𝓤 _) ∷ raw (fact 𝓤 There) ∷ []) ∵ keep ! (4 ∷ 0 ∷ []) $ heard ! There (λ there.
     let x : V.Denot = there.0 in
     split ! $ move ! (1 ∷ []) $ fsplit ! $ fsplit ! $ keep ! (1 ∷ 3 ∷ []) $ unhide ! $ fsplit ! $ drop ! $
-    use1 𝓛 (later (‵ (standing R (slab_of names) k x))) (books.recalls 𝓛 E'.coded rule n.book names n.log (sem 𝓛 (standing R (slab_of names) k x)) (λ log below. trades.has 𝓛 R names log (event p k (Some (Shown x))) (trades.later n.log log p k (Shown x) below there.1))) $
-    enter ! 𝓣.C 𝓣.Λ fn (ptr ∷ vint w64 p ∷ vint w64 k ∷ []) Post $ alloc_all ! (λ l. pass_all ! refl ((tt, tt), ((tt, record { fits = are.1.0.1 }), ((tt, record { fits = are.1.1.0.1 }), tt))) $ await ! tt $
+    use1 𝓛 (later (given (NumbersDiffer n.log) (‵ (standing R (slab_of names) k x)))) (books.recalls 𝓛 E'.coded rule n.book names n.log (guard 𝓤 (NumbersDiffer n.log) (sem 𝓛 (standing R (slab_of names) k x))) (λ log below. trades.has_earlier 𝓛 R names n.log log (event p k (Some (Shown x))) below (trades.later n.log log p k (Shown x) below there.1))) $
+    enter ! 𝓣.C 𝓣.Λ fn (ptr ∷ vint w64 p ∷ vint w64 k ∷ []) Post $ alloc_all ! (λ l. pass_all ! refl ((tt, tt), ((tt, record { fits = are.1.0.1 }), ((tt, record { fits = are.1.1.0.1 }), tt))) $ await ! tt $ learn ! (λ differ.
     fpick ! (λ z. fsplit3 ! $ move ! (2 ∷ []) $ fpick ! (λ at. drop ! $
     -- [the chunk; its slot; the tokens]
     let st : St.Denot = record { marker = record {}; cell = z.cell; value = z.names } in let wr : Wr.Denot = record { marker = record {}; of = z.of; value = x } in let pair : Val = vstruct (vcons token (vcons token vnil)) in
@@ -74,5 +74,5 @@ recalled_spec 𝓤 𝓛 𝓜 𝓡 wired V L S LV LL LS g d gs ds dds _ _ _ =
     sets ! (agg ! (no_more !)) refl (tt, tt) $ sets ! (agg ! (and_then ! (get ! refl) (no_more !))) refl tok $ sets ! (agg ! (no_more !)) refl (tt, tt) $ sets ! (agg ! (and_then ! (get ! refl) (no_more !))) refl tok $
     sets ! (agg ! (and_then ! (get ! refl) (and_then ! (get ! refl) (no_more !)))) refl both $
     let Of : Type 0 = IsSlot (slab_of names) k z.cell z.names z.of in let Told : Type 0 = Has n.log p k (Shown x) in
-    use0 𝓛 (raw (fact 𝓤 Told)) (fact_i 𝓤 Told (emp 𝓤) there.1) $ use0 𝓛 (raw (fact 𝓤 Of)) (fact_i 𝓤 Of (emp 𝓤) at) $ join ! $ nothing ! $ nothing ! $ fjoin ! $ nothing ! $ fjoin ! $ nothing ! $ fjoin ! $
-    returns ! (look_at ! 0 refl) $ free_all ! refl $ keep ! (3 ∷ 0 ∷ 2 ∷ 1 ∷ []) $ by ! (leaves 𝓛 En hs c y pair (st, wr) (tt, (tt, (tt, tt))) (tt, (tt, (tt, tt)))))))))
+    let Differ : Type 0 = NumbersDiffer n.log in use0 𝓛 (raw (fact 𝓤 Differ)) (fact_i 𝓤 Differ (emp 𝓤) differ) $ use0 𝓛 (raw (fact 𝓤 Told)) (fact_i 𝓤 Told (emp 𝓤) there.1) $ join ! $ use0 𝓛 (raw (fact 𝓤 Of)) (fact_i 𝓤 Of (emp 𝓤) at) $ join ! $ nothing ! $ nothing ! $ fjoin ! $ nothing ! $ fjoin ! $ nothing ! $ fjoin ! $
+    returns ! (look_at ! 0 refl) $ free_all ! refl $ keep ! (3 ∷ 0 ∷ 2 ∷ 1 ∷ []) $ by ! (leaves 𝓛 En hs c y pair (st, wr) (tt, (tt, (tt, tt))) (tt, (tt, (tt, tt))))))))))

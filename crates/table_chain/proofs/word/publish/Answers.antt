@@ -2,7 +2,7 @@ use Rattle.std.proofs.Common.{◌≡◌, ◌==◌, true, sym, subst, ◌∙◌, 
 use Rattle.std.proofs.lemmas.Bool.Decides.{nat_tests}
 use Rattle.table_chain.specs.declared.event.Stored.TheVariants.{Shown}
 use Rattle.std.specs.Prelude.{Some}
-use Rattle.table_chain.specs.History.{event, Joins}
+use Rattle.table_chain.specs.History.{event, MayStand}
 use Rattle.table_chain.proofs.Steps.{stores_moves, adds_at, shown_is}
 use Rattle.table_chain.proofs.word.publish.Goals as goal
 
@@ -13,7 +13,7 @@ compare_exchange-found-requires g c = let offer = c.offering-offer.ensures in le
   pen.0 ∙ sym c.requires.word.1,
   offer.names,
   rw (offer.state, offer.ask.2, pen.1, c.requires.slot) (stores_moves g.F.Follows.begins g.F.Follows.follows c.args.word.now.key c.args.number (Shown x) c.args.seen.now.log c.requires.inside
-      (λ y is. subst (Joins g.F.Follows.begins g.F.Follows.follows c.args.seen.now.log c.args.word.now.key c.args.number) (shown_is x y is) (c.requires.joins x offer.ask.1))),
+      (λ y is. subst (MayStand g.F.Follows.begins g.F.Follows.follows c.args.seen.now.log c.args.word.now.key) (shown_is x y is) (c.requires.may x offer.ask.1))),
 )
 
 pub returns-then-found-eq0-clause-ok : goal.returns-then-found-eq0-clause-ok

@@ -1,7 +1,7 @@
 use Rattle.std.proofs.Common.{ℕ, ◌<◌, List, [], ◌∷◌, length, length-append, ap, sym, subst, ◌∙◌, arith}
 use Rattle.std.specs.Prelude.{slice_index_or}
 use Rattle.table_chain.specs.History.{History, Stands}
-use Rattle.table_chain.proofs.Chained.{are_values, final}
+use Rattle.table_chain.proofs.Chained.{are_values}
 use Rattle.table_chain.proofs.Laid.{each_push}
 use Rattle.table_chain.proofs.chain.Chain.into_values.Goals as goal
 
@@ -18,11 +18,7 @@ loop-value-preserved g c = let inv = c.loop-value.invariant in let some = c.in-S
     }
 
 pub returns-clause-values : goal.returns-clause-values
-returns-clause-values g c = let inv = c.loop-value.invariant in let e = c.into_ending-ending.ensures in let none = c.in_default.ensures.some in let log = c.into_ending-ending.new.seen.log in
+returns-clause-values g c = let inv = c.loop-value.invariant in let e = c.into_ending-ending.ensures in let none = c.in_default-next.ensures.some in let log = c.into_ending-ending.new.seen.log in
     are_values g.F.Follows.begins g.F.Follows.follows c.into_ending-ending.result.count c.args.self.slots log c.loop-value.values.items e.of.2 e.of.3 e.whole
     (omega (arith, inv.taken, none.0, inv.count))
     (λ p d lt. subst (λ (l : History g.row.G.Denot). Stands l p (slice_index_or c.loop-value.values.items p d)) (inv.log ∙ e.log) (inv.each p d lt))
-
-pub returns-clause-ended : goal.returns-clause-ended
-returns-clause-ended g c = let e = c.into_ending-ending.ensures in
-    final g.F.Follows.begins g.F.Follows.follows c.into_ending-ending.result.count c.args.self.slots c.into_ending-ending.new.seen.log e.of.2 e.whole

@@ -6,7 +6,7 @@ use Rattle.table_slab.specs.Slabs.{SlabView}
 use Rattle.table_chain.specs.declared.event.Stored.TheVariants.{Shown}
 use Rattle.table_chain.specs.History.{Has, Stands}
 use Rattle.table_chain.specs.Chains.{EndingView}
-use Rattle.table_chain.proofs.Chained.{one_value}
+use Rattle.table_chain.proofs.Chained.{one_value, differ_before}
 use Rattle.table_chain.proofs.Ended.{next_shown, ending_on}
 use Rattle.table_chain.proofs.ending.Ending.next.Goals as goal
 
@@ -34,6 +34,7 @@ invariant_of-self g c = let s = c.self.inside in let after = c.look-number.new.s
     let n = next_shown g.F.Follows.begins g.F.Follows.follows s.seen.book s.seen.names s.left s.seen.log after s.words.items s.count s.taken c.look-number.result c.index.result.now c.self.invariant lt c.index.ensures
     (subst (λ l. IsPrefix l after) (ap (λ x. x.log) c.again-later.ensures) e.longer) e.reached e.told in
     ending_on g.F.Follows.begins g.F.Follows.follows s.seen.book s.seen.names s.left c.take_out.new.self s.seen.log s.words.items s.count s.taken n.number n.value c.self.invariant lt n.there
+    (differ_before s.seen.log after (subst (λ l. IsPrefix l after) (ap (λ x. x.log) c.again-later.ensures) e.longer) c.known-standing.ensures.numbers)
     c.take_out.ensures.slab (λ j ne. c.take_out.ensures.others j (λ is. ne (is ∙ sym n.is)))
 
 pub returns-clause-some : goal.returns-clause-some

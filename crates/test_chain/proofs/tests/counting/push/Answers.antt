@@ -1,4 +1,4 @@
-use Rattle.std.proofs.Common.{◌≡◌, ℕ, suc, subst, arith}
+use Rattle.std.proofs.Common.{◌≡◌, ℕ, subst, arith}
 use Rattle.table_chain.specs.History.{Stands}
 use Rattle.test_chain.proofs.tests.counting.push.Goals as goal
 
