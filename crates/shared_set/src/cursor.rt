@@ -1,4 +1,5 @@
 //! Where in a chain a thread is, and what it has seen there.
+ghost use Rattle.std.specs.Prelude.{◌≡◌};
 
 use crate::stage::{Grows, Stage};
 use table_cell::Low;
@@ -18,7 +19,9 @@ pub(crate) struct Cursor<V, L: SetLaw<V>, A: Low + Copy> {
 
 impl<V, L: SetLaw<V>, A: Low + Copy> Cursor<V, L, A> {
     /// Returns a copy.
-    pub(crate) fn again(&self) -> Self {
+    pub(crate) fn again(&self) -> Self
+        ensures { result ≡ self.now }
+    {
         Cursor {
             slot: self.slot,
             stages: self.stages.again(),

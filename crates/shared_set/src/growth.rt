@@ -5,9 +5,25 @@ use crate::set::STAGES;
 use crate::stage::Stage;
 use std::hint::spin_loop;
 use std::sync::atomic::Ordering::SeqCst;
+use std::thread::yield_now;
 use table_cell::Low;
 use table_chain::Showing;
 use table_numbered::SetLaw;
+
+/// How often a waiting thread looks before it lets others run.
+const SPINS: usize = 100;
+
+/// How many buckets a thread may build while a waiting thread looks once.
+const BUCKETS_A_LOOK: usize = 16;
+
+/// Passes some time between two looks.
+fn rest(look: usize) {
+    if look < SPINS {
+        spin_loop();
+    } else {
+        yield_now();
+    }
+}
 
 impl<V, L: SetLaw<V>, A: Low + Copy> Handle<'_, V, L, A> {
     /// Makes sure that a stage is behind the one of this handle. Returns false if memory was refused, or no slot is left.
@@ -29,18 +45,21 @@ impl<V, L: SetLaw<V>, A: Low + Copy> Handle<'_, V, L, A> {
         self.set.growing.store(false, SeqCst);
     }
 
-    /// Looks for the next stage, as often as this one has buckets. Returns true if it was shown.
+    /// Waits for a while until the next stage is shown. Returns false if it was not, or if the thread that builds it has given up.
     fn comes(&self) -> bool {
         let next = self.cursor.slot + 1;
         if next == STAGES {
             return false;
         }
         let mut stages = self.cursor.stages.again();
-        for _look in 0..self.stage.generation().buckets() {
+        for look in 0..SPINS + self.stage.generation().buckets() / BUCKETS_A_LOOK {
             if self.set.chain.look(&mut stages, next).is_some() {
                 return true;
             }
-            spin_loop();
+            if !self.set.growing.load(SeqCst) {
+                return false;
+            }
+            rest(look);
         }
         false
     }

@@ -1,4 +1,9 @@
 //! Handles, by which threads call a set.
+ghost use Rattle.std.specs.Prelude.{◌≡◌, true, false, IfSome, MatchOption};
+ghost use Rattle.table_numbered.specs.Words.{of_value};
+ghost use Rattle.table_numbered.specs.History.{IsEntry, NonePasses};
+ghost use Rattle.table_numbered.specs.Generations.{Finds};
+ghost use Rattle.shared_set.specs.Known.{Keeps, KnowsMore, IsCursor, IsHandle};
 
 use crate::cursor::Cursor;
 use crate::known::Known;
@@ -6,11 +11,14 @@ use crate::set::{STAGES, SharedSet};
 use crate::stage::Stage;
 use crate::supply::Supply;
 use std::alloc::Global;
+use std::marker::Model;
 use std::sync::atomic::Ordering::SeqCst;
 use table_cell::Low;
 use table_numbered::{KeyLaw, MetBy, SameAs, SetLaw, Sought};
 
 /// What one thread calls a set by. It knows the entries that its calls have met, and it takes numbers for new entries ahead.
+///
+/// A contract sees which set it is of, and the history of the newest generation that it has met.
 pub struct Handle<'a, V, L: SetLaw<V>, A: Low + Copy = Global> {
     pub(crate) set: &'a SharedSet<V, L, A>,
     /// The stage at the cursor's slot.
@@ -21,9 +29,21 @@ pub struct Handle<'a, V, L: SetLaw<V>, A: Low + Copy = Global> {
     pub(crate) uncounted: u64,
 }
 
+impl<'a, V, L: SetLaw<V>, A: Low + Copy> Model for Handle<'a, V, L, A> {
+    ghost use Rattle.shared_set.specs.Known.{KnownView, known_view, IsHandle};
+
+    ghost Value = { KnownView V };
+
+    ghost view = { λ h. known_view h.set.now h.cursor.entries.log };
+
+    ghost invariant = { λ h. IsHandle L.same L.hash_of h.set.now h.stage.now h.cursor h.supply };
+}
+
 impl<'a, V, L: SetLaw<V>, A: Low + Copy> Handle<'a, V, L, A> {
     /// Moves on to the newest generation.
-    pub(crate) fn advance(&mut self) {
+    pub(crate) fn advance(&mut self)
+        ensures known { KnowsMore self.old self.new }
+    {
         for _passed in 0..STAGES {
             match self.set.step(&mut self.cursor) {
                 Some(stage) => self.stage = stage,
@@ -33,7 +53,10 @@ impl<'a, V, L: SetLaw<V>, A: Low + Copy> Handle<'a, V, L, A> {
     }
 
     /// Returns what is sought, with its number. `None` means that no entry known to this handle is it.
-    pub fn seek<S: Sought<V, L>>(&mut self, sought: &S) -> Option<(u64, &'a V)> {
+    pub fn seek<S: Sought<V, L>>(&mut self, sought: &S) -> Option<(u64, &'a V)>
+        ensures known { KnowsMore self.old self.new }
+        ensures finds { Finds (S.accepts sought.now) (IsEntry self.new.history) result }
+    {
         self.advance();
         self.stage
             .generation()
@@ -41,12 +64,19 @@ impl<'a, V, L: SetLaw<V>, A: Low + Copy> Handle<'a, V, L, A> {
     }
 
     /// Returns the entry that is the same as the target, with its number. `None` means that no entry known to this handle is the same.
-    pub fn find(&mut self, target: &V) -> Option<(u64, &'a V)> {
+    pub fn find(&mut self, target: &V) -> Option<(u64, &'a V)>
+        ensures known { KnowsMore self.old self.new }
+        ensures finds { Finds (L.same target.now) (IsEntry self.new.history) result }
+    {
         self.seek(&SameAs { target })
     }
 
     /// Returns the entry that is the same as the target. `None` means that no entry known to this handle is the same.
-    pub fn get(&mut self, target: &V) -> Option<&'a V> {
+    pub fn get(&mut self, target: &V) -> Option<&'a V>
+        ensures known { KnowsMore self.old self.new }
+        ensures finds { MatchOption result (NonePasses (of_value (L.same target.now)) (IsEntry self.new.history))
+            (λ e. L.same target.now e.now ≡ true) }
+    {
         match self.find(target) {
             Some((_number, entry)) => Some(entry),
             None => None,
@@ -57,6 +87,9 @@ impl<'a, V, L: SetLaw<V>, A: Low + Copy> Handle<'a, V, L, A> {
     pub fn get_by_key<K>(&mut self, key: &K) -> Option<&'a V>
     where
         L: KeyLaw<K, V>,
+        ensures known { KnowsMore self.old self.new }
+        ensures finds { MatchOption result (NonePasses (of_value (L.meets key.now)) (IsEntry self.new.history))
+            (λ e. L.meets key.now e.now ≡ true) }
     {
         match self.seek(&MetBy { key }) {
             Some((_number, entry)) => Some(entry),
@@ -65,19 +98,28 @@ impl<'a, V, L: SetLaw<V>, A: Low + Copy> Handle<'a, V, L, A> {
     }
 
     /// Returns true if an entry is the same as the target. `false` means that no entry known to this handle is the same.
-    pub fn contains(&mut self, target: &V) -> bool {
-        self.find(target).is_some()
+    pub fn contains(&mut self, target: &V) -> bool
+        ensures known { KnowsMore self.old self.new }
+        ensures none { result ≡ false → NonePasses (of_value (L.same target.now)) (IsEntry self.new.history) }
+    {
+        self.get(target).is_some()
     }
 
     /// Returns what this handle knows.
-    pub fn tell(&self) -> Known<V, L, A> {
+    pub fn tell(&self) -> Known<V, L, A>
+        ensures { result ≡ self.now }
+    {
         Known {
             cursor: self.cursor.again(),
         }
     }
 
     /// Adds what is known to what this handle knows.
-    pub fn hear(&mut self, known: &Known<V, L, A>) {
+    pub fn hear(&mut self, known: &Known<V, L, A>)
+        requires of { known.now.of ≡ self.old.of }
+        ensures known { KnowsMore self.old self.new }
+        ensures theirs { Keeps known.now.history self.new.history }
+    {
         let mut theirs = known.cursor.again();
         self.cursor.stages.learn(&theirs.stages);
         self.set.go_to(&mut self.cursor, theirs.slot);
@@ -88,7 +130,11 @@ impl<'a, V, L: SetLaw<V>, A: Low + Copy> Handle<'a, V, L, A> {
     }
 
     /// Adds what the other handle knows to what this handle knows.
-    pub fn learn(&mut self, other: &Handle<'_, V, L, A>) {
+    pub fn learn(&mut self, other: &Handle<'_, V, L, A>)
+        requires of { other.now.of ≡ self.old.of }
+        ensures known { KnowsMore self.old self.new }
+        ensures theirs { Keeps other.now.history self.new.history }
+    {
         self.hear(&other.tell());
     }
 }

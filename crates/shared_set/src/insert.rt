@@ -1,4 +1,8 @@
 //! Inserts.
+ghost use Rattle.std.specs.Prelude.{◌≡◌};
+ghost use Rattle.shared_set.specs.Known.{KnowsMore};
+ghost use Rattle.shared_set.specs.Inserting.{Inserts, Attempts};
+ghost use Rattle.shared_set.specs.Supplies.{IsVacant};
 
 use crate::handle::Handle;
 use crate::set::STAGES;
@@ -37,7 +41,9 @@ const COUNTED: u64 = 64;
 
 impl<'a, V, L: SetLaw<V>, A: Low + Copy> Handle<'a, V, L, A> {
     /// Counts a value that was placed with this number, and grows the set if its generation is half full.
-    fn count(&mut self, number: u64) {
+    fn count(&mut self, number: u64)
+        ensures { self.new ≡ self.old }
+    {
         self.uncounted += 1;
         if self.uncounted == COUNTED {
             self.uncounted = 0;
@@ -49,7 +55,11 @@ impl<'a, V, L: SetLaw<V>, A: Low + Copy> Handle<'a, V, L, A> {
     }
 
     /// Places the value with this number in the newest generation.
-    fn place(&mut self, number: u64, right: Right<V, A>, value: V) -> Attempt<'a, V> {
+    fn place(&mut self, number: u64, right: Right<V, A>, value: V) -> Attempt<'a, V>
+        requires vacant { IsVacant self.old.of.slab (number, right) }
+        ensures known { KnowsMore self.old self.new }
+        ensures told { Attempts L.same value self.old.history self.new.history result }
+    {
         let generation = self.stage.generation();
         match generation.place(&self.set.slab, &mut self.cursor.entries, number, right, value) {
             Placing::Placed(entry) => {
@@ -68,7 +78,10 @@ impl<'a, V, L: SetLaw<V>, A: Low + Copy> Handle<'a, V, L, A> {
     }
 
     /// Looks for an entry that is the same first. If there is none, and a bucket is left, it asks for a number and places the value.
-    fn place_if_new(&mut self, value: V) -> Attempt<'a, V> {
+    fn place_if_new(&mut self, value: V) -> Attempt<'a, V>
+        ensures known { KnowsMore self.old self.new }
+        ensures told { Attempts L.same value self.old.history self.new.history result }
+    {
         let generation = self.stage.generation();
         let sought = SameAs { target: &value };
         match generation.judge(&self.set.slab, &mut self.cursor.entries, &sought) {
@@ -86,7 +99,10 @@ impl<'a, V, L: SetLaw<V>, A: Low + Copy> Handle<'a, V, L, A> {
     }
 
     /// Inserts the value in the newest generation.
-    fn insert_here(&mut self, value: V) -> Attempt<'a, V> {
+    fn insert_here(&mut self, value: V) -> Attempt<'a, V>
+        ensures known { KnowsMore self.old self.new }
+        ensures told { Attempts L.same value self.old.history self.new.history result }
+    {
         match self.supply.take() {
             Some((number, right)) => self.place(number, right, value),
             None => self.place_if_new(value),
@@ -97,7 +113,10 @@ impl<'a, V, L: SetLaw<V>, A: Low + Copy> Handle<'a, V, L, A> {
     ///
     /// `Placed`: no entry that was placed before it is the same. `Found`: the entry that is returned is the same. `Refused`: no entry
     /// known to this handle is the same.
-    pub fn insert(&mut self, value: V) -> Inserted<'a, V> {
+    pub fn insert(&mut self, value: V) -> Inserted<'a, V>
+        ensures known { KnowsMore self.old self.new }
+        ensures told { Inserts L.same value self.old.history self.new.history result }
+    {
         let mut value = value;
         for _tried in 0..STAGES {
             self.advance();

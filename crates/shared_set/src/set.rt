@@ -1,4 +1,12 @@
 //! The set, and what any thread may call on it.
+ghost use Rattle.std.specs.Prelude.{◌≡◌, suc, ◌<◌, ◌≤◌, ◌^◌, ◌*◌, true, IfSome, IfNone};
+ghost use Rattle.std.specs.Int.{IsPowerOfTwo};
+ghost use mathlib.Core.List.{IsPrefix};
+ghost use Rattle.table_chain.specs.History.{Stands};
+ghost use Rattle.table_slab.specs.Slabs.{SlabView};
+ghost use Rattle.table_numbered.specs.Generations.{Passes};
+ghost use Rattle.shared_set.specs.Stages.{stages};
+ghost use Rattle.shared_set.specs.Known.{Keeps, IsCursor, IsFurther};
 
 use crate::cursor::Cursor;
 use crate::ending::drop_values;
@@ -7,6 +15,7 @@ use crate::insert::Inserted;
 use crate::stage::{Grows, Stage};
 use crate::supply::Supply;
 use std::alloc::{AllocError, Global};
+use std::marker::Model;
 use std::sync::atomic::Ordering::SeqCst;
 use std::sync::atomic::{AtomicBool, AtomicU64, AtomicUsize};
 use table_cell::Low;
@@ -14,7 +23,7 @@ use table_chain::Chain;
 use table_numbered::{Generation, SetLaw};
 use table_slab::Slab;
 
-/// How many generations a set may have.
+/// How many stages a set may have: from one bucket to 2^32.
 pub(crate) const STAGES: usize = 33;
 
 /// The first chunk of a set's slab has 32 slots.
@@ -28,16 +37,28 @@ const MOST_ENTRIES: usize = 1 << 31;
 
 /// A set of values that threads share through `&`, and that grows. No two of its entries are the same under the law `L`. No entry is removed
 /// or moved.
+///
+/// A contract sees which set it is. Which entries it has is what its handles know.
 pub struct SharedSet<V, L: SetLaw<V>, A: Low + Copy = Global> {
     pub(crate) slab: Slab<V, A>,
     pub(crate) chain: Chain<Stage<V, L, A>, Grows<V, L, A>, A>,
     pub(crate) alloc: A,
     /// A slot of the chain that has a stage: where a new handle begins.
     pub(crate) begin: AtomicUsize,
-    /// True while a thread builds the next generation.
+    /// True while a thread builds the next stage.
     pub(crate) growing: AtomicBool,
     /// How many values were placed, as far as handles have counted them.
     pub(crate) placed: AtomicU64,
+}
+
+impl<V, L: SetLaw<V>, A: Low + Copy> Model for SharedSet<V, L, A> {
+    ghost use Rattle.shared_set.specs.Known.{SharedView, shared_view, IsShared};
+
+    ghost Value = { SharedView };
+
+    ghost view = { λ s. shared_view s.chain s.slab };
+
+    ghost invariant = { λ s. IsShared L.same L.hash_of s.chain s.slab };
 }
 
 impl<V, L: SetLaw<V>, A: Low + Copy> SharedSet<V, L, A> {
@@ -51,15 +72,14 @@ impl<V, L: SetLaw<V>, A: Low + Copy> SharedSet<V, L, A> {
         if entries > MOST_ENTRIES {
             return Err(AllocError);
         }
-        let mut buckets = LEAST_BUCKETS;
-        while buckets < 2 * entries {
-            buckets *= 2;
-        }
-        SharedSet::with_buckets(alloc, buckets)
+        SharedSet::with_buckets(alloc, buckets_for(entries))
     }
 
     /// Makes an empty set whose first generation has this many buckets.
-    fn with_buckets(alloc: A, buckets: usize) -> Result<Self, AllocError> {
+    fn with_buckets(alloc: A, buckets: usize) -> Result<Self, AllocError>
+        requires power { IsPowerOfTwo buckets }
+        requires few { buckets ≤ 2 ^ 32 }
+    {
         let slab = Slab::new(alloc, FIRST_CHUNK_BITS)?;
         let generation = Generation::new(alloc, &slab, buckets)?;
         let before = generation.start();
@@ -83,31 +103,48 @@ impl<V, L: SetLaw<V>, A: Low + Copy> SharedSet<V, L, A> {
         self.placed.load(SeqCst)
     }
 
-    /// Returns a handle, by which one thread calls the set.
-    pub fn handle(&self) -> Handle<'_, V, L, A> {
+    /// Returns a cursor at a stage that was shown.
+    fn cursor(&self) -> Cursor<V, L, A>
+        ensures at { IsCursor L.same L.hash_of self.now result }
+    {
         let mut stages = self.chain.start();
-        let hint = self.begin.load(SeqCst);
         let mut slot = 0;
+        let hint = self.begin.load(SeqCst);
         if hint < STAGES && self.chain.look(&mut stages, hint).is_some() {
             slot = hint;
         }
-        let stage = self.chain.get(&stages, slot);
-        let entries = stage.generation().start();
+        let entries = self.chain.get(&stages, slot).generation().start();
+        Cursor {
+            slot,
+            stages,
+            entries,
+        }
+    }
+
+    /// Returns a handle, by which one thread calls the set.
+    pub fn handle(&self) -> Handle<'_, V, L, A>
+        ensures { result.of ≡ self.now }
+    {
+        let cursor = self.cursor();
         Handle {
             set: self,
-            stage,
-            cursor: Cursor {
-                slot,
-                stages,
-                entries,
-            },
+            stage: self.chain.get(&cursor.stages, cursor.slot),
+            cursor,
             supply: Supply::new(),
             uncounted: 0,
         }
     }
 
     /// Moves the cursor to the next stage, if one was shown.
-    pub(crate) fn step(&self, cursor: &mut Cursor<V, L, A>) -> Option<&Stage<V, L, A>> {
+    pub(crate) fn step(&self, cursor: &mut Cursor<V, L, A>) -> Option<&Stage<V, L, A>>
+        requires at { IsCursor L.same L.hash_of self.now cursor.old }
+        ensures at { IsCursor L.same L.hash_of self.now cursor.new }
+        ensures keeps { Keeps cursor.old.entries.log cursor.new.entries.log }
+        ensures longer { IsPrefix cursor.old.stages.log cursor.new.stages.log }
+        ensures stays { IfNone result (cursor.new.slot ≡ cursor.old.slot) }
+        ensures moves { IfSome result (λ s. (cursor.new.slot ≡ suc cursor.old.slot)
+            × Stands cursor.new.stages.log cursor.new.slot s.now) }
+    {
         let next = cursor.slot + 1;
         if next == STAGES {
             return None;
@@ -118,17 +155,40 @@ impl<V, L: SetLaw<V>, A: Low + Copy> SharedSet<V, L, A> {
         Some(stage)
     }
 
-    /// Moves the cursor to this slot, unless it is there or beyond.
-    pub(crate) fn go_to(&self, cursor: &mut Cursor<V, L, A>, slot: usize) {
+    /// Moves the cursor to this slot, which has a stage, unless the cursor is there or beyond.
+    pub(crate) fn go_to(&self, cursor: &mut Cursor<V, L, A>, slot: usize)
+        requires at { IsCursor L.same L.hash_of self.now cursor.old }
+        requires shown { (s : _) × Stands cursor.old.stages.log slot s }
+        ensures at { IsCursor L.same L.hash_of self.now cursor.new }
+        ensures keeps { Keeps cursor.old.entries.log cursor.new.entries.log }
+        ensures longer { IsPrefix cursor.old.stages.log cursor.new.stages.log }
+        ensures there { IsFurther cursor.old.slot slot cursor.new.slot }
+    {
         for _passed in cursor.slot..slot {
             self.step(cursor).unwrap();
         }
     }
 }
 
+/// Returns a power of two of buckets, of which so many entries fill at most half.
+fn buckets_for(entries: usize) -> usize
+    requires { entries ≤ 2 ^ 31 }
+    ensures power { IsPowerOfTwo result }
+    ensures few { result ≤ 2 ^ 32 }
+    ensures enough { entries * 2 ≤ result }
+{
+    let mut buckets = LEAST_BUCKETS;
+    while buckets < 2 * entries {
+        buckets *= 2;
+    }
+    buckets
+}
+
 impl<V, L: SetLaw<V>, A: Low + Copy> SharedSet<V, L, A> {
     /// Returns the entry that is the same as the target, as a new handle does.
-    pub fn get(&self, target: &V) -> Option<&V> {
+    pub fn get(&self, target: &V) -> Option<&V>
+        ensures { IfSome result (λ e. L.same target.now e.now ≡ true) }
+    {
         let mut handle = self.handle();
         handle.get(target)
     }
@@ -139,10 +199,7 @@ impl<V, L: SetLaw<V>, A: Low + Copy> SharedSet<V, L, A> {
     }
 
     /// Inserts the value, as a new handle does.
-    pub fn insert(&self, value: V) -> Inserted<'_, V>
-    where
-        V: Drop,
-    {
+    pub fn insert(&self, value: V) -> Inserted<'_, V> {
         let mut handle = self.handle();
         handle.insert(value)
     }
