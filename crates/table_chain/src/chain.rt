@@ -169,13 +169,10 @@ impl<G: Drop, F: Follows<G>, A: Low + Copy> Chain<G, F, A> {
 }
 
 impl<G: Drop, F: Follows<G>, A: Low + Copy> Drop for Chain<G, F, A> {
-    /// Drops each value, and frees the memory. If the memory to end the slab is refused, the values are not dropped.
+    /// Drops each value, and frees the memory.
     fn drop(self) {
         let mut seen = self.start();
-        match self.into_ending(&mut seen) {
-            Ok(ending) => drop(ending),
-            Err(chain) => drop(chain.into_parts()),
-        }
+        drop(self.into_ending(&mut seen));
     }
 }
 

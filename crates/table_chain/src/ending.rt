@@ -55,29 +55,24 @@ fn close_behind<G, F: Follows<G>, A: Allocator>(
 }
 
 impl<G: Drop, F: Follows<G>, A: Low + Copy> Chain<G, F, A> {
-    /// Ends the chain. No value can be shown any more. `Err` returns the chain unchanged: memory was refused.
-    pub fn into_ending(self, seen: &mut Token<G, F>) -> Result<Ending<G, F, A>, Chain<G, F, A>>
+    /// Ends the chain. No value can be shown any more. It asks for no memory.
+    pub fn into_ending(self, seen: &mut Token<G, F>) -> Ending<G, F, A>
         requires of { IsOf F.begins F.follows self seen.old.book seen.old.names seen.old.log }
         ensures of { IsOf F.begins F.follows self seen.new.book seen.new.names seen.new.log }
         ensures longer { IsPrefix seen.old.log seen.new.log }
-        ensures log { IfOk result (λ e. e.log ≡ seen.new.log) }
-        ensures taken { IfOk result (λ e. e.taken ≡ 0) }
-        ensures whole { IfOk result (λ e. IsWhole self.slots e.count seen.new.log) }
-        ensures back { IfErr result (λ c. c ≡ self) }
+        ensures log { result.log ≡ seen.new.log }
+        ensures taken { result.taken ≡ 0 }
+        ensures whole { IsWhole self.slots result.count seen.new.log }
     {
-        let (words, slab, start) = self.into_parts();
-        let left = match slab.end() {
-            Ok(left) => left,
-            Err(slab) => return Err(Chain { words, slab, start }),
-        };
+        let (words, slab, _start) = self.into_parts();
         let count = close_behind(&words, seen);
-        Ok(Ending {
+        Ending {
             words,
-            left,
+            left: slab.end(),
             seen: seen.again(),
             count,
             taken: 0,
-        })
+        }
     }
 
     /// Ends the chain, and returns all values that were ever shown, in the order of slots. `Err` returns the chain unchanged: memory was
@@ -94,11 +89,10 @@ impl<G: Drop, F: Follows<G>, A: Low + Copy> Chain<G, F, A> {
         ensures ended { IfOk result (λ _. IsFinal F.begins F.follows seen.new.log) }
         ensures back { IfErr result (λ c. c ≡ self) }
     {
-        let mut values = match Vec::with_capacity(alloc, self.words.len()) {
-            Ok(values) => values,
-            Err(_) => return Err(self),
+        let Ok(mut values) = Vec::with_capacity(alloc, self.words.len()) else {
+            return Err(self);
         };
-        let mut ending = self.into_ending(seen)?;
+        let mut ending = self.into_ending(seen);
         while let Some(value) = ending.next() {
             values.push_reserved(value);
         }

@@ -1,5 +1,5 @@
 -- What clauses see of a slab: how its numbers lie in chunks, and the names of the cells that its chunks go into.
-use Rattle.std.specs.Prelude.{◌≡◌, ℕ, ◌+◌, ◌<◌, List, length, map, slice_index_or, true, None, All}
+use Rattle.std.specs.Prelude.{◌≡◌, ℕ, ◌+◌, ◌<◌, ◌≤◌, List, [], length, map, slice_index_or, true, None, All}
 use Rattle.table_cell.specs.Words.{WordView}
 use Rattle.table_slab.specs.Numbering.{IsAt}
 
@@ -39,6 +39,12 @@ ids_of ws = map (λ (w : WordView _ _). w.id) ws
 pub record IsSlab {A X : Type 0} (a : A) (h bits : ℕ) (ws : List (WordView A X)) : Type 0 where
   pub few : length ws + bits ≡ 32
   pub each : AreCells a h ws
+
+-- a slab, and a Vec with nothing in it that has room for as many cells as the slab has
+pub record CanEnd {A X Y : Type 0} (a : A) (h bits : ℕ) (ws : List (WordView A X)) (room : List Y) (capacity : ℕ) : Type 0 where
+  pub slab : IsSlab a h bits ws
+  pub empty : room ≡ []
+  pub fits : length ws ≤ capacity
 
 abbrev pub slab_view : {A X : Type 0} → ℕ → List (WordView A X) → SlabView
 slab_view bits ws = record { bits = bits; cells = ids_of ws }

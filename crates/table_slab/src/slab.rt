@@ -1,11 +1,11 @@
 //! Slots with numbers, in chunks that are made when they are first needed.
-ghost use Rattle.std.specs.Prelude.{◌≡◌, ℕ, ◌<◌, ◌+◌, length, IfOk, IfErr, IfSome, None, Some, IsSome};
+ghost use Rattle.std.specs.Prelude.{◌≡◌, ℕ, ◌<◌, ◌+◌, length, IfOk, IfSome, None, Some, IsSome};
 ghost use Rattle.table_slab.specs.Endings.{IsLeft};
 ghost use Rattle.table_slab.specs.Held.{IsRightTo, StandsAt};
 ghost use Rattle.table_slab.specs.Slabs.{id_at, AreCells};
 
 use crate::chunk::Chunk;
-use crate::ending::{Ending, all_shared, free_chunks};
+use crate::ending::{Cell, Ending, all_shared, free_chunks};
 use crate::numbering::{chunk_len, where_is};
 use crate::rights::{Room, Written};
 use crate::site::{Site, hear, tell};
@@ -20,16 +20,19 @@ pub struct Slab<T, A: Low + Copy> {
     pub(crate) alloc: A,
     pub(crate) home: Home,
     pub(crate) cells: Vec<Word<Chunk<T, A>, A>, A>,
+    /// Empty, with room for the cells of the `Ending` that the slab becomes.
+    pub(crate) room: Vec<Cell<T, A>, A>,
 }
 
 impl<T, A: Low + Copy> Model for Slab<T, A> {
-    ghost use Rattle.table_slab.specs.Slabs.{SlabView, slab_view, IsSlab};
+    ghost use Rattle.std.specs.Prelude.{vec_capacity};
+    ghost use Rattle.table_slab.specs.Slabs.{SlabView, slab_view, CanEnd};
 
     ghost Value = { SlabView };
 
     ghost view = { λ s. slab_view s.bits s.cells.items };
 
-    ghost invariant = { λ s. IsSlab s.alloc s.home.id s.bits s.cells.items };
+    ghost invariant = { λ s. CanEnd s.alloc s.home.id s.bits s.cells.items s.room.items (vec_capacity s.room) };
 }
 
 /// The right to a number of a slab, with the value that lies there, if one does. It has no bytes.
@@ -77,11 +80,13 @@ impl<T, A: Allocator> Standing<T, A> {
 }
 
 impl<T, A: Low + Copy> Slab<T, A> {
-    /// Returns a slab whose first chunk has `2 ^ bits` slots. It asks for memory for its cells, and makes no chunk.
+    /// Returns a slab whose first chunk has `2 ^ bits` slots. It asks for memory for its cells and for what its end needs, and
+    /// makes no chunk. A refusal leaves nothing.
     pub fn new(alloc: A, bits: u32) -> Result<Self, AllocError>
         requires { bits < 32 }
         ensures { IfOk result (λ s. s.bits ≡ bits) }
     {
+        let room = Vec::with_capacity(alloc, (32 - bits) as usize)?;
         let home = Home::new();
         let Ok(cells) = vacant(alloc, &home, (32 - bits) as usize) else {
             let _ended = home.close();
@@ -92,6 +97,7 @@ impl<T, A: Low + Copy> Slab<T, A> {
             alloc,
             home,
             cells,
+            room,
         })
     }
 
@@ -215,27 +221,24 @@ impl<T, A: Low + Copy> Slab<T, A> {
 }
 
 impl<T, A: Low + Copy> Slab<T, A> {
-    /// Ends the slab. It asks for memory for as many cells as the slab has; a refusal leaves the slab as it was.
-    pub fn end(self) -> Result<Ending<T, A>, Slab<T, A>>
-        ensures slab { IfOk result (λ e. e.slab ≡ self) }
-        ensures left { IfOk result (λ e. (number : ℕ) → IsLeft e number) }
-        ensures refused { IfErr result (λ s. s ≡ self) }
+    /// Ends the slab. It asks for no memory, and always succeeds.
+    pub fn end(self) -> Ending<T, A>
+        ensures slab { result.slab ≡ self }
+        ensures left { (number : ℕ) → IsLeft result number }
     {
-        let Ok(room) = Vec::with_capacity(self.alloc, self.cells.len()) else {
-            return Err(self);
-        };
         let Slab {
             bits,
             alloc,
             home,
             cells,
+            room,
         } = self;
-        Ok(Ending {
+        Ending {
             bits,
             alloc,
             closed: home.close(),
             cells: all_shared(cells, room),
-        })
+        }
     }
 }
 
@@ -247,6 +250,7 @@ impl<T, A: Low + Copy> Drop for Slab<T, A> {
             alloc,
             home,
             cells,
+            room: _,
         } = self;
         free_chunks(cells, &home.close(), alloc);
     }

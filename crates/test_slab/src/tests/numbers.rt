@@ -47,9 +47,7 @@ fn write_and_end(slab: Slab<u64, Global>, value: u64) -> Option<u64> {
     let mut run = Run::new();
     let (number, right) = slab.number(&mut run, 3).ok()?;
     let standing = slab.put(number, right, value).publish();
-    let Ok(mut ending) = slab.end() else {
-        return None;
-    };
+    let mut ending = slab.end();
     Some(ending.take_out(number, &standing))
 }
 

@@ -14,7 +14,7 @@ fn first_number(memory: &Refusing<Global>) -> Option<u64> {
 #[test]
 fn each_request_is_refused_in_turn(rt: HostRuntime) {
     let memory = Refusing::new(rt.alloc(), Rule::new(0, 1 << 20, 0, 0));
-    for passing in 0..3u64 {
+    for passing in 0..4u64 {
         memory.refuse(passing, 1);
         assert_eq!(rt; first_number(&memory), None);
     }

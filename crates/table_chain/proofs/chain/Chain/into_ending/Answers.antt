@@ -17,9 +17,9 @@ pub invariant_of-result : goal.invariant_of-result
 invariant_of-result g c = let parts = c.into_parts-words in let start = parts.result.2 in let seen = c.args.seen.now in let e = c.close_behind-count.ensures in let new = c.close_behind-count.new.seen in let again = c.again.ensures in
     let laid = laid_so g.F.Follows.begins g.F.Follows.follows c.args.self start.book seen.book parts.result.0.items start.names seen.names start.log seen.log parts.ensures.view parts.ensures.laid c.requires.of in
     let names = e.same.1 ∙ (c.requires.of.1 ∙ (ap (λ x. x.names) parts.ensures.view ∙ sym parts.ensures.slab)) in
-    rw again (ending_first g.F.Follows.begins g.F.Follows.follows new.book new.names c.in-Ok.left new.log parts.result.0.items c.close_behind-count.result
+    rw again (ending_first g.F.Follows.begins g.F.Follows.follows new.book new.names c.end.result new.log parts.result.0.items c.close_behind-count.result
     (laid_on g.F.Follows.begins g.F.Follows.follows seen.book new.book seen.log new.log parts.result.0.items e.same.0 e.longer e.reached laid) e.whole
-    (c.in-Ok.ensures.slab ∙ sym (ap slab_of names)) c.in-Ok.ensures.left)
+    (c.end.ensures.slab ∙ sym (ap slab_of names)) c.end.ensures.left)
 
 pub returns-clause-of : goal.returns-clause-of
 returns-clause-of g c = let seen = c.args.seen.now in let e = c.close_behind-count.ensures in let new = c.close_behind-count.new.seen in

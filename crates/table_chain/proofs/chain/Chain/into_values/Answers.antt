@@ -18,7 +18,7 @@ loop-value-preserved g c = let inv = c.loop-value.invariant in let some = c.in-S
     }
 
 pub returns-clause-values : goal.returns-clause-values
-returns-clause-values g c = let inv = c.loop-value.invariant in let e = c.into_ending-ending.ensures in let none = c.in_default.ensures.some in let log = c.into_ending-ending.new.seen.log in
+returns-clause-values g c = let inv = c.loop-value.invariant in let e = c.into_ending-ending.ensures in let none = c.in_default-next.ensures.some in let log = c.into_ending-ending.new.seen.log in
     are_values g.F.Follows.begins g.F.Follows.follows c.into_ending-ending.result.count c.args.self.slots log c.loop-value.values.items e.of.2 e.of.3 e.whole
     (omega (arith, inv.taken, none.0, inv.count))
     (λ p d lt. subst (λ (l : History g.row.G.Denot). Stands l p (slice_index_or c.loop-value.values.items p d)) (inv.log ∙ e.log) (inv.each p d lt))
