@@ -13,10 +13,7 @@ fn newest_of<V: Drop, L: SetLaw<V>, A: Low + Copy>(
     chain: Chain<Stage<V, L, A>, Grows<V, L, A>, A>,
 ) -> Stage<V, L, A> {
     let mut seen = chain.start();
-    match chain.into_ending(&mut seen) {
-        Ok(ending) => last_of(ending),
-        Err(_) => unreachable!(),
-    }
+    last_of(chain.into_ending(&mut seen))
 }
 
 /// Returns the last value of a chain, which has one.
@@ -37,9 +34,7 @@ fn take_values<V: Drop, L: SetLaw<V>, A: Low + Copy>(
     chain: Chain<Stage<V, L, A>, Grows<V, L, A>, A>,
     room: Vec<V, A>,
 ) -> Vec<V, A> {
-    let Ok(mut left) = slab.end() else {
-        unreachable!()
-    };
+    let mut left = slab.end();
     let Stage {
         generation,
         before: _,
@@ -53,9 +48,7 @@ pub(crate) fn drop_values<V: Drop, L: SetLaw<V>, A: Low + Copy>(
     slab: Slab<V, A>,
     chain: Chain<Stage<V, L, A>, Grows<V, L, A>, A>,
 ) {
-    let Ok(mut left) = slab.end() else {
-        unreachable!()
-    };
+    let mut left = slab.end();
     let Stage {
         generation,
         before: _,
@@ -69,7 +62,8 @@ impl<V: Drop, L: SetLaw<V>, A: Low + Copy> SharedSet<V, L, A> {
     fn room(&self) -> Result<Vec<V, A>, AllocError> {
         let mut handle = self.handle();
         handle.advance();
-        Vec::with_capacity(self.alloc, handle.stage.generation().buckets())
+        let stage = handle.stage;
+        Vec::with_capacity(self.alloc, stage.generation().buckets())
     }
 
     /// Takes the set apart, and returns its entries, each once. `Err` returns the set as it was: memory was refused.

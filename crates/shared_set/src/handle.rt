@@ -44,8 +44,9 @@ impl<'a, V, L: SetLaw<V>, A: Low + Copy> Handle<'a, V, L, A> {
     pub(crate) fn advance(&mut self)
         ensures known { KnowsMore self.old self.new }
     {
+        let set = self.set;
         for _passed in 0..STAGES {
-            match self.set.step(&mut self.cursor) {
+            match set.step(&mut self.cursor) {
                 Some(stage) => self.stage = stage,
                 None => return,
             }
@@ -58,9 +59,9 @@ impl<'a, V, L: SetLaw<V>, A: Low + Copy> Handle<'a, V, L, A> {
         ensures finds { Finds (S.accepts sought.now) (IsEntry self.new.history) result }
     {
         self.advance();
-        self.stage
-            .generation()
-            .seek(&self.set.slab, &mut self.cursor.entries, sought)
+        let set = self.set;
+        let generation = self.stage.generation();
+        generation.seek(&set.slab, &mut self.cursor.entries, sought)
     }
 
     /// Returns the entry that is the same as the target, with its number. `None` means that no entry known to this handle is the same.
@@ -120,13 +121,9 @@ impl<'a, V, L: SetLaw<V>, A: Low + Copy> Handle<'a, V, L, A> {
         ensures known { KnowsMore self.old self.new }
         ensures theirs { Keeps known.now.history self.new.history }
     {
-        let mut theirs = known.cursor.again();
-        self.cursor.stages.learn(&theirs.stages);
-        self.set.go_to(&mut self.cursor, theirs.slot);
-        theirs.stages.learn(&self.cursor.stages);
-        self.set.go_to(&mut theirs, self.cursor.slot);
-        self.cursor.entries.learn(&theirs.entries);
-        self.stage = self.set.chain.get(&self.cursor.stages, self.cursor.slot);
+        let set = self.set;
+        set.join(&mut self.cursor, known.cursor.again());
+        self.stage = set.chain.get(&self.cursor.stages, self.cursor.slot);
     }
 
     /// Adds what the other handle knows to what this handle knows.

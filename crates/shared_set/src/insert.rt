@@ -44,13 +44,14 @@ impl<'a, V, L: SetLaw<V>, A: Low + Copy> Handle<'a, V, L, A> {
     fn count(&mut self, number: u64)
         ensures { self.new ≡ self.old }
     {
-        self.uncounted += 1;
+        let set = self.set;
+        self.uncounted = self.uncounted.wrapping_add(1);
         if self.uncounted == COUNTED {
             self.uncounted = 0;
-            self.set.placed.fetch_add(COUNTED, SeqCst);
+            set.placed.fetch_add(COUNTED, SeqCst);
         }
         if number >= self.stage.generation().buckets() as u64 / 2 {
-            self.grow_if_free();
+            set.grow_if_free(&self.cursor, self.stage);
         }
     }
 
@@ -60,8 +61,9 @@ impl<'a, V, L: SetLaw<V>, A: Low + Copy> Handle<'a, V, L, A> {
         ensures known { KnowsMore self.old self.new }
         ensures told { Attempts L.same value self.old.history self.new.history result }
     {
+        let set = self.set;
         let generation = self.stage.generation();
-        match generation.place(&self.set.slab, &mut self.cursor.entries, number, right, value) {
+        match generation.place(&set.slab, &mut self.cursor.entries, number, right, value) {
             Placing::Placed(entry) => {
                 self.count(number);
                 Attempt::Done(Inserted::Placed(number, entry))
@@ -82,9 +84,10 @@ impl<'a, V, L: SetLaw<V>, A: Low + Copy> Handle<'a, V, L, A> {
         ensures known { KnowsMore self.old self.new }
         ensures told { Attempts L.same value self.old.history self.new.history result }
     {
+        let set = self.set;
         let generation = self.stage.generation();
         let sought = SameAs { target: &value };
-        match generation.judge(&self.set.slab, &mut self.cursor.entries, &sought) {
+        match generation.judge(&set.slab, &mut self.cursor.entries, &sought) {
             Judged::Found(number, entry) => {
                 return Attempt::Done(Inserted::Found(number, entry, value));
             }
@@ -92,10 +95,16 @@ impl<'a, V, L: SetLaw<V>, A: Low + Copy> Handle<'a, V, L, A> {
             Judged::Vacant => {}
         }
         let most = max(1, min(LONGEST_RUN, generation.buckets() / 64)) as u64;
-        match self.supply.fetch(&self.set.slab, most) {
+        match self.supply.fetch(&set.slab, most) {
             Ok((number, right)) => self.place(number, right, value),
             Err(_) => Attempt::Done(Inserted::Refused(value)),
         }
+    }
+
+    /// Makes sure that a stage is behind the one of this handle. Returns false if memory was refused, or no slot is left.
+    fn grow(&self) -> bool {
+        let set = self.set;
+        set.grow(&self.cursor, self.stage)
     }
 
     /// Inserts the value in the newest generation.

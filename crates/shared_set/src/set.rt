@@ -168,6 +168,23 @@ impl<V, L: SetLaw<V>, A: Low + Copy> SharedSet<V, L, A> {
             self.step(cursor).unwrap();
         }
     }
+
+    /// Brings together what two cursors know, at the further one of their slots.
+    pub(crate) fn join(&self, cursor: &mut Cursor<V, L, A>, theirs: Cursor<V, L, A>)
+        requires mine { IsCursor L.same L.hash_of self.now cursor.old }
+        requires theirs { IsCursor L.same L.hash_of self.now theirs }
+        ensures at { IsCursor L.same L.hash_of self.now cursor.new }
+        ensures mine { Keeps cursor.old.entries.log cursor.new.entries.log }
+        ensures theirs { Keeps theirs.entries.log cursor.new.entries.log }
+    {
+        let mut theirs = theirs;
+        cursor.stages.learn(&theirs.stages);
+        self.go_to(cursor, theirs.slot);
+        theirs.stages.learn(&cursor.stages);
+        self.go_to(&mut theirs, cursor.slot);
+        cursor.stages.learn(&theirs.stages);
+        cursor.entries.learn(&theirs.entries);
+    }
 }
 
 /// Returns a power of two of buckets, of which so many entries fill at most half.

@@ -90,7 +90,6 @@ impl<V: Drop, L: SetLaw<V>, A: Low + Copy> Generation<V, L, A> {
         requires of { IsOf L.same L.hash_of self.of seen.old.book seen.old.names seen.old.log }
         ensures of { IsOf L.same L.hash_of self.of seen.new.book seen.new.names seen.new.log }
         ensures longer { IsPrefix seen.old.log seen.new.log }
-        ensures full { IsFull self.of.size seen.new.log }
     {
         for index in 0..self.words.len() {
             drop(self.take_at(slab, seen, index));
