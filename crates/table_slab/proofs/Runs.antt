@@ -1,8 +1,9 @@
 -- What is next in a run, and what is left of it.
-use Rattle.std.proofs.Common.{◌≡◌, ℕ, zero, suc, ◌+◌, ◌-◌, ◌<◌, ◌≤◌, List, ◌∷◌, length, take, drop, sym, ap, ◌∙◌, subst, arith, slice_index_or}
+use Rattle.std.proofs.Common.{◌≡◌, ℕ, zero, suc, ◌+◌, ◌-◌, ◌^◌, ◌<◌, ◌≤◌, List, ◌∷◌, length, take, drop, sym, ap, ◌∙◌, subst, arith, slice_index_or}
 use Rattle.std.specs.Prelude.{Some, unwrap_or}
 use Rattle.std.proofs.Math.Seq.{drop-cons}
 use Rattle.table_slab.specs.Counting.{part}
+use Rattle.table_slab.specs.Numbering.{chunk_len, IsAt, IsSmall}
 use Rattle.table_slab.specs.Slabs.{SlabView, id_at, IsSlot}
 use Rattle.table_slab.specs.Runs.{AreNext}
 use Rattle.table_slab.specs.declared.run.Run.{Run}
@@ -20,6 +21,13 @@ first_of xs = slice_index_or xs 0 0
 
 abbrev rest_of : List ℕ → List ℕ
 rest_of xs = drop 1 xs
+
+-- numbers in a row are small where the last one is
+pub all_small : {bits number place offset count used : ℕ} → 0 < count → offset + count ≤ used → used ≤ chunk_len bits place → IsAt bits number place offset
+    → ((n o : ℕ) → IsAt bits n place o → o < used → IsSmall n) → number + count + 2 ≤ 2 ^ 32
+all_small {bits} {number} {place} {offset} {count} {used} some within upto at small =
+    let last : IsAt bits (number + (count - 1)) place (offset + (count - 1)) = record { within = omega (arith, some, within, upto); counted = omega (arith, some, at.counted) } in
+    omega (arith, some, small (number + (count - 1)) (offset + (count - 1)) last (omega (arith, some, within)))
 
 module _ {T A : Type 0} (s : SlabView) (r : Run T A) (γ : ℕ) (γs : List ℕ) (are : AreNext s r) (begins : r.rooms.names ≡ γ ∷ γs) (some : 0 < r.left) where
   abbrev names : List ℕ
@@ -44,5 +52,6 @@ module _ {T A : Type 0} (s : SlabView) (r : Run T A) (γ : ℕ) (γs : List ℕ)
     at = record { within = omega (arith, are.few, more); counted = omega (arith, are.at.counted) };
     within = omega (arith, are.within, more);
     few = omega (arith, are.few, more);
+    fits = omega (arith, are.fits, more);
     rooms = is ∙ ap rest_of splits;
   }

@@ -9,3 +9,7 @@ chunk_len bits place = 2 ^ (bits + place)
 pub record IsAt (bits number place offset : ℕ) : Type 0 where
   pub within : offset < chunk_len bits place
   pub counted : number + 2 ^ bits ≡ chunk_len bits place + offset
+
+-- a number that 32 bits have room for beside two values that are no number
+abbrev pub IsSmall : ℕ → Type 0
+IsSmall number = number + 2 < 2 ^ 32

@@ -1,5 +1,5 @@
 -- Numbers in a row, with the rights to them.
-use Rattle.std.specs.Prelude.{◌≡◌, ℕ, ◌+◌, ◌<◌, ◌≤◌, List, length, Some}
+use Rattle.std.specs.Prelude.{◌≡◌, ℕ, ◌+◌, ◌^◌, ◌<◌, ◌≤◌, List, length, Some}
 use Rattle.table_slab.specs.Counting.{part}
 use Rattle.table_slab.specs.Numbering.{chunk_len, IsAt}
 use Rattle.table_slab.specs.Slabs.{SlabView, id_at}
@@ -17,6 +17,7 @@ pub record AreNext {T A : Type 0} (s : SlabView) (r : Run T A) : Type 0 where
   pub at : IsAt s.bits r.number r.place offset
   pub within : offset + r.left ≤ length site.value
   pub few : offset + r.left ≤ chunk_len s.bits r.place
+  pub fits : r.number + r.left + 2 ≤ 2 ^ 32
   pub rooms : r.rooms.names ≡ part site.value offset r.left
 
 -- the run is of this slab: if a number is left, the next numbers are of it

@@ -1,11 +1,12 @@
 //! Numbers that a handle takes ahead, so that threads don't meet at one counter.
 ghost use Rattle.std.specs.Prelude.{◌≡◌, ℕ, suc, ◌<◌, ◌≤◌, ◌+◌, length, IfOk, IfNone, IfSome, IfErr, OnOk, MatchOption, None, Some};
 ghost use Rattle.table_slab.specs.Held.{IsRightTo};
+ghost use Rattle.table_slab.specs.Numbering.{IsSmall};
 ghost use Rattle.table_slab.specs.Runs.{IsRunOf};
 ghost use Rattle.table_slab.specs.Slabs.{SlabView};
 
 use crate::chunk::Chunk;
-use crate::numbering::{chunk_len, number_at};
+use crate::numbering::{number_at, used_len};
 use crate::rights::Rooms;
 use crate::site::Site;
 use crate::slab::{Right, Slab};
@@ -28,7 +29,7 @@ pub struct Run<T, A: Allocator> {
 pub enum Refused {
     /// Memory for a chunk was refused.
     Memory,
-    /// All numbers are handed out.
+    /// All numbers below `2 ^ 32 - 2` are handed out.
     Numbers,
 }
 
@@ -47,10 +48,11 @@ impl<T, A: Allocator> Run<T, A> {
         }
     }
 
-    /// Takes the next number off, with the right to it.
+    /// Takes the next number off, with the right to it. The number is below `2 ^ 32 - 2`. `None`: the run has no number left.
     pub fn take(&mut self) -> Option<(u64, Right<T, A>)>
         requires of { (s : SlabView) × IsRunOf s self.old }
         ensures number { IfSome result (λ r. (s : SlabView) → IsRunOf s self.old → IsRightTo s r.0 r.1) }
+        ensures small { IfSome result (λ r. IsSmall r.0) }
         ensures empty { IfSome result (λ r. r.1.room.value ≡ None) }
         ensures rest { (s : SlabView) → IsRunOf s self.old → IsRunOf s self.new }
         ensures none { IfNone result (self.new ≡ self.old) }
@@ -87,12 +89,13 @@ impl<T, A: Low + Copy> Slab<T, A> {
         Ok(())
     }
 
-    /// Takes the next number of a run, with the right to it. A run that has none left is filled before, with up to `want`
-    /// numbers. A refusal leaves the run as it was.
+    /// Takes the next number of a run, with the right to it. The number is below `2 ^ 32 - 2`. A run that has none left is
+    /// filled before, with up to `want` numbers. A refusal leaves the run as it was.
     pub fn number(&self, run: &mut Run<T, A>, want: u64) -> Result<(u64, Right<T, A>), Refused>
         requires want { 0 < want }
         requires of { IsRunOf self.now run.old }
         ensures number { IfOk result (λ r. IsRightTo self.now r.0 r.1) }
+        ensures small { IfOk result (λ r. IsSmall r.0) }
         ensures empty { IfOk result (λ r. r.1.room.value ≡ None) }
         ensures of { IsRunOf self.now run.new }
         ensures refused { IfErr result (λ _. run.new ≡ run.old) }
@@ -131,7 +134,7 @@ impl<T, A: Low + Copy> Slab<T, A> {
         ensures of { IfOk result (λ o. IfSome o (λ r. IsRunOf self.now r)) }
     {
         let site = self.made(place)?;
-        let len = chunk_len(self.bits(), place);
+        let len = used_len(self.bits(), place);
         let Some(handed) = self.chunk(place, &site).next(want, len) else {
             return Ok(None);
         };

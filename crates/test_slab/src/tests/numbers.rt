@@ -3,7 +3,7 @@ ghost use Rattle.table_slab.specs.Runs.{IsRunOf};
 
 use std::alloc::Global;
 use std::test::Fail;
-use table_slab::{Run, Slab};
+use table_slab::{Refused, Run, Slab};
 
 /// Takes so many numbers, one at a time.
 pub(crate) fn numbers(slab: &Slab<u64, Global>, alloc: Global, count: usize) -> Vec<u64> {
@@ -51,6 +51,22 @@ fn write_and_end(slab: Slab<u64, Global>, value: u64) -> Option<u64> {
     Some(ending.take_out(number, &standing))
 }
 
+/// Takes the next number of a slab, and with it up to `2 ^ 31 - 2` numbers that follow it in its chunk.
+fn next_with_others(slab: &Slab<(), Global>) -> Result<u64, Refused> {
+    let mut run = Run::new();
+    let (number, _right) = slab.number(&mut run, (1 << 31) - 1)?;
+    Ok(number)
+}
+
+/// Returns the first number of the last chunk, if each of the chunks before it has a number.
+fn last_first(slab: &Slab<(), Global>) -> Option<u64> {
+    let mut last = None;
+    for _chunk in 0..32u32 {
+        last = Some(next_with_others(slab).ok()?);
+    }
+    last
+}
+
 #[test]
 fn numbers_follow_each_other(rt: HostRuntime) -> Result<(), Fail> {
     let slab = Slab::new(rt.alloc(), 1)?;
@@ -77,5 +93,13 @@ fn a_value_is_taken_back_and_one_is_taken_out(rt: HostRuntime) -> Result<(), Fai
     let slab = Slab::new(rt.alloc(), 2)?;
     assert_eq!(rt; write_and_take_back(&slab, 7), Some(7));
     assert_eq!(rt; write_and_end(slab, 8), Some(8));
+    Ok(())
+}
+
+#[test]
+fn the_last_number_is_two_to_the_thirty_two_less_three(rt: HostRuntime) -> Result<(), Fail> {
+    let slab = Slab::new(rt.alloc(), 0)?;
+    assert_eq!(rt; last_first(&slab), Some((1 << 31) - 1));
+    assert!(rt; matches!(next_with_others(&slab), Err(Refused::Numbers)));
     Ok(())
 }
