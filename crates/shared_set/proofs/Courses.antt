@@ -1,8 +1,9 @@
 -- What the course of a set's chain says of its stages.
 --     one_stage      a slot has one stage
 --     grows_at       a stage is followed by one that has each of its entries
+--     one_slab       all stages are over one slab
 --     inside         a slot with a stage is one of the chain's
-use Rattle.std.proofs.Common.{◌≡◌, ◌≢◌, ℕ, suc, ◌+◌, ◌<◌, ◌≤◌, ◌⊎◌, Bool, refl, ap, sym, subst, ◌∙◌, arith, inl, inr}
+use Rattle.std.proofs.Common.{◌≡◌, ◌≢◌, ℕ, zero, suc, ◌+◌, ◌<◌, ◌≤◌, ◌⊎◌, Bool, refl, ap, sym, subst, ◌∙◌, arith, inl, inr}
 use mathlib.Core.List.{IsPrefix}
 use Rattle.table_chain.specs.History as chain
 use Rattle.table_chain.specs.Chains.{IsOpen, IsEnd}
@@ -18,6 +19,10 @@ module _ {V : Type 0} (same : V → V → Bool) (hash : V → ℕ) where
   pub grows_at : (slot : ℕ) (s t : StageView V) (course : Course V) → IsRun same hash course → chain.Stands course slot s → chain.Stands course (suc slot) t → GrowsInto same hash s t
   grows_at slot s t course run one next = let b = (run.1.joined (suc slot) next.0 t next.1).behind slot refl in
       subst (λ (x : StageView V). GrowsInto same hash x t) (one_stage slot b.1 s course run (b.0, b.2) one) b.3
+
+  pub one_slab : (slot : ℕ) (s first : StageView V) (course : Course V) → IsRun same hash course → chain.Stands course 0 first → chain.Stands course slot s → s.of.of.slab ≡ first.of.of.slab
+  one_slab zero s first course run begins there = ap (λ (x : StageView V). x.of.of.slab) (one_stage 0 s first course run there begins)
+  one_slab (suc n) s first course run begins there = let b = (run.1.joined (suc n) there.0 s there.1).behind n refl in b.3.slab ∙ one_slab n b.1 first course run begins (b.0, b.2)
 
   pub inside : (slots slot : ℕ) (s : StageView V) (course : Course V) → chain.HasSize slots course → IsRun same hash course → chain.Stands course slot s → slot < slots
   inside slots slot s course size run there = chained.slot_within (Begins same hash) (GrowsInto same hash) slots course size run slot there.0 (Shown s) there.1

@@ -40,15 +40,27 @@ impl<'a, V, L: SetLaw<V>, A: Low + Copy> Model for Handle<'a, V, L, A> {
 }
 
 impl<'a, V, L: SetLaw<V>, A: Low + Copy> Handle<'a, V, L, A> {
+    /// Moves on to the next generation. Returns false if none was shown.
+    fn follow(&mut self) -> bool
+        ensures known { KnowsMore self.old self.new }
+    {
+        let set = self.set;
+        match set.step(&mut self.cursor) {
+            Some(stage) => {
+                self.stage = stage;
+                true
+            }
+            None => false,
+        }
+    }
+
     /// Moves on to the newest generation.
     pub(crate) fn advance(&mut self)
         ensures known { KnowsMore self.old self.new }
     {
-        let set = self.set;
         for _passed in 0..STAGES {
-            match set.step(&mut self.cursor) {
-                Some(stage) => self.stage = stage,
-                None => return,
+            if !self.follow() {
+                return;
             }
         }
     }

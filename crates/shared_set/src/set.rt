@@ -1,20 +1,18 @@
 //! The set, and what any thread may call on it.
-ghost use Rattle.std.specs.Prelude.{◌≡◌, suc, ◌<◌, ◌≤◌, ◌^◌, ◌*◌, true, IfSome, IfNone};
+ghost use Rattle.std.specs.Prelude.{◌≡◌, suc, ◌<◌, ◌≤◌, ◌^◌, ◌*◌, true, IfSome};
 ghost use Rattle.std.specs.Int.{IsPowerOfTwo};
 ghost use mathlib.Core.List.{IsPrefix};
 ghost use Rattle.table_chain.specs.History.{Stands};
-ghost use Rattle.table_slab.specs.Slabs.{SlabView};
-ghost use Rattle.table_numbered.specs.Generations.{Passes};
-ghost use Rattle.shared_set.specs.Stages.{stages};
-ghost use Rattle.shared_set.specs.Known.{Keeps, IsCursor, IsFurther};
+ghost use Rattle.shared_set.specs.Known.{Keeps, IsSeen, IsCursor, IsFurther, Stepped};
 
-use crate::cursor::Cursor;
+use crate::cursor::{Cursor, Stages};
 use crate::ending::drop_values;
 use crate::handle::Handle;
 use crate::insert::Inserted;
 use crate::stage::{Grows, Stage};
 use crate::supply::Supply;
 use std::alloc::{AllocError, Global};
+use std::cmp::max;
 use std::marker::Model;
 use std::sync::atomic::Ordering::SeqCst;
 use std::sync::atomic::{AtomicBool, AtomicU64, AtomicUsize};
@@ -103,17 +101,32 @@ impl<V, L: SetLaw<V>, A: Low + Copy> SharedSet<V, L, A> {
         self.placed.load(SeqCst)
     }
 
+    /// Returns a slot that has a stage: the newest one of which the set has been told.
+    fn newest_told(&self, seen: &mut Stages<V, L, A>) -> usize
+        requires seen { IsSeen L.same L.hash_of self.now seen.old.book seen.old.names seen.old.log }
+        requires first { (s : _) × Stands seen.old.log 0 s }
+        ensures seen { IsSeen L.same L.hash_of self.now seen.new.book seen.new.names seen.new.log }
+        ensures longer { IsPrefix seen.old.log seen.new.log }
+        ensures shown { (s : _) × Stands seen.new.log result s }
+    {
+        let slot = self.begin.load(SeqCst);
+        if slot >= STAGES {
+            return 0;
+        }
+        match self.chain.look(seen, slot) {
+            Some(_) => slot,
+            None => 0,
+        }
+    }
+
     /// Returns a cursor at a stage that was shown.
     fn cursor(&self) -> Cursor<V, L, A>
         ensures at { IsCursor L.same L.hash_of self.now result }
     {
         let mut stages = self.chain.start();
-        let mut slot = 0;
-        let hint = self.begin.load(SeqCst);
-        if hint < STAGES && self.chain.look(&mut stages, hint).is_some() {
-            slot = hint;
-        }
-        let entries = self.chain.get(&stages, slot).generation().start();
+        let slot = self.newest_told(&mut stages);
+        let stage = self.chain.get(&stages, slot);
+        let entries = stage.generation().start();
         Cursor {
             slot,
             stages,
@@ -141,18 +154,20 @@ impl<V, L: SetLaw<V>, A: Low + Copy> SharedSet<V, L, A> {
         ensures at { IsCursor L.same L.hash_of self.now cursor.new }
         ensures keeps { Keeps cursor.old.entries.log cursor.new.entries.log }
         ensures longer { IsPrefix cursor.old.stages.log cursor.new.stages.log }
-        ensures stays { IfNone result (cursor.new.slot ≡ cursor.old.slot) }
-        ensures moves { IfSome result (λ s. (cursor.new.slot ≡ suc cursor.old.slot)
-            × Stands cursor.new.stages.log cursor.new.slot s.now) }
+        ensures stepped { Stepped cursor.old.slot cursor.new.slot cursor.new.stages.log result }
     {
         let next = cursor.slot + 1;
         if next == STAGES {
             return None;
         }
-        let stage = self.chain.look(&mut cursor.stages, next)?;
-        stage.carry_over(&mut cursor.entries);
-        cursor.slot = next;
-        Some(stage)
+        match self.chain.look(&mut cursor.stages, next) {
+            Some(stage) => {
+                stage.carry_over(&mut cursor.entries);
+                cursor.slot = next;
+                Some(stage)
+            }
+            None => None,
+        }
     }
 
     /// Moves the cursor to this slot, which has a stage, unless the cursor is there or beyond.
@@ -194,11 +209,7 @@ fn buckets_for(entries: usize) -> usize
     ensures few { result ≤ 2 ^ 32 }
     ensures enough { entries * 2 ≤ result }
 {
-    let mut buckets = LEAST_BUCKETS;
-    while buckets < 2 * entries {
-        buckets *= 2;
-    }
-    buckets
+    max(2 * entries, LEAST_BUCKETS).next_power_of_two()
 }
 
 impl<V, L: SetLaw<V>, A: Low + Copy> SharedSet<V, L, A> {

@@ -4,6 +4,7 @@ ghost use Rattle.table_slab.specs.Slabs.{SlabView};
 ghost use Rattle.shared_set.specs.Supplies.{IsVacant, IsSupplyOf};
 
 use std::alloc::Allocator;
+use std::cmp::min;
 use table_cell::Low;
 use table_slab::{Refused, Right, Run, Slab};
 
@@ -69,12 +70,9 @@ impl<V, A: Low + Copy> Supply<V, A> {
 
 /// Returns twice the length, or else `most`.
 fn longer(length: u64, most: u64) -> u64
-    requires { length < most }
-    ensures { length < result }
+    requires some { 0 < length }
+    requires less { length < most }
+    ensures { 0 < result }
 {
-    if length < most - length {
-        2 * length
-    } else {
-        most
-    }
+    min(most, length.saturating_mul(2))
 }
