@@ -27,10 +27,10 @@ returns g c = let i = c.self.invariant in let t = c.newest_told-slot.new.seen in
   at = record {
     seen = c.newest_told-slot.ensures.seen;
     stage = s;
-    shown = c.get-stage.ensures;
+    shown = c.get-stage.ensures.there;
     slab = one_slab g.L.Law.same g.L.Law.hash_of c.newest_told-slot.result s i.first t.log c.newest_told-slot.ensures.seen.reached
         (chained.stands_on (Begins g.L.Law.same g.L.Law.hash_of) (GrowsInto g.L.Law.same g.L.Law.hash_of) c.start-stages.result.log t.log 0 i.first c.newest_told-slot.ensures.longer
-        (subst (λ (l : Course g.row.V.Denot). chain.Stands l 0 i.first) (sym c.start-stages.ensures.log) i.begins)) c.get-stage.ensures ∙ (i.over ∙ ap (λ (x : SharedView). x.slab) c.self.view_is);
+        (subst (λ (l : Course g.row.V.Denot). chain.Stands l 0 i.first) (sym c.start-stages.ensures.log) i.begins)) c.get-stage.ensures.there ∙ (i.over ∙ ap (λ (x : SharedView). x.slab) c.self.view_is);
     of = let o = c.start-entries.ensures.of in subst (λ (v : GenerationView g.row.V.Denot). IsOf g.L.Law.same g.L.Law.hash_of v.of c.start-entries.result.book c.start-entries.result.names c.start-entries.result.log) c.generation.ensures o;
   };
 }
