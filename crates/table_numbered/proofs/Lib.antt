@@ -3,7 +3,7 @@ mod Made
 mod Copies
 mod Marks
 mod Trades
-mod Histories
+pub mod Histories
 mod Rows
 mod Steps
 mod Probes

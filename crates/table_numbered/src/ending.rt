@@ -82,4 +82,17 @@ impl<V: Drop, L: SetLaw<V>, A: Low + Copy> Generation<V, L, A> {
     {
         self.take_all(slab, seen, room)
     }
+
+    /// Ends the generation, and drops the values of its whole history.
+    pub fn drop_values(self, slab: &mut Ending<V, A>, seen: &mut Token<V, L>)
+        requires slab { slab.old.slab ≡ self.of.slab }
+        requires left { (k : ℕ) → IsLeft slab.old k }
+        requires of { IsOf L.same L.hash_of self.of seen.old.book seen.old.names seen.old.log }
+        ensures of { IsOf L.same L.hash_of self.of seen.new.book seen.new.names seen.new.log }
+        ensures longer { IsPrefix seen.old.log seen.new.log }
+    {
+        for index in 0..self.words.len() {
+            drop(self.take_at(slab, seen, index));
+        }
+    }
 }

@@ -1,0 +1,5 @@
+mod Courses
+mod Keeping
+mod Moving
+mod Supplying
+mod Sizes
