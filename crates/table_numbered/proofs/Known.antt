@@ -5,7 +5,7 @@ use Rattle.logbook.specs.Pages.{Book, Named}
 use Rattle.table_slab.specs.Shelved.{slab_of}
 use Rattle.table_numbered.specs.declared.event.Numbered.{Numbered}
 use Rattle.table_numbered.specs.Words.{alike, marked}
-use Rattle.table_numbered.specs.History.{History, IsInside, IsReached, IsWhole}
+use Rattle.table_numbered.specs.History.{History, IsReached, IsWhole}
 use Rattle.table_numbered.specs.Generations.{SetView, IsWord, IsKnown, IsOf}
 use Rattle.table_numbered.proofs.Histories.{size_on, whole_on}
 

@@ -1,5 +1,5 @@
 -- What a bucket's word tells of its entry.
-use Rattle.std.proofs.Common.{◌≡◌, ◌≢◌, ℕ, ◌+◌, ◌*◌, ◌/◌, ◌%◌, ◌^◌, ◌<◌, ◌≤◌, Bool, true, false, Some, refl, ap, sym, subst, ◌∙◌, arith}
+use Rattle.std.proofs.Common.{◌≡◌, ◌≢◌, ℕ, ◌+◌, ◌/◌, ◌%◌, ◌^◌, ◌≤◌, Bool, true, false, Some, ap, sym, subst, ◌∙◌, arith}
 use Rattle.std.specs.Prelude.{Option, None}
 use mathlib.Core.List.{IsPrefix}
 use Rattle.table_slab.specs.Slabs.{SlabView}

@@ -1,4 +1,4 @@
-use Rattle.std.proofs.Common.{sym, subst}
+use Rattle.std.proofs.Common.{subst}
 use Rattle.table_numbered.specs.Words.{numbered}
 use Rattle.table_numbered.specs.History.{Stands}
 use Rattle.table_numbered.proofs.trade.known.Goals as goal

@@ -1,4 +1,4 @@
-use Rattle.std.proofs.Common.{◌≡◌, ◌∷◌, ◌++◌, ◌∙◌, [], ℕ, List, length, refl, ap, sym, arith, inl, length-append, append_assoc, vec_capacity}
+use Rattle.std.proofs.Common.{◌≡◌, ◌∷◌, ◌++◌, ◌∙◌, [], List, length, refl, ap, sym, arith, inl, length-append, append_assoc, vec_capacity}
 use Rattle.std.proofs.lemmas.List.{append-nil}
 use base.Growing.{prefix_refl, prefix_trans}
 use Rattle.table_numbered.proofs.Endings.{taken_first, taken_none, taken_some, taken_out}

@@ -1,4 +1,4 @@
-use Rattle.std.proofs.Common.{◌≡◌, ℕ, true, length, [], ◌∷◌, sym, refl, subst, ◌∙◌, arith}
+use Rattle.std.proofs.Common.{◌≡◌, ℕ, true, length, [], ◌∷◌, sym, refl, subst, arith}
 use Rattle.std.specs.Prelude.{replicate}
 use Rattle.std.specs.Int.{IsPowerOfTwo}
 use Rattle.logbook.specs.Pages.{Book}

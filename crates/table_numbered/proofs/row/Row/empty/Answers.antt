@@ -1,4 +1,4 @@
-use Rattle.std.proofs.Common.{◌≡◌, ℕ, true, length, [], ◌∷◌, sym, refl, subst, ◌∙◌, arith}
+use Rattle.std.proofs.Common.{◌≡◌, ℕ, true, length, [], ◌∷◌, sym, refl, subst, arith}
 use Rattle.std.specs.Prelude.{replicate}
 use Rattle.std.specs.Int.{IsPowerOfTwo}
 use Rattle.logbook.specs.Pages.{Book}
@@ -7,7 +7,6 @@ use Rattle.table_numbered.specs.Words.{alike, marked}
 use Rattle.table_numbered.specs.History.{History, opening, HasSize}
 use Rattle.table_slab.specs.Shelved.{slab_of}
 use Rattle.table_numbered.specs.Generations.{AreWords, IsKnown, set_view}
-use Rattle.table_numbered.specs.Carrying.{due_after}
 use Rattle.table_numbered.proofs.Steps.{kept_first}
 use Rattle.table_numbered.proofs.Trades.{quiet}
 use Rattle.table_numbered.proofs.row.Row.empty.Goals as goal

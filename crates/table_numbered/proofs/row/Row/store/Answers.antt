@@ -1,7 +1,7 @@
 use Rattle.std.proofs.Common.{ℕ, sym, ◌∙◌, ap, subst, inl}
 use Rattle.table_numbered.specs.declared.event.Stored.TheVariants.{Entry}
 use Rattle.table_numbered.specs.Words.{numbered, alike, marked, word_of}
-use Rattle.table_numbered.specs.History.{Fits, Reaches, IsDue, due_of}
+use Rattle.table_numbered.specs.History.{Fits}
 use Rattle.table_numbered.proofs.Histories.{size_is}
 use Rattle.table_numbered.proofs.Copies.{standing_stays}
 use Rattle.table_numbered.proofs.Known.{word_of_book, known_on}
