@@ -3,7 +3,7 @@ ghost use Rattle.std.specs.Prelude.{◌≡◌};
 ghost use Rattle.test_numbered.specs.Known.{Knows};
 
 use super::laws::{Counting, Spread};
-use super::made::{Hand, assert_same, empty_hand, made, put};
+use super::made::{Fared, Hand, assert_same, empty_hand, made, put};
 use std::alloc::Global;
 use std::sync::Arc;
 use std::sync::atomic::AtomicU64;
@@ -48,9 +48,21 @@ fn each_value_comes_out_once(rt: HostRuntime) -> Result<(), Fail> {
     let slab = Slab::new(rt.alloc(), 1)?;
     let set: Generation<Counting, Spread, Global> = made(rt.alloc(), &slab, 8)?;
     let mut mine = empty_hand(&set);
-    for number in [4u64, 1, 3, 1, 4] {
-        let _fared = put(&set, &slab, &mut mine, number, &drops);
-    }
+    let fared = [
+        put(&set, &slab, &mut mine, 4, &drops),
+        put(&set, &slab, &mut mine, 1, &drops),
+        put(&set, &slab, &mut mine, 3, &drops),
+        put(&set, &slab, &mut mine, 1, &drops),
+        put(&set, &slab, &mut mine, 4, &drops),
+    ];
+    let expected = [
+        Fared::Placed(4),
+        Fared::Placed(1),
+        Fared::Placed(3),
+        Fared::Found(1, 1, 1),
+        Fared::Found(0, 4, 4),
+    ];
+    assert_same(&rt, fared, expected);
     assert_same(&rt, drops.load(SeqCst), 2);
     let values = ended(set, slab, mine, rt.alloc()).ok_or("the values")?;
     assert_same(&rt, tally(&values), [0, 1, 0, 1, 1, 0]);

@@ -19,13 +19,13 @@ fn growth_carries_each_entry_with_its_number(rt: HostRuntime) -> Result<(), Fail
     let slab = Slab::new(rt.alloc(), 1)?;
     let set: Generation<Counting, Spread, Global> = made(rt.alloc(), &slab, 4)?;
     let mut mine = empty_hand(&set);
-    for number in 1u64..4 {
-        assert_same(
-            &rt,
-            put(&set, &slab, &mut mine, number, &drops),
-            Fared::Placed(number),
-        );
-    }
+    let fared = [
+        put(&set, &slab, &mut mine, 1, &drops),
+        put(&set, &slab, &mut mine, 2, &drops),
+        put(&set, &slab, &mut mine, 3, &drops),
+    ];
+    let expected = [Fared::Placed(1), Fared::Placed(2), Fared::Placed(3)];
+    assert_same(&rt, fared, expected);
     let next = set
         .grown(rt.alloc(), &mut mine.seen)
         .ok()
