@@ -27,7 +27,7 @@ module _ {X : Type 0} (passes : X → Bool) where
   none_is_found (x ∷ xs) none = rw (none x (0, omega arith, refl)) (none_is_found xs (others_too (λ y. passes y ≡ false) x xs none))
 
   -- one passes, and where no other does, it is found
-  one_counts : (xs : List X) (v : X) → Contains xs v → passes v ≡ true → 1 ≤ count_by passes xs
+  pub one_counts : (xs : List X) (v : X) → Contains xs v → passes v ≡ true → 1 ≤ count_by passes xs
   one_counts [] v (k, within, is) passed = absurd (omega arith)
   one_counts (x ∷ xs) v among passed = elim (first_or_other x xs v among) [
     | inl is ↦ rw (sum_by-cons, is, passed) (omega arith)

@@ -1,6 +1,7 @@
 -- How the entries of a generation are carried into the next one.
 use Rattle.std.proofs.Common.{◌≡◌, ◌≢◌, ℕ, suc, ◌*◌, ◌<◌, Bool, subst, arith}
 use Rattle.std.specs.Int.{IsPowerOfTwo}
+use Rattle.std.proofs.lemmas.Nat.{pow_pos}
 use mathlib.Core.List.{IsPrefix}
 use mathlib.Core.Logic.{dite}
 use native.Mathlib.Decide.{ℕ_discrete}
@@ -49,3 +50,7 @@ module _ {U : Type 0} (same : Numbered U → Numbered U → Bool) (mark : Number
 -- twice a power of two
 pub doubled_power : (n : ℕ) → IsPowerOfTwo n → IsPowerOfTwo (2 * n)
 doubled_power n (k, is) = (suc k, omega (arith, is))
+
+-- a power of two is more than 0
+pub power_some : (n : ℕ) → IsPowerOfTwo n → 0 < n
+power_some n (k, is) = let some = pow_pos k in omega (arith, is, some)

@@ -14,7 +14,7 @@ use Rattle.table_numbered.proofs.Apart.{first_or_other}
 use Rattle.table_numbered.specs.declared.event.Event.{Event}
 use Rattle.table_numbered.specs.declared.event.Stored.{Stored}
 use Rattle.table_numbered.specs.declared.event.Stored.TheVariants.{Entry, Closed}
-use Rattle.table_numbered.specs.History.{event, Has, IsUntouched, HasSize, size_of, IsFull, History, Stands, IsFree, IsEntry, stored_then, entries, NonePasses, HasPassed, Reaches, Fits, IsReached}
+use Rattle.table_numbered.specs.History.{event, opening, listed, due_of, Has, IsUntouched, HasSize, size_of, IsFull, History, Stands, IsFree, IsEntry, if_none, stored_by, stored_then, entries, IsDue, HasAll, IsWhole, MayStore, NonePasses, HasPassed, Reaches, Fits, IsReached}
 
 pub false_unless : {b : Bool} → (b ≡ true → ⊥) → b ≡ false
 false_unless {b} never = elim (cases_Bool b) [
@@ -44,10 +44,18 @@ module _ {S : Type 0} where
   pub size_agrees : (n m : ℕ) (log : List (Event S)) → HasSize n log → HasSize m log → n ≡ m
   size_agrees n m log a b = sym (size_is n log a) ∙ size_is m log b
 
-  pub size_on : (n : ℕ) (l m : List (Event S)) → HasSize n l → IsPrefix l m → HasSize n m
-  size_on n l m has on = prefix_trans (event n None ∷ []) l m has on
+  due_append : (n : ℕ) (l m : List (Event S)) → HasSize n l → due_of (l ++ m) ≡ due_of l
+  due_append n [] m has = absurd (let is = ap length has.1 in omega (arith, is))
+  due_append n (e ∷ es) m has = refl
 
-  abbrev or_stored : S → Option S → S
+  -- what is due is known from the first
+  pub due_on : (n : ℕ) (l m : List (Event S)) → HasSize n l → IsPrefix l m → due_of m ≡ due_of l
+  due_on n l m has on = ap due_of (sym on.1) ∙ due_append n l on.0 has
+
+  pub size_on : (n : ℕ) (l m : List (Event S)) → HasSize n l → IsPrefix l m → HasSize n m
+  size_on n l m has on = subst (λ (due : List S). IsPrefix (opening n due ∷ []) m) (sym (due_on n l m has on)) (prefix_trans (opening n (due_of l) ∷ []) l m has on)
+
+  abbrev pub or_stored : S → Option S → S
   or_stored d None = d
   or_stored d (Some s) = s
 
@@ -59,8 +67,8 @@ module _ {S : Type 0} where
   ]
 
   -- a history that begins says of no bucket that something was stored there
-  pub nothing_first : (n p : ℕ) (s : S) → Has (event n None ∷ []) p s → ⊥
-  nothing_first n p s there = elim (first_or_other (event n None) [] (event p (Some s)) there) [
+  pub nothing_first : (n : ℕ) (due : List S) (p : ℕ) (s : S) → Has (opening n due ∷ []) p s → ⊥
+  nothing_first n due p s there = elim (first_or_other (opening n due) [] (event p (Some s)) there) [
     | inl is ↦ false≢true (ap (λ (e : Event S). is_some e.value) is)
     | inr none ↦ absurd (let lt = none.1 in omega arith)
   ]
@@ -85,27 +93,43 @@ module _ {V : Type 0} where
   then_push (Some (Entry w)) vs v = refl
   then_push (Some Closed) vs v = refl
 
+  none_due : (due : List (Stored V)) → if_none due None ≡ None
+  none_due [] = refl
+  none_due (d ∷ ds) = refl
+
+  -- a history that begins has no entry
+  pub entries_first : (n : ℕ) (due : List (Stored V)) → entries (opening n due ∷ []) ≡ []
+  entries_first n due = ap (λ (o : Option (Stored V)). stored_then o []) (none_due due)
+
   pub entries_push : (log : History V) (p : ℕ) (v : V) → entries (log ++ event p (Some (Entry v)) ∷ []) ≡ entries log ++ v ∷ []
   entries_push [] p v = refl
-  entries_push (e ∷ es) p v = ap (stored_then e.value) (entries_push es p v) ∙ then_push e.value (entries es) v
+  entries_push (e ∷ es) p v = ap (stored_then (stored_by e)) (entries_push es p v) ∙ then_push (stored_by e) (entries es) v
 
   -- a bucket that is closed adds no entry
   pub entries_closed : (log : History V) (p : ℕ) → entries (log ++ event p (Some Closed) ∷ []) ≡ entries log
   entries_closed [] p = refl
-  entries_closed (e ∷ es) p = ap (stored_then e.value) (entries_closed es p)
+  entries_closed (e ∷ es) p = ap (stored_then (stored_by e)) (entries_closed es p)
 
-  among_then : (e : Event (Stored V)) (es : History V) (v : V) (o : Option (Stored V)) → e.value ≡ o → (Contains (entries es) v → (p : ℕ) × Stands es p v) → Contains (stored_then o (entries es)) v → (p : ℕ) × Stands (e ∷ es) p v
+  if_none_some : (due : List (Stored V)) (o : Option (Stored V)) (s : Stored V) → if_none due o ≡ Some s → (due ≡ []) × (o ≡ Some s)
+  if_none_some [] o s is = (refl, is)
+  if_none_some (d ∷ ds) o s is = absurd (cc is)
+
+  -- an event by which something was stored
+  pub event_is : (e : Event (Stored V)) (s : Stored V) → stored_by e ≡ Some s → e ≡ event e.place (Some s)
+  event_is e s is = let both = if_none_some e.due.items e.value s is in λ i. record { place = e.place; value = both.1 i; due = listed (both.0 i) }
+
+  among_then : (e : Event (Stored V)) (es : History V) (v : V) (o : Option (Stored V)) → stored_by e ≡ o → (Contains (entries es) v → (p : ℕ) × Stands es p v) → Contains (stored_then o (entries es)) v → (p : ℕ) × Stands (e ∷ es) p v
   among_then e es v None is rest among = let r = rest among in (r.0, Contains-append_right (e ∷ []) es (event r.0 (Some (Entry v))) r.1)
   among_then e es v (Some Closed) is rest among = let r = rest among in (r.0, Contains-append_right (e ∷ []) es (event r.0 (Some (Entry v))) r.1)
   among_then e es v (Some (Entry w)) is rest among = elim (first_or_other w (entries es) v among) [
-    | inl it ↦ (e.place, (0, omega arith, ap (event e.place) (is ∙ ap (λ (u : V). Some (Entry u)) it)))
+    | inl it ↦ (e.place, (0, omega arith, event_is e (Entry v) (is ∙ ap (λ (u : V). Some (Entry u)) it)))
     | inr other ↦ (let r = rest other in (r.0, Contains-append_right (e ∷ []) es (event r.0 (Some (Entry v))) r.1))
   ]
 
   -- an entry was placed somewhere
   pub among_stands : (log : History V) (v : V) → Contains (entries log) v → (p : ℕ) × Stands log p v
   among_stands [] v (k, within, is) = absurd (omega arith)
-  among_stands (e ∷ es) v among = among_then e es v e.value refl (among_stands es v) among
+  among_stands (e ∷ es) v among = among_then e es v (stored_by e) refl (among_stands es v) among
 
   kept_then : (o : Option (Stored V)) (vs : List V) (v : V) → Contains vs v → Contains (stored_then o vs) v
   kept_then None vs v among = among
@@ -116,9 +140,20 @@ module _ {V : Type 0} where
   pub stands_among : (log : History V) (p : ℕ) (v : V) → Stands log p v → Contains (entries log) v
   stands_among [] p v (k, within, is) = absurd (omega arith)
   stands_among (e ∷ es) p v there = elim (first_or_other e es (event p (Some (Entry v))) there) [
-    | inl is ↦ subst (λ (o : Option (Stored V)). Contains (stored_then o (entries es)) v) (sym (ap (λ (x : Event (Stored V)). x.value) is)) (0, omega arith, refl)
-    | inr other ↦ kept_then e.value (entries es) v (stands_among es p v other)
+    | inl is ↦ subst (λ (o : Option (Stored V)). Contains (stored_then o (entries es)) v) (sym (ap stored_by is)) (0, omega arith, refl)
+    | inr other ↦ kept_then (stored_by e) (entries es) v (stands_among es p v other)
   ]
+
+  -- what is there stays there
+  pub all_on : (due : List (Stored V)) (l m : History V) → IsPrefix l m → HasAll due l → HasAll due m
+  all_on due l m on all e among = let at = all e among in (at.0, stands_on l m at.0 e on at.1)
+
+  pub whole_on : (n : ℕ) (l m : History V) → HasSize n l → IsPrefix l m → IsWhole l → IsWhole m
+  whole_on n l m has on whole = subst (λ (due : List (Stored V)). HasAll due m) (sym (due_on n l m has on)) (all_on (due_of l) l m on whole)
+
+  pub may_on : (n : ℕ) (l m : History V) (s : Stored V) → HasSize n l → IsPrefix l m → MayStore l s → MayStore m s
+  may_on n l m s has on (inl due) = inl (subst (λ (ds : List (Stored V)). IsDue ds s) (sym (due_on n l m has on)) due)
+  may_on n l m s has on (inr whole) = inr (whole_on n l m has on whole)
 
   module _ (n k h : ℕ) (test : V → Bool) where
     pub passed_on : (l m : History V) → IsPrefix l m → HasPassed n l test h k → HasPassed n m test h k
@@ -135,9 +170,13 @@ module _ {U : Type 0} where
     pub reaches_on : (n p : ℕ) (l m : History (Numbered U)) (v : (Numbered U)) → IsPrefix l m → Reaches same hash n l v p → Reaches same hash n m v p
     reaches_on n p l m v on r = (r.0, r.1, r.2, passed_on n r.0 (hash v) (same v) l m on r.3)
 
-    pub fits_on : (n p : ℕ) (l m : History (Numbered U)) (s : Stored (Numbered U)) → IsPrefix l m → Fits same hash n l s p → Fits same hash n m s p
-    fits_on n p l m (Entry v) on fits = (fits.0, reaches_on n p l m v on fits.1)
-    fits_on n p l m Closed on fits = fits
+    pub fits_on : (n k p : ℕ) (l m : History (Numbered U)) (s : Stored (Numbered U)) → HasSize k l → IsPrefix l m → Fits same hash n l s p → Fits same hash n m s p
+    fits_on n k p l m (Entry v) has on fits = (fits.0, reaches_on n p l m v on fits.1, may_on k l m (Entry v) has on fits.2)
+    fits_on n k p l m Closed has on fits = may_on k l m Closed has on fits
+
+    pub fits_may : (n p : ℕ) (l : History (Numbered U)) (s : Stored (Numbered U)) → Fits same hash n l s p → MayStore l s
+    fits_may n p l (Entry v) fits = fits.2
+    fits_may n p l Closed fits = fits
 
     -- a bucket has one value for good
     pub same_value : (log : History (Numbered U)) (p : ℕ) (v w : (Numbered U)) → IsReached same hash log → Stands log p v → Stands log p w → v ≡ w

@@ -12,3 +12,7 @@ mod Laid
 mod Meetings
 mod Carried
 mod Endings
+mod Prefixes
+mod Picks
+mod Owed
+mod Known

@@ -1,5 +1,5 @@
 -- Marks are of 32 bits, and entries are lawful where their values are.
-use Rattle.std.proofs.Common.{ℕ, ◌*◌, ◌/◌, ◌^◌, ◌<◌, Bool, arith, ap}
+use Rattle.std.proofs.Common.{◌≡◌, ℕ, ◌+◌, ◌*◌, ◌/◌, ◌%◌, ◌^◌, ◌<◌, ◌≤◌, Bool, arith, ap}
 use Rattle.std.proofs.Math.Nat.{mul-lt-mul_of_pos_right}
 use Rattle.table_terms.specs.Laws.{IsLaw}
 use Rattle.table_numbered.specs.Words.{mark_of, alike, marked}
@@ -27,3 +27,7 @@ first_below mark n small some = div_below (mark * n) n (mul_below mark n small s
 
     div_below : (a k : ℕ) → a < 2 ^ 32 * k → a / 2 ^ 32 < k
     div_below a k lt = omega arith
+
+-- an entry's word has its mark in the upper half, and its number in the lower one
+pub word_parts : (m k w : ℕ) → k + 2 < 2 ^ 32 → w ≡ m * 2 ^ 32 + (k + 2) → (2 ≤ w) × (k + 2 ≡ w % 2 ^ 32) × (w / 2 ^ 32 ≡ m)
+word_parts m k w few is = (omega (arith, is), omega (arith, few, is), omega (arith, few, is))

@@ -1,5 +1,5 @@
 -- What a bucket's word tells of its entry.
-use Rattle.std.proofs.Common.{◌≡◌, ◌≢◌, ℕ, ◌+◌, ◌*◌, ◌/◌, ◌%◌, ◌^◌, ◌<◌, ◌≤◌, Bool, true, false, Some, refl, ap, sym, subst, ◌∙◌, arith}
+use Rattle.std.proofs.Common.{◌≡◌, ◌≢◌, ℕ, ◌+◌, ◌/◌, ◌%◌, ◌^◌, ◌≤◌, Bool, true, false, Some, ap, sym, subst, ◌∙◌, arith}
 use Rattle.std.specs.Prelude.{Option, None}
 use mathlib.Core.List.{IsPrefix}
 use Rattle.table_slab.specs.Slabs.{SlabView}
@@ -8,7 +8,7 @@ use Rattle.table_numbered.specs.declared.event.Stored.TheVariants.{Entry}
 use Rattle.table_numbered.specs.declared.place.Claim.{Claim}
 use Rattle.table_numbered.specs.declared.place.Claim.TheVariants as claim
 use Rattle.table_numbered.specs.declared.place.Coming.{Coming}
-use Rattle.table_numbered.specs.Words.{mark_of, numbered, alike, marked}
+use Rattle.table_numbered.specs.Words.{mark_of, numbered, alike, marked, word_of}
 use Rattle.table_numbered.specs.History.{event, History, Stands, Says, IsReached, Adds}
 use Rattle.table_numbered.specs.Generations.{IsComing, Claims}
 use Rattle.table_numbered.proofs.Histories.{false_unless, same_value}
@@ -67,6 +67,7 @@ module _ {V : Type 0} (same : V → V → Bool) (hash : V → ℕ) where
       let one : w ≡ x = ap (λ (z : Numbered V). z.value) (same_value (alike same) (marked hash) new p (numbered k w) (numbered k x) a.5 there (added (alike same) (marked hash) p (Entry (numbered k x)) old new a)) in
       (shown ∙ (one ∙ is), subst (λ (u : V). Adds (alike same) (marked hash) (Entry (numbered k u)) p old new) is a)
 
-  -- the mark of a word is that of the entry which the bucket has
-  pub mark_is : (p word : ℕ) (log : History (Numbered V)) (r : IsReached (alike same) (marked hash) log) (says : Says (alike same) (marked hash) p word log) (more : 2 ≤ word) (k : ℕ) (x : V) → Stands log p (numbered k x) → word / 2 ^ 32 ≡ mark_of (hash x)
-  mark_is p word log r says more k x there = (parts p word log r says more).1 ∙ ap (marked hash) (same_value (alike same) (marked hash) log p (e p word log r says more) (numbered k x) r (stood p word log r says more) there)
+  -- a word is that of the entry which the bucket has
+  pub word_is : (p word : ℕ) (log : History (Numbered V)) (r : IsReached (alike same) (marked hash) log) (says : Says (alike same) (marked hash) p word log) (more : 2 ≤ word) (k : ℕ) (x : V) → Stands log p (numbered k x) → word ≡ word_of (marked hash) (Entry (numbered k x))
+  word_is p word log r says more k x there = (entry_says (alike same) (marked hash) p word log says more).2
+      ∙ ap (λ (f : Numbered V). word_of (marked hash) (Entry f)) (same_value (alike same) (marked hash) log p (e p word log r says more) (numbered k x) r (stood p word log r says more) there)

@@ -1,12 +1,12 @@
 -- Rows of buckets that are set once: how one begins, and what setting a bucket leaves.
-use Rattle.std.proofs.Common.{◌≡◌, ◌≢◌, ℕ, ◌<◌, ◌++◌, true, false, List, [], ◌∷◌, length, set, Some, None, ap, sym, subst, ◌∙◌, arith, length-set, inl, inr}
+use Rattle.std.proofs.Common.{◌≡◌, ◌≢◌, ℕ, ◌<◌, ◌++◌, true, false, List, [], ◌∷◌, length, set, Some, ap, sym, subst, ◌∙◌, arith, length-set, inl, inr}
 use Rattle.std.specs.Prelude.{replicate}
 use Rattle.std.proofs.lemmas.List.{get_or-set_same, get_or-set_other, get_or-replicate, length-replicate}
 use mathlib.Core.Logic.{dite}
 use native.Mathlib.Decide.{ℕ_discrete}
 use Rattle.logbook.specs.Pages.{Cell, cell}
 use Rattle.table_numbered.specs.declared.event.Event.{Event}
-use Rattle.table_numbered.specs.History.{event, Has, IsUntouched, IsRow}
+use Rattle.table_numbered.specs.History.{event, opening, Has, IsUntouched, IsRow}
 use Rattle.table_numbered.proofs.Histories.{has_push, nothing_first}
 
 module _ {S : Type 0} where
@@ -40,11 +40,11 @@ module _ {S : Type 0} where
         ];
       }
 
-  -- n empty buckets, under a history that begins with some number
-  pub row_first : (n h : ℕ) → IsRow {S = S} (replicate n (0, true)) (event h None ∷ [])
-  row_first n h = let nothing : Cell = (0, true) in let long : length (replicate n nothing) ≡ n = length-replicate n nothing in record {
+  -- n empty buckets, under a history that begins
+  pub row_first : (n h : ℕ) (due : List S) → IsRow {S = S} (replicate n (0, true)) (opening h due ∷ [])
+  row_first n h due = let nothing : Cell = (0, true) in let long : length (replicate n nothing) ≡ n = length-replicate n nothing in record {
     home = λ p lt. ap (λ (c : Cell). c.1) (get_or-replicate n p nothing (0, false) (omega (arith, lt, long)));
-    inside = λ p s there. absurd (nothing_first h p s there);
-    free = λ p empty s there. nothing_first h p s there;
-    once = λ p s t there other. absurd (nothing_first h p s there);
+    inside = λ p s there. absurd (nothing_first h due p s there);
+    free = λ p empty s there. nothing_first h due p s there;
+    once = λ p s t there other. absurd (nothing_first h due p s there);
   }

@@ -1,5 +1,5 @@
 -- What the steps on a word add to the history, and what they tell.
-use Rattle.std.proofs.Common.{◌≡◌, ◌≢◌, ℕ, zero, suc, ◌+◌, ◌^◌, ◌<◌, ◌≤◌, ◌/◌, ◌%◌, ◌++◌, ◌==◌, Bool, true, false, List, [], ◌∷◌, length, set, Option, Some, None, refl, ap, sym, subst, ◌∙◌, arith, length-set, inl, inr}
+use Rattle.std.proofs.Common.{◌≡◌, ◌≢◌, ℕ, zero, suc, ◌+◌, ◌^◌, ◌<◌, ◌≤◌, ◌/◌, ◌%◌, ◌++◌, ◌==◌, ◌⊎◌, Bool, true, false, List, [], ◌∷◌, length, set, Option, Some, None, refl, ap, sym, subst, ◌∙◌, arith, length-set, inl, inr}
 use Rattle.std.specs.Prelude.{replicate}
 use Rattle.std.proofs.lemmas.Bool.Decides.{nat_tests}
 use Rattle.std.proofs.lemmas.List.{append-nil, get_or-set_same, get_or-set_other, get_or-replicate, length-replicate}
@@ -18,9 +18,10 @@ use Rattle.table_numbered.specs.declared.event.Stored.TheVariants.{Entry, Closed
 use Rattle.table_numbered.specs.declared.event.Numbered.{Numbered}
 use Rattle.table_numbered.specs.Probing.{bucket_at}
 use Rattle.table_numbered.specs.Words.{word_of}
-use Rattle.table_numbered.specs.History.{event, Has, IsUntouched, HasSize, size_of, IsInside, Moved, History, Stands, entries, IsEntry, NonePasses, Reaches, Fits, IsKept, IsReached, Says, AddsEvent, Adds, Looks, Publishes}
+use Rattle.table_numbered.specs.History.{event, opening, due_of, IsDue, HasAll, Has, IsUntouched, HasSize, size_of, IsInside, Moved, History, Stands, entries, IsEntry, NonePasses, Reaches, Fits, IsKept, IsReached, Says, AddsEvent, Adds, Looks, Publishes}
 use Rattle.table_numbered.proofs.Rows.{row_adds, row_first}
-use Rattle.table_numbered.proofs.Histories.{nothing_first, size_is, size_agrees, size_on, has_on, has_push, untouched_free, entries_push, entries_closed, among_stands, reaches_on, fits_on, none_beyond}
+use Rattle.table_numbered.proofs.Prefixes.{prefix_push, prefix_has}
+use Rattle.table_numbered.proofs.Histories.{nothing_first, entries_first, due_on, fits_may, size_is, size_agrees, size_on, or_stored, has_on, has_push, untouched_free, entries_push, entries_closed, among_stands, reaches_on, fits_on, none_beyond}
 
 module _ {V : Type 0} (same : Numbered V → Numbered V → Bool) (mark : Numbered V → ℕ) where
   abbrev E : Type 0
@@ -47,6 +48,9 @@ module _ {V : Type 0} (same : Numbered V → Numbered V → Bool) (mark : Number
         subst (AllApart same) (sym (entries_push log p e)) (apart_more (λ (u : E). u) same mark law (entries log) t.apart e (λ w among. none w (among_stands log w among)))
     apart_push cs log p Closed t free fits = subst (AllApart same) (sym (entries_closed log p)) t.apart
 
+    stored_is : (q p : ℕ) (u s : Stored E) → event q (Some u) ≡ event p (Some s) → u ≡ s
+    stored_is q p u s is = ap (λ (x : Event (Stored E)). or_stored u x.value) is
+
     -- something is stored in an empty bucket where it fits
     adds_kept : (cs : List Cell) (log : H) (p : ℕ) (s : Stored E) → Kept cs log → p < length cs → (cell cs p).0 ≡ 0 → Fits same mark (length cs) log s p
         → Kept (set cs p (word_of mark s, true)) (log ++ event p (Some s) ∷ [])
@@ -68,9 +72,13 @@ module _ {V : Type 0} (same : Numbered V → Numbered V → Bool) (mark : Number
           ];
           reach = λ q e there. subst (λ (m : ℕ). Reaches same mark m later e q) (sym long) (elim (has_push log p q s (Entry e) there) [
             | inl old ↦ reaches_on same mark (length cs) q log later e on (t.reach q e old)
-            | inr is ↦ (subst (λ (x : ℕ × Stored E). Fits same mark (length cs) later x.1 x.0) (λ i. (is.0 i, is.1 i)) (fits_on same mark (length cs) p log later s on fits)).1
+            | inr is ↦ (subst (λ (x : ℕ × Stored E). Fits same mark (length cs) later x.1 x.0) (λ i. (is.0 i, is.1 i)) (fits_on same mark (length cs) (length cs) p log later s t.size on fits)).1
           ]);
           apart = apart_push cs log p s t free fits;
+          due = λ before q u pre. subst (λ (ds : List (Stored E)). IsDue ds u ⊎ HasAll ds before) (sym (due_on (length cs) log later t.size on)) (elim (prefix_push before log (event q (Some u)) (event p (Some s)) pre) [
+            | inl old ↦ t.due before q u old
+            | inr is ↦ subst (λ (x : H × Stored E). IsDue (due_of log) x.1 ⊎ HasAll (due_of log) x.0) (λ i. (sym is.0 i, sym (stored_is q p u s is.1) i)) (fits_may same mark (length cs) p log s fits)
+          ]);
         }
 
   -- what a bucket's word says
@@ -138,7 +146,7 @@ module _ {V : Type 0} (same : Numbered V → Numbered V → Bool) (mark : Number
     pub publishes_moves : IsInside p seen → Fits same mark (size_of seen) seen s p
         → Moves Kept Shown (Moved ask) p (seen, (no_nib, None)) (λ n. either (n == 0) w n) Then
     publishes_moves inside fits cs log t on away = let here : p < length cs = inside_here cs seen log p t on inside in
-        let there : Fits same mark (length cs) log s p = subst (λ (m : ℕ). Fits same mark m log s p) (size_here cs seen log p t on inside) (fits_on same mark (size_of seen) p seen log s on fits) in
+        let there : Fits same mark (length cs) log s p = subst (λ (m : ℕ). Fits same mark m log s p) (size_here cs seen log p t on inside) (fits_on same mark (size_of seen) inside.0 p seen log s inside.1 on fits) in
         (here, t.row.home p here, goes cs log t on here there ((cell cs p).0 == 0) refl)
 
   -- the same of a bucket and an event that were met under other names
@@ -146,15 +154,16 @@ module _ {V : Type 0} (same : Numbered V → Numbered V → Bool) (mark : Number
   adds_at p q e f old new place is adds = subst (λ (z : ℕ × Event (Stored E)). AddsEvent same mark z.1 z.0 old new) (λ i. (sym place i, is i)) adds
 
   -- a book that was opened with n empty buckets
-  pub kept_first : (n : ℕ) → Kept (replicate n (0, true)) (event n None ∷ [])
-  kept_first n = let cs : List Cell = replicate n (0, true) in let long : length cs ≡ n = length-replicate n (0, true) in
-      let log : H = event n None ∷ [] in let begins : HasSize n log = ([], refl) in record {
+  pub kept_first : (n : ℕ) (due : List (Stored E)) → Kept (replicate n (0, true)) (opening n due ∷ [])
+  kept_first n due = let cs : List Cell = replicate n (0, true) in let long : length cs ≡ n = length-replicate n (0, true) in
+      let log : H = opening n due ∷ [] in let begins : HasSize n log = ([], refl) in record {
         size = subst (λ (m : ℕ). HasSize m log) (sym long) begins;
-        row = row_first n n;
+        row = row_first n n due;
         says = λ p lt full. absurd (full (ap (λ (c : Cell). c.0) (get_or-replicate n p (0, true) (0, false) (omega (arith, lt, long)))));
-        number = λ p e there. absurd (nothing_first n p (Entry e) there);
-        reach = λ p e there. absurd (nothing_first n p (Entry e) there);
-        apart = λ x. omega arith;
+        number = λ p e there. absurd (nothing_first n due p (Entry e) there);
+        reach = λ p e there. absurd (nothing_first n due p (Entry e) there);
+        apart = subst (AllApart same) (sym (entries_first n due)) (λ x. omega arith);
+        due = λ before p s pre. absurd (nothing_first n due p s (prefix_has before log (event p (Some s)) pre));
       }
 
   -- what is added behind a later history is added behind an earlier one

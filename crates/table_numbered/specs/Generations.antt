@@ -21,7 +21,7 @@ use Rattle.table_numbered.specs.declared.place.Claim.{Claim}
 use Rattle.table_numbered.specs.declared.place.Claim.TheVariants as claim
 use Rattle.table_numbered.specs.declared.place.Placing.{Placing}
 use Rattle.table_numbered.specs.declared.place.Placing.TheVariants as placing
-use Rattle.table_numbered.specs.History.{event, History, Has, IsUntouched, HasSize, Stands, IsEntry, NonePasses, HasPassed, IsReached, Adds}
+use Rattle.table_numbered.specs.History.{event, History, Has, IsUntouched, HasSize, Stands, IsEntry, NonePasses, HasPassed, IsReached, IsWhole, Adds}
 
 -- which generation it is, how many buckets it has, and the slab that its entries lie in
 pub record SetView : Type 0 where
@@ -51,17 +51,22 @@ AreWords b ws = (k : ℕ) (d : Named) → k < length ws
     → IsWord b (slice_index_or ws k d) × ((slice_index_or ws k d).key ≡ k)
 
 module _ {V : Type 0} (same : V → V → Bool) (hash : V → ℕ) where
-  -- a history of this generation, that was reached
-  abbrev pub IsOf : SetView → Book → List ℕ → History (Numbered V) → Type 0
-  IsOf t b names log = (b ≡ t.book) × (slab_of names ≡ t.slab) × HasSize t.size log
+  -- a history of this row of buckets, that was reached
+  abbrev pub IsKnown : SetView → Book → List ℕ → History (Numbered V) → Type 0
+  IsKnown t b names log = (b ≡ t.book) × (slab_of names ≡ t.slab) × HasSize t.size log
       × IsReached (alike same) (marked hash) log
 
-  -- a generation between two calls
+  -- a history of this generation, that was reached, and in which nothing is due any more
+  abbrev pub IsOf : SetView → Book → List ℕ → History (Numbered V) → Type 0
+  IsOf t b names log = (b ≡ t.book) × (slab_of names ≡ t.slab) × HasSize t.size log
+      × IsReached (alike same) (marked hash) log × IsWhole log
+
+  -- a row of buckets between two calls
   pub record IsLaid (b : Book) (names : List ℕ) (log : History (Numbered V)) (ws : List Named) : Type 0 where
     pub words : AreWords b ws
     pub power : IsPowerOfTwo (length ws)
     pub few : length ws ≤ 2 ^ 32
-    pub of : IsOf (set_view b (length ws) (slab_of names)) b names log
+    pub of : IsKnown (set_view b (length ws) (slab_of names)) b names log
 
 module _ {V : Type 0} (test : V → Bool) where
   -- what a probe meets in the bucket p

@@ -6,13 +6,26 @@ use Rattle.table_terms.specs.Laws.{AllApart}
 use Rattle.table_numbered.specs.Probing.{bucket_at}
 use Rattle.table_numbered.specs.Words.{IsNumber, word_of, numbered}
 use Rattle.table_numbered.specs.declared.event.Event.{Event}
+use Rattle.table_numbered.specs.declared.event.Listed.{Listed}
 use Rattle.table_numbered.specs.declared.event.Stored.{Stored}
 use Rattle.table_numbered.specs.declared.event.Stored.TheVariants.{Entry, Closed}
 use Rattle.table_numbered.specs.declared.event.Numbered.{Numbered}
 
 module _ {S : Type 0} where
+  abbrev pub listed : List S → Listed S
+  listed ss = record { marker = record {}; items = ss }
+
   abbrev pub event : ℕ → Option S → Event S
-  event place value = record { place = place; value = value }
+  event place value = record { place = place; value = value; due = listed [] }
+
+  -- the first event of a history of n buckets
+  abbrev pub opening : ℕ → List S → Event S
+  opening n due = record { place = n; value = None; due = listed due }
+
+  -- what is stored before anything else
+  abbrev pub due_of : List (Event S) → List S
+  due_of [] = []
+  due_of (e ∷ es) = e.due.items
 
   -- s was stored in the bucket p
   abbrev pub Has : List (Event S) → ℕ → S → Type 0
@@ -24,7 +37,7 @@ module _ {S : Type 0} where
 
   -- the history begins with the number of buckets
   abbrev pub HasSize : ℕ → List (Event S) → Type 0
-  HasSize n log = IsPrefix (event n None ∷ []) log
+  HasSize n log = IsPrefix (opening n (due_of log) ∷ []) log
 
   -- the number of buckets that the history begins with
   abbrev pub size_of : List (Event S) → ℕ
@@ -65,6 +78,14 @@ module _ {E : Type 0} where
   abbrev pub IsFree : History E → ℕ → Type 0
   IsFree log p = (e : E) → Stands log p e → ⊥
 
+  -- what an event says was stored: an event with which something is due says nothing
+  abbrev pub if_none : List (Stored E) → Option (Stored E) → Option (Stored E)
+  if_none [] value = value
+  if_none (s ∷ ss) value = None
+
+  abbrev pub stored_by : Event (Stored E) → Option (Stored E)
+  stored_by e = if_none e.due.items e.value
+
   -- the entries that were placed, the first one first
   abbrev pub stored_then : Option (Stored E) → List E → List E
   stored_then None es = es
@@ -73,11 +94,27 @@ module _ {E : Type 0} where
 
   abbrev pub entries : History E → List E
   entries [] = []
-  entries (e ∷ es) = stored_then e.value (entries es)
+  entries (e ∷ es) = stored_then (stored_by e) (entries es)
 
   -- e was placed in some bucket
   abbrev pub IsEntry : History E → E → Type 0
   IsEntry log e = (p : ℕ) × Stands log p e
+
+  -- s is due, and so it is an entry
+  abbrev pub IsDue : List (Stored E) → Stored E → Type 0
+  IsDue due (Entry e) = Contains due (Entry e)
+  IsDue due Closed = ⊥
+
+  -- each entry that is due was placed
+  abbrev pub HasAll : List (Stored E) → History E → Type 0
+  HasAll due log = (e : E) → Contains due (Entry e) → IsEntry log e
+
+  abbrev pub IsWhole : History E → Type 0
+  IsWhole log = HasAll (due_of log) log
+
+  -- s may be stored next: it is due, or all that is due was placed
+  abbrev pub MayStore : History E → Stored E → Type 0
+  MayStore log s = IsDue (due_of log) s ⊎ IsWhole log
 
   -- of the entries that are known, none passes the test
   abbrev pub NonePasses : (E → Bool) → (E → Type 0) → Type 0
@@ -102,8 +139,8 @@ OneValue {V} log = (p q k : ℕ) (v w : V) → Stands log p (numbered k v) → S
 module _ {V : Type 0} (same : Numbered V → Numbered V → Bool) (mark : Numbered V → ℕ) where
   -- where an entry may be placed: where a probe for it comes to; any bucket may be closed
   abbrev pub Fits : ℕ → History (Numbered V) → Stored (Numbered V) → ℕ → Type 0
-  Fits n log (Entry e) p = IsNumber e.number × Reaches same mark n log e p
-  Fits n log Closed p = Unit {0}
+  Fits n log (Entry e) p = IsNumber e.number × Reaches same mark n log e p × MayStore log (Entry e)
+  Fits n log Closed p = MayStore log Closed
 
   -- what holds of the buckets and of the history between any two steps of any threads
   pub record IsKept (cells : List Cell) (log : History (Numbered V)) : Type 0 where
@@ -116,6 +153,9 @@ module _ {V : Type 0} (same : Numbered V → Numbered V → Bool) (mark : Number
     pub reach : (p : ℕ) (e : Numbered V) → Stands log p e → Reaches same mark (length cells) log e p
     -- no two entries are the same
     pub apart : AllApart same (entries log)
+    -- what was stored was due, or was stored behind all that was
+    pub due : (before : History (Numbered V)) (p : ℕ) (s : Stored (Numbered V)) → IsPrefix (before ++ event p (Some s) ∷ []) log
+        → IsDue (due_of log) s ⊎ HasAll (due_of log) before
 
   -- a history that was reached
   abbrev pub IsReached : History (Numbered V) → Type 0

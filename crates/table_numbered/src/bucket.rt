@@ -4,7 +4,7 @@ ghost use mathlib.Core.List.{IsPrefix};
 ghost use Rattle.table_slab.specs.Held.{IsRightTo, StandsAt};
 ghost use Rattle.table_slab.specs.Shelved.{slab_of};
 ghost use Rattle.table_numbered.specs.Words.{numbered, alike, marked, word_of};
-ghost use Rattle.table_numbered.specs.History.{Has, Stands, IsInside, size_of, Fits, Says, IsReached, Adds};
+ghost use Rattle.table_numbered.specs.History.{Has, Stands, IsInside, size_of, Fits, Says, IsReached, IsWhole, Adds};
 ghost use Rattle.table_numbered.specs.Generations.{IsWord};
 ghost use Rattle.table_numbered.specs.declared.event.Stored.TheVariants.{Entry, Closed};
 
@@ -78,7 +78,8 @@ pub(crate) fn publish<V, L: SetLaw<V>, A: Allocator>(
     Err(Lost { found, right })
 }
 
-/// Stores an entry that lies in its slot for good, by one exchange. False: the bucket was set before.
+/// Stores an entry that lies in its slot for good, by one exchange, unless the bucket was set before. Returns the word that it had:
+/// 0 if the entry is there now.
 pub(crate) fn carry<V, L: SetLaw<V>, A: Allocator>(
     word: &Bucket<V, L>,
     seen: &mut Token<V, L>,
@@ -86,7 +87,7 @@ pub(crate) fn carry<V, L: SetLaw<V>, A: Allocator>(
     number: u64,
     bits: u64,
     standing: Standing<V, A>,
-) -> bool
+) -> u64
     requires word { IsWord seen.old.book word.now }
     requires place { place ≡ word.now.key }
     requires inside { IsInside word.now.key seen.old.log }
@@ -97,22 +98,22 @@ pub(crate) fn carry<V, L: SetLaw<V>, A: Allocator>(
     ensures same { (seen.new.book ≡ seen.old.book) × (seen.new.names ≡ seen.old.names) }
     ensures longer { IsPrefix seen.old.log seen.new.log }
     ensures reached { IsReached (alike L.same) (marked L.hash_of) seen.new.log }
-    ensures carried { result ≡ true → Stands seen.new.log place (numbered number standing.written.value) }
+    ensures carried { result ≡ 0 → Stands seen.new.log place (numbered number standing.written.value) }
+    ensures says { result ≢ 0
+        → Says (alike L.same) (marked L.hash_of) place result seen.new.log }
 {
     let Standing { site, written } = standing;
     let mut offer: Carrying<V, L> = carrying(seen, place, number, site, written);
     let mut pen = seen.no_pen();
-    let found = word.compare_exchange::<Publish<V, L>, Nothing>(
-        0, bits, seen, &mut offer, &mut pen,
-    );
-    found == 0
+    word.compare_exchange::<Publish<V, L>, Nothing>(0, bits, seen, &mut offer, &mut pen)
 }
 
-/// Closes the bucket by one exchange, unless it was set before. Returns the word that it had: 0 where it is closed now.
+/// Closes the bucket by one exchange, unless it was set before. Returns the word that it had: 0 if it is closed now.
 pub(crate) fn close<V, L: SetLaw<V>>(word: &Bucket<V, L>, seen: &mut Token<V, L>, place: u64) -> u64
     requires word { IsWord seen.old.book word.now }
     requires place { place ≡ word.now.key }
     requires inside { IsInside word.now.key seen.old.log }
+    requires whole { IsWhole seen.old.log }
     ensures same { (seen.new.book ≡ seen.old.book) × (seen.new.names ≡ seen.old.names) }
     ensures longer { IsPrefix seen.old.log seen.new.log }
     ensures reached { IsReached (alike L.same) (marked L.hash_of) seen.new.log }

@@ -56,7 +56,7 @@ impl<V: Drop, L: SetLaw<V>, A: Low + Copy> Generation<V, L, A> {
         ensures takes { TakesOut L.same seen.new.log room.items result.items }
     {
         let mut room = room;
-        for index in 0..self.words.len() {
+        for index in 0..self.buckets() {
             if let Some(value) = self.take_at(slab, seen, index) {
                 room.push_reserved(value);
             }

@@ -1,16 +1,17 @@
 //! One generation of buckets that threads set, each once.
-ghost use Rattle.std.specs.Prelude.{◌≡◌, ◌≤◌, ◌<◌, ◌^◌, ℕ, [], ◌∷◌, None, IfOk};
+ghost use Rattle.std.specs.Prelude.{◌≡◌, ◌≢◌, ◌≤◌, ◌<◌, ◌^◌, ℕ, [], ◌∷◌, None, IfOk};
 ghost use Rattle.std.specs.Int.{IsPowerOfTwo};
 ghost use mathlib.Core.List.{IsPrefix};
 ghost use Rattle.table_numbered.specs.Words.{numbered, alike, marked};
-ghost use Rattle.table_numbered.specs.History.{event, Stands, Says};
+ghost use Rattle.table_numbered.specs.History.{event, Has, Stands, IsEntry, Says};
 ghost use Rattle.table_numbered.specs.Generations.{IsOf};
+ghost use Rattle.table_numbered.specs.declared.event.Stored.TheVariants.{Closed};
 
-use crate::bucket::look;
+use crate::bucket::{close, look};
 use crate::law::SetLaw;
-use crate::rule::{Bucket, SetRule, Token};
-use crate::trade::{Ids, known, start};
-use logbook::Word;
+use crate::row::Row;
+use crate::rule::Token;
+use crate::trade::{known, known_by};
 use std::alloc::{AllocError, Allocator};
 use std::marker::Model;
 use table_cell::Low;
@@ -22,28 +23,18 @@ use table_slab::Slab;
 /// A contract sees which generation it is, how many buckets it has, its slab, and the history that it was made with.
 #[derive(Drop)]
 pub struct Generation<V, L: SetLaw<V>, A: Allocator> {
-    pub(crate) words: Vec<Bucket<V, L>, A>,
-    pub(crate) start: Token<V, L>,
+    pub(crate) row: Row<V, L, A>,
 }
 
 impl<V, L: SetLaw<V>, A: Allocator> Model for Generation<V, L, A> {
-    ghost use Rattle.table_numbered.specs.Generations.{GenerationView, generation_view, IsLaid};
+    ghost use Rattle.table_numbered.specs.History.{IsWhole};
+    ghost use Rattle.table_numbered.specs.Generations.{GenerationView};
 
     ghost Value = { GenerationView V };
 
-    ghost view = { λ g. generation_view g.start.book g.words.items g.start.names g.start.log };
+    ghost view = { λ g. g.row };
 
-    ghost invariant = { λ g. IsLaid L.same L.hash_of g.start.book g.start.names g.start.log
-        g.words.items };
-}
-
-/// The names of a slab.
-pub(crate) struct SlabIds;
-
-impl<V, A: Low + Copy> Ids<Slab<V, A>> for SlabIds {
-    ghost use Rattle.table_slab.specs.Shelved.{names_of};
-
-    ghost ids = { λ slab. names_of slab };
+    ghost invariant = { λ g. IsWhole g.row.start };
 }
 
 impl<V, L: SetLaw<V>, A: Low + Copy> Generation<V, L, A> {
@@ -56,13 +47,9 @@ impl<V, L: SetLaw<V>, A: Low + Copy> Generation<V, L, A> {
         ensures slab { IfOk result (λ g. g.of.slab ≡ slab.now) }
         ensures empty { IfOk result (λ g. g.start ≡ event buckets None ∷ []) }
     {
-        let mut words = Vec::with_capacity(alloc, buckets)?;
-        let begun = start::<Slab<V, A>, SlabIds, V, L>(slab, buckets as u64);
-        let (start, mut pens) = Token::open_row::<(), SetRule<V, L>>(&(), begun, buckets);
-        for _made in 0..buckets {
-            words.push_reserved(Word::tracked(0, &mut pens.take()));
-        }
-        Ok(Generation { words, start })
+        let room = Vec::with_capacity(alloc, buckets)?;
+        let row = Row::empty(room, slab, buckets);
+        Ok(Generation { row })
     }
 
     /// Returns what is known of it from the first.
@@ -70,7 +57,7 @@ impl<V, L: SetLaw<V>, A: Low + Copy> Generation<V, L, A> {
         ensures of { IsOf L.same L.hash_of self.now.of result.book result.names result.log }
         ensures log { result.log ≡ self.now.start }
     {
-        self.start.again()
+        self.row.begin()
     }
 
     /// Returns how many buckets there are.
@@ -79,7 +66,7 @@ impl<V, L: SetLaw<V>, A: Low + Copy> Generation<V, L, A> {
         ensures power { IsPowerOfTwo result }
         ensures few { result ≤ 2 ^ 32 }
     {
-        self.words.len()
+        self.row.buckets()
     }
 
     /// Returns the word that the bucket has by now.
@@ -90,7 +77,20 @@ impl<V, L: SetLaw<V>, A: Low + Copy> Generation<V, L, A> {
         ensures longer { IsPrefix seen.old.log seen.new.log }
         ensures says { Says (alike L.same) (marked L.hash_of) index result seen.new.log }
     {
-        look(&self.words[index], seen)
+        look(self.row.word(index), seen)
+    }
+
+    /// Closes the bucket, unless it was set before. Returns the word that it had.
+    pub(crate) fn close_at(&self, seen: &mut Token<V, L>, index: usize) -> u64
+        requires of { IsOf L.same L.hash_of self.now.of seen.old.book seen.old.names seen.old.log }
+        requires inside { index < self.now.of.size }
+        ensures of { IsOf L.same L.hash_of self.now.of seen.new.book seen.new.names seen.new.log }
+        ensures longer { IsPrefix seen.old.log seen.new.log }
+        ensures closed { result ≡ 0 → Has seen.new.log index Closed }
+        ensures says { result ≢ 0
+            → Says (alike L.same) (marked L.hash_of) index result seen.new.log }
+    {
+        close(self.row.word(index), seen, index as u64)
     }
 
     /// Shows the entry of the bucket, which has this number.
@@ -107,6 +107,18 @@ impl<V, L: SetLaw<V>, A: Low + Copy> Generation<V, L, A> {
         ensures stands { Stands seen.now.log index (numbered number result.now) }
     {
         let standing = known(seen, index as u64, number);
+        slab.get(number, &standing)
+    }
+
+    /// Shows the entry of this number. The caller knows that there is one. It looks at no bucket.
+    pub fn entry<'a>(&self, slab: &'a Slab<V, A>, seen: &Token<V, L>, number: u64) -> &'a V
+        requires slab { slab.now ≡ self.now.of.slab }
+        requires of { IsOf L.same L.hash_of self.now.of seen.now.book seen.now.names seen.now.log }
+        requires there { (x : V) × IsEntry seen.now.log (numbered number x) }
+        ensures is { IsEntry seen.now.log (numbered number result.now) }
+        ensures one { (x : V) → IsEntry seen.now.log (numbered number x) → result.now ≡ x }
+    {
+        let standing = known_by(seen, number);
         slab.get(number, &standing)
     }
 }

@@ -10,12 +10,13 @@ mod growth;
 mod law;
 mod place;
 mod probe;
+mod row;
 mod rule;
 mod sought;
 mod trade;
 mod word;
 
-pub use event::{Event, Numbered, Stored};
+pub use event::{Event, Listed, Numbered, Stored};
 pub use generation::Generation;
 pub use growth::Refused;
 pub use law::{KeyLaw, SetLaw};

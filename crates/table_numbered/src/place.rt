@@ -115,7 +115,7 @@ impl<V, L: SetLaw<V>, A: Low + Copy> Generation<V, L, A> {
         let bits = word_of_entry(mark, number);
         let right = slab.put(number, right, value);
         let place = index as u64;
-        match publish(&self.words[index], seen, place, number, bits, right) {
+        match publish(self.row.word(index), seen, place, number, bits, right) {
             Ok(()) => Claim::Placed(slab.get(number, &known(seen, place, number))),
             Err(Lost { found, right }) => {
                 let (value, right) = slab.take(number, right);

@@ -35,11 +35,21 @@ impl<V, L: Law<V>> Rule<Event<Stored<Numbered<V>>>, u64> for SetRule<V, L> {
     ghost moves = { λ ask old new answer. Moved ask old new answer };
 }
 
+/// A history in which nothing is due.
 impl<V, L: Law<V>> Opening<(), Event<Stored<Numbered<V>>>> for SetRule<V, L> {
     ghost use Rattle.std.specs.Prelude.{[], ◌∷◌, None};
     ghost use Rattle.table_numbered.specs.History.{event};
 
     ghost log = { λ count about. event count None ∷ [] };
+}
+
+/// A history in which the entries of another one are due.
+impl<V, L: Law<V>> Opening<Token<V, L>, Event<Stored<Numbered<V>>>> for SetRule<V, L> {
+    ghost use Rattle.std.specs.Prelude.{[], ◌∷◌};
+    ghost use Rattle.table_numbered.specs.History.{opening};
+    ghost use Rattle.table_numbered.specs.Carrying.{due_after};
+
+    ghost log = { λ count about. opening count (due_after about.log) ∷ [] };
 }
 
 /// Callers that look, or that store what everyone may know, gain nothing.

@@ -4,7 +4,7 @@ ghost use Rattle.table_slab.specs.Held.{StandsAt};
 ghost use Rattle.table_slab.specs.Shelved.{slab_of};
 ghost use Rattle.table_slab.specs.Slabs.{IsSlot};
 ghost use Rattle.table_numbered.specs.Words.{numbered};
-ghost use Rattle.table_numbered.specs.History.{event, Stands, OneValue};
+ghost use Rattle.table_numbered.specs.History.{event, opening, Stands, IsEntry, OneValue};
 ghost use Rattle.table_numbered.specs.declared.event.Stored.TheVariants.{Entry, Closed};
 
 use crate::event::{Event, Numbered, Stored};
@@ -32,20 +32,24 @@ pub(crate) type Publishing<V, L> = Offer<Event<Stored<Numbered<V>>>, u64, SetRul
 /// The update of a step that stores what everyone may know.
 pub(crate) type Carrying<V, L> = Offer<Event<Stored<Numbered<V>>>, u64, SetRule<V, L>, Nothing>;
 
-/// The names of a slab.
-pub trait Ids<X> {
+/// What a history is begun from: the names of the slab, and what is due.
+pub trait Begins<X, V> {
     ghost use Rattle.std.specs.Prelude.{List};
+    ghost use Rattle.table_numbered.specs.declared.event.Numbered.{Numbered};
+    ghost use Rattle.table_numbered.specs.declared.event.Stored.{Stored};
 
     ghost ids: { X → List ℕ };
+
+    ghost due: { X → List (Stored (Numbered V)) };
 }
 
-/// A start over this slab.
-pub(crate) fn start<X, M: Ids<X>, V, L: Law<V>>(
+/// The start of a history of so many buckets.
+pub(crate) fn start<X, M: Begins<X, V>, V, L: Law<V>>(
     _about: &X,
     _count: u64,
 ) -> Start<Event<Stored<Numbered<V>>>, u64, SetRule<V, L>>
     ensures names { result.names ≡ M.ids _about.now }
-    ensures shown { result.shown ≡ event _count None ∷ [] }
+    ensures shown { result.shown ≡ opening _count (M.due _about.now) ∷ [] }
 {
     Start {
         marker: PhantomData,
@@ -134,12 +138,11 @@ pub(crate) fn returned<V, A: Allocator>(
 /// What everyone knows of the cell and of the slot of an entry, and that a number has one value.
 pub(crate) fn recalled<V, L: Law<V>, A: Allocator>(
     _seen: &Token<V, L>,
-    _place: u64,
     _number: u64,
 ) -> (Site<Chunk<V, A>>, Written<V>)
-    requires there { (x : V) × Stands _seen.now.log _place (numbered _number x) }
+    requires there { (p : ℕ) × (x : V) × Stands _seen.now.log p (numbered _number x) }
     ensures of { IsSlot (slab_of _seen.now.names) _number result.0.cell result.0.value result.1.of }
-    ensures value { Stands _seen.now.log _place (numbered _number result.1.value) }
+    ensures value { IsEntry _seen.now.log (numbered _number result.1.value) }
     ensures one { OneValue _seen.now.log }
 {
     (
@@ -153,16 +156,29 @@ pub(crate) fn recalled<V, L: Law<V>, A: Allocator>(
 }
 
 /// What everyone knows of the number of an entry, and that a number has one value.
-pub(crate) fn known<V, L: Law<V>, A: Allocator>(
+pub(crate) fn known_by<V, L: Law<V>, A: Allocator>(
     seen: &Token<V, L>,
-    place: u64,
     number: u64,
 ) -> Standing<V, A>
-    requires there { (x : V) × Stands seen.now.log place (numbered number x) }
+    requires there { (p : ℕ) × (x : V) × Stands seen.now.log p (numbered number x) }
     ensures of { StandsAt (slab_of seen.now.names) number result }
-    ensures value { Stands seen.now.log place (numbered number result.written.value) }
+    ensures value { IsEntry seen.now.log (numbered number result.written.value) }
     ensures one { OneValue seen.now.log }
 {
-    let (site, written) = recalled(seen, place, number);
+    let (site, written) = recalled(seen, number);
     Standing { site, written }
+}
+
+/// What everyone knows of the number of the entry in this bucket, and that a number has one value.
+pub(crate) fn known<V, L: Law<V>, A: Allocator>(
+    seen: &Token<V, L>,
+    _place: u64,
+    number: u64,
+) -> Standing<V, A>
+    requires there { (x : V) × Stands seen.now.log _place (numbered number x) }
+    ensures of { StandsAt (slab_of seen.now.names) number result }
+    ensures value { Stands seen.now.log _place (numbered number result.written.value) }
+    ensures one { OneValue seen.now.log }
+{
+    known_by(seen, number)
 }

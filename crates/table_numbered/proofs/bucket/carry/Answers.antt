@@ -5,8 +5,8 @@ use Rattle.table_numbered.proofs.Marks.{alike_lawful}
 use Rattle.table_numbered.proofs.Steps.{publishes_moves}
 use Rattle.table_numbered.proofs.bucket.carry.Goals as goal
 
-pub compare_exchange-found-requires : goal.compare_exchange-found-requires
-compare_exchange-found-requires g c = let offer = c.carrying-offer.ensures in let pen = c.no_pen-pen.ensures in let x = c.args.standing.written.value in (
+pub compare_exchange-requires : goal.compare_exchange-requires
+compare_exchange-requires g c = let offer = c.carrying-offer.ensures in let pen = c.no_pen-pen.ensures in let x = c.args.standing.written.value in (
   c.requires.word.0,
   sym c.requires.word.1,
   pen.0 ∙ sym c.requires.word.1,

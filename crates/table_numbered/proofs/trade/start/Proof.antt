@@ -1,6 +1,5 @@
 -- Nothing is kept yet.
 use Rattle.std.proofs.Common.{◌≡◌, ℕ, List, [], ◌∷◌, refl, w64}
-use Rattle.std.specs.Prelude.{None}
 use mir.Syntax.{a_type, dcons, dnil, named}
 use mir.Val.{Val, vint, vptr}
 use mir.MapTy.{inst_fn}
@@ -25,7 +24,7 @@ use Rattle.std.proofs.raw_atomic.Walks.{proved, leaves}
 use Rattle.logbook.specs.contracts.tokens.Start as Start
 use Rattle.logbook.proofs.Fields.{token, Token, token_made}
 use Rattle.table_numbered.proofs.Trades.{Happening}
-use Rattle.table_numbered.specs.History.{event}
+use Rattle.table_numbered.specs.History.{opening}
 use Rattle.table_numbered.specs.contracts.event.Event as Events
 use Rattle.table_numbered.specs.contracts.event.Stored as Stores
 use Rattle.table_numbered.specs.contracts.event.Numbered as Numbers
@@ -45,7 +44,7 @@ start_spec 𝓤 𝓛 𝓜 𝓡 wired X N V L LX LN LV LL gn dn g d _ _ =
     let hs : Stays En.signature.params En.kept = (stay_dropped about yes, (stay_dropped number yes, tt)) in
     proved 𝓛 En hs c 𝓜 𝓡 (Goes-dropped 𝓛 5 about yes (λ κs x f. refl), (Goes-dropped 𝓛 5 number yes (λ κs x f. refl), tt)) (#self inst) fn (code.unfolded 𝓤 H 𝓜 𝓡 wired (X, (N, (V, (L, tt)))) dn d)
     (λ κs. (shr_vals, (uint_vals w64, tt))) (λ κs. (shr_Tells (named 0) κs.0 X', (uint_Tells w64, tt))) (λ κs qs bounds a gh are.
-    let names : List ℕ = gn.ids a.0.now in let n : ℕ = a.1.0 in let at : Val = vptr a.0.ref_ptr.0 a.0.ref_ptr.1 in let es : List (Happening V.Denot) = event n None ∷ [] in
+    let names : List ℕ = gn.ids a.0.now in let n : ℕ = a.1.0 in let at : Val = vptr a.0.ref_ptr.0 a.0.ref_ptr.1 in let es : List (Happening V.Denot) = opening n (gn.due a.0.now) ∷ [] in
     let y : (walk_of 𝓛 En hs c).Ghost = ((κs, qs, bounds, a, (at ∷ [], (vint w64 n ∷ [], tt))), gh) in let Post : Val → SProp 𝓤 = (walk_of 𝓛 En hs c).post y in
     qed 𝓛 ((raw (denote.Triple.Entry.alive 𝓛 En.signature κs qs) ⊛ ‵ (owns (types_at En.signature.params κs) a y.0.4)) ∷ raw ((c κs a).requires gh) ∷ []) ∵ split ! $ keep ! (0 ∷ []) $
     nothing ! $ nothing ! $ fjoin ! $ use0 𝓛 (‵ ((Token All).own_val (record {}, tt) (token ∷ []))) (token_made All 𝓛) $ fjoin ! $

@@ -1,8 +1,8 @@
-use Rattle.std.proofs.Common.{ℕ, refl, sym, ◌∙◌, subst}
+use Rattle.std.proofs.Common.{subst}
 use Rattle.table_slab.specs.Held.{StandsAt}
 use Rattle.table_slab.specs.Slabs.{SlabView}
 use Rattle.table_numbered.specs.Words.{numbered}
-use Rattle.table_numbered.proofs.Meetings.{low, named, mark_is}
+use Rattle.table_numbered.proofs.Meetings.{low, named, word_is}
 use Rattle.table_numbered.proofs.generation.Generation.load.Goals as goal
 
 pub number_of_word-number-requires : goal.number_of_word-number-requires
@@ -11,13 +11,9 @@ number_of_word-number-requires g c = low g.L.Law.same g.L.Law.hash_of c.args.ind
 pub known-standing-requires : goal.known-standing-requires
 known-standing-requires g c = record { there = named g.L.Law.same g.L.Law.hash_of c.args.index c.args.word c.args.seen.now.log c.requires.of.3 c.requires.says c.requires.set c.number_of_word-number.result c.number_of_word-number.ensures }
 
-pub get-requires : goal.get-requires
-get-requires g c = subst (λ (s : SlabView). StandsAt s c.number_of_word-number.result c.known-standing.result) (c.requires.of.1 ∙ sym c.requires.slab) c.known-standing.ensures.of
-
 pub returns-clause-load : goal.returns-clause-load
-returns-clause-load g c = let k = c.number_of_word-number.result in let there = c.known-standing.ensures.value in record {
-  number = c.requires.of.3.1.number c.args.index (numbered k c.known-standing.result.written.value) there;
+returns-clause-load g c = let k = c.number_of_word-number.result in let there = c.known-standing.ensures.value in let x = c.known-standing.result.written.value in record {
+  number = c.requires.of.3.1.number c.args.index (numbered k x) there;
   standing = subst (λ (s : SlabView). StandsAt s k c.known-standing.result) c.requires.of.1 c.known-standing.ensures.of;
-  mark = c.mark_of_word.ensures ∙ mark_is g.L.Law.same g.L.Law.hash_of c.args.index c.args.word c.args.seen.now.log c.requires.of.3 c.requires.says c.requires.set k c.known-standing.result.written.value there;
-  entry = c.get.ensures;
+  word = word_is g.L.Law.same g.L.Law.hash_of c.args.index c.args.word c.args.seen.now.log c.requires.of.3 c.requires.says c.requires.set k x there;
 }

@@ -1,4 +1,4 @@
-use Rattle.std.proofs.Common.{◌≡◌, ◌∷◌, ◌++◌, ◌∙◌, [], ℕ, List, length, refl, ap, sym, arith, inl, length-append, append_assoc, vec_capacity}
+use Rattle.std.proofs.Common.{◌≡◌, ◌∷◌, ◌++◌, ◌∙◌, [], List, length, refl, ap, sym, arith, inl, length-append, append_assoc, vec_capacity}
 use Rattle.std.proofs.lemmas.List.{append-nil}
 use base.Growing.{prefix_refl, prefix_trans}
 use Rattle.table_numbered.proofs.Endings.{taken_first, taken_none, taken_some, taken_out}
@@ -56,9 +56,9 @@ pub take_at-requires-clause-slab : goal.take_at-requires-clause-slab
 take_at-requires-clause-slab g c = c.loop-index.invariant.1.slab ∙ c.requires.slab
 
 pub returns-clause-full : goal.returns-clause-full
-returns-clause-full g c = λ p lt. c.loop-index.invariant.1.taken.full p (omega (arith, lt, c.loop-index-test.false, c.loop-index.auto.index-end, c.len-index-end.ensures, ap (λ x. x.of.size) c.self.view_is))
+returns-clause-full g c = λ p lt. c.loop-index.invariant.1.taken.full p (omega (arith, lt, c.loop-index-test.false, c.loop-index.auto.index-end, c.buckets-index-end.ensures.size))
 
 pub returns-clause-takes : goal.returns-clause-takes
 returns-clause-takes g c = let inv = c.loop-index.invariant in
     taken_out g.L.Law.same g.L.Law.hash_of c.args.self.now.of.size c.loop-index.index c.loop-index.seen.log c.args.room.items c.loop-index.room.items inv.0
-    (omega (arith, c.loop-index-test.false, c.loop-index.auto.index-end, c.len-index-end.ensures, ap (λ x. x.of.size) c.self.view_is)) inv.1.of.2 inv.1.of.3 inv.1.behind inv.1.taken
+    (omega (arith, c.loop-index-test.false, c.loop-index.auto.index-end, c.buckets-index-end.ensures.size)) inv.1.of.2 inv.1.of.3 inv.1.behind inv.1.taken

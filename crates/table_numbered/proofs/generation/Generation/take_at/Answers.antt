@@ -1,4 +1,4 @@
-use Rattle.std.proofs.Common.{ℕ, sym, ◌∙◌, subst, arith}
+use Rattle.std.proofs.Common.{sym, ◌∙◌, subst, arith}
 use Rattle.table_slab.specs.Held.{StandsAt}
 use Rattle.table_slab.specs.Slabs.{SlabView}
 use Rattle.table_numbered.specs.Words.{numbered, alike, marked}
