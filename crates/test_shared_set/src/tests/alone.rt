@@ -1,7 +1,5 @@
 //! One thread.
-use super::caller::{
-    Numbers, Told, assert_has, assert_none_out, assert_same, counted, insert,
-};
+use super::caller::{Numbers, Told, assert_has, assert_none_out, assert_same, counted, insert};
 use shared_set::SharedSet;
 use std::process::Abort;
 

@@ -10,7 +10,12 @@ use std::thread::{Threads, join};
 use testkit_refusing::Rule;
 
 /// How many numbers are in a set at the end, how far the threads' first numbers lie apart, and how many a set has room for.
-const SETS: [(u64, u64, usize); 4] = [(2000, 0, 0), (2000, 100, 0), (20_000, 5000, 0), (3000, 0, 3000)];
+const SETS: [(u64, u64, usize); 4] = [
+    (2000, 0, 0),
+    (2000, 100, 0),
+    (20_000, 5000, 0),
+    (3000, 0, 3000),
+];
 
 /// Inserts the numbers of a range. `None`: an answer was wrong.
 fn fill<'h>(

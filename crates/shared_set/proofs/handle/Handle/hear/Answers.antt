@@ -12,15 +12,15 @@ join-requires-clause-theirs g c =
     subst (λ (k : Cursor g.row.V.Denot g.row.L.Denot g.row.A.Denot). IsCursor g.L.Law.same g.L.Law.hash_of c.self.inside.set.now k) (sym c.again.ensures)
     (subst (λ (x : SharedView). IsCursor g.L.Law.same g.L.Law.hash_of x c.known.inside.cursor) one c.known.invariant)
 
-pub get-requires-clause-of : goal.get-requires-clause-of
-get-requires-clause-of g c = let t = c.join.new.cursor.stages in
+pub get-self-inside-requires-clause-of : goal.get-self-inside-requires-clause-of
+get-self-inside-requires-clause-of g c = let t = c.join.new.cursor.stages in
     seen_of_chain g.L.Law.same g.L.Law.hash_of c.self.inside.set.now c.set.inside.chain c.set.inside.slab c.set.view_is c.set.invariant.slots t.book t.names t.log c.join.ensures.at.seen
 
-pub get-requires-clause-there : goal.get-requires-clause-there
-get-requires-clause-there g c = let at = c.join.ensures.at in (at.stage, at.shown)
+pub get-self-inside-requires-clause-there : goal.get-self-inside-requires-clause-there
+get-self-inside-requires-clause-there g c = let at = c.join.ensures.at in (at.stage, at.shown)
 
 pub invariant_of-self : goal.invariant_of-self
-invariant_of-self g c = record { at = c.join.ensures.at; shown = c.get.ensures.there; supply = c.self.invariant.supply }
+invariant_of-self g c = record { at = c.join.ensures.at; shown = c.get-self-inside.ensures.there; supply = c.self.invariant.supply }
 
 pub returns-clause-known : goal.returns-clause-known
 returns-clause-known g c = subst (λ (x : KnownView g.row.V.Denot). KnowsMore x (known_view c.self.inside.set.now c.join.new.cursor.entries.log)) c.self.view_is (refl, c.join.ensures.mine)

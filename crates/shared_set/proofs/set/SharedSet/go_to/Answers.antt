@@ -20,12 +20,12 @@ loop-passed-preserved g c = let s = c.requires.shown in let new = c.step.new.cur
     c.step.ensures.at.seen.reached
     (chained.stands_on (Begins g.L.Law.same g.L.Law.hash_of) (GrowsInto g.L.Law.same g.L.Law.hash_of) c.args.cursor.now.stages.log new.stages.log c.args.slot s.0
     (prefix_trans c.args.cursor.now.stages.log c.loop-passed.cursor.stages.log new.stages.log i.longer c.step.ensures.longer) s.1) c.step.ensures.stepped in record {
-  at = c.step.ensures.at;
-  longer = prefix_trans c.args.cursor.now.stages.log c.loop-passed.cursor.stages.log new.stages.log i.longer c.step.ensures.longer;
-  keeps = keeps_trans c.args.cursor.now.entries.log c.loop-passed.cursor.entries.log new.entries.log i.keeps c.step.ensures.keeps;
-  slot = omega (arith, moved, i.slot);
-  within = inr (omega (arith, c.loop-passed-test.true));
-}
+      at = c.step.ensures.at;
+      longer = prefix_trans c.args.cursor.now.stages.log c.loop-passed.cursor.stages.log new.stages.log i.longer c.step.ensures.longer;
+      keeps = keeps_trans c.args.cursor.now.entries.log c.loop-passed.cursor.entries.log new.entries.log i.keeps c.step.ensures.keeps;
+      slot = omega (arith, moved, i.slot);
+      within = inr (omega (arith, c.loop-passed-test.true));
+    }
 
 pub loop-passed-init : goal.loop-passed-init
 loop-passed-init g c = record {

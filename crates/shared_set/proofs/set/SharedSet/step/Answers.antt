@@ -6,15 +6,15 @@ use Rattle.shared_set.proofs.Keeping.{seen_of_set, at_inside, at_longer, at_next
 use Rattle.shared_set.proofs.set.SharedSet.step.Goals as goal
 
 pub overflow_add-next : goal.overflow_add-next
-overflow_add-next g c = let k = c.args.cursor.now in 
+overflow_add-next g c = let k = c.args.cursor.now in
     let lt : k.slot < stages = at_inside g.L.Law.same g.L.Law.hash_of c.args.self.now k.slot k.stages.book k.stages.names k.stages.log k.entries.book k.entries.names k.entries.log c.requires.at in omega (arith, lt)
 
 pub returns-then-next-eq-STAGES-clause-stepped : goal.returns-then-next-eq-STAGES-clause-stepped
-returns-then-next-eq-STAGES-clause-stepped g c = let k = c.args.cursor.now in 
+returns-then-next-eq-STAGES-clause-stepped g c = let k = c.args.cursor.now in
     (refl, outside g.L.Law.same g.L.Law.hash_of stages (suc k.slot) k.stages.log c.requires.at.seen.size c.requires.at.seen.reached (omega (arith, c.if-next-eq-STAGES.true)))
 
 pub look-requires-clause-inside : goal.look-requires-clause-inside
-look-requires-clause-inside g c = let k = c.args.cursor.now in 
+look-requires-clause-inside g c = let k = c.args.cursor.now in
     let lt : k.slot < stages = at_inside g.L.Law.same g.L.Law.hash_of c.args.self.now k.slot k.stages.book k.stages.names k.stages.log k.entries.book k.entries.names k.entries.log c.requires.at in
     omega (arith, lt, c.self.invariant.slots, c.if-next-eq-STAGES.false)
 
