@@ -84,10 +84,7 @@ impl<V, L: SetLaw<V>, A: Low + Copy> SharedSet<V, L, A> {
         ensures { IfSome result (λ s. GrowsInto L.same L.hash_of stage.now s) }
     {
         let mut before = entries;
-        match stage
-            .generation()
-            .grown(self.alloc, &self.slab, &mut before)
-        {
+        match stage.generation().grown(self.alloc, &mut before) {
             Ok(generation) => Some(Stage { generation, before }),
             Err(_) => None,
         }

@@ -91,7 +91,7 @@ impl<V: Drop, L: SetLaw<V>, A: Low + Copy> Generation<V, L, A> {
         ensures of { IsOf L.same L.hash_of self.of seen.new.book seen.new.names seen.new.log }
         ensures longer { IsPrefix seen.old.log seen.new.log }
     {
-        for index in 0..self.words.len() {
+        for index in 0..self.buckets() {
             drop(self.take_at(slab, seen, index));
         }
     }
