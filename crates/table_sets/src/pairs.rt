@@ -2,10 +2,9 @@
 ghost use Rattle.std.specs.Prelude.{◌≡◌};
 ghost use Rattle.table_sets.specs.Pairs.{mixed_hash};
 
-use crate::law::SetLaw;
 use std::marker::PhantomData;
 use table_held::Law;
-use table_terms::law::hash_number;
+use table_terms::law::{SetLaw, hash_number};
 
 /// Two pairs are the same if their first parts are under `L` and their second parts under `M`. A hash mixes those of both.
 pub struct PairsOf<L, M> {

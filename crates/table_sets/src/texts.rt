@@ -2,10 +2,9 @@
 ghost use Rattle.std.specs.Prelude.{◌≡◌};
 ghost use Rattle.table_sets.specs.Texts.{text_hash};
 
-use crate::law::{KeyLaw, SetLaw};
 use std::alloc::Allocator;
 use table_held::Law;
-use table_terms::law::{MIXING_FACTOR, hash_number};
+use table_terms::law::{KeyLaw, MIXING_FACTOR, SetLaw, hash_number};
 
 /// Texts are the same if their bytes are, and a text is looked up by a `&str` too.
 pub struct TextLaw;

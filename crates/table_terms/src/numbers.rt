@@ -1,8 +1,7 @@
 //! Numbers under the law that each is the same as itself alone.
 
-use crate::law::SetLaw;
+use crate::law::{NumberLaw, SetLaw, hash_number};
 use std::num::{NonZeroU32, NonZeroU64};
-use table_terms::law::{NumberLaw, hash_number};
 
 impl SetLaw<u16> for NumberLaw {
     fn is_same(one: &u16, other: &u16) -> bool {
