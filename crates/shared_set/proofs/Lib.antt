@@ -3,3 +3,4 @@ mod Keeping
 mod Moving
 mod Supplying
 mod Sizes
+pub mod Placing
