@@ -372,7 +372,7 @@ impl<'a, 'm> Replay<'a, 'm> {
 
 /// How many buckets all generations of a table have: each has twice as many as the one before.
 pub(crate) fn buckets(table: &Table<'_>, first: u64) -> u64 {
-    match table.current() {
+    match table.current(&mut table.note()) {
         Some(current) => (current.generation.capacity() as u64)
             .saturating_mul(2)
             .saturating_sub(first),

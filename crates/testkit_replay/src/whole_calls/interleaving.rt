@@ -264,7 +264,8 @@ impl<'s> Rehearsal<'s> {
             Then::GoesOn,
         )?;
         // The first generation is requested before the block.
-        self.part_mut(actor).passes_request = replay.ground.table.current().is_none();
+        let table = &replay.ground.table;
+        self.part_mut(actor).passes_request = table.current(&mut table.note()).is_none();
         replay.begin(ask)
     }
 

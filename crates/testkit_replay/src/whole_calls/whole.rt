@@ -124,7 +124,7 @@ impl<'w, 'n, 'm> Scene<'w, 'n, 'm> {
 
 /// Whether a table stays its generation with one more entry, and another one after it.
 fn has_room(table: &Table<'_>) -> bool {
-    match table.current() {
+    match table.current(&mut table.note()) {
         Some(current) => table.len().saturating_add(1) < current.generation.capacity() / 2,
         None => false,
     }
