@@ -1,0 +1,6 @@
+mod Courses
+mod Keeping
+mod Moving
+mod Supplying
+mod Sizes
+pub mod Placing

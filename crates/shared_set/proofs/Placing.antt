@@ -1,0 +1,43 @@
+-- What an insert answers, as its caller says it.
+use Rattle.std.proofs.Common.{◌≡◌, ℕ, Bool, subst, ◌∙◌}
+use mathlib.Core.List.{IsPrefix}
+use Rattle.table_numbered.specs.declared.event.Numbered.{Numbered}
+use Rattle.table_numbered.specs.History.{History}
+use Rattle.table_numbered.specs.Generations as generation
+use Rattle.shared_set.specs.declared.insert.Attempt.{Attempt}
+use Rattle.shared_set.specs.declared.insert.Attempt.TheVariants as attempt
+use Rattle.shared_set.specs.declared.insert.Inserted.{Inserted}
+use Rattle.shared_set.specs.declared.insert.Inserted.TheVariants as inserted
+use Rattle.shared_set.specs.Known.{Keeps}
+use Rattle.shared_set.specs.Inserting.{IsPlaced, Inserts, Attempts}
+use Rattle.shared_set.proofs.Keeping.{keeps_trans, keeps_longer}
+
+module _ {V : Type 0} (same : V → V → Bool) where
+  -- what was known before is kept to what was known at the insert
+  pub placed_after : (k : ℕ) (v : V) (old mid new : History (Numbered V)) → Keeps old mid → IsPlaced same k v mid new → IsPlaced same k v old new
+  placed_after k v old mid new kept it = record {
+    place = it.place;
+    before = it.before;
+    keeps = keeps_trans old mid it.before kept it.keeps;
+    none = it.none;
+    then = it.then;
+  }
+
+  -- what a generation says that was placed
+  pub placed_here : (hash : V → ℕ) (k : ℕ) (v : V) (old new : History (Numbered V)) → generation.IsPlaced same hash k v old new → IsPlaced same k v old new
+  placed_here hash k v old new it = record {
+    place = it.place;
+    before = it.before;
+    keeps = keeps_longer old it.before it.known;
+    none = it.none;
+    then = it.then;
+  }
+
+  pub inserts_after : (r : Inserted V) (v w : V) (old mid new : History (Numbered V)) → w ≡ v → Keeps old mid → Inserts same w mid new r → Inserts same v old new r
+  inserts_after (inserted.Placed k e) v w old mid new is kept told = (told.0 ∙ is, subst (λ (x : V). IsPlaced same k x old new) is (placed_after k w old mid new kept told.1))
+  inserts_after (inserted.Found k e back) v w old mid new is kept told = subst (λ (x : V). Inserts same x old new (inserted.Found k e back)) is told
+  inserts_after (inserted.Refused back) v w old mid new is kept told = subst (λ (x : V). Inserts same x old new (inserted.Refused back)) is told
+
+  pub attempts_after : (r : Attempt V) (v w : V) (old mid new : History (Numbered V)) → w ≡ v → Keeps old mid → Attempts same w mid new r → Attempts same v old new r
+  attempts_after (attempt.Done it) v w old mid new is kept told = inserts_after it v w old mid new is kept told
+  attempts_after (attempt.Full back) v w old mid new is kept told = subst (λ (x : V). Attempts same x old new (attempt.Full back)) is told

@@ -1,0 +1,17 @@
+-- The numbers that a handle has are of its slab.
+use Rattle.std.proofs.Common.{◌≡◌, ℕ, ◌<◌, ◌≤◌, arith}
+use Rattle.std.specs.Prelude.{Option, Some, None, Result, Ok, Err, IfSome, IfOk}
+use Rattle.table_slab.specs.Held.{IsRightTo}
+use Rattle.table_slab.specs.Numbering.{IsSmall}
+use Rattle.table_slab.specs.Runs.{IsRunOf}
+use Rattle.table_slab.specs.Slabs.{SlabView}
+use Rattle.table_slab.specs.declared.run.Run.{Run}
+use Rattle.table_slab.specs.declared.slab.Right.{Right}
+use Rattle.shared_set.specs.Supplies.{IsVacant}
+
+module _ {V A : Type 0} (s : SlabView) where
+  -- what a run hands out is the right to an empty slot
+  pub vacant : (run : Run V A) (r : Option (ℕ × Right V A)) → IsRunOf s run
+      → IfSome r (λ x. (t : SlabView) → IsRunOf t run → IsRightTo t x.0 x.1) → IfSome r (λ x. IsSmall x.0) → IfSome r (λ x. x.1.room.value ≡ None) → IfSome r (IsVacant s)
+  vacant run None of number small empty = tt
+  vacant run (Some x) of number small empty = record { right = number s of; small = small; empty = empty }

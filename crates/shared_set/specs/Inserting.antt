@@ -1,0 +1,32 @@
+-- What an insert answers.
+use Rattle.std.specs.Prelude.{◌≡◌, ℕ, ◌++◌, Bool, [], ◌∷◌, Some}
+use Rattle.table_numbered.specs.Words.{numbered, of_value}
+use Rattle.table_numbered.specs.History.{History, event, IsEntry, NonePasses}
+use Rattle.table_numbered.specs.Generations.{Passes}
+use Rattle.table_numbered.specs.declared.event.Numbered.{Numbered}
+use Rattle.table_numbered.specs.declared.event.Stored.TheVariants.{Entry}
+use Rattle.shared_set.specs.declared.insert.Attempt.{Attempt}
+use Rattle.shared_set.specs.declared.insert.Attempt.TheVariants as attempt
+use Rattle.shared_set.specs.declared.insert.Inserted.{Inserted}
+use Rattle.shared_set.specs.declared.insert.Inserted.TheVariants as inserted
+use Rattle.shared_set.specs.Known.{Keeps}
+
+module _ {V : Type 0} (same : V → V → Bool) where
+  -- v is placed with the number k in a history that has each entry that was known, and none of its entries is the same
+  pub record IsPlaced (k : ℕ) (v : V) (old new : History (Numbered V)) : Type 0 where
+    pub place : ℕ
+    pub before : History (Numbered V)
+    pub keeps : Keeps old before
+    pub none : NonePasses (of_value (same v)) (IsEntry before)
+    pub then : new ≡ before ++ event place (Some (Entry (numbered k v))) ∷ []
+
+  -- what an insert of v answers, by the histories that its caller knew before and knows after
+  abbrev pub Inserts : V → History (Numbered V) → History (Numbered V) → Inserted V → Type 0
+  Inserts v old new (inserted.Placed k e) = (e.now ≡ v) × IsPlaced k v old new
+  Inserts v old new (inserted.Found k e back) = (back ≡ v) × Passes (same v) (IsEntry new) k e.now
+  Inserts v old new (inserted.Refused back) = (back ≡ v) × NonePasses (of_value (same v)) (IsEntry new)
+
+  -- the same of an attempt in one generation
+  abbrev pub Attempts : V → History (Numbered V) → History (Numbered V) → Attempt V → Type 0
+  Attempts v old new (attempt.Done it) = Inserts v old new it
+  Attempts v old new (attempt.Full back) = (back ≡ v) × NonePasses (of_value (same v)) (IsEntry new)

@@ -1,0 +1,4 @@
+pub mod Stages
+pub mod Known
+pub mod Supplies
+pub mod Inserting

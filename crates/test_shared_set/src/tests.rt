@@ -1,0 +1,4 @@
+mod alone;
+mod caller;
+mod memory;
+mod threads;
