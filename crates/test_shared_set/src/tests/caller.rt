@@ -1,18 +1,20 @@
 //! Sets of numbers in memory that counts.
+ghost use Rattle.std.specs.Prelude.{◌≡◌};
 ghost use Rattle.table_terms.specs.Laws.{same_by_number, hash_by_number, number_lawful};
 
-use shared_set::{Handle, Inserted, SetLaw, SharedSet};
-use std::alloc::Global;
+use shared_set::{Handle, Inserted, Known, SetLaw, SharedSet};
+use std::alloc::{AllocError, Global};
 use std::fmt::Debug;
 use std::process::Abort;
 use table_cell::Low;
 use table_terms::law::{Law, hash_number};
+use testkit_counting::numbers::Told;
 use testkit_refusing::{Refusing, Rule};
 
 /// The law of numbers.
-pub(crate) struct ByNumber;
+pub(crate) struct NumberLaw;
 
-impl Law<u64> for ByNumber {
+impl Law<u64> for NumberLaw {
     ghost use Rattle.table_terms.specs.Laws.{same_by_number, hash_by_number, number_lawful};
 
     ghost same = { same_by_number (λ n. n) };
@@ -22,7 +24,7 @@ impl Law<u64> for ByNumber {
     ghost lawful = { number_lawful (λ n. n) };
 }
 
-impl SetLaw<u64> for ByNumber {
+impl SetLaw<u64> for NumberLaw {
     fn is_same(one: &u64, other: &u64) -> bool {
         *one == *other
     }
@@ -35,23 +37,13 @@ impl SetLaw<u64> for ByNumber {
 pub(crate) type Heap = Refusing<Global>;
 
 /// A set of numbers.
-pub(crate) type Numbers<'h> = SharedSet<u64, ByNumber, &'h Heap>;
+pub(crate) type Numbers<'h> = SharedSet<u64, NumberLaw, &'h Heap>;
 
 /// A handle of such a set.
-pub(crate) type Numbering<'s, 'h> = Handle<'s, u64, ByNumber, &'h Heap>;
+pub(crate) type Numbering<'s, 'h> = Handle<'s, u64, NumberLaw, &'h Heap>;
 
-/// How an insert of a number ended.
-#[derive(Clone, Copy, Debug, PartialEq, Eq)]
-pub(crate) enum Told {
-    /// It is a new entry.
-    Placed,
-    /// It was an entry before, and it was returned.
-    Found,
-    /// It was returned.
-    Refused,
-    /// Another number was shown or returned.
-    Wrong,
-}
+/// What is known of such a set.
+pub(crate) type Knows<'h> = Known<u64, NumberLaw, &'h Heap>;
 
 /// Asserts that both are equal.
 pub(crate) fn assert_same<X: PartialEq + Debug + Drop>(rt: &impl Abort, got: X, expected: X) {
@@ -69,7 +61,7 @@ pub(crate) fn assert_none_out(rt: &impl Abort, heap: &Heap) {
 }
 
 /// Returns how an insert of this number ended, with the entry's number.
-fn told_of(ended: Inserted<'_, u64>, value: u64) -> (Told, Option<u64>) {
+pub(crate) fn told_of(ended: Inserted<'_, u64>, value: u64) -> (Told, Option<u64>) {
     match ended {
         Inserted::Placed(number, entry) if *entry == value => (Told::Placed, Some(number)),
         Inserted::Found(number, entry, back) if *entry == value && back == value => {
@@ -82,9 +74,11 @@ fn told_of(ended: Inserted<'_, u64>, value: u64) -> (Told, Option<u64>) {
 
 /// Inserts a number.
 pub(crate) fn insert<A: Low + Copy>(
-    handle: &mut Handle<'_, u64, ByNumber, A>,
+    handle: &mut Handle<'_, u64, NumberLaw, A>,
     value: u64,
-) -> (Told, Option<u64>) {
+) -> (Told, Option<u64>)
+    ensures { handle.new.of ≡ handle.old.of }
+{
     let ended = handle.insert(value);
     told_of(ended, value)
 }
@@ -92,11 +86,32 @@ pub(crate) fn insert<A: Low + Copy>(
 /// Asserts that the handle finds each number below this one, and not this one.
 pub(crate) fn assert_has<A: Low + Copy>(
     rt: &impl Abort,
-    handle: &mut Handle<'_, u64, ByNumber, A>,
+    handle: &mut Handle<'_, u64, NumberLaw, A>,
     end: u64,
 ) {
     for value in 0..end {
         assert_same(rt, handle.get(&value), Some(&value));
     }
     assert_same(rt, handle.get(&end), None);
+}
+
+/// Ends the set, and returns its values in order.
+pub(crate) fn values_of(set: Numbers<'_>, alloc: Global) -> Result<Vec<u64>, AllocError> {
+    let Ok(ended) = set.into_values() else {
+        return Err(AllocError);
+    };
+    let mut values = Vec::new(alloc);
+    for value in ended {
+        values.push(value)?;
+    }
+    values.sort_unstable();
+    Ok(values)
+}
+
+/// Asserts that these are the numbers below this one, in order.
+pub(crate) fn assert_are_below(rt: &impl Abort, values: &[u64], end: u64) {
+    assert_same(rt, values.len() as u64, end);
+    for (at, value) in values.iter().enumerate() {
+        assert_same(rt, *value, at as u64);
+    }
 }
