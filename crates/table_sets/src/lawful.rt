@@ -5,12 +5,12 @@ ghost use Rattle.table_held.specs.Table.{IsLawful, IsCounted, entries, entry_at}
 ghost use Rattle.table_sets.specs.Placing.{PlacesByLaw, ShowsByLaw};
 
 use crate::inserted::Shown;
-use crate::law::SetLaw;
 use crate::placing::place_by_law;
 use std::alloc::Allocator;
 use std::marker::{Model, PhantomData};
 use table_held::alone::Told;
 use table_held::{AtomicValue, HeldRawTable, Place};
+use table_terms::law::SetLaw;
 
 /// A raw table that is lawful by `L`: each entry can be found by its hash, and no two entries are equal. A contract sees the
 /// whole table.

@@ -1,8 +1,8 @@
 //! Theorems about sets, each the contract of a function that does nothing: calling it makes its clauses known.
 ghost use Rattle.table_sets.specs.Again.{InsertsLater, FindsAgain};
 
-use crate::law::SetLaw;
 use table_held::AtomicValue;
+use table_terms::law::SetLaw;
 
 /// States that an inserted value is found again.
 ///

@@ -6,19 +6,16 @@
 #![tactic(auto)]
 
 pub mod inserted;
-pub mod law;
 mod lawful;
 pub mod laws;
-mod numbers;
 pub mod pairs;
 mod placing;
 pub mod set;
 pub mod texts;
 
 pub use inserted::{Inserted, Shown};
-pub use law::{KeyLaw, SetLaw};
 pub use pairs::PairsOf;
 pub use set::HeldSet;
 pub use table_held::{AtomicValue, HeldIter, InPlace, IntoIter, Law, is_first_capacity};
-pub use table_terms::law::NumberLaw;
+pub use table_terms::law::{KeyLaw, NumberLaw, SetLaw};
 pub use texts::TextLaw;

@@ -2,10 +2,9 @@
 ghost use Rattle.std.specs.Prelude.{◌≡◌};
 ghost use Rattle.table_sets.specs.Pairs.{mixed_hash};
 
-use crate::law::SetLaw;
 use std::marker::PhantomData;
 use table_held::Law;
-use table_terms::law::hash_number;
+use table_terms::law::{SetLaw, hash_number};
 
 /// The law of pairs whose first parts are compared by `L` and whose second parts by `M`. Two pairs are equal if both parts are.
 /// The hash of a pair mixes the hashes of both parts.

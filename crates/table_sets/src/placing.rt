@@ -2,9 +2,9 @@
 ghost use Rattle.table_held.specs.Table.{IsLawful, IsCounted};
 ghost use Rattle.table_sets.specs.Placing.{PlacesByLaw};
 
-use crate::law::SetLaw;
 use std::alloc::Allocator;
 use table_held::{AtomicValue, HeldRawTable, Place};
+use table_terms::law::SetLaw;
 
 /// Inserts the value unless an entry is equal by `L`, and returns the place of the entry. A refused value is returned, and the
 /// entries are unchanged.

@@ -5,11 +5,11 @@ ghost use Rattle.table_terms.specs.Capacities.{IsFirstCapacity};
 ghost use Rattle.table_sets.specs.Sets.{AllApart, Inserts, InsertLeaves, InsertShows, Finds, OnePasses, NonePasses};
 
 use crate::inserted::{Inserted, Shown};
-use crate::law::{KeyLaw, SetLaw};
 use crate::lawful::LawfulTable;
 use std::alloc::{Allocator, Global};
 use std::marker::Model;
 use table_held::{AtomicValue, HeldIter, HeldRawTable, IntoIter};
+use table_terms::law::{KeyLaw, SetLaw};
 
 /// An insertion-only set with one owner, in which no two values are equal under the law `L`. It takes no lock and never waits.
 ///

@@ -2,10 +2,9 @@
 ghost use Rattle.std.specs.Prelude.{◌≡◌};
 ghost use Rattle.table_sets.specs.Texts.{text_hash};
 
-use crate::law::{KeyLaw, SetLaw};
 use std::alloc::Allocator;
 use table_held::Law;
-use table_terms::law::{MIXING_FACTOR, hash_number};
+use table_terms::law::{KeyLaw, MIXING_FACTOR, SetLaw, hash_number};
 
 /// The law of texts: two texts are equal if their bytes are. A `String` can also be looked up with a `&str`.
 pub struct TextLaw;

@@ -1,8 +1,7 @@
 //! Integers as targets of sets: a number is equal only to itself.
 
-use crate::law::SetLaw;
+use crate::law::{NumberLaw, SetLaw, hash_number};
 use std::num::{NonZeroU32, NonZeroU64};
-use table_terms::law::{NumberLaw, hash_number};
 
 impl SetLaw<u16> for NumberLaw {
     fn is_same(one: &u16, other: &u16) -> bool {
