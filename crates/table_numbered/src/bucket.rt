@@ -8,11 +8,11 @@ ghost use Rattle.table_numbered.specs.History.{Has, Stands, IsInside, size_of, F
 ghost use Rattle.table_numbered.specs.Generations.{IsWord};
 ghost use Rattle.table_numbered.specs.declared.event.Stored.TheVariants.{Entry, Closed};
 
-use crate::law::SetLaw;
 use crate::rule::{Bucket, Look, Nothing, Publish, Token};
 use crate::trade::{Carrying, Publishing, Trade, carrying, closing, publishing, returned};
 use std::alloc::Allocator;
 use table_slab::{Right, Standing};
+use table_terms::law::SetLaw;
 
 /// What comes back from a bucket that was set before.
 #[derive(Drop)]

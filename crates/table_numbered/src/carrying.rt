@@ -7,7 +7,6 @@ ghost use Rattle.table_numbered.specs.Generations.{IsKnown};
 ghost use Rattle.table_numbered.specs.Carrying.{IsLoad, IsOwed, Treads, entry_of};
 
 use crate::bucket::carry;
-use crate::law::SetLaw;
 use crate::row::Row;
 use crate::rule::Token;
 use crate::trade::known;
@@ -15,6 +14,7 @@ use crate::word::{first_bucket, mark_of_word};
 use std::alloc::Allocator;
 use table_cell::Low;
 use table_slab::Standing;
+use table_terms::law::SetLaw;
 use table_terms::probe::next_bucket;
 
 /// An entry on its way from one row to the next, by its word. It stays where it lies.

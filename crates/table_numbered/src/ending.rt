@@ -8,12 +8,12 @@ ghost use Rattle.table_slab.specs.Endings.{IsLeft};
 ghost use Rattle.table_numbered.specs.Ending.{AreLeft, TakesOut};
 
 use crate::generation::Generation;
-use crate::law::SetLaw;
 use crate::rule::Token;
 use crate::trade::known;
 use crate::word::number_of_word;
 use table_cell::Low;
 use table_slab::Ending;
+use table_terms::law::SetLaw;
 
 impl<V: Drop, L: SetLaw<V>, A: Low + Copy> Generation<V, L, A> {
     /// Closes the bucket, and takes the value of its entry out of the slab, if it has one.

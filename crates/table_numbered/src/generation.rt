@@ -8,7 +8,6 @@ ghost use Rattle.table_numbered.specs.Generations.{IsOf};
 ghost use Rattle.table_numbered.specs.declared.event.Stored.TheVariants.{Closed};
 
 use crate::bucket::{close, look};
-use crate::law::SetLaw;
 use crate::row::Row;
 use crate::rule::Token;
 use crate::trade::{known, known_by};
@@ -16,6 +15,7 @@ use std::alloc::{AllocError, Allocator};
 use std::marker::Model;
 use table_cell::Low;
 use table_slab::Slab;
+use table_terms::law::SetLaw;
 
 /// A fixed number of buckets, each of which is set once by any thread: to the number of an entry, which lies in the slab that is
 /// handed to each call.

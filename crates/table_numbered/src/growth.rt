@@ -9,13 +9,13 @@ ghost use Rattle.table_numbered.specs.declared.growth.Refused.TheVariants.{Bucke
 
 use crate::carrying::Load;
 use crate::generation::Generation;
-use crate::law::SetLaw;
 use crate::row::Row;
 use crate::rule::Token;
 use crate::trade::known;
 use crate::word::number_of_word;
 use std::alloc::Allocator;
 use table_cell::Low;
+use table_terms::law::SetLaw;
 
 /// Why there is no next generation. Nothing is closed.
 #[derive(Debug, PartialEq, Eq, Drop)]

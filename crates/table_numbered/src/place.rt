@@ -8,13 +8,13 @@ ghost use Rattle.table_numbered.specs.Generations.{IsOf, IsComing, Claims, Inser
 
 use crate::bucket::{Lost, publish};
 use crate::generation::Generation;
-use crate::law::SetLaw;
 use crate::rule::Token;
 use crate::trade::known;
 use crate::word::{first_bucket, mark_of_hash, mark_of_word, number_of_word, word_of_entry};
 use std::alloc::Allocator;
 use table_cell::Low;
 use table_slab::{Right, Slab};
+use table_terms::law::SetLaw;
 use table_terms::probe::next_bucket;
 
 /// How an insert ended.

@@ -6,12 +6,12 @@ ghost use Rattle.table_numbered.specs.History.{IsEntry};
 ghost use Rattle.table_numbered.specs.Generations.{IsOf, Meets, Finds, Judges, Ends};
 
 use crate::generation::Generation;
-use crate::law::SetLaw;
 use crate::rule::Token;
 use crate::sought::Sought;
 use crate::word::{first_bucket, mark_of_hash, mark_of_word, number_of_word};
 use table_cell::Low;
 use table_slab::Slab;
+use table_terms::law::SetLaw;
 use table_terms::probe::next_bucket;
 
 /// What a probe meets in one bucket.

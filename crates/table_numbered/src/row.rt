@@ -6,7 +6,6 @@ ghost use Rattle.table_numbered.specs.History.{event, opening};
 ghost use Rattle.table_numbered.specs.Generations.{IsWord, AreWords, IsKnown};
 ghost use Rattle.table_numbered.specs.Carrying.{due_after};
 
-use crate::law::SetLaw;
 use crate::rule::{Bucket, SetRule, Token};
 use crate::trade::{Begins, start};
 use logbook::{Pens, Word};
@@ -14,6 +13,7 @@ use std::alloc::Allocator;
 use std::marker::{Model, PhantomData};
 use table_cell::Low;
 use table_slab::Slab;
+use table_terms::law::SetLaw;
 
 /// A row of buckets. Entries may be due in it.
 #[derive(Drop)]

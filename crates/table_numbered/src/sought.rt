@@ -2,7 +2,7 @@
 ghost use Rattle.std.specs.Prelude.{◌≡◌, ℕ, Bool, true};
 ghost use Rattle.std.proofs.Common.{sym};
 
-use crate::law::{KeyLaw, SetLaw};
+use table_terms::law::{KeyLaw, SetLaw};
 
 /// What a look-up looks for: a hash, and a test that no entry of another hash passes.
 pub trait Sought<V, L: SetLaw<V>> {

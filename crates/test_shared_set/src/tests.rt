@@ -1,6 +1,7 @@
 mod alone;
 mod caller;
 mod drops;
+mod keys;
 mod memory;
 mod runs;
 mod telling;

@@ -9,9 +9,9 @@ use std::test::Fail;
 use testkit_counting::numbers::Told;
 
 /// For how many entries a set has room at first, and how many numbers are placed.
-const SETS: [(usize, u64); 5] = [(0, 100_000), (0, 1), (1, 3000), (16, 3000), (3000, 3000)];
+const SETS: [(usize, u64); 5] = [(0, 20_000), (0, 1), (1, 1000), (16, 1000), (1000, 1000)];
 
-/// The most requests that a hundred thousand entries may cost. Each doubling of the slots and of the buckets costs some, and an
+/// The most requests that twenty thousand entries may cost. Each doubling of the slots and of the buckets costs some, and an
 /// entry costs none.
 const FEW: u64 = 100;
 
@@ -87,7 +87,7 @@ fn a_set_is_called_without_a_handle(rt: HostRuntime) -> Result<(), Fail> {
 const STEPS: [u64; 4] = [1, 1 << 8, 1 << 16, 1 << 40];
 
 /// How many multiples there are, from 0 on.
-const MULTIPLES: u64 = 20_000;
+const MULTIPLES: u64 = 10_000;
 
 /// Inserts the multiples of the step, and counts those that are placed, and those that are found then.
 fn fill_by_steps(handle: &mut Numbering<'_, '_>, step: u64) -> (u64, u64) {

@@ -1,38 +1,14 @@
 //! Sets of numbers in memory that counts.
 ghost use Rattle.std.specs.Prelude.{◌≡◌};
-ghost use Rattle.table_terms.specs.Laws.{same_by_number, hash_by_number, number_lawful};
 
-use shared_set::{Handle, Inserted, Known, SetLaw, SharedSet};
+use shared_set::{Handle, Inserted, Known, SharedSet};
 use std::alloc::{AllocError, Global};
 use std::fmt::Debug;
 use std::process::Abort;
 use table_cell::Low;
-use table_terms::law::{Law, hash_number};
+use table_terms::law::NumberLaw;
 use testkit_counting::numbers::Told;
 use testkit_refusing::{Refusing, Rule};
-
-/// The law of numbers.
-pub(crate) struct NumberLaw;
-
-impl Law<u64> for NumberLaw {
-    ghost use Rattle.table_terms.specs.Laws.{same_by_number, hash_by_number, number_lawful};
-
-    ghost same = { same_by_number (λ n. n) };
-
-    ghost hash_of = { hash_by_number (λ n. n) };
-
-    ghost lawful = { number_lawful (λ n. n) };
-}
-
-impl SetLaw<u64> for NumberLaw {
-    fn is_same(one: &u64, other: &u64) -> bool {
-        *one == *other
-    }
-
-    fn hash(target: &u64) -> u64 {
-        hash_number(*target)
-    }
-}
 
 pub(crate) type Heap = Refusing<Global>;
 
