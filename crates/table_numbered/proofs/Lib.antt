@@ -16,3 +16,4 @@ mod Prefixes
 mod Picks
 mod Owed
 mod Known
+mod Walked
