@@ -4,3 +4,4 @@ mod Moving
 mod Supplying
 mod Sizes
 pub mod Placing
+mod Walking

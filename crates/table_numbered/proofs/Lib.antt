@@ -7,7 +7,7 @@ pub mod Histories
 mod Rows
 mod Steps
 mod Probes
-mod Apart
+pub mod Apart
 mod Laid
 mod Meetings
 mod Carried
