@@ -1,15 +1,18 @@
 -- What an insert answers, as its caller says it.
-use Rattle.std.proofs.Common.{◌≡◌, ℕ, Bool, subst, ◌∙◌}
-use mathlib.Core.List.{IsPrefix}
+use Rattle.std.proofs.Common.{◌≡◌, ℕ, Bool, subst, sym, ◌∙◌, inl, inr}
+use Rattle.table_numbered.specs.Words.{mark_of, of_value}
 use Rattle.table_numbered.specs.declared.event.Numbered.{Numbered}
-use Rattle.table_numbered.specs.History.{History}
+use Rattle.table_numbered.specs.declared.probe.Judged.TheVariants as judged
+use Rattle.table_numbered.specs.History.{History, HasSize, IsEntry, NonePasses}
+use Rattle.table_numbered.specs.Generations.{HasRoom, IsSpent}
 use Rattle.table_numbered.specs.Generations as generation
+use Rattle.table_numbered.proofs.Histories.{size_is}
 use Rattle.shared_set.specs.declared.insert.Attempt.{Attempt}
 use Rattle.shared_set.specs.declared.insert.Attempt.TheVariants as attempt
 use Rattle.shared_set.specs.declared.insert.Inserted.{Inserted}
 use Rattle.shared_set.specs.declared.insert.Inserted.TheVariants as inserted
 use Rattle.shared_set.specs.Known.{Keeps}
-use Rattle.shared_set.specs.Inserting.{IsPlaced, Inserts, Attempts}
+use Rattle.shared_set.specs.Inserting.{IsPlaced, HasBucket, HasNoBucket, Inserts, Attempts}
 use Rattle.shared_set.proofs.Keeping.{keeps_trans, keeps_longer}
 
 module _ {V : Type 0} (same : V → V → Bool) where
@@ -33,11 +36,20 @@ module _ {V : Type 0} (same : V → V → Bool) where
     then = it.then;
   }
 
-  pub inserts_after : (r : Inserted V) (v w : V) (old mid new : History (Numbered V)) → w ≡ v → Keeps old mid → Inserts same w mid new r → Inserts same v old new r
-  inserts_after (inserted.Placed k e) v w old mid new is kept told = (told.0 ∙ is, subst (λ (x : V). IsPlaced same k x old new) is (placed_after k w old mid new kept told.1))
-  inserts_after (inserted.Found k e back) v w old mid new is kept told = subst (λ (x : V). Inserts same x old new (inserted.Found k e back)) is told
-  inserts_after (inserted.Refused back) v w old mid new is kept told = subst (λ (x : V). Inserts same x old new (inserted.Refused back)) is told
+module _ {V : Type 0} (same : V → V → Bool) (hash : V → ℕ) where
+  -- a probe of as many buckets as the history has
+  pub bucket_in : (n : ℕ) (v : V) (log : History (Numbered V)) → HasSize n log → HasRoom (same v) n (mark_of (hash v)) log → HasBucket same hash v log
+  bucket_in n v log size it = subst (λ (m : ℕ). HasRoom (same v) m (mark_of (hash v)) log) (sym (size_is n log size)) it
 
-  pub attempts_after : (r : Attempt V) (v w : V) (old mid new : History (Numbered V)) → w ≡ v → Keeps old mid → Attempts same w mid new r → Attempts same v old new r
+  pub no_bucket_in : (n : ℕ) (v : V) (log : History (Numbered V)) → HasSize n log → IsSpent (same v) n (mark_of (hash v)) log → HasNoBucket same hash v log
+  no_bucket_in n v log size it = subst (λ (m : ℕ). IsSpent (same v) m (mark_of (hash v)) log) (sym (size_is n log size)) it
+
+  -- what an insert answers of a value that is the same one, by what was known before
+  pub inserts_after : (r : Inserted V) (v w : V) (old mid new : History (Numbered V)) → w ≡ v → Keeps old mid → Inserts same hash w mid new r → Inserts same hash v old new r
+  inserts_after (inserted.Placed k e) v w old mid new is kept told = (told.0 ∙ is, subst (λ (x : V). IsPlaced same k x old new) is (placed_after same k w old mid new kept told.1))
+  inserts_after (inserted.Found k e back) v w old mid new is kept told = subst (λ (x : V). Inserts same hash x old new (inserted.Found k e back)) is told
+  inserts_after (inserted.Refused back) v w old mid new is kept told = subst (λ (x : V). Inserts same hash x old new (inserted.Refused back)) is told
+
+  pub attempts_after : (r : Attempt V) (v w : V) (old mid new : History (Numbered V)) → w ≡ v → Keeps old mid → Attempts same hash w mid new r → Attempts same hash v old new r
   attempts_after (attempt.Done it) v w old mid new is kept told = inserts_after it v w old mid new is kept told
-  attempts_after (attempt.Full back) v w old mid new is kept told = subst (λ (x : V). Attempts same x old new (attempt.Full back)) is told
+  attempts_after (attempt.Full back) v w old mid new is kept told = subst (λ (x : V). Attempts same hash x old new (attempt.Full back)) is told
