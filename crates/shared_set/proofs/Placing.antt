@@ -2,6 +2,7 @@
 use Rattle.std.proofs.Common.{◌≡◌, ℕ, Bool, subst, ◌∙◌}
 use mathlib.Core.List.{IsPrefix}
 use Rattle.table_numbered.specs.declared.event.Numbered.{Numbered}
+use Rattle.table_numbered.specs.Words.{of_value}
 use Rattle.table_numbered.specs.History.{History}
 use Rattle.table_numbered.specs.Generations as generation
 use Rattle.shared_set.specs.declared.insert.Attempt.{Attempt}
@@ -9,8 +10,8 @@ use Rattle.shared_set.specs.declared.insert.Attempt.TheVariants as attempt
 use Rattle.shared_set.specs.declared.insert.Inserted.{Inserted}
 use Rattle.shared_set.specs.declared.insert.Inserted.TheVariants as inserted
 use Rattle.shared_set.specs.Known.{Keeps}
-use Rattle.shared_set.specs.Inserting.{IsPlaced, Inserts, Attempts}
-use Rattle.shared_set.proofs.Keeping.{keeps_trans, keeps_longer}
+use Rattle.shared_set.specs.Inserting.{IsPlaced, Inserts, Attempts, Replies}
+use Rattle.shared_set.proofs.Keeping.{keeps_trans, keeps_longer, none_before}
 
 module _ {V : Type 0} (same : V → V → Bool) where
   -- what was known before is kept to what was known at the insert
@@ -41,3 +42,10 @@ module _ {V : Type 0} (same : V → V → Bool) where
   pub attempts_after : (r : Attempt V) (v w : V) (old mid new : History (Numbered V)) → w ≡ v → Keeps old mid → Attempts same w mid new r → Attempts same v old new r
   attempts_after (attempt.Done it) v w old mid new is kept told = inserts_after it v w old mid new is kept told
   attempts_after (attempt.Full back) v w old mid new is kept told = subst (λ (x : V). Attempts same x old new (attempt.Full back)) is told
+
+  -- what an insert answers to a caller that knew only what the set began with
+  pub replies : (r : Inserted V) (v : V) (start old new : History (Numbered V)) → Keeps start old → Keeps old new → Inserts same v old new r → Replies same v start r
+  replies (inserted.Placed k e) v start old new kept on told =
+      (told.0, none_before (of_value (same v)) start told.1.before (keeps_trans start old told.1.before kept told.1.keeps) told.1.none)
+  replies (inserted.Found k e back) v start old new kept on told = (told.0, told.1.0)
+  replies (inserted.Refused back) v start old new kept on told = (told.0, none_before (of_value (same v)) start new (keeps_trans start old new kept on) told.1)

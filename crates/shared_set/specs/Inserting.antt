@@ -1,5 +1,5 @@
 -- What an insert answers.
-use Rattle.std.specs.Prelude.{◌≡◌, ℕ, ◌++◌, Bool, [], ◌∷◌, Some}
+use Rattle.std.specs.Prelude.{◌≡◌, ℕ, ◌++◌, Bool, true, [], ◌∷◌, Some}
 use Rattle.table_numbered.specs.Words.{numbered, of_value}
 use Rattle.table_numbered.specs.History.{History, event, IsEntry, NonePasses}
 use Rattle.table_numbered.specs.Generations.{Passes}
@@ -30,3 +30,9 @@ module _ {V : Type 0} (same : V → V → Bool) where
   abbrev pub Attempts : V → History (Numbered V) → History (Numbered V) → Attempt V → Type 0
   Attempts v old new (attempt.Done it) = Inserts v old new it
   Attempts v old new (attempt.Full back) = (back ≡ v) × NonePasses (of_value (same v)) (IsEntry new)
+
+  -- what an insert of v answers to a caller that knows only what the set began with
+  abbrev pub Replies : V → History (Numbered V) → Inserted V → Type 0
+  Replies v start (inserted.Placed k e) = (e.now ≡ v) × NonePasses (of_value (same v)) (IsEntry start)
+  Replies v start (inserted.Found k e back) = (back ≡ v) × (same v e.now ≡ true)
+  Replies v start (inserted.Refused back) = (back ≡ v) × NonePasses (of_value (same v)) (IsEntry start)
