@@ -3,4 +3,4 @@ use Rattle.shared_set.proofs.set.SharedSet.insert.Goals as goal
 
 pub returns : goal.returns
 returns g c = let h = c.insert.new.self in
-    replies g.L.Law.same c.insert.result c.args.value c.args.self.now.start c.handle-handle.result.history h.history c.handle-handle.ensures.keeps c.insert.ensures.known.1 c.insert.ensures.told
+    record { replies = replies g.L.Law.same c.insert.result c.args.value c.args.self.now.start c.handle-handle.result.history h.history c.handle-handle.ensures.keeps c.insert.ensures.known.1 c.insert.ensures.told }
