@@ -1,9 +1,9 @@
 -- What an insert answers, as its caller says it.
-use Rattle.std.proofs.Common.{◌≡◌, ℕ, Bool, subst, sym, ◌∙◌, inl, inr}
+use Rattle.std.proofs.Common.{◌≡◌, ℕ, Bool, refl, subst, sym, ◌∙◌}
+use mathlib.Core.List.{IsPrefix}
 use Rattle.table_numbered.specs.Words.{mark_of, of_value}
 use Rattle.table_numbered.specs.declared.event.Numbered.{Numbered}
-use Rattle.table_numbered.specs.declared.probe.Judged.TheVariants as judged
-use Rattle.table_numbered.specs.History.{History, HasSize, IsEntry, NonePasses}
+use Rattle.table_numbered.specs.History.{History, HasSize}
 use Rattle.table_numbered.specs.Generations.{HasRoom, IsSpent}
 use Rattle.table_numbered.specs.Generations as generation
 use Rattle.table_numbered.proofs.Histories.{size_is}
@@ -11,9 +11,13 @@ use Rattle.shared_set.specs.declared.insert.Attempt.{Attempt}
 use Rattle.shared_set.specs.declared.insert.Attempt.TheVariants as attempt
 use Rattle.shared_set.specs.declared.insert.Inserted.{Inserted}
 use Rattle.shared_set.specs.declared.insert.Inserted.TheVariants as inserted
-use Rattle.shared_set.specs.Known.{Keeps}
-use Rattle.shared_set.specs.Inserting.{IsPlaced, HasBucket, HasNoBucket, Inserts, Attempts}
-use Rattle.shared_set.proofs.Keeping.{keeps_trans, keeps_longer}
+use Rattle.shared_set.specs.Known.{SharedView, KnownView, known_view, Keeps, KnowsMore}
+use Rattle.shared_set.specs.Inserting.{IsPlaced, HasBucket, HasNoBucket, Inserts, Attempts, Replies}
+use Rattle.shared_set.proofs.Keeping.{keeps_trans, keeps_longer, none_before}
+
+-- a handle that has seen more of its generation knows more
+pub knows_longer : {V : Type 0} (g : SharedView) (v : KnownView V) (a b : History (Numbered V)) → known_view g a ≡ v → IsPrefix a b → KnowsMore v (known_view g b)
+knows_longer {V} g v a b is on = subst (λ (x : KnownView V). KnowsMore x (known_view g b)) is (refl, keeps_longer a b on)
 
 module _ {V : Type 0} (same : V → V → Bool) where
   -- what was known before is kept to what was known at the insert
@@ -53,3 +57,10 @@ module _ {V : Type 0} (same : V → V → Bool) (hash : V → ℕ) where
   pub attempts_after : (r : Attempt V) (v w : V) (old mid new : History (Numbered V)) → w ≡ v → Keeps old mid → Attempts same hash w mid new r → Attempts same hash v old new r
   attempts_after (attempt.Done it) v w old mid new is kept told = inserts_after it v w old mid new is kept told
   attempts_after (attempt.Full back) v w old mid new is kept told = subst (λ (x : V). Attempts same hash x old new (attempt.Full back)) is told
+
+  -- what an insert answers to a caller that knew only what the set began with
+  pub replies : (r : Inserted V) (v : V) (start old new : History (Numbered V)) → Keeps start old → Keeps old new → Inserts same hash v old new r → Replies same v start r
+  replies (inserted.Placed k e) v start old new kept on told =
+      (told.0, none_before (of_value (same v)) start told.1.before (keeps_trans start old told.1.before kept told.1.keeps) told.1.none)
+  replies (inserted.Found k e back) v start old new kept on told = (told.0, told.1.0)
+  replies (inserted.Refused back) v start old new kept on told = (told.0, none_before (of_value (same v)) start new (keeps_trans start old new kept on) told.1)

@@ -104,7 +104,7 @@ impl<'a, V, L: SetLaw<V>, A: Low + Copy> Handle<'a, V, L, A> {
     /// Makes sure that a stage is behind the one of this handle. Returns false if memory was refused, or no slot is left.
     fn grow(&self) -> bool {
         let set = self.set;
-        set.grow(&self.cursor, self.stage)
+        set.grow(&self.cursor, self.stage).is_some()
     }
 
     /// Inserts the value in the newest generation.
