@@ -2,3 +2,5 @@ pub mod Stages
 pub mod Known
 pub mod Supplies
 pub mod Inserting
+pub mod Walks
+pub mod Getting

@@ -7,7 +7,7 @@ pub mod Histories
 mod Rows
 mod Steps
 mod Probes
-mod Apart
+pub mod Apart
 mod Laid
 mod Meetings
 mod Carried
@@ -16,3 +16,4 @@ mod Prefixes
 mod Picks
 mod Owed
 mod Known
+mod Walked

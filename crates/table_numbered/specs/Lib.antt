@@ -5,3 +5,4 @@ pub mod Kept
 pub mod Generations
 pub mod Carrying
 pub mod Ending
+pub mod Walking

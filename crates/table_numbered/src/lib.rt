@@ -13,6 +13,7 @@ mod row;
 mod rule;
 mod sought;
 mod trade;
+mod walk;
 mod word;
 
 pub use event::{Event, Listed, Numbered, Stored};
