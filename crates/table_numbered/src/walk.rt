@@ -7,12 +7,12 @@ ghost use Rattle.table_numbered.specs.Generations.{IsOf};
 ghost use Rattle.table_numbered.specs.Walking.{IsTaken, HasAt, IsOnlyAt};
 
 use crate::generation::Generation;
-use crate::law::SetLaw;
 use crate::rule::Token;
 use crate::trade::known;
 use crate::word::number_of_word;
 use table_cell::Low;
 use table_slab::Slab;
+use table_terms::law::SetLaw;
 
 impl<V, L: SetLaw<V>, A: Low + Copy> Generation<V, L, A> {
     /// Returns the number of the entry that the bucket has by now. `None` means that it has no entry. It reads no entry.

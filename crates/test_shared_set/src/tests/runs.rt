@@ -12,10 +12,10 @@ use testkit_counting::numbers::Told;
 use testkit_refusing::{Refusing, Rule};
 
 /// How many calls a run has.
-const CALLS: u64 = 2000;
+const CALLS: u64 = 800;
 
 /// Numbers are drawn below this one.
-const BOUND: u64 = 1000;
+const BOUND: u64 = 400;
 
 /// For how many entries there is room at first, and how many requests are refused at most, each drawn as one of four.
 const RUNS: [(usize, u64); 4] = [(0, 0), (100, 0), (0, u64::MAX), (100, u64::MAX)];
@@ -106,7 +106,7 @@ fn run(
 #[test]
 fn drawn_runs_answer_as_a_list(rt: HostRuntime) -> Result<(), Fail> {
     for (room, refused) in RUNS {
-        for seed in 0u64..10 {
+        for seed in 0u64..6 {
             let rule = Rule::new(0, usize::MAX, 0, 0).drawn(seed, 4);
             let heap = Refusing::new(rt.alloc(), rule);
             let set: Numbers<'_> = SharedSet::with_capacity(&heap, room).expect(&rt, "a set");

@@ -16,13 +16,12 @@ use testkit_refusing::{Refusing, Rule};
 
 /// For how many entries there is room at first, how many numbers are placed, how far the threads' first numbers lie apart, and how many
 /// requests are refused at most, each drawn as one of three.
-const SETS: [(usize, u64, u64, u64); 6] = [
-    (0, 1000, 0, 0),
-    (0, 1000, 100, 0),
-    (0, 4000, 1000, 0),
-    (1000, 1000, 0, 0),
-    (0, 1000, 0, u64::MAX),
-    (100, 1000, 100, u64::MAX),
+const SETS: [(usize, u64, u64, u64); 5] = [
+    (0, 600, 0, 0),
+    (0, 600, 50, 0),
+    (300, 300, 0, 0),
+    (0, 600, 150, u64::MAX),
+    (100, 300, 0, u64::MAX),
 ];
 
 /// How often an insert is tried.
@@ -152,7 +151,7 @@ fn assert_numbered(
 #[test]
 fn threads_insert_over_growth(rt: HostRuntime) -> Result<(), Fail> {
     for (room, numbers, apart, refused) in SETS {
-        for seed in 0u64..3 {
+        for seed in 0u64..2 {
             for by_four in [false, true] {
                 let rule = Rule::new(0, usize::MAX, 0, 0).drawn(seed, 3);
                 let heap = Refusing::new(rt.alloc(), rule);
