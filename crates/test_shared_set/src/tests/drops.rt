@@ -1,11 +1,10 @@
 //! Values that count their drops: each is dropped once, by the set at its end or by whom it is returned to.
 use super::caller::{Heap, assert_none_out, assert_same};
-use shared_set::{Handle, Inserted, SetLaw, SharedSet};
+use shared_set::{Handle, Inserted, SharedSet};
 use std::alloc::{AllocError, Global};
 use std::process::Abort;
 use std::test::Fail;
-use table_terms::law::{Law, hash_number};
-use testkit_counting::{Counting, Drops};
+use testkit_counting::{Counting, CountingLaw, Drops};
 use testkit_refusing::{Refusing, Rule};
 
 /// How many numbers there are.
@@ -14,31 +13,8 @@ const NUMBERS: u64 = 300;
 /// For how many entries there is room at first; and that one request in so many is refused, 0 for none.
 const SETS: [(usize, u64); 4] = [(0, 0), (200, 0), (0, 2), (100, 3)];
 
-/// Counting values are the same if their numbers are.
-struct ByNumber {}
-
-impl Law<Counting> for ByNumber {
-    ghost use Rattle.table_terms.specs.Laws.{same_by_number, hash_by_number, number_lawful};
-
-    ghost same = { same_by_number (λ value. value.number) };
-
-    ghost hash_of = { hash_by_number (λ value. value.number) };
-
-    ghost lawful = { number_lawful (λ value. value.number) };
-}
-
-impl SetLaw<Counting> for ByNumber {
-    fn is_same(one: &Counting, other: &Counting) -> bool {
-        one.number == other.number
-    }
-
-    fn hash(target: &Counting) -> u64 {
-        hash_number(target.number)
-    }
-}
-
 /// A set of counting values.
-type Counts<'h> = SharedSet<Counting, ByNumber, &'h Heap>;
+type Counts<'h> = SharedSet<Counting, CountingLaw, &'h Heap>;
 
 /// Returns a set, and places a value of each number. Returns None if the set or a value was refused too often, or an entry was the same.
 fn filled<'h>(heap: &'h Heap, room: usize, values: &Drops) -> Option<Counts<'h>> {
@@ -64,7 +40,7 @@ fn made(heap: &Heap, room: usize) -> Option<Counts<'_>> {
 }
 
 /// Places the value, which may be refused some times. Returns false if it was refused too often, or an entry is the same.
-fn places(handle: &mut Handle<'_, Counting, ByNumber, &Heap>, value: Counting) -> bool {
+fn places(handle: &mut Handle<'_, Counting, CountingLaw, &Heap>, value: Counting) -> bool {
     let mut value = value;
     for _tried in 0..1000u32 {
         match handle.insert(value) {
