@@ -1,5 +1,5 @@
 -- What an insert answers, as its caller says it.
-use Rattle.std.proofs.Common.{◌≡◌, ℕ, Bool, refl, subst, sym, ◌∙◌}
+use Rattle.std.proofs.Common.{◌≡◌, ℕ, Bool, refl, subst, sym, ◌∙◌, inl}
 use mathlib.Core.List.{IsPrefix}
 use Rattle.table_numbered.specs.Words.{mark_of, of_value}
 use Rattle.table_numbered.specs.declared.event.Numbered.{Numbered}
@@ -12,7 +12,7 @@ use Rattle.shared_set.specs.declared.insert.Attempt.TheVariants as attempt
 use Rattle.shared_set.specs.declared.insert.Inserted.{Inserted}
 use Rattle.shared_set.specs.declared.insert.Inserted.TheVariants as inserted
 use Rattle.shared_set.specs.Known.{SharedView, KnownView, known_view, Keeps, KnowsMore}
-use Rattle.shared_set.specs.Inserting.{IsPlaced, HasBucket, HasNoBucket, Inserts, Attempts, Replies}
+use Rattle.shared_set.specs.Inserting.{IsPlaced, HasBucket, HasNoBucket, Inserts, InsertsHere, Replies}
 use Rattle.shared_set.proofs.Keeping.{keeps_trans, keeps_longer, none_before}
 
 -- a handle that has seen more of its generation knows more
@@ -54,9 +54,17 @@ module _ {V : Type 0} (same : V → V → Bool) (hash : V → ℕ) where
   inserts_after (inserted.Found k e back) v w old mid new is kept told = subst (λ (x : V). Inserts same hash x old new (inserted.Found k e back)) is told
   inserts_after (inserted.Refused back) v w old mid new is kept told = subst (λ (x : V). Inserts same hash x old new (inserted.Refused back)) is told
 
-  pub attempts_after : (r : Attempt V) (v w : V) (old mid new : History (Numbered V)) → w ≡ v → Keeps old mid → Attempts same hash w mid new r → Attempts same hash v old new r
-  attempts_after (attempt.Done it) v w old mid new is kept told = inserts_after it v w old mid new is kept told
-  attempts_after (attempt.Full back) v w old mid new is kept told = subst (λ (x : V). Attempts same hash x old new (attempt.Full back)) is told
+  pub here_after : (r : Attempt V) (v w : V) (old mid new : History (Numbered V)) → w ≡ v → Keeps old mid → InsertsHere same hash w mid new r → InsertsHere same hash v old new r
+  here_after (attempt.Done (inserted.Placed k e)) v w old mid new is kept told = (told.0 ∙ is, subst (λ (x : V). IsPlaced same k x old new) is (placed_after same k w old mid new kept told.1))
+  here_after (attempt.Done (inserted.Found k e back)) v w old mid new is kept told = subst (λ (x : V). InsertsHere same hash x old new (attempt.Done (inserted.Found k e back))) is told
+  here_after (attempt.Done (inserted.Refused back)) v w old mid new is kept told = subst (λ (x : V). InsertsHere same hash x old new (attempt.Done (inserted.Refused back))) is told
+  here_after (attempt.Full back) v w old mid new is kept told = subst (λ (x : V). InsertsHere same hash x old new (attempt.Full back)) is told
+
+  -- what is done in one generation is done
+  pub done_here : (r : Inserted V) (v : V) (old new : History (Numbered V)) → InsertsHere same hash v old new (attempt.Done r) → Inserts same hash v old new r
+  done_here (inserted.Placed k e) v old new told = told
+  done_here (inserted.Found k e back) v old new told = told
+  done_here (inserted.Refused back) v old new told = (told.0, told.1, inl told.2)
 
   -- what an insert answers to a caller that knew only what the set began with
   pub replies : (r : Inserted V) (v : V) (start old new : History (Numbered V)) → Keeps start old → Keeps old new → Inserts same hash v old new r → Replies same v start r

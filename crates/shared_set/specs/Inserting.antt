@@ -45,7 +45,14 @@ module _ {V : Type 0} (same : V → V → Bool) (hash : V → ℕ) where
   Inserts v old new (inserted.Found k e back) = (back ≡ v) × Passes (same v) (IsEntry new) k e.now
   Inserts v old new (inserted.Refused back) = (back ≡ v) × NonePasses (of_value (same v)) (IsEntry new) × IsProbed v new
 
-  -- the same of an attempt in one generation, which is full only where it has no bucket for v
+  -- what an insert into one generation answers: memory is refused only where v has a bucket, and the generation is full only where it has none
+  abbrev pub InsertsHere : V → History (Numbered V) → History (Numbered V) → Attempt V → Type 0
+  InsertsHere v old new (attempt.Done (inserted.Placed k e)) = (e.now ≡ v) × IsPlaced same k v old new
+  InsertsHere v old new (attempt.Done (inserted.Found k e back)) = (back ≡ v) × Passes (same v) (IsEntry new) k e.now
+  InsertsHere v old new (attempt.Done (inserted.Refused back)) = (back ≡ v) × NonePasses (of_value (same v)) (IsEntry new) × HasBucket v new
+  InsertsHere v old new (attempt.Full back) = (back ≡ v) × NonePasses (of_value (same v)) (IsEntry new) × HasNoBucket v new
+
+  -- what it answers where a full generation is to grow
   abbrev pub Attempts : V → History (Numbered V) → History (Numbered V) → Attempt V → Type 0
   Attempts v old new (attempt.Done it) = Inserts v old new it
   Attempts v old new (attempt.Full back) = (back ≡ v) × NonePasses (of_value (same v)) (IsEntry new) × HasNoBucket v new

@@ -1,7 +1,7 @@
 //! Inserts.
 ghost use Rattle.std.specs.Prelude.{◌≡◌};
 ghost use Rattle.shared_set.specs.Known.{KnowsMore};
-ghost use Rattle.shared_set.specs.Inserting.{Inserts, Attempts};
+ghost use Rattle.shared_set.specs.Inserting.{Inserts, InsertsHere, Attempts};
 ghost use Rattle.shared_set.specs.Supplies.{IsVacant};
 
 use crate::handle::Handle;
@@ -59,7 +59,7 @@ impl<'a, V, L: SetLaw<V>, A: Low + Copy> Handle<'a, V, L, A> {
     fn place(&mut self, number: u64, right: Right<V, A>, value: V) -> Attempt<'a, V>
         requires vacant { IsVacant self.old.of.slab (number, right) }
         ensures known { KnowsMore self.old self.new }
-        ensures told { Attempts L.same L.hash_of value self.old.history self.new.history result }
+        ensures told { InsertsHere L.same L.hash_of value self.old.history self.new.history result }
     {
         let set = self.set;
         let generation = self.stage.generation();
@@ -82,7 +82,7 @@ impl<'a, V, L: SetLaw<V>, A: Low + Copy> Handle<'a, V, L, A> {
     /// Looks for an entry that is the same first. If there is none, and a bucket is left, it asks for a number and places the value.
     fn place_if_new(&mut self, value: V) -> Attempt<'a, V>
         ensures known { KnowsMore self.old self.new }
-        ensures told { Attempts L.same L.hash_of value self.old.history self.new.history result }
+        ensures told { InsertsHere L.same L.hash_of value self.old.history self.new.history result }
     {
         let set = self.set;
         let generation = self.stage.generation();
@@ -110,7 +110,7 @@ impl<'a, V, L: SetLaw<V>, A: Low + Copy> Handle<'a, V, L, A> {
     /// Inserts the value in the newest generation.
     fn insert_here(&mut self, value: V) -> Attempt<'a, V>
         ensures known { KnowsMore self.old self.new }
-        ensures told { Attempts L.same L.hash_of value self.old.history self.new.history result }
+        ensures told { InsertsHere L.same L.hash_of value self.old.history self.new.history result }
     {
         match self.supply.take() {
             Some((number, right)) => self.place(number, right, value),

@@ -1,9 +1,9 @@
-use Rattle.std.proofs.Common.{ap, sym, subst, ◌∙◌, refl, inl}
+use Rattle.std.proofs.Common.{ap, sym, subst, ◌∙◌, refl}
 use Rattle.table_numbered.specs.Generations.{GenerationView, IsOf}
 use Rattle.shared_set.specs.Known.{SharedView, known_view}
 use Rattle.shared_set.specs.Supplies.{IsSupplyOf}
 use Rattle.shared_set.proofs.Keeping.{one_set, knows_trans, at_shown, at_more}
-use Rattle.shared_set.proofs.Placing.{knows_longer, bucket_in, no_bucket_in, attempts_after}
+use Rattle.shared_set.proofs.Placing.{knows_longer, bucket_in, no_bucket_in, here_after}
 use Rattle.shared_set.proofs.handle.Handle.place_if_new.Goals as goal
 
 pub judge-requires-clause-slab : goal.judge-requires-clause-slab
@@ -72,7 +72,7 @@ pub returns-in-Err-clause-told : goal.returns-in-Err-clause-told
 returns-in-Err-clause-told g c = (
   refl,
   c.in-Vacant.ensures.judges,
-  inl (bucket_in g.L.Law.same g.L.Law.hash_of c.generation-generation.result.now.of.size c.args.value c.judge.new.seen.log c.judge.ensures.of.2 c.in-Vacant.ensures.ends),
+  bucket_in g.L.Law.same g.L.Law.hash_of c.generation-generation.result.now.of.size c.args.value c.judge.new.seen.log c.judge.ensures.of.2 c.in-Vacant.ensures.ends,
 )
 
 pub returns-in-Ok-clause-known : goal.returns-in-Ok-clause-known
@@ -80,5 +80,5 @@ returns-in-Ok-clause-known g c = knows_trans c.args.self.now (known_view c.self.
     (knows_longer c.self.inside.set.now.of c.args.self.now c.self.inside.cursor.entries.log c.judge.new.seen.log c.self.view_is c.judge.ensures.longer) c.place.ensures.known
 
 pub returns-in-Ok-clause-told : goal.returns-in-Ok-clause-told
-returns-in-Ok-clause-told g c = attempts_after g.L.Law.same g.L.Law.hash_of c.place.result c.args.value c.args.value c.args.self.now.history c.judge.new.seen.log c.place.new.self.history refl
+returns-in-Ok-clause-told g c = here_after g.L.Law.same g.L.Law.hash_of c.place.result c.args.value c.args.value c.args.self.now.history c.judge.new.seen.log c.place.new.self.history refl
     (knows_longer c.self.inside.set.now.of c.args.self.now c.self.inside.cursor.entries.log c.judge.new.seen.log c.self.view_is c.judge.ensures.longer).1 c.place.ensures.told
