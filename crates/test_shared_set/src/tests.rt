@@ -1,4 +1,7 @@
 mod alone;
 mod caller;
+mod made;
 mod memory;
+mod numbers;
 mod threads;
+mod walks;

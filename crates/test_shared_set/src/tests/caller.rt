@@ -1,7 +1,7 @@
 //! Sets of numbers in memory that counts.
 ghost use Rattle.table_terms.specs.Laws.{same_by_number, hash_by_number, number_lawful};
 
-use shared_set::{Handle, Inserted, SetLaw, SharedSet};
+use shared_set::{Handle, Inserted, KeyLaw, SetLaw, SharedSet};
 use std::alloc::Global;
 use std::fmt::Debug;
 use std::process::Abort;
@@ -29,6 +29,26 @@ impl SetLaw<u64> for ByNumber {
 
     fn hash(target: &u64) -> u64 {
         hash_number(*target)
+    }
+}
+
+/// A number meets a shorter one that is equal.
+impl KeyLaw<u32, u64> for ByNumber {
+    ghost use Rattle.table_terms.specs.Laws.{same_number, number_hash, number_law};
+    ghost use Rattle.std.proofs.Common.{sym};
+
+    ghost meets = { same_number };
+
+    ghost key_hash = { number_hash };
+
+    ghost agrees = { λ k v is. sym (number_law.agrees k v is) };
+
+    fn is_met(key: &u32, target: &u64) -> bool {
+        u64::from(*key) == *target
+    }
+
+    fn hash_key(key: &u32) -> u64 {
+        hash_number(u64::from(*key))
     }
 }
 
@@ -69,7 +89,7 @@ pub(crate) fn assert_none_out(rt: &impl Abort, heap: &Heap) {
 }
 
 /// Returns how an insert of this number ended, with the entry's number.
-fn told_of(ended: Inserted<'_, u64>, value: u64) -> (Told, Option<u64>) {
+pub(crate) fn told_of(ended: Inserted<'_, u64>, value: u64) -> (Told, Option<u64>) {
     match ended {
         Inserted::Placed(number, entry) if *entry == value => (Told::Placed, Some(number)),
         Inserted::Found(number, entry, back) if *entry == value && back == value => {
