@@ -17,7 +17,7 @@ use Rattle.table_numbered.specs.declared.event.Numbered.{Numbered}
 use Rattle.table_numbered.proofs.Apart.{first_or_other}
 use Rattle.table_numbered.proofs.Histories.{stands_on, same_value, has_inside}
 use Rattle.shared_set.specs.Known.{SharedView, KnownView}
-use Rattle.shared_set.specs.Walks.{WalkView, walk_view, IsDue, IsPassed, GoesOn, PassesNone, Gives, IsOver, HasEnded, Visits, WalksOn, given, AreApart, NeverTwice, GivesEntries, GivesAllOf, Begins}
+use Rattle.shared_set.specs.Walks.{WalkView, walk_view, IsDue, IsPassed, GoesOn, PassesNone, Gives, IsOver, ComesNext, HasEnded, Visits, WalksOn, given, AreApart, NeverTwice, GivesEntries, GivesAllOf, Begins}
 use Rattle.shared_set.proofs.Keeping.{keeps_trans, keeps_longer}
 
 module _ {V : Type 0} where
@@ -104,6 +104,11 @@ module _ {V : Type 0} (g : SharedView) (begun log : History (Numbered V)) (n lef
 module _ {V : Type 0} where
   pub ended : (a b : WalkView V) → PassesNone a b → IsOver b → HasEnded a b
   ended a b one at_end = record { on = one.on; none = λ d there. at_end.1 d (one.due d there); over = at_end.0 }
+
+  -- where no bucket comes next, the walk is over
+  pub is_over : (w : WalkView V) (r : Option ℕ) → ComesNext w r → ((i : ℕ) → r ≡ Some i → ⊥) → IsOver w
+  is_over w None comes none = comes
+  is_over w (Some i) comes none = absurd (none i refl)
 
   -- a number that was passed is not given again
   passed_never : (items : List (ℕ × Bor V)) (w last : WalkView V) → Yields WalksOn w items last → (k : ℕ) → IsPassed w k → count_by (λ e. k == e.number) (given items) ≡ 0
