@@ -1,6 +1,6 @@
 -- The numbers that a handle has are of its slab.
-use Rattle.std.proofs.Common.{◌≡◌, ℕ, ◌<◌, ◌≤◌, subst, arith}
-use Rattle.std.specs.Prelude.{Option, Some, None, Result, Ok, Err, IfSome, IfOk}
+use Rattle.std.proofs.Common.{◌≡◌, subst}
+use Rattle.std.specs.Prelude.{ℕ, Option, Some, None, IfSome}
 use Rattle.table_slab.specs.Held.{IsRightTo}
 use Rattle.table_slab.specs.Numbering.{IsSmall}
 use Rattle.table_slab.specs.Runs.{IsRunOf}

@@ -1,4 +1,4 @@
-use Rattle.std.proofs.Common.{◌≡◌, ℕ, ap, sym, subst, ◌∙◌}
+use Rattle.std.proofs.Common.{ap, sym, subst, ◌∙◌}
 use Rattle.table_slab.specs.Held.{IsRightTo}
 use Rattle.table_slab.specs.Slabs.{SlabView}
 use Rattle.table_numbered.specs.Generations.{GenerationView, IsOf}

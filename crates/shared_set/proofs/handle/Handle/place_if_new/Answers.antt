@@ -1,4 +1,4 @@
-use Rattle.std.proofs.Common.{◌≡◌, ℕ, ap, sym, subst, ◌∙◌, refl, inl}
+use Rattle.std.proofs.Common.{ap, sym, subst, ◌∙◌, refl, inl}
 use Rattle.table_numbered.specs.Generations.{GenerationView, IsOf}
 use Rattle.shared_set.specs.Known.{SharedView, known_view}
 use Rattle.shared_set.specs.Supplies.{IsSupplyOf}
