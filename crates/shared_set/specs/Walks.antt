@@ -23,7 +23,7 @@ pub record WalkView (V : Type 0) : Type 0 where
   pub left : ℕ
 
 abbrev pub walk_view : {V : Type 0} → SharedView → History (Numbered V) → History (Numbered V) → ℕ → ℕ → WalkView V
-walk_view g begun log next size = record { of = g; begun = begun; history = log; next = next; left = size - next }
+walk_view g begun log size left = record { of = g; begun = begun; history = log; next = size - left; left = left }
 
 module _ {V : Type 0} where
   -- e was known as the walk began, and must still come
@@ -56,6 +56,15 @@ module _ {V : Type 0} where
     pub passed : IsPassed new e.number
     pub due : (d : Numbered V) → IsDue old d → (d ≡ e) ⊎ IsDue new d
 
+  -- no bucket is left, and no entry must come
+  abbrev pub IsOver : WalkView V → Type 0
+  IsOver w = (w.left ≡ 0) × ((d : Numbered V) → IsDue w d → ⊥)
+
+  -- the bucket that comes next is this one; or none is left
+  abbrev pub ComesNext : WalkView V → Option ℕ → Type 0
+  ComesNext w None = IsOver w
+  ComesNext w (Some index) = (index ≡ w.next) × (0 < w.left)
+
   -- the walk has ended, for good: no entry must come
   pub record HasEnded (old new : WalkView V) : Type 0 where
     pub on : GoesOn old new
@@ -64,7 +73,7 @@ module _ {V : Type 0} where
 
   -- one bucket: it has no entry that must come, or its entry is given
   abbrev pub Visits : WalkView V → Option (ℕ × Bor V) → WalkView V → Type 0
-  Visits old None new = PassesNone old new
+  Visits old None new = PassesNone old new × (new.left < old.left)
   Visits old (Some e) new = Gives old (numbered e.0 e.1.now) new
 
   -- a step of the walk
@@ -102,9 +111,9 @@ module _ {V : Type 0} where
     pub next : w.next ≡ 0
 
 module _ {V : Type 0} (same : V → V → Bool) (hash : V → ℕ) where
-  -- a walk between two calls: it is at the stage of its cursor, which has as many buckets as it has passed, or more
-  pub record IsWalk {L A : Type 0} (g : SharedView) (stage : StageView V) (c : Cursor V L A) (begun : History (Numbered V)) (next : ℕ) : Type 0 where
+  -- a walk between two calls: it is at the stage of its cursor, which has as many buckets as are left, or more
+  pub record IsWalk {L A : Type 0} (g : SharedView) (stage : StageView V) (c : Cursor V L A) (start : History (Numbered V)) (left : ℕ) : Type 0 where
     pub at : IsCursor same hash g c
     pub shown : chain.Stands c.stages.log c.slot stage
-    pub begun : IsPrefix begun c.entries.log
-    pub within : next ≤ stage.of.of.size
+    pub begun : IsPrefix start c.entries.log
+    pub within : left ≤ stage.of.of.size

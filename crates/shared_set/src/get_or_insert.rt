@@ -28,7 +28,7 @@ impl<'a, V, L: SetLaw<V>, A: Low + Copy> Handle<'a, V, L, A> {
     ) -> GotOrInserted<'a, V>
         requires callable { NonePasses (of_value (S.accepts sought.now)) (IsEntry self.old.history) → F.pre make }
         ensures known { KnowsMore self.old self.new }
-        ensures told { GetsOrInserts L.same (S.accepts sought.now) (F.post make) self.old.history
+        ensures told { GetsOrInserts L.same L.hash_of (S.accepts sought.now) (F.post make) self.old.history
             self.new.history result }
     {
         match self.seek(sought) {
@@ -48,7 +48,7 @@ impl<'a, V, L: SetLaw<V>, A: Low + Copy> Handle<'a, V, L, A> {
         L: KeyLaw<K, V>,
         requires callable { NonePasses (of_value (L.meets key.now)) (IsEntry self.old.history) → F.pre make }
         ensures known { KnowsMore self.old self.new }
-        ensures told { GetsOrInserts L.same (L.meets key.now) (F.post make) self.old.history
+        ensures told { GetsOrInserts L.same L.hash_of (L.meets key.now) (F.post make) self.old.history
             self.new.history result }
     {
         self.seek_or_insert_with(&MetBy { key }, make)

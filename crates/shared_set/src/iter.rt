@@ -4,6 +4,7 @@ ghost use Rattle.std.specs.Iterator.{at_most};
 ghost use Rattle.shared_set.specs.Known.{KnowsMore, known_view};
 ghost use Rattle.shared_set.specs.Walks.{
   Begins,
+  ComesNext,
   Visits,
   WalksOn,
   NeverTwice,
@@ -35,7 +36,8 @@ pub struct Iter<'a, V, L: SetLaw<V>, A: Low + Copy = Global> {
     stage: &'a Stage<V, L, A>,
     cursor: Cursor<V, L, A>,
     begun: Token<V, L>,
-    next: usize,
+    /// How many buckets are left.
+    left: usize,
 }
 
 impl<'a, V, L: SetLaw<V>, A: Low + Copy> Model for Iter<'a, V, L, A> {
@@ -43,28 +45,33 @@ impl<'a, V, L: SetLaw<V>, A: Low + Copy> Model for Iter<'a, V, L, A> {
 
     ghost Value = { WalkView V };
 
-    ghost view = { λ it. walk_view it.set.now it.begun.log it.cursor.entries.log it.next it.stage.now.of.of.size };
+    ghost view = { λ it. walk_view it.set.now.of it.begun.log it.cursor.entries.log it.stage.now.of.of.size it.left };
 
-    ghost invariant = { λ it. IsWalk L.same L.hash_of it.set.now it.stage.now it.cursor it.begun.log it.next };
+    ghost invariant = { λ it. IsWalk L.same L.hash_of it.set.now.of it.stage.now it.cursor it.begun.log it.left };
 }
 
 impl<'a, V, L: SetLaw<V>, A: Low + Copy> Iter<'a, V, L, A> {
-    /// Returns the number of buckets that are left.
-    fn left(&self) -> usize
-        ensures { result ≡ self.now.left }
+    /// Returns the index of the bucket that comes next. `None` means that none is left.
+    fn next_index(&self) -> Option<usize>
+        ensures comes { ComesNext self.now result }
     {
-        self.stage.generation().buckets() - self.next
+        let left = self.left;
+        if left == 0 {
+            return None;
+        }
+        let count = self.stage.generation().buckets();
+        Some(count - left)
     }
 
-    /// Passes one bucket, and returns its entry.
-    fn visit(&mut self) -> Option<(u64, &'a V)>
+    /// Passes the bucket that comes next, and returns its entry.
+    fn visit(&mut self, index: usize) -> Option<(u64, &'a V)>
+        requires next { index ≡ self.old.next }
         requires left { 0 < self.old.left }
         ensures visits { Visits self.old result self.new }
     {
         let set = self.set;
         let generation = self.stage.generation();
-        let index = self.next;
-        self.next = index + 1;
+        self.left -= 1;
         generation.visit(&set.slab, &mut self.cursor.entries, index)
     }
 
@@ -87,8 +94,8 @@ impl<'a, V, L: SetLaw<V>, A: Low + Copy> Iterator for Iter<'a, V, L, A> {
 
     /// Returns the next entry, with its number, or `None` at the end.
     fn next(&mut self) -> Option<(u64, &'a V)> {
-        while self.left() > 0 {
-            if let Some(entry) = self.visit() {
+        while let Some(index) = self.next_index() {
+            if let Some(entry) = self.visit(index) {
                 return Some(entry);
             }
         }
@@ -109,12 +116,13 @@ impl<'a, V, L: SetLaw<V>, A: Low + Copy> Handle<'a, V, L, A> {
         ensures all { GivesAllOf self.new.history result }
     {
         self.advance();
+        let stage = self.stage;
         Iter {
             set: self.set,
-            stage: self.stage,
+            stage,
             cursor: self.cursor.again(),
             begun: self.cursor.entries.again(),
-            next: 0,
+            left: stage.generation().buckets(),
         }
     }
 }

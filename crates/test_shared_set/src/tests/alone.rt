@@ -1,12 +1,11 @@
 //! One thread.
 use super::caller::{
-    Numbering, Numbers, assert_are_below, assert_has, assert_none_out, assert_same, counted,
+    Numbering, Numbers, Told, assert_are_below, assert_has, assert_none_out, assert_same, counted,
     insert, told_of, values_of,
 };
 use shared_set::SharedSet;
 use std::process::Abort;
 use std::test::Fail;
-use testkit_counting::numbers::Told;
 
 /// For how many entries a set has room at first, and how many numbers are placed.
 const SETS: [(usize, u64); 5] = [(0, 20_000), (0, 1), (1, 1000), (16, 1000), (1000, 1000)];

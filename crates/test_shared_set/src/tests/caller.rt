@@ -7,7 +7,7 @@ use std::fmt::Debug;
 use std::process::Abort;
 use table_cell::Low;
 use table_terms::law::NumberLaw;
-use testkit_counting::numbers::Told;
+pub(crate) use testkit_counting::numbers::Told;
 use testkit_refusing::{Refusing, Rule};
 
 pub(crate) type Heap = Refusing<Global>;

@@ -1,11 +1,10 @@
 //! Texts, which are also looked up by keys of another type.
-use super::caller::{Heap, assert_none_out, assert_same, counted};
+use super::caller::{Heap, Told, assert_none_out, assert_same, counted};
 use shared_set::{Handle, Inserted, SharedSet};
 use std::alloc::{AllocError, Global};
 use std::process::Abort;
 use std::test::Fail;
 use table_sets::TextLaw;
-use testkit_counting::numbers::Told;
 
 /// How many texts there are.
 const TEXTS: u64 = 300;

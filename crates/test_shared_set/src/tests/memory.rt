@@ -1,11 +1,10 @@
 //! Memory that is refused.
 use super::caller::{
-    Heap, Numbering, Numbers, assert_has, assert_none_out, assert_same, counted, insert,
+    Heap, Numbering, Numbers, Told, assert_has, assert_none_out, assert_same, counted, insert,
 };
 use shared_set::SharedSet;
 use std::alloc::Global;
 use std::process::Abort;
-use testkit_counting::numbers::Told;
 use testkit_refusing::{Refusing, Rule};
 
 /// How many numbers a run places.

@@ -1,14 +1,13 @@
 //! Drawn runs, held against a plain list call by call.
 ghost use Rattle.std.specs.Prelude.{◌≡◌};
 
-use super::caller::{Heap, Numbering, Numbers, assert_none_out, assert_same, insert};
+use super::caller::{Heap, Numbering, Numbers, Told, assert_none_out, assert_same, insert};
 use rand_core::{Rng, SeedableRng};
 use rand_xoshiro::SplitMix64;
 use shared_set::SharedSet;
 use std::alloc::{AllocError, Global};
 use std::process::Abort;
 use std::test::Fail;
-use testkit_counting::numbers::Told;
 use testkit_refusing::{Refusing, Rule};
 
 /// How many calls a run has.

@@ -1,12 +1,13 @@
 //! What handles and threads tell each other of a set.
 ghost use Rattle.std.specs.Prelude.{◌≡◌};
 
-use super::caller::{Knows, Numbers, assert_has, assert_none_out, assert_same, counted, insert};
+use super::caller::{
+    Knows, Numbers, Told, assert_has, assert_none_out, assert_same, counted, insert,
+};
 use shared_set::SharedSet;
 use std::process::Abort;
 use std::sync::OnceLock;
 use std::thread::{join, yield_now};
-use testkit_counting::numbers::Told;
 
 /// How many messages a thread sends.
 const MESSAGES: u64 = 64;

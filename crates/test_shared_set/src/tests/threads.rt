@@ -2,7 +2,8 @@
 ghost use Rattle.std.specs.Prelude.{◌≡◌, IfSome};
 
 use super::caller::{
-    Heap, Knows, Numbering, Numbers, assert_has, assert_none_out, assert_same, counted, insert,
+    Heap, Knows, Numbering, Numbers, Told, assert_has, assert_none_out, assert_same, counted,
+    insert,
 };
 use shared_set::SharedSet;
 use std::alloc::{AllocError, Global};
@@ -11,7 +12,6 @@ use std::sync::atomic::AtomicU64;
 use std::sync::atomic::Ordering::SeqCst;
 use std::test::Fail;
 use std::thread::{Threads, join};
-use testkit_counting::numbers::Told;
 use testkit_refusing::{Refusing, Rule};
 
 /// For how many entries there is room at first, how many numbers are placed, how far the threads' first numbers lie apart, and how many
