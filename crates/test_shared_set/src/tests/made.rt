@@ -8,6 +8,7 @@ use table_terms::law::{NumberLaw, hash_number};
 use testkit_refusing::{Refusing, Rule};
 
 /// A short number as a key of longer ones.
+#[derive(Drop)]
 struct Short {
     number: u32,
 }

@@ -8,7 +8,11 @@ const MANY: u64 = 1000;
 
 /// Inserts one more value than this number by the first handle, and the others by the second, and asserts by which numbers they are
 /// found.
-fn assert_numbers(rt: &impl Abort, one: &mut Numbering<'_, '_>, other: &mut Numbering<'_, '_>) {
+fn assert_numbers<'s, 'h>(
+    rt: &impl Abort,
+    one: &mut Numbering<'s, 'h>,
+    other: &mut Numbering<'s, 'h>,
+) {
     for value in 0..MANY {
         let handle = if value % 3 == 0 {
             &mut *one
