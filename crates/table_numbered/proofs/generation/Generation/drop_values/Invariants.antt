@@ -1,0 +1,13 @@
+use Rattle.std.proofs.Common.{◌≡◌}
+use mathlib.Core.List.{IsPrefix}
+use Rattle.table_numbered.specs.Generations.{IsOf}
+use Rattle.table_numbered.specs.Ending.{AreLeft}
+use Rattle.table_numbered.proofs.generation.Generation.drop_values.Given as goal
+
+abbrev pub invariant-loop-index : goal.invariant-loop-index
+invariant-loop-index g l = record {
+  of : IsOf g.L.Law.same g.L.Law.hash_of l.fn.self.of l.seen.book l.seen.names l.seen.log;
+  longer : IsPrefix l.fn.seen.log l.seen.log;
+  slab : l.slab.slab ≡ l.fn.slab.slab;
+  left : AreLeft l.index l.seen.log l.slab;
+}

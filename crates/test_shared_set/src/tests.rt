@@ -1,0 +1,11 @@
+mod alone;
+mod caller;
+mod drops;
+mod keys;
+mod made;
+mod memory;
+mod numbers;
+mod runs;
+mod telling;
+mod threads;
+mod walks;
