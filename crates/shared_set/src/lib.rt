@@ -11,6 +11,7 @@ mod set;
 mod stage;
 mod supply;
 
+pub use ending::IntoValues;
 pub use handle::Handle;
 pub use insert::Inserted;
 pub use known::Known;

@@ -3,10 +3,9 @@ ghost use Rattle.std.specs.Prelude.{◌≡◌, suc, ◌<◌, ◌≤◌, ◌^◌,
 ghost use Rattle.std.specs.Int.{IsPowerOfTwo};
 ghost use mathlib.Core.List.{IsPrefix};
 ghost use Rattle.table_chain.specs.History.{Stands};
-ghost use Rattle.shared_set.specs.Known.{Keeps, IsSeen, IsCursor, IsFurther, Stepped};
+ghost use Rattle.shared_set.specs.Known.{shared_view, IsShared, Keeps, IsSeen, IsCursor, IsFurther, Stepped};
 
 use crate::cursor::{Cursor, Stages};
-use crate::ending::drop_values;
 use crate::handle::Handle;
 use crate::insert::Inserted;
 use crate::stage::{Grows, Stage};
@@ -235,7 +234,10 @@ impl<V, L: SetLaw<V>, A: Low + Copy> SharedSet<V, L, A> {
 
 impl<V, L: SetLaw<V>, A: Low + Copy> SharedSet<V, L, A> {
     /// Takes the set apart.
-    pub(crate) fn into_parts(self) -> (Slab<V, A>, Chain<Stage<V, L, A>, Grows<V, L, A>, A>) {
+    pub(crate) fn into_parts(self) -> (Slab<V, A>, Chain<Stage<V, L, A>, Grows<V, L, A>, A>)
+        ensures view { self ≡ shared_view result.1 result.0 }
+        ensures shared { IsShared L.same L.hash_of result.1 result.0 }
+    {
         let SharedSet {
             slab,
             chain,
@@ -251,7 +253,6 @@ impl<V, L: SetLaw<V>, A: Low + Copy> SharedSet<V, L, A> {
 impl<V: Drop, L: SetLaw<V>, A: Low + Copy> Drop for SharedSet<V, L, A> {
     /// Drops each entry, and frees the memory.
     fn drop(self) {
-        let (slab, chain) = self.into_parts();
-        drop_values(slab, chain);
+        drop(self.into_values());
     }
 }

@@ -1,4 +1,5 @@
 mod alone;
 mod caller;
+mod ending;
 mod memory;
 mod threads;

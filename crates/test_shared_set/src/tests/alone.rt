@@ -29,27 +29,6 @@ fn each_number_is_found_over_growth(rt: HostRuntime) {
 }
 
 #[test]
-fn each_value_is_returned_once(rt: HostRuntime) {
-    for count in [0, 1, 7, 8, 9, 1000] {
-        let heap = counted(rt.alloc());
-        let set: Numbers<'_> = SharedSet::new(&heap).expect(&rt, "a set");
-        fill(&rt, &set, count);
-        let Ok(values) = set.into_values() else {
-            assert!(&rt; false);
-            return;
-        };
-        let mut values = values;
-        values.sort_unstable();
-        assert_same(&rt, values.len() as u64, count);
-        for (at, value) in values.as_slice().iter().enumerate() {
-            assert_same(&rt, *value, at as u64);
-        }
-        drop(values);
-        assert_none_out(&rt, &heap);
-    }
-}
-
-#[test]
 fn a_set_of_a_capacity_does_not_grow(rt: HostRuntime) {
     for count in [0, 1, 8, 9, 16, 100, 128] {
         let heap = counted(rt.alloc());
