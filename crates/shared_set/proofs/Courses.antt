@@ -4,7 +4,6 @@
 --     one_slab       all stages are over one slab
 --     inside         a slot with a stage is one of the chain's
 --     shown_stands   a stage that was shown stands in its slot
---     has_next       the stage in the next slot grew out of this one
 use Rattle.std.proofs.Common.{◌≡◌, ◌≢◌, ℕ, zero, suc, ◌+◌, ◌<◌, ◌≤◌, ◌⊎◌, Bool, Some, refl, ap, sym, subst, ◌∙◌, arith, inl, inr}
 use Rattle.std.proofs.lemmas.List.Elements.{Contains-push}
 use mathlib.Core.List.{IsPrefix}
@@ -13,7 +12,7 @@ use Rattle.table_chain.specs.Chains.{IsOpen, IsEnd, IsShown}
 use Rattle.table_chain.specs.declared.event.Stored.TheVariants.{Shown, End}
 use Rattle.table_chain.proofs.Chained as chained
 use Rattle.table_chain.proofs.Steps.{slots_is}
-use Rattle.shared_set.specs.Stages.{StageView, Course, Begins, GrowsInto, HasNext, IsRun}
+use Rattle.shared_set.specs.Stages.{StageView, Course, Begins, GrowsInto, IsRun}
 
 module _ {V : Type 0} (same : V → V → Bool) (hash : V → ℕ) where
   pub one_stage : (slot : ℕ) (s t : StageView V) (course : Course V) → IsRun same hash course → chain.Stands course slot s → chain.Stands course slot t → s ≡ t
@@ -49,7 +48,3 @@ module _ {V : Type 0} (same : V → V → Bool) (hash : V → ℕ) where
   pub shown_stands : (slot : ℕ) (s : StageView V) (old new : Course V) → IsShown (Begins same hash) (GrowsInto same hash) slot s old new → chain.Stands new slot s
   shown_stands slot s old new shown = let e = chain.event slot shown.0 (Some (Shown s)) in
       (shown.0, subst (λ (l : Course V). chain.Has l slot shown.0 (Shown s)) (sym shown.1.2) (Contains-push shown.1.0 e))
-
-  pub has_next : (slot j : ℕ) (s t : StageView V) (old new : Course V) → IsPrefix old new → IsRun same hash new → chain.Stands old slot s → j ≡ suc slot → chain.Stands new j t → HasNext same hash slot s new
-  has_next slot j s t old new on run here is there = let next : chain.Stands new (suc slot) t = subst (λ (n : ℕ). chain.Stands new n t) is there in
-      (t, next, grows_at slot s t new run (chained.stands_on (Begins same hash) (GrowsInto same hash) old new slot s on here) next)

@@ -26,6 +26,10 @@ stage_view g b log = record { of = g; before_book = b; before = log }
 abbrev pub Course : Type 0 → Type 0
 Course V = chain.History (StageView V)
 
+-- a stage is in the slot after this one
+abbrev pub HasNext : {V : Type 0} → ℕ → Course V → Type 0
+HasNext {V} slot course = (s : StageView V) × chain.Stands course (suc slot) s
+
 -- a history of a generation that grew out of a full one: it began with the entries of that one, and with nothing else
 pub record HasGrown {V : Type 0} (log : History (Numbered V)) : Type 0 where
   pub size : ℕ
@@ -49,10 +53,6 @@ module _ {V : Type 0} (same : V → V → Bool) (hash : V → ℕ) where
     pub reached : IsReached (alike same) (marked hash) t.before
     pub since : IsPrefix s.of.start t.before
     pub begins : BeginsAs t.before t.of.start
-
-  -- in the slot after this one is a stage that grew out of s
-  abbrev pub HasNext : ℕ → StageView V → Course V → Type 0
-  HasNext slot s course = (t : StageView V) × chain.Stands course (suc slot) t × GrowsInto s t
 
   -- a course that was reached
   abbrev pub IsRun : Course V → Type 0

@@ -41,7 +41,7 @@ impl<V, L: SetLaw<V>, A: Low + Copy> SharedSet<V, L, A> {
         requires at { IsCursor L.same L.hash_of self.now.of cursor.now }
         requires shown { Stands cursor.now.stages.log cursor.now.slot stage.now }
         ensures seen { IfSome result (λ t. IsSeen L.same L.hash_of self.now.of t.book t.names t.log) }
-        ensures next { IfSome result (λ t. HasNext L.same L.hash_of cursor.now.slot stage.now t.log) }
+        ensures next { IfSome result (λ t. HasNext cursor.now.slot t.log) }
     {
         if cursor.is_last() {
             return None;
@@ -51,7 +51,7 @@ impl<V, L: SetLaw<V>, A: Low + Copy> SharedSet<V, L, A> {
             self.growing.store(false, SeqCst);
             return grown;
         }
-        match self.comes(cursor, stage) {
+        match self.comes(cursor, stage.generation().buckets()) {
             Some(seen) => Some(seen),
             None => self.build(cursor, stage),
         }
@@ -70,18 +70,12 @@ impl<V, L: SetLaw<V>, A: Low + Copy> SharedSet<V, L, A> {
     }
 
     /// Loads the word of the next slot, and returns what is known of the chain then. `None` means that the slot had no stage.
-    fn look_ahead(
-        &self,
-        cursor: &Cursor<V, L, A>,
-        stage: &Stage<V, L, A>,
-    ) -> Option<Stages<V, L, A>>
+    fn look_ahead(&self, cursor: &Cursor<V, L, A>) -> Option<Stages<V, L, A>>
         requires at { IsCursor L.same L.hash_of self.now.of cursor.now }
-        requires shown { Stands cursor.now.stages.log cursor.now.slot stage.now }
         requires inside { suc cursor.now.slot < stages }
         ensures seen { IfSome result (λ t. IsSeen L.same L.hash_of self.now.of t.book t.names t.log) }
-        ensures next { IfSome result (λ t. HasNext L.same L.hash_of cursor.now.slot stage.now t.log) }
+        ensures next { IfSome result (λ t. HasNext cursor.now.slot t.log) }
     {
-        let _at = stage;
         let mut seen = cursor.stages.again();
         match self.chain.look(&mut seen, cursor.slot + 1) {
             Some(_) => Some(seen),
@@ -90,16 +84,14 @@ impl<V, L: SetLaw<V>, A: Low + Copy> SharedSet<V, L, A> {
     }
 
     /// Waits for a while until a stage is in the next slot. Returns `None` if none was shown, or if the thread that builds it has given up.
-    fn comes(&self, cursor: &Cursor<V, L, A>, stage: &Stage<V, L, A>) -> Option<Stages<V, L, A>>
+    fn comes(&self, cursor: &Cursor<V, L, A>, buckets: usize) -> Option<Stages<V, L, A>>
         requires at { IsCursor L.same L.hash_of self.now.of cursor.now }
-        requires shown { Stands cursor.now.stages.log cursor.now.slot stage.now }
         requires inside { suc cursor.now.slot < stages }
         ensures seen { IfSome result (λ t. IsSeen L.same L.hash_of self.now.of t.book t.names t.log) }
-        ensures next { IfSome result (λ t. HasNext L.same L.hash_of cursor.now.slot stage.now t.log) }
+        ensures next { IfSome result (λ t. HasNext cursor.now.slot t.log) }
     {
-        let looks = SPINS + stage.generation().buckets() / BUCKETS_A_LOOK;
-        for look in 0..looks {
-            if let Some(seen) = self.look_ahead(cursor, stage) {
+        for look in 0..SPINS + buckets / BUCKETS_A_LOOK {
+            if let Some(seen) = self.look_ahead(cursor) {
                 return Some(seen);
             }
             if !self.growing.load(SeqCst) {
@@ -132,37 +124,30 @@ impl<V, L: SetLaw<V>, A: Low + Copy> SharedSet<V, L, A> {
         requires shown { Stands cursor.now.stages.log cursor.now.slot stage.now }
         requires inside { suc cursor.now.slot < stages }
         ensures seen { IfSome result (λ t. IsSeen L.same L.hash_of self.now.of t.book t.names t.log) }
-        ensures next { IfSome result (λ t. HasNext L.same L.hash_of cursor.now.slot stage.now t.log) }
+        ensures next { IfSome result (λ t. HasNext cursor.now.slot t.log) }
     {
-        if let Some(seen) = self.look_ahead(cursor, stage) {
+        if let Some(seen) = self.look_ahead(cursor) {
             return Some(seen);
         }
         let Some(next) = self.next_of(stage, cursor.entries.again()) else {
             return None;
         };
-        let Some(seen) = self.show_next(cursor, stage, next) else {
+        let Some(seen) = self.show_next(cursor, next) else {
             return None;
         };
         self.begin.store(cursor.slot + 1, SeqCst);
         Some(seen)
     }
 
-    /// Shows the stage that follows this one, unless another one was shown, and returns what is known of the chain then. `None` means that
-    /// memory was refused.
-    fn show_next(
-        &self,
-        cursor: &Cursor<V, L, A>,
-        stage: &Stage<V, L, A>,
-        next: Stage<V, L, A>,
-    ) -> Option<Stages<V, L, A>>
+    /// Shows a stage in the next slot, unless another one is there, and returns what is known of the chain then. `None` means that memory
+    /// was refused.
+    fn show_next(&self, cursor: &Cursor<V, L, A>, next: Stage<V, L, A>) -> Option<Stages<V, L, A>>
         requires at { IsCursor L.same L.hash_of self.now.of cursor.now }
-        requires shown { Stands cursor.now.stages.log cursor.now.slot stage.now }
         requires inside { suc cursor.now.slot < stages }
-        requires grows { GrowsInto L.same L.hash_of stage.now next }
+        requires grows { (s : _) × Stands cursor.now.stages.log cursor.now.slot s × GrowsInto L.same L.hash_of s next }
         ensures seen { IfSome result (λ t. IsSeen L.same L.hash_of self.now.of t.book t.names t.log) }
-        ensures next { IfSome result (λ t. HasNext L.same L.hash_of cursor.now.slot stage.now t.log) }
+        ensures next { IfSome result (λ t. HasNext cursor.now.slot t.log) }
     {
-        let _at = stage;
         let mut seen = cursor.stages.again();
         match self.chain.show(&mut seen, cursor.slot + 1, next) {
             Showing::Shown(_) => Some(seen),

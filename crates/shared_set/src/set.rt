@@ -38,7 +38,7 @@ const MOST_ENTRIES: usize = 1 << 31;
 /// A set of values that threads share through `&`, and that grows. No two of its entries are the same under the law `L`. No entry is removed
 /// or moved.
 ///
-/// A contract sees which set it is. Which entries it has is what its handles know.
+/// A contract sees which set it is, and what its first generation began with. Which entries it has is what its handles know.
 pub struct SharedSet<V, L: SetLaw<V>, A: Low + Copy = Global> {
     pub(crate) slab: Slab<V, A>,
     pub(crate) chain: Chain<Stage<V, L, A>, Grows<V, L, A>, A>,
@@ -149,7 +149,8 @@ impl<V, L: SetLaw<V>, A: Low + Copy> SharedSet<V, L, A> {
         }
     }
 
-    /// Returns a handle, by which one thread calls the set.
+    /// Returns a handle, by which one thread calls the set. The handle knows what one generation began with: the first, or one that grew out
+    /// of a full one. Each entry that the set began with is known.
     pub fn handle(&self) -> Handle<'_, V, L, A>
         ensures of { result.of ≡ self.now.of }
         ensures keeps { Keeps self.now.start result.history }
