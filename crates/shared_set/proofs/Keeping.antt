@@ -1,5 +1,7 @@
 -- What is known of a set stays known.
-use Rattle.std.proofs.Common.{◌≡◌, ℕ, suc, ◌<◌, ◌≤◌, ◌⊎◌, Bool, List, Some, refl, ap, sym, subst, ◌∙◌, arith, inl, inr}
+use Rattle.std.proofs.Common.{◌≡◌, ℕ, suc, ◌<◌, ◌≤◌, ◌⊎◌, Bool, true, List, Option, Some, None, refl, ap, sym, subst, ◌∙◌, arith, inl, inr}
+use Rattle.std.specs.Prelude.{MatchOption}
+use Rattle.std.specs.Borrow.{Bor}
 use mathlib.Core.List.{IsPrefix}
 use Rattle.logbook.specs.Pages.{Book}
 use Rattle.table_slab.specs.Shelved.{slab_of}
@@ -9,32 +11,50 @@ use Rattle.table_chain.specs.Chains.{ChainView}
 use Rattle.table_chain.specs.Chains as chains
 use Rattle.table_chain.proofs.Chained as chained
 use Rattle.table_chain.proofs.Steps as steps
-use Rattle.table_numbered.specs.Words.{alike, marked}
+use Rattle.table_numbered.specs.Words.{alike, marked, of_value}
 use Rattle.table_numbered.specs.declared.event.Numbered.{Numbered}
 use Rattle.table_numbered.specs.declared.event.Stored.TheVariants.{Entry}
-use Rattle.table_numbered.specs.History.{History, IsEntry, IsReached, Stands}
-use Rattle.table_numbered.specs.Generations.{IsOf}
-use Rattle.table_numbered.proofs.Histories.{stands_on, size_on, full_says}
+use Rattle.table_numbered.specs.History.{History, IsEntry, NonePasses, IsReached, Stands}
+use Rattle.table_numbered.specs.Generations.{SetView, IsOf}
+use Rattle.table_numbered.proofs.Histories.{stands_on, size_on, whole_on, full_says}
 use Rattle.shared_set.specs.Stages.{stages, StageView, Course, Begins, GrowsInto, IsRun}
-use Rattle.shared_set.specs.Known.{SharedView, shared_view, KnownView, Keeps, KnowsMore, IsSeen, IsAt}
+use Rattle.shared_set.specs.Known.{SharedView, shared_view, SharedSetView, KnownView, Keeps, KnowsMore, IsSeen, IsAt}
 use Rattle.shared_set.proofs.Courses.{one_stage, grows_at, inside}
 
 module _ {V : Type 0} where
+  -- sets that are seen alike are one set
+  pub one_set : {a b : SharedSetView V} → a ≡ b → a.of ≡ b.of
+  one_set is = ap (λ (x : SharedSetView V). x.of) is
+
   pub keeps_trans : (a b c : History (Numbered V)) → Keeps a b → Keeps b c → Keeps a c
   keeps_trans a b c one other e there = other e (one e there)
 
   pub keeps_longer : (a b : History (Numbered V)) → IsPrefix a b → Keeps a b
   keeps_longer a b on e there = (there.0, stands_on a b there.0 e on there.1)
 
+  -- where nothing that is known passes a test, nothing that was known before does
+  pub none_before : (test : Numbered V → Bool) (a b : History (Numbered V)) → Keeps a b → NonePasses test (IsEntry b) → NonePasses test (IsEntry a)
+  none_before test a b kept none e there = none e (kept e there)
+
+  pub finds_before : (r : Option (Bor V)) (test : V → Bool) (a b : History (Numbered V)) → Keeps a b → MatchOption r (NonePasses (of_value test) (IsEntry b)) (λ e. test e.now ≡ true)
+      → MatchOption r (NonePasses (of_value test) (IsEntry a)) (λ e. test e.now ≡ true)
+  finds_before None test a b kept none = none_before (of_value test) a b kept none
+  finds_before (Some e) test a b kept found = found
+
   pub knows_trans : (a b c : KnownView V) → KnowsMore a b → KnowsMore b c → KnowsMore a c
   knows_trans a b c one other = (other.0 ∙ one.0, keeps_trans a.history b.history c.history one.1 other.1)
 
 module _ {V : Type 0} (same : V → V → Bool) (hash : V → ℕ) where
+  -- what was known of a generation is known of a longer history
+  pub of_more : (t : SetView) (b c : Book) (names others : List ℕ) (log new : History (Numbered V)) → c ≡ b → others ≡ names → IsPrefix log new → IsReached (alike same) (marked hash) new → IsOf same hash t b names log → IsOf same hash t c others new
+  of_more t b c names others log new kept named on reached of = (kept ∙ of.0, ap slab_of named ∙ of.1, size_on t.size log new of.2 on, reached, whole_on t.size log new of.2 on of.4)
+
   -- each entry that was known of a stage is one that the next stage has from the first
   pub keeps_over : (s t : StageView V) (old new : History (Numbered V)) → GrowsInto same hash s t → IsPrefix old new → IsPrefix t.before new → IsReached (alike same) (marked hash) new → Keeps old t.of.start
   keeps_over s t old new grows on along reached e there =
       let was : Stands t.before there.0 e = full_says (alike same) (marked hash) s.of.of.size there.0 (Entry e) t.before new grows.full grows.begun along reached (stands_on old new there.0 e on there.1) in
-      grows.carries there.0 e was
+      let here = grows.begins.carried there.0 e was in
+      (here.0, stands_on grows.begins.born t.of.start here.0 e grows.begins.known here.1)
 
   module _ (g : SharedView) (c : ChainView (StageView V)) (s : SlabView) (view : shared_view c s ≡ g) (slots : c.slots ≡ stages) (book : Book) (names : List ℕ) (course : Course V) where
     -- what a token of the chain has seen is what one of the set has seen, and back
@@ -124,5 +144,5 @@ module _ {V : Type 0} (same : V → V → Bool) (hash : V → ℕ) where
       stage = at.stage;
       shown = at.shown;
       slab = at.slab;
-      of = (kept ∙ at.of.0, subst (λ (x : List ℕ). slab_of x ≡ at.stage.of.of.slab) (sym named) at.of.1, size_on at.stage.of.of.size log new at.of.2 on, reached);
+      of = of_more at.stage.of.of eb nb en nn log new kept named on reached at.of;
     }

@@ -2,6 +2,7 @@ mod Courses
 mod Keeping
 mod Moving
 mod Ended
+mod Starting
 mod Supplying
 mod Sizes
 pub mod Placing

@@ -6,12 +6,12 @@ use Rattle.table_slab.specs.Slabs.{SlabView}
 use Rattle.table_slab.specs.Shelved.{slab_of}
 use Rattle.table_chain.specs.History as chain
 use Rattle.table_chain.specs.Chains.{ChainView, IsOpen}
-use Rattle.table_numbered.specs.History.{History, IsEntry}
+use Rattle.table_numbered.specs.History.{History, IsUntouched, IsEntry}
 use Rattle.table_numbered.specs.Generations.{IsOf}
 use Rattle.table_numbered.specs.declared.event.Numbered.{Numbered}
 use Rattle.shared_set.specs.declared.cursor.Cursor.{Cursor}
 use Rattle.shared_set.specs.declared.supply.Supply.{Supply}
-use Rattle.shared_set.specs.Stages.{stages, StageView, Course, IsRun}
+use Rattle.shared_set.specs.Stages.{stages, StageView, Course, HasGrown, IsRun}
 use Rattle.shared_set.specs.Supplies.{IsSupplyOf}
 
 -- which set it is: the book and the slab of its chain, and the slab of its entries
@@ -22,6 +22,14 @@ pub record SharedView : Type 0 where
 
 abbrev pub shared_view : {V : Type 0} → ChainView (StageView V) → SlabView → SharedView
 shared_view c s = record { book = c.book; names = c.names; slab = s }
+
+-- what a contract sees of a set: which set it is, and the history that its first generation began with
+pub record SharedSetView (V : Type 0) : Type 0 where
+  pub of : SharedView
+  pub start : History (Numbered V)
+
+abbrev pub shared_set_view : {V : Type 0} → SharedView → History (Numbered V) → SharedSetView V
+shared_set_view g log = record { of = g; start = log }
 
 -- the set that a cursor is of
 abbrev pub set_of : {V L A : Type 0} → Cursor V L A → SharedView
@@ -47,6 +55,14 @@ module _ {V : Type 0} where
   -- it is of the same set, and each entry that was known before is known later
   abbrev pub KnowsMore : KnownView V → KnownView V → Type 0
   KnowsMore old new = (new.of ≡ old.of) × Keeps old.history new.history
+
+  -- no bucket has an entry, and none is closed
+  abbrev pub IsEmpty : History (Numbered V) → Type 0
+  IsEmpty log = (p : ℕ) → IsUntouched log p
+
+  -- what a new handle knows of a set: what its first generation began with, or what a later one began with
+  abbrev pub IsFresh : History (Numbered V) → History (Numbered V) → Type 0
+  IsFresh start log = (log ≡ start) ⊎ HasGrown log
 
 -- where a cursor that was in the slot `old` is after a step: at the stage that is shown, or where it was, since none is in the next slot
 abbrev pub Stepped : {V : Type 0} → ℕ → ℕ → Course V → Option (Bor (StageView V)) → Type 0
@@ -78,12 +94,13 @@ module _ {V : Type 0} (same : V → V → Bool) (hash : V → ℕ) where
   abbrev pub IsCursor : {L A : Type 0} → SharedView → Cursor V L A → Type 0
   IsCursor g c = IsAt g c.slot c.stages.book c.stages.names c.stages.log c.entries.book c.entries.names c.entries.log
 
-  -- a set between two calls: its first stage is over its slab
-  pub record IsShared (c : ChainView (StageView V)) (s : SlabView) : Type 0 where
+  -- a set between two calls: its first stage is over its slab, and began with this history
+  pub record IsShared (c : ChainView (StageView V)) (s : SlabView) (start : History (Numbered V)) : Type 0 where
     pub slots : c.slots ≡ stages
     pub first : StageView V
     pub begins : chain.Stands c.start 0 first
     pub over : first.of.of.slab ≡ s
+    pub with : first.of.start ≡ start
 
   -- a handle between two calls
   pub record IsHandle {L A : Type 0} (g : SharedView) (stage : StageView V) (c : Cursor V L A) (s : Supply V A) : Type 0 where

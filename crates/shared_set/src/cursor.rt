@@ -1,6 +1,8 @@
 //! Where in a chain a thread is, and what it has seen there.
-ghost use Rattle.std.specs.Prelude.{◌≡◌};
+ghost use Rattle.std.specs.Prelude.{◌≡◌, suc, ◌<◌, ◌≤◌, true, false};
+ghost use Rattle.shared_set.specs.Stages.{stages};
 
+use crate::set::STAGES;
 use crate::stage::{Grows, Stage};
 use table_cell::Low;
 use table_chain::Token as ChainToken;
@@ -27,5 +29,13 @@ impl<V, L: SetLaw<V>, A: Low + Copy> Cursor<V, L, A> {
             stages: self.stages.again(),
             entries: self.entries.again(),
         }
+    }
+
+    /// Returns true if the chain has no slot after this one.
+    pub(crate) fn is_last(&self) -> bool
+        ensures last { result ≡ true → stages ≤ suc self.now.slot }
+        ensures inside { result ≡ false → suc self.now.slot < stages }
+    {
+        self.slot >= STAGES - 1
     }
 }

@@ -34,9 +34,9 @@ impl<'a, V, L: SetLaw<V>, A: Low + Copy> Model for Handle<'a, V, L, A> {
 
     ghost Value = { KnownView V };
 
-    ghost view = { λ h. known_view h.set.now h.cursor.entries.log };
+    ghost view = { λ h. known_view h.set.now.of h.cursor.entries.log };
 
-    ghost invariant = { λ h. IsHandle L.same L.hash_of h.set.now h.stage.now h.cursor h.supply };
+    ghost invariant = { λ h. IsHandle L.same L.hash_of h.set.now.of h.stage.now h.cursor h.supply };
 }
 
 impl<'a, V, L: SetLaw<V>, A: Low + Copy> Handle<'a, V, L, A> {

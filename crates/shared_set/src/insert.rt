@@ -1,7 +1,7 @@
 //! Inserts.
 ghost use Rattle.std.specs.Prelude.{◌≡◌};
 ghost use Rattle.shared_set.specs.Known.{KnowsMore};
-ghost use Rattle.shared_set.specs.Inserting.{Inserts, Attempts};
+ghost use Rattle.shared_set.specs.Inserting.{Inserts, InsertsHere, Attempts};
 ghost use Rattle.shared_set.specs.Supplies.{IsVacant};
 
 use crate::handle::Handle;
@@ -59,7 +59,7 @@ impl<'a, V, L: SetLaw<V>, A: Low + Copy> Handle<'a, V, L, A> {
     fn place(&mut self, number: u64, right: Right<V, A>, value: V) -> Attempt<'a, V>
         requires vacant { IsVacant self.old.of.slab (number, right) }
         ensures known { KnowsMore self.old self.new }
-        ensures told { Attempts L.same value self.old.history self.new.history result }
+        ensures told { InsertsHere L.same L.hash_of value self.old.history self.new.history result }
     {
         let set = self.set;
         let generation = self.stage.generation();
@@ -82,7 +82,7 @@ impl<'a, V, L: SetLaw<V>, A: Low + Copy> Handle<'a, V, L, A> {
     /// Looks for an entry that is the same first. If there is none, and a bucket is left, it asks for a number and places the value.
     fn place_if_new(&mut self, value: V) -> Attempt<'a, V>
         ensures known { KnowsMore self.old self.new }
-        ensures told { Attempts L.same value self.old.history self.new.history result }
+        ensures told { InsertsHere L.same L.hash_of value self.old.history self.new.history result }
     {
         let set = self.set;
         let generation = self.stage.generation();
@@ -104,13 +104,13 @@ impl<'a, V, L: SetLaw<V>, A: Low + Copy> Handle<'a, V, L, A> {
     /// Makes sure that a stage is behind the one of this handle. Returns false if memory was refused, or no slot is left.
     fn grow(&self) -> bool {
         let set = self.set;
-        set.grow(&self.cursor, self.stage)
+        set.grow(&self.cursor, self.stage).is_some()
     }
 
     /// Inserts the value in the newest generation.
     fn insert_here(&mut self, value: V) -> Attempt<'a, V>
         ensures known { KnowsMore self.old self.new }
-        ensures told { Attempts L.same value self.old.history self.new.history result }
+        ensures told { InsertsHere L.same L.hash_of value self.old.history self.new.history result }
     {
         match self.supply.take() {
             Some((number, right)) => self.place(number, right, value),
@@ -118,23 +118,37 @@ impl<'a, V, L: SetLaw<V>, A: Low + Copy> Handle<'a, V, L, A> {
         }
     }
 
+    /// Inserts the value in the newest generation. If that has no bucket for it, this makes sure that a stage is behind it.
+    fn insert_or_grow(&mut self, value: V) -> Attempt<'a, V>
+        ensures known { KnowsMore self.old self.new }
+        ensures told { Attempts L.same L.hash_of value self.old.history self.new.history result }
+    {
+        self.advance();
+        match self.insert_here(value) {
+            Attempt::Done(inserted) => Attempt::Done(inserted),
+            Attempt::Full(back) => {
+                if self.grow() {
+                    Attempt::Full(back)
+                } else {
+                    Attempt::Done(Inserted::Refused(back))
+                }
+            }
+        }
+    }
+
     /// Inserts the value, unless an entry is the same.
     ///
     /// `Placed`: no entry that was placed before it is the same. `Found`: the entry that is returned is the same. `Refused`: no entry
-    /// known to this handle is the same.
+    /// known to this handle is the same, and its buckets are known up to an empty one, to a closed one or to the last.
     pub fn insert(&mut self, value: V) -> Inserted<'a, V>
         ensures known { KnowsMore self.old self.new }
-        ensures told { Inserts L.same value self.old.history self.new.history result }
+        ensures told { Inserts L.same L.hash_of value self.old.history self.new.history result }
     {
         let mut value = value;
         for _tried in 0..STAGES {
-            self.advance();
-            match self.insert_here(value) {
+            match self.insert_or_grow(value) {
                 Attempt::Done(inserted) => return inserted,
                 Attempt::Full(back) => value = back,
-            }
-            if !self.grow() {
-                return Inserted::Refused(value);
             }
         }
         Inserted::Refused(value)

@@ -1,6 +1,5 @@
 use Rattle.std.proofs.Common.{sym, subst}
-use Rattle.std.specs.Prelude.{Option, IfSome}
-use Rattle.table_slab.specs.declared.slab.Right.{Right}
+use Rattle.std.specs.Prelude.{IfSome}
 use Rattle.shared_set.specs.Supplies.{IsVacant}
 use Rattle.shared_set.proofs.Supplying.{vacant}
 use Rattle.shared_set.proofs.supply.Supply.take.Goals as goal
