@@ -20,7 +20,7 @@ use Rattle.shared_set.proofs.Courses.{one_slab, one_stage, below}
 use Rattle.shared_set.proofs.Keeping.{seen_of_set, seen_of_chain}
 
 module _ {V : Type 0} (same : V → V → Bool) (hash : V → ℕ) where
-  module _ (c : ChainView (StageView V)) (s : SlabView) (shared : IsShared same hash c s) (start new : Course V) (is : start ≡ c.start) (on : IsPrefix start new) where
+  module _ (c : ChainView (StageView V)) (s : SlabView) (begun : History (Numbered V)) (shared : IsShared same hash c s begun) (start new : Course V) (is : start ≡ c.start) (on : IsPrefix start new) where
     -- the first stage stands in each later course
     pub first_shown : chain.Stands new 0 shared.first
     first_shown = chained.stands_on (Begins same hash) (GrowsInto same hash) start new 0 shared.first on (subst (λ (l : Course V). chain.Stands l 0 shared.first) (sym is) shared.begins)
@@ -81,7 +81,7 @@ module _ {V : Type 0} where
   pub nearer : (s t : EndedView V) (r : Option V) → YieldsFirst (λ (e : EndedView V). e.left) s r t → MakesProgress (λ _. ⊤) (item_count (λ (e : EndedView V). e.left)) s r t
   nearer s t None told = search rules
   nearer s t (Some x) told = record {
-    on = λ finite. (tt, (tt, omega (arith, ap length told)));
+    on = λ finite. (tt, tt, omega (arith, ap length told));
     keeps = tt;
     rests = λ finite. tt;
   }

@@ -46,7 +46,7 @@ fn ended<V, L: SetLaw<V>, A: Low + Copy>(
     slab: Ending<V, A>,
     chain: Chain<Stage<V, L, A>, Grows<V, L, A>, A>,
 ) -> IntoValues<V, L, A>
-    requires shared { IsShared L.same L.hash_of chain slab.slab }
+    requires shared { (start : _) × IsShared L.same L.hash_of chain slab.slab start }
     requires left { (k : ℕ) → IsLeft slab k }
     ensures { Ends L.same (shared_view chain slab.slab) result }
 {
@@ -68,7 +68,7 @@ fn ended<V, L: SetLaw<V>, A: Low + Copy>(
 impl<V, L: SetLaw<V>, A: Low + Copy> SharedSet<V, L, A> {
     /// Takes the set apart, and returns its values. It asks for no memory, and always succeeds.
     pub fn into_values(self) -> IntoValues<V, L, A>
-        ensures { Ends L.same self result }
+        ensures { Ends L.same self.of result }
     {
         let (slab, chain) = self.into_parts();
         ended(slab.end(), chain)
@@ -80,7 +80,7 @@ impl<V: Drop, L: SetLaw<V>, A: Low + Copy> IntoIterator for SharedSet<V, L, A> {
 
     type IntoIter = IntoValues<V, L, A>;
 
-    ghost into_iter_gives = { Ends L.same };
+    ghost into_iter_gives = { λ s it. Ends L.same s.of it };
 
     /// Takes the set apart, and returns its values, as `into_values` does.
     fn into_iter(self) -> IntoValues<V, L, A> {
