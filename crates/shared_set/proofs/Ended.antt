@@ -1,7 +1,5 @@
 -- What a set that has ended knows of its chain and of its newest generation.
-use Rattle.std.proofs.Common.{◌≡◌, ℕ, suc, ◌+◌, ◌<◌, ◌≤◌, Bool, List, refl, ap, sym, subst, ◌∙◌, arith, rules}
-use Rattle.std.specs.Prelude.{Option, Some, None, ⊤, length}
-use Rattle.std.specs.Iterator.{YieldsFirst, MakesProgress, item_count}
+use Rattle.std.proofs.Common.{◌≡◌, ℕ, suc, ◌+◌, ◌<◌, ◌≤◌, Bool, List, refl, ap, sym, subst, ◌∙◌, arith}
 use mathlib.Core.List.{IsPrefix}
 use Rattle.logbook.specs.Pages.{Book}
 use Rattle.table_slab.specs.Slabs.{SlabView}
@@ -15,7 +13,7 @@ use Rattle.table_numbered.specs.History.{History}
 use Rattle.table_numbered.specs.declared.event.Numbered.{Numbered}
 use Rattle.shared_set.specs.Stages.{stages, StageView, Course, Begins, GrowsInto, IsRun}
 use Rattle.shared_set.specs.Known.{SharedView, shared_view, IsSeen, IsAt, IsShared}
-use Rattle.shared_set.specs.Ending.{EndedView, IsEnded}
+use Rattle.shared_set.specs.Ending.{IsEnded}
 use Rattle.shared_set.proofs.Courses.{one_slab, one_stage, below}
 use Rattle.shared_set.proofs.Keeping.{seen_of_set, seen_of_chain}
 
@@ -75,13 +73,3 @@ module _ {V : Type 0} (same : V → V → Bool) (hash : V → ℕ) where
     ended_book g p cb cn both eb en log on is at =
         let one : at.stage ≡ e.stage = one_stage same hash slot at.stage e.stage both at.seen.reached (subst (λ (n : ℕ). chain.Stands both n at.stage) is at.shown) (chained.stands_on (Begins same hash) (GrowsInto same hash) course both slot e.stage on e.shown) in
         at.of.0 ∙ (ap (λ (u : StageView V). u.of.of.book) one ∙ sym (ap (λ (t : SetView). t.book) e.of))
-
-module _ {V : Type 0} where
-  -- a step of an iterator brings it nearer to its end
-  pub nearer : (s t : EndedView V) (r : Option V) → YieldsFirst (λ (e : EndedView V). e.left) s r t → MakesProgress (λ _. ⊤) (item_count (λ (e : EndedView V). e.left)) s r t
-  nearer s t None told = search rules
-  nearer s t (Some x) told = record {
-    on = λ finite. (tt, tt, omega (arith, ap length told));
-    keeps = tt;
-    rests = λ finite. tt;
-  }

@@ -1,7 +1,4 @@
-use Rattle.std.proofs.Common.{◌≡◌, ◌∙◌, ap, sym, subst}
-use Rattle.std.specs.Iterator.{YieldsFirst, MakesProgress, item_count}
-use Rattle.shared_set.specs.Ending.{EndedView, ended_view, IsSameEnd}
-use Rattle.shared_set.proofs.Ended.{ended_seen, ended_of, ended_on, nearer}
+use Rattle.shared_set.proofs.Ended.{ended_seen, ended_of, ended_on}
 use Rattle.shared_set.proofs.ending.IntoValuesIterator.next.Goals as goal
 
 pub get-stage-requires-clause-of : goal.get-stage-requires-clause-of
