@@ -151,7 +151,10 @@ fn fill_counting(
 ) -> Result<(), AllocError> {
     let mut handle = set.handle();
     for number in 0..end {
-        let placed = matches!(handle.insert(counting(number, drops)?), Inserted::Placed(_, _));
+        let placed = matches!(
+            handle.insert(counting(number, drops)?),
+            Inserted::Placed(_, _)
+        );
         assert_same(rt, placed, true);
     }
     Ok(())
