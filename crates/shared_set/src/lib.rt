@@ -15,6 +15,7 @@ mod stage;
 mod supply;
 
 pub use get_or_insert::GotOrInserted;
+pub use ending::IntoValues;
 pub use handle::Handle;
 pub use insert::Inserted;
 pub use iter::Iter;

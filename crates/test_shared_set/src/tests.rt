@@ -3,6 +3,7 @@ mod caller;
 mod drops;
 mod keys;
 mod made;
+mod ending;
 mod memory;
 mod numbers;
 mod runs;
