@@ -10,7 +10,11 @@ use testkit_refusing::{Refusing, Rule};
 const MANY: u32 = 1000;
 
 /// Gets the entry that meets the key, or inserts this value. Returns how it ended, and whether the value was made.
-fn get_or_insert(handle: &mut Numbering<'_, '_>, key: u32, value: u64) -> (Told, Option<u64>, bool) {
+fn get_or_insert(
+    handle: &mut Numbering<'_, '_>,
+    key: u32,
+    value: u64,
+) -> (Told, Option<u64>, bool) {
     let mut made = false;
     let ended = handle.get_or_insert_with(&key, || {
         made = true;
@@ -52,8 +56,16 @@ fn a_value_that_does_not_meet_the_key_is_inserted(rt: HostRuntime) {
     let mut handle = set.handle();
     let (told, number, made) = get_or_insert(&mut handle, 1, 2);
     assert_same(&rt, (told, made), (Told::Placed, true));
-    assert_same(&rt, get_or_insert(&mut handle, 1, 2), (Told::Found, number, true));
-    assert_same(&rt, get_or_insert(&mut handle, 2, 3), (Told::Found, number, false));
+    assert_same(
+        &rt,
+        get_or_insert(&mut handle, 1, 2),
+        (Told::Found, number, true),
+    );
+    assert_same(
+        &rt,
+        get_or_insert(&mut handle, 2, 3),
+        (Told::Found, number, false),
+    );
     assert_same(&rt, handle.get(&2), Some(&2));
     assert_same(&rt, handle.get(&1), None);
 }
@@ -83,7 +95,11 @@ fn a_value_that_was_made_is_returned_if_memory_is_refused(rt: HostRuntime) {
     let set: Numbers<'_> = SharedSet::new(&heap).expect(&rt, "a set");
     let mut handle = set.handle();
     heap.refuse(0, 1);
-    assert_same(&rt, get_or_insert(&mut handle, 5, 5), (Told::Refused, None, true));
+    assert_same(
+        &rt,
+        get_or_insert(&mut handle, 5, 5),
+        (Told::Refused, None, true),
+    );
     let (told, _number, made) = get_or_insert(&mut handle, 5, 5);
     assert_same(&rt, (told, made), (Told::Placed, true));
 }
