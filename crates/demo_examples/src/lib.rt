@@ -7,4 +7,5 @@ pub mod held;
 pub mod schedules;
 pub mod seats;
 pub mod shared;
+pub mod told;
 pub mod unshown;
