@@ -14,8 +14,8 @@ mod set;
 mod stage;
 mod supply;
 
-pub use get_or_insert::GotOrInserted;
 pub use ending::IntoValues;
+pub use get_or_insert::GotOrInserted;
 pub use handle::Handle;
 pub use insert::Inserted;
 pub use iter::Iter;

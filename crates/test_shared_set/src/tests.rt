@@ -1,9 +1,9 @@
 mod alone;
 mod caller;
 mod drops;
+mod ending;
 mod keys;
 mod made;
-mod ending;
 mod memory;
 mod numbers;
 mod runs;
