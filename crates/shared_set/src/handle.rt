@@ -114,7 +114,7 @@ impl<'a, V, L: SetLaw<V>, A: Low + Copy> Handle<'a, V, L, A> {
         ensures some { result ≡ true → SomePasses (L.same target.now) (IsEntry self.new.history) }
         ensures none { result ≡ false → NonePasses (of_value (L.same target.now)) (IsEntry self.new.history) }
     {
-        match self.find(target) {
+        match self.get(target) {
             Some(_) => true,
             None => false,
         }
