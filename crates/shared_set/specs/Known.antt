@@ -6,8 +6,9 @@ use Rattle.table_slab.specs.Slabs.{SlabView}
 use Rattle.table_slab.specs.Shelved.{slab_of}
 use Rattle.table_chain.specs.History as chain
 use Rattle.table_chain.specs.Chains.{ChainView, IsOpen}
-use Rattle.table_numbered.specs.History.{History, IsUntouched, IsEntry}
-use Rattle.table_numbered.specs.Generations.{IsOf}
+use Rattle.table_numbered.specs.Words.{of_value}
+use Rattle.table_numbered.specs.History.{History, IsUntouched, IsEntry, NonePasses}
+use Rattle.table_numbered.specs.Generations.{IsOf, Passes}
 use Rattle.table_numbered.specs.declared.event.Numbered.{Numbered}
 use Rattle.shared_set.specs.declared.cursor.Cursor.{Cursor}
 use Rattle.shared_set.specs.declared.supply.Supply.{Supply}
@@ -55,6 +56,15 @@ module _ {V : Type 0} where
   -- it is of the same set, and each entry that was known before is known later
   abbrev pub KnowsMore : KnownView V → KnownView V → Type 0
   KnowsMore old new = (new.of ≡ old.of) × Keeps old.history new.history
+
+  -- an entry that is known passes the test, with some number
+  abbrev pub SomePasses : (V → Bool) → (Numbered V → Type 0) → Type 0
+  SomePasses test Knows = (k : ℕ) × (v : V) × Passes test Knows k v
+
+  -- what a look-up that shows no number shows, by which entries its caller knows after
+  abbrev pub Gets : (V → Bool) → (Numbered V → Type 0) → Option (Bor V) → Type 0
+  Gets test Knows (Some e) = (k : ℕ) × Passes test Knows k e.now
+  Gets test Knows None = NonePasses (of_value test) Knows
 
   -- no bucket has an entry, and none is closed
   abbrev pub IsEmpty : History (Numbered V) → Type 0

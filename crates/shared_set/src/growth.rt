@@ -144,7 +144,8 @@ impl<V, L: SetLaw<V>, A: Low + Copy> SharedSet<V, L, A> {
     fn show_next(&self, cursor: &Cursor<V, L, A>, next: Stage<V, L, A>) -> Option<Stages<V, L, A>>
         requires at { IsCursor L.same L.hash_of self.now.of cursor.now }
         requires inside { suc cursor.now.slot < stages }
-        requires grows { (s : _) × Stands cursor.now.stages.log cursor.now.slot s × GrowsInto L.same L.hash_of s next }
+        requires grows { (s : _) × Stands cursor.now.stages.log cursor.now.slot s
+            × GrowsInto L.same L.hash_of s next }
         ensures seen { IfSome result (λ t. IsSeen L.same L.hash_of self.now.of t.book t.names t.log) }
         ensures next { IfSome result (λ t. HasNext cursor.now.slot t.log) }
     {

@@ -1,9 +1,9 @@
 //! Handles, by which threads call a set.
-ghost use Rattle.std.specs.Prelude.{◌≡◌, true, false, IfSome, MatchOption};
+ghost use Rattle.std.specs.Prelude.{◌≡◌, true, false};
 ghost use Rattle.table_numbered.specs.Words.{of_value};
 ghost use Rattle.table_numbered.specs.History.{IsEntry, NonePasses};
 ghost use Rattle.table_numbered.specs.Generations.{Finds};
-ghost use Rattle.shared_set.specs.Known.{Keeps, KnowsMore, IsCursor, IsHandle};
+ghost use Rattle.shared_set.specs.Known.{Keeps, KnowsMore, SomePasses, Gets};
 
 use crate::cursor::Cursor;
 use crate::known::Known;
@@ -87,11 +87,10 @@ impl<'a, V, L: SetLaw<V>, A: Low + Copy> Handle<'a, V, L, A> {
     /// Returns the entry that is the same as the target. `None` means that no entry known to this handle is the same.
     pub fn get(&mut self, target: &V) -> Option<&'a V>
         ensures known { KnowsMore self.old self.new }
-        ensures finds { MatchOption result (NonePasses (of_value (L.same target.now)) (IsEntry self.new.history))
-            (λ e. L.same target.now e.now ≡ true) }
+        ensures finds { Gets (L.same target.now) (IsEntry self.new.history) result }
     {
         match self.find(target) {
-            Some((_number, entry)) => Some(entry),
+            Some(found) => Some(found.1),
             None => None,
         }
     }
@@ -101,11 +100,10 @@ impl<'a, V, L: SetLaw<V>, A: Low + Copy> Handle<'a, V, L, A> {
     where
         L: KeyLaw<K, V>,
         ensures known { KnowsMore self.old self.new }
-        ensures finds { MatchOption result (NonePasses (of_value (L.meets key.now)) (IsEntry self.new.history))
-            (λ e. L.meets key.now e.now ≡ true) }
+        ensures finds { Gets (L.meets key.now) (IsEntry self.new.history) result }
     {
         match self.seek(&MetBy { key }) {
-            Some((_number, entry)) => Some(entry),
+            Some(found) => Some(found.1),
             None => None,
         }
     }
@@ -113,9 +111,13 @@ impl<'a, V, L: SetLaw<V>, A: Low + Copy> Handle<'a, V, L, A> {
     /// Returns true if an entry is the same as the target. `false` means that no entry known to this handle is the same.
     pub fn contains(&mut self, target: &V) -> bool
         ensures known { KnowsMore self.old self.new }
+        ensures some { result ≡ true → SomePasses (L.same target.now) (IsEntry self.new.history) }
         ensures none { result ≡ false → NonePasses (of_value (L.same target.now)) (IsEntry self.new.history) }
     {
-        self.get(target).is_some()
+        match self.get(target) {
+            Some(_) => true,
+            None => false,
+        }
     }
 
     /// Returns what this handle knows.
