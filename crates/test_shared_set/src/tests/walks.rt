@@ -24,8 +24,8 @@ fn count(met: &mut Vec<u8>, value: u64) {
 }
 
 /// Asserts that each was met once.
-fn assert_each_once(rt: &impl Abort, met: &Vec<u8>) {
-    for times in met.as_slice().iter() {
+fn assert_each_once(rt: &impl Abort, met: &[u8]) {
+    for times in met.iter() {
         assert_same(rt, *times, 1);
     }
 }
@@ -44,7 +44,7 @@ fn walk(rt: &impl Abort, alloc: Global, count_of: usize) {
         assert_same(rt, handle.find(entry), Some((number, entry)));
     }
     assert_same(rt, all, count_of as u64);
-    assert_each_once(rt, &met);
+    assert_each_once(rt, met.as_slice());
     drop(handle);
     drop(set);
     assert_none_out(rt, &heap);
@@ -80,7 +80,7 @@ fn walk_while_growing(rt: &impl Abort, alloc: Global, count_of: usize) {
         }
     }
     assert_same(rt, walk.next(), None);
-    assert_each_once(rt, &met);
+    assert_each_once(rt, met.as_slice());
     for times in others.as_slice().iter() {
         assert!(rt; *times < 2);
     }
