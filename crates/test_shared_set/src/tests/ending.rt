@@ -25,7 +25,7 @@ impl Drop for Counting {
 }
 
 /// Makes one with this number.
-fn counting(number: u64, drops: &Arc<AtomicU64>) -> Result<Counting, AllocError> {
+fn make_counting(number: u64, drops: &Arc<AtomicU64>) -> Result<Counting, AllocError> {
     let drops = Arc::try_clone(drops)?;
     Ok(Counting { number, drops })
 }
@@ -152,7 +152,7 @@ fn fill_counting(
     let mut handle = set.handle();
     for number in 0..end {
         let placed = matches!(
-            handle.insert(counting(number, drops)?),
+            handle.insert(make_counting(number, drops)?),
             Inserted::Placed(_, _)
         );
         assert_same(rt, placed, true);
