@@ -1,6 +1,7 @@
 mod Courses
 mod Keeping
 mod Moving
+mod Ended
 mod Starting
 mod Supplying
 mod Sizes

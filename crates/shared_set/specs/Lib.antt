@@ -4,3 +4,4 @@ pub mod Supplies
 pub mod Inserting
 pub mod Walks
 pub mod Getting
+pub mod Ending

@@ -151,15 +151,16 @@ impl<'a, V, L: SetLaw<V>, A: Low + Copy> Handle<'a, V, L, A> {
 }
 
 impl<V, L: SetLaw<V>, A: Low + Copy> Drop for Handle<'_, V, L, A> {
-    /// Adds what this handle placed to what the set counts.
+    /// Gives the numbers that are left back, and adds what this handle placed to what the set counts.
     fn drop(self) {
         let Handle {
             set,
             stage: _,
             cursor: _,
-            supply: _,
+            supply,
             uncounted,
         } = self;
+        supply.give_back(&set.slab);
         if uncounted > 0 {
             set.placed.fetch_add(uncounted, SeqCst);
         }

@@ -14,6 +14,7 @@ mod set;
 mod stage;
 mod supply;
 
+pub use ending::IntoValues;
 pub use get_or_insert::GotOrInserted;
 pub use handle::Handle;
 pub use insert::Inserted;

@@ -9,7 +9,6 @@ ghost use Rattle.shared_set.specs.Known.{shared_view, IsShared, Keeps, IsEmpty, 
 ghost use Rattle.shared_set.specs.Inserting.{Replies};
 
 use crate::cursor::{Cursor, Stages};
-use crate::ending::drop_values;
 use crate::handle::Handle;
 use crate::insert::Inserted;
 use crate::stage::{Grows, Stage};
@@ -280,7 +279,6 @@ impl<V, L: SetLaw<V>, A: Low + Copy> SharedSet<V, L, A> {
 impl<V: Drop, L: SetLaw<V>, A: Low + Copy> Drop for SharedSet<V, L, A> {
     /// Drops each entry, and frees the memory.
     fn drop(self) {
-        let (slab, chain) = self.into_parts();
-        drop_values(slab, chain);
+        drop(self.into_values());
     }
 }

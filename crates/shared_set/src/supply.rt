@@ -66,6 +66,18 @@ impl<V, A: Low + Copy> Supply<V, A> {
         }
         Ok(next)
     }
+
+    /// Gives the numbers that are left back to the slab.
+    pub(crate) fn give_back(self, slab: &Slab<V, A>)
+        requires { IsSupplyOf slab.now self }
+    {
+        let Supply {
+            spare: _,
+            run,
+            want: _,
+        } = self;
+        slab.give_back(run);
+    }
 }
 
 /// Returns twice the length, or else `most`.

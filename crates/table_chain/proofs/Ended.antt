@@ -8,7 +8,6 @@ use Rattle.table_slab.specs.Shelved.{slab_of}
 use Rattle.table_chain.specs.declared.event.Stored.TheVariants.{Shown}
 use Rattle.table_chain.specs.History.{History, Has, NumbersDiffer, HasSize, Told, IsReached}
 use Rattle.table_chain.specs.Chains.{ChainView, chain_view, AreWords, IsOf, IsLaid, IsWhole, IsEnding}
-use Rattle.table_chain.proofs.Steps.{size_on}
 use Rattle.table_chain.proofs.Chained.{known_shown}
 
 module _ {G : Type 0} (Begins : G → Type 0) (Follows : G → G → Type 0) where
@@ -66,12 +65,4 @@ module _ {G : Type 0} (Begins : G → Type 0) (Follows : G → G → Type 0) whe
     words = subst (λ (x : Book). AreWords x ws) (sym (of.0 ∙ ap (λ (v : ChainView G). v.book) view)) laid.words;
     size = subst (λ (n : ℕ). HasSize n log) (ap (λ (v : ChainView G). v.slots) view) of.2;
     reached = of.3;
-  }
-
-  -- and as a later history says it
-  pub laid_on : (b bk : Book) (log after : History G) (ws : List Named) → bk ≡ b → IsPrefix log after → IsReached Begins Follows after → IsLaid Begins Follows b log ws → IsLaid Begins Follows bk after ws
-  laid_on b bk log after ws is on r laid = record {
-    words = subst (λ (x : Book). AreWords x ws) (sym is) laid.words;
-    size = size_on (length ws) log after laid.size on;
-    reached = r;
   }

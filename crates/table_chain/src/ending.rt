@@ -55,6 +55,18 @@ fn close_behind<G, F: Follows<G>, A: Allocator>(
 }
 
 impl<G: Drop, F: Follows<G>, A: Low + Copy> Chain<G, F, A> {
+    /// Closes the chain: no value can be shown any more, and the values stay where they are. Returns the number of values.
+    pub fn close(&self, seen: &mut Token<G, F>) -> usize
+        requires of { IsOf F.begins F.follows self.now seen.old.book seen.old.names seen.old.log }
+        ensures of { IsOf F.begins F.follows self.now seen.new.book seen.new.names seen.new.log }
+        ensures longer { IsPrefix seen.old.log seen.new.log }
+        ensures whole { IsWhole self.now.slots result seen.new.log }
+        ensures counted { (p : ℕ) (g : G) → Stands seen.new.log p g → p < result }
+        ensures ended { IsFinal F.begins F.follows seen.new.log }
+    {
+        close_behind(&self.words, seen)
+    }
+
     /// Ends the chain. No value can be shown any more. It asks for no memory.
     pub fn into_ending(self, seen: &mut Token<G, F>) -> Ending<G, F, A>
         requires of { IsOf F.begins F.follows self seen.old.book seen.old.names seen.old.log }
@@ -66,8 +78,8 @@ impl<G: Drop, F: Follows<G>, A: Low + Copy> Chain<G, F, A> {
         ensures counted { (p : ℕ) (g : G) → Stands seen.new.log p g → p < result.count }
         ensures ended { IsFinal F.begins F.follows seen.new.log }
     {
+        let count = self.close(seen);
         let (words, slab, _start) = self.into_parts();
-        let count = close_behind(&words, seen);
         Ending {
             words,
             left: slab.end(),

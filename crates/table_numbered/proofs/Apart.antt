@@ -68,7 +68,7 @@ module _ {X : Type 0} where
   ]
 
 module _ {E U : Type 0} (image : E → U) (same : U → U → Bool) (hash_of : U → ℕ) (law : IsLaw same hash_of) where
-  not_true : (x y z : U) → same x z ≡ true → same z y ≡ false → same x y ≡ false
+  pub not_true : (x y z : U) → same x z ≡ true → same z y ≡ false → same x y ≡ false
   not_true x y z one other = elim (cases_Bool (same x y)) [
     | inl both ↦ absurd (false≢true (sym other ∙ law.transitive z x y (law.symmetric x z one) both))
     | inr unlike ↦ unlike

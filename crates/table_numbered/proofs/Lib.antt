@@ -8,6 +8,7 @@ mod Rows
 mod Steps
 mod Probes
 pub mod Apart
+mod Permuted
 mod Laid
 mod Meetings
 mod Carried

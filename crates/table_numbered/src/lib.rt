@@ -16,6 +16,7 @@ mod trade;
 mod walk;
 mod word;
 
+pub use ending::LeftValues;
 pub use event::{Event, Listed, Numbered, Stored};
 pub use generation::Generation;
 pub use growth::Refused;

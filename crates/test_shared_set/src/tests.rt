@@ -1,6 +1,7 @@
 mod alone;
 mod caller;
 mod drops;
+mod ending;
 mod keys;
 mod made;
 mod memory;

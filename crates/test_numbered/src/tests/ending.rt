@@ -24,11 +24,12 @@ pub fn ended<L: SetLaw<Counting>, A: Low + Copy>(
     requires knows { Knows L.same L.hash_of set.of hand }
 {
     let mut mine = hand;
-    let room = Vec::with_capacity(alloc, set.buckets()).ok()?;
-    let Ok(mut ending) = slab.end() else {
-        return None;
-    };
-    Some(set.into_values(&mut ending, &mut mine.seen, room))
+    let mut values = Vec::with_capacity(alloc, set.buckets()).ok()?;
+    let mut left = set.end(slab.end(), &mut mine.seen);
+    while let Some(value) = left.next(&set) {
+        values.push(value).ok()?;
+    }
+    Some(values)
 }
 
 /// How often each of the numbers 0 to 5 is among the values.
