@@ -72,9 +72,9 @@ impl<'a, V, L: SetLaw<V>, A: Low + Copy> Handle<'a, V, L, A> {
                 self.supply.keep(number, right);
                 Attempt::Done(Inserted::Found(found, entry, back))
             }
-            Placing::Full(back, right) => {
+            Placing::Full(left, right) => {
                 self.supply.keep(number, right);
-                Attempt::Full(back)
+                Attempt::Full(left)
             }
         }
     }

@@ -48,18 +48,6 @@ fn each_number_is_found_over_growth(rt: HostRuntime) {
     }
 }
 
-#[test]
-fn each_value_is_returned_once(rt: HostRuntime) -> Result<(), Fail> {
-    for count in [0, 1, 7, 8, 9, 1000] {
-        let heap = counted(rt.alloc());
-        let set: Numbers<'_> = SharedSet::new(&heap).expect(&rt, "a set");
-        fill(&rt, &set, count);
-        assert_are_below(&rt, values_of(set, rt.alloc())?.as_slice(), count);
-        assert_none_out(&rt, &heap);
-    }
-    Ok(())
-}
-
 /// Places the numbers below this one by the set itself: each call has a handle of its own.
 fn place_by_the_set(rt: &impl Abort, set: &Numbers<'_>, end: u64) {
     for value in 0..end {

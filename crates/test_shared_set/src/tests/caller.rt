@@ -74,7 +74,7 @@ pub(crate) fn assert_has<A: Low + Copy>(
 /// Ends the set, and returns its values in order.
 pub(crate) fn values_of(set: Numbers<'_>, alloc: Global) -> Result<Vec<u64>, AllocError> {
     let mut values = Vec::new(alloc);
-    for value in set {
+    for value in set.into_values() {
         values.push(value)?;
     }
     values.sort_unstable();

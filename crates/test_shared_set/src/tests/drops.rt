@@ -92,15 +92,21 @@ fn each_value_is_dropped_once(rt: HostRuntime) -> Result<(), Fail> {
     Ok(())
 }
 
+/// How many values of an ended set are taken out. The others are dropped with what is left of it.
+const TAKEN: [u64; 4] = [0, 1, 150, NUMBERS];
+
 #[test]
-fn a_value_that_is_handed_out_is_dropped_by_its_owner(rt: HostRuntime) -> Result<(), Fail> {
-    for (room, one_in) in SETS {
+fn each_value_of_an_ended_set_is_dropped_once(rt: HostRuntime) -> Result<(), Fail> {
+    for taken in TAKEN {
         let values = Drops::new(rt.alloc(), NUMBERS)?;
-        let heap = rarely_refused(rt.alloc(), one_in);
-        let set = filled(&heap, room, &values).expect(&rt, "a set");
-        heap.refuse(0, 0);
-        let ended = set.into_values();
-        assert_same(&rt, values.never_and_once(), (NUMBERS, 0));
+        let heap = rarely_refused(rt.alloc(), 2);
+        let set = filled(&heap, 0, &values).expect(&rt, "a set");
+        let mut ended = set.into_values();
+        for dropped in 0..taken {
+            let never = NUMBERS.wrapping_sub(dropped);
+            assert_same(&rt, values.never_and_once(), (never, dropped));
+            drop(ended.next());
+        }
         drop(ended);
         assert_same(&rt, values.never_and_once(), (0, NUMBERS));
         assert_none_out(&rt, &heap);

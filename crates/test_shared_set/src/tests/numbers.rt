@@ -6,23 +6,22 @@ use std::process::Abort;
 /// How many values are inserted.
 const MANY: u64 = 1000;
 
-/// Inserts one more value than this number by the first handle, and the others by the second, and asserts by which numbers they are
-/// found.
-fn assert_numbers<'s, 'h>(
-    rt: &impl Abort,
-    one: &mut Numbering<'s, 'h>,
-    other: &mut Numbering<'s, 'h>,
-) {
+/// Inserts a new value, and asserts that it is found by its number.
+fn assert_placed(rt: &impl Abort, handle: &mut Numbering<'_, '_>, value: u64) {
+    let (told, number) = insert(handle, value);
+    assert_same(rt, told, Told::Placed);
+    let number = number.expect(rt, "a number");
+    assert_same(rt, handle.entry(number), Some(&value));
+}
+
+/// Inserts every third value by the first handle, and the others by the second.
+fn fill(rt: &impl Abort, one: &mut Numbering<'_, '_>, other: &mut Numbering<'_, '_>) {
     for value in 0..MANY {
-        let handle = if value % 3 == 0 {
-            &mut *one
+        if value % 3 == 0 {
+            assert_placed(rt, one, value);
         } else {
-            &mut *other
-        };
-        let (told, number) = insert(handle, value);
-        assert_same(rt, told, Told::Placed);
-        let number = number.unwrap_or(u64::MAX);
-        assert_same(rt, handle.entry(number), Some(&value));
+            assert_placed(rt, other, value);
+        }
     }
 }
 
@@ -32,8 +31,8 @@ fn assert_each_number(rt: &impl Abort, handle: &mut Numbering<'_, '_>) {
         match handle.find(&value) {
             Some((number, entry)) => {
                 assert_same(rt, *entry, value);
-                assert_same(rt, handle.entry(number), Some(&value));
                 assert_same(rt, *handle.known_entry(number), value);
+                assert_same(rt, handle.entry(number), Some(&value));
             }
             None => assert!(rt; false, "{value} is lost"),
         }
@@ -45,7 +44,7 @@ fn each_entry_is_found_by_its_number(rt: HostRuntime) {
     let heap = counted(rt.alloc());
     let set: Numbers<'_> = SharedSet::new(&heap).expect(&rt, "a set");
     assert_same(&rt, set.handle().entry(0), None);
-    assert_numbers(&rt, &mut set.handle(), &mut set.handle());
+    fill(&rt, &mut set.handle(), &mut set.handle());
     assert_each_number(&rt, &mut set.handle());
     for number in [1 << 31, 1 << 32, u64::MAX] {
         assert_same(&rt, set.handle().entry(number), None);
