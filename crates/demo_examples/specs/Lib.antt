@@ -3,4 +3,3 @@ pub mod Apart
 pub mod Schedules
 pub mod Asks
 pub mod Unshown
-pub mod Told

@@ -7,5 +7,4 @@ pub mod held;
 pub mod schedules;
 pub mod seats;
 pub mod shared;
-pub mod told;
 pub mod unshown;

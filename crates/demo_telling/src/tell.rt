@@ -2,7 +2,7 @@
 ghost use Rattle.std.specs.Prelude.{◌≡◌, true, IfSome};
 ghost use Rattle.table_terms.specs.Laws.{same_number};
 ghost use Rattle.shared_set.specs.Known.{KnowsMore};
-ghost use Rattle.demo_examples.specs.Told.{IsThere};
+ghost use Rattle.demo_telling.specs.Told.{IsThere};
 
 use shared_set::{Handle, Inserted, Known, SharedSet};
 use std::marker::{Send, Sync};
