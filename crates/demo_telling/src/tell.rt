@@ -1,8 +1,8 @@
 //! Two threads place a number each while a set grows, and who was told of both finds both.
 ghost use Rattle.std.specs.Prelude.{◌≡◌, true, IfSome};
 ghost use Rattle.table_terms.specs.Laws.{same_number};
-ghost use Rattle.shared_set.specs.Known.{KnowsMore};
-ghost use Rattle.demo_telling.specs.Told.{IsThere};
+ghost use Rattle.table_numbered.specs.History.{IsEntry};
+ghost use Rattle.shared_set.specs.Known.{KnowsMore, SomePasses};
 
 use shared_set::{Handle, Inserted, Known, SharedSet};
 use std::marker::{Send, Sync};
@@ -17,7 +17,7 @@ pub fn put<V: Drop, L: SetLaw<V>, A: Low + Copy>(
     value: V,
 ) -> Option<()>
     ensures more { KnowsMore mine.old mine.new }
-    ensures there { IfSome result (λ _. IsThere L.same mine.new.history value) }
+    ensures there { IfSome result (λ _. SomePasses (L.same value) (IsEntry mine.new.history)) }
 {
     match mine.insert(value) {
         Inserted::Placed(_, _) => Some(()),
@@ -28,7 +28,7 @@ pub fn put<V: Drop, L: SetLaw<V>, A: Low + Copy>(
 
 /// Looks up a value of which the handle knows that it, or an equal one, is an entry.
 pub fn find<V, L: SetLaw<V>, A: Low + Copy>(mine: &mut Handle<'_, V, L, A>, value: &V) -> bool
-    requires there { IsThere L.same mine.old.history value.now }
+    requires there { SomePasses (L.same value.now) (IsEntry mine.old.history) }
     ensures more { KnowsMore mine.old mine.new }
     ensures found { result ≡ true }
 {
@@ -55,7 +55,7 @@ pub fn put_below<A: Low + Copy>(mine: &mut Handle<'_, u64, NumberLaw, A>, count:
 /// refused.
 pub fn place<A: Low + Copy>(set: &Numbers<A>, number: u64, more: u64) -> Option<KnownNumbers<A>>
     ensures of { IfSome result (λ k. k.of ≡ set.now.of) }
-    ensures there { IfSome result (λ k. IsThere same_number k.history number) }
+    ensures there { IfSome result (λ k. SomePasses (same_number number) (IsEntry k.history)) }
 {
     let mut mine = set.handle();
     put(&mut mine, number)?;
@@ -77,11 +77,11 @@ pub fn tell<A: Low + Copy + Send + Sync, R: Threads + Wait + Sync>(
         rt,
         || -> Option<KnownNumbers<A>>
             ensures of { IfSome result (λ k. k.of ≡ set.entry.now.of) }
-            ensures there { IfSome result (λ k. IsThere same_number k.history a) }
+            ensures there { IfSome result (λ k. SomePasses (same_number a) (IsEntry k.history)) }
         { place(set, a, more) },
         || -> Option<KnownNumbers<A>>
             ensures of { IfSome result (λ k. k.of ≡ set.entry.now.of) }
-            ensures there { IfSome result (λ k. IsThere same_number k.history b) }
+            ensures there { IfSome result (λ k. SomePasses (same_number b) (IsEntry k.history)) }
         { place(set, b, more) },
     );
     let mut mine = set.handle();
