@@ -1,5 +1,5 @@
 -- What was placed is there, also once the set grew, and is found by who knows of it.
-use Rattle.std.proofs.Common.{◌≡◌, ℕ, ◌++◌, [], ◌∷◌, Bool, true, Option, Some, None, refl, sym, subst, ◌∙◌}
+use Rattle.std.proofs.Common.{◌≡◌, ℕ, ◌++◌, [], ◌∷◌, Bool, true, Option, Some, None, refl, sym, subst, ◌∙◌, arith}
 use Rattle.std.specs.Prelude.{is_some}
 use Rattle.std.specs.Borrow.{Bor}
 use Rattle.std.proofs.lemmas.Bool.{false≢true}
@@ -16,12 +16,12 @@ module _ {V : Type 0} (same : V → V → Bool) where
   has_placed k v old new is it =
       let last : IsEntry (it.before ++ event it.place (Some (Entry (numbered k v))) ∷ []) (numbered k v) =
       (it.place, Contains-append_right it.before (event it.place (Some (Entry (numbered k v))) ∷ []) (event it.place (Some (Entry (numbered k v)))) (0, omega arith, refl)) in
-      (k, (v, (is, subst (λ (log : History (Numbered V)). IsEntry log (numbered k v)) (sym it.then) last)))
+      (k, v, (is, subst (λ (log : History (Numbered V)). IsEntry log (numbered k v)) (sym it.then) last))
 
   -- what is known stays known
   pub has_kept : (old new : History (Numbered V)) (v : V) → Keeps old new → SomePasses (same v) (IsEntry old) → SomePasses (same v) (IsEntry new)
-  has_kept old new v kept has = (has.0, (has.1.0, (has.1.1.0, kept (numbered has.0 has.1.0) has.1.1.1)))
+  has_kept old new v kept has = (has.0, has.1, (has.2.0, kept (numbered has.0 has.1) has.2.1))
 
   pub is_found : (r : Option (Bor V)) (log : History (Numbered V)) (v : V) → SomePasses (same v) (IsEntry log) → Gets (same v) (IsEntry log) r → is_some r ≡ true
   is_found (Some e) log v has finds = refl
-  is_found None log v has finds = absurd (false≢true (sym (finds (numbered has.0 has.1.0) has.1.1.1) ∙ has.1.1.0))
+  is_found None log v has finds = absurd (false≢true (sym (finds (numbered has.0 has.1) has.2.1) ∙ has.2.0))

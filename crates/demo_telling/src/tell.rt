@@ -6,7 +6,6 @@ ghost use Rattle.shared_set.specs.Known.{KnowsMore, SomePasses};
 
 use shared_set::{Handle, Inserted, Known, SharedSet};
 use std::marker::{Send, Sync};
-use std::sync::Wait;
 use std::thread::{Threads, join};
 use table_cell::Low;
 use table_terms::law::{NumberLaw, SetLaw};
@@ -64,7 +63,7 @@ pub fn place<A: Low + Copy>(set: &Numbers<A>, number: u64, more: u64) -> Option<
 }
 
 /// Lets two threads place a number each, and the numbers below `more`. Who was told of both finds both. `None`: memory was refused.
-pub fn tell<A: Low + Copy + Send + Sync, R: Threads + Wait + Sync>(
+pub fn tell<A: Low + Copy + Send + Sync, R: Threads>(
     rt: &R,
     set: &Numbers<A>,
     a: u64,

@@ -47,8 +47,8 @@ fn placed_in_what_came_back<L: SetLaw<Counting>>(
     drops: &Arc<AtomicU64>,
 ) -> [Fared; 3]
     requires slab { slab.now ≡ set.now.of.slab }
-    requires knows { Knows L.same L.hash_of set.now.of mine.old }
-    ensures knows { Knows L.same L.hash_of set.now.of mine.new }
+    requires knows { Knows L.same L.hash_of set.now.of mine.old.seen.book mine.old.seen.names mine.old.seen.log mine.old.run }
+    ensures knows { Knows L.same L.hash_of set.now.of mine.new.seen.book mine.new.seen.names mine.new.seen.log mine.new.run }
 {
     let first = put(set, slab, mine, 5, drops);
     let Ok((slot, right)) = slab.number(&mut mine.run, 1) else {

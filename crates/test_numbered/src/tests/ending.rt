@@ -21,7 +21,7 @@ pub fn ended<L: SetLaw<Counting>, A: Low + Copy>(
     alloc: A,
 ) -> Option<Vec<Counting, A>>
     requires slab { slab ≡ set.of.slab }
-    requires knows { Knows L.same L.hash_of set.of hand }
+    requires knows { Knows L.same L.hash_of set.of hand.seen.book hand.seen.names hand.seen.log hand.run }
 {
     let mut mine = hand;
     let mut values = Vec::with_capacity(alloc, set.buckets()).ok()?;

@@ -72,7 +72,7 @@ pub fn made<L: SetLaw<Counting>, A: Low + Copy>(
 pub fn empty_hand<L: SetLaw<Counting>, A: Low + Copy>(
     set: &Generation<Counting, L, A>,
 ) -> Hand<L, A>
-    ensures knows { Knows L.same L.hash_of set.now.of result }
+    ensures knows { Knows L.same L.hash_of set.now.of result.seen.book result.seen.names result.seen.log result.run }
 {
     Hand {
         run: Run::new(),
@@ -116,8 +116,8 @@ pub fn put<L: SetLaw<Counting>, A: Low + Copy>(
     drops: &Arc<AtomicU64>,
 ) -> Fared
     requires slab { slab.now ≡ set.now.of.slab }
-    requires knows { Knows L.same L.hash_of set.now.of hand.old }
-    ensures knows { Knows L.same L.hash_of set.now.of hand.new }
+    requires knows { Knows L.same L.hash_of set.now.of hand.old.seen.book hand.old.seen.names hand.old.seen.log hand.old.run }
+    ensures knows { Knows L.same L.hash_of set.now.of hand.new.seen.book hand.new.seen.names hand.new.seen.log hand.new.run }
 {
     let Ok((slot, right)) = slab.number(&mut hand.run, 1) else {
         return Fared::NoSlot;
@@ -140,8 +140,8 @@ pub fn found<L: KeyLaw<u64, Counting>, A: Low + Copy>(
     key: u64,
 ) -> Option<(u64, u64)>
     requires slab { slab.now ≡ set.now.of.slab }
-    requires knows { Knows L.same L.hash_of set.now.of hand.old }
-    ensures knows { Knows L.same L.hash_of set.now.of hand.new }
+    requires knows { Knows L.same L.hash_of set.now.of hand.old.seen.book hand.old.seen.names hand.old.seen.log hand.old.run }
+    ensures knows { Knows L.same L.hash_of set.now.of hand.new.seen.book hand.new.seen.names hand.new.seen.log hand.new.run }
 {
     let sought = MetBy { key: &key };
     match set.seek(slab, &mut hand.seen, &sought) {
@@ -158,8 +158,8 @@ pub fn judged<L: KeyLaw<u64, Counting>, A: Low + Copy>(
     key: u64,
 ) -> Ended
     requires slab { slab.now ≡ set.now.of.slab }
-    requires knows { Knows L.same L.hash_of set.now.of hand.old }
-    ensures knows { Knows L.same L.hash_of set.now.of hand.new }
+    requires knows { Knows L.same L.hash_of set.now.of hand.old.seen.book hand.old.seen.names hand.old.seen.log hand.old.run }
+    ensures knows { Knows L.same L.hash_of set.now.of hand.new.seen.book hand.new.seen.names hand.new.seen.log hand.new.run }
 {
     let sought = MetBy { key: &key };
     match set.judge(slab, &mut hand.seen, &sought) {
@@ -177,8 +177,8 @@ pub fn shown<L: KeyLaw<u64, Counting>, A: Low + Copy>(
     key: u64,
 ) -> Option<u64>
     requires slab { slab.now ≡ set.now.of.slab }
-    requires knows { Knows L.same L.hash_of set.now.of hand.old }
-    ensures knows { Knows L.same L.hash_of set.now.of hand.new }
+    requires knows { Knows L.same L.hash_of set.now.of hand.old.seen.book hand.old.seen.names hand.old.seen.log hand.old.run }
+    ensures knows { Knows L.same L.hash_of set.now.of hand.new.seen.book hand.new.seen.names hand.new.seen.log hand.new.run }
 {
     let sought = MetBy { key: &key };
     match set.seek(slab, &mut hand.seen, &sought) {
