@@ -62,5 +62,5 @@ fn an_entry_of_another_handle_is_found_by_its_number(rt: HostRuntime) {
     let (_told, number) = insert(&mut one, 7);
     let number = number.expect(&rt, "a number");
     assert_same(&rt, other.entry(number), Some(&7));
-    assert_same(&rt, other.entry(number + 1), None);
+    assert_same(&rt, other.entry(number.wrapping_add(1)), None);
 }

@@ -5,9 +5,10 @@ use super::caller::{
     Knows, Numbers, Told, assert_has, assert_none_out, assert_same, counted, insert,
 };
 use shared_set::SharedSet;
-use std::process::Abort;
+use std::alloc::{AllocError, Global};
 use std::sync::OnceLock;
-use std::thread::{join, yield_now};
+use std::test::Fail;
+use std::thread::{Threads, join, yield_now};
 
 /// How many messages a thread sends.
 const MESSAGES: u64 = 64;
@@ -94,24 +95,30 @@ fn hear(places: &[Place<'_, '_>]) -> u64 {
     found
 }
 
+/// One thread sends messages while another hears them. Returns how many were sent, and how many came whose numbers are found.
+fn talk<'s, 'h, R: Threads + Sync>(
+    rt: &R,
+    alloc: Global,
+    set: &'s Numbers<'h>,
+) -> Result<(u64, u64), AllocError> {
+    let mut places: Vec<Place<'s, 'h>> = Vec::new(alloc);
+    for _message in 0..MESSAGES {
+        places.push(OnceLock::new())?;
+    }
+    let rooms = places.as_slice();
+    Ok(join(rt, || send(set, rooms), || hear(rooms)))
+}
+
 #[test]
-fn a_thread_hears_what_another_knows_while_both_run(rt: HostRuntime) {
+fn a_thread_hears_what_another_knows_while_both_run(rt: HostRuntime) -> Result<(), Fail> {
     let heap = counted(rt.alloc());
     let set: Numbers<'_> = SharedSet::new(&heap).expect(&rt, "a set");
-    let mut places = Vec::new(rt.alloc());
-    for _message in 0..MESSAGES {
-        places.push(OnceLock::new()).expect(&rt, "memory");
-    }
-    let counts = join(
-        &rt,
-        || send(&set, places.as_slice()),
-        || hear(places.as_slice()),
-    );
+    let counts = talk(&rt, rt.alloc(), &set)?;
     assert_same(&rt, counts, (MESSAGES, MESSAGES));
-    drop(places);
     assert_has(&rt, &mut set.handle(), MESSAGES.wrapping_mul(NUMBERS));
     drop(set);
     assert_none_out(&rt, &heap);
+    Ok(())
 }
 
 /// A handle that learned of entries finds them, also after it hears again what was known before them.

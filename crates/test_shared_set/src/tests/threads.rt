@@ -72,7 +72,15 @@ impl<'s, 'h> Filling<'s, 'h> {
         ensures { IfSome result (λ k. k.of ≡ self.now.set.now.of) }
     {
         let [first, second] = from;
-        let (one, other) = join(rt, || self.fill(first), || self.fill(second));
+        let (one, other) = join(
+            rt,
+            || -> Option<Knows<'_>>
+                ensures { IfSome result (λ k. k.of ≡ self.entry.now.set.now.of) }
+            { self.fill(first) },
+            || -> Option<Knows<'_>>
+                ensures { IfSome result (λ k. k.of ≡ self.entry.now.set.now.of) }
+            { self.fill(second) },
+        );
         self.both(one?, other?)
     }
 
@@ -83,8 +91,12 @@ impl<'s, 'h> Filling<'s, 'h> {
         let [a, b, c, d] = from;
         let (one, other) = join(
             rt,
-            || self.fill_by_two(rt, [a, b]),
-            || self.fill_by_two(rt, [c, d]),
+            || -> Option<Knows<'_>>
+                ensures { IfSome result (λ k. k.of ≡ self.entry.now.set.now.of) }
+            { self.fill_by_two(rt, [a, b]) },
+            || -> Option<Knows<'_>>
+                ensures { IfSome result (λ k. k.of ≡ self.entry.now.set.now.of) }
+            { self.fill_by_two(rt, [c, d]) },
         );
         self.both(one?, other?)
     }

@@ -57,15 +57,23 @@ fn a_walk_returns_each_entry_once(rt: HostRuntime) {
     }
 }
 
+/// Asserts that none was met twice.
+fn assert_none_twice(rt: &impl Abort, met: &[u8]) {
+    for times in met.iter() {
+        assert!(rt; *times < 2);
+    }
+}
+
 /// Walks over a set of this many values while it grows eightfold, and asserts that each is met once, and no other one twice.
 fn walk_while_growing(rt: &impl Abort, alloc: Global, count_of: usize) {
     let heap = counted(alloc);
     let set: Numbers<'_> = SharedSet::new(&heap).expect(rt, "a set");
     let mut handle = set.handle();
     let first = count_of as u64;
+    let many = first.saturating_mul(8);
     fill(rt, &mut handle, 0, first);
     let mut met = vec![in alloc; 0u8; count_of].expect(rt, "memory");
-    let mut others = vec![in alloc; 0u8; 8 * count_of].expect(rt, "memory");
+    let mut others = vec![in alloc; 0u8; many as usize].expect(rt, "memory");
     let mut next = first;
     let mut walk = handle.iter();
     while let Some((number, entry)) = walk.next() {
@@ -74,16 +82,15 @@ fn walk_while_growing(rt: &impl Abort, alloc: Global, count_of: usize) {
         let mut other = set.handle();
         other.hear(&walk.tell());
         assert_same(rt, other.find(entry), Some((number, entry)));
-        if next < 8 * first {
-            fill(rt, &mut handle, next, next + 7);
-            next += 7;
+        if next < many {
+            let end = next.saturating_add(7);
+            fill(rt, &mut handle, next, end);
+            next = end;
         }
     }
     assert_same(rt, walk.next(), None);
     assert_each_once(rt, met.as_slice());
-    for times in others.as_slice().iter() {
-        assert!(rt; *times < 2);
-    }
+    assert_none_twice(rt, others.as_slice());
 }
 
 #[test]
