@@ -40,13 +40,16 @@ set_of c = record {
   slab = slab_of c.entries.names;
 }
 
--- of which set a thread knows, and the history that it has seen of the newest generation that it has met
+-- what a thread knows of a set: which set it is, the history that it has seen of one generation, the slot of that generation, and what it has
+-- seen of the chain
 pub record KnownView (V : Type 0) : Type 0 where
   pub of : SharedView
   pub history : History (Numbered V)
+  pub slot : ℕ
+  pub course : Course V
 
-abbrev pub known_view : {V : Type 0} → SharedView → History (Numbered V) → KnownView V
-known_view g log = record { of = g; history = log }
+abbrev pub known_view : {V : Type 0} → SharedView → History (Numbered V) → ℕ → Course V → KnownView V
+known_view g log slot course = record { of = g; history = log; slot = slot; course = course }
 
 module _ {V : Type 0} where
   -- each entry of the one history is an entry of the other, with its number
@@ -65,6 +68,10 @@ module _ {V : Type 0} where
   abbrev pub Gets : (V → Bool) → (Numbered V → Type 0) → Option (Bor V) → Type 0
   Gets test Knows (Some e) = (k : ℕ) × Passes test Knows k e.now
   Gets test Knows None = NonePasses (of_value test) Knows
+
+  -- no later generation is known: when the next slot was read, it had none
+  abbrev pub IsNewest : KnownView V → Type 0
+  IsNewest known = IsOpen known.course (suc known.slot)
 
   -- no bucket has an entry, and none is closed
   abbrev pub IsEmpty : History (Numbered V) → Type 0

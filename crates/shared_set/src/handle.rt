@@ -1,9 +1,10 @@
 //! Handles, by which threads call a set.
-ghost use Rattle.std.specs.Prelude.{◌≡◌, true, false};
+ghost use Rattle.std.specs.Prelude.{◌≡◌, suc, ◌<◌, true, false};
 ghost use Rattle.table_numbered.specs.Words.{of_value};
 ghost use Rattle.table_numbered.specs.History.{IsEntry, NonePasses};
 ghost use Rattle.table_numbered.specs.Generations.{Finds};
-ghost use Rattle.shared_set.specs.Known.{Keeps, KnowsMore, SomePasses, Gets};
+ghost use Rattle.shared_set.specs.Stages.{stages};
+ghost use Rattle.shared_set.specs.Known.{Keeps, KnowsMore, IsNewest, SomePasses, Gets};
 
 use crate::cursor::Cursor;
 use crate::known::Known;
@@ -18,7 +19,8 @@ use table_numbered::{KeyLaw, MetBy, SameAs, SetLaw, Sought};
 
 /// What one thread calls a set by. It knows the entries that its calls have met, and it takes numbers for new entries ahead.
 ///
-/// A contract sees which set it is of, and the history of the newest generation that it has met.
+/// A contract sees which set it is of, the history of the newest generation that it has met, and what it has seen of the chain of
+/// generations.
 pub struct Handle<'a, V, L: SetLaw<V>, A: Low + Copy = Global> {
     pub(crate) set: &'a SharedSet<V, L, A>,
     /// The stage at the cursor's slot.
@@ -34,7 +36,7 @@ impl<'a, V, L: SetLaw<V>, A: Low + Copy> Model for Handle<'a, V, L, A> {
 
     ghost Value = { KnownView V };
 
-    ghost view = { λ h. known_view h.set.now.of h.cursor.entries.log };
+    ghost view = { λ h. known_view h.set.now.of h.cursor.entries.log h.cursor.slot h.cursor.stages.log };
 
     ghost invariant = { λ h. IsHandle L.same L.hash_of h.set.now.of h.stage.now h.cursor h.supply };
 }
@@ -43,6 +45,9 @@ impl<'a, V, L: SetLaw<V>, A: Low + Copy> Handle<'a, V, L, A> {
     /// Moves on to the next generation. Returns false if none was shown.
     fn follow(&mut self) -> bool
         ensures known { KnowsMore self.old self.new }
+        ensures inside { self.new.slot < stages }
+        ensures moved { result ≡ true → self.new.slot ≡ suc self.old.slot }
+        ensures newest { result ≡ false → IsNewest self.new }
     {
         let set = self.set;
         match set.step(&mut self.cursor) {
@@ -57,6 +62,7 @@ impl<'a, V, L: SetLaw<V>, A: Low + Copy> Handle<'a, V, L, A> {
     /// Moves on to the newest generation.
     pub(crate) fn advance(&mut self)
         ensures known { KnowsMore self.old self.new }
+        ensures newest { IsNewest self.new }
     {
         for _passed in 0..STAGES {
             if !self.follow() {
@@ -68,6 +74,7 @@ impl<'a, V, L: SetLaw<V>, A: Low + Copy> Handle<'a, V, L, A> {
     /// Returns what is sought, with its number. `None` means that no entry known to this handle is it.
     pub fn seek<S: Sought<V, L>>(&mut self, sought: &S) -> Option<(u64, &'a V)>
         ensures known { KnowsMore self.old self.new }
+        ensures newest { IsNewest self.new }
         ensures finds { Finds (S.accepts sought.now) (IsEntry self.new.history) result }
     {
         self.advance();
@@ -79,6 +86,7 @@ impl<'a, V, L: SetLaw<V>, A: Low + Copy> Handle<'a, V, L, A> {
     /// Returns the entry that is the same as the target, with its number. `None` means that no entry known to this handle is the same.
     pub fn find(&mut self, target: &V) -> Option<(u64, &'a V)>
         ensures known { KnowsMore self.old self.new }
+        ensures newest { IsNewest self.new }
         ensures finds { Finds (L.same target.now) (IsEntry self.new.history) result }
     {
         self.seek(&SameAs { target })
@@ -87,6 +95,7 @@ impl<'a, V, L: SetLaw<V>, A: Low + Copy> Handle<'a, V, L, A> {
     /// Returns the entry that is the same as the target. `None` means that no entry known to this handle is the same.
     pub fn get(&mut self, target: &V) -> Option<&'a V>
         ensures known { KnowsMore self.old self.new }
+        ensures newest { IsNewest self.new }
         ensures finds { Gets (L.same target.now) (IsEntry self.new.history) result }
     {
         match self.find(target) {
@@ -100,6 +109,7 @@ impl<'a, V, L: SetLaw<V>, A: Low + Copy> Handle<'a, V, L, A> {
     where
         L: KeyLaw<K, V>,
         ensures known { KnowsMore self.old self.new }
+        ensures newest { IsNewest self.new }
         ensures finds { Gets (L.meets key.now) (IsEntry self.new.history) result }
     {
         match self.seek(&MetBy { key }) {
@@ -111,6 +121,7 @@ impl<'a, V, L: SetLaw<V>, A: Low + Copy> Handle<'a, V, L, A> {
     /// Returns true if an entry is the same as the target. `false` means that no entry known to this handle is the same.
     pub fn contains(&mut self, target: &V) -> bool
         ensures known { KnowsMore self.old self.new }
+        ensures newest { IsNewest self.new }
         ensures some { result ≡ true → SomePasses (L.same target.now) (IsEntry self.new.history) }
         ensures none { result ≡ false → NonePasses (of_value (L.same target.now)) (IsEntry self.new.history) }
     {

@@ -9,7 +9,8 @@ use table_numbered::SetLaw;
 
 /// What a handle knew of its set when it was asked. It owns nothing of the set, and can be sent to another thread.
 ///
-/// A contract sees which set it is of, and the history of the newest generation that the handle had met.
+/// A contract sees which set it is of, the history of the newest generation that the handle had met, and what the handle had seen of the
+/// chain of generations.
 #[derive(Drop)]
 pub struct Known<V, L: SetLaw<V>, A: Low + Copy = Global> {
     pub(crate) cursor: Cursor<V, L, A>,
@@ -20,7 +21,7 @@ impl<V, L: SetLaw<V>, A: Low + Copy> Model for Known<V, L, A> {
 
     ghost Value = { KnownView V };
 
-    ghost view = { λ k. known_view (set_of k.cursor) k.cursor.entries.log };
+    ghost view = { λ k. known_view (set_of k.cursor) k.cursor.entries.log k.cursor.slot k.cursor.stages.log };
 
     ghost invariant = { λ k. IsCursor L.same L.hash_of (set_of k.cursor) k.cursor };
 }

@@ -23,7 +23,7 @@ pub invariant_of-self : goal.invariant_of-self
 invariant_of-self g c = record { at = c.join.ensures.at; shown = c.get-self-inside.ensures.there; supply = c.self.invariant.supply }
 
 pub returns-clause-known : goal.returns-clause-known
-returns-clause-known g c = subst (λ (x : KnownView g.row.V.Denot). KnowsMore x (known_view c.self.inside.set.now.of c.join.new.cursor.entries.log)) c.self.view_is (refl, c.join.ensures.mine)
+returns-clause-known g c = subst (λ (x : KnownView g.row.V.Denot). KnowsMore x (known_view c.self.inside.set.now.of c.join.new.cursor.entries.log c.join.new.cursor.slot c.join.new.cursor.stages.log)) c.self.view_is (refl, c.join.ensures.mine)
 
 pub returns-clause-theirs : goal.returns-clause-theirs
 returns-clause-theirs g c = subst (λ (h : History (Numbered g.row.V.Denot)). Keeps h c.join.new.cursor.entries.log)

@@ -1,6 +1,6 @@
 use Rattle.std.proofs.Common.{◌≡◌, ℕ, ap, sym, subst, ◌∙◌, refl}
 use Rattle.table_numbered.specs.Generations.{GenerationView, IsOf}
-use Rattle.shared_set.specs.Known.{SharedView, KnownView, known_view, KnowsMore}
+use Rattle.shared_set.specs.Known.{SharedView, KnownView, known_view, KnowsMore, IsNewest}
 use Rattle.shared_set.proofs.Keeping.{one_set, keeps_longer, knows_trans, at_shown, at_more}
 use Rattle.shared_set.proofs.handle.Handle.seek.Goals as goal
 
@@ -25,4 +25,7 @@ invariant_of-self g c = let i = c.self.invariant in let k = c.self.inside.cursor
 
 pub returns-clause-known : goal.returns-clause-known
 returns-clause-known g c = let k = c.self.inside.cursor in let n = c.seek.new.seen in let g1 = c.self.inside.set.now.of in
-    knows_trans c.args.self.now (known_view g1 k.entries.log) (known_view g1 n.log) (subst (KnowsMore c.args.self.now) (sym c.self.view_is) c.advance.ensures.known) (refl, keeps_longer k.entries.log n.log c.seek.ensures.longer)
+    knows_trans c.args.self.now (known_view g1 k.entries.log k.slot k.stages.log) (known_view g1 n.log k.slot k.stages.log) (subst (KnowsMore c.args.self.now) (sym c.self.view_is) c.advance.ensures.known) (refl, keeps_longer k.entries.log n.log c.seek.ensures.longer)
+
+pub returns-clause-newest : goal.returns-clause-newest
+returns-clause-newest g c = subst (λ (x : KnownView g.row.V.Denot). IsNewest x) (sym c.self.view_is) c.advance.ensures.newest
