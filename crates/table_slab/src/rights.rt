@@ -84,6 +84,18 @@ impl<T> Rooms<T> {
         )
     }
 
+    /// Returns these rights with one more in front, to an empty slot.
+    pub fn with_first(self, first: Room<T>) -> Rooms<T>
+        requires empty { first.value ≡ None }
+        ensures { result.names ≡ first.of ∷ self.names }
+    {
+        let Rooms { marker: _ } = self;
+        let Room { marker: _ } = first;
+        Rooms {
+            marker: PhantomData,
+        }
+    }
+
     /// Returns the rights to the first `count` slots, and the others.
     pub fn split(self, count: usize) -> (Rooms<T>, Rooms<T>)
         requires { count ≤ length self.names }

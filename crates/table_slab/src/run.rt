@@ -72,6 +72,32 @@ impl<T, A: Allocator> Run<T, A> {
         self.left -= 1;
         Some((number, Right { site, room }))
     }
+
+    /// Returns the run with the number before its next one in front.
+    fn behind(self, site: Site<Chunk<T, A>>, number: u64, room: Room<T>) -> Run<T, A>
+        requires empty { room.value ≡ None }
+        requires next { self.number ≡ number + 1 }
+        ensures of { (s : SlabView) → 0 < self.left → AreNext s self → IsSlot s number site.cell site.value room.of
+            → 0 < number → AreNext s result }
+    {
+        let Run {
+            place,
+            number: _,
+            left,
+            rooms,
+            site: mine,
+        } = self;
+        if let Some(mine) = &mine {
+            same_site(mine, &site);
+        }
+        Run {
+            place,
+            number,
+            left: left.saturating_add(1),
+            rooms: rooms.with_first(room),
+            site: Some(site),
+        }
+    }
 }
 
 impl<T, A: Low + Copy> Slab<T, A> {
@@ -108,6 +134,33 @@ impl<T, A: Low + Copy> Slab<T, A> {
             Some(next) => Ok(next),
             None => unreachable!(),
         }
+    }
+
+    /// Returns the run with this number in front, if the run has none left or goes on behind the number in its chunk. Otherwise it
+    /// returns the run as it is, and the number is never handed out again.
+    pub fn put_back(&self, run: Run<T, A>, number: u64, right: Right<T, A>) -> Run<T, A>
+        requires run { IsRunOf self.now run }
+        requires number { IsRightTo self.now number right }
+        requires small { IsSmall number }
+        requires empty { right.room.value ≡ None }
+        ensures of { IsRunOf self.now result }
+        ensures left { run.left ≡ 0 → result.left ≡ 1 }
+    {
+        let Right { site, room } = right;
+        let (place, offset) = where_is(self.bits(), number);
+        if run.left == 0 {
+            return Run {
+                place,
+                number,
+                left: 1,
+                rooms: Rooms::none().with_first(room),
+                site: Some(site),
+            };
+        }
+        if run.place != place || run.number != number + 1 {
+            return run;
+        }
+        run.behind(site, number, room)
     }
 
     /// Takes back the numbers that a run has left, to hand them out again to a caller that wants at least as many. A chunk keeps one
