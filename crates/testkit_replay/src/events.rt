@@ -1,9 +1,8 @@
-//! Which event a call takes in its phase.
-use crate::script::Script;
+//! The event that a call takes in each phase.
 use table_core::call::Phase;
 use table_core::event::Event;
 
-/// What the closures and the memory of an event answer.
+/// What the closures and the memory of a step answer.
 #[derive(Clone, Copy)]
 pub struct Answers {
     pub accepted: bool,
@@ -11,15 +10,17 @@ pub struct Answers {
     pub granted: bool,
 }
 
-/// The answers that an event names. What it doesn't name is no, 0 and granted.
+/// What an event answers that names no answer.
+pub const NONE: Answers = Answers {
+    accepted: false,
+    hash: 0,
+    granted: true,
+};
+
+/// Returns the answers that an event names.
 pub fn answers_of(event: Event) -> Answers {
-    let none = Answers {
-        accepted: false,
-        hash: 0,
-        granted: true,
-    };
     match event {
-        Event::Read { accepted, .. } => Answers { accepted, ..none },
+        Event::Read { accepted, .. } => Answers { accepted, ..NONE },
         Event::Put {
             accepted,
             granted,
@@ -27,72 +28,46 @@ pub fn answers_of(event: Event) -> Answers {
         } => Answers {
             accepted,
             granted,
-            ..none
+            ..NONE
         },
-        Event::Check { granted, .. } => Answers { granted, ..none },
-        Event::Copy { hash, .. } => Answers { hash, ..none },
-        _ => none,
+        Event::Check { granted, .. } => Answers { granted, ..NONE },
+        Event::Copy { hash, .. } => Answers { hash, ..NONE },
+        _ => NONE,
     }
 }
 
-/// Whether an insert or a look-up in this phase can take the event, if the lock is free for it.
-pub fn takes(phase: Phase, event: Event) -> bool {
-    match event {
-        Event::Share { .. } => phase == Phase::WantShared,
-        Event::Own { .. } => phase == Phase::WantOwned,
-        Event::Free { .. } => releases(phase),
-        Event::Load { .. } => phase == Phase::Shared || phase == Phase::LookLoad,
-        Event::Read { .. } => phase == Phase::Probe || phase == Phase::LookProbe,
-        Event::Put { .. } => phase == Phase::AtEmpty,
-        Event::Add { .. } => phase == Phase::Placed,
-        Event::Size { .. } => phase == Phase::AskSize,
-        Event::Check { .. } => phase == Phase::Owned,
-        Event::Copy { .. } | Event::Show { .. } => phase == Phase::Building,
-        _ => false,
-    }
-}
-
-/// Whether an insert in this phase releases its lock.
-fn releases(phase: Phase) -> bool {
-    matches!(
-        phase,
-        Phase::LeaveOk
-            | Phase::LeaveGrow
-            | Phase::LeaveRefused
-            | Phase::LeaveOwned
-            | Phase::LeaveFailed
-    )
-}
-
-/// The event that a call has taken which went from the one phase to the other, with what its closures answered. None after
-/// its end.
-pub fn event_taken(
-    call: u64,
-    before: Phase,
-    after: Phase,
-    script: &Script,
-    granted: bool,
-) -> Option<Event> {
-    let accepted = script.accepted();
-    match before {
+/// Returns the event of a step in this phase, with what it answers. A call that builds copies an entry or shows the generation. None
+/// after its end.
+pub fn event_at(call: u64, phase: Phase, copies: bool, answers: Answers) -> Option<Event> {
+    let Answers {
+        accepted,
+        hash,
+        granted,
+    } = answers;
+    match phase {
         Phase::WantShared => Some(Event::Share { call }),
-        Phase::Shared | Phase::LookLoad => Some(Event::Load { call }),
-        Phase::Probe | Phase::LookProbe => Some(Event::Read { call, accepted }),
+        Phase::WantOwned => Some(Event::Own { call }),
+        Phase::Shared | Phase::LookLoad | Phase::LenLoad | Phase::WalkLoad => Some(Event::Load {
+            call,
+        }),
+        Phase::Probe | Phase::LookProbe | Phase::WalkAt => Some(Event::Read { call, accepted }),
         Phase::AtEmpty => Some(Event::Put {
             call,
             accepted,
             granted,
         }),
         Phase::Placed => Some(Event::Add { call }),
-        Phase::AskSize => Some(Event::Size { call }),
-        Phase::WantOwned => Some(Event::Own { call }),
+        Phase::AskSize | Phase::LenSize => Some(Event::Size { call }),
         Phase::Owned => Some(Event::Check { call, granted }),
-        Phase::Building if after == Phase::Building => Some(Event::Copy {
-            call,
-            hash: script.hash(),
-        }),
+        Phase::Building if copies => Some(Event::Copy { call, hash }),
         Phase::Building => Some(Event::Show { call }),
-        _ if releases(before) => Some(Event::Free { call }),
-        _ => None,
+        Phase::Done => None,
+        _ => Some(Event::Free { call }),
     }
+}
+
+/// Returns whether a call in this phase can take the event, if the lock is free for it.
+pub fn takes(phase: Phase, event: Event) -> bool {
+    let copies = matches!(event, Event::Copy { .. });
+    event_at(event.call(), phase, copies, answers_of(event)) == Some(event)
 }

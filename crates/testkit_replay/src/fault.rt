@@ -1,11 +1,13 @@
 //! Why a replay ends early.
 use crate::item::Said;
 
-/// What a replay met that it doesn't go on from.
+/// A difference between a table and the machine, or between a rehearsal and what is played.
 #[derive(Clone, Copy, Debug)]
 pub enum Fault {
     /// The replay itself was refused memory.
     NoMemory,
+    /// No first generation has so many buckets.
+    Capacity,
     /// This call was told something else by the table than by the machine.
     Told {
         call: u64,
@@ -16,7 +18,7 @@ pub enum Fault {
     Stands {
         call: u64,
     },
-    /// This call took a step that its event doesn't name.
+    /// This call took a step that its event doesn't name, or missed a stop.
     Step {
         call: u64,
     },
@@ -26,17 +28,17 @@ pub enum Fault {
     },
     /// Not all calls ended.
     Unfinished,
-    /// The table counts more or fewer entries than the machine, shows them in another order, or has other buckets.
-    Length,
-    Walk,
+    /// The table has other entries than the machine, has them in another order, or counts them otherwise.
+    Entries,
+    /// The table has more or fewer buckets than the machine.
     Buckets,
-    /// A look at the table from inside a closure showed something else.
+    /// The table showed something else at a stop than at the rehearsal.
     Sight,
-    /// Of two calls that were to meet one went on without the other.
+    /// A thread waited for a turn that never began.
     Alone,
 }
 
-/// What the replay itself asked of memory.
+/// Returns what the replay itself asked of memory.
 pub(crate) fn granted<T, E: Drop>(asked: Result<T, E>) -> Result<T, Fault> {
     match asked {
         Ok(there) => Ok(there),

@@ -1,17 +1,21 @@
-//! Schedules of calls on a running table, each step beside the machine's: what the table tells is what the machine tells.
+//! Calls on a running table, compared with the machine of all schedules.
+//!
+//! [`stepped`] takes calls step by step, each step on the table and on the machine. [`whole`] rehearses calls so, notes what each of
+//! them asks and is told, and then plays them as whole calls on another table, inside of one another or on two threads.
 #![tactic(auto)]
 
-pub mod course;
-pub mod drawn;
 mod events;
 pub mod fault;
 pub mod item;
 mod machine;
+mod player;
 mod program;
+mod rehearsal;
 mod replay;
 mod running;
-pub mod schedules;
 pub mod script;
-pub mod whole_calls;
+pub mod stepped;
+mod stops;
+pub mod whole;
 
-pub use crate::program::run_replays;
+pub use crate::program::{first_stepped, first_whole, run_replays};

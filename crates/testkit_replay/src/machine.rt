@@ -1,104 +1,76 @@
-//! What the machine tells of a schedule.
-ghost use Rattle.table_terms.specs.Capacities.{IsFirstCapacity};
-
+//! The machine of all schedules, beside a table.
+use crate::events::{NONE, event_at};
 use crate::fault::{Fault, granted};
-use crate::item::Said;
 use std::alloc::Global;
 use table_core::call::CallState;
 use table_core::event::Event;
-use table_core::reply::{Finished, Reply};
+use table_core::reply::Finished;
 use table_core::state::State;
+use table_terms::capacity::is_first_capacity;
 
-/// The number of a call that a replay begins by itself: far from those of a schedule.
+/// The number from which on a replay numbers calls of its own: far from those of a schedule.
 const OWN_CALLS: u64 = 1 << 32;
 
-/// How many reads a walk takes at most.
-const READS: u64 = 1 << 12;
+/// How many steps a call of its own takes at most.
+const STEPS: u64 = 1 << 12;
 
-/// The machine of all schedules, on memory that is granted.
+/// The machine, on memory that is granted.
 #[derive(Drop)]
 pub struct Machine {
     state: State,
     /// How many calls the replay has begun by itself.
-    begun: u64,
+    own: u64,
 }
 
 impl Machine {
-    /// No generation and no call. The first generation will have `first` buckets.
-    pub fn new(alloc: Global, first: u64) -> Machine
-        requires { IsFirstCapacity first }
-    {
-        Machine {
-            state: State::with_first_capacity(alloc, first),
-            begun: 0,
+    /// Makes a machine without a generation and without a call. The first generation will have `first` buckets.
+    pub fn new(alloc: Global, first: u64) -> Result<Machine, Fault> {
+        if !is_first_capacity(first) {
+            return Err(Fault::Capacity);
         }
+        Ok(Machine {
+            state: State::with_first_capacity(alloc, first),
+            own: OWN_CALLS,
+        })
     }
 
-    /// Takes one event: the call that finishes by it.
+    /// Takes one event, and returns the call that finishes by it.
     pub fn take(&mut self, event: Event) -> Result<Option<Finished>, Fault> {
         granted(self.state.step(event))
     }
 
-    /// Where the call of this number stands, if it has begun.
+    /// Returns where the call of this number stands, if it has begun.
     pub fn state_of(&self, call: u64) -> Option<CallState> {
         self.state.state_of(call)
     }
 
-    /// How many buckets all generations have.
+    /// Returns how many buckets all generations have.
     pub fn buckets(&self) -> u64 {
         self.state.buckets()
     }
 
-    /// The number of a call of its own.
-    fn own_call(&mut self) -> u64 {
-        self.begun = self.begun.wrapping_add(1);
-        OWN_CALLS.wrapping_add(self.begun)
+    /// Returns the number of the next call of its own.
+    pub fn own_call(&mut self) -> u64 {
+        self.own = self.own.wrapping_add(1);
+        self.own
     }
 
-    /// How many entries it counts now, by a call of its own.
-    pub fn length(&mut self) -> Result<Option<u64>, Fault> {
-        let call = self.own_call();
-        self.take(Event::Len { call })?;
-        let loaded = self.take(Event::Load { call })?;
-        let sized = self.take(Event::Size { call })?;
-        Ok(length_of(&loaded).or(length_of(&sized)))
-    }
-
-    /// Its entries in the order of their buckets, by a call of its own.
-    pub fn walk(&mut self) -> Result<Option<Finished>, Fault> {
-        let call = self.own_call();
-        self.take(Event::Walk { call })?;
-        let mut told = self.take(Event::Load { call })?;
-        for _read in 0..READS {
-            if told.is_some() {
-                break;
+    /// Begins a length or a walk by this event, takes all of its steps, and returns what it is told.
+    pub fn answer(&mut self, begin: Event) -> Result<Option<Finished>, Fault> {
+        let mut finished = self.take(begin)?;
+        for _step in 0..STEPS {
+            match self.next_event(begin) {
+                Some(event) => finished = self.take(event)?,
+                None => break,
             }
-            told = self.take(Event::Read {
-                call,
-                accepted: false,
-            })?;
         }
-        Ok(told)
+        Ok(finished)
     }
-}
 
-/// The length that a call was told.
-fn length_of(finished: &Option<Finished>) -> Option<u64> {
-    match finished {
-        Some(
-            Finished {
-                reply: Reply::Len(length),
-                ..
-            },
-        ) => Some(*length),
-        _ => None,
-    }
-}
-
-/// What this call was told, as an insert or a look-up.
-pub fn said_to(call: u64, finished: &Option<Finished>) -> Option<Said> {
-    match finished {
-        Some(finished) if finished.call == call => Said::of_reply(&finished.reply),
-        _ => None,
+    /// Returns the next event of the call that this one began.
+    fn next_event(&self, begin: Event) -> Option<Event> {
+        let call = begin.call();
+        let state = self.state_of(call)?;
+        event_at(call, state.phase, false, NONE)
     }
 }

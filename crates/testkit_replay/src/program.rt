@@ -1,14 +1,21 @@
 //! Replays as many drawn schedules as are asked for.
-use crate::drawn::first_fault;
-use crate::whole_calls::interleaved;
+use crate::fault::Fault;
+use crate::stepped::run_drawn;
+use crate::whole::{Turns, run_threads};
 use std::alloc::Global;
 use std::convert::AsStr;
 use std::io::Write;
 use std::sync::Wait;
 use std::thread::Threads;
 
-/// How many schedules run where no number is given.
+/// How many schedules run if no number is given.
 const FEW: u64 = 20;
+
+/// Each of two threads makes 20 calls.
+const DRAWN: Turns<'static> = Turns::Drawn {
+    calls: 20,
+    refuses: false,
+};
 
 /// The status of a run without a fault.
 const WELL: u8 = 0;
@@ -33,7 +40,18 @@ pub fn run_replays<R: Threads + Wait + Sync, S: AsStr, O: Write, M: Write>(
         );
         return BAD;
     };
-    replay_seeds(rt, alloc, seeds, first_seed, output, messages)
+    if let Some((seed, fault)) = first_stepped(alloc, first_seed, seeds) {
+        let _ = writeln!(messages, "seed {seed}: {fault:?}");
+        return BAD;
+    }
+    if let Some((seed, fault)) = first_whole(rt, alloc, first_seed, seeds) {
+        let _ = writeln!(messages, "seed {seed}, whole calls: {fault:?}");
+        return BAD;
+    }
+    match writeln!(output, "{seeds} schedules agree") {
+        Ok(()) => WELL,
+        Err(_error) => BAD,
+    }
 }
 
 /// Reads how many schedules there are, and the seed of the first.
@@ -51,25 +69,29 @@ fn parse_word<S: AsStr>(word: &S) -> Option<u64> {
     word.as_str().parse::<u64>().ok()
 }
 
-/// Replays the schedules of so many seeds from this one on, and returns the status.
-fn replay_seeds<R: Threads + Wait + Sync, O: Write, M: Write>(
+/// Runs the stepped calls of so many seeds from this one on, and returns the first seed with a fault.
+pub fn first_stepped(alloc: Global, first_seed: u64, seeds: u64) -> Option<(u64, Fault)> {
+    for index in 0..seeds {
+        let seed = first_seed.wrapping_add(index);
+        if let Err(fault) = run_drawn(alloc, seed) {
+            return Some((seed, fault));
+        }
+    }
+    None
+}
+
+/// Runs the whole calls of two threads of so many seeds from this one on, and returns the first seed with a fault.
+pub fn first_whole<R: Threads + Wait + Sync>(
     rt: &R,
     alloc: Global,
-    seeds: u64,
     first_seed: u64,
-    output: &mut O,
-    messages: &mut M,
-) -> u8 {
-    if let Some((seed, fault)) = first_fault(alloc, first_seed, seeds) {
-        let _ = writeln!(messages, "seed {seed}: {fault:?}");
-        return BAD;
+    seeds: u64,
+) -> Option<(u64, Fault)> {
+    for index in 0..seeds {
+        let seed = first_seed.wrapping_add(index);
+        if let Err(fault) = run_threads(rt, alloc, seed, DRAWN) {
+            return Some((seed, fault));
+        }
     }
-    if let Some((seed, fault)) = interleaved::first_fault(rt, alloc, first_seed, seeds) {
-        let _ = writeln!(messages, "seed {seed}, whole calls: {fault:?}");
-        return BAD;
-    }
-    match writeln!(output, "{seeds} schedules agree") {
-        Ok(()) => WELL,
-        Err(_error) => BAD,
-    }
+    None
 }

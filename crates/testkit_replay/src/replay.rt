@@ -1,419 +1,364 @@
-//! What a schedule does on a table and on the machine: what the table tells is what the machine tells.
-ghost use Rattle.std.specs.Prelude.{◌≡◌};
-ghost use Rattle.table_terms.specs.Capacities.{IsFirstCapacity};
-
-use crate::events::event_taken;
+//! A running table beside the machine: calls begin on both, and after each step both are compared.
+use crate::events::{Answers, answers_of, event_at, takes};
 use crate::fault::{Fault, granted};
-use crate::item::{Item, Said};
-use crate::machine::{Machine, said_to};
-use crate::running::{Calls, Schedule, Stepped, Table, Took};
-use crate::schedules::Ask;
+use crate::item::{Ask, Item, Said};
+use crate::machine::Machine;
+use crate::running::{Calls, Running, Table, Took};
 use crate::script::Script;
 use std::alloc::Global;
 use table_core::call::{CallState, Phase};
 use table_core::event::Event;
 use table_core::reply::{Finished, Reply};
 use table_shared::LockFreeRawTable;
+use table_terms::capacity::is_first_capacity;
 use testkit_refusing::{Refusing, Rule};
 
-/// A table without a generation, whose first one will have `first` buckets.
-pub(crate) fn new_table(memory: &Refusing<Global>, first: u64) -> Table<'_>
-    requires { IsFirstCapacity first }
-{
-    LockFreeRawTable::with_first_capacity(memory, first as usize)
+/// Of the next requests for memory, how many are granted first, and how many are refused then.
+pub type Refusals = (u64, u64);
+
+/// No request is refused.
+pub const GRANTED: Refusals = (0, 0);
+
+/// A table, and the memory that it asks.
+#[derive(Clone, Copy)]
+pub(crate) struct Ground<'a, 'm> {
+    pub(crate) alloc: Global,
+    pub(crate) memory: &'m Refusing<Global>,
+    pub(crate) table: &'a Table<'m>,
 }
 
-/// Each request for memory may be refused.
+/// Makes a table without a generation, whose first one will have `first` buckets.
+pub(crate) fn new_table(memory: &Refusing<Global>, first: u64) -> Result<Table<'_>, Fault> {
+    if !is_first_capacity(first) {
+        return Err(Fault::Capacity);
+    }
+    Ok(LockFreeRawTable::with_first_capacity(memory, first as usize))
+}
+
+/// Makes the rule that each request for memory may be refused.
 pub(crate) fn any_request() -> Rule {
     Rule::new(0, usize::MAX, 0, 0)
 }
 
-/// Runs a schedule on a table whose memory has this rule, and on the machine.
-pub(crate) fn run_schedule<S: Schedule>(
+/// Calls that take steps on a table and on the machine.
+pub(crate) trait Course {
+    /// Begins calls and takes steps.
+    fn run<C: Calls>(&mut self, replay: &mut Replay<'_, '_, C>) -> Result<(), Fault>;
+}
+
+/// Runs a course on a table and on the machine, whose first generations have `first` buckets. At the end both show the same.
+pub(crate) fn run_course<S: Course>(
     alloc: Global,
     first: u64,
-    rule: Rule,
     script: &Script,
-    schedule: &mut S,
-) -> Result<(), Fault>
-    requires { IsFirstCapacity first }
-{
-    let memory = Refusing::new(alloc, rule);
-    let table = new_table(&memory, first);
-    let mut replay = Replay::new(Ground::new(alloc, first, &memory, &table), script);
-    let mut calls = Calls::new(
+    course: &mut S,
+) -> Result<(), Fault> {
+    let memory = Refusing::new(alloc, any_request());
+    let table = new_table(&memory, first)?;
+    let calls = Running::new(
         alloc,
         &table,
         |new: &Item, entry: &Item| script.says(new.class, entry),
         |entry: &Item| script.rehashes(entry),
         |entry: &Item| script.seeks(entry),
     );
-    calls.run(&mut replay, schedule)
-}
-
-/// A table, the memory that it asks, and the capacity of its first generation.
-#[derive(Clone, Copy)]
-pub(crate) struct Ground<'a, 'm> {
-    pub(crate) alloc: Global,
-    pub(crate) first: u64,
-    pub(crate) memory: &'m Refusing<Global>,
-    pub(crate) table: &'a Table<'m>,
-}
-
-impl<'a, 'm> Ground<'a, 'm> {
-    /// This table in this memory.
-    pub(crate) fn new(
-        alloc: Global,
-        first: u64,
-        memory: &'m Refusing<Global>,
-        table: &'a Table<'m>,
-    ) -> Self
-        ensures { result.first ≡ first }
-    {
-        Ground {
+    let mut replay = Replay {
+        ground: Ground {
             alloc,
-            first,
-            memory,
-            table,
-        }
-    }
+            memory: &memory,
+            table: &table,
+        },
+        first,
+        script,
+        machine: Machine::new(alloc, first)?,
+        calls,
+        begun: Vec::new(alloc),
+        numbers: Vec::new(alloc),
+        going: 0,
+    };
+    course.run(&mut replay)?;
+    replay.compare_walk()?;
+    replay.compare_buckets()
 }
 
-/// What a table is to do next.
-#[derive(Drop)]
-pub enum Turn {
-    /// An insert of this value begins.
-    Insert(Box<Item>),
-    /// A look-up of this hash begins.
-    Lookup(u64),
-    /// The call at this place takes a step.
-    Step(usize),
-    /// Nothing, in this turn.
-    Nothing,
-    /// Nothing any more.
-    End,
-}
-
-/// A call of a schedule as far as it has come: its number, the number of an insert's value, the class of that or of what it looks
-/// for, where it stands, and what it was told at its end.
+/// A call as far as it has come: its number, the number of its value if it inserts, its class, and where it stands.
 #[derive(Clone, Copy)]
 struct Call {
     number: u64,
     value: Option<u64>,
     class: u64,
     state: CallState,
-    said: Option<Said>,
 }
 
-/// A schedule as far as it has come, beside the machine.
+/// Calls on a table as far as they have come, beside the machine.
 #[derive(Drop)]
-pub struct Replay<'a, 'm> {
+pub(crate) struct Replay<'a, 'm, C: Calls> {
     pub(crate) ground: Ground<'a, 'm>,
     pub(crate) script: &'a Script,
+    /// How many buckets the first generation has.
+    first: u64,
     machine: Machine,
-    calls: Vec<Call>,
-    /// The numbers of the calls that have begun.
+    calls: C,
+    begun: Vec<Call>,
+    /// The numbers of the calls that have begun, lengths and walks too.
     numbers: Vec<u64>,
     /// How many calls haven't ended.
     going: u64,
-    /// The place of the call that takes a step, and how many requests were to be refused before it.
-    stepping: usize,
-    refusals: u64,
 }
 
-impl<'a, 'm> Replay<'a, 'm> {
-    /// No call yet, on a table without a generation.
-    fn new(ground: Ground<'a, 'm>, script: &'a Script) -> Self
-        requires { IsFirstCapacity ground.first }
-    {
-        Replay {
-            ground,
-            script,
-            machine: Machine::new(ground.alloc, ground.first),
-            calls: Vec::new(ground.alloc),
-            numbers: Vec::new(ground.alloc),
-            going: 0,
-            stepping: 0,
-            refusals: 0,
-        }
-    }
-
-    /// How many calls have begun on the table.
+impl<'a, 'm, C: Calls> Replay<'a, 'm, C> {
+    /// Returns how many calls have begun on the table.
     pub(crate) fn begun(&self) -> usize {
-        self.calls.len()
+        self.begun.len()
     }
 
-    /// Begins the next call, which has the number of its place.
-    pub(crate) fn begin(&mut self, ask: Ask) -> Result<Turn, Fault> {
-        let number = self.calls.len() as u64;
-        match ask {
-            Ask::Insert(class, hash) => self.insert(
-                number,
-                Item {
-                    number,
-                    class,
+    /// Begins the next call, which has the number of its place, as its value has.
+    pub(crate) fn begin(&mut self, ask: Ask) -> Result<(), Fault> {
+        let number = self.begun.len() as u64;
+        self.begin_as(number, number, ask)
+    }
+
+    /// Begins a call of this number, and with a value of this number if it inserts. The table leaves it out if another call has
+    /// the number, or another insert the value's.
+    pub(crate) fn begin_as(&mut self, number: u64, value: u64, ask: Ask) -> Result<(), Fault> {
+        let (class, inserted, state) = match ask {
+            Ask::Insert(class, hash) => {
+                self.take(Event::Insert {
+                    call: number,
+                    value,
                     hash,
-                },
-            ),
-            Ask::Lookup(class, hash) => self.lookup(number, class, hash),
-        }
-    }
-
-    /// Begins an insert. On the table it is left out if its number or its value was used.
-    pub(crate) fn insert(&mut self, number: u64, item: Item) -> Result<Turn, Fault> {
-        let (value, hash) = (item.number, item.hash);
-        self.machine.take(Event::Insert {
-            call: number,
-            value,
-            hash,
-        })?;
-        let call = Call {
-            number,
-            value: Some(value),
-            class: item.class,
-            state: CallState::insert(hash),
-            said: None,
+                })?;
+                (class, Some(value), CallState::insert(hash))
+            }
+            Ask::Lookup(class, hash) => {
+                self.take(Event::Lookup { call: number, hash })?;
+                (class, None, CallState::lookup(hash))
+            }
         };
-        let value = granted(Box::new(self.ground.alloc, item))?;
-        self.add(call, Turn::Insert(value))
-    }
-
-    /// Begins a look-up of a class. On the table it is left out if its number was used.
-    pub(crate) fn lookup(&mut self, number: u64, class: u64, hash: u64) -> Result<Turn, Fault> {
-        self.machine.take(Event::Lookup { call: number, hash })?;
+        if self.is_used(number, inserted) {
+            return Ok(());
+        }
         let call = Call {
             number,
-            value: None,
+            value: inserted,
             class,
-            state: CallState::lookup(hash),
-            said: None,
+            state,
         };
-        self.add(call, Turn::Lookup(hash))
-    }
-
-    /// Adds a call, which begins by this turn, unless its number or its value was used.
-    fn add(&mut self, call: Call, turn: Turn) -> Result<Turn, Fault> {
-        if self.is_used(&call) {
-            return Ok(Turn::Nothing);
-        }
-        granted(self.numbers.push(call.number))?;
-        granted(self.calls.push(call))?;
+        granted(self.numbers.push(number))?;
+        granted(self.begun.push(call))?;
         self.going = self.going.wrapping_add(1);
-        Ok(turn)
+        self.calls.begin(value, ask)
     }
 
-    /// Whether a call has the number of this one, or an insert its value.
-    fn is_used(&self, call: &Call) -> bool {
-        for other in &self.calls {
-            if call.value.is_some() && other.value == call.value {
+    /// Returns whether a call has this number, or an insert this value.
+    fn is_used(&self, number: u64, value: Option<u64>) -> bool {
+        for call in &self.begun {
+            if value.is_some() && call.value == value {
                 return true;
             }
         }
-        self.numbers.contains(&call.number)
+        self.numbers.contains(&number)
     }
 
-    /// Begins a length or a walk, on the machine alone.
-    pub(crate) fn begin_whole(&mut self, event: Event) -> Result<Turn, Fault> {
-        self.machine.take(event)?;
-        granted(self.numbers.push(event.call()))?;
-        Ok(Turn::Nothing)
+    /// Begins a length or a walk, on the machine only.
+    pub(crate) fn begin_whole(&mut self, event: Event) -> Result<(), Fault> {
+        self.take(event)?;
+        granted(self.numbers.push(event.call()))
     }
 
-    /// The place of the call of this number.
+    /// Returns the place of the call of this number, if it isn't a length or a walk.
     pub(crate) fn place_of(&self, number: u64) -> Option<usize> {
-        for (index, call) in self.calls.iter().enumerate() {
+        for (place, call) in self.begun.iter().enumerate() {
             if call.number == number {
-                return Some(index);
+                return Some(place);
             }
         }
         None
     }
 
-    /// The phase of the call at this place.
-    pub(crate) fn phase_at(&self, index: usize) -> Phase {
-        match self.calls.get(index) {
+    /// Returns the call at this place.
+    fn call_at(&self, place: usize) -> Result<Call, Fault> {
+        match self.begun.get(place) {
+            Some(call) => Ok(*call),
+            None => Err(Fault::Unfinished),
+        }
+    }
+
+    /// Returns the phase of the call at this place.
+    pub(crate) fn phase_at(&self, place: usize) -> Phase {
+        match self.begun.get(place) {
             Some(call) => call.state.phase,
             None => Phase::Done,
         }
     }
 
-    /// Whether all calls have ended.
-    pub(crate) fn all_ended(&self) -> bool {
-        self.going == 0
-    }
-
-    /// The next turn is a step of the call at this place, in which its closures are told to answer this. Of its memory what
-    /// stands to be refused is.
-    pub(crate) fn step(&mut self, index: usize, accepted: bool, hash: u64) -> Turn {
-        let class = match self.calls.get(index) {
-            Some(call) => call.class,
-            None => 0,
-        };
-        self.script.begin(accepted, hash, class);
-        self.stepping = index;
-        self.refusals = self.ground.memory.refusals_left();
-        Turn::Step(index)
-    }
-
-    /// The next turn is a step of the call at this place. Of its requests for memory the first few are granted, and so many of the
-    /// next are refused.
-    pub(crate) fn step_refused(&mut self, index: usize, passing: u64, refused: u64) -> Turn {
+    /// Refuses requests for memory from now on.
+    pub(crate) fn refuse(&self, refusals: Refusals) {
+        let (passing, refused) = refusals;
         self.ground.memory.refuse(passing, refused);
-        // Where no closure is asked, the machine is told of a yes: it would take it from an entry that is to be asked about.
-        self.step(index, true, 0)
     }
 
-    /// After a step: on the machine the event that it was.
-    pub(crate) fn follow(&mut self, stepped: Stepped) -> Result<(), Fault> {
-        let granted = self.ground.memory.refusals_left() == self.refusals;
-        let Some(call) = self.calls.get(self.stepping) else {
-            return Ok(());
+    /// Takes a step of the call at this place. The machine takes the event that it was.
+    pub(crate) fn step(&mut self, place: usize) -> Result<Took, Fault> {
+        let call = self.call_at(place)?;
+        let left = self.ground.memory.refusals_left();
+        // If no closure is asked, the machine is told of a yes: it would take it from an entry that is to be asked about.
+        self.script.begin(true, 0, call.class);
+        let (took, state) = self.calls.advance(place)?;
+        let copies = state.phase == Phase::Building;
+        let answers = Answers {
+            accepted: self.script.accepted(),
+            hash: self.script.hash(),
+            granted: self.ground.memory.refusals_left() == left,
         };
-        let (before, after) = (call.state.phase, stepped.state.phase);
-        match event_taken(call.number, before, after, self.script, granted) {
-            Some(event) => {
-                self.follow_by(event, stepped)?;
-                self.compare_length()
+        if let Some(event) = event_at(call.number, call.state.phase, copies, answers) {
+            self.follow(place, event, took, state)?;
+        }
+        Ok(took)
+    }
+
+    /// Takes the step of the call at this place that is this event. If the call can't take it, only the machine hears of it.
+    pub(crate) fn step_by(&mut self, place: usize, event: Event) -> Result<(), Fault> {
+        let call = self.call_at(place)?;
+        if !takes(call.state.phase, event) {
+            return self.follow(place, event, Took::Blocked, call.state);
+        }
+        let answers = answers_of(event);
+        self.refuse((0, u64::from(!answers.granted)));
+        self.script
+            .begin(answers.accepted, answers.hash, call.class);
+        let (took, state) = self.calls.advance(place)?;
+        let copies = state.phase == Phase::Building;
+        if event_at(call.number, call.state.phase, copies, answers) != Some(event) {
+            return Err(Fault::Step { call: call.number });
+        }
+        self.follow(place, event, took, state)
+    }
+
+    /// Takes steps of all calls in turn, from a place on, each until it is blocked or ends. Fails if that takes more than `most` steps.
+    pub(crate) fn finish(&mut self, from: usize, most: u64) -> Result<(), Fault> {
+        let mut place = from;
+        for _step in 0..most {
+            if self.going == 0 {
+                return Ok(());
             }
-            None => Ok(()),
+            if self.step(place)? != Took::Moved {
+                let next = place.saturating_add(1);
+                place = if next < self.begun.len() { next } else { 0 };
+            }
+        }
+        if self.going == 0 {
+            Ok(())
+        } else {
+            Err(Fault::Unfinished)
         }
     }
 
-    /// After a step: on the machine this event.
-    pub(crate) fn follow_by(&mut self, event: Event, stepped: Stepped) -> Result<(), Fault> {
-        self.note(stepped);
-        let finished = self.take(event)?;
+    /// Takes the event on the machine, after the step on the table: the call is told the same, and stands in the same state.
+    fn follow(
+        &mut self,
+        place: usize,
+        event: Event,
+        took: Took,
+        state: CallState,
+    ) -> Result<(), Fault> {
+        self.note(place, took, state);
         let call = event.call();
-        compare(call, stepped.took, &finished)?;
-        self.compare_state(call, stepped.state)
-    }
-
-    /// An event that the call at this place can't take on the table.
-    pub(crate) fn follow_blocked(&mut self, index: usize, event: Event) -> Result<Turn, Fault> {
-        if let Some(call) = self.calls.get(index) {
-            let blocked = Stepped {
-                took: Took::Blocked,
-                state: call.state,
-            };
-            self.stepping = index;
-            self.follow_by(event, blocked)?;
+        let finished = self.take(event)?;
+        let table = match took {
+            Took::Told(said) => Some(said),
+            Took::Moved | Took::Blocked => None,
+        };
+        let machine = match &finished {
+            Some(ended) if ended.call == call => Said::of_reply(&ended.reply),
+            _ => None,
+        };
+        if table != machine {
+            return Err(Fault::Told {
+                call,
+                table,
+                machine,
+            });
         }
-        Ok(Turn::Nothing)
+        if self.machine.state_of(call) != Some(state) {
+            return Err(Fault::Stands { call });
+        }
+        self.compare_length()
     }
 
-    /// On the machine this event. A length or a walk that it ends is that of the table.
-    pub(crate) fn take(&mut self, event: Event) -> Result<Option<Finished>, Fault> {
-        let finished = self.machine.take(event)?;
-        compare_whole(self.ground.table, &finished)?;
-        Ok(finished)
-    }
-
-    /// Notes what the step came to that was taken last.
-    fn note(&mut self, stepped: Stepped) {
-        if let Some(call) = self.calls.get_mut(self.stepping) {
-            call.state = stepped.state;
-            if let Took::Told(said) = stepped.took {
-                call.said = Some(said);
+    /// Notes where a step has led.
+    fn note(&mut self, place: usize, took: Took, state: CallState) {
+        if let Some(call) = self.begun.get_mut(place) {
+            call.state = state;
+            if matches!(took, Took::Told(_)) {
                 self.going = self.going.wrapping_sub(1);
             }
         }
     }
 
-    /// The call of this number stands in the machine as in the table.
-    fn compare_state(&self, call: u64, state: CallState) -> Result<(), Fault> {
-        if self.machine.state_of(call) == Some(state) {
-            return Ok(());
+    /// Takes an event on the machine. A length or a walk that it ends is that of the table.
+    pub(crate) fn take(&mut self, event: Event) -> Result<Option<Finished>, Fault> {
+        let finished = self.machine.take(event)?;
+        match &finished {
+            Some(call) if Said::of_reply(&call.reply).is_none() => {
+                compare_whole(self.ground.table, &finished)?
+            }
+            _ => (),
         }
-        Err(Fault::Stands { call })
+        Ok(finished)
     }
 
-    /// The call of this place and number was told this at its end.
-    pub(crate) fn compare_end(&self, call: u64, said: Said) -> Result<(), Fault> {
-        let machine = match self.calls.get(call as usize) {
-            Some(call) => call.said,
-            None => None,
-        };
-        same_told(call, Some(said), machine)
-    }
-
-    /// The schedule is over: the table and the machine count as many entries, show them in one order, and have as many buckets.
-    pub(crate) fn end(&mut self) -> Result<Turn, Fault> {
-        self.compare_walk()?;
-        self.compare_buckets()?;
-        Ok(Turn::End)
-    }
-
-    /// The table and the machine count as many entries, and show them in one order.
+    /// Compares the counts of entries, and the entries in the order of their buckets.
     pub(crate) fn compare_walk(&mut self) -> Result<(), Fault> {
         self.compare_length()?;
-        let walked = self.machine.walk()?;
-        if walked.is_none() {
-            return Err(Fault::Walk);
-        }
+        let call = self.machine.own_call();
+        let walked = self.machine.answer(Event::Walk { call })?;
         compare_whole(self.ground.table, &walked)
     }
 
-    /// The table and the machine count as many entries now.
+    /// Compares the counts of entries.
     fn compare_length(&mut self) -> Result<(), Fault> {
-        if self.machine.length()? == Some(self.ground.table.len() as u64) {
-            return Ok(());
-        }
-        Err(Fault::Length)
+        let call = self.machine.own_call();
+        let counted = self.machine.answer(Event::Len { call })?;
+        compare_whole(self.ground.table, &counted)
     }
 
-    /// The table and the machine have as many buckets.
+    /// Compares the numbers of buckets.
     pub(crate) fn compare_buckets(&self) -> Result<(), Fault> {
-        if self.machine.buckets() == buckets(self.ground.table, self.ground.first) {
+        // Each generation has twice as many as the one before.
+        let buckets = match capacity(self.ground.table) {
+            0 => 0,
+            last => last.saturating_mul(2).saturating_sub(self.first),
+        };
+        if self.machine.buckets() == buckets {
             return Ok(());
         }
         Err(Fault::Buckets)
     }
 }
 
-/// How many buckets all generations of a table have: each has twice as many as the one before.
-pub(crate) fn buckets(table: &Table<'_>, first: u64) -> u64 {
+/// Returns how many buckets the current generation of a table has, or 0 if there is none.
+pub(crate) fn capacity(table: &Table<'_>) -> u64 {
     match table.current() {
-        Some(current) => (current.generation.capacity() as u64)
-            .saturating_mul(2)
-            .saturating_sub(first),
+        Some(current) => current.generation.capacity() as u64,
         None => 0,
     }
 }
 
-/// The call was told the same by the table and by the machine.
-fn compare(call: u64, took: Took, finished: &Option<Finished>) -> Result<(), Fault> {
-    let table = match took {
-        Took::Told(said) => Some(said),
-        Took::Moved | Took::Blocked => None,
-    };
-    same_told(call, table, said_to(call, finished))
-}
-
-/// What the call was told is the same.
-fn same_told(call: u64, table: Option<Said>, machine: Option<Said>) -> Result<(), Fault> {
-    if table == machine {
-        return Ok(());
-    }
-    Err(Fault::Told {
-        call,
-        table,
-        machine,
-    })
-}
-
-/// A length or a walk of the machine is that of the table.
+/// Compares the reply of a length or a walk of the machine with the table.
 fn compare_whole(table: &Table<'_>, finished: &Option<Finished>) -> Result<(), Fault> {
     let Some(finished) = finished else {
-        return Ok(());
+        return Err(Fault::Unfinished);
     };
-    match &finished.reply {
-        Reply::Len(length) if *length != table.len() as u64 => Err(Fault::Length),
-        Reply::Walk(entries) if !shows(table, entries.as_slice()) => Err(Fault::Walk),
-        _ => Ok(()),
-    }
+    let same = match &finished.reply {
+        Reply::Len(length) => *length == table.len() as u64,
+        Reply::Walk(entries) => shows(table, entries.as_slice()),
+        _ => false,
+    };
+    if same { Ok(()) } else { Err(Fault::Entries) }
 }
 
-/// Whether a walk over the table shows these entries in this order.
+/// Returns whether a walk over the table shows these entries in this order.
 fn shows(table: &Table<'_>, entries: &[u64]) -> bool {
     let mut left = entries.iter();
     for entry in table.iter() {

@@ -1,10 +1,10 @@
 //! Calls on a running table, which take one step at a time.
-ghost use Rattle.testkit_replay.specs.Running.{IsReady, MayGo};
+ghost use Rattle.testkit_replay.specs.Running.{MayGo};
 
-use crate::fault::Fault;
-use crate::item::{Item, Said};
-use crate::replay::{Replay, Turn};
+use crate::fault::{Fault, granted};
+use crate::item::{Ask, Item, Said};
 use std::alloc::Global;
+use std::marker::Model;
 use table_core::call::CallState;
 use table_shared::{InsertCall, LockFreeRawTable, LookupCall, Progress};
 use testkit_refusing::Refusing;
@@ -23,20 +23,13 @@ pub enum Took {
     Told(Said),
 }
 
-/// What a step came to, and where the call stands then.
-#[derive(Clone, Copy)]
-pub struct Stepped {
-    pub took: Took,
-    pub state: CallState,
-}
+/// Calls on a table, in the order in which they begin.
+pub trait Calls: Drop {
+    /// Begins a call, whose value has this number if it inserts.
+    fn begin(&mut self, value: u64, ask: Ask) -> Result<(), Fault>;
 
-/// What a table is to do, one turn after the other.
-pub trait Schedule {
-    /// The next turn.
-    fn next(&mut self, replay: &mut Replay<'_, '_>) -> Result<Turn, Fault>;
-
-    /// Hears what the step came to that was the last turn.
-    fn hear(&mut self, replay: &mut Replay<'_, '_>, stepped: Stepped) -> Result<(), Fault>;
+    /// Takes one step of the call at this place, and returns what it came to, and where the call stands then.
+    fn advance(&mut self, place: usize) -> Result<(Took, CallState), Fault>;
 }
 
 /// A call that goes step by step.
@@ -52,8 +45,8 @@ impl<'a, 'm, E: Fn(&Item, &Item) -> bool, H: Fn(&Item) -> u64, F: Fn(&Item) -> b
     H,
     F,
 > {
-    /// One step.
-    fn advance(&mut self) -> Stepped
+    /// Takes one step.
+    fn advance(&mut self) -> (Took, CallState)
         requires may_go { MayGo E.IsAlwaysCallable H.IsAlwaysCallable F.IsAlwaysCallable E.Fn
             self.old }
         ensures may_go { MayGo E.IsAlwaysCallable H.IsAlwaysCallable F.IsAlwaysCallable E.Fn
@@ -62,17 +55,11 @@ impl<'a, 'm, E: Fn(&Item, &Item) -> bool, H: Fn(&Item) -> u64, F: Fn(&Item) -> b
         match self {
             Steps::Insert(call) => {
                 let took = took_insert(&call.advance());
-                Stepped {
-                    took,
-                    state: call.state(),
-                }
+                (took, call.state())
             }
             Steps::Lookup(call) => {
                 let took = took_lookup(call.advance());
-                Stepped {
-                    took,
-                    state: call.state(),
-                }
+                (took, call.state())
             }
         }
     }
@@ -88,7 +75,7 @@ impl<E: Fn(&Item, &Item) -> bool, H: Fn(&Item) -> u64, F: Fn(&Item) -> bool> Dro
     }
 }
 
-/// What a step of an insert came to.
+/// Returns what a step of an insert came to.
 fn took_insert(progress: &Progress<Result<(&Item, Option<Box<Item>>), Box<Item>>>) -> Took {
     match progress {
         Progress::Moved => Took::Moved,
@@ -97,7 +84,7 @@ fn took_insert(progress: &Progress<Result<(&Item, Option<Box<Item>>), Box<Item>>
     }
 }
 
-/// What a step of a look-up came to.
+/// Returns what a step of a look-up came to.
 fn took_lookup(progress: Progress<Option<&Item>>) -> Took {
     match progress {
         Progress::Moved => Took::Moved,
@@ -106,14 +93,15 @@ fn took_lookup(progress: Progress<Option<&Item>>) -> Took {
     }
 }
 
-/// The calls of a schedule, in the order in which they began, and the closures that they ask.
-pub struct Calls<
+/// Calls that ask these closures, which can always be called.
+pub struct Running<
     'a,
     'm,
     E: Fn(&Item, &Item) -> bool + Copy,
     H: Fn(&Item) -> u64 + Copy,
     F: Fn(&Item) -> bool + Copy,
 > {
+    alloc: Global,
     table: &'a Table<'m>,
     eq: E,
     hash_fn: H,
@@ -127,16 +115,33 @@ impl<
     E: Fn(&Item, &Item) -> bool + Copy,
     H: Fn(&Item) -> u64 + Copy,
     F: Fn(&Item) -> bool + Copy,
-> Calls<'a, 'm, E, H, F> {
-    /// No call yet.
+> Model for Running<'a, 'm, E, H, F> {
+    ghost use Rattle.std.specs.Prelude.{All, ℕ, length};
+    ghost use Rattle.testkit_replay.specs.Running.{MayGo};
+
+    ghost Value = { ℕ };
+
+    ghost view = { λ c. length c.begun.items };
+
+    ghost invariant = { λ c. E.IsAlwaysCallable c.eq × H.IsAlwaysCallable c.hash_fn × F.IsAlwaysCallable c.test
+        × All (MayGo E.IsAlwaysCallable H.IsAlwaysCallable F.IsAlwaysCallable E.Fn) c.begun.items };
+}
+
+impl<
+    'a,
+    'm,
+    E: Fn(&Item, &Item) -> bool + Copy,
+    H: Fn(&Item) -> u64 + Copy,
+    F: Fn(&Item) -> bool + Copy,
+> Running<'a, 'm, E, H, F> {
+    /// Makes a table without calls.
     pub fn new(alloc: Global, table: &'a Table<'m>, eq: E, hash_fn: H, test: F) -> Self
         requires eq_callable { E.IsAlwaysCallable eq }
         requires hash_callable { H.IsAlwaysCallable hash_fn }
         requires test_callable { F.IsAlwaysCallable test }
-        ensures ready { IsReady E.IsAlwaysCallable H.IsAlwaysCallable F.IsAlwaysCallable E.Fn
-            result }
     {
-        Calls {
+        Running {
+            alloc,
             table,
             eq,
             hash_fn,
@@ -144,65 +149,34 @@ impl<
             begun: Vec::new(alloc),
         }
     }
+}
 
-    /// Takes the turns of a schedule to its end.
-    pub fn run<S: Schedule>(
-        &mut self,
-        replay: &mut Replay<'_, '_>,
-        schedule: &mut S,
-    ) -> Result<(), Fault>
-        requires ready { IsReady E.IsAlwaysCallable H.IsAlwaysCallable F.IsAlwaysCallable E.Fn
-            self.old }
-    {
-        for _turn in 0..u64::MAX {
-            match schedule.next(replay)? {
-                Turn::Insert(value) => self.insert(value)?,
-                Turn::Lookup(hash) => self.lookup(hash)?,
-                Turn::Step(index) => schedule.hear(replay, self.advance(index)?)?,
-                Turn::Nothing => (),
-                Turn::End => return Ok(()),
+impl<
+    E: Fn(&Item, &Item) -> bool + Copy,
+    H: Fn(&Item) -> u64 + Copy,
+    F: Fn(&Item) -> bool + Copy,
+> Calls for Running<'_, '_, E, H, F> {
+    fn begin(&mut self, value: u64, ask: Ask) -> Result<(), Fault> {
+        match ask {
+            Ask::Insert(class, hash) => {
+                let item = Item {
+                    number: value,
+                    class,
+                    hash,
+                };
+                let boxed = granted(Box::new(self.alloc, item))?;
+                let call = InsertCall::new(self.table, hash, boxed, self.eq, self.hash_fn);
+                granted(self.begun.push(Steps::Insert(call)))
+            }
+            Ask::Lookup(_, hash) => {
+                let call = LookupCall::new(self.table, hash, self.test);
+                granted(self.begun.push(Steps::Lookup(call)))
             }
         }
-        Err(Fault::Unfinished)
     }
 
-    /// Begins an insert.
-    fn insert(&mut self, value: Box<Item>) -> Result<(), Fault>
-        requires ready { IsReady E.IsAlwaysCallable H.IsAlwaysCallable F.IsAlwaysCallable E.Fn
-            self.old }
-        ensures ready { IsReady E.IsAlwaysCallable H.IsAlwaysCallable F.IsAlwaysCallable E.Fn
-            self.new }
-    {
-        let hash = value.hash;
-        let call = InsertCall::new(self.table, hash, value, self.eq, self.hash_fn);
-        match self.begun.push(Steps::Insert(call)) {
-            Ok(()) => Ok(()),
-            Err(_refused) => Err(Fault::NoMemory),
-        }
-    }
-
-    /// Begins a look-up of a hash.
-    fn lookup(&mut self, hash: u64) -> Result<(), Fault>
-        requires ready { IsReady E.IsAlwaysCallable H.IsAlwaysCallable F.IsAlwaysCallable E.Fn
-            self.old }
-        ensures ready { IsReady E.IsAlwaysCallable H.IsAlwaysCallable F.IsAlwaysCallable E.Fn
-            self.new }
-    {
-        let call = LookupCall::new(self.table, hash, self.test);
-        match self.begun.push(Steps::Lookup(call)) {
-            Ok(()) => Ok(()),
-            Err(_refused) => Err(Fault::NoMemory),
-        }
-    }
-
-    /// One step of the call at this place.
-    fn advance(&mut self, index: usize) -> Result<Stepped, Fault>
-        requires ready { IsReady E.IsAlwaysCallable H.IsAlwaysCallable F.IsAlwaysCallable E.Fn
-            self.old }
-        ensures ready { IsReady E.IsAlwaysCallable H.IsAlwaysCallable F.IsAlwaysCallable E.Fn
-            self.new }
-    {
-        match self.begun.get_mut(index) {
+    fn advance(&mut self, place: usize) -> Result<(Took, CallState), Fault> {
+        match self.begun.get_mut(place) {
             Some(steps) => Ok(steps.advance()),
             None => Err(Fault::Unfinished),
         }
@@ -213,9 +187,10 @@ impl<
     E: Fn(&Item, &Item) -> bool + Copy,
     H: Fn(&Item) -> u64 + Copy,
     F: Fn(&Item) -> bool + Copy,
-> Drop for Calls<'_, '_, E, H, F> {
+> Drop for Running<'_, '_, E, H, F> {
     fn drop(self) {
-        let Calls {
+        let Running {
+            alloc: _,
             table: _,
             eq: _eq,
             hash_fn: _hash_fn,

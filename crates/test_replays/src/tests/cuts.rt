@@ -1,11 +1,10 @@
-//! Two calls that cut into each other.
+//! Calls that go step by step: two that cut into each other, and schedules that are drawn.
 use std::alloc::Global;
 use std::process::Abort;
-use testkit_replay::course::{Course, run_course};
-use testkit_replay::fault::Fault;
-use testkit_replay::schedules::Ask;
-use testkit_replay::schedules::Ask::{Insert, Lookup};
-use testkit_replay::script::Manner;
+use testkit_replay::first_stepped;
+use testkit_replay::item::Ask;
+use testkit_replay::item::Ask::{Insert, Lookup};
+use testkit_replay::stepped::{Cut, run_cut};
 
 /// The hashes of the entries, and what two calls ask.
 type Start = (&'static [u64], (Ask, Ask));
@@ -25,43 +24,38 @@ const STARTS: [Start; 5] = [
 
 const SEVEN: [u64; 7] = [0, 1, 2, 3, 4, 5, 6];
 
-/// Up to so many steps each call takes before the other.
-const AHEAD: u64 = 24;
-
-/// Both take so many steps at most.
-const MOST: u64 = 400;
-
-/// The calls of a start, with so many steps of the first and of the second ahead.
-fn cut(alloc: Global, start: &Start, steps: (u64, u64)) -> Result<(), Fault> {
-    let course = Course::Cut {
-        hashes: start.0,
-        asks: start.1,
-        steps,
-        most: MOST,
-    };
-    run_course(alloc, 16, Manner::Lawful, 0, course)
-}
+/// Each call takes fewer steps than these before the other.
+const AHEAD: u64 = 25;
 
 /// The calls of a start tell what the machine tells, however far the first is ahead.
-fn assert_cuts(rt: &impl Abort, alloc: Global, start: &Start, second: u64) {
-    let (hashes, _asks) = *start;
-    for first in 0..AHEAD.wrapping_add(1) {
+fn assert_cuts(rt: &impl Abort, alloc: Global, start: Start, second: u64) {
+    let (hashes, asks) = start;
+    for first in 0..AHEAD {
         let steps = (first, second);
-        let fault = cut(alloc, start, steps).err();
+        let cut = Cut {
+            hashes,
+            asks,
+            steps,
+        };
+        let fault = run_cut(alloc, cut).err();
         assert!(rt; fault.is_none(), "{fault:?} {hashes:?} {steps:?}");
-    }
-}
-
-/// The calls of a start tell what the machine tells, however far each is ahead.
-fn assert_start(rt: &impl Abort, alloc: Global, start: &Start) {
-    for second in 0..AHEAD.wrapping_add(1) {
-        assert_cuts(rt, alloc, start, second);
     }
 }
 
 #[test]
 fn two_calls_that_cut_into_each_other(rt: HostRuntime) {
-    for start in &STARTS {
-        assert_start(&rt, rt.alloc(), start);
+    for start in STARTS {
+        for second in 0..AHEAD {
+            assert_cuts(&rt, rt.alloc(), start, second);
+        }
     }
+}
+
+/// How many schedules are drawn.
+const SCHEDULES: u64 = 100;
+
+#[test]
+fn schedules_that_are_drawn(rt: HostRuntime) {
+    let fault = first_stepped(rt.alloc(), 0, SCHEDULES);
+    assert!(rt; fault.is_none(), "{fault:?}");
 }

@@ -13,22 +13,33 @@ use testkit_refusing::{Refusing, Rule};
 type Table<'a> = LockFreeRawTable<Box<Counting>, &'a Refusing<Global>>;
 
 /// An insert of a number into a table of the numbers below `entries`, each its own hash, in 16 buckets.
+#[derive(Clone, Copy)]
 struct Course {
     entries: u64,
     number: u64,
     /// What another insert places once this one has come to an empty bucket, by its third step.
     meanwhile: Option<u64>,
-    /// So many of its requests for memory are granted before those that are refused.
-    passing: u64,
-    /// So many are refused.
-    refused: u64,
-    /// The step by which its value is placed.
+    /// Of its requests for memory, how many are granted first, and how many are refused then.
+    refusals: (u64, u64),
+    /// The step by which its value is placed, and its last step.
     placed_at: u64,
-    /// Its last step.
     ended_at: u64,
 }
 
 impl Course {
+    /// Makes the course of a row.
+    fn of(row: Row) -> Course {
+        let (entries, number, meanwhile, refusals, (placed_at, ended_at)) = row;
+        Course {
+            entries,
+            number,
+            meanwhile,
+            refusals,
+            placed_at,
+            ended_at,
+        }
+    }
+
     /// How many entries there are beside its own, if another value was placed meanwhile or wasn't.
     fn entries_with(&self, joined: bool) -> u64 {
         self.entries.wrapping_add(u64::from(joined))
@@ -49,107 +60,30 @@ const GROWS: u64 = 7;
 /// The steps by which an insert comes to an empty bucket, the first on its way.
 const TO_EMPTY: u64 = 3;
 
-const COURSES: [Course; 10] = [
+/// The fields of a course in their order, the last two as a pair.
+type Row = (u64, u64, Option<u64>, (u64, u64), (u64, u64));
+
+const COURSES: [Row; 10] = [
     // It makes the first generation: seven steps, and seven more to place its value there.
-    Course {
-        entries: 0,
-        number: 0,
-        meanwhile: None,
-        passing: 0,
-        refused: 0,
-        placed_at: 11,
-        ended_at: 14,
-    },
+    (0, 0, None, (0, 0), (11, 14)),
     // It places its value, and there is no growth.
-    Course {
-        entries: 1,
-        number: 1,
-        meanwhile: None,
-        passing: 0,
-        refused: 0,
-        placed_at: 4,
-        ended_at: 7,
-    },
+    (1, 1, None, (0, 0), (4, 7)),
     // It places its value, and copies eight entries.
-    Course {
-        entries: 7,
-        number: 7,
-        meanwhile: None,
-        passing: 0,
-        refused: 0,
-        placed_at: 4,
-        ended_at: 19,
-    },
+    (7, 7, None, (0, 0), (4, 19)),
     // The first generation is refused.
-    Course {
-        entries: 0,
-        number: 0,
-        meanwhile: None,
-        passing: 0,
-        refused: 1,
-        placed_at: NEVER,
-        ended_at: 6,
-    },
+    (0, 0, None, (0, 1), (NEVER, 6)),
     // The block of its value is refused.
-    Course {
-        entries: 1,
-        number: 1,
-        meanwhile: None,
-        passing: 0,
-        refused: 1,
-        placed_at: NEVER,
-        ended_at: 5,
-    },
+    (1, 1, None, (0, 1), (NEVER, 5)),
     // It places its value, and growth is refused.
-    Course {
-        entries: 7,
-        number: 7,
-        meanwhile: None,
-        passing: 1,
-        refused: 1,
-        placed_at: 4,
-        ended_at: 10,
-    },
+    (7, 7, None, (1, 1), (4, 10)),
     // It meets its equal, which is an entry.
-    Course {
-        entries: 1,
-        number: 0,
-        meanwhile: None,
-        passing: 0,
-        refused: 0,
-        placed_at: NEVER,
-        ended_at: 5,
-    },
+    (1, 0, None, (0, 0), (NEVER, 5)),
     // It loses its exchange to its equal.
-    Course {
-        entries: 1,
-        number: 1,
-        meanwhile: Some(1),
-        passing: 0,
-        refused: 0,
-        placed_at: NEVER,
-        ended_at: 6,
-    },
+    (1, 1, Some(1), (0, 0), (NEVER, 6)),
     // It loses its exchange to another number of its bucket, and is placed in the next one.
-    Course {
-        entries: 1,
-        number: 1,
-        meanwhile: Some(17),
-        passing: 0,
-        refused: 0,
-        placed_at: 6,
-        ended_at: 9,
-    },
+    (1, 1, Some(17), (0, 0), (6, 9)),
     // Each bucket is set. It copies 16 entries, is placed, and copies 17.
-    Course {
-        entries: 16,
-        number: 16,
-        meanwhile: None,
-        passing: 0,
-        refused: 0,
-        placed_at: 43,
-        ended_at: 67,
-    },
+    (16, 16, None, (0, 0), (43, 67)),
 ];
 
 /// Takes so many steps. Whether the last of them ended the call.
@@ -233,12 +167,8 @@ fn give_up_after<R: Wait + Abort>(
     if before < steps {
         ended = advance_times(&mut call, steps.wrapping_sub(before));
     }
-    assert_count(
-        rt,
-        u64::from(ended),
-        u64::from(steps == course.ended_at),
-        steps,
-    );
+    let ends = steps == course.ended_at;
+    assert_count(rt, u64::from(ended), u64::from(ends), steps);
 }
 
 /// The number that is placed meanwhile, in a box, if the insert comes so far.
@@ -288,7 +218,7 @@ fn give_up_and_go_on<R: Wait + Abort>(
     let (drops, others) = counts;
     let table: Table<'_> = LockFreeRawTable::new(memory);
     fill(rt, alloc, &table, memory, course.entries, others)?;
-    memory.refuse(course.passing, course.refused);
+    memory.refuse(course.refusals.0, course.refusals.1);
     let other = other_of(alloc, course, steps, others)?;
     let joined = other.is_some();
     let value = Box::new(alloc, Counting::new(course.number, drops.clone()?))?;
@@ -297,12 +227,8 @@ fn give_up_and_go_on<R: Wait + Abort>(
     let placed = course.placed_at <= steps;
     assert_count(rt, drops.load(Ordering::SeqCst), u64::from(!placed), steps);
     let known = placed || course.knows(joined);
-    assert_count(
-        rt,
-        u64::from(contains(&table, course.number)),
-        u64::from(known),
-        steps,
-    );
+    let found = contains(&table, course.number);
+    assert_count(rt, u64::from(found), u64::from(known), steps);
     let next = Counting::new(course.entries.wrapping_add(1), others.clone()?);
     let there = course.entries_with(joined).wrapping_add(u64::from(placed));
     assert_goes_on(rt, &table, Box::new(alloc, next)?, there, steps);
@@ -327,12 +253,18 @@ fn assert_given_up<R: Wait + Abort>(
     Ok(())
 }
 
+/// The insert of a course, dropped after each number of steps.
+fn assert_course<R: Wait + Abort>(rt: &R, alloc: Global, course: &Course) -> Result<(), Fail> {
+    for steps in 0..course.ended_at.wrapping_add(1) {
+        assert_given_up(rt, alloc, course, steps)?;
+    }
+    Ok(())
+}
+
 #[test]
 fn inserts_that_are_given_up(rt: HostRuntime) -> Result<(), Fail> {
-    for course in &COURSES {
-        for steps in 0..course.ended_at.wrapping_add(1) {
-            assert_given_up(&rt, rt.alloc(), course, steps)?;
-        }
+    for row in COURSES {
+        assert_course(&rt, rt.alloc(), &Course::of(row))?;
     }
     Ok(())
 }

@@ -3,24 +3,22 @@ use std::process::Abort;
 use std::test::Fail;
 use table_core::event::Event;
 
+const INSERT_10: Event = Event::Insert {
+    call: 1,
+    value: 10,
+    hash: 0,
+};
+
+const INSERT_11: Event = Event::Insert {
+    call: 1,
+    value: 11,
+    hash: 0,
+};
+
 /// Events of which no two are equal, and what each prints.
 const PRINTED: [(Event, &str); 5] = [
-    (
-        Event::Insert {
-            call: 1,
-            value: 10,
-            hash: 0,
-        },
-        "Insert { call: 1, value: 10, hash: 0 }",
-    ),
-    (
-        Event::Insert {
-            call: 1,
-            value: 11,
-            hash: 0,
-        },
-        "Insert { call: 1, value: 11, hash: 0 }",
-    ),
+    (INSERT_10, "Insert { call: 1, value: 10, hash: 0 }"),
+    (INSERT_11, "Insert { call: 1, value: 11, hash: 0 }"),
     (Event::Len { call: 1 }, "Len { call: 1 }"),
     (Event::Walk { call: 1 }, "Walk { call: 1 }"),
     (

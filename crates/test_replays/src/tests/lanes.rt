@@ -12,37 +12,23 @@ const HASHES: u64 = 64;
 
 /// Whether an insert of this hash is blocked at its first step.
 fn is_kept_out(table: &Table, hash: u64) -> bool {
-    let mut call = InsertCall::new(
-        table,
-        hash,
-        InPlace(hash),
-        |a: &u64, b: &u64| *a == *b,
-        |a: &u64| *a,
-    );
+    let eq = |a: &u64, b: &u64| *a == *b;
+    let hash_fn = |a: &u64| *a;
+    let mut call = InsertCall::new(table, hash, InPlace(hash), eq, hash_fn);
     matches!(call.advance(), Progress::Blocked)
 }
 
 /// Whether an insert of this hash that has taken its lock keeps out the insert that makes the first generation, and is kept out by
 /// it afterwards.
 fn excludes(table: &Table, hash: u64) -> bool {
-    let mut growing = InsertCall::new(
-        table,
-        1,
-        InPlace(1),
-        |a: &u64, b: &u64| *a == *b,
-        |a: &u64| *a,
-    );
+    let eq = |a: &u64, b: &u64| *a == *b;
+    let hash_fn = |a: &u64| *a;
+    let mut growing = InsertCall::new(table, 1, InPlace(1), eq, hash_fn);
     // It takes its lock, finds no generation, and lets the lock go.
     growing.advance();
     growing.advance();
     growing.advance();
-    let mut placing = InsertCall::new(
-        table,
-        hash,
-        InPlace(hash),
-        |a: &u64, b: &u64| *a == *b,
-        |a: &u64| *a,
-    );
+    let mut placing = InsertCall::new(table, hash, InPlace(hash), eq, hash_fn);
     placing.advance();
     let waits = matches!(growing.advance(), Progress::Blocked);
     drop(placing);

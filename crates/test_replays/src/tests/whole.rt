@@ -1,81 +1,95 @@
-//! Whole inserts and look-ups, cut where they ask a closure.
+//! Whole inserts and look-ups, inside of whose closures others run.
 use std::alloc::Global;
 use std::process::Abort;
 use std::sync::Wait;
-use table_terms::capacity::is_first_capacity;
 use testkit_replay::fault::Fault;
+use testkit_replay::item::Ask::{Insert, Lookup};
 use testkit_replay::item::Said;
 use testkit_replay::item::Said::{Absent, Found, Placed, Refused, Shown};
-use testkit_replay::schedules::Ask;
-use testkit_replay::schedules::Ask::{Insert, Lookup};
-use testkit_replay::script::Manner;
-use testkit_replay::whole_calls::{Plan, Refusals, Top, Tops, run_whole};
+use testkit_replay::whole::Actor::{First, Second};
+use testkit_replay::whole::Turn::{Begin, GoOn, Refuse};
+use testkit_replay::whole::Until::{Asked, End};
+use testkit_replay::whole::{Turn, Turns, run_nested};
 
-/// How many seeds there are for each first capacity.
-const SEEDS: u64 = 200;
-
-/// How many calls run one after the other.
-const TOPS: u64 = 40;
-
-/// No request is refused.
-const GRANTED: Refusals = (0, 0);
-
-/// The first request is refused.
-pub(crate) const REFUSED: Refusals = (0, 1);
-
-/// The block of a value is granted, and its growth is refused.
-const GROWTH_REFUSED: Refusals = (1, 1);
-
-/// How many values are inserted first, the calls after those, those that run inside the first closure that the last of them asks,
-/// and what each call is told after the first inserts, in the order in which they end. The first generation has 16 buckets.
-type Row = (u64, &'static [Top], &'static [Ask], &'static [(u64, Said)]);
+/// How many values are inserted first, what comes then, where the calls of `Second` run inside of those of `First`, and what each call is
+/// told after the first inserts, in the order in which they end. The first generation has 16 buckets.
+type Row = (u64, &'static [Turn], &'static [(u64, Said)]);
 
 const ROWS: [Row; 6] = [
     // The equal of a value is placed while its insert asks about another entry.
     (
         1,
-        &[(Insert(1, 0), GRANTED)],
-        &[Insert(1, 0)],
+        &[
+            Begin(First, Insert(1, 0), Asked),
+            Begin(Second, Insert(1, 0), End),
+            GoOn(First, End),
+        ],
         &[(2, Placed(2)), (1, Found(2, 1))],
     ),
     // Another value of its hash is placed meanwhile: it goes on to the next bucket.
     (
         1,
-        &[(Insert(1, 0), GRANTED)],
-        &[Insert(2, 0), Lookup(1, 0), Lookup(2, 0)],
+        &[
+            Begin(First, Insert(1, 0), Asked),
+            Begin(Second, Insert(2, 0), End),
+            Begin(Second, Lookup(1, 0), End),
+            Begin(Second, Lookup(2, 0), End),
+            GoOn(First, End),
+        ],
         &[(2, Placed(2)), (3, Absent), (4, Shown(2)), (1, Placed(1))],
     ),
-    // The table grows while a look-up is under way, and its value comes into the new generation alone.
+    // The table grows while a look-up is under way, and its value comes into the new generation only.
     (
         7,
-        &[(Lookup(8, 0), GRANTED)],
-        &[Insert(7, 7), Insert(8, 0), Lookup(8, 0)],
+        &[
+            Begin(First, Lookup(8, 0), Asked),
+            Begin(Second, Insert(7, 7), End),
+            Begin(Second, Insert(8, 0), End),
+            Begin(Second, Lookup(8, 0), End),
+            GoOn(First, End),
+        ],
         &[(8, Placed(8)), (9, Placed(9)), (10, Shown(9)), (7, Absent)],
     ),
     // Look-ups while a growth copies: the value that it was asked for is there.
     (
         7,
-        &[(Insert(7, 7), GRANTED)],
-        &[Lookup(7, 7), Lookup(0, 0), Lookup(9, 9)],
+        &[
+            Begin(First, Insert(7, 7), Asked),
+            Begin(Second, Lookup(7, 7), End),
+            Begin(Second, Lookup(0, 0), End),
+            Begin(Second, Lookup(9, 9), End),
+            GoOn(First, End),
+        ],
         &[(8, Shown(7)), (9, Shown(0)), (10, Absent), (7, Placed(7))],
     ),
     // Growth is refused, and comes with an insert that finds its value. A look-up inside it shows what was placed.
     (
         7,
-        &[(Insert(7, 7), GROWTH_REFUSED), (Insert(0, 0), GRANTED)],
-        &[Lookup(7, 7)],
+        &[
+            Refuse((1, 1)),
+            Begin(First, Insert(7, 7), End),
+            Refuse((0, 0)),
+            Begin(First, Insert(0, 0), Asked),
+            Begin(Second, Lookup(7, 7), End),
+            GoOn(First, End),
+        ],
         &[(7, Placed(7)), (9, Shown(7)), (8, Found(0, 8))],
     ),
     // The first generation is refused, and then the block of a value.
     (
         0,
         &[
-            (Insert(0, 0), REFUSED),
-            (Insert(1, 0), GRANTED),
-            (Insert(2, 0), REFUSED),
-            (Lookup(1, 0), GRANTED),
+            Refuse((0, 1)),
+            Begin(First, Insert(0, 0), End),
+            Refuse((0, 0)),
+            Begin(First, Insert(1, 0), End),
+            Refuse((0, 1)),
+            Begin(First, Insert(2, 0), End),
+            Refuse((0, 0)),
+            Begin(First, Lookup(1, 0), Asked),
+            Begin(Second, Lookup(0, 0), End),
+            GoOn(First, End),
         ],
-        &[Lookup(0, 0)],
         &[
             (0, Refused(0)),
             (1, Placed(1)),
@@ -105,13 +119,8 @@ pub(crate) fn assert_told(
 
 /// The calls of a row are told what it says, and the machine tells the same.
 fn assert_row<R: Abort + Wait>(rt: &R, alloc: Global, row: &Row) {
-    let (filled, then, inside, expected) = *row;
-    let plan = Plan::Worked {
-        tops: Tops { filled, then },
-        inside,
-    };
-    assert!(rt; is_first_capacity(16));
-    let run = run_whole(rt, alloc, 16, Manner::Lawful, 0, plan);
+    let (filled, then, expected) = *row;
+    let run = run_nested(rt, alloc, 16, 0, Turns::Worked { filled, then });
     assert_told(rt, run, filled, expected);
 }
 
@@ -122,19 +131,18 @@ fn whole_calls_that_are_worked(rt: HostRuntime) {
     }
 }
 
-/// The calls of a seed do what the machine does. One half of the seeds has careless closures, and one half is refused memory.
+/// How many seeds there are for each first capacity, and how many calls of a seed don't run inside of another one.
+const SEEDS: u64 = 200;
+
+const CALLS: u64 = 40;
+
+/// The calls of a seed do what the machine does. One half of the seeds is refused memory.
 fn assert_seed<R: Abort + Wait>(rt: &R, alloc: Global, first: u64, seed: u64) {
-    let manner = if seed % 2 == 0 {
-        Manner::Lawful
-    } else {
-        Manner::Careless
-    };
-    let plan = Plan::Drawn {
-        tops: TOPS,
+    let turns = Turns::Drawn {
+        calls: CALLS,
         refuses: seed % 4 >= 2,
     };
-    assert!(rt; is_first_capacity(first));
-    let fault = run_whole(rt, alloc, first, manner, seed, plan).err();
+    let fault = run_nested(rt, alloc, first, seed, turns).err();
     assert!(rt; fault.is_none(), "{first} {seed} {fault:?}");
 }
 

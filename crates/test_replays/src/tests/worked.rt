@@ -1,13 +1,10 @@
 //! The worked schedules, on a table beside the machine.
-ghost use Rattle.table_terms.specs.Capacities.{IsFirstCapacity};
-
 use std::alloc::Global;
 use std::process::Abort;
 use std::test::Fail;
 use table_core::event::Event;
-use table_terms::capacity::is_first_capacity;
-use testkit_replay::course::{Course, run_course};
 use testkit_replay::script::Manner;
+use testkit_replay::stepped::run_events;
 use testkit_schedules::worked::{Row, SCHEDULES, lines_of};
 use tool_call_texts::events::{ScheduleLine, parse_schedule_line};
 
@@ -60,14 +57,9 @@ fn assert_followed(
     classes: &[(u64, u64)],
 ) -> Result<(), Fail> {
     let (first, ..) = *row;
-    assert!(rt; is_first_capacity(first));
     let lines = lines_of(alloc, row)?;
     let events = events_of(alloc, lines.as_str())?;
-    let course = Course::Events {
-        events: events.as_slice(),
-        classes,
-    };
-    let fault = run_course(alloc, first, manner, 0, course).err();
+    let fault = run_events(alloc, first, manner, events.as_slice(), classes).err();
     assert!(rt; fault.is_none(), "{fault:?} {row:?}");
     Ok(())
 }
