@@ -2,6 +2,7 @@ pub mod Locked
 pub mod Lanes
 pub mod Lineages
 pub mod Tables
+pub mod Publishing
 pub mod Growths
 pub mod Ahead
 pub mod Walks

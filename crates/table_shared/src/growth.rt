@@ -10,12 +10,12 @@ ghost use Rattle.table_shared.specs.Growths.{IsFresh, AreNamed, CopiesNext, Pass
 pub(crate) mod ahead;
 pub(crate) mod begin;
 
-use crate::lineage::later::{Slot, show_block};
+use crate::lineage::slot::{Published, Slot};
 use crate::locks::OwnedLock;
 use crate::shown::Shown;
 use std::alloc::{AllocError, Allocator};
 use std::marker::Model;
-use table_cell::{Bucket, Home, Low, Note};
+use table_cell::{Bucket, Home, Low};
 use table_generations::atomic_value::AtomicValue;
 use table_generations::fixed::Generation;
 
@@ -28,7 +28,7 @@ pub struct Growth<'a, T: AtomicValue, A: Allocator + Copy> {
     /// The number of buckets of the earlier generation that were copied.
     copied: usize,
     built: Generation<T, A>,
-    slot: Slot<'a, T, A>,
+    slot: Slot<'a, Generation<T, A>, A>,
     /// The heap block that the generation will be moved to.
     block: Box<Generation<T, A>, A>,
 }
@@ -41,8 +41,8 @@ impl<'a, T: AtomicValue, A: Allocator + Copy> Model for Growth<'a, T, A> {
 
     ghost view = { λ g. growth_of g.home.now.id g.from g.copied g.built };
 
-    ghost invariant = { λ g. IsUnderWay g.home.now.id g.from g.copied g.built g.slot.alloc
-        g.slot.word.now (box_allocator g.block) };
+    ghost invariant = { λ g. IsUnderWay g.home.now.id g.from g.copied g.built g.slot.from
+        g.slot (box_allocator g.block) };
 }
 
 impl<'a, T: AtomicValue, A: Allocator + Copy> Growth<'a, T, A> {
@@ -51,13 +51,13 @@ impl<'a, T: AtomicValue, A: Allocator + Copy> Growth<'a, T, A> {
         home: &'a Home,
         from: Option<&'a Generation<T, A>>,
         built: Generation<T, A>,
-        slot: Slot<'a, T, A>,
+        slot: Slot<'a, Generation<T, A>, A>,
     ) -> Result<Self, AllocError>
         requires fresh { IsFresh home.now.id from built }
-        requires open { IsOpen home.now.id slot.alloc slot.word.now }
+        requires open { IsOpen home.now.id slot.from slot }
         ensures { IfOk result (λ g. g ≡ growth_of home.now.id from.entry 0 built) }
     {
-        let Ok(block) = Box::new(slot.alloc, Generation::none(slot.alloc, home)) else {
+        let Ok(block) = Box::new(slot.alloc(), Generation::none(slot.alloc(), home)) else {
             return Err(AllocError);
         };
         Ok(Growth {
@@ -96,12 +96,12 @@ impl<'a, T: AtomicValue, A: Allocator + Copy> Growth<'a, T, A> {
         false
     }
 
-    /// Moves the generation into its block, and returns it with the word that is to hold it.
-    fn into_block(self) -> (Slot<'a, T, A>, Box<Generation<T, A>, A>)
+    /// Moves the generation into its block, and returns it with the slot through which it is to be published.
+    fn into_block(self) -> (Slot<'a, Generation<T, A>, A>, Box<Generation<T, A>, A>)
         ensures built { result.1.value.contents ≡ self.entry.built }
         ensures fits { (result.1.value.home ≡ self.entry.home) × IsPowerOfTwo (length result.1.value.contents) }
-        ensures open { IsOpen self.entry.home result.0.alloc result.0.word.now }
-        ensures from { box_allocator result.1 ≡ result.0.alloc }
+        ensures open { IsOpen self.entry.home result.0.from result.0 }
+        ensures from { box_allocator result.1 ≡ result.0.from }
     {
         let Growth {
             built,
@@ -114,36 +114,22 @@ impl<'a, T: AtomicValue, A: Allocator + Copy> Growth<'a, T, A> {
     }
 }
 
-/// The result of publishing a generation.
-#[derive(Drop)]
-pub(crate) struct Grown<T: AtomicValue, A: Allocator + Copy> {
-    /// A note that a generation was published since the table was shared, for contracts only.
-    pub(crate) since: Note<()>,
-    /// A note of which generation the growth's word holds, for contracts only.
-    pub(crate) generation: Note<Generation<T, A>>,
-    /// The block of the growth, returned if the word was set before.
-    pub(crate) back: Option<Box<Generation<T, A>, A>>,
-}
-
 impl<'a, T: AtomicValue, A: Low + Copy> Growth<'a, T, A> {
     /// Publishes the generation that was built. The caller holds all locks of the table.
-    pub(crate) fn show(self, _held: &OwnedLock<'_>, shown: &Shown<T, A>) -> Grown<T, A>
+    pub(crate) fn show(
+        self,
+        _held: &OwnedLock<'_>,
+        shown: &Shown<T, A>,
+    ) -> Published<Generation<T, A>, A>
         requires lock { _held.now.home ≡ self.home }
         requires whole { PassedAll self }
         requires home { shown.now.home ≡ self.home }
-        ensures since { (result.since.of ≡ shown.now.id) × IsSome result.since.known }
-        ensures shows { MatchOption result.back
-            (IsSomeAnd result.generation.known (λ g. g.contents ≡ self.entry.built))
-            (λ b. b.value.contents ≡ self.entry.built) }
+        ensures since { (result.latest ≡ shown.now.id) × IsSome result.since }
+        ensures shows { MatchOption result.back (IsSomeAnd result.holds (λ g. g.contents ≡ self.entry.built))
+            (λ g. g.contents ≡ self.entry.built) }
     {
         let home = self.home;
         let (slot, block) = self.into_block();
-        let (generation, back) = show_block(slot.word, home, slot.alloc, block);
-        let since = shown.show(slot.word, &generation);
-        Grown {
-            since,
-            generation,
-            back,
-        }
+        shown.publish(slot, home, block)
     }
 }

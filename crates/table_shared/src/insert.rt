@@ -73,7 +73,7 @@ impl<T: AtomicValue, A: Low + Copy> LockFreeRawTable<T, A> {
         let asking = Asking { given, eq, hash_fn };
         let guard = self.share(rt, hash);
         let state = step(CallState::insert(hash), Answer::Taken);
-        let Some(current) = self.current() else {
+        let Some(current) = self.current(&mut self.note()) else {
             let state = step(state, Answer::NoGeneration);
             return self.go_on(rt, state, None, Carried::Value(value), Some(guard), asking);
         };

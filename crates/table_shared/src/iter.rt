@@ -60,7 +60,7 @@ impl<T: AtomicValue, A: Allocator + Copy> LockFreeRawTable<T, A> {
     pub fn iter(&self) -> Iter<'_, T, A>
         ensures fits { result.left < 2 ^ 64 }
     {
-        let (generation, left) = match self.current() {
+        let (generation, left) = match self.current(&mut self.note()) {
             Some(current) => (Some(current.generation), current.generation.capacity()),
             None => (None, 0),
         };

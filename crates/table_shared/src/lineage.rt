@@ -4,9 +4,11 @@ ghost use Rattle.std.specs.Int.{IsPowerOfTwo};
 ghost use Rattle.table_shared.specs.Lineages.{AreOfHome, AreRoomy, IsOpen, IsNumber, LastIsBare, lineage_of};
 
 pub(crate) mod later;
+pub(crate) mod slot;
 
 use crate::ending::{drop_earlier, drop_later, hand_out, rehome_all, rehome_shown};
-use crate::lineage::later::{Later, Slot, show_block};
+use crate::lineage::later::Later;
+use crate::lineage::slot::{Slot, show_block};
 use std::alloc::{AllocError, Allocator};
 use std::marker::Model;
 use table_cell::{Closed, Home, Low, Word};
@@ -173,9 +175,9 @@ impl<T: AtomicValue, A: Low + Copy> Lineage<T, A> {
         &'a self,
         home: &'a Home,
         number: usize,
-    ) -> Result<Slot<'a, T, A>, AllocError>
+    ) -> Result<Slot<'a, Generation<T, A>, A>, AllocError>
         requires { self.now.home ≡ home.now.id }
-        ensures { IfOk result (λ s. IsOpen home.now.id s.alloc s.word.now) }
+        ensures { IfOk result (λ s. IsOpen home.now.id s.from s) }
     {
         let Some(index) = number.checked_sub(self.held()) else {
             return Err(AllocError);

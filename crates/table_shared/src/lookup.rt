@@ -34,7 +34,7 @@ impl<T: AtomicValue, A: Allocator + Copy> LockFreeRawTable<T, A> {
         requires callable { F.IsAlwaysCallable test }
         ensures accepted { IfSome result (λ found. FnReturnsAt F.Fn test found.now true) }
     {
-        let current = self.current()?;
+        let current = self.current(&mut self.note())?;
         let capacity = current.generation.capacity() as u64;
         let mut state = step_loaded(CallState::lookup(hash), current.number, capacity);
         while state.phase != Phase::Done {

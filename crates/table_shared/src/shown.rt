@@ -1,10 +1,13 @@
 //! Which generation of a table is the current one.
-ghost use Rattle.std.specs.Prelude.{◌≡◌, IfSome, IfNone, IsSome, None, length};
+ghost use Rattle.std.specs.Prelude.{◌≡◌, IfSome, IfNone, IsSome, Some, None, MatchOption, length};
+ghost use Rattle.std.specs.Box.{box_allocator};
 ghost use Rattle.std.specs.Int.{IsPowerOfTwo};
+ghost use Rattle.table_shared.specs.Lineages.{IsOpen};
 
+use crate::lineage::slot::{Published, Slot};
 use std::alloc::Allocator;
 use std::marker::Model;
-use table_cell::{Home, Latest, Note, Word};
+use table_cell::{Home, Latest, Low, Note};
 use table_generations::atomic_value::AtomicValue;
 use table_generations::fixed::Generation;
 
@@ -61,21 +64,24 @@ impl<T: AtomicValue, A: Allocator + Copy> Shown<T, A> {
             None => None,
         }
     }
+}
 
-    /// Publishes the generation of this word: it is the last one from now on. `seen` is a note that knows what the word holds.
-    /// The note returned knows that a generation was published.
-    pub(crate) fn show(
+impl<T: AtomicValue, A: Low + Copy> Shown<T, A> {
+    /// Publishes a generation through a slot: it is the last one from now on.
+    pub(crate) fn publish(
         &self,
-        word: &Word<Generation<T, A>, A>,
-        seen: &Note<Generation<T, A>>,
-    ) -> Note<()>
-        requires unset { word.now.value ≡ None }
-        requires home { word.now.home ≡ self.now.home }
-        requires of { seen.now.of ≡ word.now.id }
-        requires seen { IsSome seen.now.known }
-        ensures of { result.of ≡ self.now.id }
-        ensures shown { IsSome result.known }
+        slot: Slot<'_, Generation<T, A>, A>,
+        home: &Home,
+        block: Box<Generation<T, A>, A>,
+    ) -> Published<Generation<T, A>, A>
+        requires open { IsOpen home.now.id slot.from slot }
+        requires from { box_allocator block ≡ slot.from }
+        requires fits { (block.value.home ≡ home.now.id) × IsPowerOfTwo (length block.value.contents) }
+        requires home { self.now.home ≡ home.now.id }
+        ensures since { (result.latest ≡ self.now.id) × IsSome result.since }
+        ensures seen { IsSome result.holds }
+        ensures shows { MatchOption result.back (result.holds ≡ Some block.value) (λ b. b ≡ block.value) }
     {
-        self.latest.show(word, seen)
+        slot.publish(home, block, &self.latest)
     }
 }

@@ -75,7 +75,7 @@ impl<T: AtomicValue, A: Allocator + Copy> LockFreeRawTable<T, A> {
 
     /// Returns whether the generation of this number is still the current one; for `None`, whether there is still no generation.
     pub(crate) fn is_current(&self, walked: Option<u64>) -> bool {
-        match (self.current(), walked) {
+        match (self.current(&mut self.note()), walked) {
             (None, None) => true,
             (Some(current), Some(number)) => current.number == number,
             _ => false,

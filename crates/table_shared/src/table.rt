@@ -141,22 +141,19 @@ impl<T: AtomicValue, A: Allocator + Copy> LockFreeRawTable<T, A> {
         &self.home
     }
 
-    /// Returns the generation that is current now. Returns `None` only if the last generation had no bucket when the table was
-    /// shared. Takes no lock and does not allocate.
-    pub fn current(&self) -> Option<Current<'_, T, A>>
-        ensures none { IfNone result (LastIsBare self.now.shared) }
-        ensures home { IfSome result (λ c. c.generation.now.home ≡ self.now.home) }
-        ensures power { IfSome result (λ c. IsPowerOfTwo (length c.generation.now.contents)) }
-        ensures number { IfSome result (λ c. IsNumber self.now.first_capacity self.now.shared
-            (length c.generation.now.contents) c.number) }
+    /// Makes a note of what was published since the table was shared. It knows nothing yet.
+    #[inline(always)]
+    pub fn note(&self) -> Note<()>
+        ensures { (result.of ≡ self.now.latest) × (result.known ≡ None) }
     {
-        self.current_noted(&mut self.shown.note())
+        self.shown.note()
     }
 
-    /// Returns the generation that is current now. With a note that knows that one was published since the table was shared, the
-    /// result is never `None`. Updates the note if the call has met a published generation.
+    /// Returns the generation that is current now. Returns `None` only if the last generation had no bucket when the table was
+    /// shared, and never with a note that knows that a generation was published since. The note then knows whether one was. Takes
+    /// no lock and does not allocate.
     #[inline(always)]
-    pub(crate) fn current_noted(&self, note: &mut Note<()>) -> Option<Current<'_, T, A>>
+    pub fn current(&self, note: &mut Note<()>) -> Option<Current<'_, T, A>>
         requires of { note.old.of ≡ self.now.latest }
         ensures of { note.new.of ≡ note.old.of }
         ensures none { IfNone result (LastIsBare self.now.shared × (note.old.known ≡ None)) }
@@ -195,7 +192,7 @@ impl<T: AtomicValue, A: Allocator + Copy> LockFreeRawTable<T, A> {
         ensures number { ForSome result.0 (λ g. IsSomeAnd result.1.walked (λ n.
             IsNumber self.now.first_capacity self.now.shared (length g.now.contents) n)) }
     {
-        match self.current() {
+        match self.current(&mut self.note()) {
             None => (
                 None,
                 step(state, Answer::NoGeneration),

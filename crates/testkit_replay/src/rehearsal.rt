@@ -4,7 +4,7 @@
 //! begins there, and ends before the closure answers. If a call of a thread is blocked, both go on at once until both calls have ended.
 use crate::fault::{Fault, granted};
 use crate::item::{Ask, Said};
-use crate::replay::{Course, GRANTED, Refusals, Replay};
+use crate::replay::{Course, GRANTED, Refusals, Replay, capacity};
 use crate::running::{Calls, Table, Took};
 use crate::script::Script;
 use crate::stops::{Actor, Copied, Mark, Rehearsed, Sight, Stop, Then, sight_of, step_asked};
@@ -317,7 +317,7 @@ impl<'s, 'c> Rehearsal<'s, 'c> {
             call: Some(place),
             inserts: matches!(ask, Ask::Insert(_, _)),
             // The first generation is requested before the block.
-            passes_request: replay.ground.table.current().is_none(),
+            passes_request: capacity(replay.ground.table) == 0,
             ..Part::new(left)
         };
         replay.begin(ask)
@@ -494,8 +494,5 @@ fn inside(actor: Actor) -> Actor {
 
 /// Returns whether a table stays its generation with one more entry, and another one after it.
 fn has_room(table: &Table<'_>) -> bool {
-    match table.current() {
-        Some(current) => table.len().saturating_add(1) < current.generation.capacity() / 2,
-        None => false,
-    }
+    (table.len() as u64).saturating_add(1) < capacity(table) / 2
 }

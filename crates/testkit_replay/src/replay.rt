@@ -339,7 +339,7 @@ impl<'a, 'm, C: Calls> Replay<'a, 'm, C> {
 
 /// Returns how many buckets the current generation of a table has, or 0 if there is none.
 pub(crate) fn capacity(table: &Table<'_>) -> u64 {
-    match table.current() {
+    match table.current(&mut table.note()) {
         Some(current) => current.generation.capacity() as u64,
         None => 0,
     }

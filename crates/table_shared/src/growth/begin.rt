@@ -5,7 +5,8 @@ ghost use Rattle.std.specs.Option.{IsSomeAnd};
 ghost use Rattle.table_shared.specs.Begun.{Begins};
 ghost use Rattle.table_shared.specs.Growths.{PassedAll};
 
-use crate::growth::{Grown, Growth};
+use crate::growth::Growth;
+use crate::lineage::slot::Published;
 use crate::locks::OwnedLock;
 use crate::table::{Current, LockFreeRawTable};
 use std::alloc::{AllocError, Allocator};
@@ -67,7 +68,7 @@ impl<T: AtomicValue, A: Low + Copy> LockFreeRawTable<T, A> {
         requires lock { held.now.home ≡ self.now.home }
         ensures { Begins self.now.home result }
     {
-        let begun = match self.current() {
+        let begun = match self.current(&mut self.note()) {
             None => self.begin_first(held),
             Some(current) => {
                 if !self.wants_growth(current.generation) {
@@ -83,14 +84,18 @@ impl<T: AtomicValue, A: Low + Copy> LockFreeRawTable<T, A> {
     }
 
     /// Publishes the generation that was built, which is the current one from then on. The caller holds all locks of the table.
-    pub(crate) fn show(&self, held: &OwnedLock<'_>, growth: Growth<'_, T, A>) -> Grown<T, A>
+    pub(crate) fn show(
+        &self,
+        held: &OwnedLock<'_>,
+        growth: Growth<'_, T, A>,
+    ) -> Published<Generation<T, A>, A>
         requires lock { held.now.home ≡ self.now.home }
         requires home { growth.home ≡ self.now.home }
         requires whole { PassedAll growth }
-        ensures since { (result.since.of ≡ self.now.latest) × IsSome result.since.known }
+        ensures since { (result.latest ≡ self.now.latest) × IsSome result.since }
         ensures shows { MatchOption result.back
-            (IsSomeAnd result.generation.known (λ g. g.contents ≡ growth.entry.built))
-            (λ b. b.value.contents ≡ growth.entry.built) }
+            (IsSomeAnd result.holds (λ g. g.contents ≡ growth.entry.built))
+            (λ g. g.contents ≡ growth.entry.built) }
     {
         growth.show(held, &self.shown)
     }

@@ -218,7 +218,7 @@ where
         let Held::Alone(held) = &self.held else {
             unreachable!()
         };
-        let _grown = self.table.show(held, growth);
+        let _published = self.table.show(held, growth);
         self.state = step(self.state, Answer::Shown);
         Answer::Shown
     }

@@ -1,10 +1,10 @@
 //! The words that hold the generations made after a table was shared.
-ghost use Rattle.std.specs.Prelude.{◌≡◌, ◌≤◌, ◌<◌, IfOk, IfSome, IsSome, Some, MatchOption, length, vec_capacity, []};
-ghost use Rattle.std.specs.Box.{box_allocator};
+ghost use Rattle.std.specs.Prelude.{◌≡◌, ◌≤◌, ◌<◌, IfOk, IfSome, length, vec_capacity, []};
 ghost use Rattle.table_shared.specs.Lineages.{IsOpen, AreRoomy};
 
+use crate::lineage::slot::Slot;
 use std::alloc::{AllocError, Allocator};
-use table_cell::{Home, Homed, LooseBlock, Low, Note, Word};
+use table_cell::{Home, Homed, Word};
 use table_generations::atomic_value::AtomicValue;
 use table_generations::fixed::Generation;
 
@@ -24,35 +24,6 @@ impl<T: AtomicValue, A: Allocator + Copy> Homed for Later<T, A> {
     ghost fits = { λ l h. AreRoomy h l.alloc l.words.items l.room.items (vec_capacity l.room) };
 }
 
-/// The word of a later generation, and the allocator of the generation's block.
-#[derive(Drop)]
-pub(crate) struct Slot<'a, T: AtomicValue, A: Allocator + Copy> {
-    pub(crate) alloc: A,
-    pub(crate) word: &'a Word<Generation<T, A>, A>,
-}
-
-/// Publishes a block through a word. Returns a note that knows what the word holds: this block, or the one that was there before,
-/// and then this block is returned.
-pub(crate) fn show_block<X: Homed + Drop, A: Low + Copy>(
-    word: &Word<X, A>,
-    home: &Home,
-    alloc: A,
-    block: Box<X, A>,
-) -> (Note<X>, Option<Box<X, A>>)
-    requires open { IsOpen home.now.id alloc word.now }
-    requires from { box_allocator block ≡ alloc }
-    requires fits { X.fits block.value home.now.id }
-    ensures of { result.0.of ≡ word.now.id }
-    ensures seen { IsSome result.0.known }
-    ensures shows { MatchOption result.1 (result.0.known ≡ Some block.value) (λ b. b.value ≡ block.value) }
-{
-    let mut note = word.note();
-    match word.offer(home, LooseBlock::of(block), &mut note) {
-        (_, None) => (note, None),
-        (_, Some(back)) => (note, Some(back.into_box(alloc))),
-    }
-}
-
 impl<T: AtomicValue, A: Allocator + Copy> Later<T, A> {
     /// Makes the words, none of which is set. Allocates twice.
     pub(crate) fn new(alloc: A, home: &Home) -> Result<Self, AllocError>
@@ -69,16 +40,13 @@ impl<T: AtomicValue, A: Allocator + Copy> Later<T, A> {
     }
 
     /// Returns the word of the later generation of this index, or `None` if there are not that many words.
-    pub(crate) fn slot(&self, home: &Home, index: usize) -> Option<Slot<'_, T, A>>
+    pub(crate) fn slot(&self, home: &Home, index: usize) -> Option<Slot<'_, Generation<T, A>, A>>
         requires { AreRoomy home.now.id self.now.alloc self.now.words.items self.now.room.items
             (vec_capacity self.now.room) }
-        ensures { IfSome result (λ s. IsOpen home.now.id s.alloc s.word.now) }
+        ensures { IfSome result (λ s. IsOpen home.now.id s.from s) }
     {
         let _home = home;
         let word = self.words.get(index)?;
-        Some(Slot {
-            alloc: self.alloc,
-            word,
-        })
+        Some(Slot::of(self.alloc, word))
     }
 }

@@ -69,7 +69,7 @@ fn the_first_capacity_of_a_shard(rt: HostRuntime) -> Result<(), Fail> {
     let table = set.into_table();
     let shard = table.shard(hash_number(5));
     assert_same(&rt, [shard.len(), table.len()], [1, 1]);
-    let made = shard.current().ok_or("no generation")?;
+    let made = shard.current(&mut shard.note()).ok_or("no generation")?;
     assert_same(&rt, made.generation.capacity(), 32);
     Ok(())
 }

@@ -55,7 +55,7 @@ pub(crate) fn opened<'m, R: Abort + Wait>(
         drops,
     };
     let is_refused = opened.insert(rt, 0, number) == Told::Refused;
-    let is_open = opened.table.is_empty() && opened.table.current().is_some();
+    let is_open = opened.table.is_empty() && opened.table.current(&mut opened.table.note()).is_some();
     assert!(rt; is_refused && is_open);
     opened
 }

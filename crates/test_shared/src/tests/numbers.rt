@@ -95,7 +95,7 @@ impl<T: AtomicValue, A: Allocator + Copy> Shared<T, A> {
 
     /// How many entries are counted, how many a walk shows, and the buckets of the current generation.
     pub(crate) fn size(&self) -> [u64; 3] {
-        let buckets = match self.table.current() {
+        let buckets = match self.table.current(&mut self.table.note()) {
             Some(current) => current.generation.capacity(),
             None => 0,
         };

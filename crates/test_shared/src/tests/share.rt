@@ -30,7 +30,7 @@ fn held<'a>(heap: Memory<'a>, entries: u64, drops: &Drops) -> Result<Held<'a>, A
 
 /// Sets the first vacant bucket of the current generation to the value. Whether there was one.
 fn sets(table: &Shared<'_>, value: Box<Counting>) -> bool {
-    let Some(current) = table.current() else {
+    let Some(current) = table.current(&mut table.note()) else {
         return false;
     };
     let generation = current.generation;
@@ -147,7 +147,7 @@ fn a_shared_table_shows_and_hands_out_each_value_once(rt: HostRuntime) -> Result
 
 /// Whether the new table has no generation, and neither shows nor hands out anything.
 fn has_nothing(table: LockFreeRawTable<Box<u64>>) -> bool {
-    let has_none = table.is_empty() && table.current().is_none();
+    let has_none = table.is_empty() && table.current(&mut table.note()).is_none();
     let shows_none = table.iter().next().is_none();
     let hands_none = table.into_iter().next().is_none();
     has_none && shows_none && hands_none

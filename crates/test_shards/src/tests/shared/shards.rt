@@ -154,7 +154,8 @@ fn one_shard_takes_every_hash(rt: HostRuntime) -> Result<(), Fail> {
 
 /// The buckets of the shard of this hash; 0 where it has no generation.
 fn buckets_at(table: &Table<8, Global>, hash: u64) -> u64 {
-    match table.shard(hash).current() {
+    let shard = table.shard(hash);
+    match shard.current(&mut shard.note()) {
         Some(current) => current.generation.capacity() as u64,
         None => 0,
     }

@@ -14,7 +14,7 @@ abbrev pub invariant-loop-self : goal.invariant-loop-self
 invariant-loop-self g l =
     ((l.self-inside.home ≡ l.initial.self-inside.home) × (l.self-inside.from ≡ l.initial.self-inside.from) × (l.self-inside.built ≡ l.initial.self-inside.built))
     × ArePassed (buckets_before l.initial.self-inside.from) l.initial.self-inside.copied l.self-inside.copied
-    × IsUnderWay l.self-inside.home.now.id l.self-inside.from l.self-inside.copied l.self-inside.built l.self-inside.slot.alloc l.self-inside.slot.word.now (box_allocator l.self-inside.block)
+    × IsUnderWay l.self-inside.home.now.id l.self-inside.from l.self-inside.copied l.self-inside.built l.self-inside.slot.from l.self-inside.slot (box_allocator l.self-inside.block)
 
 abbrev pub decreases-loop-self : goal.decreases-loop-self
 decreases-loop-self g l = length l.from.contents - l.self-inside.copied

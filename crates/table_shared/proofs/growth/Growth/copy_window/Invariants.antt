@@ -24,4 +24,4 @@ invariant-loop-place g l =
     (l.state ≡ l.fn.state)
     (λ p. IfSome l.initial.self-inside.from (λ from. AreReadFrom from.now.contents (Holds g.T.AtomicValue.target (FnReturnsAt g.H.Fn l.hash_fn) from.now) (l.first + l.count) p (l.found - l.place) l.place l.window))
     (λ p. CopiesOn g.T.AtomicValue.target (FnReturnsAt g.H.Fn l.hash_fn) l.fn.self (growth_of l.self-inside.home.now.id l.self-inside.from p l.self-inside.built))
-    (λ p. IsUnderWay l.self-inside.home.now.id l.self-inside.from p l.self-inside.built l.self-inside.slot.alloc l.self-inside.slot.word.now (box_allocator l.self-inside.block))
+    (λ p. IsUnderWay l.self-inside.home.now.id l.self-inside.from p l.self-inside.built l.self-inside.slot.from l.self-inside.slot (box_allocator l.self-inside.block))
