@@ -62,15 +62,17 @@ pub(crate) fn run_course<S: Course>(
         |entry: &Item| script.rehashes(entry),
         |entry: &Item| script.seeks(entry),
     );
+    let ground = Ground {
+        alloc,
+        memory: &memory,
+        table: &table,
+    };
+    let machine = Machine::new(alloc, first)?;
     let mut replay = Replay {
-        ground: Ground {
-            alloc,
-            memory: &memory,
-            table: &table,
-        },
+        ground,
         first,
         script,
-        machine: Machine::new(alloc, first)?,
+        machine,
         calls,
         begun: Vec::new(alloc),
         numbers: Vec::new(alloc),
