@@ -10,8 +10,8 @@ use Rattle.table_shared.proofs.insert.between.Inserting.build.Goals as goal
 pub unreachable-requires : goal.unreachable-requires
 unreachable-requires g c = c.args.self.now.between.builds c.requires.phase (sym c.in_default.ensures.value)
 
-pub show-grown-requires : goal.show-grown-requires
-show-grown-requires g c = record {
+pub show-published-requires : goal.show-published-requires
+show-published-requires g c = record {
   lock = c.args.self.now.between.of_table c.in-Alone.held.home (ap table_in c.in-Alone.is);
   home = c.copy_next.ensures.home ∙ c.args.self.now.between.grows c.in-Some.growth (sym c.in-Some.ensures.value);
   whole = (rw c.if-copy_next.false at c.copy_next.ensures.copies).1;
