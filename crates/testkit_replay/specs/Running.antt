@@ -1,11 +1,13 @@
 -- When a call of a schedule can take a step.
-use Rattle.std.specs.Prelude.{Bool}
+use Rattle.std.specs.Prelude.{Bool, All}
 use Rattle.std.specs.Borrow.{Bor}
 use Rattle.std.specs.Fn.{Shared as SharedFn}
 use Rattle.table_shared.specs.Stepped.{MayStep}
 use Rattle.testkit_replay.specs.declared.item.Item.{Item}
 use Rattle.testkit_replay.specs.declared.running.Steps.{Steps}
 use Rattle.testkit_replay.specs.declared.running.Steps.TheVariants.{Insert, Lookup}
+use Rattle.testkit_replay.specs.declared.running.Running.{Running}
+use Rattle.testkit_replay.specs.declared.replay.Replay.{Replay}
 
 module _ {E H F : Type 0} (CallE : E → Type 0) (CallH : H → Type 0) (CallF : F → Type 0)
     (says : SharedFn E (Bor Item × (Bor Item × Unit {0})) Bool) where
@@ -13,3 +15,11 @@ module _ {E H F : Type 0} (CallE : E → Type 0) (CallH : H → Type 0) (CallF :
   abbrev pub MayGo : Steps E H F → Type 0
   MayGo (Insert call) = MayStep CallE CallH (λ b. b.value) says call
   MayGo (Lookup call) = CallF call.test
+
+  -- the closures of these calls can be called, and those of each call that has begun
+  abbrev pub IsReady : Running E H F → Type 0
+  IsReady calls = CallE calls.eq × CallH calls.hash_fn × CallF calls.test × All MayGo calls.begun.items
+
+-- the calls of this replay can take steps
+abbrev pub CanGoOn : {C : Type 0} → (C → Type 0) → Replay C → Type 0
+CanGoOn Ready replay = Ready replay.calls

@@ -2,6 +2,8 @@
 //!
 //! A turn ends with a call, or before: where a closure is asked, or where the block of a value is requested. In a nest, the next call
 //! begins there, and ends before the closure answers. If a call of a thread is blocked, both go on at once until both calls have ended.
+ghost use Rattle.testkit_replay.specs.Running.{CanGoOn};
+
 use crate::fault::{Fault, granted};
 use crate::item::{Ask, Said};
 use crate::replay::{Course, GRANTED, Refusals, Replay, capacity};
@@ -241,7 +243,10 @@ impl<'s, 'c> Rehearsal<'s, 'c> {
     }
 
     /// Takes the next turn. Returns false if there is none.
-    fn take<C: Calls>(&mut self, replay: &mut Replay<'_, '_, C>) -> Result<bool, Fault> {
+    fn take<C: Calls>(&mut self, replay: &mut Replay<'_, '_, C>) -> Result<bool, Fault>
+        requires ready { CanGoOn C.ready replay.old }
+        ensures ready { CanGoOn C.ready replay.new }
+    {
         match self.next_turn(replay.begun() as u64, replay.ground.table) {
             Some(Turn::Refuse(refusals)) => {
                 replay.refuse(refusals);
@@ -307,7 +312,10 @@ impl<'s, 'c> Rehearsal<'s, 'c> {
         replay: &mut Replay<'_, '_, C>,
         actor: Actor,
         ask: Ask,
-    ) -> Result<(), Fault> {
+    ) -> Result<(), Fault>
+        requires ready { CanGoOn C.ready replay.old }
+        ensures ready { CanGoOn C.ready replay.new }
+    {
         let place = replay.begun();
         let sight = Some(sight_of(replay));
         self.asked = false;
@@ -324,11 +332,10 @@ impl<'s, 'c> Rehearsal<'s, 'c> {
     }
 
     /// Takes a step of the call of an actor, or ends it.
-    fn go_on<C: Calls>(
-        &mut self,
-        replay: &mut Replay<'_, '_, C>,
-        actor: Actor,
-    ) -> Result<(), Fault> {
+    fn go_on<C: Calls>(&mut self, replay: &mut Replay<'_, '_, C>, actor: Actor) -> Result<(), Fault>
+        requires ready { CanGoOn C.ready replay.old }
+        ensures ready { CanGoOn C.ready replay.new }
+    {
         let part = self.part(actor);
         match (part.call, part.said) {
             (Some(place), Some(said)) => {
@@ -354,7 +361,10 @@ impl<'s, 'c> Rehearsal<'s, 'c> {
         replay: &mut Replay<'_, '_, C>,
         actor: Actor,
         place: usize,
-    ) -> Result<(), Fault> {
+    ) -> Result<(), Fault>
+        requires ready { CanGoOn C.ready replay.old }
+        ensures ready { CanGoOn C.ready replay.new }
+    {
         let call = place as u64;
         let (took, question) = step_asked(replay, place)?;
         let sight = sight_of(replay);

@@ -1,4 +1,7 @@
 //! A running table beside the machine: calls begin on both, and after each step both are compared.
+ghost use Rattle.std.specs.Prelude.{IfOk};
+ghost use Rattle.testkit_replay.specs.Running.{CanGoOn, IsReady};
+
 use crate::events::{Answers, answers_of, event_at, takes};
 use crate::fault::{Fault, granted};
 use crate::item::{Ask, Item, Said};
@@ -43,7 +46,9 @@ pub(crate) fn any_request() -> Rule {
 /// Calls that take steps on a table and on the machine.
 pub(crate) trait Course {
     /// Begins calls and takes steps.
-    fn run<C: Calls>(&mut self, replay: &mut Replay<'_, '_, C>) -> Result<(), Fault>;
+    fn run<C: Calls>(&mut self, replay: &mut Replay<'_, '_, C>) -> Result<(), Fault>
+        requires ready { CanGoOn C.ready replay.old }
+        ensures ready { CanGoOn C.ready replay.new };
 }
 
 /// Runs a course on a table and on the machine, whose first generations have `first` buckets. At the end both show the same.
@@ -67,17 +72,27 @@ pub(crate) fn run_course<S: Course>(
         memory: &memory,
         table: &table,
     };
-    let machine = Machine::new(alloc, first)?;
-    let mut replay = Replay {
-        ground,
-        first,
-        script,
-        machine,
-        calls,
-        begun: Vec::new(alloc),
-        numbers: Vec::new(alloc),
-        going: 0,
-    };
+    run_by(ground, first, script, calls, course)
+}
+
+/// Runs a course by these calls, of which none has begun.
+fn run_by<
+    'a,
+    'm,
+    E: Fn(&Item, &Item) -> bool + Copy,
+    H: Fn(&Item) -> u64 + Copy,
+    F: Fn(&Item) -> bool + Copy,
+    S: Course,
+>(
+    ground: Ground<'a, 'm>,
+    first: u64,
+    script: &'a Script,
+    calls: Running<'a, 'm, E, H, F>,
+    course: &mut S,
+) -> Result<(), Fault>
+    requires ready { IsReady E.IsAlwaysCallable H.IsAlwaysCallable F.IsAlwaysCallable E.Fn calls }
+{
+    let mut replay = Replay::new(ground, first, script, calls)?;
     course.run(&mut replay)?;
     replay.compare_walk()?;
     replay.compare_buckets()
@@ -109,20 +124,45 @@ pub(crate) struct Replay<'a, 'm, C: Calls> {
 }
 
 impl<'a, 'm, C: Calls> Replay<'a, 'm, C> {
+    /// Makes a replay without calls, on a table without a generation whose first one will have `first` buckets.
+    fn new(ground: Ground<'a, 'm>, first: u64, script: &'a Script, calls: C) -> Result<Self, Fault>
+        requires ready { C.ready calls }
+        ensures ready { IfOk result (CanGoOn C.ready) }
+    {
+        let alloc = ground.alloc;
+        let machine = Machine::new(alloc, first)?;
+        Ok(Replay {
+            ground,
+            script,
+            first,
+            machine,
+            calls,
+            begun: Vec::new(alloc),
+            numbers: Vec::new(alloc),
+            going: 0,
+        })
+    }
+
     /// Returns how many calls have begun on the table.
     pub(crate) fn begun(&self) -> usize {
         self.begun.len()
     }
 
     /// Begins the next call, which has the number of its place, as its value has.
-    pub(crate) fn begin(&mut self, ask: Ask) -> Result<(), Fault> {
+    pub(crate) fn begin(&mut self, ask: Ask) -> Result<(), Fault>
+        requires ready { CanGoOn C.ready self.old }
+        ensures ready { CanGoOn C.ready self.new }
+    {
         let number = self.begun.len() as u64;
         self.begin_as(number, number, ask)
     }
 
     /// Begins a call of this number, and with a value of this number if it inserts. The table leaves it out if another call has
     /// the number, or another insert the value's.
-    pub(crate) fn begin_as(&mut self, number: u64, value: u64, ask: Ask) -> Result<(), Fault> {
+    pub(crate) fn begin_as(&mut self, number: u64, value: u64, ask: Ask) -> Result<(), Fault>
+        requires ready { CanGoOn C.ready self.old }
+        ensures ready { CanGoOn C.ready self.new }
+    {
         let (class, inserted, state) = match ask {
             Ask::Insert(class, hash) => {
                 self.take(Event::Insert {
@@ -163,7 +203,10 @@ impl<'a, 'm, C: Calls> Replay<'a, 'm, C> {
     }
 
     /// Begins a length or a walk, on the machine only.
-    pub(crate) fn begin_whole(&mut self, event: Event) -> Result<(), Fault> {
+    pub(crate) fn begin_whole(&mut self, event: Event) -> Result<(), Fault>
+        requires ready { CanGoOn C.ready self.old }
+        ensures ready { CanGoOn C.ready self.new }
+    {
         self.take(event)?;
         granted(self.numbers.push(event.call()))
     }
@@ -201,7 +244,10 @@ impl<'a, 'm, C: Calls> Replay<'a, 'm, C> {
     }
 
     /// Takes a step of the call at this place. The machine takes the event that it was.
-    pub(crate) fn step(&mut self, place: usize) -> Result<Took, Fault> {
+    pub(crate) fn step(&mut self, place: usize) -> Result<Took, Fault>
+        requires ready { CanGoOn C.ready self.old }
+        ensures ready { CanGoOn C.ready self.new }
+    {
         let call = self.call_at(place)?;
         let left = self.ground.memory.refusals_left();
         // If no closure is asked, the machine is told of a yes: it would take it from an entry that is to be asked about.
@@ -220,7 +266,10 @@ impl<'a, 'm, C: Calls> Replay<'a, 'm, C> {
     }
 
     /// Takes the step of the call at this place that is this event. If the call can't take it, only the machine hears of it.
-    pub(crate) fn step_by(&mut self, place: usize, event: Event) -> Result<(), Fault> {
+    pub(crate) fn step_by(&mut self, place: usize, event: Event) -> Result<(), Fault>
+        requires ready { CanGoOn C.ready self.old }
+        ensures ready { CanGoOn C.ready self.new }
+    {
         let call = self.call_at(place)?;
         if !takes(call.state.phase, event) {
             return self.follow(place, event, Took::Blocked, call.state);
@@ -238,7 +287,10 @@ impl<'a, 'm, C: Calls> Replay<'a, 'm, C> {
     }
 
     /// Takes steps of all calls in turn, from a place on, each until it is blocked or ends. Fails if that takes more than `most` steps.
-    pub(crate) fn finish(&mut self, from: usize, most: u64) -> Result<(), Fault> {
+    pub(crate) fn finish(&mut self, from: usize, most: u64) -> Result<(), Fault>
+        requires ready { CanGoOn C.ready self.old }
+        ensures ready { CanGoOn C.ready self.new }
+    {
         let mut place = from;
         for _step in 0..most {
             if self.going == 0 {
@@ -263,7 +315,10 @@ impl<'a, 'm, C: Calls> Replay<'a, 'm, C> {
         event: Event,
         took: Took,
         state: CallState,
-    ) -> Result<(), Fault> {
+    ) -> Result<(), Fault>
+        requires ready { CanGoOn C.ready self.old }
+        ensures ready { CanGoOn C.ready self.new }
+    {
         self.note(place, took, state);
         let call = event.call();
         let finished = self.take(event)?;
@@ -289,7 +344,10 @@ impl<'a, 'm, C: Calls> Replay<'a, 'm, C> {
     }
 
     /// Notes where a step has led.
-    fn note(&mut self, place: usize, took: Took, state: CallState) {
+    fn note(&mut self, place: usize, took: Took, state: CallState)
+        requires ready { CanGoOn C.ready self.old }
+        ensures ready { CanGoOn C.ready self.new }
+    {
         if let Some(call) = self.begun.get_mut(place) {
             call.state = state;
             if matches!(took, Took::Told(_)) {
@@ -299,7 +357,10 @@ impl<'a, 'm, C: Calls> Replay<'a, 'm, C> {
     }
 
     /// Takes an event on the machine. A length or a walk that it ends is that of the table.
-    pub(crate) fn take(&mut self, event: Event) -> Result<Option<Finished>, Fault> {
+    pub(crate) fn take(&mut self, event: Event) -> Result<Option<Finished>, Fault>
+        requires ready { CanGoOn C.ready self.old }
+        ensures ready { CanGoOn C.ready self.new }
+    {
         let finished = self.machine.take(event)?;
         match &finished {
             Some(call) if Said::of_reply(&call.reply).is_none() => {
@@ -311,7 +372,10 @@ impl<'a, 'm, C: Calls> Replay<'a, 'm, C> {
     }
 
     /// Compares the counts of entries, and the entries in the order of their buckets.
-    pub(crate) fn compare_walk(&mut self) -> Result<(), Fault> {
+    pub(crate) fn compare_walk(&mut self) -> Result<(), Fault>
+        requires ready { CanGoOn C.ready self.old }
+        ensures ready { CanGoOn C.ready self.new }
+    {
         self.compare_length()?;
         let call = self.machine.own_call();
         let walked = self.machine.answer(Event::Walk { call })?;
@@ -319,7 +383,10 @@ impl<'a, 'm, C: Calls> Replay<'a, 'm, C> {
     }
 
     /// Compares the counts of entries.
-    fn compare_length(&mut self) -> Result<(), Fault> {
+    fn compare_length(&mut self) -> Result<(), Fault>
+        requires ready { CanGoOn C.ready self.old }
+        ensures ready { CanGoOn C.ready self.new }
+    {
         let call = self.machine.own_call();
         let counted = self.machine.answer(Event::Len { call })?;
         compare_whole(self.ground.table, &counted)

@@ -1,10 +1,9 @@
 //! Calls on a running table, which take one step at a time.
-ghost use Rattle.testkit_replay.specs.Running.{MayGo};
+ghost use Rattle.testkit_replay.specs.Running.{IsReady, MayGo};
 
 use crate::fault::{Fault, granted};
 use crate::item::{Ask, Item, Said};
 use std::alloc::Global;
-use std::marker::Model;
 use table_core::call::CallState;
 use table_shared::{InsertCall, LockFreeRawTable, LookupCall, Progress};
 use testkit_refusing::Refusing;
@@ -25,11 +24,17 @@ pub enum Took {
 
 /// Calls on a table, in the order in which they begin.
 pub trait Calls: Drop {
+    ghost ready: { Self → Type 0 };
+
     /// Begins a call, whose value has this number if it inserts.
-    fn begin(&mut self, value: u64, ask: Ask) -> Result<(), Fault>;
+    fn begin(&mut self, value: u64, ask: Ask) -> Result<(), Fault>
+        requires { ready self.old }
+        ensures { ready self.new };
 
     /// Takes one step of the call at this place, and returns what it came to, and where the call stands then.
-    fn advance(&mut self, place: usize) -> Result<(Took, CallState), Fault>;
+    fn advance(&mut self, place: usize) -> Result<(Took, CallState), Fault>
+        requires { ready self.old }
+        ensures { ready self.new };
 }
 
 /// A call that goes step by step.
@@ -93,7 +98,7 @@ fn took_lookup(progress: Progress<Option<&Item>>) -> Took {
     }
 }
 
-/// Calls that ask these closures, which can always be called.
+/// Calls that ask these closures.
 pub struct Running<
     'a,
     'm,
@@ -115,30 +120,14 @@ impl<
     E: Fn(&Item, &Item) -> bool + Copy,
     H: Fn(&Item) -> u64 + Copy,
     F: Fn(&Item) -> bool + Copy,
-> Model for Running<'a, 'm, E, H, F> {
-    ghost use Rattle.std.specs.Prelude.{All, ℕ, length};
-    ghost use Rattle.testkit_replay.specs.Running.{MayGo};
-
-    ghost Value = { ℕ };
-
-    ghost view = { λ c. length c.begun.items };
-
-    ghost invariant = { λ c. E.IsAlwaysCallable c.eq × H.IsAlwaysCallable c.hash_fn × F.IsAlwaysCallable c.test
-        × All (MayGo E.IsAlwaysCallable H.IsAlwaysCallable F.IsAlwaysCallable E.Fn) c.begun.items };
-}
-
-impl<
-    'a,
-    'm,
-    E: Fn(&Item, &Item) -> bool + Copy,
-    H: Fn(&Item) -> u64 + Copy,
-    F: Fn(&Item) -> bool + Copy,
 > Running<'a, 'm, E, H, F> {
     /// Makes a table without calls.
     pub fn new(alloc: Global, table: &'a Table<'m>, eq: E, hash_fn: H, test: F) -> Self
         requires eq_callable { E.IsAlwaysCallable eq }
         requires hash_callable { H.IsAlwaysCallable hash_fn }
         requires test_callable { F.IsAlwaysCallable test }
+        ensures ready { IsReady E.IsAlwaysCallable H.IsAlwaysCallable F.IsAlwaysCallable E.Fn
+            result }
     {
         Running {
             alloc,
@@ -149,6 +138,21 @@ impl<
             begun: Vec::new(alloc),
         }
     }
+
+    /// Adds a call that has begun.
+    fn add(&mut self, steps: Steps<'a, 'm, E, H, F>) -> Result<(), Fault>
+        requires ready { IsReady E.IsAlwaysCallable H.IsAlwaysCallable F.IsAlwaysCallable E.Fn
+            self.old }
+        requires may_go { MayGo E.IsAlwaysCallable H.IsAlwaysCallable F.IsAlwaysCallable E.Fn
+            steps }
+        ensures ready { IsReady E.IsAlwaysCallable H.IsAlwaysCallable F.IsAlwaysCallable E.Fn
+            self.new }
+    {
+        match self.begun.push(steps) {
+            Ok(()) => Ok(()),
+            Err(_refused) => Err(Fault::NoMemory),
+        }
+    }
 }
 
 impl<
@@ -156,6 +160,8 @@ impl<
     H: Fn(&Item) -> u64 + Copy,
     F: Fn(&Item) -> bool + Copy,
 > Calls for Running<'_, '_, E, H, F> {
+    ghost ready = { IsReady E.IsAlwaysCallable H.IsAlwaysCallable F.IsAlwaysCallable E.Fn };
+
     fn begin(&mut self, value: u64, ask: Ask) -> Result<(), Fault> {
         match ask {
             Ask::Insert(class, hash) => {
@@ -166,11 +172,11 @@ impl<
                 };
                 let boxed = granted(Box::new(self.alloc, item))?;
                 let call = InsertCall::new(self.table, hash, boxed, self.eq, self.hash_fn);
-                granted(self.begun.push(Steps::Insert(call)))
+                self.add(Steps::Insert(call))
             }
             Ask::Lookup(_, hash) => {
                 let call = LookupCall::new(self.table, hash, self.test);
-                granted(self.begun.push(Steps::Lookup(call)))
+                self.add(Steps::Lookup(call))
             }
         }
     }

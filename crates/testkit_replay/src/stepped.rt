@@ -1,4 +1,6 @@
 //! Calls that take steps on a table and on the machine: drawn, cutting into each other, and event by event.
+ghost use Rattle.testkit_replay.specs.Running.{CanGoOn};
+
 use crate::fault::Fault;
 use crate::item::Ask;
 use crate::replay::{Course, GRANTED, Replay, run_course};
@@ -33,7 +35,10 @@ struct Drawn<'s> {
 
 impl Drawn<'_> {
     /// Inserts up to 40 values, one after the other.
-    fn fill<C: Calls>(&self, replay: &mut Replay<'_, '_, C>) -> Result<(), Fault> {
+    fn fill<C: Calls>(&self, replay: &mut Replay<'_, '_, C>) -> Result<(), Fault>
+        requires ready { CanGoOn C.ready replay.old }
+        ensures ready { CanGoOn C.ready replay.new }
+    {
         for _value in 0..self.script.draw(41) {
             let place = replay.begun();
             replay.begin(draw_ask(self.script, false))?;
@@ -43,7 +48,10 @@ impl Drawn<'_> {
     }
 
     /// Begins two to five calls.
-    fn begin<C: Calls>(&self, replay: &mut Replay<'_, '_, C>) -> Result<(), Fault> {
+    fn begin<C: Calls>(&self, replay: &mut Replay<'_, '_, C>) -> Result<(), Fault>
+        requires ready { CanGoOn C.ready replay.old }
+        ensures ready { CanGoOn C.ready replay.new }
+    {
         for _call in 0..self.script.draw(4).saturating_add(2) {
             replay.begin(draw_ask(self.script, true))?;
         }
@@ -51,7 +59,10 @@ impl Drawn<'_> {
     }
 
     /// Takes up to 299 steps of the calls from this place on.
-    fn wander<C: Calls>(&self, replay: &mut Replay<'_, '_, C>, first: usize) -> Result<(), Fault> {
+    fn wander<C: Calls>(&self, replay: &mut Replay<'_, '_, C>, first: usize) -> Result<(), Fault>
+        requires ready { CanGoOn C.ready replay.old }
+        ensures ready { CanGoOn C.ready replay.new }
+    {
         let calls = replay.begun().saturating_sub(first) as u64;
         for _step in 0..self.script.draw(300) {
             let place = first.saturating_add(self.script.draw(calls) as usize);
@@ -99,7 +110,10 @@ fn step_ahead<C: Calls>(
     replay: &mut Replay<'_, '_, C>,
     place: usize,
     steps: u64,
-) -> Result<(), Fault> {
+) -> Result<(), Fault>
+    requires ready { CanGoOn C.ready replay.old }
+    ensures ready { CanGoOn C.ready replay.new }
+{
     for _step in 0..steps {
         if replay.step(place)? != Took::Moved {
             break;
@@ -111,7 +125,8 @@ fn step_ahead<C: Calls>(
 impl Course for Cut {
     fn run<C: Calls>(&mut self, replay: &mut Replay<'_, '_, C>) -> Result<(), Fault> {
         let first = self.hashes.len();
-        for (place, hash) in self.hashes.iter().enumerate() {
+        for hash in self.hashes {
+            let place = replay.begun();
             replay.begin(Ask::Insert(place as u64, *hash))?;
             replay.finish(place, STEPS)?;
         }
@@ -148,7 +163,10 @@ impl Events<'_> {
     }
 
     /// Takes one event.
-    fn take<C: Calls>(&self, replay: &mut Replay<'_, '_, C>, event: Event) -> Result<(), Fault> {
+    fn take<C: Calls>(&self, replay: &mut Replay<'_, '_, C>, event: Event) -> Result<(), Fault>
+        requires ready { CanGoOn C.ready replay.old }
+        ensures ready { CanGoOn C.ready replay.new }
+    {
         match event {
             Event::Insert { call, value, hash } => {
                 let class = self.class_of(call, value);

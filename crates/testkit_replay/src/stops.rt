@@ -1,4 +1,6 @@
 //! What whole calls do, as it was rehearsed: a list of stops.
+ghost use Rattle.testkit_replay.specs.Running.{CanGoOn};
+
 use crate::fault::{Fault, granted};
 use crate::item::{Ask, Said};
 use crate::replay::{Refusals, Replay, capacity};
@@ -132,7 +134,10 @@ impl Rehearsed {
 pub(crate) fn step_asked<C: Calls>(
     replay: &mut Replay<'_, '_, C>,
     place: usize,
-) -> Result<(Took, Option<Mark>), Fault> {
+) -> Result<(Took, Option<Mark>), Fault>
+    requires ready { CanGoOn C.ready replay.old }
+    ensures ready { CanGoOn C.ready replay.new }
+{
     let before = replay.phase_at(place);
     let took = replay.step(place)?;
     let mark = match replay.script.take_met() {

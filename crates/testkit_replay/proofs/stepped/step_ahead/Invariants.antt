@@ -1,0 +1,5 @@
+use Rattle.testkit_replay.specs.Running.{CanGoOn}
+use Rattle.testkit_replay.proofs.stepped.step_ahead.Given as goal
+
+abbrev pub invariant-loop-step : goal.invariant-loop-step
+invariant-loop-step g l = CanGoOn g.C.Calls.ready l.replay
