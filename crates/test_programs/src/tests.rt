@@ -8,7 +8,6 @@ mod streams;
 mod words;
 mod workers;
 
-use lock_free_hashtable::raw::Low;
 use std::alloc::Global;
 use std::fmt::Debug;
 use std::io::Read;
@@ -17,6 +16,7 @@ use std::str;
 use std::sync::Wait;
 use std::test::Fail;
 use std::thread::Threads;
+use table_cell::Low;
 use testkit_refusing::{Refusing, Rule};
 use tool_commands::gate::{Gates, ProgramGates};
 use tool_commands::program::run_words_under;

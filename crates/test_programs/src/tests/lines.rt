@@ -21,11 +21,16 @@ const BAD_EVENTS: &str =
     show 1 ok|shows 1|place 1|1|first 1 10 0";
 
 #[test]
-fn a_bad_line_ends_the_run(rt: HostRuntime) -> Result<(), Fail> {
+fn a_bad_call_ends_the_run(rt: HostRuntime) -> Result<(), Fail> {
     for line in BAD_CALLS.split('|') {
         let input = format!(in rt.alloc(); "i 0 1\n{line}\nl 0 1\n")?;
         run(&rt, &[], input.as_bytes()).assert(&rt, "placed\n", "bad line 2\n", 2);
     }
+    Ok(())
+}
+
+#[test]
+fn a_bad_event_ends_the_run(rt: HostRuntime) -> Result<(), Fail> {
     for line in BAD_EVENTS.split('|') {
         let input = format!(in rt.alloc(); "walk 1\nload 1\n{line}\nb\n")?;
         run(&rt, &["core"], input.as_bytes()).assert(&rt, "1 walk []\n", "bad line 3\n", 2);

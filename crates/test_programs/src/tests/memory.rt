@@ -81,16 +81,20 @@ fn refuse_one(rt: &impl Host, first: &str, granted: u64) -> Result<bool, Fail> {
     Ok(refused.is_some())
 }
 
+/// Refuses each request of a run in turn, and asserts how many inserts that refuses.
+fn refuse_each(rt: &impl Host, first: &str) -> Result<(), Fail> {
+    let mut refusals = 0u64;
+    for granted in 0..100 {
+        let is_refused = refuse_one(rt, first, granted)?;
+        refusals = refusals.saturating_add(u64::from(is_refused));
+    }
+    // Each of the 17 for its pair and for its block, and the first for its generation's marks and words.
+    assert_eq!(rt; refusals, 36, "{first}");
+    Ok(())
+}
+
 #[test]
 fn each_request_is_refused_in_turn(rt: HostRuntime) -> Result<(), Fail> {
-    for first in ["16", "32"] {
-        let mut refusals = 0u64;
-        for granted in 0..100 {
-            let is_refused = refuse_one(&rt, first, granted)?;
-            refusals = refusals.saturating_add(u64::from(is_refused));
-        }
-        // Each of the 17 for its pair and for its block, and the first for its generation's marks and words.
-        assert_eq!(rt; refusals, 36, "{first}");
-    }
-    Ok(())
+    refuse_each(&rt, "16")?;
+    refuse_each(&rt, "32")
 }

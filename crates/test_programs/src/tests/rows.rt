@@ -3,7 +3,7 @@ use super::{Host, Script, run};
 use std::test::Fail;
 
 /// Commands, each with a script: what it prints for these lines.
-const SCRIPTS: [&str; 34] = [
+const SCRIPTS: [&str; 28] = [
     "tablerun: l 0 1 = none; n = 0; w = []; c = 0; b = 0",
     "tablerun calls: i 0 1 = placed; i 0 1 = found; l 0 1 = some 1; w = [1]",
     "tablerun: i 15 7 = placed; i 15 9 = placed; l 15 9 = some 9; w = [7, 9]",
@@ -51,7 +51,10 @@ const SCRIPTS: [&str; 34] = [
     "tablerun core: insert 0x1 18446744073709551615 0xFFFFffffFFFFffff; lookup 02 0; len 3; walk 4; share 1; own 1; \
     free 9; load 9; read 9 y; read 9 n; put 9 y ok; put 9 y no; put 9 n ok; put 9 n no; add 9; size 9; check 9 ok; \
     check 9 no; copy 9 00000000000000000000; show 9; b = 0; load 3 = 3 len 0; load 2 = 2 none",
-    // These read nothing.
+];
+
+/// Commands that run workers, and what they print. They read no line.
+const WORKERS: [&str; 6] = [
     "tablerun seats 2: x = placed 1024; x = full 2",
     "tablerun seats 4: x = placed 1024; x = full 4",
     "tablerun seats 64: x = placed 1024; x = full 64",
@@ -80,6 +83,14 @@ fn rows_print_their_replies(rt: HostRuntime) -> Result<(), Fail> {
     // The end of the input ends a line.
     run(&rt, &[], b"i 0 1").assert(&rt, "placed\n", "", 0);
     run(&rt, &["calls", "00000000000000000016"], b"i 0 1\nc").assert(&rt, "placed\n16\n", "", 0);
+    Ok(())
+}
+
+#[test]
+fn workers_print_their_counts(rt: HostRuntime) -> Result<(), Fail> {
+    for row in &WORKERS {
+        assert_row(&rt, row)?;
+    }
     Ok(())
 }
 

@@ -2,11 +2,11 @@
 use super::words::run_called;
 use super::workers::{Closed, NONE, OPEN, assert_passes};
 use super::{Host, assert_same, run_refusing, run_under};
-use lock_free_hashtable::raw::LockFreeRawTable;
 use std::alloc::{AllocError, Allocator};
 use std::cell::Cell;
 use std::sync::Wait;
 use std::test::Fail;
+use table_shared::LockFreeRawTable;
 use testkit_refusing::{Refusing, Rule};
 use testkit_streams::Called;
 use tool_call_texts::faults::Fault;
@@ -31,23 +31,33 @@ const ALL: &str = "insert_unique 2000\ninsert_same 10000\ninsert_lookup 2000\n";
 
 const FULL: &str = "placed 1024\nfull 3\n";
 
-/// Asserts that a gate ends a command, and what was printed before.
-fn assert_stuck(rt: &impl Host, gate: Closed, words: &[&str], printed: &str) {
-    run_under(rt, rt.alloc(), &gate, words, NOTHING).assert(rt, printed, "gate stuck\n", 1);
-}
+/// A gate, a command that it ends, and what was printed before.
+type Stuck = (Closed, &'static [&'static str], &'static str);
+
+const STUCK: [Stuck; 12] = [
+    (Closed(0, NONE), &STRESS, ""),
+    (Closed(1, NONE), &STRESS, ""),
+    (Closed(999, NONE), &STRESS, ""),
+    (Closed(1000, NONE), &STRESS, UNIQUE),
+    (Closed(9999, NONE), &STRESS, UNIQUE),
+    (Closed(NONE, 1), &STRESS, ""),
+    (Closed(0, NONE), &SEATS, ""),
+    (Closed(1, NONE), &SEATS, ""),
+    (Closed(1024, NONE), &SEATS, ""),
+    (Closed(NONE, 0), &SEATS, ""),
+    (Closed(NONE, 1), &SEATS, ""),
+    (Closed(NONE, 2), &SEATS, ""),
+];
 
 #[test]
 fn a_no_of_the_gate_ends_the_run(rt: HostRuntime) {
-    for (call, printed) in [(0, ""), (1, ""), (999, ""), (1000, UNIQUE), (9999, UNIQUE)] {
-        assert_stuck(&rt, Closed(call, NONE), &STRESS, printed);
+    for (gate, words, printed) in &STUCK {
+        run_under(&rt, rt.alloc(), gate, words, NOTHING).assert(&rt, printed, "gate stuck\n", 1);
     }
-    assert_stuck(&rt, Closed(NONE, 1), &STRESS, "");
-    for call in [0, 1, 1024] {
-        assert_stuck(&rt, Closed(call, NONE), &SEATS, "");
-    }
-    for worker in 0..3 {
-        assert_stuck(&rt, Closed(NONE, worker), &SEATS, "");
-    }
+}
+
+#[test]
+fn a_gate_that_all_pass_ends_no_run(rt: HostRuntime) {
     run_under(&rt, rt.alloc(), &Closed(10_000, NONE), &STRESS, NOTHING).assert(&rt, ALL, "", 0);
     run_under(&rt, rt.alloc(), &Closed(1025, NONE), &SEATS, NOTHING).assert(&rt, FULL, "", 0);
 }
@@ -78,13 +88,17 @@ fn a_thread_that_cannot_be_started_ends_the_run(rt: HostRuntime) {
 }
 
 #[test]
-fn refused_memory_ends_the_run(rt: HostRuntime) {
+fn refused_memory_ends_seats(rt: HostRuntime) {
     // A number table asks three times, and the list of threads once.
     for granted in 0..4 {
         let heap = Refusing::new(rt.alloc(), Rule::new(0, usize::MAX, granted, 1));
         run_under(&rt, &heap, &OPEN, &SEATS, NOTHING).assert(&rt, "", "no memory\n", 1);
         run_under(&rt, &heap, &OPEN, &SEATS, NOTHING).assert(&rt, FULL, "", 0);
     }
+}
+
+#[test]
+fn refused_memory_ends_stress(rt: HostRuntime) {
     for granted in [0, 1, 2, 3, 4, 5, 6, 7, 8, 9, 10, 11, 12, 100, 1000] {
         let rule = Rule::new(0, usize::MAX, granted, u64::MAX);
         run_refusing(&rt, rule, &STRESS, NOTHING).assert(&rt, "", "no memory\n", 1);
@@ -98,20 +112,26 @@ fn want_of_memory_is_told_before_a_gate_that_is_stuck(rt: HostRuntime) {
     run_under(&rt, &heap, &Closed(NONE, 1), &STRESS, NOTHING).assert(&rt, "", "no memory\n", 1);
 }
 
+/// How a run ends whose output is refused.
+const NOT_WRITTEN: Result<(), Fault> = Err(Fault::Stream(StreamFault::WriteFailed));
+
 #[test]
-fn output_may_be_refused(rt: HostRuntime) {
-    let refused = Err(Fault::Stream(StreamFault::WriteFailed));
+fn output_of_stress_may_be_refused(rt: HostRuntime) {
     for room in [0, 18, 19, 54] {
         let (mut bytes, crew) = ([0u8; 64], Crew::new(2, WORKER_STACK));
         let mut part = &mut bytes[..room];
         let ended = run_stress(&rt, rt.alloc(), crew, 1, &OPEN, &mut part);
-        assert_same(&rt, ended, refused);
+        assert_same(&rt, ended, NOT_WRITTEN);
     }
+}
+
+#[test]
+fn output_of_seats_may_be_refused(rt: HostRuntime) {
     for room in [0, 11, 12] {
         let mut bytes = [0u8; 64];
         let mut part = &mut bytes[..room];
         let ended = run_seats(&rt, rt.alloc(), 3, WORKER_STACK, &OPEN, &mut part);
-        assert_same(&rt, ended, refused);
+        assert_same(&rt, ended, NOT_WRITTEN);
     }
 }
 

@@ -3,17 +3,17 @@ ghost use Rattle.std.specs.Prelude.{◌<◌};
 
 use super::streams::Asking;
 use super::{Ended, Host, Script, assert_same, first_lines, line_ends, run_under};
-use lock_free_hashtable::raw::Low;
 use std::alloc::{Allocator, Global};
 use std::cell::Cell;
 use std::process::Abort;
 use std::test::Fail;
+use table_cell::Low;
 use table_core::event::Event;
 use table_core::state::{State, run, run_with};
 use table_terms::capacity::is_first_capacity;
 use testkit_refusing::{Refusing, Rule};
 use testkit_schedules::script::push_events;
-use testkit_schedules::worked::{LOST_TO_AN_EQUAL, SCHEDULES, lines_of, printed_by};
+use testkit_schedules::worked::{LOST_TO_AN_EQUAL, Row, SCHEDULES, lines_of, printed_by};
 use tool_call_texts::answers::Answer;
 use tool_call_texts::events::{ScheduleLine, parse_schedule_line};
 use tool_commands::gate::ProgramGates;
@@ -127,14 +127,7 @@ fn run_events<A: Allocator + Copy>(
     alloc: A,
     schedule: &Schedule,
 ) -> Result<Option<usize>, Fail> {
-    let mut events = Vec::new(rt.alloc());
-    for line in schedule.input.lines() {
-        match parse_schedule_line(line.as_bytes()) {
-            Some(ScheduleLine::Step(event)) => events.push(event)?,
-            Some(ScheduleLine::Buckets) => (),
-            None => return Err(Fail::from("no line")),
-        }
-    }
+    let events = events_of(rt.alloc(), schedule.input.as_str())?;
     assert!(rt; is_first_capacity(schedule.first));
     let replies = match schedule.first {
         16 => run(alloc, events.as_slice()),
@@ -150,6 +143,19 @@ fn run_events<A: Allocator + Copy>(
     let wanted = replies_among(rt.alloc(), schedule.printed.as_str())?;
     assert_same(rt, lines.as_str(), wanted.as_str());
     Ok(None)
+}
+
+/// Returns the events of these lines.
+fn events_of(alloc: Global, input: &str) -> Result<Vec<Event>, Fail> {
+    let mut events = Vec::new(alloc);
+    for line in input.lines() {
+        match parse_schedule_line(line.as_bytes()) {
+            Some(ScheduleLine::Step(event)) => events.push(event)?,
+            Some(ScheduleLine::Buckets) => (),
+            None => return Err(Fail::from("no line")),
+        }
+    }
+    Ok(events)
 }
 
 /// Returns the lines of finished calls among these lines: those that hold a space.
@@ -261,17 +267,23 @@ fn run_lines<A: Low + Copy + Send + Sync>(rt: &impl Host, alloc: A) -> Result<Op
     assert_begun(rt, &ended, script.replies.as_str(), lines)
 }
 
+/// Takes a worked schedule in each way.
+fn assert_worked(rt: &impl Host, row: &Row) -> Result<(), Fail> {
+    let schedule = Schedule {
+        first: row.0,
+        input: lines_of(rt.alloc(), row)?,
+        printed: printed_by(rt.alloc(), row)?,
+    };
+    for way in [Way::Run, Way::Steps, Way::Command] {
+        assert!(rt; way.take(rt, rt.alloc(), &schedule)?.is_none());
+    }
+    Ok(())
+}
+
 #[test]
 fn worked_schedules(rt: HostRuntime) -> Result<(), Fail> {
     for row in &SCHEDULES {
-        let schedule = Schedule {
-            first: row.0,
-            input: lines_of(rt.alloc(), row)?,
-            printed: printed_by(rt.alloc(), row)?,
-        };
-        for way in [Way::Run, Way::Steps, Way::Command] {
-            assert!(rt; way.take(&rt, rt.alloc(), &schedule)?.is_none());
-        }
+        assert_worked(&rt, row)?;
     }
     Ok(())
 }
@@ -296,16 +308,30 @@ fn refuse_each(rt: &impl Host, way: Way, refused: u64, schedule: &Schedule) -> R
     Err(Fail::from("no run with ample memory"))
 }
 
-#[test]
-fn each_request_of_a_schedule_is_refused_in_turn(rt: HostRuntime) -> Result<(), Fail> {
-    for schedule in [
-        Schedule::asking(rt.alloc(), 16)?,
-        Schedule::asking(rt.alloc(), 32)?,
+/// Refuses each request of the schedule over `first` buckets in turn, in each way.
+fn refuse_in_each_way(rt: &impl Host, first: u64) -> Result<(), Fail>
+    requires { first < 64 }
+{
+    let schedule = Schedule::asking(rt.alloc(), first)?;
+    for (way, refused) in [
+        (Way::Run, u64::MAX),
+        (Way::Run, 1),
+        (Way::Steps, 1),
+        (Way::Command, 1),
     ] {
-        refuse_each(&rt, Way::Run, u64::MAX, &schedule)?;
-        for way in [Way::Run, Way::Steps, Way::Command, Way::Lines] {
-            refuse_each(&rt, way, 1, &schedule)?;
-        }
+        refuse_each(rt, way, refused, &schedule)?;
     }
     Ok(())
+}
+
+#[test]
+fn each_request_of_a_schedule_is_refused_in_turn(rt: HostRuntime) -> Result<(), Fail> {
+    refuse_in_each_way(&rt, 16)?;
+    refuse_in_each_way(&rt, 32)
+}
+
+#[test]
+fn a_refusal_ends_the_run_at_its_line(rt: HostRuntime) -> Result<(), Fail> {
+    let schedule = Schedule::asking(rt.alloc(), 16)?;
+    refuse_each(&rt, Way::Lines, 1, &schedule)
 }

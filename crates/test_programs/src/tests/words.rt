@@ -1,8 +1,8 @@
 //! The words that the program was called with.
 use super::{Ended, Host, run};
-use lock_free_hashtable::raw::Low;
 use std::alloc::Allocator;
 use std::test::Fail;
+use table_cell::Low;
 use testkit_refusing::{Refusing, Rule};
 use testkit_streams::Called;
 use tool_commands::program::run_program;

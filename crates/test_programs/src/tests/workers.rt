@@ -4,14 +4,14 @@ ghost use Rattle.seated.specs.Tables.{IsSeatOf};
 ghost use Rattle.table_shared.specs.Stepped.{MayStep};
 
 use super::assert_same;
-use lock_free_hashtable::raw::{LockFreeRawTable, Low};
-use lock_free_hashtable::stepped::InsertCall;
 use seated::{NumberTable, Seat};
 use std::alloc::{AllocError, Global};
 use std::cell::Cell;
 use std::process::Abort;
 use std::sync::Wait;
 use std::test::Fail;
+use table_cell::Low;
+use table_shared::{InsertCall, LockFreeRawTable};
 use tool_call_texts::endings::Ending;
 use tool_call_texts::kinds::Kind;
 use tool_commands::gate::{Gate, Gates, MeetingGate, ProgramGates};

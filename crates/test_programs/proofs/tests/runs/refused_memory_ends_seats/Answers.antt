@@ -1,5 +1,5 @@
 use Rattle.std.proofs.Crossing as global
-use Rattle.test_programs.proofs.tests.runs.refused_memory_ends_the_run.Goals as goal
+use Rattle.test_programs.proofs.tests.runs.refused_memory_ends_seats.Goals as goal
 
 -- any thread may give a block back, since it goes back to the program's memory
 pub run_under-requires-frees-A-Allocator : goal.run_under-requires-frees-A-Allocator
