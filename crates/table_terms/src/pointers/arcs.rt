@@ -1,10 +1,11 @@
 //! Shared pointers as targets of sets.
 
 use crate::law::{KeyLaw, Law, SetLaw};
+use crate::pointers::OfTarget;
 use std::alloc::Allocator;
 use std::sync::Arc;
 
-impl<N, L: Law<N>, A: Allocator> Law<Arc<N, A>> for L {
+impl<N, L: Law<N>, A: Allocator> Law<Arc<N, A>> for OfTarget<L> {
     ghost use Rattle.table_terms.specs.Laws.{same_by, hash_by, lawful_by};
 
     ghost same = { same_by L.same (λ p. p.value) };
@@ -14,7 +15,7 @@ impl<N, L: Law<N>, A: Allocator> Law<Arc<N, A>> for L {
     ghost lawful = { lawful_by L.lawful (λ p. p.value) };
 }
 
-impl<N, L: SetLaw<N>, A: Allocator> SetLaw<Arc<N, A>> for L {
+impl<N, L: SetLaw<N>, A: Allocator> SetLaw<Arc<N, A>> for OfTarget<L> {
     fn is_same(one: &Arc<N, A>, other: &Arc<N, A>) -> bool {
         L::is_same(one.as_ref(), other.as_ref())
     }
@@ -24,7 +25,7 @@ impl<N, L: SetLaw<N>, A: Allocator> SetLaw<Arc<N, A>> for L {
     }
 }
 
-impl<K, N, L: KeyLaw<K, N>, A: Allocator> KeyLaw<K, Arc<N, A>> for L {
+impl<K, N, L: KeyLaw<K, N>, A: Allocator> KeyLaw<K, Arc<N, A>> for OfTarget<L> {
     ghost meets = { λ key p. L.meets key p.value };
 
     ghost key_hash = { L.key_hash };

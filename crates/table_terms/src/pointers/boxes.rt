@@ -1,9 +1,10 @@
 //! Boxes as targets of sets.
 
 use crate::law::{KeyLaw, Law, SetLaw};
+use crate::pointers::OfTarget;
 use std::alloc::Allocator;
 
-impl<N, L: Law<N>, A: Allocator> Law<Box<N, A>> for L {
+impl<N, L: Law<N>, A: Allocator> Law<Box<N, A>> for OfTarget<L> {
     ghost use Rattle.table_terms.specs.Laws.{same_by, hash_by, lawful_by};
 
     ghost same = { same_by L.same (λ p. p.value) };
@@ -13,7 +14,7 @@ impl<N, L: Law<N>, A: Allocator> Law<Box<N, A>> for L {
     ghost lawful = { lawful_by L.lawful (λ p. p.value) };
 }
 
-impl<N, L: SetLaw<N>, A: Allocator> SetLaw<Box<N, A>> for L {
+impl<N, L: SetLaw<N>, A: Allocator> SetLaw<Box<N, A>> for OfTarget<L> {
     fn is_same(one: &Box<N, A>, other: &Box<N, A>) -> bool {
         L::is_same(one.as_ref(), other.as_ref())
     }
@@ -23,7 +24,7 @@ impl<N, L: SetLaw<N>, A: Allocator> SetLaw<Box<N, A>> for L {
     }
 }
 
-impl<K, N, L: KeyLaw<K, N>, A: Allocator> KeyLaw<K, Box<N, A>> for L {
+impl<K, N, L: KeyLaw<K, N>, A: Allocator> KeyLaw<K, Box<N, A>> for OfTarget<L> {
     ghost meets = { λ key p. L.meets key p.value };
 
     ghost key_hash = { L.key_hash };

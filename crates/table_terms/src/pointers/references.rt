@@ -1,8 +1,9 @@
 //! References as targets of sets.
 
 use crate::law::{KeyLaw, Law, SetLaw};
+use crate::pointers::OfTarget;
 
-impl<'a, N, L: Law<N>> Law<&'a N> for L {
+impl<'a, N, L: Law<N>> Law<&'a N> for OfTarget<L> {
     ghost use Rattle.table_terms.specs.Laws.{same_by, hash_by, lawful_by};
 
     ghost same = { same_by L.same (λ p. p.now) };
@@ -12,7 +13,7 @@ impl<'a, N, L: Law<N>> Law<&'a N> for L {
     ghost lawful = { lawful_by L.lawful (λ p. p.now) };
 }
 
-impl<'a, N, L: SetLaw<N>> SetLaw<&'a N> for L {
+impl<'a, N, L: SetLaw<N>> SetLaw<&'a N> for OfTarget<L> {
     fn is_same(one: &&'a N, other: &&'a N) -> bool {
         L::is_same(*one, *other)
     }
@@ -22,7 +23,7 @@ impl<'a, N, L: SetLaw<N>> SetLaw<&'a N> for L {
     }
 }
 
-impl<'a, K, N, L: KeyLaw<K, N>> KeyLaw<K, &'a N> for L {
+impl<'a, K, N, L: KeyLaw<K, N>> KeyLaw<K, &'a N> for OfTarget<L> {
     ghost meets = { λ key p. L.meets key p.now };
 
     ghost key_hash = { L.key_hash };
