@@ -1,7 +1,7 @@
 //! Publishing a block through a word that isn't set.
 //!
-//! A slot is used up by the block that it publishes, and only `Slot::publish` makes a `Published`. So who holds one slot publishes
-//! one block, and can't claim that a block was given back that another one had replaced.
+//! A slot is used up by the block that it publishes, and only `Slot::publish` makes a `Published`. So one slot publishes one block.
+//! A `Published` doesn't say through which word.
 ghost use Rattle.std.specs.Prelude.{◌≡◌, IsSome, Some, MatchOption};
 ghost use Rattle.std.specs.Box.{box_allocator};
 ghost use Rattle.table_shared.specs.Lineages.{IsOpen};
