@@ -2,13 +2,13 @@
 #![tactic(auto)]
 
 use demo_telling::tell::tell;
+use shared_set::SharedSet;
 use std::io;
-use table_growing::GrowingSet;
 
 fn main(rt: HostRuntime) -> io::Result<()> {
     let mut told = 0u64;
     for round in 0u64..100 {
-        let Ok(set) = GrowingSet::new(rt.alloc()) else {
+        let Ok(set) = SharedSet::new(rt.alloc()) else {
             continue;
         };
         if let Some((true, true)) = tell(&rt, &set, round, round.wrapping_add(1), 200) {

@@ -1,0 +1,11 @@
+-- Which number of a slab a right is of, and at which a value stands for good.
+use Rattle.std.specs.Prelude.{ℕ}
+use Rattle.table_slab.specs.Slabs.{SlabView, IsSlot}
+use Rattle.table_slab.specs.declared.slab.Right.{Right}
+use Rattle.table_slab.specs.declared.slab.Standing.{Standing}
+
+abbrev pub IsRightTo : {T A : Type 0} → SlabView → ℕ → Right T A → Type 0
+IsRightTo s number r = IsSlot s number r.site.cell r.site.value r.room.of
+
+abbrev pub StandsAt : {T A : Type 0} → SlabView → ℕ → Standing T A → Type 0
+StandsAt s number w = IsSlot s number w.site.cell w.site.value w.written.of

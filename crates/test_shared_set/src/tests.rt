@@ -1,0 +1,12 @@
+mod alone;
+mod caller;
+mod drops;
+mod ending;
+mod keys;
+mod made;
+mod memory;
+mod numbers;
+mod runs;
+mod telling;
+mod threads;
+mod walks;

@@ -1,0 +1,172 @@
+//! Memory that is refused.
+use super::caller::{
+    Heap, Numbering, Numbers, Told, assert_has, assert_none_out, assert_same, counted, insert,
+};
+use shared_set::SharedSet;
+use std::alloc::Global;
+use std::process::Abort;
+use testkit_refusing::{Refusing, Rule};
+
+/// How many numbers a run places.
+const NUMBERS: u64 = 100;
+
+/// Makes a set that has room for so many entries, tried once more than so many requests are refused.
+fn made_at_last<'h>(
+    rt: &impl Abort,
+    heap: &'h Heap,
+    room: usize,
+    refused: u64,
+) -> Option<Numbers<'h>> {
+    for _refused in 0..refused {
+        if let Ok(set) = SharedSet::with_capacity(heap, room) {
+            return Some(set);
+        }
+        assert_none_out(rt, heap);
+    }
+    SharedSet::with_capacity(heap, room).ok()
+}
+
+/// Places the number, tried once more than so many requests are refused. A refused insert leaves the numbers below this one.
+fn place_at_last(rt: &impl Abort, handle: &mut Numbering<'_, '_>, value: u64, refused: u64) {
+    for _refused in 0..refused {
+        let told = insert(handle, value).0;
+        if told == Told::Placed {
+            return;
+        }
+        assert_same(rt, told, Told::Refused);
+        assert_has(rt, handle, value);
+    }
+    assert_same(rt, insert(handle, value).0, Told::Placed);
+}
+
+/// Places the numbers, each as often as it takes. Then each is found, also by an insert.
+fn place_all(rt: &impl Abort, set: &Numbers<'_>, refused: u64) {
+    let mut handle = set.handle();
+    for value in 0..NUMBERS {
+        place_at_last(rt, &mut handle, value, refused);
+    }
+    assert_has(rt, &mut handle, NUMBERS);
+    for value in 0..NUMBERS {
+        assert_same(rt, insert(&mut handle, value).0, Told::Found);
+    }
+}
+
+/// A run in which so many requests are granted, and so many after them refused. Returns true if all were refused that were to be.
+fn run(rt: &impl Abort, alloc: Global, room: usize, granted: u64, refused: u64) -> bool {
+    let heap = Refusing::new(alloc, Rule::new(0, usize::MAX, granted, refused));
+    let set = made_at_last(rt, &heap, room, refused).expect(rt, "a set");
+    place_all(rt, &set, refused);
+    let left = heap.refusals_left();
+    heap.refuse(0, 0);
+    drop(set);
+    assert_none_out(rt, &heap);
+    left == 0
+}
+
+/// Returns how many requests can be granted before so many that follow each other are refused, in a run that asks for fewer than 200.
+fn run_each(rt: &impl Abort, alloc: Global, room: usize, refused: u64) -> u64 {
+    for granted in 0..200 {
+        if !run(rt, alloc, room, granted, refused) {
+            return granted;
+        }
+    }
+    200
+}
+
+#[test]
+fn each_request_refused_in_turn(rt: HostRuntime) {
+    for room in [0, 20] {
+        for refused in [1, 2, 8] {
+            let turns = run_each(&rt, rt.alloc(), room, refused);
+            assert!(&rt; 10 < turns && turns < 200, "{turns} turns");
+        }
+    }
+}
+
+/// Returns memory that refuses, once it is told to, what the growth of a set of so many buckets asks for: twice as many words of eight
+/// bytes.
+fn without_growth(alloc: Global, buckets: usize) -> Heap {
+    let least = buckets.saturating_mul(16);
+    Refusing::new(alloc, Rule::new(least, usize::MAX, 0, 0))
+}
+
+/// For how many entries sets have room: for so many it is a power of two, so that half of the buckets are filled.
+const ROOMS: [usize; 4] = [16, 128, 1024, 1 << 14];
+
+/// A set asks for no growth until it has as many entries as it has room for.
+#[test]
+fn a_set_of_a_capacity_does_not_grow(rt: HostRuntime) {
+    for room in ROOMS {
+        let heap = without_growth(rt.alloc(), room.saturating_mul(2));
+        let set: Numbers<'_> = SharedSet::with_capacity(&heap, room).expect(&rt, "a set");
+        heap.refuse(0, u64::MAX);
+        let mut handle = set.handle();
+        for value in 0..room as u64 {
+            assert_same(&rt, insert(&mut handle, value).0, Told::Placed);
+        }
+        assert_same(&rt, heap.refusals_left(), u64::MAX);
+        assert_same(&rt, insert(&mut handle, room as u64).0, Told::Placed);
+        assert_same(&rt, heap.refusals_left(), u64::MAX - 1);
+        drop(handle);
+        drop(set);
+        assert_none_out(&rt, &heap);
+    }
+}
+
+/// While no growth is granted, each bucket of a set is filled. Then a new value is returned, and each entry is found.
+#[test]
+fn a_set_that_cannot_grow_is_filled(rt: HostRuntime) {
+    let heap = without_growth(rt.alloc(), 32);
+    let set: Numbers<'_> = SharedSet::with_capacity(&heap, 16).expect(&rt, "a set");
+    heap.refuse(0, u64::MAX);
+    let mut handle = set.handle();
+    for value in 0u64..32 {
+        assert_same(&rt, insert(&mut handle, value), (Told::Placed, Some(value)));
+    }
+    for _again in 0..3 {
+        assert_same(&rt, insert(&mut handle, 32), (Told::Refused, None));
+        assert_has(&rt, &mut handle, 32);
+    }
+    heap.refuse(0, 0);
+    assert_same(&rt, insert(&mut handle, 32).0, Told::Placed);
+    assert_has(&rt, &mut handle, 33);
+    for value in 0u64..32 {
+        assert_same(&rt, handle.find(&value), Some((value, &value)));
+    }
+}
+
+/// Without memory an entry is found, by a look-up and by an insert. Neither asks for any.
+#[test]
+fn what_is_found_needs_no_memory(rt: HostRuntime) {
+    let heap = counted(rt.alloc());
+    let set: Numbers<'_> = SharedSet::new(&heap).expect(&rt, "a set");
+    for value in 0u64..50 {
+        assert_same(&rt, insert(&mut set.handle(), value).0, Told::Placed);
+    }
+    let granted = heap.granted();
+    heap.refuse(0, u64::MAX);
+    for value in 0u64..50 {
+        let mut handle = set.handle();
+        assert_same(&rt, insert(&mut handle, value).0, Told::Found);
+        assert_same(&rt, handle.get(&value), Some(&value));
+        assert_same(&rt, handle.get(&50), None);
+    }
+    assert_same(
+        &rt,
+        (heap.granted(), heap.refusals_left()),
+        (granted, u64::MAX),
+    );
+}
+
+/// A set may have room for as many entries as half of its most buckets hold, which are 2^32, and for no more.
+#[test]
+fn too_many_entries_are_refused(rt: HostRuntime) {
+    let heap = Refusing::new(rt.alloc(), Rule::new(1 << 30, usize::MAX, 0, u64::MAX));
+    for (room, asked) in [(1usize << 31, 1), ((1 << 31) + 1, 0), (usize::MAX, 0)] {
+        heap.refuse(0, u64::MAX);
+        let made: Result<Numbers<'_>, _> = SharedSet::with_capacity(&heap, room);
+        assert!(rt; made.is_err());
+        assert_same(&rt, heap.refusals_left(), u64::MAX - asked);
+        assert_none_out(&rt, &heap);
+    }
+}
