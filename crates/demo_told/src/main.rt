@@ -1,6 +1,7 @@
-//! Two threads place a number each while a set grows, a hundred times. Who was told of both finds both.
+//! Two threads place a number each while a set grows, a hundred times. Who was told of both finds both. Then two threads own a set together.
 #![tactic(auto)]
 
+use demo_telling::owned::place_by_two;
 use demo_telling::tell::tell;
 use shared_set::SharedSet;
 use std::io;
@@ -15,5 +16,6 @@ fn main(rt: HostRuntime) -> io::Result<()> {
             told = told.wrapping_add(1);
         }
     }
-    println!(rt; "{told} rounds: who was told of both numbers found both")
+    println!(rt; "{told} rounds: who was told of both numbers found both")?;
+    println!(rt; "placed in a set that two threads own: {}", place_by_two(&rt, rt.alloc(), 1000)?)
 }
