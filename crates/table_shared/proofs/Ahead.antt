@@ -13,6 +13,7 @@ use Rattle.table_core.specs.declared.call.Phase.{Phase}
 use Rattle.table_core.specs.declared.call.Phase.TheVariants.{Building}
 use Rattle.table_shared.specs.Growths.{GrowthView, AreNamed, CopiesNext}
 use Rattle.table_generations.specs.Windows.{NoneShown}
+use Rattle.table_shared.specs.Lineages.{WordsView}
 use Rattle.table_shared.specs.Ahead.{IsAhead, PassesOver, Copies, CopiesOn}
 use Rattle.table_shared.specs.declared.growth.ahead.Ahead.{Ahead}
 use Rattle.table_shared.proofs.Copied.{named_bucket, names_entry, named_on, named_past}
@@ -29,11 +30,11 @@ module _ {A T U : Type 0} (target : T → U) (rehash : U → ℕ → Type 0) (g 
       pub bucket_read : (b : BucketView A T) → IfSome read.word.value (λ x. b ≡ bucket read.word.from h (named x)) → b ≡ bucket g.from h (named is.0)
       bucket_read b so = named_bucket g.from g.home h read.word is.0 is.1 b so
 
-    module _ (home p : ℕ) (built : List (Content T)) where
+    module _ (home p word : ℕ) (words : WordsView) (built : List (Content T)) where
       -- an entry that was read is copied, and no bucket that is passed before its own was set alone
       pub next_read : (after : List (Content T)) (read : Ahead T A) → p ≤ i → i < length g.contents → NoneShown g.contents p i → (is : IsAhead target rehash g i read)
           → PutsName target built after read.hash (named is.0)
-          → CopiesNext target rehash (record { home = home; before = g.contents; passed = p; built = built }) true (record { home = home; before = g.contents; passed = i + 1; built = after })
+          → CopiesNext target rehash (record { home = home; before = g.contents; passed = p; built = built; word = word; words = words }) true (record { home = home; before = g.contents; passed = i + 1; built = after; word = word; words = words })
       next_read after read on within none (e, is, alone, asked) put = (
         i,
         e,

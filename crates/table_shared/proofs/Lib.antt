@@ -12,3 +12,4 @@ pub mod Settled
 mod Walked
 mod Doubled
 mod Numbered
+mod Words

@@ -8,15 +8,18 @@ use Rattle.table_generations.specs.Buckets.{Content, named, shown, content_at}
 use Rattle.table_generations.specs.Generations.{GenerationView, AreOfOneHome}
 use Rattle.table_generations.specs.Growth.{PutsName}
 use Rattle.table_generations.specs.Windows.{NoneShown}
-use Rattle.table_shared.specs.Lineages.{IsOpen}
+use Rattle.table_shared.specs.Lineages.{IsOpen, WordsView}
 
 -- a growth: the home of its blocks, what the buckets of the generation before were set to alone, how
--- many of them are passed, and the buckets of the generation that is made
+-- many of them are passed, the buckets of the generation that is made, the word through which that is published, and what is known of
+-- the words for later generations
 pub record GrowthView (T : Type 0) : Type 0 where
   pub home : ℕ
   pub before : List (Content T)
   pub passed : ℕ
   pub built : List (Content T)
+  pub word : ℕ
+  pub words : WordsView
 
 module _ {T : Type 0} where
   -- a bucket names the entry
@@ -57,9 +60,9 @@ module _ {A T : Type 0} where
   buckets_before (Some from) = from.now.contents
 
   -- a growth as its callers see it
-  abbrev pub growth_of : ℕ → Option (Bor (GenerationView A T)) → ℕ → GenerationView A T → GrowthView T
-  growth_of home from passed built =
-      record { home = home; before = buckets_before from; passed = passed; built = built.contents }
+  abbrev pub growth_of : ℕ → Option (Bor (GenerationView A T)) → ℕ → GenerationView A T → ℕ → WordsView → GrowthView T
+  growth_of home from passed built word words =
+      record { home = home; before = buckets_before from; passed = passed; built = built.contents; word = word; words = words }
 
   -- the generation before, if there is one, is of the same home and allocator, and has fewer buckets
   -- than the one that is made

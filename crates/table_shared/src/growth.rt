@@ -1,21 +1,23 @@
 //! The next generation of a shared table while it is built.
 ghost use Rattle.std.specs.Prelude.{◌≡◌, IfOk, IsSome, MatchOption, length};
+ghost use Rattle.std.specs.Option.{option_map};
 ghost use Rattle.std.specs.Box.{box_allocator};
 ghost use Rattle.std.specs.Fn.{FnReturnsAt};
 ghost use Rattle.std.specs.Int.{IsPowerOfTwo};
 ghost use Rattle.std.specs.Option.{IsSomeAnd};
-ghost use Rattle.table_shared.specs.Lineages.{IsOpen};
+ghost use Rattle.table_shared.specs.Lineages.{IsOpen, names_of, words_of};
 ghost use Rattle.table_shared.specs.Growths.{IsFresh, AreNamed, CopiesNext, PassedAll, growth_of};
 
 pub(crate) mod ahead;
 pub(crate) mod begin;
 
+use crate::lineage::later::Later;
 use crate::lineage::slot::{Published, Slot};
 use crate::locks::OwnedLock;
 use crate::shown::Shown;
 use std::alloc::{AllocError, Allocator};
 use std::marker::Model;
-use table_cell::{Bucket, Home, Low};
+use table_cell::{Bucket, Home, Low, Note};
 use table_generations::atomic_value::AtomicValue;
 use table_generations::fixed::Generation;
 
@@ -29,17 +31,22 @@ pub struct Growth<'a, T: AtomicValue, A: Allocator + Copy> {
     copied: usize,
     built: Generation<T, A>,
     slot: Slot<'a, Generation<T, A>, A>,
+    /// A note of the words for later generations, for contracts only.
+    words: Note<Later<T, A>>,
     /// The heap block that the generation will be moved to.
     block: Box<Generation<T, A>, A>,
 }
 
 impl<'a, T: AtomicValue, A: Allocator + Copy> Model for Growth<'a, T, A> {
     ghost use Rattle.std.specs.Box.{box_allocator};
+    ghost use Rattle.std.specs.Option.{option_map};
+    ghost use Rattle.table_shared.specs.Lineages.{names_of, words_of};
     ghost use Rattle.table_shared.specs.Growths.{GrowthView, IsUnderWay, growth_of};
 
     ghost Value = { GrowthView T };
 
-    ghost view = { λ g. growth_of g.home.now.id g.from g.copied g.built };
+    ghost view = { λ g. growth_of g.home.now.id g.from g.copied g.built g.slot.id
+        (words_of g.words.of (option_map (λ l. names_of l.words.items) g.words.known)) };
 
     ghost invariant = { λ g. IsUnderWay g.home.now.id g.from g.copied g.built g.slot.from
         g.slot (box_allocator g.block) };
@@ -52,10 +59,12 @@ impl<'a, T: AtomicValue, A: Allocator + Copy> Growth<'a, T, A> {
         from: Option<&'a Generation<T, A>>,
         built: Generation<T, A>,
         slot: Slot<'a, Generation<T, A>, A>,
+        words: Note<Later<T, A>>,
     ) -> Result<Self, AllocError>
         requires fresh { IsFresh home.now.id from built }
         requires open { IsOpen home.now.id slot.from slot }
-        ensures { IfOk result (λ g. g ≡ growth_of home.now.id from.entry 0 built) }
+        ensures { IfOk result (λ g. g ≡ growth_of home.now.id from.entry 0 built slot.entry.id
+            (words_of words.of (option_map (λ l. names_of l.words.items) words.known))) }
     {
         let Ok(block) = Box::new(slot.alloc(), Generation::none(slot.alloc(), home)) else {
             return Err(AllocError);
@@ -66,6 +75,7 @@ impl<'a, T: AtomicValue, A: Allocator + Copy> Growth<'a, T, A> {
             copied: 0,
             built,
             slot,
+            words,
             block,
         })
     }
@@ -75,6 +85,7 @@ impl<'a, T: AtomicValue, A: Allocator + Copy> Growth<'a, T, A> {
         requires { H.IsAlwaysCallable hash_fn.now }
         ensures home { self.new.home ≡ self.old.home }
         ensures before { self.new.before ≡ self.old.before }
+        ensures word { (self.new.word ≡ self.old.word) × (self.new.words ≡ self.old.words) }
         ensures copies { CopiesNext T.target (FnReturnsAt H.Fn hash_fn.now) self.old result
             self.new }
         ensures named { AreNamed self.new.before self.new.passed self.new.built }
@@ -102,6 +113,7 @@ impl<'a, T: AtomicValue, A: Allocator + Copy> Growth<'a, T, A> {
         ensures fits { (result.1.value.home ≡ self.entry.home) × IsPowerOfTwo (length result.1.value.contents) }
         ensures open { IsOpen self.entry.home result.0.from result.0 }
         ensures from { box_allocator result.1 ≡ result.0.from }
+        ensures word { result.0.id ≡ self.entry.word }
     {
         let Growth {
             built,
@@ -125,6 +137,7 @@ impl<'a, T: AtomicValue, A: Low + Copy> Growth<'a, T, A> {
         requires whole { PassedAll self }
         requires home { shown.now.home ≡ self.home }
         ensures since { (result.latest ≡ shown.now.id) × IsSome result.since }
+        ensures word { result.word ≡ self.entry.word }
         ensures shows { MatchOption result.back (IsSomeAnd result.holds (λ g. g.contents ≡ self.entry.built))
             (λ g. g.contents ≡ self.entry.built) }
     {

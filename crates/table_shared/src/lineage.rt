@@ -1,7 +1,7 @@
 //! The generations of a shared table, in order.
-ghost use Rattle.std.specs.Prelude.{◌≡◌, ◌*◌, ◌^◌, ◌≤◌, IfOk, IfSome, IfNone, length, vec_capacity};
+ghost use Rattle.std.specs.Prelude.{◌≡◌, ◌*◌, ◌^◌, ◌≤◌, IfOk, IfSome, IfNone, Some, IsSomeAnd, length, vec_capacity};
 ghost use Rattle.std.specs.Int.{IsPowerOfTwo};
-ghost use Rattle.table_shared.specs.Lineages.{AreOfHome, AreRoomy, IsOpen, IsNumber, LastIsBare, lineage_of};
+ghost use Rattle.table_shared.specs.Lineages.{AreOfHome, AreRoomy, HasPlace, IsOpen, IsNumber, IsWordFor, LastIsBare, names_of, shown_in};
 
 pub(crate) mod later;
 pub(crate) mod slot;
@@ -11,7 +11,7 @@ use crate::lineage::later::Later;
 use crate::lineage::slot::{Slot, show_block};
 use std::alloc::{AllocError, Allocator};
 use std::marker::Model;
-use table_cell::{Closed, Home, Low, Word};
+use table_cell::{Closed, Home, Low, Note, Word};
 use table_generations::atomic_value::AtomicValue;
 use table_generations::fixed::Generation;
 use table_generations::values::IntoIter;
@@ -31,7 +31,7 @@ impl<T: AtomicValue, A: Allocator + Copy> Model for Lineage<T, A> {
 
     ghost Value = { LineageView A T };
 
-    ghost view = { λ l. lineage_of l.alloc l.earlier.items l.base };
+    ghost view = { λ l. lineage_of l.alloc l.earlier.items l.base l.later.id };
 
     ghost invariant = { λ l. IsLineage l.alloc l.earlier.items l.base l.later };
 }
@@ -53,7 +53,8 @@ impl<T: AtomicValue, A: Allocator + Copy> Lineage<T, A> {
         base: Generation<T, A>,
     ) -> Self
         requires { AreOfHome home.now.id earlier.items base }
-        ensures { result ≡ lineage_of alloc earlier.items base }
+        ensures home { result.home ≡ base.home }
+        ensures shared { result.shared ≡ shown_in earlier.items base }
     {
         let later = Word::new(&alloc, home);
         Lineage {
@@ -64,23 +65,27 @@ impl<T: AtomicValue, A: Allocator + Copy> Lineage<T, A> {
         }
     }
 
-    /// Returns the number of generations that the table had when it was shared.
-    pub(crate) fn held(&self) -> usize {
-        if self.base.capacity() == 0 {
-            return 0;
+    /// Returns the place of the word for the generation of this number among the words for later generations, or `None` if the
+    /// table had that generation when it was shared.
+    fn place_of(&self, number: usize) -> Option<usize>
+        ensures { IfSome result (λ p. HasPlace self.now.shared number p) }
+    {
+        if !self.base.has_buckets() {
+            return Some(number);
         }
-        self.earlier.len().saturating_add(1)
+        number.checked_sub(self.earlier.len())?.checked_sub(1)
     }
 
-    /// Returns the words for the later generations, if they were made.
-    fn later<'a>(&'a self, home: &'a Home) -> Option<&'a Later<T, A>>
+    /// Returns the words for the later generations, if they were made, with a note that knows them.
+    fn later<'a>(&'a self, home: &'a Home) -> Option<(&'a Later<T, A>, Note<Later<T, A>>)>
         requires { self.now.home ≡ home.now.id }
-        ensures { IfSome result (λ l. AreRoomy home.now.id l.now.alloc l.now.words.items
-            l.now.room.items (vec_capacity l.now.room)) }
+        ensures roomy { IfSome result (λ l. AreRoomy home.now.id l.0.now.alloc l.0.now.words.items
+            l.0.now.room.items (vec_capacity l.0.now.room)) }
+        ensures known { IfSome result (λ l. (l.1.of ≡ self.now.later) × (l.1.known ≡ Some l.0.now)) }
     {
         let mut note = self.later.note();
         match self.later.name_if_set(&mut note) {
-            Some(name) => Some(name.get(home)),
+            Some(name) => Some((name.get(home), note)),
             None => None,
         }
     }
@@ -150,11 +155,16 @@ impl<T: AtomicValue, A: Allocator + Copy> Lineage<T, A> {
 }
 
 impl<T: AtomicValue, A: Low + Copy> Lineage<T, A> {
-    /// Returns the words for the later generations, and makes them if there are none. An `Err` leaves the generations unchanged.
-    fn opened<'a>(&'a self, home: &'a Home) -> Result<&'a Later<T, A>, AllocError>
+    /// Returns the words for the later generations, with a note that knows them. Makes the words if there are none. An `Err` leaves
+    /// the generations unchanged.
+    fn opened<'a>(
+        &'a self,
+        home: &'a Home,
+    ) -> Result<(&'a Later<T, A>, Note<Later<T, A>>), AllocError>
         requires { self.now.home ≡ home.now.id }
-        ensures { IfOk result (λ l. AreRoomy home.now.id l.now.alloc l.now.words.items
-            l.now.room.items (vec_capacity l.now.room)) }
+        ensures roomy { IfOk result (λ l. AreRoomy home.now.id l.0.now.alloc l.0.now.words.items
+            l.0.now.room.items (vec_capacity l.0.now.room)) }
+        ensures known { IfOk result (λ l. (l.1.of ≡ self.now.later) × (l.1.known ≡ Some l.0.now)) }
     {
         if let Some(later) = self.later(home) {
             return Ok(later);
@@ -169,21 +179,25 @@ impl<T: AtomicValue, A: Low + Copy> Lineage<T, A> {
         }
     }
 
-    /// Returns the word for the generation of this number, which isn't published yet. Returns an `Err` if memory is refused or no
-    /// word is left.
+    /// Returns the word for the generation of this number, which isn't published yet, with a note that knows the words for later
+    /// generations. Returns an `Err` if memory is refused or no word is left.
     pub(crate) fn slot<'a>(
         &'a self,
         home: &'a Home,
         number: usize,
-    ) -> Result<Slot<'a, Generation<T, A>, A>, AllocError>
+    ) -> Result<(Slot<'a, Generation<T, A>, A>, Note<Later<T, A>>), AllocError>
         requires { self.now.home ≡ home.now.id }
-        ensures { IfOk result (λ s. IsOpen home.now.id s.from s) }
+        ensures open { IfOk result (λ s. IsOpen home.now.id s.0.from s.0) }
+        ensures of { IfOk result (λ s. s.1.of ≡ self.now.later) }
+        ensures word { IfOk result (λ s. IsSomeAnd s.1.known (λ l. IsWordFor self.now.shared number
+            (names_of l.words.items) s.0.id)) }
     {
-        let Some(index) = number.checked_sub(self.held()) else {
+        let Some(place) = self.place_of(number) else {
             return Err(AllocError);
         };
-        match self.opened(home)?.slot(home, index) {
-            Some(slot) => Ok(slot),
+        let (later, words) = self.opened(home)?;
+        match later.slot(home, place) {
+            Some(slot) => Ok((slot, words)),
             None => Err(AllocError),
         }
     }

@@ -79,6 +79,7 @@ impl<T: AtomicValue, A: Low + Copy> Shown<T, A> {
         requires fits { (block.value.home ≡ home.now.id) × IsPowerOfTwo (length block.value.contents) }
         requires home { self.now.home ≡ home.now.id }
         ensures since { (result.latest ≡ self.now.id) × IsSome result.since }
+        ensures word { result.word ≡ slot.entry.id }
         ensures seen { IsSome result.holds }
         ensures shows { MatchOption result.back (result.holds ≡ Some block.value) (λ b. b ≡ block.value) }
     {

@@ -103,6 +103,7 @@ impl<'a, T: AtomicValue, A: Allocator + Copy> Growth<'a, T, A> {
         requires callable { H.IsAlwaysCallable hash_fn.now }
         ensures stays { result ≡ state }
         ensures same { (self.new.home ≡ self.old.home) × (self.new.before ≡ self.old.before) }
+        ensures word { (self.new.word ≡ self.old.word) × (self.new.words ≡ self.old.words) }
         ensures on { self.old.passed < self.new.passed }
         ensures copies { CopiesOn T.target (FnReturnsAt H.Fn hash_fn.now) self.old self.new }
     {
@@ -141,6 +142,7 @@ impl<'a, T: AtomicValue, A: Allocator + Copy> Growth<'a, T, A> {
         requires callable { H.IsAlwaysCallable hash_fn.now }
         ensures stays { result ≡ state }
         ensures same { (self.new.home ≡ self.old.home) × (self.new.before ≡ self.old.before) }
+        ensures word { (self.new.word ≡ self.old.word) × (self.new.words ≡ self.old.words) }
         ensures whole { PassedAll self.new }
         ensures copies { CopiesOn T.target (FnReturnsAt H.Fn hash_fn.now) self.old self.new }
     {

@@ -1,8 +1,8 @@
 //! Growth of a shared table, step by step, under all of its locks.
-ghost use Rattle.std.specs.Prelude.{◌≡◌, IfOk, IsSome, MatchOption, length};
+ghost use Rattle.std.specs.Prelude.{◌≡◌, ◌+◌, IfOk, IsSome, MatchOption, [], length};
 ghost use Rattle.std.specs.Int.{IsPowerOfTwo};
 ghost use Rattle.std.specs.Option.{IsSomeAnd};
-ghost use Rattle.table_shared.specs.Begun.{Begins};
+ghost use Rattle.table_shared.specs.Begun.{Begins, IsThrough};
 ghost use Rattle.table_shared.specs.Growths.{PassedAll};
 
 use crate::growth::Growth;
@@ -30,11 +30,13 @@ impl<T: AtomicValue, A: Low + Copy> LockFreeRawTable<T, A> {
     /// Begins the first generation, without an entry. Allocates for its buckets and its block.
     fn begin_first(&self, _held: &OwnedLock<'_>) -> Result<Growth<'_, T, A>, AllocError>
         requires lock { _held.now.home ≡ self.now.home }
-        ensures { IfOk result (λ g. g.home ≡ self.now.home) }
+        ensures home { IfOk result (λ g. g.home ≡ self.now.home) }
+        ensures before { IfOk result (λ g. (g.before ≡ []) × (g.passed ≡ 0)) }
+        ensures word { IfOk result (λ g. IsThrough self.now 0 g) }
     {
-        let slot = self.lineage.slot(&self.home, 0)?;
+        let (slot, words) = self.lineage.slot(&self.home, 0)?;
         let built = Generation::with_capacity(self.alloc, &self.home, self.first_capacity)?;
-        Growth::begun(&self.home, None, built, slot)
+        Growth::begun(&self.home, None, built, slot, words)
     }
 
     /// Begins the generation after the current one, with twice the capacity. Allocates for its buckets and its block. An `Err`
@@ -50,6 +52,7 @@ impl<T: AtomicValue, A: Low + Copy> LockFreeRawTable<T, A> {
         ensures home { IfOk result (λ g. g.home ≡ self.now.home) }
         ensures before { IfOk result (λ g. (g.before ≡ current.entry.generation.now.contents)
             × (g.passed ≡ 0)) }
+        ensures word { IfOk result (λ g. IsThrough self.now (current.entry.number + 1) g) }
     {
         let Some(number) = (current.number as usize).checked_add(1) else {
             return Err(AllocError);
@@ -57,16 +60,16 @@ impl<T: AtomicValue, A: Low + Copy> LockFreeRawTable<T, A> {
         let Some(capacity) = current.generation.doubled() else {
             return Err(AllocError);
         };
-        let slot = self.lineage.slot(&self.home, number)?;
+        let (slot, words) = self.lineage.slot(&self.home, number)?;
         let built = current.generation.sibling(&self.home, capacity)?;
-        Growth::begun(&self.home, Some(current.generation), built, slot)
+        Growth::begun(&self.home, Some(current.generation), built, slot, words)
     }
 
     /// Checks again whether growth is wanted, and if so allocates all the memory of the next generation. The caller holds all
     /// locks of the table.
     pub(crate) fn begin(&self, held: &OwnedLock<'_>) -> Wanted<'_, T, A>
         requires lock { held.now.home ≡ self.now.home }
-        ensures { Begins self.now.home result }
+        ensures { Begins self.now result }
     {
         let begun = match self.current(&mut self.note()) {
             None => self.begin_first(held),
@@ -93,6 +96,7 @@ impl<T: AtomicValue, A: Low + Copy> LockFreeRawTable<T, A> {
         requires home { growth.home ≡ self.now.home }
         requires whole { PassedAll growth }
         ensures since { (result.latest ≡ self.now.latest) × IsSome result.since }
+        ensures word { result.word ≡ growth.entry.word }
         ensures shows { MatchOption result.back
             (IsSomeAnd result.holds (λ g. g.contents ≡ growth.entry.built))
             (λ g. g.contents ≡ growth.entry.built) }

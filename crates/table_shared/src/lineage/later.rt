@@ -1,5 +1,5 @@
 //! The words that hold the generations made after a table was shared.
-ghost use Rattle.std.specs.Prelude.{◌≡◌, ◌≤◌, ◌<◌, IfOk, IfSome, length, vec_capacity, []};
+ghost use Rattle.std.specs.Prelude.{◌≡◌, ◌≤◌, ◌<◌, IfOk, IfSome, HoldsAt, length, vec_capacity, []};
 ghost use Rattle.table_shared.specs.Lineages.{IsOpen, AreRoomy};
 
 use crate::lineage::slot::Slot;
@@ -43,7 +43,9 @@ impl<T: AtomicValue, A: Allocator + Copy> Later<T, A> {
     pub(crate) fn slot(&self, home: &Home, index: usize) -> Option<Slot<'_, Generation<T, A>, A>>
         requires { AreRoomy home.now.id self.now.alloc self.now.words.items self.now.room.items
             (vec_capacity self.now.room) }
-        ensures { IfSome result (λ s. IsOpen home.now.id s.from s) }
+        ensures open { IfSome result (λ s. IsOpen home.now.id s.from s) }
+        ensures within { IfSome result (λ s. index < length self.now.words.items) }
+        ensures there { IfSome result (λ s. HoldsAt (λ w. w ≡ s) self.now.words.items index) }
     {
         let _home = home;
         let word = self.words.get(index)?;

@@ -1,7 +1,7 @@
 //! Publishing a block through a word that isn't set.
 //!
 //! A slot is used up by the block that it publishes, and only `Slot::publish` makes a `Published`. So one slot publishes one block.
-//! A `Published` doesn't say through which word.
+//! A `Published` says through which word.
 ghost use Rattle.std.specs.Prelude.{◌≡◌, IsSome, Some, MatchOption};
 ghost use Rattle.std.specs.Box.{box_allocator};
 ghost use Rattle.table_shared.specs.Lineages.{IsOpen};
@@ -46,7 +46,7 @@ impl<X: Homed + Drop, A: Allocator + Copy> Model for Published<X, A> {
 
     ghost Value = { PublishedView X };
 
-    ghost view = { λ p. published_of p.since.of p.since.known p.seen.known (option_map box_value p.back) };
+    ghost view = { λ p. published_of p.since.of p.since.known p.seen.of p.seen.known (option_map box_value p.back) };
 }
 
 /// Publishes a block through a word. Returns a note that knows what the word holds: this block, or the one that was there before,
@@ -102,6 +102,7 @@ impl<'a, X: Homed + Drop, A: Low + Copy> Slot<'a, X, A> {
         requires fits { X.fits block.value home.now.id }
         requires latest { latest.now.home ≡ home.now.id }
         ensures since { (result.latest ≡ latest.now.id) × IsSome result.since }
+        ensures word { result.word ≡ self.entry.id }
         ensures seen { IsSome result.holds }
         ensures shows { MatchOption result.back (result.holds ≡ Some block.value) (λ b. b ≡ block.value) }
     {

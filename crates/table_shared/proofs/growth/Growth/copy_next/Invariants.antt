@@ -12,7 +12,8 @@ pub record ArePassed {T : Type 0} (before : List (Content T)) (i k : ℕ) : Type
 
 abbrev pub invariant-loop-self : goal.invariant-loop-self
 invariant-loop-self g l =
-    ((l.self-inside.home ≡ l.initial.self-inside.home) × (l.self-inside.from ≡ l.initial.self-inside.from) × (l.self-inside.built ≡ l.initial.self-inside.built))
+    ((l.self-inside.home ≡ l.initial.self-inside.home) × (l.self-inside.from ≡ l.initial.self-inside.from) × (l.self-inside.built ≡ l.initial.self-inside.built)
+    × (l.self-inside.slot.id ≡ l.initial.self-inside.slot.id) × (l.self-inside.words ≡ l.initial.self-inside.words))
     × ArePassed (buckets_before l.initial.self-inside.from) l.initial.self-inside.copied l.self-inside.copied
     × IsUnderWay l.self-inside.home.now.id l.self-inside.from l.self-inside.copied l.self-inside.built l.self-inside.slot.from l.self-inside.slot (box_allocator l.self-inside.block)
 

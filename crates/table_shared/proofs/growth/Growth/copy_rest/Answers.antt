@@ -10,5 +10,7 @@ loop-self-preserved g c =
       more.stays ∙ so.0,
       more.same.0 ∙ so.1,
       more.same.1 ∙ so.2,
-      on_both g.T.AtomicValue.target (FnReturnsAt g.H.Fn c.args.hash_fn.now) c.args.self.now c.loop-self.self c.copy_window-state.new.self so.3 more.copies,
+      more.word.0 ∙ so.3,
+      more.word.1 ∙ so.4,
+      on_both g.T.AtomicValue.target (FnReturnsAt g.H.Fn c.args.hash_fn.now) c.args.self.now c.loop-self.self c.copy_window-state.new.self so.5 more.copies,
     )

@@ -7,6 +7,7 @@ use Rattle.table_shared.proofs.growth.Growth.copy_rest.Given as goal
 abbrev pub invariant-loop-self : goal.invariant-loop-self
 invariant-loop-self g l =
     (l.state ≡ l.initial.state) × (l.self.home ≡ l.initial.self.home) × (l.self.before ≡ l.initial.self.before)
+    × (l.self.word ≡ l.initial.self.word) × (l.self.words ≡ l.initial.self.words)
     × CopiesOn g.T.AtomicValue.target (FnReturnsAt g.H.Fn l.hash_fn) l.initial.self l.self
 
 abbrev pub decreases-loop-self : goal.decreases-loop-self

@@ -1,10 +1,12 @@
-use Rattle.std.proofs.Common.{◌≡◌, ◌∙◌, ◌+◌, ◌-◌, ◌<◌, Some, None, suc, length, refl, sym, ap, arith}
+use Rattle.std.proofs.Common.{◌≡◌, ◌∙◌, ◌+◌, ◌-◌, ◌<◌, Some, None, suc, length, refl, subst, sym, ap, arith, rules}
 use Rattle.std.proofs.lemmas.List.{length-set}
 use Rattle.std.specs.Fn.{FnReturnsAt}
-use Rattle.table_shared.specs.Growths.{GrowthView}
+use Rattle.std.specs.Option.{option_map}
+use Rattle.table_shared.specs.Ahead.{CopiesOn, Holds}
+use Rattle.table_shared.specs.Growths.{GrowthView, growth_of}
+use Rattle.table_shared.specs.Lineages.{names_of, words_of}
 use Rattle.table_shared.proofs.Between.{stays_building}
-use Rattle.table_shared.proofs.Ahead.{bucket_read, named_read, next_read, on_one, word_read}
-use Rattle.table_shared.specs.Ahead.{Holds}
+use Rattle.table_shared.proofs.Ahead.{bucket_read, named_read, next_read, on_one, over_none, word_read}
 use Rattle.table_generations.proofs.Windows.{first_read, one_taken}
 use Rattle.table_shared.proofs.growth.Growth.copy_window.Goals.{in-Some-take, in_default-take}
 use Rattle.table_shared.proofs.growth.Growth.copy_window.Goals as goal
@@ -86,24 +88,27 @@ loop-place-preserved g c =
           let one_home = w.insert_unique.ensures.home in
           let behind = rw at at under.behind in
           let after = w.insert_unique.new.self.contents in
+          let word = c.loop-place.self-inside.slot.id in
+          let words = words_of c.loop-place.self-inside.words.of (option_map (λ l. names_of l.words.items) c.loop-place.self-inside.words.known) in
           let bucket_is = bucket_read target rehash from i home read is w.of_naming.result w.of_naming.ensures in
           let put = rw (ap (λ b. b.content) bucket_is) at w.insert_unique.ensures.put in
-          let passed : GrowthView g.row.T.Denot = record { home = home; before = from.contents; passed = p; built = built } in
-          let more_passed : GrowthView g.row.T.Denot = record { home = home; before = from.contents; passed = i + 1; built = after } in
+          let passed : GrowthView g.row.T.Denot = record { home = home; before = from.contents; passed = p; built = built; word = word; words = words } in
+          let more_passed : GrowthView g.row.T.Denot = record { home = home; before = from.contents; passed = i + 1; built = after; word = word; words = words } in
           rw (w.self-inside-is, w.state-is) (
             i + 1,
             record {
               home_is = inv.home_is;
               from_is = inv.from_is;
+              word_is = inv.word_is;
               state_is = stays_building c.loop-place.state w.step-state.result c.args.state inv.state_is c.requires.phase w.step-state.ensures.decided;
               are_read = rw c.in-Some.is (one_taken from.contents (Holds target rehash from) _ (i + 1) left (place + 1) place _ c.loop-place.window (omega arith) rest);
-              copied = rw at (on_one target rehash c.args.self.now passed more_passed (rw at at inv.copied) refl refl (next_read target rehash from i home p built after read on within none is put));
+              copied = rw at (on_one target rehash c.args.self.now passed more_passed (rw at at inv.copied) refl refl (next_read target rehash from i home p word words built after read on within none is put));
               under_way = rw at (record {
                 home_is = one_home.0 ∙ under.home_is;
                 power = rw (put.2, length-set) under.power;
                 behind = ((one_home.0 ∙ behind.0.0, one_home.1 ∙ behind.0.1), rw (put.2, length-set) behind.1);
                 few = (let few = under.few in let size = w.insert_unique.ensures.size in omega arith);
-                all_named = named_read target rehash from i home p built after read none is put (rw at at under.all_named);
+                all_named = named_read target rehash from i home p word words built after read none is put (rw at at under.all_named);
                 is_open = under.is_open;
                 block_is = under.block_is;
               });
@@ -113,3 +118,21 @@ loop-place-preserved g c =
           let (i, on, none, is, below, rest) = first_read from.contents (Holds target rehash from) _ p _ left place c.loop-place.window None _ more (here ∙ w.in_default-take.is) are_read in
           absurd is
     ]
+
+pub loop-place-init : goal.loop-place-init
+loop-place-init g c =
+    let target = g.T.AtomicValue.target in
+    let rehash = FnReturnsAt g.H.Fn c.args.hash_fn.now in
+    let inside = c.self.inside in
+    let now = growth_of inside.home.now.id inside.from inside.copied inside.built inside.slot.id (words_of inside.words.of (option_map (λ l. names_of l.words.items) inside.words.known)) in (
+      inside.copied,
+      record {
+        home_is = refl;
+        from_is = refl;
+        state_is = refl;
+        word_is = (refl, refl);
+        are_read = search rules;
+        copied = subst (λ s. CopiesOn target rehash s now) c.self.view_is (0, now, refl, over_none now);
+        under_way = c.self.invariant;
+      },
+    )

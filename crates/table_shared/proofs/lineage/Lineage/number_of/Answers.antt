@@ -13,10 +13,10 @@ returns g c =
       | then-has_buckets w ↦
           let wide : known.0 ≡ length base.contents = ap (λ p. p.0) w.known-is ∙ w.capacity.ensures in
           let before : known.1 ≡ length es = ap (λ p. p.1) w.known-is ∙ w.len.ensures ∙ search rules in
-          of_last first es base n k number (w.if-has_buckets.ensures.some.0 refl) (λ less. c.doublings.ensures (omega (arith, less, wide)) ∙ rw wide refl) (rw (before, c.from.ensures) refl)
+          of_last es base first n k number (w.if-has_buckets.ensures.some.0 refl) (λ less. c.doublings.ensures (omega (arith, less, wide)) ∙ rw wide refl) (rw (before, c.from.ensures) refl)
       | else-has_buckets w ↦
           let wide : known.0 ≡ first = ap (λ p. p.0) w.known-is in
           let before : known.1 ≡ 0 = ap (λ p. p.1) w.known-is in
-          of_first first es base n k number (λ full. false≢true (w.if-has_buckets.ensures.some.1 full)) (λ less. c.doublings.ensures (omega (arith, less, wide)) ∙ rw wide refl)
+          of_first es base first n k number (λ full. false≢true (w.if-has_buckets.ensures.some.1 full)) (λ less. c.doublings.ensures (omega (arith, less, wide)) ∙ rw wide refl)
           (omega (arith, before, c.from.ensures))
     ])

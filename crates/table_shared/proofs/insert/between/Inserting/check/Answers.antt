@@ -32,7 +32,7 @@ invariant_of-self-in-Begun g c =
     record {
       between =
           goes_on i.between Owned Building c.step-self-in-Begun.result (Some c.in-Begun.growth) c.requires.phase (taken Owned Begun i.state c.step-self-in-Begun.result c.requires.phase c.step-self-in-Begun.ensures.decided)
-          (search rules) refl refl refl (λ _ e. absurd (cc)) (λ x e. rw (← some_same c.in-Begun.growth x e) c.in-Begun.ensures);
+          (search rules) refl refl refl (λ _ e. absurd (cc)) (λ x e. rw (← some_same c.in-Begun.growth x e) c.in-Begun.ensures.home_is);
     }
 
 pub returns-in-Unwanted : goal.returns-in-Unwanted
