@@ -36,8 +36,12 @@ impl<'a, V, L: SetLaw<V>, A: Low + Copy> Handle<'a, V, L, A> {
         generation.entry(&set.slab, &self.cursor.entries, number)
     }
 
-    /// Returns the entry of this number, which it has for good. `None` means that no entry known to this handle has the number. It looks
-    /// through the buckets, in a time that grows with their number; `known_entry` looks at none.
+    /// Returns the entry of this number, which it has for good. `None` means that no entry known to this handle has the number.
+    ///
+    /// It reads one word if a hint names the number. The first call that finds no hint in a generation reads each bucket and hints the number
+    /// of each entry; after that inserts hint what they place. A call reads buckets again for a number that nobody has, for one that no
+    /// hint covers (they cover as many numbers as there are buckets), and for one whose insert hasn't hinted it yet. `known_entry` reads
+    /// no bucket.
     pub fn entry(&mut self, number: u64) -> Option<&'a V>
         ensures known { KnowsMore self.old self.new }
         ensures finds { MatchOption result (IsTaken self.new.history number → ⊥)

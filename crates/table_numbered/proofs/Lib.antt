@@ -18,3 +18,4 @@ mod Picks
 mod Owed
 mod Known
 mod Walked
+mod Hinted

@@ -1,6 +1,5 @@
 -- What a walk over the buckets of a generation has met.
-use Rattle.std.proofs.Common.{◌≡◌, ◌≢◌, ℕ, ◌+◌, ◌<◌, Bool, true, ap, sym, subst, arith}
-use Rattle.std.specs.Prelude.{MatchOption, Option, Some, None}
+use Rattle.std.proofs.Common.{◌≡◌, ◌≢◌, ℕ, ◌+◌, ◌<◌, Bool, true, ap, subst, arith}
 use mathlib.Core.List.{IsPrefix}
 use mathlib.Core.Logic.{dite}
 use native.Mathlib.Decide.{ℕ_discrete}
@@ -8,7 +7,7 @@ use Rattle.table_terms.specs.Laws.{IsLaw}
 use Rattle.table_numbered.specs.declared.event.Numbered.{Numbered}
 use Rattle.table_numbered.specs.declared.event.Stored.TheVariants.{Entry}
 use Rattle.table_numbered.specs.Words.{numbered, alike, marked}
-use Rattle.table_numbered.specs.History.{History, Stands, IsFree, HasSize, Says, IsReached, OneValue}
+use Rattle.table_numbered.specs.History.{History, IsFree, HasSize, Says, IsReached, OneValue}
 use Rattle.table_numbered.specs.Walking.{IsTaken, HasAt, IsOnlyAt}
 use Rattle.table_numbered.proofs.Histories.{stands_on, untouched_free, closed_free, same_value, has_inside, one_bucket}
 use Rattle.table_numbered.proofs.Marks.{alike_lawful}

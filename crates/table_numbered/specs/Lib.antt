@@ -6,3 +6,4 @@ pub mod Generations
 pub mod Carrying
 pub mod Ending
 pub mod Walking
+pub mod Hints

@@ -8,6 +8,7 @@ ghost use Rattle.table_numbered.specs.Generations.{IsOf};
 ghost use Rattle.table_numbered.specs.declared.event.Stored.TheVariants.{Closed};
 
 use crate::bucket::{close, look};
+use crate::hints::{Hints, words_for};
 use crate::row::Row;
 use crate::rule::Token;
 use crate::trade::{known, known_by};
@@ -24,22 +25,24 @@ use table_terms::law::SetLaw;
 #[derive(Drop)]
 pub struct Generation<V, L: SetLaw<V>, A: Allocator> {
     pub(crate) row: Row<V, L, A>,
+    pub(crate) hints: Hints<V, L, A>,
 }
 
 impl<V, L: SetLaw<V>, A: Allocator> Model for Generation<V, L, A> {
     ghost use Rattle.table_numbered.specs.History.{IsWhole};
     ghost use Rattle.table_numbered.specs.Generations.{GenerationView};
+    ghost use Rattle.table_numbered.specs.Hints.{AreHints};
 
     ghost Value = { GenerationView V };
 
     ghost view = { λ g. g.row };
 
-    ghost invariant = { λ g. IsWhole g.row.start };
+    ghost invariant = { λ g. IsWhole g.row.start × AreHints g.row.of.book g.hints };
 }
 
 impl<V, L: SetLaw<V>, A: Low + Copy> Generation<V, L, A> {
-    /// Makes an empty one of this many buckets, a power of two, over the slab. It takes one block of memory, and nothing where
-    /// that is refused.
+    /// Makes an empty one of this many buckets, a power of two, over the slab. It takes two blocks of memory, for the buckets and for
+    /// hints, and nothing where one is refused.
     pub fn new(alloc: A, slab: &Slab<V, A>, buckets: usize) -> Result<Self, AllocError>
         requires power { IsPowerOfTwo buckets }
         requires few { buckets ≤ 2 ^ 32 }
@@ -48,8 +51,11 @@ impl<V, L: SetLaw<V>, A: Low + Copy> Generation<V, L, A> {
         ensures empty { IfOk result (λ g. g.start ≡ event buckets None ∷ []) }
     {
         let room = Vec::with_capacity(alloc, buckets)?;
+        let words = words_for(buckets);
+        let more = Vec::with_capacity(alloc, words)?;
         let row = Row::empty(room, slab, buckets);
-        Ok(Generation { row })
+        let hints = Hints::new(more, &row.begin(), words, false);
+        Ok(Generation { row, hints })
     }
 
     /// Returns what is known of it from the first.

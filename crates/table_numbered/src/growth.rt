@@ -4,11 +4,13 @@ ghost use mathlib.Core.List.{IsPrefix};
 ghost use Rattle.table_numbered.specs.Words.{alike, marked};
 ghost use Rattle.table_numbered.specs.History.{IsFull, IsWhole, Says, Stands, due_of};
 ghost use Rattle.table_numbered.specs.Generations.{IsOf, IsKnown};
+ghost use Rattle.table_numbered.specs.Hints.{AreHints};
 ghost use Rattle.table_numbered.specs.Carrying.{IsLoad, AreOwed, IsCarried, Carries, BeginsAs, entry_of};
 ghost use Rattle.table_numbered.specs.declared.growth.Refused.TheVariants.{Buckets};
 
 use crate::carrying::Load;
 use crate::generation::Generation;
+use crate::hints::{Hints, words_for};
 use crate::row::Row;
 use crate::rule::Token;
 use crate::trade::known;
@@ -27,16 +29,17 @@ pub enum Refused {
 }
 
 impl<V, L: SetLaw<V>, A: Allocator> Row<V, L, A> {
-    /// Returns the generation of this row, of which this history is known from the first.
-    fn begun(self, seen: Token<V, L>) -> Generation<V, L, A>
+    /// Returns the generation of this row, of which this history is known from the first, with hints.
+    fn begun(self, seen: Token<V, L>, hints: Hints<V, L, A>) -> Generation<V, L, A>
         requires known { IsKnown L.same L.hash_of self.of seen.book seen.names seen.log }
         requires whole { IsWhole seen.log }
+        requires hints { AreHints seen.book hints }
         ensures of { result.of ≡ self.of }
         ensures start { result.start ≡ seen.log }
     {
         let Row { words, start: _ } = self;
         let row = Row { words, start: seen };
-        Generation { row }
+        Generation { row, hints }
     }
 }
 
@@ -121,7 +124,7 @@ impl<V, L: SetLaw<V>, A: Low + Copy> Generation<V, L, A> {
     }
 
     /// Makes the next generation, of twice the buckets. This one is closed, and each of its entries is carried: none is moved, and
-    /// none is read. It takes one block of memory, before a bucket is closed. A refusal closes nothing.
+    /// none is read. It takes two blocks of memory, before a bucket is closed. A refusal closes nothing.
     pub fn grown(&self, alloc: A, seen: &mut Token<V, L>) -> Result<Self, Refused>
         requires of { IsOf L.same L.hash_of self.now.of seen.old.book seen.old.names seen.old.log }
         ensures of { IsOf L.same L.hash_of self.now.of seen.new.book seen.new.names seen.new.log }
@@ -141,10 +144,15 @@ impl<V, L: SetLaw<V>, A: Low + Copy> Generation<V, L, A> {
         let Ok(room) = Vec::with_capacity(alloc, 2 * count) else {
             return Err(Refused::Memory);
         };
+        let words = words_for(2 * count);
+        let Ok(more) = Vec::with_capacity(alloc, words) else {
+            return Err(Refused::Memory);
+        };
         self.close_all(seen);
         let next = Row::after(room, seen, 2 * count);
         let mut fresh = next.begin();
         self.carry_all(seen, &next, &mut fresh);
-        Ok(next.begun(fresh))
+        let hints = Hints::new(more, &fresh, words, self.hints.are_wanted());
+        Ok(next.begun(fresh, hints))
     }
 }

@@ -7,6 +7,7 @@ mod ending;
 mod event;
 mod generation;
 mod growth;
+mod hints;
 mod place;
 mod probe;
 mod row;

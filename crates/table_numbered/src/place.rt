@@ -188,7 +188,10 @@ impl<V, L: SetLaw<V>, A: Low + Copy> Generation<V, L, A> {
         };
         for _claimed in 0..count {
             match self.claim(slab, seen, index, coming) {
-                Claim::Placed(entry) => return Placing::Placed(entry),
+                Claim::Placed(entry) => {
+                    self.hint_placed(seen, number);
+                    return Placing::Placed(entry);
+                }
                 Claim::Met(met, entry, back) => {
                     return Placing::Found(met, entry, back.value, back.right);
                 }

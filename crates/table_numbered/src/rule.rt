@@ -21,12 +21,13 @@ impl<V, L: Law<V>> Rule<Event<Stored<Numbered<V>>>, u64> for SetRule<V, L> {
     ghost use Rattle.table_numbered.specs.Words.{alike, marked};
     ghost use Rattle.table_numbered.specs.History.{IsKept, Moved};
     ghost use Rattle.table_numbered.specs.Kept.{all_kept};
+    ghost use Rattle.table_numbered.specs.Hints.{NamesTaken};
 
     ghost holds = { λ cells log. IsKept (alike L.same) (marked L.hash_of) cells log };
 
     ghost first = { [] };
 
-    ghost hinted = { λ number log. Unit {0} };
+    ghost hinted = { λ word log. NamesTaken word log };
 
     ghost shows = { λ log. log };
 

@@ -16,7 +16,7 @@ use table_terms::law::SetLaw;
 
 impl<V, L: SetLaw<V>, A: Low + Copy> Generation<V, L, A> {
     /// Returns the number of the entry that the bucket has by now. `None` means that it has no entry. It reads no entry.
-    fn number_at(&self, seen: &mut Token<V, L>, index: usize) -> Option<u64>
+    pub(crate) fn number_at(&self, seen: &mut Token<V, L>, index: usize) -> Option<u64>
         requires of { IsOf L.same L.hash_of self.now.of seen.old.book seen.old.names seen.old.log }
         requires inside { index < self.now.of.size }
         ensures of { IsOf L.same L.hash_of self.now.of seen.new.book seen.new.names seen.new.log }
@@ -70,9 +70,9 @@ impl<V, L: SetLaw<V>, A: Low + Copy> Generation<V, L, A> {
         }
     }
 
-    /// Returns true if an entry has this number by now. `false` means that no entry known to the caller before has it. It looks at each
-    /// bucket until it comes to the number, and it reads no entry.
-    pub fn has_number(&self, seen: &mut Token<V, L>, number: u64) -> bool
+    /// Returns true if the entry of a bucket has this number by now. `false` means that no entry known to the caller before has it. It
+    /// looks at each bucket until it comes to the number, and it reads no entry.
+    fn is_met(&self, seen: &mut Token<V, L>, number: u64) -> bool
         requires of { IsOf L.same L.hash_of self.now.of seen.old.book seen.old.names seen.old.log }
         ensures of { IsOf L.same L.hash_of self.now.of seen.new.book seen.new.names seen.new.log }
         ensures longer { IsPrefix seen.old.log seen.new.log }
@@ -85,5 +85,25 @@ impl<V, L: SetLaw<V>, A: Low + Copy> Generation<V, L, A> {
             }
         }
         false
+    }
+
+    /// Returns true if an entry has this number by now. `false` means that no entry known to the caller before has it. A number that a
+    /// hint names costs the read of one word. For the first one that no hint names it reads each bucket, and hints the number of each
+    /// entry; for a later one it reads buckets until it comes to the number. It reads no entry.
+    pub fn has_number(&self, seen: &mut Token<V, L>, number: u64) -> bool
+        requires of { IsOf L.same L.hash_of self.now.of seen.old.book seen.old.names seen.old.log }
+        ensures of { IsOf L.same L.hash_of self.now.of seen.new.book seen.new.names seen.new.log }
+        ensures longer { IsPrefix seen.old.log seen.new.log }
+        ensures there { result ≡ true → IsTaken seen.new.log number }
+        ensures none { result ≡ false → IsTaken seen.old.log number → ⊥ }
+    {
+        if self.is_hinted(seen, number) {
+            return true;
+        }
+        self.hint_all(seen);
+        if self.is_hinted(seen, number) {
+            return true;
+        }
+        self.is_met(seen, number)
     }
 }

@@ -7,7 +7,7 @@ ghost use Rattle.table_numbered.specs.Probing.{bucket_at};
 const SPREADING: u64 = 0xD134_2543_DE82_EF95;
 
 /// Two to the power of 32.
-const HALF: u64 = 4294967296;
+pub(crate) const HALF: u64 = 4294967296;
 
 /// Returns the upper half of the hash, spread over 64 bits.
 pub(crate) fn mark_of_hash(hash: u64) -> u64

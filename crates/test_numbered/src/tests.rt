@@ -5,5 +5,6 @@ mod ending;
 mod growing;
 mod laws;
 mod made;
+mod numbers;
 mod refusing;
 mod threads;

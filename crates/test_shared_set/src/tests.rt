@@ -2,6 +2,7 @@ mod alone;
 mod caller;
 mod drops;
 mod ending;
+mod hinted;
 mod keys;
 mod made;
 mod memory;

@@ -27,18 +27,18 @@ fn story(heap: &Heap, drops: &Arc<AtomicU64>) -> Option<usize> {
     Some(values.len())
 }
 
-/// A slab asks for its cells, a generation for its words, a first number for its chunk and the chunk's box, growth for its words, and
-/// the end for room and for cells: that is all.
+/// A slab asks for its cells, a generation for its words and for those of hints, a first number for its chunk and the chunk's box, growth
+/// for its words and for those of hints, and the end for room and for cells: that is all.
 #[test]
-fn each_of_seven_requests_is_refused_in_turn(rt: HostRuntime) -> Result<(), Fail> {
+fn each_of_nine_requests_is_refused_in_turn(rt: HostRuntime) -> Result<(), Fail> {
     let drops = Arc::new(rt.alloc(), AtomicU64::new(0))?;
     let heap = counted(rt.alloc());
-    for passing in 0u64..7 {
+    for passing in 0u64..9 {
         heap.refuse(passing, 1);
         assert_same(&rt, story(&heap, &drops), None);
         assert_same(&rt, heap.granted(), heap.given_back());
     }
-    heap.refuse(7, 1);
+    heap.refuse(9, 1);
     assert_same(&rt, story(&heap, &drops), Some(1));
     assert_same(&rt, heap.refusals_left(), 1);
     assert_same(&rt, heap.granted(), heap.given_back());

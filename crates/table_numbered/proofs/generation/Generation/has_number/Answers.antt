@@ -1,16 +1,12 @@
-use Rattle.std.proofs.Common.{arith}
 use base.Growing.{prefix_trans}
-use Rattle.table_numbered.proofs.Walked.{passed_next, not_taken}
+use Rattle.table_numbered.proofs.Hinted.{taken_on}
 use Rattle.table_numbered.proofs.generation.Generation.has_number.Goals as goal
 
-pub loop-index-preserved : goal.loop-index-preserved
-loop-index-preserved g c = let i = c.loop-index.invariant in let e = c.has_at.ensures in let on = prefix_trans c.args.seen.now.log c.loop-index.seen.log c.has_at.new.seen.log i.longer e.longer in record {
-  of = e.of;
-  longer = on;
-  passed = passed_next g.L.Law.same g.L.Law.hash_of c.args.number c.loop-index.index c.args.seen.now.log c.has_at.new.seen.log on i.passed (e.other c.if-has_at.false);
-}
-
 pub returns-clause-none : goal.returns-clause-none
-returns-clause-none g c not_met = let i = c.loop-index.invariant in let n = c.args.self.now.of.size in
-    not_taken g.L.Law.same g.L.Law.hash_of n c.args.number c.args.seen.now.log c.requires.of.2 c.requires.of.3
-    (λ p lt. i.passed p (omega (arith, lt, c.loop-index-test.false, c.buckets-index-end.ensures.size)))
+returns-clause-none g c not_met taken = let start = c.args.seen.now.log in let first = c.is_hinted.new.seen.log in let marked = c.hint_all.new.seen.log in let second = c.is_hinted-2.new.seen.log in
+    c.is_met.ensures.none not_met (taken_on c.args.number start second
+    (prefix_trans start first second c.is_hinted.ensures.longer (prefix_trans first marked second c.hint_all.ensures.longer c.is_hinted-2.ensures.longer)) taken)
+
+pub returns-clause-longer : goal.returns-clause-longer
+returns-clause-longer g c = let start = c.args.seen.now.log in let first = c.is_hinted.new.seen.log in let marked = c.hint_all.new.seen.log in let second = c.is_hinted-2.new.seen.log in let last = c.is_met.new.seen.log in
+    prefix_trans start first last c.is_hinted.ensures.longer (prefix_trans first marked last c.hint_all.ensures.longer (prefix_trans marked second last c.is_hinted-2.ensures.longer c.is_met.ensures.longer))

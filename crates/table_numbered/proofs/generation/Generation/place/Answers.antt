@@ -3,7 +3,9 @@ use base.Growing.{prefix_refl, prefix_trans}
 use Rattle.table_numbered.specs.declared.place.Claim.TheVariants as claim
 use Rattle.table_numbered.specs.Words.{mark_of, numbered, alike, marked}
 use Rattle.table_numbered.specs.History.{Reaches}
+use Rattle.table_numbered.specs.declared.event.Stored.TheVariants.{Entry}
 use Rattle.table_numbered.proofs.Histories.{closed_free}
+use Rattle.table_numbered.proofs.Steps.{added}
 use Rattle.table_numbered.proofs.Meetings.{claims_of, coming_as}
 use Rattle.table_numbered.proofs.Probes.{goes_first, goes_on, goes_closed, goes_none, goes_round, goes_reaches, goes_placed}
 use Rattle.table_numbered.proofs.generation.Generation.place.Goals as goal
@@ -69,3 +71,8 @@ returns-in-Closed-clause-told g c = let of = c.claim.ensures.of in let new = c.c
 
 pub returns-in-Closed-clause-full : goal.returns-in-Closed-clause-full
 returns-in-Closed-clause-full g c = goes_closed c.loop-claimed.invariant.goes c.claim.new.seen.log c.claim.ensures.longer c.in-Closed.ensures.told.1
+
+pub hint_placed-requires-clause-taken : goal.hint_placed-requires-clause-taken
+hint_placed-requires-clause-taken g c = let inv = c.loop-claimed.invariant in
+    let told = claims_of g.L.Law.same g.L.Law.hash_of {A = g.row.A.Denot} c.args.self.now.of.slab c.loop-claimed.coming.value c.args.value c.loop-claimed.coming.number c.args.number c.loop-claimed.index c.loop-claimed.seen.log c.claim.new.seen.log (claim.Placed c.in-Placed.entry) inv.coming.value inv.coming.number c.in-Placed.ensures.told in
+    (c.args.value, (c.loop-claimed.index, added (alike g.L.Law.same) (marked g.L.Law.hash_of) c.loop-claimed.index (Entry (numbered c.args.number c.args.value)) c.loop-claimed.seen.log c.claim.new.seen.log told.1))

@@ -7,4 +7,4 @@ use Rattle.table_numbered.proofs.generation.Generation.start.Goals as goal
 pub returns-clause-of : goal.returns-clause-of
 returns-clause-of g c = let e = c.begin.ensures in let r = c.begin.result in
     subst (λ (t : SetView). IsOf g.L.Law.same g.L.Law.hash_of t r.book r.names r.log) (ap (λ x. x.of) c.self.view_is)
-    (of_known g.L.Law.same g.L.Law.hash_of c.self.inside.row.of r.book r.names r.log e.known (subst IsWhole (sym e.log) c.self.invariant))
+    (of_known g.L.Law.same g.L.Law.hash_of c.self.inside.row.of r.book r.names r.log e.known (subst IsWhole (sym e.log) c.self.invariant.0))

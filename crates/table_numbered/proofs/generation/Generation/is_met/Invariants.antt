@@ -1,7 +1,7 @@
 use mathlib.Core.List.{IsPrefix}
 use Rattle.table_numbered.specs.Generations.{IsOf}
 use Rattle.table_numbered.proofs.Walked.{HasPassedAll}
-use Rattle.table_numbered.proofs.generation.Generation.has_number.Given as goal
+use Rattle.table_numbered.proofs.generation.Generation.is_met.Given as goal
 
 abbrev pub invariant-loop-index : goal.invariant-loop-index
 invariant-loop-index g l = record {
