@@ -7,6 +7,7 @@ mod made;
 mod memory;
 mod numbers;
 mod runs;
+mod sharing;
 mod telling;
 mod threads;
 mod walks;
