@@ -7,3 +7,4 @@ mod Supplying
 mod Sizes
 pub mod Placing
 mod Walking
+mod Sharing

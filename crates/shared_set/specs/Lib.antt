@@ -5,3 +5,4 @@ pub mod Inserting
 pub mod Walks
 pub mod Getting
 pub mod Ending
+pub mod Sharing

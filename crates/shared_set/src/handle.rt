@@ -27,6 +27,8 @@ pub struct Handle<'a, V, L: SetLaw<V>, A: Low + Copy = Global> {
     pub(crate) supply: Supply<V, A>,
     /// How many values this handle placed that the set has not counted.
     pub(crate) uncounted: u64,
+    /// How many values this handle places before the set counts them.
+    pub(crate) portion: u64,
 }
 
 impl<'a, V, L: SetLaw<V>, A: Low + Copy> Model for Handle<'a, V, L, A> {
@@ -159,6 +161,7 @@ impl<V, L: SetLaw<V>, A: Low + Copy> Drop for Handle<'_, V, L, A> {
             cursor: _,
             supply,
             uncounted,
+            portion: _,
         } = self;
         supply.give_back(&set.slab);
         if uncounted > 0 {

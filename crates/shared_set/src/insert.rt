@@ -36,19 +36,21 @@ pub(crate) enum Attempt<'a, V> {
 /// The longest run of numbers that a handle asks for.
 const LONGEST_RUN: usize = 64;
 
-/// How many values a handle places before the set counts them.
-const COUNTED: u64 = 64;
+/// The most values that a handle places before the set counts them.
+const MOST_UNCOUNTED: u64 = 64;
 
 impl<'a, V, L: SetLaw<V>, A: Low + Copy> Handle<'a, V, L, A> {
-    /// Counts a value that was placed with this number, and grows the set if its generation is half full.
+    /// Counts a value that was placed with this number, and grows the set if its generation is half full. The set counts a handle's first
+    /// value at once, and then the values in portions of 2, 4 and so on up to 64.
     fn count(&mut self, number: u64)
         ensures { self.new ≡ self.old }
     {
         let set = self.set;
         self.uncounted = self.uncounted.wrapping_add(1);
-        if self.uncounted == COUNTED {
+        if self.uncounted >= self.portion {
+            set.placed.fetch_add(self.uncounted, SeqCst);
             self.uncounted = 0;
-            set.placed.fetch_add(COUNTED, SeqCst);
+            self.portion = min(MOST_UNCOUNTED, self.portion.saturating_mul(2));
         }
         if number >= self.stage.generation().buckets() as u64 / 2 {
             set.grow_if_free(&self.cursor, self.stage);

@@ -11,6 +11,7 @@ mod iter;
 mod known;
 mod numbers;
 mod set;
+mod share;
 mod stage;
 mod supply;
 
@@ -21,4 +22,5 @@ pub use insert::Inserted;
 pub use iter::Iter;
 pub use known::Known;
 pub use set::SharedSet;
+pub use share::{Partly, Share, Shared, Unshared};
 pub use table_numbered::{KeyLaw, MetBy, SameAs, SetLaw, Sought};

@@ -107,10 +107,17 @@ impl<V, L: SetLaw<V>, A: Low + Copy> SharedSet<V, L, A> {
         }
     }
 
-    /// Returns the number of values that were placed, as far as handles have counted them: a handle counts 64 values at a time, and the
-    /// rest when it is dropped.
+    /// Returns the number of values that were placed, as far as handles have counted them. A handle counts its first value before that
+    /// insert returns, then 2, 4, 8, 16 and 32 values at a time, then 64 at a time, and the rest when it is dropped. `insert` of the set
+    /// itself counts its value before it returns.
     pub fn len(&self) -> u64 {
         self.placed.load(SeqCst)
+    }
+
+    /// Returns true if no value was counted, as `len` counts them. A handle counts its first value before that insert returns, so a set
+    /// of which an insert has returned `Placed` is not empty.
+    pub fn is_empty(&self) -> bool {
+        self.len() == 0
     }
 
     /// Returns a slot that has a stage: the newest one of which the set has been told.
@@ -162,6 +169,7 @@ impl<V, L: SetLaw<V>, A: Low + Copy> SharedSet<V, L, A> {
             cursor,
             supply: Supply::new(),
             uncounted: 0,
+            portion: 1,
         }
     }
 

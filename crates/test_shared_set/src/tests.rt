@@ -8,6 +8,7 @@ mod made;
 mod memory;
 mod numbers;
 mod runs;
+mod sharing;
 mod telling;
 mod threads;
 mod walks;
