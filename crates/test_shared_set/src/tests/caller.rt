@@ -64,7 +64,9 @@ pub(crate) fn assert_has<A: Low + Copy>(
     rt: &impl Abort,
     handle: &mut Handle<'_, u64, NumberLaw, A>,
     end: u64,
-) {
+)
+    ensures { handle.new.of ≡ handle.old.of }
+{
     for value in 0..end {
         assert_same(rt, handle.get(&value), Some(&value));
     }

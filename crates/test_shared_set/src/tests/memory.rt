@@ -158,15 +158,22 @@ fn what_is_found_needs_no_memory(rt: HostRuntime) {
     );
 }
 
+/// For how many entries a set is to have room, and how many refusals are left then of the most: a set of 2^31 asks for memory.
+const TOO_MANY: [(usize, u64); 3] = [
+    (1 << 31, u64::MAX - 1),
+    ((1 << 31) + 1, u64::MAX),
+    (usize::MAX, u64::MAX),
+];
+
 /// A set may have room for as many entries as half of its most buckets hold, which are 2^32, and for no more.
 #[test]
 fn too_many_entries_are_refused(rt: HostRuntime) {
     let heap = Refusing::new(rt.alloc(), Rule::new(1 << 30, usize::MAX, 0, u64::MAX));
-    for (room, asked) in [(1usize << 31, 1), ((1 << 31) + 1, 0), (usize::MAX, 0)] {
+    for (room, left) in TOO_MANY {
         heap.refuse(0, u64::MAX);
         let made: Result<Numbers<'_>, _> = SharedSet::with_capacity(&heap, room);
         assert!(rt; made.is_err());
-        assert_same(&rt, heap.refusals_left(), u64::MAX - asked);
+        assert_same(&rt, heap.refusals_left(), left);
         assert_none_out(&rt, &heap);
     }
 }

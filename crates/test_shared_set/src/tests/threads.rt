@@ -27,15 +27,6 @@ const SETS: [(usize, u64, u64, u64); 5] = [
 /// How often an insert is tried.
 const TRIES: u32 = 1000;
 
-/// What threads share that fill a set.
-#[derive(Drop)]
-struct Filling<'s, 'h> {
-    set: &'s Numbers<'h>,
-    placed: AtomicU64,
-    /// The numbers below this one are placed.
-    end: u64,
-}
-
 /// Inserts the number, again if it is refused, and counts it if this thread placed it. Returns false if it was refused too often, if
 /// another number was shown or returned, or if it isn't found.
 fn place(handle: &mut Numbering<'_, '_>, placed: &AtomicU64, number: u64) -> bool
@@ -53,65 +44,98 @@ fn place(handle: &mut Numbering<'_, '_>, placed: &AtomicU64, number: u64) -> boo
     false
 }
 
-impl<'s, 'h> Filling<'s, 'h> {
-    /// Inserts the numbers from this one on. Returns None if it went wrong.
-    fn fill(&self, from: u64) -> Option<Knows<'h>>
-        ensures { IfSome result (λ k. k.of ≡ self.now.set.now.of) }
-    {
-        let mut handle = self.set.handle();
-        for number in from..self.end {
-            if !place(&mut handle, &self.placed, number) {
-                return None;
-            }
+/// Inserts the numbers of a range. Returns None if it went wrong.
+fn fill<'h>(set: &Numbers<'h>, placed: &AtomicU64, from: u64, end: u64) -> Option<Knows<'h>>
+    ensures { IfSome result (λ k. k.of ≡ set.now.of) }
+{
+    let mut handle = set.handle();
+    for number in from..end {
+        if !place(&mut handle, placed, number) {
+            return None;
         }
-        Some(handle.tell())
     }
+    Some(handle.tell())
+}
 
-    /// Two threads insert the numbers from two on, and one hears what the other knows.
-    fn fill_by_two<R: Threads + Sync>(&self, rt: &R, from: [u64; 2]) -> Option<Knows<'h>>
-        ensures { IfSome result (λ k. k.of ≡ self.now.set.now.of) }
-    {
-        let [first, second] = from;
-        let (one, other) = join(
-            rt,
-            || -> Option<Knows<'_>>
-                ensures { IfSome result (λ k. k.of ≡ self.entry.now.set.now.of) }
-            { self.fill(first) },
-            || -> Option<Knows<'_>>
-                ensures { IfSome result (λ k. k.of ≡ self.entry.now.set.now.of) }
-            { self.fill(second) },
-        );
-        self.both(one?, other?)
-    }
+/// Two threads insert the numbers of a range each, and one hears what the other knows.
+fn fill_by_two<'h, R: Threads + Sync>(
+    rt: &R,
+    set: &Numbers<'h>,
+    placed: &AtomicU64,
+    from: [u64; 2],
+    end: u64,
+) -> Option<Knows<'h>>
+    ensures { IfSome result (λ k. k.of ≡ set.now.of) }
+{
+    let [first, second] = from;
+    let (one, other) = join(
+        rt,
+        || -> Option<Knows<'_>>
+            ensures { IfSome result (λ k. k.of ≡ set.entry.now.of) }
+        { fill(set, placed, first, end) },
+        || -> Option<Knows<'_>>
+            ensures { IfSome result (λ k. k.of ≡ set.entry.now.of) }
+        { fill(set, placed, second, end) },
+    );
+    both(set, one, other)
+}
 
-    /// Four threads insert the numbers from four on, and one hears what the others know.
-    fn fill_by_four<R: Threads + Sync>(&self, rt: &R, from: [u64; 4]) -> Option<Knows<'h>>
-        ensures { IfSome result (λ k. k.of ≡ self.now.set.now.of) }
-    {
-        let [a, b, c, d] = from;
-        let (one, other) = join(
-            rt,
-            || -> Option<Knows<'_>>
-                ensures { IfSome result (λ k. k.of ≡ self.entry.now.set.now.of) }
-            { self.fill_by_two(rt, [a, b]) },
-            || -> Option<Knows<'_>>
-                ensures { IfSome result (λ k. k.of ≡ self.entry.now.set.now.of) }
-            { self.fill_by_two(rt, [c, d]) },
-        );
-        self.both(one?, other?)
-    }
+/// Four threads insert the numbers of a range each, and one hears what the others know.
+fn fill_by_four<'h, R: Threads + Sync>(
+    rt: &R,
+    set: &Numbers<'h>,
+    placed: &AtomicU64,
+    from: [u64; 4],
+    end: u64,
+) -> Option<Knows<'h>>
+    ensures { IfSome result (λ k. k.of ≡ set.now.of) }
+{
+    let [a, b, c, d] = from;
+    let (one, other) = join(
+        rt,
+        || -> Option<Knows<'_>>
+            ensures { IfSome result (λ k. k.of ≡ set.entry.now.of) }
+        { fill_by_two(rt, set, placed, [a, b], end) },
+        || -> Option<Knows<'_>>
+            ensures { IfSome result (λ k. k.of ≡ set.entry.now.of) }
+        { fill_by_two(rt, set, placed, [c, d], end) },
+    );
+    both(set, one, other)
+}
 
-    /// Returns what is known to one that hears both.
-    fn both(&self, one: Knows<'h>, other: Knows<'h>) -> Option<Knows<'h>>
-        requires one { one.of ≡ self.now.set.now.of }
-        requires other { other.of ≡ self.now.set.now.of }
-        ensures { IfSome result (λ k. k.of ≡ self.now.set.now.of) }
-    {
-        let mut handle = self.set.handle();
-        handle.hear(&one);
-        handle.hear(&other);
-        Some(handle.tell())
+/// Returns what is known to a handle that hears both. Returns None if one isn't there.
+fn both<'h>(
+    set: &Numbers<'h>,
+    one: Option<Knows<'h>>,
+    other: Option<Knows<'h>>,
+) -> Option<Knows<'h>>
+    requires one { IfSome one (λ k. k.of ≡ set.now.of) }
+    requires other { IfSome other (λ k. k.of ≡ set.now.of) }
+    ensures { IfSome result (λ k. k.of ≡ set.now.of) }
+{
+    let mut handle = set.handle();
+    handle.hear(&one?);
+    handle.hear(&other?);
+    Some(handle.tell())
+}
+
+/// Two or four threads insert the numbers below the last one, each from its own first number on, and one hears what the others know.
+fn fill_at_once<'h, R: Threads + Sync>(
+    rt: &R,
+    set: &Numbers<'h>,
+    placed: &AtomicU64,
+    apart: u64,
+    end: u64,
+    by_four: bool,
+) -> Option<Knows<'h>>
+    ensures { IfSome result (λ k. k.of ≡ set.now.of) }
+{
+    if by_four {
+        let twice = apart.wrapping_mul(2);
+        let from = [0, apart, twice, twice.wrapping_add(apart)];
+        return fill_by_four(rt, set, placed, from, end);
     }
+    fill_by_two(rt, set, placed, [0, apart], end)
 }
 
 /// Two or four threads fill a set: each number is placed by one of them, and found by one that heard all.
@@ -122,21 +146,13 @@ fn assert_fills<R: Abort + Threads + Sync>(
     apart: u64,
     by_four: bool,
 ) {
-    let filling = Filling {
-        set,
-        placed: AtomicU64::new(0),
-        end: numbers,
-    };
-    let twice = apart.wrapping_mul(2);
-    let known = if by_four {
-        filling.fill_by_four(rt, [0, apart, twice, twice.wrapping_add(apart)])
-    } else {
-        filling.fill_by_two(rt, [0, apart])
-    };
+    let placed = AtomicU64::new(0);
+    let known = fill_at_once(rt, set, &placed, apart, numbers, by_four);
+    let known = known.expect(rt, "what is known");
     let mut handle = set.handle();
-    handle.hear(&known.expect(rt, "what is known"));
+    handle.hear(&known);
     assert_has(rt, &mut handle, numbers);
-    assert_same(rt, filling.placed.load(SeqCst), numbers);
+    assert_same(rt, placed.load(SeqCst), numbers);
     assert_same(rt, set.len(), numbers);
 }
 

@@ -1,4 +1,6 @@
 //! Walks over the entries.
+ghost use Rattle.std.specs.Prelude.{◌≡◌};
+
 use super::caller::{Numbering, Numbers, Told, assert_none_out, assert_same, counted, insert};
 use shared_set::SharedSet;
 use std::alloc::Global;
@@ -8,7 +10,9 @@ use std::process::Abort;
 const COUNTS: [usize; 6] = [0, 1, 8, 9, 100, 1000];
 
 /// Inserts the values of a range.
-fn fill(rt: &impl Abort, handle: &mut Numbering<'_, '_>, from: u64, to: u64) {
+fn fill(rt: &impl Abort, handle: &mut Numbering<'_, '_>, from: u64, to: u64)
+    ensures { handle.new.of ≡ handle.old.of }
+{
     for value in from..to {
         assert_same(rt, insert(handle, value).0, Told::Placed);
     }
