@@ -17,5 +17,8 @@ fn main(rt: HostRuntime) -> io::Result<()> {
         }
     }
     println!(rt; "{told} rounds: who was told of both numbers found both")?;
-    println!(rt; "placed in a set that two threads own: {}", place_by_two(&rt, rt.alloc(), 1000)?)
+    println!(rt;
+        "placed in a set that two threads own: {}",
+        place_by_two(&rt, rt.alloc(), 1000)?
+    )
 }
