@@ -31,7 +31,7 @@ fn filled<'h>(heap: &'h Heap, room: usize, values: &Drops) -> Option<Counts<'h>>
 
 /// Makes a set, which may be refused some times.
 fn made(heap: &Heap, room: usize) -> Option<Counts<'_>> {
-    for _tried in 0..1000u32 {
+    for _tried in 0..100_000u32 {
         if let Ok(set) = SharedSet::with_capacity(heap, room) {
             return Some(set);
         }
