@@ -1,6 +1,6 @@
 //! A set of one owner becomes one that threads share.
 use super::caller::{Heap, Numbers, assert_none_out, assert_same, counted, insert};
-use shared_set::{Inserted, Partly, Share, Shared, SharedSet, Unshared};
+use shared_set::{Handle, Inserted, Partly, Share, Shared, SharedSet, Unshared};
 use std::alloc::{AllocError, Global};
 use std::process::Abort;
 use std::sync::Arc;
@@ -17,8 +17,8 @@ type Held<'h> = HeldSet<Box<Counting>, CountingLaw, &'h Heap>;
 /// The set that threads share.
 type Boxes<'h> = SharedSet<Box<Counting>, OfTarget<CountingLaw>, &'h Heap>;
 
-/// Such a set, with what is known of it.
-type SharedBoxes<'h> = Shared<Box<Counting>, OfTarget<CountingLaw>, &'h Heap>;
+/// A handle of it.
+type Boxing<'s, 'h> = Handle<'s, Box<Counting>, OfTarget<CountingLaw>, &'h Heap>;
 
 /// What is left of a set that could not be shared.
 type Left<'h> = Unshared<Box<Counting>, CountingLaw, &'h Heap>;
@@ -35,15 +35,13 @@ fn held<'h>(heap: &'h Heap, values: &Drops, count: u64) -> Result<Held<'h>, Allo
     Ok(set)
 }
 
-/// Asserts that who hears what is known finds each number below this one, and not this one.
+/// Asserts that the handle finds each number below this one, and not this one.
 fn assert_finds(
     rt: &impl Abort,
-    shared: &SharedBoxes<'_>,
+    handle: &mut Boxing<'_, '_>,
     probes: &Drops,
     count: u64,
 ) -> Result<(), AllocError> {
-    let mut handle = shared.set.handle();
-    handle.hear(&shared.known);
     for number in 0..count {
         let found = handle.get(&probes.counting(number)?);
         assert!(rt; found.is_some_and(|entry| entry.number == number));
@@ -58,47 +56,47 @@ fn each_value_is_an_entry_that_is_known(rt: HostRuntime) -> Result<(), Fail> {
         let values = Drops::new(rt.alloc(), count)?;
         let probes = Drops::new(rt.alloc(), 0)?;
         let heap = counted(rt.alloc());
-        let shared = held(&heap, &values, count)?.share(&heap);
-        let shared = shared.ok().expect(&rt, "a shared set");
-        assert_finds(&rt, &shared, &probes, count)?;
-        assert_same(&rt, shared.set.len(), count);
-        assert_same(&rt, shared.set.is_empty(), count == 0);
+        let Ok(Shared { set, known }) = held(&heap, &values, count)?.share(&heap) else {
+            return Err(Fail::new("memory was refused"));
+        };
+        let mut handle = set.handle();
+        handle.hear(&known);
+        assert_finds(&rt, &mut handle, &probes, count)?;
+        drop(handle);
+        assert_same(&rt, (set.len(), set.is_empty()), (count, count == 0));
         assert_same(&rt, values.never_and_once(), (count, 0));
-        drop(shared);
+        drop(set);
         assert_same(&rt, values.never_and_once(), (0, count));
         assert_none_out(&rt, &heap);
     }
     Ok(())
 }
 
-/// Inserts what was left by a handle of the set, and returns the set, with what is known then.
+/// Inserts what was left by a handle of the set, and returns the set.
 fn insert_left<'h>(
     rt: &impl Abort,
     partly: Partly<Box<Counting>, OfTarget<CountingLaw>, &'h Heap>,
-) -> SharedBoxes<'h> {
+) -> Boxes<'h> {
     let Partly {
-        shared,
+        shared: Shared { set, known: _ },
         refused,
         rest,
     } = partly;
-    let Shared { set, known } = shared;
     let mut handle = set.handle();
-    handle.hear(&known);
     assert!(rt; matches!(handle.insert(refused), Inserted::Placed(_, _)));
     for value in rest {
         assert!(rt; matches!(handle.insert(value), Inserted::Placed(_, _)));
     }
-    let known = handle.tell();
     drop(handle);
-    Shared { set, known }
+    set
 }
 
 /// Asserts that what was left has each value once, and shares it now that memory is granted.
-fn share_left<'h>(rt: &impl Abort, heap: &'h Heap, left: Left<'h>, count: u64) -> SharedBoxes<'h> {
+fn share_left<'h>(rt: &impl Abort, heap: &'h Heap, left: Left<'h>, count: u64) -> Boxes<'h> {
     match left {
         Unshared::Held(held) => {
             assert_same(rt, held.len() as u64, count);
-            held.share(heap).ok().expect(rt, "a shared set")
+            held.share(heap).ok().expect(rt, "a shared set").set
         }
         Unshared::Partly(partly) => {
             let kept = partly.shared.set.len().wrapping_add(1);
@@ -123,13 +121,13 @@ fn share_refused(rt: &impl Abort, alloc: Global, granted: u64) -> Result<bool, A
     let whole = heap.refusals_left() == 1;
     heap.refuse(0, 0);
     assert_same(rt, values.never_and_once(), (NUMBERS, 0));
-    let shared = match told {
-        Ok(shared) => shared,
+    let set = match told {
+        Ok(shared) => shared.set,
         Err(left) => share_left(rt, &heap, left, NUMBERS),
     };
-    assert_finds(rt, &shared, &probes, NUMBERS)?;
+    assert_finds(rt, &mut set.handle(), &probes, NUMBERS)?;
     assert_same(rt, values.never_and_once(), (NUMBERS, 0));
-    drop(shared);
+    drop(set);
     assert_same(rt, values.never_and_once(), (0, NUMBERS));
     assert_none_out(rt, &heap);
     Ok(whole)
@@ -168,11 +166,8 @@ fn a_value_is_moved(rt: HostRuntime) -> Result<(), Fail> {
     let mine = Arc::new(rt.alloc(), 7u64)?;
     let mut held: HeldSet<Arc<u64>, NumberLaw> = HeldSet::new(rt.alloc());
     assert!(rt; matches!(held.insert(mine.clone()?), Put::Placed));
-    let shared = held.share(rt.alloc());
-    let Shared { set, known } = shared.ok().expect(&rt, "a shared set");
-    let mut handle = set.handle();
-    handle.hear(&known);
-    let entry = handle.get(&mine);
+    let set = held.share(rt.alloc()).ok().expect(&rt, "a shared set").set;
+    let entry = set.get(&mine);
     assert!(rt; entry.is_some_and(|entry| **entry == 7));
     assert_same(&rt, Arc::strong_count(&mine), 2);
     Ok(())
