@@ -41,6 +41,6 @@ module _ {V : Type 0} where
     pub knows : KnowsEach moved p.shared
 
   -- the set of one owner has these values still; or some are known entries of the shared set, and the others are left
-  abbrev pub KeepsEach : {L A U : Type 0} → List V → Unshared V L A U → Type 0
+  abbrev pub KeepsEach : {L M A U : Type 0} → List V → Unshared V L M A U → Type 0
   KeepsEach values (unshared.Held held) = held ≡ values
   KeepsEach values (unshared.Partly p) = HasPart values p

@@ -30,16 +30,13 @@ pub struct Partly<T: AtomicValue, L: SetLaw<T>, A: Low + Copy = Global> {
     pub rest: IntoIter<T, A>,
 }
 
-/// What is left if memory is refused to a call of `share`.
+/// What is left if memory is refused to a call of `share`. `L` is the law of the set of one owner, and `M` that of the shared set.
 #[derive(Drop)]
-pub enum Unshared<T: AtomicValue, L: SetLaw<T::Target>, A: Low + Copy = Global>
-where
-    OfTarget<L>: SetLaw<T>,
-{
+pub enum Unshared<T: AtomicValue, L: SetLaw<T::Target>, M: SetLaw<T>, A: Low + Copy = Global> {
     /// No shared set could be made. The set of one owner is returned.
     Held(HeldSet<T, L, A>),
     /// An insert returned its value. The shared set has the values before it.
-    Partly(Partly<T, OfTarget<L>, A>),
+    Partly(Partly<T, M, A>),
 }
 
 /// A set of one owner that can become one that threads share.
@@ -54,7 +51,7 @@ where
     /// Moves each value into a set that threads share, and returns that set with what is known of it: each value is a known entry. Two
     /// values are the same there if their targets are the same here. A refusal returns each value, in the shared set or beside it. The
     /// owner of the set calls it.
-    fn share(self, alloc: A) -> Result<Shared<T, OfTarget<L>, A>, Unshared<T, L, A>>
+    fn share(self, alloc: A) -> Result<Shared<T, OfTarget<L>, A>, Unshared<T, L, OfTarget<L>, A>>
         ensures known { IfOk result (KnowsEach (entries self)) }
         ensures kept { IfErr result (KeepsEach (entries self)) };
 }
@@ -109,7 +106,7 @@ where
     /// Moves each value into a set that threads share, and returns that set with what is known of it: each value is a known entry. The set
     /// has buckets for all values from the first. A refusal returns each value: the held set as it is, or a shared set that has some of the
     /// values, the one that was refused, and the others. The owner of the held set calls it.
-    fn share(self, alloc: A) -> Result<Shared<T, OfTarget<L>, A>, Unshared<T, L, A>>
+    fn share(self, alloc: A) -> Result<Shared<T, OfTarget<L>, A>, Unshared<T, L, OfTarget<L>, A>>
         ensures known { IfOk result (KnowsEach self) }
         ensures kept { IfErr result (KeepsEach self) }
     {

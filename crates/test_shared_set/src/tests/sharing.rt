@@ -21,7 +21,7 @@ type Boxes<'h> = SharedSet<Box<Counting>, OfTarget<CountingLaw>, &'h Heap>;
 type Boxing<'s, 'h> = Handle<'s, Box<Counting>, OfTarget<CountingLaw>, &'h Heap>;
 
 /// What is left of a set that could not be shared.
-type Left<'h> = Unshared<Box<Counting>, CountingLaw, &'h Heap>;
+type Left<'h> = Unshared<Box<Counting>, CountingLaw, OfTarget<CountingLaw>, &'h Heap>;
 
 /// Returns a set of one owner that has the numbers below this one.
 fn held<'h>(heap: &'h Heap, values: &Drops, count: u64) -> Result<Held<'h>, AllocError> {
@@ -78,10 +78,11 @@ fn insert_left<'h>(
     partly: Partly<Box<Counting>, OfTarget<CountingLaw>, &'h Heap>,
 ) -> Boxes<'h> {
     let Partly {
-        shared: Shared { set, known: _ },
+        shared,
         refused,
         rest,
     } = partly;
+    let Shared { set, known: _ } = shared;
     let mut handle = set.handle();
     assert!(rt; matches!(handle.insert(refused), Inserted::Placed(_, _)));
     for value in rest {
@@ -96,7 +97,8 @@ fn share_left<'h>(rt: &impl Abort, heap: &'h Heap, left: Left<'h>, count: u64) -
     match left {
         Unshared::Held(held) => {
             assert_same(rt, held.len() as u64, count);
-            held.share(heap).ok().expect(rt, "a shared set").set
+            let Shared { set, known: _ } = held.share(heap).ok().expect(rt, "a shared set");
+            set
         }
         Unshared::Partly(partly) => {
             let kept = partly.shared.set.len().wrapping_add(1);
@@ -122,7 +124,7 @@ fn share_refused(rt: &impl Abort, alloc: Global, granted: u64) -> Result<bool, A
     heap.refuse(0, 0);
     assert_same(rt, values.never_and_once(), (NUMBERS, 0));
     let set = match told {
-        Ok(shared) => shared.set,
+        Ok(Shared { set, known: _ }) => set,
         Err(left) => share_left(rt, &heap, left, NUMBERS),
     };
     assert_finds(rt, &mut set.handle(), &probes, NUMBERS)?;
@@ -166,7 +168,8 @@ fn a_value_is_moved(rt: HostRuntime) -> Result<(), Fail> {
     let mine = Arc::new(rt.alloc(), 7u64)?;
     let mut held: HeldSet<Arc<u64>, NumberLaw> = HeldSet::new(rt.alloc());
     assert!(rt; matches!(held.insert(mine.clone()?), Put::Placed));
-    let set = held.share(rt.alloc()).ok().expect(&rt, "a shared set").set;
+    let shared = held.share(rt.alloc()).ok().expect(&rt, "a shared set");
+    let Shared { set, known: _ } = shared;
     let entry = set.get(&mine);
     assert!(rt; entry.is_some_and(|entry| **entry == 7));
     assert_same(&rt, Arc::strong_count(&mine), 2);
