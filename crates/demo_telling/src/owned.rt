@@ -4,8 +4,8 @@ use crate::tell::Numbers;
 use shared_set::{Inserted, SharedSet};
 use std::alloc::Global;
 use std::io;
-use std::sync::Arc;
-use std::thread::{Threads, Wait, spawn};
+use std::sync::{Arc, Wait};
+use std::thread::{Threads, spawn};
 
 /// Inserts the numbers below `count`. Returns how many of them this call placed.
 pub fn place_below(set: &Numbers<Global>, count: u64) -> u64 {
@@ -25,6 +25,6 @@ pub fn place_by_two<R: Threads + Wait>(rt: &R, alloc: Global, count: u64) -> io:
     let theirs = set.clone()?;
     let other = spawn(rt, move || place_below(&theirs, count))?;
     let here = place_below(&set, count);
-    let there = other.join(rt)?;
+    let there = other.join(rt);
     Ok(here.saturating_add(there))
 }

@@ -16,7 +16,7 @@ pub record ShardWalk (T : Type 0) : Type 0 where
 module _ {T : Type 0} where
   -- the shard of this number; past the last one there is a table without a generation
   abbrev pub shard_at : List (SharedTable T) → ℕ → SharedTable T
-  shard_at ts k = slice_index_or ts k (record { first_capacity = 0; home = 0; latest = 0; shared = [] ∷ [] })
+  shard_at ts k = slice_index_or ts k (record { first_capacity = 0; home = 0; latest = 0; shared = [] ∷ []; later = 0 })
 
   -- so many shards, none of which has a generation, and each of which will have this first capacity
   pub record AreEmptyShards (shards first : ℕ) (ts : List (SharedTable T)) : Type 0 where
