@@ -68,21 +68,23 @@ fn assert_none_twice(rt: &impl Abort, met: &[u8]) {
     }
 }
 
-/// Walks over a set of this many values while it grows eightfold, and asserts that each is met once, and no other one twice.
-fn walk_while_growing(rt: &impl Abort, alloc: Global, count_of: usize) {
-    let heap = counted(alloc);
-    let set: Numbers<'_> = SharedSet::new(&heap).expect(rt, "a set");
+/// Walks over a set that holds the values below `first`, and inserts those from it to `many` meanwhile. Counts how often each was met: those
+/// that were there at first, and all.
+fn count_while_growing(
+    rt: &impl Abort,
+    set: &Numbers<'_>,
+    first: u64,
+    many: u64,
+    met: &mut Vec<u8>,
+    others: &mut Vec<u8>,
+) {
     let mut handle = set.handle();
-    let first = count_of as u64;
-    let many = first.saturating_mul(8);
     fill(rt, &mut handle, 0, first);
-    let mut met = vec![in alloc; 0u8; count_of].expect(rt, "memory");
-    let mut others = vec![in alloc; 0u8; many as usize].expect(rt, "memory");
     let mut next = first;
     let mut walk = handle.iter();
     while let Some((number, entry)) = walk.next() {
-        count(&mut met, *entry);
-        count(&mut others, *entry);
+        count(met, *entry);
+        count(others, *entry);
         let mut other = set.handle();
         other.hear(&walk.tell());
         assert_same(rt, other.find(entry), Some((number, entry)));
@@ -93,6 +95,17 @@ fn walk_while_growing(rt: &impl Abort, alloc: Global, count_of: usize) {
         }
     }
     assert_same(rt, walk.next(), None);
+}
+
+/// Walks over a set of this many values while it grows eightfold, and asserts that each is met once, and no other one twice.
+fn walk_while_growing(rt: &impl Abort, alloc: Global, count_of: usize) {
+    let heap = counted(alloc);
+    let set: Numbers<'_> = SharedSet::new(&heap).expect(rt, "a set");
+    let first = count_of as u64;
+    let many = first.saturating_mul(8);
+    let mut met = vec![in alloc; 0u8; count_of].expect(rt, "memory");
+    let mut others = vec![in alloc; 0u8; many as usize].expect(rt, "memory");
+    count_while_growing(rt, &set, first, many, &mut met, &mut others);
     assert_each_once(rt, met.as_slice());
     assert_none_twice(rt, others.as_slice());
 }
