@@ -18,8 +18,8 @@ pub(crate) type Numbers<'h> = SharedSet<u64, NumberLaw, &'h Heap>;
 /// A handle of such a set.
 pub(crate) type Numbering<'s, 'h> = Handle<'s, u64, NumberLaw, &'h Heap>;
 
-/// What is known of such a set.
-pub(crate) type Knows<'h> = Known<u64, NumberLaw, &'h Heap>;
+/// What is known of a set of numbers.
+pub(crate) type Knows<A> = Known<u64, NumberLaw, A>;
 
 /// Asserts that both are equal.
 pub(crate) fn assert_same<X: PartialEq + Debug + Drop>(rt: &impl Abort, got: X, expected: X) {

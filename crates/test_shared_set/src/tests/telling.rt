@@ -2,7 +2,7 @@
 ghost use Rattle.std.specs.Prelude.{◌≡◌};
 
 use super::caller::{
-    Knows, Numbers, Told, assert_has, assert_none_out, assert_same, counted, insert,
+    Heap, Knows, Numbers, Told, assert_has, assert_none_out, assert_same, counted, insert,
 };
 use shared_set::SharedSet;
 use std::alloc::{AllocError, Global};
@@ -23,7 +23,7 @@ const LOOKS: u32 = 1_000_000;
 #[derive(Drop)]
 struct Message<'s, 'h> {
     set: &'s Numbers<'h>,
-    known: Knows<'h>,
+    known: Knows<&'h Heap>,
     ghost of: { known.of ≡ set.now.of },
 }
 

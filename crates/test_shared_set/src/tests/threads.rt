@@ -5,13 +5,16 @@ use super::caller::{
     Heap, Knows, Numbering, Numbers, Told, assert_has, assert_none_out, assert_same, counted,
     insert,
 };
-use shared_set::SharedSet;
+use shared_set::{Handle, SharedSet};
 use std::alloc::{AllocError, Global};
+use std::marker::{Send, Sync};
 use std::process::Abort;
 use std::sync::atomic::AtomicU64;
 use std::sync::atomic::Ordering::SeqCst;
 use std::test::Fail;
 use std::thread::{Threads, join};
+use table_cell::Low;
+use table_terms::law::NumberLaw;
 use testkit_refusing::{Refusing, Rule};
 
 /// For how many entries there is room at first, how many numbers are placed, how far the threads' first numbers lie apart, and how many
@@ -29,7 +32,11 @@ const TRIES: u32 = 1000;
 
 /// Inserts the number, again if it is refused, and counts it if this thread placed it. Returns false if it was refused too often, if
 /// another number was shown or returned, or if it isn't found.
-fn place(handle: &mut Numbering<'_, '_>, placed: &AtomicU64, number: u64) -> bool
+fn place<A: Low + Copy>(
+    handle: &mut Handle<'_, u64, NumberLaw, A>,
+    placed: &AtomicU64,
+    number: u64,
+) -> bool
     ensures { handle.new.of ≡ handle.old.of }
 {
     for _tried in 0..TRIES {
@@ -45,7 +52,12 @@ fn place(handle: &mut Numbering<'_, '_>, placed: &AtomicU64, number: u64) -> boo
 }
 
 /// Inserts the numbers of a range. Returns None if it went wrong.
-fn fill<'h>(set: &Numbers<'h>, placed: &AtomicU64, from: u64, end: u64) -> Option<Knows<'h>>
+fn fill<A: Low + Copy>(
+    set: &SharedSet<u64, NumberLaw, A>,
+    placed: &AtomicU64,
+    from: u64,
+    end: u64,
+) -> Option<Knows<A>>
     ensures { IfSome result (λ k. k.of ≡ set.now.of) }
 {
     let mut handle = set.handle();
@@ -58,57 +70,49 @@ fn fill<'h>(set: &Numbers<'h>, placed: &AtomicU64, from: u64, end: u64) -> Optio
 }
 
 /// Two threads insert the numbers of a range each, and one hears what the other knows.
-fn fill_by_two<'h, R: Threads + Sync>(
+fn fill_by_two<A: Low + Copy + Send + Sync, R: Threads + Sync>(
     rt: &R,
-    set: &Numbers<'h>,
+    set: &SharedSet<u64, NumberLaw, A>,
     placed: &AtomicU64,
     from: [u64; 2],
     end: u64,
-) -> Option<Knows<'h>>
+) -> Option<Knows<A>>
     ensures { IfSome result (λ k. k.of ≡ set.now.of) }
 {
     let [first, second] = from;
     let (one, other) = join(
         rt,
-        || -> Option<Knows<'_>>
-            ensures { IfSome result (λ k. k.of ≡ set.entry.now.of) }
-        { fill(set, placed, first, end) },
-        || -> Option<Knows<'_>>
-            ensures { IfSome result (λ k. k.of ≡ set.entry.now.of) }
-        { fill(set, placed, second, end) },
+        || fill(set, placed, first, end),
+        || fill(set, placed, second, end),
     );
     both(set, one, other)
 }
 
 /// Four threads insert the numbers of a range each, and one hears what the others know.
-fn fill_by_four<'h, R: Threads + Sync>(
+fn fill_by_four<A: Low + Copy + Send + Sync, R: Threads + Sync>(
     rt: &R,
-    set: &Numbers<'h>,
+    set: &SharedSet<u64, NumberLaw, A>,
     placed: &AtomicU64,
     from: [u64; 4],
     end: u64,
-) -> Option<Knows<'h>>
+) -> Option<Knows<A>>
     ensures { IfSome result (λ k. k.of ≡ set.now.of) }
 {
     let [a, b, c, d] = from;
     let (one, other) = join(
         rt,
-        || -> Option<Knows<'_>>
-            ensures { IfSome result (λ k. k.of ≡ set.entry.now.of) }
-        { fill_by_two(rt, set, placed, [a, b], end) },
-        || -> Option<Knows<'_>>
-            ensures { IfSome result (λ k. k.of ≡ set.entry.now.of) }
-        { fill_by_two(rt, set, placed, [c, d], end) },
+        || fill_by_two(rt, set, placed, [a, b], end),
+        || fill_by_two(rt, set, placed, [c, d], end),
     );
     both(set, one, other)
 }
 
-/// Returns what is known to a handle that hears both. Returns None if one isn't there.
-fn both<'h>(
-    set: &Numbers<'h>,
-    one: Option<Knows<'h>>,
-    other: Option<Knows<'h>>,
-) -> Option<Knows<'h>>
+/// Returns what is known to a handle that hears both. Returns None if one of them is missing.
+fn both<A: Low + Copy>(
+    set: &SharedSet<u64, NumberLaw, A>,
+    one: Option<Knows<A>>,
+    other: Option<Knows<A>>,
+) -> Option<Knows<A>>
     requires one { IfSome one (λ k. k.of ≡ set.now.of) }
     requires other { IfSome other (λ k. k.of ≡ set.now.of) }
     ensures { IfSome result (λ k. k.of ≡ set.now.of) }
@@ -120,14 +124,14 @@ fn both<'h>(
 }
 
 /// Two or four threads insert the numbers below the last one, each from its own first number on, and one hears what the others know.
-fn fill_at_once<'h, R: Threads + Sync>(
+fn fill_at_once<A: Low + Copy + Send + Sync, R: Threads + Sync>(
     rt: &R,
-    set: &Numbers<'h>,
+    set: &SharedSet<u64, NumberLaw, A>,
     placed: &AtomicU64,
     apart: u64,
     end: u64,
     by_four: bool,
-) -> Option<Knows<'h>>
+) -> Option<Knows<A>>
     ensures { IfSome result (λ k. k.of ≡ set.now.of) }
 {
     if by_four {
