@@ -20,6 +20,9 @@ type Boxes<'h> = SharedSet<Box<Counting>, OfTarget<CountingLaw>, &'h Heap>;
 /// A handle of it.
 type Boxing<'s, 'h> = Handle<'s, Box<Counting>, OfTarget<CountingLaw>, &'h Heap>;
 
+/// Such a set, with what is known of it.
+type SharedBoxes<'h> = Shared<Box<Counting>, OfTarget<CountingLaw>, &'h Heap>;
+
 /// What is left of a set that could not be shared.
 type Left<'h> = Unshared<Box<Counting>, CountingLaw, OfTarget<CountingLaw>, &'h Heap>;
 
@@ -108,6 +111,22 @@ fn share_left<'h>(rt: &impl Abort, heap: &'h Heap, left: Left<'h>, count: u64) -
     }
 }
 
+/// Returns the shared set. What was left is shared now.
+fn set_of<'h>(
+    rt: &impl Abort,
+    heap: &'h Heap,
+    told: Result<SharedBoxes<'h>, Left<'h>>,
+    count: u64,
+) -> Boxes<'h> {
+    match told {
+        Ok(shared) => {
+            let Shared { set, known: _ } = shared;
+            set
+        }
+        Err(left) => share_left(rt, heap, left, count),
+    }
+}
+
 /// How many values are shared while requests are refused.
 const NUMBERS: u64 = 300;
 
@@ -123,10 +142,7 @@ fn share_refused(rt: &impl Abort, alloc: Global, granted: u64) -> Result<bool, A
     let whole = heap.refusals_left() == 1;
     heap.refuse(0, 0);
     assert_same(rt, values.never_and_once(), (NUMBERS, 0));
-    let set = match told {
-        Ok(Shared { set, known: _ }) => set,
-        Err(left) => share_left(rt, &heap, left, NUMBERS),
-    };
+    let set = set_of(rt, &heap, told, NUMBERS);
     assert_finds(rt, &mut set.handle(), &probes, NUMBERS)?;
     assert_same(rt, values.never_and_once(), (NUMBERS, 0));
     drop(set);
