@@ -12,6 +12,7 @@ pub enum Check {
     All,
     Replays,
     Stress,
+    StressSet,
     Bench,
 }
 
@@ -27,6 +28,7 @@ pub fn parse_check<S: AsStr>(words: &[S]) -> Option<(Check, &[S])>
         [name, rest @ ..] => match name.as_str().as_bytes() {
             b"replays" => Some((Check::Replays, rest)),
             b"stress" => Some((Check::Stress, rest)),
+            b"stress-set" => Some((Check::StressSet, rest)),
             b"bench" => Some((Check::Bench, rest)),
             _ => None,
         },

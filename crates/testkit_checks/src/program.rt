@@ -10,7 +10,8 @@ use std::rt::{Clock, Env};
 use std::sync::Wait;
 use std::thread::Threads;
 use testkit_replay::run_replays;
-use testkit_rounds::drawn::run_rounds;
+use testkit_rounds::drawn::{RawRounds, run_rounds};
+use testkit_set_rounds::SetRounds;
 use tool_streams::arguments::read_words;
 use tool_streams::messages::end_with;
 
@@ -20,7 +21,7 @@ const WELL: u8 = 0;
 /// The status of a check with a fault, or of words that name none.
 const BAD: u8 = 1;
 
-const USAGE: &str = "usage: tool_checks [replays .. | stress .. | bench ..]";
+const USAGE: &str = "usage: tool_checks [replays .. | stress .. | stress-set .. | bench ..]";
 
 /// Runs the check that the words of the environment name, and answers the status. The first fault goes to `messages`.
 pub fn run_program<
@@ -56,12 +57,14 @@ fn run_check<
     match check {
         Check::All => {
             let replayed = run_replays(rt, alloc, words, output, messages);
-            let rounds = run_rounds(rt, alloc, words, output, messages);
+            let rounds = run_rounds::<RawRounds, R, S, O, M>(rt, alloc, words, output, messages);
+            let of_sets = run_rounds::<SetRounds, R, S, O, M>(rt, alloc, words, output, messages);
             let measured = status_of(check_all(rt), messages);
-            replayed.max(rounds).max(measured)
+            replayed.max(rounds).max(of_sets).max(measured)
         }
         Check::Replays => run_replays(rt, alloc, words, output, messages),
-        Check::Stress => run_rounds(rt, alloc, words, output, messages),
+        Check::Stress => run_rounds::<RawRounds, R, S, O, M>(rt, alloc, words, output, messages),
+        Check::StressSet => run_rounds::<SetRounds, R, S, O, M>(rt, alloc, words, output, messages),
         Check::Bench => status_of(run_bench(rt, words), messages),
     }
 }

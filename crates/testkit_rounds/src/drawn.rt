@@ -5,4 +5,4 @@ mod program;
 mod stop;
 mod sum;
 
-pub use program::run_rounds;
+pub use program::{RawRounds, Rounds, run_rounds};

@@ -30,6 +30,12 @@ pub enum Fault {
     Refusals,
     /// Not every block came back.
     Blocks,
+    /// The entry was told by a number that isn't its own.
+    Number(u64),
+    /// Two entries have one number.
+    Numbers,
+    /// The value was dropped too early, twice or never.
+    Dropped(u64),
 }
 
 impl From<AllocError> for Fault {
@@ -53,6 +59,9 @@ impl Display for Fault {
             Fault::Length => write!(f, "the length is wrong"),
             Fault::Refusals => write!(f, "an insert was refused without a cause"),
             Fault::Blocks => write!(f, "a block did not come back"),
+            Fault::Number(id) => write!(f, "the number of value {id} is another's"),
+            Fault::Numbers => write!(f, "two entries have one number"),
+            Fault::Dropped(id) => write!(f, "value {id} is dropped too often or too rarely"),
         }
     }
 }

@@ -7,7 +7,7 @@ pub mod drawn;
 pub mod fates;
 mod fault;
 mod round;
-mod start;
+pub mod start;
 mod value;
 mod work;
 
@@ -23,6 +23,7 @@ use std::sync::Wait;
 use std::thread;
 use std::thread::Threads;
 use testkit_refusing::Refusing;
+pub use value::Given;
 use work::{Job, Told, Values, work};
 
 /// Runs a round, and accounts for each value, or says the first fault.

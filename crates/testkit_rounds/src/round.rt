@@ -92,12 +92,12 @@ impl Round {
     }
 
     /// Whether the closures keep a law.
-    pub(crate) fn is_lawful(&self) -> bool {
+    pub fn is_lawful(&self) -> bool {
         self.kind != Kind::Careless
     }
 
     /// The value of this id.
-    pub(crate) fn given(&self, id: u64) -> Given {
+    pub fn given(&self, id: u64) -> Given {
         let thread = id.checked_div(self.each).unwrap_or(0);
         let place = id.checked_rem(self.each).unwrap_or(0);
         let first = match self.kind {
@@ -112,7 +112,7 @@ impl Round {
 
     /// The id of the value that a thread gives in this turn. Of two threads next to each other one goes up and one down, so
     /// that both come to what they share at the same time.
-    pub(crate) fn id_at(&self, thread: u64, turn: u64) -> u64 {
+    pub fn id_at(&self, thread: u64, turn: u64) -> u64 {
         let goes_down = self.kind != Kind::Equal && thread % 2 == 1;
         let place = if goes_down {
             self.each.wrapping_sub(1).wrapping_sub(turn)
@@ -123,18 +123,18 @@ impl Round {
     }
 
     /// The id of some other value.
-    pub(crate) fn other_than(&self, id: u64) -> u64 {
+    pub fn other_than(&self, id: u64) -> u64 {
         let far = id.wrapping_mul(3).wrapping_add(1);
         far.checked_rem(self.values()).unwrap_or(0)
     }
 
     /// The hash of a class where the closures keep a law. Four classes have the same one.
-    pub(crate) fn hash_of(&self, class: u64) -> u64 {
+    pub fn hash_of(&self, class: u64) -> u64 {
         hash_number(self.seed ^ (class / 4))
     }
 
     /// How many requests for memory may be refused.
-    pub(crate) fn refusals(&self) -> u64 {
+    pub fn refusals(&self) -> u64 {
         match self.kind {
             Kind::Refused => u64::MAX,
             _ => 0,
@@ -142,7 +142,7 @@ impl Round {
     }
 
     /// What the table's memory is like.
-    pub(crate) fn rule(&self) -> Rule {
+    pub fn rule(&self) -> Rule {
         Rule::new(0, usize::MAX, 0, self.refusals()).drawn(self.seed, REFUSED_ONE_IN)
     }
 }

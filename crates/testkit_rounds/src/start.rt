@@ -7,14 +7,14 @@ const LOOKS: u64 = 1 << 22;
 
 /// So many threads begin at once, where they run at once.
 #[derive(Drop)]
-pub(crate) struct Start {
+pub struct Start {
     threads: u64,
     come: AtomicU64,
 }
 
 impl Start {
     /// A start of so many threads, of which none has come.
-    pub(crate) fn new(threads: u64) -> Start {
+    pub fn new(threads: u64) -> Start {
         Start {
             threads,
             come: AtomicU64::new(0),
@@ -22,7 +22,7 @@ impl Start {
     }
 
     /// One more thread has come. It waits until all have, or until it looked for them often enough.
-    pub(crate) fn wait(&self) {
+    pub fn wait(&self) {
         self.come.fetch_add(1, Ordering::SeqCst);
         for _look in 0..LOOKS {
             if self.threads <= self.come.load(Ordering::SeqCst) {

@@ -4,7 +4,7 @@ use std::sync::atomic::{AtomicU64, Ordering};
 
 /// What a value is: equal to those of its class, and told from them by its id.
 #[derive(Clone, Copy, Debug, PartialEq, Eq)]
-pub(crate) struct Given {
+pub struct Given {
     pub class: u64,
     pub id: u64,
 }

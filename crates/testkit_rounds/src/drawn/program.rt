@@ -2,7 +2,7 @@
 use super::plan::Plan;
 use super::stop::Stop;
 use super::sum::Sum;
-use crate::{Round, run_round};
+use crate::{Account, Fault, Round, run_round};
 use std::alloc::Global;
 use std::convert::AsStr;
 use std::io::Write;
@@ -20,9 +20,32 @@ const BAD: u8 = 1;
 /// The seconds of a minute.
 const MINUTE: u64 = 60;
 
+/// What a round is run on.
+pub trait Rounds {
+    /// Runs a round, and accounts for each value, or returns the first fault.
+    fn run_round<R: Threads + Wait + Sync>(
+        rt: &R,
+        alloc: Global,
+        round: Round,
+    ) -> Result<Account, Fault>;
+}
+
+/// Rounds of raw shared tables.
+pub struct RawRounds {}
+
+impl Rounds for RawRounds {
+    fn run_round<R: Threads + Wait + Sync>(
+        rt: &R,
+        alloc: Global,
+        round: Round,
+    ) -> Result<Account, Fault> {
+        run_round(rt, alloc, round)
+    }
+}
+
 /// Runs the rounds that the words ask for, and answers the status. They are for how many minutes, and the seed of the first
 /// round; without them a few small rounds run. The first fault goes to `messages`, with its round.
-pub fn run_rounds<R: Threads + Wait + Sync + Clock, S: AsStr, O: Write, M: Write>(
+pub fn run_rounds<K: Rounds, R: Threads + Wait + Sync + Clock, S: AsStr, O: Write, M: Write>(
     rt: &R,
     alloc: Global,
     words: &[S],
@@ -30,10 +53,13 @@ pub fn run_rounds<R: Threads + Wait + Sync + Clock, S: AsStr, O: Write, M: Write
     messages: &mut M,
 ) -> u8 {
     let Some(plan) = Plan::of_words(words) else {
-        let _ = writeln!(messages, "usage: tool_checks stress [MINUTES [FIRST-SEED]]");
+        let _ = writeln!(
+            messages,
+            "usage: tool_checks stress|stress-set [MINUTES [FIRST-SEED]]"
+        );
         return BAD;
     };
-    match run_plan(rt, alloc, plan, output) {
+    match run_plan::<K, R, O>(rt, alloc, plan, output) {
         Ok(()) => WELL,
         Err(stop) => {
             let _ = writeln!(messages, "{stop}");
@@ -43,19 +69,19 @@ pub fn run_rounds<R: Threads + Wait + Sync + Clock, S: AsStr, O: Write, M: Write
 }
 
 /// Runs the rounds of a plan, and says at the end how many there were.
-fn run_plan<R: Threads + Wait + Sync + Clock, O: Write>(
+fn run_plan<K: Rounds, R: Threads + Wait + Sync + Clock, O: Write>(
     rt: &R,
     alloc: Global,
     plan: Plan,
     output: &mut O,
 ) -> Result<(), Stop> {
-    let rounds = count_rounds(rt, alloc, plan, output)?;
+    let rounds = count_rounds::<K, R, O>(rt, alloc, plan, output)?;
     writeln!(output, "{rounds} rounds: each value is accounted for")?;
     Ok(())
 }
 
 /// Runs the rounds of a plan, and says every minute what they came to: how many there were.
-fn count_rounds<R: Threads + Wait + Sync + Clock, O: Write>(
+fn count_rounds<K: Rounds, R: Threads + Wait + Sync + Clock, O: Write>(
     rt: &R,
     alloc: Global,
     plan: Plan,
@@ -67,14 +93,14 @@ fn count_rounds<R: Threads + Wait + Sync + Clock, O: Write>(
     for seed in plan.first_seed..u64::MAX {
         let minutes = start.elapsed(rt)?.as_secs() / MINUTE;
         if told < minutes {
-            writeln!(output, "minute {minutes}: {sum}")?;
+            writeln!(output, "minute {minutes}, next seed {seed}: {sum}")?;
             told = minutes;
         }
         if plan.is_over(sum.rounds, minutes) {
             break;
         }
         let round = Round::drawn(seed, plan.most);
-        match run_round(rt, alloc, round) {
+        match K::run_round(rt, alloc, round) {
             Ok(account) => sum = sum.with(round, account),
             Err(fault) => return Err(Stop::Fault(round, fault)),
         }
