@@ -3,6 +3,9 @@ mod held;
 mod keys;
 mod laws;
 mod memory;
+mod over;
+mod sharded;
+mod shared;
 mod steps;
 
 ghost use Rattle.std.specs.Iterator.{IsFinite};

@@ -1,0 +1,11 @@
+mod alone;
+mod caller;
+mod drops;
+mod ends;
+mod memory;
+mod runs;
+mod shard_calls;
+mod shards;
+mod share;
+mod texts;
+mod threads;
