@@ -3,42 +3,47 @@ use Rattle.std.proofs.Common.{◌≡◌, ℕ, Bool, true, false, arith, List, []
 use seplogic.Ra.Ura.{Ura}
 use mir.Val.{Val, vstruct, vcons, vnil, of_list}
 use base.Logic.{ent, sep}
+use base.Fml.{Fml, fsep}
 use types.Logic.{Logic, sem}
 use types.Kit.{Item, Goal, Seq, Step, step, ‵, ◌$◌, ◌∵◌, !, qed, use0, done, drop, move, fsplit, fpick, feq_l, fjoin, fjoin3, feq_i, fpack}
 use denote.RawPtr.{Ptr, RawPtr, ptr_val}
 use denote.Steps.{nothing}
 use denote.RattleType.{RattleType, Valss}
 use denote.Laws.{Is}
-use denote.Shadow.{makes_shadow}
 use denote.Struct.Struct.{Struct, Shape, within}
-use denote.Struct.Owning.{shape}
 use Rattle.std.specs.Prelude.{Option, Some, None, IsSome}
+use Rattle.table_cell.proofs.Values.{Mark, void, alone, marker_data}
 use Rattle.table_slab.specs.Rights.{written, room, rooms}
 use Rattle.table_slab.specs.contracts.rights.Written as Written
 use Rattle.table_slab.specs.contracts.rights.Room as Room
 use Rattle.table_slab.specs.contracts.rights.Rooms as Rooms
 
 abbrev pub token_val : Val
-token_val = vstruct (vcons (vstruct vnil) vnil)
+token_val = alone void
+
+abbrev only_mark : RattleType → Shape
+only_mark R = record { name = []; args = []; types = []; fields = Mark R ∷ [] }
+
+-- what such a value owns in memory
+abbrev pub MarkOf : RattleType → List Val → Fml
+MarkOf R = (Struct (only_mark R)).own_val (record {}, tt)
+
+pub token_told : (R : RattleType) (vs : List Val) → Is (Struct (only_mark R)) (record {}, tt) vs → vs ≡ token_val ∷ []
+token_told R vs is = is.1.0 ∙ ap (λ (fields : List Val). vstruct (of_list (fields ++ [])) ∷ []) is.1.1.0.1.0
 
 module _ {M : Type 1} {𝓤 : Ura M} (𝓛 : Logic 𝓤) (R : RattleType) where
+  pub with_mark : (P : Fml) → ent 𝓤 (sem 𝓛 P) (sem 𝓛 (fsep (MarkOf R (token_val ∷ [])) P))
+  with_mark P = qed 𝓛 (‵ P ∷ []) ∵ nothing ! $ use0 𝓛 (‵ ((Mark R).own_val (record {}) (void ∷ []))) (marker_data 𝓛 R) $ fjoin ! $ feq_i ! _ (token_val ∷ []) _ refl $ fjoin ! $
+      fpack ! (Valss (Mark R ∷ [])) (within (only_mark R) (record {}, tt) (token_val ∷ [])) (void ∷ [], tt) $ fjoin ! $ done !
+
   pub written_made : (γ : ℕ) (x : R.Denot) → ent 𝓤 (sem 𝓛 (written R γ x)) (sem 𝓛 ((Written.the_row R).own_val (record { marker = record {}; of = γ; value = x }) (token_val ∷ [])))
-  written_made γ x = let F = (Struct (shape (Written.the_type R))).own_val (tt, tt) (token_val ∷ []) in
-      qed 𝓛 (‵ (written R γ x) ∷ []) ∵ use0 𝓛 (‵ F) (makes_shadow 𝓛 F (λ vss. (tt, ((λ uss. (tt, tt)), tt))) ((vstruct vnil ∷ [], tt), (refl, ((tt, (refl, tt)), tt)))) $ done !
+  written_made γ x = with_mark (written R γ x)
 
   pub room_made : (γ : ℕ) (v : Option R.Denot) → ent 𝓤 (sem 𝓛 (room R γ v)) (sem 𝓛 ((Room.the_row R).own_val (record { marker = record {}; of = γ; value = v }) (token_val ∷ [])))
-  room_made γ v = let F = (Struct (shape (Room.the_type R))).own_val (tt, tt) (token_val ∷ []) in
-      qed 𝓛 (‵ (room R γ v) ∷ []) ∵ use0 𝓛 (‵ F) (makes_shadow 𝓛 F (λ vss. (tt, ((λ uss. (tt, tt)), tt))) ((vstruct vnil ∷ [], tt), (refl, ((tt, (refl, tt)), tt)))) $ done !
+  room_made γ v = with_mark (room R γ v)
 
   pub rooms_made : (γs : List ℕ) → ent 𝓤 (sem 𝓛 (rooms R γs)) (sem 𝓛 ((Rooms.the_row R).own_val (record { marker = record {}; names = γs }) (token_val ∷ [])))
-  rooms_made γs = let F = (Struct (shape (Rooms.the_type R))).own_val (tt, tt) (token_val ∷ []) in
-      qed 𝓛 (‵ (rooms R γs) ∷ []) ∵ use0 𝓛 (‵ F) (makes_shadow 𝓛 F (λ vss. (tt, ((λ uss. (tt, tt)), tt))) ((vstruct vnil ∷ [], tt), (refl, ((tt, (refl, tt)), tt)))) $ done !
-
-pub room_told : (R : RattleType) (vs : List Val) → Is (Struct (shape (Room.the_type R))) (tt, tt) vs → vs ≡ token_val ∷ []
-room_told R vs is = is.1.0 ∙ ap (λ (ws : List Val). vstruct (of_list (ws ++ [])) ∷ []) is.1.1.0.1.0
-
-pub rooms_told : (R : RattleType) (vs : List Val) → Is (Struct (shape (Rooms.the_type R))) (tt, tt) vs → vs ≡ token_val ∷ []
-rooms_told R vs is = is.1.0 ∙ ap (λ (ws : List Val). vstruct (of_list (ws ++ [])) ∷ []) is.1.1.0.1.0
+  rooms_made γs = with_mark (rooms R γs)
 
 abbrev digit : Bool → ℕ
 digit true = 1

@@ -2,13 +2,11 @@
 use Rattle.std.proofs.Common.{◌≡◌, ℕ, ◌⊎◌, inl, inr, [], ◌∷◌, refl, sym, ap}
 use Rattle.std.proofs.lemmas.Bool.{cases_eq}
 use seplogic.Ra.Ura.{Ura}
-use mir.Val.{vstruct, vnil}
 use base.Logic.{SProp, ent, sep, emp, via}
 use contract.Monad.{fact, fact_i, fact_mono}
 use types.Logic.{Logic, sem}
-use types.Kit.{‵, ◌$◌, ◌∵◌, !, qed, by, drop, rewrite, use0, done}
+use types.Kit.{‵, ◌$◌, ◌∵◌, !, qed, by, drop, rewrite}
 use denote.RattleType.{RattleType}
-use denote.Shadow.{makes_shadow}
 use denote.Param.Send.{IsSend, IsSync, sendable}
 use denote.Struct.Owning
 use denote.Struct.Struct
@@ -18,15 +16,14 @@ use Rattle.std.specs.Coded.{coded_option}
 use Rattle.table_cell.specs.Notes.{learnt, code}
 use Rattle.table_slab.proofs.Tokens.{res_same}
 use Rattle.table_slab.specs.contracts.site.Site as Site
-use Rattle.table_slab.proofs.Made.{token_val}
+use Rattle.table_slab.proofs.Made.{token_val, with_mark}
 
 module _ {M : Type 1} {𝓤 : Ura M} (𝓛 : Logic 𝓤) (R : RattleType) (γ : ℕ) (x : R.Denot) where
   pub learnt_twice : ent 𝓤 (sem 𝓛 (learnt R γ (Some x))) (sep 𝓤 (sem 𝓛 (learnt R γ (Some x))) (sem 𝓛 (learnt R γ (Some x))))
   learnt_twice = 𝓛.names.res_dup γ _
 
   pub site_made : ent 𝓤 (sem 𝓛 (learnt R γ (Some x))) (sem 𝓛 ((Site.the_row R).own_val (record { marker = record {}; cell = γ; value = x }) (token_val ∷ [])))
-  site_made = let F = (denote.Struct.Struct.Struct (denote.Struct.Owning.shape (Site.the_type R))).own_val (record {}, tt) (token_val ∷ []) in
-      qed 𝓛 (‵ (learnt R γ (Some x)) ∷ []) ∵ use0 𝓛 (‵ F) (makes_shadow 𝓛 F (λ vss. (tt, ((λ uss. (tt, tt)), tt))) ((vstruct vnil ∷ [], tt), (refl, ((tt, (refl, tt)), tt)))) $ done !
+  site_made = with_mark 𝓛 R (learnt R γ (Some x))
 
 module _ {M : Type 1} {𝓤 : Ura M} (𝓛 : Logic 𝓤) (R : RattleType) (γ δ : ℕ) (x y : R.Denot) where
   same_code : code R (Some x) ≡ code R (Some y) → x ≡ y

@@ -2,14 +2,14 @@
 --     right_spends     the right to a value can be given up, and kept so
 --     spent_stands     what it is kept for stands for good
 --     spents_differ    nobody has it twice
-use Rattle.std.proofs.Common.{◌≡◌, ℕ, List, [], ◌∷◌, refl, sym, ap}
+use Rattle.std.proofs.Common.{◌≡◌, ℕ, [], ◌∷◌, refl, sym, ap}
 use Rattle.std.specs.Prelude.{Some}
 use seplogic.Ra.Ura.{Ura}
 use base.Logic.{SProp, ent, sep, never}
 use base.Fml.{GName, Fml, ftrue, fres, fown}
 use contract.Monad.{fact}
 use types.Logic.{Logic, sem}
-use types.Kit.{‵, raw, ◌⊛◌, ◌$◌, ◌∵◌, !, qed, by, move, keep, drop, use1, use2, split, fsplit, fsplit3, fjoin, fpick, fpack, rewrite, done}
+use types.Kit.{‵, raw, ◌⊛◌, ◌$◌, ◌∵◌, !, qed, by, move, drop, use1, use2, split, fsplit, fsplit3, fjoin, fpick, fpack, rewrite, done}
 use denote.RattleType.{RattleType}
 use denote.Steps.{nothing, heard}
 use Rattle.table_slab.specs.Rights.{once, mark, room, written}

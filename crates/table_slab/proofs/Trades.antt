@@ -2,7 +2,7 @@
 use Rattle.std.proofs.Common.{◌≡◌, ℕ, zero, suc, ◌+◌, List, [], ◌∷◌, ◌++◌, take, drop as drop_of, inl, inr, refl, sym, subst, ap, ◌∙◌, arith, take-append-drop}
 use Rattle.std.specs.Prelude.{None}
 use seplogic.Ra.Ura.{Ura}
-use base.Logic.{SProp, ent, sep, wand, all, upd, upd_i, emp}
+use base.Logic.{SProp, ent, sep, wand, all, upd, upd_i}
 use base.Fml.{Fml}
 use base.Shift.{Keyless}
 use types.Logic.{Logic, sem}

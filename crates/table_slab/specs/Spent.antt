@@ -1,5 +1,5 @@
 -- A right that was given up with a value in its slot. Nobody has it twice, so who keeps it knows that no other number has the slot.
-use Rattle.std.specs.Prelude.{ℕ, List, Some}
+use Rattle.std.specs.Prelude.{ℕ, Some}
 use base.Fml.{GName, Fml, ftrue, fsep, fex, fres, fown}
 use denote.RattleType.{RattleType}
 use Rattle.table_slab.specs.Rights.{once, mark}

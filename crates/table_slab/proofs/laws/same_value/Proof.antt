@@ -1,46 +1,43 @@
--- What stands for good is one value.
-use Rattle.std.proofs.Common.{◌≡◌, ℕ, List, [], ◌∷◌, sym, refl}
-use mir.Syntax.{a_type, named}
-use mir.Val.{Val, vptr, vunit}
+-- Two that show one slot show one value.
+use Rattle.std.proofs.Common.{◌≡◌, [], ◌∷◌, ◌++◌, refl}
+use mir.Syntax.{a_type}
+use mir.Val.{vunit}
 use mir.MapTy.{inst_fn}
-use base.Logic.{SProp}
-use types.Kit.{‵, raw, ◌⊛◌, ◌$◌, ◌∵◌, !, qed, by, move, keep, drop, use2, split, fsplit, fsplit3, fjoin, rewrite, feq_i}
-use types.Run.{of_opd, unit_lit, returns, enter}
+use types.Kit.{‵, raw, ◌⊛◌, ◌$◌, ◌∵◌, !, qed, keep, move, split, join, fsplit, fsplit3, fjoin, feq_i, suffices, use2, done}
+use types.Run.{of_opd, unit_lit, returns}
 use types.ByLocal.{alloc_all, pass_all, free_all, look_at, sets}
-use contract.Running.{tables}
 use contract.Monad.{fact}
+use contract.Running.{tables}
 use denote.Exit.{yes}
 use denote.RattleType.{RattleType, owns}
 use denote.Signature.{types_at, plain}
-use denote.Steps.{nothing, heard}
-use denote.Opens.{unhide}
-use denote.Param.{param, layouts}
 use denote.Builtin.{RefOf}
-use denote.Ref.{shr_vals, shr_Tells}
-use denote.Triple.Walked.{Stays, stay_dropped, walk_of, Goes-dropped}
-use Rattle.std.proofs.raw_atomic.Walks.{proved, leaves}
-use Rattle.table_slab.specs.Rights.{written}
+use denote.Steps.{nothing, heard}
+use denote.Param.{param, layouts}
+use denote.Triple.Entry.{alive}
+use denote.Triple.Walked.{Stays, stay_dropped, Goes-dropped, ends_at}
+use Rattle.std.proofs.raw_atomic.Walks.{proved_at}
+use Rattle.table_cell.proofs.Walks.{begins}
 use Rattle.table_slab.specs.contracts.rights.Written as Written
-use Rattle.table_slab.proofs.Tokens.{written_agree}
-use Rattle.table_slab.specs.contracts.laws.same_value.{ended, clauses}
-use Rattle.table_slab.specs.contracts.laws.same_value.Key.{name as #self}
+use Rattle.table_slab.proofs.Shown.{one_value}
+use Rattle.table_slab.specs.contracts.laws.same_value as f
 use Rattle.table_slab.proofs.laws.same_value.Statement.{statement}
 use Rattle.table_slab.proofs.laws.same_value.Code as code
 
 pub same_value_spec : {M : Type 1} → statement M
 same_value_spec 𝓤 𝓛 𝓜 𝓡 wired T L =
-    let H = 𝓛.H in let 𝓣 = tables 𝓤 H 𝓜 𝓡 𝓡.env in let R : RattleType = param 0 T in let En = ended T in let S : RattleType = Written.the_row R in
-    let inst = layouts (a_type ∷ []) (T, tt) in let fn = inst_fn inst code.function in let c = clauses T 𝓛 𝓜.mem 𝓡.returns in
-    let one = RefOf (0 ∷ []) tt (plain (λ _. S)) (λ _. tt) in let two = RefOf (1 ∷ []) tt (plain (λ _. S)) (λ _. tt) in
-    let hs : Stays En.signature.params En.kept = (stay_dropped one yes, (stay_dropped two yes, tt)) in
-    proved 𝓛 En hs c 𝓜 𝓡 (Goes-dropped 𝓛 3 one yes (λ κs x f. refl), (Goes-dropped 𝓛 3 two yes (λ κs x f. refl), tt)) (#self inst) fn (code.unfolded 𝓤 H 𝓜 𝓡 wired (T, tt))
-    (λ κs. (shr_vals, (shr_vals, tt))) (λ κs. (shr_Tells (named 0) κs.0 S, (shr_Tells (named 1) κs.1.0 S, tt))) (λ κs qs bounds a gh are.
-    let d = a.0.now in let e = a.1.0.now in let p : Val = vptr a.0.ref_ptr.0 a.0.ref_ptr.1 in let q : Val = vptr a.1.0.ref_ptr.0 a.1.0.ref_ptr.1 in let γ : ℕ = d.of in let Same : Type 0 = γ ≡ e.of in
-    let y : (walk_of 𝓛 En hs c).Ghost = ((κs, qs, bounds, a, (p ∷ [], (q ∷ [], tt))), gh) in let Post : Val → SProp 𝓤 = (walk_of 𝓛 En hs c).post y in
-    qed 𝓛 ((raw (denote.Triple.Entry.alive 𝓛 En.signature κs qs) ⊛ ‵ (owns (types_at En.signature.params κs) a y.0.4)) ∷ raw (fact 𝓤 _) ∷ raw (fact 𝓤 Same) ∷ []) ∵ keep ! (2 ∷ 0 ∷ []) $ heard ! Same (λ same.
-    split ! $ move ! (1 ∷ []) $ fsplit3 ! $ fsplit ! $ move ! (2 ∷ []) $ fsplit ! $ keep ! (1 ∷ 3 ∷ 5 ∷ []) $ unhide ! $ fsplit ! $ drop ! $ move ! (1 ∷ []) $ unhide ! $ fsplit ! $ drop ! $
-    -- [what one shows; what the other shows; the tokens]
-    rewrite ! 1 (λ (k : ℕ). ‵ (written R k e.value)) (sym same) refl $ use2 𝓛 (raw (fact 𝓤 (d.value ≡ e.value))) (written_agree 𝓛 R γ d.value e.value) $
-    enter ! 𝓣.C 𝓣.Λ fn (p ∷ q ∷ []) Post $ alloc_all ! (λ l. pass_all ! refl ((tt, tt), ((tt, tt), tt)) $
-    sets ! (of_opd ! (unit_lit !)) refl (tt, tt) $ feq_i ! (List Val) (vunit ∷ []) (vunit ∷ []) refl $ nothing ! $ nothing ! $ fjoin ! $ nothing ! $ fjoin ! $
-    returns ! (look_at ! 0 refl) $ free_all ! refl $ keep ! (3 ∷ 0 ∷ 1 ∷ 2 ∷ []) $ by ! (leaves 𝓛 En hs c y vunit tt (tt, (tt, tt)) (tt, (tt, tt))))))
+    let Known : RattleType = Written.the_row (param 0 T) in let En = f.ended T in let c = f.clauses T 𝓛 𝓜.mem 𝓡.returns in
+    let one = RefOf (0 ∷ []) tt (plain (λ _. Known)) (λ _. tt) in let other = RefOf (1 ∷ []) tt (plain (λ _. Known)) (λ _. tt) in
+    let dropped : Stays En.signature.params En.kept = (stay_dropped one yes, (stay_dropped other yes, tt)) in
+    let 𝓣 = tables 𝓤 𝓛.H 𝓜 𝓡 𝓡.env in let types = layouts (a_type ∷ []) (T, tt) in let fn = inst_fn types code.function in
+    proved_at 𝓛 En dropped c 𝓜 𝓡 (Goes-dropped 𝓛 3 one yes (λ κs x w. refl), (Goes-dropped 𝓛 3 other yes (λ κs x w. refl), tt)) (f.Key.name types) fn (code.unfolded 𝓤 𝓛.H 𝓜 𝓡 wired (T, tt)) (λ y are.
+    let this = y.0.3.0 in let that = y.0.3.1.0 in let Agree = this.now.value ≡ that.now.value in
+    qed 𝓛 ((raw (alive 𝓛 En.signature y.0.0 y.0.1) ⊛ ‵ (owns (types_at En.signature.params y.0.0) y.0.3 y.0.4)) ∷ raw (fact 𝓤 _) ∷ raw (fact 𝓤 (y.0.3.0.now.of ≡ y.0.3.1.0.now.of)) ∷ []) ∵
+    move ! (2 ∷ []) $ heard ! (this.now.of ≡ that.now.of) (λ same. split ! $ move ! (1 ∷ []) $ fsplit3 ! $ fsplit ! $ move ! (2 ∷ []) $ fsplit ! $ keep ! (3 ∷ 1 ∷ 5 ∷ []) $
+    -- [one `&`; the other; the tokens]
+    use2 𝓛 (raw (fact 𝓤 Agree)) (one_value 𝓛 (param 0 T) y.0.0.0 y.0.0.1.0 this.ref_ptr.0 this.ref_ptr.1 that.ref_ptr.0 that.ref_ptr.1 this.now that.now same) $
+    begins ! fn (λ i. are.0.0 i ++ (are.1.0.0 i ++ [])) $ alloc_all ! (λ l. pass_all ! refl ((tt, tt), ((tt, tt), tt)) $
+    sets ! (of_opd ! (unit_lit !)) refl (tt, tt) $ returns ! (look_at ! 0 refl) $ free_all ! refl $
+    suffices ! _ (ends_at 𝓛 En dropped c y vunit tt (tt, (tt, tt)) (tt, (tt, tt))) $ feq_i ! _ (vunit ∷ []) (vunit ∷ []) refl $
+    -- [nothing of the two; the unit; what is shown; the tokens]
+    nothing ! $ nothing ! $ fjoin ! $ nothing ! $ fjoin ! $ join ! $ keep ! (2 ∷ 0 ∷ 1 ∷ []) $ join ! $ join ! $ done !)))

@@ -28,7 +28,7 @@ use Rattle.table_slab.specs.contracts.counter.rule.Gains as Gains
 use Rattle.table_slab.specs.contracts.rights.Rooms as Rooms
 use Rattle.table_slab.specs.contracts.counter.rule.CountsRuleEventU64.TheImpl as rule_impl
 use Rattle.table_slab.specs.contracts.counter.rule.GainsGainEventU64.TheImpl as gain_impl
-use Rattle.table_slab.proofs.Made.{rooms_told}
+use Rattle.table_slab.proofs.Made.{token_told}
 use Rattle.table_slab.specs.contracts.counter.trade.start.{ended, clauses}
 use Rattle.table_slab.specs.contracts.counter.trade.start.Key.{name as #self}
 use Rattle.table_slab.proofs.counter.trade.start.Statement.{statement}
@@ -41,7 +41,7 @@ start_spec 𝓤 𝓛 𝓜 𝓡 wired V LV =
     let E' : RattleType = Events.the_row in let P' : RattleType = Counts.the_row R in let G' : RattleType = Gains.the_row R in let rl = rule_impl.ghosts R in let gg = gain_impl.ghosts R in let Rs : RattleType = Rooms.the_row R in
     let self = plain (λ _. Rs) in let S : RattleType = Start.the_row E' u64 P' rl in let All : RattleType = Tuple (E' ∷ u64 ∷ P' ∷ []) in let hs : Stays En.signature.params En.kept = (stay_dropped self no, tt) in
     proved 𝓛 En hs c 𝓜 𝓡 (Goes-dropped 𝓛 1 self no (λ κs x f. refl), tt) (#self inst) fn (code.unfolded 𝓤 H 𝓜 𝓡 wired (V, tt))
-    (λ κs. ((λ x. token ∷ []), tt)) (λ κs. ((λ x vs is. rooms_told R vs is.0), tt)) (λ κs qs bounds a gh are.
+    (λ κs. ((λ x. token ∷ []), tt)) (λ κs. ((λ x vs is. token_told R vs is.0), tt)) (λ κs qs bounds a gh are.
     let ns : List ℕ = a.0.names in let y : (walk_of 𝓛 En hs c).Ghost = ((κs, qs, bounds, a, (token ∷ [], tt)), gh) in let Post : Val → SProp 𝓤 = (walk_of 𝓛 En hs c).post y in
     qed 𝓛 ((raw (denote.Triple.Entry.alive 𝓛 En.signature κs qs) ⊛ ‵ (owns (types_at En.signature.params κs) a y.0.4)) ∷ raw ((c κs a).requires gh) ∷ []) ∵ split ! $ keep ! (1 ∷ 0 ∷ []) $ fsplit ! $ fsplit ! $ keep ! (1 ∷ 3 ∷ []) $
     use0 𝓛 (‵ ((Token All).own_val (record {}, tt) (token ∷ []))) (token_made All 𝓛) $ fjoin ! $ let r : S.Denot = record { marker = record {}; names = ns; shown = [] } in

@@ -36,7 +36,7 @@ use Rattle.table_slab.specs.contracts.rights.Rooms as Rooms
 use Rattle.table_slab.specs.contracts.counter.rule.CountsRuleEventU64.TheImpl as rule_impl
 use Rattle.table_slab.specs.contracts.counter.rule.GainsGainEventU64.TheImpl as gain_impl
 use Rattle.table_slab.specs.Rights.{rooms}
-use Rattle.table_slab.proofs.Made.{rooms_told}
+use Rattle.table_slab.proofs.Made.{token_told}
 use Rattle.table_slab.proofs.Trades as trades
 use Rattle.table_slab.specs.contracts.counter.trade.swapping.{ended, clauses}
 use Rattle.table_slab.specs.contracts.counter.trade.swapping.Key.{name as #self}
@@ -51,7 +51,7 @@ swapping_spec 𝓤 𝓛 𝓜 𝓡 wired V LV =
     let Sn : RattleType = Seen.the_row E' u64 P' rl in let Off : RattleType = Offer.the_row E' u64 P' G' rl gg in let All : RattleType = Tuple (E' ∷ u64 ∷ P' ∷ G' ∷ []) in
     let rights = plain (λ _. Rs) in let seen = RefOf (0 ∷ []) tt (plain (λ _. Sn)) (λ _. tt) in let number = plain (λ _. u64) in let hs : Stays En.signature.params En.kept = (stay_dropped rights no, (stay_dropped seen yes, (stay_dropped number yes, tt))) in
     proved 𝓛 En hs c 𝓜 𝓡 (Goes-dropped 𝓛 2 rights no (λ κs x f. refl), (Goes-dropped 𝓛 2 seen yes (λ κs x f. refl), (Goes-dropped 𝓛 2 number yes (λ κs x f. refl), tt))) (#self inst) fn (code.unfolded 𝓤 H 𝓜 𝓡 wired (V, tt))
-    (λ κs. ((λ x. token ∷ []), (shr_vals, (uint_vals w64, tt)))) (λ κs. ((λ x vs is. rooms_told R vs is.0), (shr_Tells (named 0) κs.0 Sn, (uint_Tells w64, tt)))) (λ κs qs bounds a gh are.
+    (λ κs. ((λ x. token ∷ []), (shr_vals, (uint_vals w64, tt)))) (λ κs. ((λ x vs is. token_told R vs is.0), (shr_Tells (named 0) κs.0 Sn, (uint_Tells w64, tt)))) (λ κs qs bounds a gh are.
     let ns : List ℕ = a.1.0.now.names in let k : ℕ = a.1.1.0 in let at : Val = vptr a.1.0.ref_ptr.0 a.1.0.ref_ptr.1 in let y : (walk_of 𝓛 En hs c).Ghost = ((κs, qs, bounds, a, (token ∷ [], (at ∷ [], (vint w64 k ∷ [], tt)))), gh) in let Post : Val → SProp 𝓤 = (walk_of 𝓛 En hs c).post y in
     let ask : Event = Left k in let Are : Type 0 = a.0.names ≡ said_by ns k in
     qed 𝓛 ((raw (denote.Triple.Entry.alive 𝓛 En.signature κs qs) ⊛ ‵ (owns (types_at En.signature.params κs) a y.0.4)) ∷ raw (fact 𝓤 _) ∷ raw (fact 𝓤 Are) ∷ []) ∵ move ! (2 ∷ 0 ∷ []) $ heard ! Are (λ of. keep ! (0 ∷ []) $

@@ -24,7 +24,7 @@ use Rattle.core.specs.declared.option.Option.TheVariants.{None}
 use Rattle.table_slab.specs.Rights.{rooms}
 use Rattle.table_slab.specs.contracts.rights.Room as Room
 use Rattle.table_slab.specs.contracts.rights.Rooms as Rooms
-use Rattle.table_slab.proofs.Made.{token_val, pair_in, room_made, rooms_made, rooms_told}
+use Rattle.table_slab.proofs.Made.{token_val, pair_in, room_made, rooms_made, token_told}
 use Rattle.table_slab.specs.contracts.rights.Rooms.first.{ended, clauses}
 use Rattle.table_slab.specs.contracts.rights.Rooms.first.Key.{name as #self}
 use Rattle.table_slab.proofs.rights.Rooms.first.Statement.{statement}
@@ -40,7 +40,7 @@ first_spec 𝓤 𝓛 𝓜 𝓡 wired T L =
     let inst = layouts (a_type ∷ []) (T, tt) in let fn = inst_fn inst code.function in let c = clauses T 𝓛 𝓜.mem 𝓡.returns in
     let self = plain (λ _. Rs) in let hs : Stays En.signature.params En.kept = (stay_dropped self no, tt) in let pair : Val = vstruct (vcons token_val (vcons token_val vnil)) in
     proved 𝓛 En hs c 𝓜 𝓡 (Goes-dropped 𝓛 1 self no (λ κs x f. refl), tt) (#self inst) fn (code.unfolded 𝓤 H 𝓜 𝓡 wired (T, tt))
-    (λ κs. ((λ x. token_val ∷ []), tt)) (λ κs. ((λ x vs is. rooms_told R vs is.0), tt)) (λ κs qs bounds a gh are.
+    (λ κs. ((λ x. token_val ∷ []), tt)) (λ κs. ((λ x vs is. token_told R vs is.0), tt)) (λ κs qs bounds a gh are.
     let γs : List ℕ = a.0.names in let Some_of : Type 0 = 0 < length γs in
     let y : (walk_of 𝓛 En hs c).Ghost = ((κs, qs, bounds, a, (token_val ∷ [], tt)), gh) in let Post : Val → SProp 𝓤 = (walk_of 𝓛 En hs c).post y in
     qed 𝓛 ((raw (denote.Triple.Entry.alive 𝓛 En.signature κs qs) ⊛ ‵ (owns (types_at En.signature.params κs) a y.0.4)) ∷ raw (fact 𝓤 _) ∷ raw (fact 𝓤 Some_of) ∷ []) ∵ keep ! (2 ∷ 0 ∷ []) $ heard ! Some_of (λ so.

@@ -23,7 +23,7 @@ use Rattle.core.proofs.cell.Inside.{Good}
 use Rattle.table_slab.specs.Rights.{rooms}
 use Rattle.table_slab.specs.contracts.rights.Rooms as Rooms
 use Rattle.table_slab.proofs.Tokens.{rooms_split}
-use Rattle.table_slab.proofs.Made.{token_val, pair_in, rooms_made, rooms_told}
+use Rattle.table_slab.proofs.Made.{token_val, pair_in, rooms_made, token_told}
 use Rattle.table_slab.specs.contracts.rights.Rooms.split.{ended, clauses}
 use Rattle.table_slab.specs.contracts.rights.Rooms.split.Key.{name as #self}
 use Rattle.table_slab.proofs.rights.Rooms.split.Statement.{statement}
@@ -35,7 +35,7 @@ split_spec 𝓤 𝓛 𝓜 𝓡 wired T L =
     let inst = layouts (a_type ∷ []) (T, tt) in let fn = inst_fn inst code.function in let c = clauses T 𝓛 𝓜.mem 𝓡.returns in
     let self = plain (λ _. Rs) in let how = plain (λ _. usize) in let hs : Stays En.signature.params En.kept = (stay_dropped self no, (stay_dropped how yes, tt)) in let pair : Val = vstruct (vcons token_val (vcons token_val vnil)) in
     proved 𝓛 En hs c 𝓜 𝓡 (Goes-dropped 𝓛 1 self no (λ κs x f. refl), (Goes-dropped 𝓛 1 how yes (λ κs x f. refl), tt)) (#self inst) fn (code.unfolded 𝓤 H 𝓜 𝓡 wired (T, tt))
-    (λ κs. ((λ x. token_val ∷ []), ((λ n. vint w64 n ∷ []), tt))) (λ κs. ((λ x vs is. rooms_told R vs is.0), ((λ n vs is. is.0), tt))) (λ κs qs bounds a gh are.
+    (λ κs. ((λ x. token_val ∷ []), ((λ n. vint w64 n ∷ []), tt))) (λ κs. ((λ x vs is. token_told R vs is.0), ((λ n vs is. is.0), tt))) (λ κs qs bounds a gh are.
     let γs : List ℕ = a.0.names in let n : ℕ = a.1.0 in let Enough : Type 0 = n ≤ length γs in let fits : n < 2 ^ 64 = are.1.0.1 in
     let y : (walk_of 𝓛 En hs c).Ghost = ((κs, qs, bounds, a, (token_val ∷ [], (vint w64 n ∷ [], tt))), gh) in let Post : Val → SProp 𝓤 = (walk_of 𝓛 En hs c).post y in
     qed 𝓛 ((raw (denote.Triple.Entry.alive 𝓛 En.signature κs qs) ⊛ ‵ (owns (types_at En.signature.params κs) a y.0.4)) ∷ raw (fact 𝓤 _) ∷ raw (fact 𝓤 Enough) ∷ []) ∵ keep ! (2 ∷ 0 ∷ []) $ heard ! Enough (λ so.

@@ -46,7 +46,7 @@ use Rattle.table_slab.specs.Kept.{place, codes, Value, mine, Cell, shared_at, ro
 use Rattle.table_slab.specs.contracts.rights.Room as Room
 use Rattle.table_slab.specs.contracts.row.Row as Row
 use Rattle.table_slab.specs.contracts.row.Start as Start
-use Rattle.table_slab.proofs.Made.{token_val, room_made, room_told, word, word_had}
+use Rattle.table_slab.proofs.Made.{token_val, room_made, token_told, word, word_had}
 use Rattle.table_slab.proofs.Rows.{slot_seen}
 use Rattle.table_slab.proofs.Steps as steps
 use Rattle.table_slab.specs.contracts.row.Row.put.{ended, clauses}
@@ -66,7 +66,7 @@ put_spec 𝓤 𝓛 𝓜 𝓡 wired T L =
     let rb : ℕ = a.0.ref_ptr.0 in let ro : ℕ = a.0.ref_ptr.1 in let d = a.0.now in let start = a.1.0 in let i : ℕ = a.1.1.0 in let γs : List ℕ = d.names in let γ : ℕ = get_or γs i 0 in
     let Post : Val → SProp 𝓤 = (walk_of 𝓛 En hs c).post y in let Inside : Type 0 = (start.at ≡ d.at) × (i < length γs) in let s : ℕ = type_size R in let code_of : Option T.Denot → base.Stored.Gv = codes R in
     let τ : Lft = κs.1.0 in let r : Share = qs.1.0 in let rm = a.1.1.1.0 in let x : T.Denot = a.1.1.1.1.0 in let Of : Type 0 = rm.of ≡ γ in let Free : Type 0 = rm.value ≡ None in
-    let got = one (layout T) vss.1.1.1.1.0 ((LR.lawful 𝓛).typed x vss.1.1.1.1.0 are.1.1.1.1.0) in let w : Val = got.0 in let good : Good (layout T) w = got.2 in let e3 = room_told R vss.1.1.1.0 are.1.1.1.0.0 in
+    let got = one (layout T) vss.1.1.1.1.0 ((LR.lawful 𝓛).typed x vss.1.1.1.1.0 are.1.1.1.1.0) in let w : Val = got.0 in let good : Good (layout T) w = got.2 in let e3 = token_told R vss.1.1.1.0 are.1.1.1.0.0 in
     let Toks : Item 𝓤 = ‵ (flft κ q) ⊛ ‵ (flft τ r) ⊛ ‵ ftrue in let Had : List (Item 𝓤) = ‵ (T.own_val x (w ∷ [])) ∷ ‵ (room R rm.of rm.value) ∷ ‵ (hidden_shr Rw κ d rb ro) ∷ Toks ∷ [] in
     qed 𝓛 ((Toks ⊛ ‵ (owns (types_at En.signature.params κs) a vss)) ∷ raw (fact 𝓤 (τ ⊑ T.lives)) ∷ (raw (fact 𝓤 Inside) ⊛ raw (fact 𝓤 Of) ⊛ raw (fact 𝓤 Free)) ∷ []) ∵
     move ! (1 ∷ 2 ∷ 0 ∷ []) $ heard ! (τ ⊑ T.lives) (λ inc. split3 ! $ heard ! Inside (λ inside. heard ! Of (λ of. heard ! Free (λ free. split ! $ move ! (1 ∷ []) $

@@ -46,7 +46,7 @@ use Rattle.table_slab.specs.Kept.{place, codes, Value, Cell, shared_at, row_shar
 use Rattle.table_slab.specs.contracts.rights.Room as Room
 use Rattle.table_slab.specs.contracts.row.Row as Row
 use Rattle.table_slab.specs.contracts.row.Start as Start
-use Rattle.table_slab.proofs.Made.{token_val, pair_in, room_made, room_told, set_of, beside_token, word, word_had}
+use Rattle.table_slab.proofs.Made.{token_val, pair_in, room_made, token_told, set_of, beside_token, word, word_had}
 use Rattle.table_slab.proofs.Rows.{slot_seen, value_out}
 use Rattle.table_slab.proofs.Steps as steps
 use Rattle.table_slab.specs.contracts.row.Row.take.{ended, clauses}
@@ -65,7 +65,7 @@ take_spec 𝓤 𝓛 𝓜 𝓡 wired T L =
     let κs = y.0.0 in let qs = y.0.1 in let a = y.0.3 in let vss = y.0.4 in let κ : Lft = κs.0 in let q : Share = qs.0 in
     let rb : ℕ = a.0.ref_ptr.0 in let ro : ℕ = a.0.ref_ptr.1 in let d = a.0.now in let start = a.1.0 in let i : ℕ = a.1.1.0 in let γs : List ℕ = d.names in let γ : ℕ = get_or γs i 0 in
     let Post : Val → SProp 𝓤 = (walk_of 𝓛 En hs c).post y in let Inside : Type 0 = (start.at ≡ d.at) × (i < length γs) in let s : ℕ = type_size R in let code_of : Option T.Denot → base.Stored.Gv = codes R in
-    let τ : Lft = κs.1.0 in let r : Share = qs.1.0 in let rm = a.1.1.1.0 in let Of : Type 0 = rm.of ≡ γ in let Full : Type 0 = IsSome rm.value in let e3 = room_told R vss.1.1.1.0 are.1.1.1.0.0 in
+    let τ : Lft = κs.1.0 in let r : Share = qs.1.0 in let rm = a.1.1.1.0 in let Of : Type 0 = rm.of ≡ γ in let Full : Type 0 = IsSome rm.value in let e3 = token_told R vss.1.1.1.0 are.1.1.1.0.0 in
     let Toks : Item 𝓤 = ‵ (flft κ q) ⊛ ‵ (flft τ r) ⊛ ‵ ftrue in let Had : List (Item 𝓤) = ‵ (room R rm.of rm.value) ∷ ‵ (hidden_shr Rw κ d rb ro) ∷ Toks ∷ [] in
     qed 𝓛 ((Toks ⊛ ‵ (owns (types_at En.signature.params κs) a vss)) ∷ raw (fact 𝓤 _) ∷ (raw (fact 𝓤 Inside) ⊛ raw (fact 𝓤 Of) ⊛ raw (fact 𝓤 Full)) ∷ []) ∵
     move ! (2 ∷ 0 ∷ []) $ split3 ! $ heard ! Inside (λ inside. heard ! Of (λ of. heard ! Full (λ full_. let x : T.Denot = (set_of rm.value full_).0 in let is : rm.value ≡ Some x = (set_of rm.value full_).1 in split ! $ move ! (1 ∷ []) $

@@ -1,5 +1,4 @@
-use Rattle.std.proofs.Common.{◌≡◌, ℕ, ◌<◌, List, subst, arith}
-use Rattle.table_slab.specs.Counting.{part}
+use Rattle.std.proofs.Common.{ℕ, ◌<◌, subst, arith}
 use Rattle.table_slab.specs.Numbering.{IsAt}
 use Rattle.table_slab.proofs.Places.{few_numbers}
 use Rattle.table_slab.proofs.Runs.{run_cell, run_slots}
