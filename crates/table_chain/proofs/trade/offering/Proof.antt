@@ -45,7 +45,7 @@ use Rattle.table_chain.specs.contracts.rule.ChainRuleRuleEventU64.TheImpl as rul
 use Rattle.table_chain.specs.contracts.trade.Trade as Trade
 use Rattle.table_chain.specs.contracts.trade.TradeGainEventU64.TheImpl as gain_impl
 use Rattle.table_chain.proofs.Trades as trades
-use Rattle.table_slab.proofs.Made.{room_told, set_of}
+use Rattle.table_slab.proofs.Made.{token_told, set_of}
 use Rattle.table_slab.proofs.Shelved.{right_kept}
 use Rattle.table_chain.specs.contracts.trade.offering.{ended, clauses}
 use Rattle.table_chain.specs.contracts.trade.offering.Key.{name as #self}
@@ -64,7 +64,7 @@ offering_spec 𝓤 𝓛 𝓜 𝓡 wired V L S LV LL LS g d gs ds dds _ _ _ =
     let seen = RefOf (0 ∷ []) tt (plain (λ _. Sn)) (λ _. tt) in let a_site = plain (λ _. St) in let a_room = plain (λ _. Rm) in let number = plain (λ _. u64) in
     let hs : Stays En.signature.params En.kept = (stay_dropped seen yes, (stay_dropped number yes, (stay_dropped number yes, (stay_dropped a_site no, (stay_dropped a_room no, tt))))) in
     proved 𝓛 En hs c 𝓜 𝓡 (Goes-dropped 𝓛 4 seen yes (λ κs x f. refl), (Goes-dropped 𝓛 4 number yes (λ κs x f. refl), (Goes-dropped 𝓛 4 number yes (λ κs x f. refl), (Goes-dropped 𝓛 4 a_site no (λ κs x f. refl), (Goes-dropped 𝓛 4 a_room no (λ κs x f. refl), tt))))) (#self inst) fn (code.unfolded 𝓤 H 𝓜 𝓡 wired (V, (L, (S, tt))) d ds dds)
-    (λ κs. (shr_vals, (uint_vals w64, (uint_vals w64, ((λ x. token ∷ []), ((λ x. token ∷ []), tt)))))) (λ κs. (shr_Tells (named 0) κs.0 Sn, (uint_Tells w64, (uint_Tells w64, ((λ x vs is. site_told Ck vs is.0), ((λ x vs is. room_told R vs is.0), tt)))))) (λ κs qs bounds a gh are.
+    (λ κs. (shr_vals, (uint_vals w64, (uint_vals w64, ((λ x. token ∷ []), ((λ x. token ∷ []), tt)))))) (λ κs. (shr_Tells (named 0) κs.0 Sn, (uint_Tells w64, (uint_Tells w64, ((λ x vs is. site_told Ck vs is.0), ((λ x vs is. token_told R vs is.0), tt)))))) (λ κs qs bounds a gh are.
     let names : List ℕ = a.0.now.names in let p : ℕ = a.1.0 in let k : ℕ = a.1.1.0 in let st = a.1.1.1.0 in let rm = a.1.1.1.1.0 in let at : Val = vptr a.0.ref_ptr.0 a.0.ref_ptr.1 in
     let y : (walk_of 𝓛 En hs c).Ghost = ((κs, qs, bounds, a, (at ∷ [], (vint w64 p ∷ [], (vint w64 k ∷ [], (token ∷ [], (token ∷ [], tt)))))), gh) in let Post : Val → SProp 𝓤 = (walk_of 𝓛 En hs c).post y in
     let Of : Type 0 = IsSlot (slab_of names) k st.cell st.value rm.of in let Full : Type 0 = IsSome rm.value in

@@ -32,7 +32,7 @@ use Rattle.table_slab.specs.Shelved.{Spot, slab_of, right}
 use Rattle.table_slab.specs.contracts.chunk.Chunk as Chunk
 use Rattle.table_slab.specs.contracts.rights.Room as Room
 use Rattle.table_slab.specs.contracts.site.Site as Site
-use Rattle.table_slab.proofs.Made.{room_told, set_of}
+use Rattle.table_slab.proofs.Made.{token_told, set_of}
 use Rattle.table_slab.proofs.Shelved.{right_kept}
 use Rattle.table_numbered.proofs.Trades.{Happening}
 use Rattle.table_numbered.specs.declared.event.Stored.TheVariants.{Entry}
@@ -62,7 +62,7 @@ publishing_spec 𝓤 𝓛 𝓜 𝓡 wired V L A LV LL LA g d ga da dd _ _ _ =
     let seen = RefOf (0 ∷ []) tt (plain (λ _. Sn)) (λ _. tt) in let site = plain (λ _. St) in let room-given = plain (λ _. Rm) in let number = plain (λ _. u64) in
     let hs : Stays En.signature.params En.kept = (stay_dropped seen yes, (stay_dropped number yes, (stay_dropped number yes, (stay_dropped site no, (stay_dropped room-given no, tt))))) in
     proved 𝓛 En hs c 𝓜 𝓡 (Goes-dropped 𝓛 4 seen yes (λ κs x f. refl), (Goes-dropped 𝓛 4 number yes (λ κs x f. refl), (Goes-dropped 𝓛 4 number yes (λ κs x f. refl), (Goes-dropped 𝓛 4 site no (λ κs x f. refl), (Goes-dropped 𝓛 4 room-given no (λ κs x f. refl), tt))))) (#self inst) fn (code.unfolded 𝓤 H 𝓜 𝓡 wired (V, (L, (A, tt))) d da dd)
-    (λ κs. (shr_vals, (uint_vals w64, (uint_vals w64, ((λ x. token ∷ []), ((λ x. token ∷ []), tt)))))) (λ κs. (shr_Tells (named 0) κs.0 Sn, (uint_Tells w64, (uint_Tells w64, ((λ x vs is. site_told (Chunk.the_row R (param 2 A) ga) vs is.0), ((λ x vs is. room_told R vs is.0), tt)))))) (λ κs qs bounds a gh are.
+    (λ κs. (shr_vals, (uint_vals w64, (uint_vals w64, ((λ x. token ∷ []), ((λ x. token ∷ []), tt)))))) (λ κs. (shr_Tells (named 0) κs.0 Sn, (uint_Tells w64, (uint_Tells w64, ((λ x vs is. site_told (Chunk.the_row R (param 2 A) ga) vs is.0), ((λ x vs is. token_told R vs is.0), tt)))))) (λ κs qs bounds a gh are.
     let names : List ℕ = a.0.now.names in let p : ℕ = a.1.0 in let k : ℕ = a.1.1.0 in let st = a.1.1.1.0 in let rm = a.1.1.1.1.0 in let at : Val = vptr a.0.ref_ptr.0 a.0.ref_ptr.1 in
     let y : (walk_of 𝓛 En hs c).Ghost = ((κs, qs, bounds, a, (at ∷ [], (vint w64 p ∷ [], (vint w64 k ∷ [], (token ∷ [], (token ∷ [], tt)))))), gh) in let Post : Val → SProp 𝓤 = (walk_of 𝓛 En hs c).post y in
     let z : Spot = record { cell = st.cell; names = st.value; of = rm.of } in let Of : Type 0 = IsSlot (slab_of names) k st.cell st.value rm.of in let Full : Type 0 = IsSome rm.value in
