@@ -71,7 +71,7 @@ module _ (P Q : RattleType) where
 abbrev one_word : Shape
 one_word = record { name = []; args = []; types = []; fields = RawPtr ∷ [] }
 
-abbrev Word : RattleType
+abbrev pub Word : RattleType
 Word = Struct one_word
 
 abbrev pub word : Ptr → Val

@@ -1,210 +1,76 @@
--- The new block is cut into empty slots, each under a new name, and the right to free it is kept. Assumes `Logic`.
-use mathlib.Core.Path.{◌≡◌, refl, sym, ap, subst}
+-- The allocator is asked for a block, which is cut into the parts that the answer has. A refusal is passed on.
+use Rattle.std.proofs.Common.{◌≡◌, ℕ, ◌*◌, ◌^◌, ◌<◌, [], ◌∷◌, refl, arith, w64}
 use mathlib.Core.Bool.{true, false}
-use Prim.Native.Nat.{ℕ, ◌*◌, ◌<◌, ◌^◌}
-use native.Mathlib.Omega.{arith}
-use mathlib.Core.List.{List, [], ◌∷◌, ◌++◌}
 use lib.Dec.{lit<}
-use lib.ListN.{length}
-use seplogic.Ra.Ura.{Ura}
-use mir.Syntax.{Fn, Body, named, w64, ty_array}
+use mir.Syntax.{Body}
+use mir.Val.{Val, vint, vptr, vstruct, vcons, vnil}
 use mir.MapTy.{inst_fn}
-use mir.Val.{Val, vptr, vint, vstruct, vcons, vnil}
-use base.Logic.{SProp, ent}
+use base.Logic.{SProp, emp}
 use base.Fml.{Lft, Share, Incl-trans, ftrue, flft}
-use prog.Memory.{Memory, align, capped}
-use prog.Capped.{capped_fits}
-use prog.Routine.{Routine}
-use prog.Wp.{Env, Wp, Calls, Loops, WpFn, Tables, after_seq, at_return}
-use types.Logic.{Logic}
-use contract.Monad.{Fun, fact}
-use contract.BorrowLft.{◌⊑◌}
-use contract.Running.{tables, tables_of}
-use sound.WpLaws.{WpFn-mono, FmC, fm_of}
-use types.Kit.{Item, ⋆, ‵, raw, ◌⊛◌, some, later, await, pick, learn, Post as After, any_q, at_ret, ◌$◌, ◌∵◌, !, qed, by, move, keep, use0, use1, use2, group, split, join, fsplit, fsplit3, fjoin, feq_l, flt_l, flt_i, suffices, frame, done}
-use types.Part.{whole, agg}
+use prog.Wp.{WpFn}
+use types.Kit.{Item, Goal, prop, at_ret, ‵, raw, ◌⊛◌, ◌$◌, ◌∵◌, !, qed, by, move, keep, drop, use1, split, fsplit, regoal}
 use types.Match.{live, vrt, in_variant}
-use types.Run.{stop, fld, lit, of_opd, bin, and_then, no_more, first, exec, returns, enter, size_word, align_word, switches_on}
-use types.ByLocal.{alloc_all, pass_all, free_all, look_at, get, get_in, get_tag, sets, sets_last, is, env, lands_as}
-use denote.Exit.{yes}
-use denote.RattleType.{RattleType, owns}
-use denote.Laws.{Is}
-use denote.Memory.{hidden_shr}
+use types.Part.{agg, whole}
+use types.Run.{stop, fld, lit, of_opd, no_more, and_then, exec, returns, enter, align_word}
+use types.ByLocal.{alloc_all, pass_all, free_all, look_at, get, get_in, get_tag, sets, sets_last, lands_as, env}
+use contract.Monad.{fact, fact_i}
+use contract.BorrowLft.{◌⊑◌}
+use contract.Running.{tables}
+use denote.RattleType.{RattleType, flat, owns}
+use denote.Shadow.{pure_i}
+use denote.Signature.{types_at}
+use denote.Steps.{heard}
 use denote.Param.{layout}
-use denote.RawPtr.{Ptr, block_ptr}
-use denote.Ref.{Bor, ShrRef}
-use denote.Builtin.{RefOf, usize}
-use denote.Signature.{plain}
-use denote.Steps.{nothing, owned}
-use denote.Struct.Struct.{Struct, Struct-Makes}
-use denote.Struct.Declared as Declared
-use denote.Struct.Tuple.{Tuple}
-use denote.Triple.Clauses.{Clauses, Ended, closing}
-use denote.Triple.Entry.{on_entry}
-use denote.Triple.Spec.{Meets, triple_of}
-use denote.Triple.Statement.{Triple}
-use denote.Triple.Table.{entered}
-use denote.Triple.Call.{calls_at}
-use denote.Triple.Walked.{says, needs, Stays, stay_dropped, walk_of, ends_at, Goes-dropped, walk_Meets}
-use Rattle.std.specs.Prelude.{IfOk, Ok, Err}
-use Rattle.std.specs.Mem.{type_size}
+use denote.RawPtr.{block_ptr}
+use denote.Triple.Entry.{Vals}
+use denote.Triple.Table.{framed}
+use Rattle.std.specs.Prelude.{Ok, Err}
 use Rattle.std.specs.Vec.Ownership.{FitsInBlock}
-use Rattle.core.specs.contracts.result.Result as RS
-use Rattle.core.specs.contracts.alloc.AllocError as AE
-use Rattle.core.proofs.mem.Param.{El, R, elτ}
-use Rattle.core.proofs.alloc.Calls.{Al, second, Answer-typed, takes_key, Takes, at_takes, Answered, Takes-goes, Takes-gives, answers}
-use Rattle.core.proofs.slots.Leases.{uncapped, block_ty, block_size, block_align, args, P}
-use Rattle.std_alloc.proofs.RawLayout.{as_written}
-use Rattle.std_alloc.proofs.RcSteps.{Good, word-Good, first_Good}
-use Rattle.std_alloc.proofs.ResultValues.{ok_of, err_of}
+use Rattle.std.proofs.raw_atomic.Walks.{proved_at}
+use Rattle.core.specs.Mem.{type_size}
+use Rattle.core.specs.contracts.result.Result as result
+use Rattle.core.specs.contracts.alloc.AllocError as refusal
+use Rattle.core.proofs.mem.Param.{El, R}
+use Rattle.core.proofs.alloc.Calls.{Al, Answer-typed}
+use Rattle.core.proofs.slots.Leases.{args}
+use Rattle.std_alloc.proofs.RcSteps.{Good, word-Good}
+use Rattle.std_alloc.proofs.ResultValues.{ok_of}
 use Rattle.std_alloc.proofs.VecSteps.Shapes.{after, head, arm_body}
-use Rattle.table_cell.proofs.Tokens.{InMemory, mark_of_nothing}
-use Rattle.table_slab.specs.contracts.rights.Rooms as Rights
-use Rattle.table_slab.specs.contracts.row.Row as Slots
-use Rattle.table_slab.specs.contracts.row.Start as Begin
-use Rattle.table_slab.specs.contracts.row.Deed as Lease
-use Rattle.table_slab.proofs.Made.{token_val, word, word_made, rooms_made, four_val, four_of}
-use Rattle.table_slab.proofs.Rows.{opened, Opened}
-use Rattle.table_slab.specs.contracts.row.allocate as F
+use Rattle.table_slab.proofs.Blocks.{Parts, parts, parts_val, bytes, asks, goes_into, token_made, Used, used, used_go, used_up}
+use Rattle.table_slab.specs.contracts.row.allocate.{ended, clauses}
 use Rattle.table_slab.specs.contracts.row.allocate.Key.{name as #self}
-use Rattle.table_slab.proofs.row.allocate.Statement as stated
+use Rattle.table_slab.proofs.row.allocate.Statement.{statement}
 use Rattle.table_slab.proofs.row.allocate.Code as code
 
-module _ (E : El) where
-  abbrev St : RattleType
-  St = Begin.the_row (R E)
-
-  abbrev Rw : RattleType
-  Rw = Slots.the_row (R E)
-
-  abbrev Rs : RattleType
-  Rs = Rights.the_row (R E)
-
-  abbrev sz : ℕ
-  sz = type_size (R E)
-
-module _ (E : El) (Z : Al) where
-  abbrev function : Fn
-  function = inst_fn (args E Z) code.function
-
-  abbrev ended : Ended
-  ended = F.ended E.row Z.row Z.g Z.d Z.drops
-
-  abbrev clauses : {M : Type 1} {𝓤 : Ura M} (𝓛 : Logic 𝓤) → (Memory → SProp 𝓤) → (Routine → Fun 𝓤) → Clauses 𝓤 ended
-  clauses 𝓛 = F.clauses E.row Z.row Z.g Z.d Z.drops 𝓛
-
-  abbrev Dd : RattleType
-  Dd = Lease.the_row (R E) (P E Z) Z.g
-
-  abbrev stayed : Stays ended.signature.params ended.kept
-  stayed = (stay_dropped (RefOf (0 ∷ []) tt (plain (λ _. P E Z)) (λ _. tt)) yes, (stay_dropped (plain (λ _. usize)) yes, tt))
-
-  abbrev Four : RattleType
-  Four = Tuple (St E ∷ Rw E ∷ Rs E ∷ Dd ∷ [])
-
-  abbrev Out : RattleType
-  Out = RS.the_row Four AE.the_row
-
-module _ (E : El) (Z : Al) {M : Type 1} {𝓤 : Ura M} (𝓛 : Logic 𝓤) (at_mem : Memory → SProp 𝓤) (run : Routine → Fun 𝓤) (C : Calls 𝓤 𝓛.H) (Λ : Loops 𝓤 𝓛.H) (fm : FmC 𝓤 𝓛.H 𝓛.laws C)
-    (callee : Triple 𝓤 (C (takes_key Z)) (Takes Z 𝓛 at_mem run)) (κ κ₁ κ₂ : Lft) (q q₁ q₂ : Share) (short : κ ⊑ κ₂) (within : κ₂ ⊑ Z.row.lives) (rb ro : ℕ) (a : Z.row.Denot) (n : ℕ) (us0 us1 : List Val) where
-  open 𝓛 use {H, A}
-
-  abbrev self : Bor Z.row.Denot
-  self = record { ref_ptr = (rb, ro); now = a }
-
-  abbrev others : Item 𝓤
-  others = ‵ (flft κ₁ q₁) ⊛ ‵ (flft κ₂ q₂) ⊛ ‵ ftrue
-
-  abbrev bound : (walk_of 𝓛 (ended E Z) (stayed E Z) (clauses E Z 𝓛 at_mem run)).Ghost
-  bound = (((κ, (κ₁, (κ₂, tt))), (q, (q₁, (q₂, tt))), (short, tt), (self, (n, tt)), (us0, (us1, tt))), tt)
-
-  abbrev Post : Val → SProp 𝓤
-  Post = (walk_of 𝓛 (ended E Z) (stayed E Z) (clauses E Z 𝓛 at_mem run)).post bound
-
-  abbrev Gives_back : (Out E Z).Denot → Type 0
-  Gives_back r = IfOk r (λ t. (t.1.at ≡ t.0.at) × (length t.1.names ≡ n) × (t.2.names ≡ t.1.names) × (t.3.at ≡ t.0.at) × (t.3.count ≡ n) × (t.3.alloc ≡ a))
-
-  exits : (r : (Out E Z).Denot) (v : Val) → Gives_back r → ent 𝓤 (⋆ 𝓛 (‵ ((Out E Z).own_val r (v ∷ [])) ∷ ‵ (flft κ q) ∷ others ∷ [])) (Post v)
-  exits r v g =
-      qed 𝓛 (‵ ((Out E Z).own_val r (v ∷ [])) ∷ ‵ (flft κ q) ∷ others ∷ []) ∵
-      suffices ! _ (ends_at 𝓛 (ended E Z) (stayed E Z) (clauses E Z 𝓛 at_mem run) bound v r (tt, (tt, tt)) (tt, (tt, tt))) $ says ! g $
-      move ! (1 ∷ 2 ∷ []) $ join ! $ frame ! $ nothing ! $ nothing ! $ fjoin ! $ nothing ! $ fjoin ! $ done !
-
-  abbrev Had : List (Item 𝓤)
-  Had = ‵ (hidden_shr (P E Z) κ a rb ro) ∷ ‵ (flft κ q) ∷ others ∷ []
-
-  walk : FitsInBlock (R E) n → n < 2 ^ 64 → ent 𝓤 (⋆ 𝓛 Had) (WpFn 𝓤 H C Λ (function E Z) (vptr rb ro ∷ vint w64 n ∷ []) Post)
-  walk asked fits =
-      let s = sz E in let small : n * s < 2 ^ 63 = asked.0 in let bytes : n * s < 2 ^ 64 = omega arith in
-      qed 𝓛 Had ∵ enter ! C Λ (function E Z) (vptr rb ro ∷ vint w64 n ∷ []) _ $ alloc_all ! (λ l. pass_all ! refl ((tt, tt), ((tt, record { fits = fits }), tt)) $
-      let En : Env 𝓤 H = env (function E Z).locals l in
-      let both : Body = head (after 2 (function E Z).body) in
-      let Then : After 𝓤 H = any_q (after_seq 𝓤 H (Wp 𝓤 H C Λ En (after 3 (function E Z).body) (at_return 𝓤 H En Post)) (at_return 𝓤 H En Post)) in
-      let al : ℕ = capped (align (elτ E)) in
-      let y : (Takes Z 𝓛 at_mem run).Ghost = at_takes Z 𝓛 at_mem run κ q (rb, ro) a (n * s) al (block_ty E n) in
-      sets ! (is ! (bin ! (get ! refl) (size_word !) (record { fits = subst (λ (k : ℕ). k < 2 ^ 64) (sym (uncapped n s bytes)) bytes })) (ap (vint w64) (uncapped n s bytes))) refl (tt, record { fits = bytes }) $
-      use2 𝓛 (raw ((Takes Z 𝓛 at_mem run).pre y)) (Takes-goes Z 𝓛 at_mem run κ q (rb, ro) a (Incl-trans short within) (n * s) al (block_ty E n) (block_size E n bytes) (block_align E n) bytes (capped_fits (align (elτ E)))) $
-      calls_at ! fm (Takes Z 𝓛 at_mem run) callee y (and_then ! (get ! refl) (and_then ! (get ! refl) (and_then ! (align_word !) (no_more !)))) (λ v.
-      use1 𝓛 (later (raw (Answered Z 𝓛 at_mem run a (block_ty E n) v) ⊛ ‵ (flft κ q))) (Takes-gives Z 𝓛 at_mem run κ q (rb, ro) a (n * s) al (block_ty E n) v) $ await ! tt $ split ! $
-      answers Z ! at_mem run a (block_ty E n) v
-      (λ b o e.
-      let p : Ptr = block_ptr b o in
-      lands_as ! e refl (Answer-typed true b o) $ first ! $ switches_on ! (get_tag ! (vrt ! refl (fld ! refl (stop !))) (whole !)) $ exec ! C Λ En (arm_body 0 both) Then $
-      -- [the room; the right to free it; the token; the others]
-      as_written ! (ty_array (elτ E) n) b o $ use1 𝓛 (later (some (Opened E.row E.laws 𝓛 b n o))) (opened E.row E.laws 𝓛 b n o) $ await ! tt $ pick ! (λ γs. learn ! (λ counts. split ! $
-      let start : (St E).Denot = record { at = p } in let slots : (Rw E).Denot = record { marker = record {}; at = p; names = γs } in let rights : (Rs E).Denot = record { marker = record {}; names = γs } in
-      let deed : (Dd E Z).Denot = record { marker = record {}; at = p; count = n; alloc = a } in
-      let made : Val = four_val (word p) token_val token_val token_val in
-      let typed : Good (layout (Four E Z)) made = (tt, ((tt, tt), ((tt, tt), ((tt, tt), ((tt, tt), tt))))) in
-      let ok = first_Good (layout (Four E Z)) made typed in
-      sets ! (of_opd ! (get_in ! (vrt ! refl (fld ! refl (stop !))) (in_variant ! 0 0 refl refl (whole !)))) refl (tt, tt) $ sets ! (of_opd ! (get ! refl)) refl (tt, tt) $
-      sets ! (agg ! (and_then ! (get ! refl) (no_more !))) refl (word-Good [] p) $
-      sets ! (agg ! (no_more !)) refl (tt, tt) $ sets ! (agg ! (and_then ! (get ! refl) (no_more !))) refl (tt, (tt, tt)) $
-      sets ! (agg ! (no_more !)) refl (tt, tt) $ sets ! (agg ! (and_then ! (get ! refl) (no_more !))) refl (tt, (tt, tt)) $
-      sets ! (agg ! (no_more !)) refl (tt, tt) $ sets ! (agg ! (and_then ! (get ! refl) (no_more !))) refl (tt, (tt, tt)) $
-      sets ! (agg ! (and_then ! (get ! refl) (and_then ! (get ! refl) (and_then ! (get ! refl) (and_then ! (get ! refl) (no_more !)))))) refl typed $
-      sets_last ! (agg ! (and_then ! (lit ! tt) (and_then ! (get ! refl) (no_more !)))) refl ok $
-      exec ! C Λ En (after 3 (function E Z).body) (at_ret En Post) $ sets ! (of_opd ! (get ! refl)) refl ok $
-      -- [the row; the rights; the right to free it; the token; the others]
-      move ! (2 ∷ []) $ use0 𝓛 (‵ (InMemory (token_val ∷ []))) (mark_of_nothing 𝓛) $ fjoin ! $ move ! (2 ∷ []) $
-      use1 𝓛 (‵ ((Rs E).own_val rights (token_val ∷ []))) (rooms_made 𝓛 (R E) γs) $ move ! (2 ∷ []) $
-      flt_i ! (length γs * s) (2 ^ 63) (subst (λ (k : ℕ). k * s < 2 ^ 63) (sym counts) small) $ fjoin ! $ use0 𝓛 (‵ (InMemory (token_val ∷ []))) (mark_of_nothing 𝓛) $ fjoin ! $ word_made ! p $
-      -- [the start; the row; the rights; the deed; the token; the others]
-      group ! 4 $ use1 𝓛 (‵ ((Four E Z).own_val (start, slots, rights, deed) (made ∷ []))) (four_of 𝓛 (St E) (Rw E) (Rs E) (Dd E Z) start slots rights deed (word p) token_val token_val token_val) $
-      use1 𝓛 (‵ ((Out E Z).own_val (Ok (start, slots, rights, deed)) (live 0 (vcons made vnil) ∷ []))) (ok_of 𝓛 (Four E Z) AE.the_row (start, slots, rights, deed) made) $
-      returns ! (look_at ! 0 refl) $ free_all ! refl $ keep ! (0 ∷ 1 ∷ 2 ∷ []) $ by ! (exits (Ok (start, slots, rights, deed)) (live 0 (vcons made vnil)) (refl, counts, refl, refl, refl, refl)))))
-      (λ e.
-      let Refusal : RattleType = Struct (Declared.shape AE.the_type) in
-      let none : Val = live 1 (vcons (vstruct vnil) vnil) in
-      lands_as ! e refl (Answer-typed false 0 0) $ first ! $ switches_on ! (get_tag ! (vrt ! refl (fld ! refl (stop !))) (whole !)) $ exec ! C Λ En (arm_body 1 both) Then $
-      sets ! (of_opd ! (get_in ! (vrt ! refl (fld ! refl (stop !))) (in_variant ! 1 0 refl refl (whole !)))) refl (tt, tt) $
-      sets_last ! (agg ! (and_then ! (lit ! tt) (and_then ! (get ! refl) (no_more !)))) refl (tt, (record { fits = lit< tt }, (tt, tt))) $
-      exec ! C Λ En (after 3 (function E Z).body) (at_ret En Post) $ sets ! (of_opd ! (get ! refl)) refl (tt, (record { fits = lit< tt }, (tt, tt))) $
-      owned ! Refusal (Is Refusal) (Struct-Makes 𝓛 (Declared.shape AE.the_type) tt) tt (vstruct vnil ∷ []) (tt, (refl, tt)) $
-      use1 𝓛 (‵ ((Out E Z).own_val (Err (record {})) (none ∷ []))) (err_of 𝓛 (Four E Z) AE.the_row (record {}) (vstruct vnil)) $
-      returns ! (look_at ! 0 refl) $ free_all ! refl $ keep ! (0 ∷ 1 ∷ 2 ∷ []) $ by ! (exits (Err (record {})) none tt))))
-
-  entry : FitsInBlock (R E) n → ent 𝓤 (on_entry 𝓛 (ended E Z).signature (κ, (κ₁, (κ₂, tt))) (q, (q₁, (q₂, tt))) (self, (n, tt)) (us0, (us1, tt))) (WpFn 𝓤 H C Λ (function E Z) (us0 ++ (us1 ++ [])) Post)
-  entry asked =
-      qed 𝓛 ((‵ (flft κ q) ⊛ others) ∷ ‵ (owns (ShrRef (named 0) κ (P E Z) ∷ usize ∷ []) (self, (n, tt)) (us0, (us1, tt))) ∷ []) ∵ split ! $ move ! (2 ∷ []) $ fsplit3 ! $ fsplit ! $ feq_l ! (λ e0.
-      move ! (1 ∷ []) $ fsplit ! $ feq_l ! (λ e1. flt_l ! (λ fits. keep ! (0 ∷ 2 ∷ 3 ∷ []) $
-      by ! (subst (λ (ws : List Val × List Val). ent 𝓤 (⋆ 𝓛 Had) (WpFn 𝓤 H C Λ (function E Z) (ws.0 ++ (ws.1 ++ [])) Post)) (λ j. (sym e0 j, sym e1 j)) (walk asked fits)))))
-
-meets : (E : El) (Z : Al) {M : Type 1} {𝓤 : Ura M} (𝓛 : Logic 𝓤) (at_mem : Memory → SProp 𝓤) (run : Routine → Fun 𝓤) (𝓣 : Tables 𝓤 𝓛.H) → Triple 𝓤 (𝓣.C (takes_key Z)) (Takes Z 𝓛 at_mem run)
-    → Meets 𝓛 (ended E Z).signature (WpFn 𝓤 𝓛.H 𝓣.C 𝓣.Λ (function E Z)) (closing 𝓛 (ended E Z) (clauses E Z 𝓛 at_mem run))
-meets E Z {𝓤 = 𝓤} 𝓛 at_mem run 𝓣 callee =
-    walk_Meets 𝓛 (ended E Z) (stayed E Z) (Goes-dropped 𝓛 3 (RefOf (0 ∷ []) tt (plain (λ _. P E Z)) (λ _. tt)) yes (λ κs x f. refl), (Goes-dropped 𝓛 3 (plain (λ _. usize)) yes (λ κs x f. refl), tt))
-    (clauses E Z 𝓛 at_mem run) (WpFn 𝓤 𝓛.H 𝓣.C 𝓣.Λ (function E Z)) (WpFn-mono 𝓤 𝓛.H 𝓛.laws 𝓣 (function E Z))
-    (λ z. let κs = z.0.0 in let qs = z.0.1 in let a = z.0.3 in let vss = z.0.4 in let On : SProp 𝓤 = on_entry 𝓛 (ended E Z).signature κs qs a vss in
-    let asks = FitsInBlock (R E) a.1.0 in
-    second 𝓤 (κs.1.0 ⊑ E.row.lives) (κs.1.1.0 ⊑ Z.row.lives) On (fact 𝓤 asks) (λ within. needs 𝓤 asks On
-    (entry E Z 𝓛 at_mem run 𝓣.C 𝓣.Λ (fm_of 𝓤 𝓛.H 𝓛.laws 𝓣) callee κs.0 κs.1.0 κs.1.1.0 qs.0 qs.1.0 qs.1.1.0 z.0.2.0 within a.0.ref_ptr.0 a.0.ref_ptr.1 a.0.now a.1.0 vss.0 vss.1.0)))
-
-pub allocate_spec : {M : Type 1} → stated.statement M
-unfolding tables_of
-allocate_spec 𝓤 𝓛 𝓜 𝓡 wired X W LX LW g d dd met md =
-    let E : El = record { row = X; laws = LX } in
-    let Z : Al = record { row = W; laws = LW; g = g; d = d; drops = dd } in
-    let 𝓣 : Tables 𝓤 𝓛.H = tables_of 𝓤 𝓛.H 𝓜 (tables 𝓤 𝓛.H 𝓜 𝓡 𝓡.env) in
-    entered 𝓤 𝓛.H (triple_of 𝓛 (ended E Z).signature (F.spec X W g d dd 𝓛 𝓜.mem 𝓡.returns)) 𝓣.C 𝓣.Λ (#self (args E Z)) (function E Z) (code.unfolded 𝓤 𝓛.H 𝓜 𝓡 wired (X, (W, tt)) d dd)
-    (meets E Z 𝓛 𝓜.mem 𝓡.returns 𝓣 (met.allocate dd))
+pub allocate_spec : {M : Type 1} → statement M
+allocate_spec 𝓤 𝓛 𝓜 𝓡 wired T A LT LA g d drops met gone =
+    let E : El = record { row = T; laws = LT } in let Z : Al = record { row = A; laws = LA; g = g; d = d; drops = drops } in
+    let H = 𝓛.H in let 𝓣 = tables 𝓤 H 𝓜 𝓡 𝓡.env in let En = ended T A g d drops in let c = clauses T A g d drops 𝓛 𝓜.mem 𝓡.returns in let fn = inst_fn (args E Z) code.function in
+    let params = En.signature.params in
+    proved_at 𝓛 En (used params En.kept) c 𝓜 𝓡 (used_go 𝓛 params En.kept ((λ κs x w. tt), ((λ κs x w. tt), tt))) (#self (args E Z)) fn (code.unfolded 𝓤 H 𝓜 𝓡 wired (T, (A, tt)) d drops) (λ y are.
+    let κs = y.0.0 in let qs = y.0.1 in let alloc = y.0.3.0 in let n : ℕ = y.0.3.1.0 in let κ : Lft = κs.0 in let q : Share = qs.0 in let at : ℕ × ℕ = alloc.ref_ptr in
+    let Post : Val → SProp 𝓤 = (Used 𝓛 En c).post y in let Given : Vals En.signature κs → Goal 𝓤 H = λ vss. prop (WpFn 𝓤 H 𝓣.C 𝓣.Λ fn (flat (types_at params κs) vss) Post) in
+    let told : y.0.4 ≡ (vptr at.0 at.1 ∷ [], (vint w64 n ∷ [], tt)) = λ i. (are.0.0 i, (are.1.0.0 i, tt)) in
+    let Answer : RattleType = result.the_row (Parts E Z) refusal.the_row in
+    let ends = λ (v : Val) (r : Answer.Denot). used_up 𝓛 En c y v r (tt, (tt, tt)) in
+    let Others : Item 𝓤 = ‵ (flft κs.1.0 qs.1.0) ⊛ ‵ (flft κs.1.1.0 qs.1.1.0) ⊛ ‵ ftrue in
+    qed 𝓛 (((‵ (flft κ q) ⊛ Others) ⊛ ‵ (owns (types_at params κs) y.0.3 y.0.4)) ∷ raw (fact 𝓤 (κs.1.0 ⊑ T.lives)) ∷ raw (fact 𝓤 (κs.1.1.0 ⊑ A.lives)) ∷ raw (fact 𝓤 (FitsInBlock (R E) n)) ∷ []) ∵
+    move ! (3 ∷ 2 ∷ []) $ heard ! (FitsInBlock (R E) n) (λ asked. heard ! (κs.1.1.0 ⊑ A.lives) (λ lasting. split ! $ move ! (1 ∷ []) $ fsplit ! $ fsplit ! $ drop ! $ move ! (2 ∷ []) $ split ! $ keep ! (2 ∷ 0 ∷ 1 ∷ []) $
+    -- [the allocator; its token; the other tokens]
+    regoal ! Given told refl $ enter ! 𝓣.C 𝓣.Λ fn (vptr at.0 at.1 ∷ vint w64 n ∷ []) Post $ alloc_all ! (λ l. pass_all ! refl ((tt, tt), ((tt, record { fits = are.1.0.1 }), tt)) $
+    let Ev = env fn.locals l in let chosen : Body = head (after 2 fn.body) in let last : Body = after 3 fn.body in let size_fits : n * type_size (R E) < 2 ^ 64 = omega (arith, asked.0) in
+    sets ! (bytes E ! n size_fits (get ! refl)) refl (tt, record { fits = size_fits }) $
+    asks E Z 𝓜.mem 𝓡.returns κ q at alloc.now n ! (framed 𝓤 H 𝓜 𝓣) (met.allocate drops) (Incl-trans y.0.2.0 lasting) asked.0 (and_then ! (get ! refl) (and_then ! (get ! refl) (and_then ! (align_word !) (no_more !))))
+    (λ b o γs counted. let new = parts E Z (block_ptr b o) γs n alloc.now in let new_val : Val = parts_val (block_ptr b o) in
+    let typed : Good (layout (Parts E Z)) new_val = (tt, ((tt, tt), ((tt, tt), ((tt, tt), ((tt, tt), tt))))) in let ok_typed : Good (layout Answer) (live 0 (vcons new_val vnil)) = (tt, (record { fits = lit< tt }, (typed.1, tt))) in
+    lands_as ! refl refl (Answer-typed true b o) $ goes_into ! 0 (arm_body 0 chosen) (get_tag ! (vrt ! refl (fld ! refl (stop !))) (whole !)) refl $
+    sets ! (of_opd ! (get_in ! (vrt ! refl (fld ! refl (stop !))) (in_variant ! 0 0 refl refl (whole !)))) refl (tt, tt) $ sets ! (of_opd ! (get ! refl)) refl (tt, tt) $ sets ! (agg ! (and_then ! (get ! refl) (no_more !))) refl (word-Good [] (block_ptr b o)) $
+    token_made ! refl (tt, tt) refl refl (tt, (tt, tt)) $ token_made ! refl (tt, tt) refl refl (tt, (tt, tt)) $ token_made ! refl (tt, tt) refl refl (tt, (tt, tt)) $
+    sets ! (agg ! (and_then ! (get ! refl) (and_then ! (get ! refl) (and_then ! (get ! refl) (and_then ! (get ! refl) (no_more !)))))) refl typed $ sets_last ! (agg ! (and_then ! (lit ! tt) (and_then ! (get ! refl) (no_more !)))) refl ok_typed $
+    exec ! 𝓣.C 𝓣.Λ Ev last (at_ret Ev Post) $ sets ! (of_opd ! (get ! refl)) refl ok_typed $ returns ! (look_at ! 0 refl) $ free_all ! refl $
+    use1 𝓛 (‵ (Answer.own_val (Ok new) (live 0 (vcons new_val vnil) ∷ []))) (ok_of 𝓛 (Parts E Z) refusal.the_row new new_val) $ by ! (ends (live 0 (vcons new_val vnil)) (Ok new) (fact_i 𝓤 _ (emp 𝓤) (refl, counted, refl, refl, refl, refl))))
+    (let no : Val = vstruct vnil in let err : Val = live 1 (vcons no vnil) in let err_typed : Good (layout Answer) err = (tt, (record { fits = lit< tt }, (tt, tt))) in
+    lands_as ! refl refl (Answer-typed false 0 0) $ goes_into ! 1 (arm_body 1 chosen) (get_tag ! (vrt ! refl (fld ! refl (stop !))) (whole !)) refl $
+    sets ! (of_opd ! (get_in ! (vrt ! refl (fld ! refl (stop !))) (in_variant ! 1 0 refl refl (whole !)))) refl (tt, tt) $ sets_last ! (agg ! (and_then ! (lit ! tt) (and_then ! (get ! refl) (no_more !)))) refl err_typed $
+    exec ! 𝓣.C 𝓣.Λ Ev last (at_ret Ev Post) $ sets ! (of_opd ! (get ! refl)) refl err_typed $ returns ! (look_at ! 0 refl) $ free_all ! refl $
+    pure_i ! (Answer.own_val (Err (record {})) (err ∷ [])) (λ us. (tt, (λ vss. (tt, (λ none. (tt, tt), tt))))) ((no ∷ []), (refl, (((no ∷ []), tt), (refl, ((tt, (refl, tt)), tt))))) $ by ! (ends err (Err (record {})) (fact_i 𝓤 _ (emp 𝓤) tt)))))))

@@ -1,165 +1,59 @@
--- The slots are one piece of room again, which goes back with the right to free it. Assumes `Logic`.
-use mathlib.Core.Path.{◌≡◌, refl, sym, ap, subst, ◌∙◌}
-use Prim.Native.Nat.{ℕ, ◌*◌, ◌<◌, ◌^◌}
-use native.Mathlib.Omega.{arith}
-use mathlib.Core.List.{List, [], ◌∷◌, ◌++◌}
-use lib.Dec.{T}
-use lib.ListN.{length}
-use seplogic.Ra.Ura.{Ura}
-use mir.Syntax.{Fn, named, w64, ty_array, ty_unit}
+-- The row and the right to free it are one block again, which goes back to the allocator.
+use Rattle.std.proofs.Common.{◌≡◌, ℕ, ◌*◌, ◌^◌, ◌<◌, [], ◌∷◌, refl, ap, arith, length, w64}
+use mir.Val.{Val, vint, vptr, vunit}
 use mir.MapTy.{inst_fn}
-use mir.Val.{Val, vptr, vint, vunit, has_ty, WT}
-use base.Logic.{SProp, ent, never, id⊢}
-use base.Fml.{Lft, Share, Incl-trans, ftrue, froom, flft}
-use prog.Memory.{Memory, align, capped}
-use prog.Capped.{capped_fits}
-use prog.Routine.{Routine}
-use prog.Wp.{Env, Calls, Loops, WpFn, Tables}
-use types.Logic.{Logic}
-use contract.Monad.{Fun, fact}
+use base.Logic.{SProp, emp, id⊢}
+use base.Fml.{Lft, Share, Incl-trans, ftrue, flft}
+use prog.Wp.{WpFn}
+use types.Kit.{Item, Goal, prop, at_ret, ‵, raw, ◌⊛◌, ◌$◌, ◌∵◌, !, qed, by, move, keep, split, fsplit, fsplit3, regoal}
+use types.Part.{sub, whole}
+use types.Run.{stop, fld, unit_lit, of_opd, no_more, and_then, first, blocks, exec, returns, enter, align_word}
+use types.ByLocal.{alloc_all, pass_all, free_all, look_at, get, get_in, sets, is, lands_last, env}
+use contract.Monad.{fact}
 use contract.BorrowLft.{◌⊑◌}
-use contract.Running.{tables, tables_of}
-use sound.WpLaws.{WpFn-mono, FmC, fm_of}
-use types.Kit.{Item, ⋆, ‵, raw, ◌⊛◌, given, later, await, learn, at_ret, ◌$◌, ◌∵◌, !, qed, by, move, keep, use1, group, split, join, rewrite, fsplit, fsplit3, fjoin, feq_i, feq_l, flt_l, suffices, done}
-use types.Part.{whole, sub}
-use types.Run.{stop, fld, unit_lit, of_opd, bin, and_then, no_more, first, blocks, exec, returns, enter, size_word, align_word}
-use types.ByLocal.{alloc_all, pass_all, free_all, look_at, get, get_in, sets, is, env, lands_last}
-use denote.Exit.{yes, no}
-use denote.RattleType.{RattleType, owns}
-use denote.Memory.{hidden_shr}
-use denote.RawPtr.{Ptr, ptr_val, in_a_block}
-use denote.Ref.{Bor, ShrRef}
-use denote.Builtin.{RefOf, usize}
-use denote.Signature.{plain}
-use denote.Steps.{nothing}
-use denote.Triple.Clauses.{Clauses, Ended, closing}
-use denote.Triple.Entry.{on_entry}
-use denote.Triple.Spec.{Meets, triple_of}
-use denote.Triple.Statement.{Triple}
-use denote.Triple.Table.{entered}
-use denote.Triple.Call.{calls_at_last}
-use denote.Triple.Walked.{needs, Stays, stay_dropped, walk_of, ends_at, Goes-dropped, walk_Meets}
-use Rattle.std.specs.Mem.{type_size}
-use Rattle.core.proofs.mem.Param.{El, R, elτ}
-use Rattle.core.proofs.alloc.Calls.{Al, second, token, gives_key, Gives, at_gives, Gives-goes, Gives-Gives, Goes-blank}
-use Rattle.core.proofs.slots.Leases.{uncapped, block_ty, block_size, block_align, args, P}
-use Rattle.std_alloc.proofs.RawLayout.{as_raw}
+use contract.Running.{tables}
+use denote.RattleType.{flat, owns}
+use denote.Shadow.{pure_i}
+use denote.Signature.{types_at}
+use denote.Steps.{heard}
+use denote.Builtin.{unit}
+use denote.RawPtr.{Ptr, ptr_val}
+use denote.Triple.Entry.{Vals}
+use denote.Triple.Table.{framed}
+use Rattle.std.proofs.raw_atomic.Walks.{proved_at}
+use Rattle.core.specs.Mem.{type_size}
+use Rattle.core.proofs.mem.Param.{El, R}
+use Rattle.core.proofs.alloc.Calls.{Al}
+use Rattle.core.proofs.slots.Leases.{args}
 use Rattle.std_alloc.proofs.RcSteps.{word-Good}
 use Rattle.std_alloc.proofs.VecSteps.Shapes.{after}
-use Rattle.table_cell.proofs.Tokens.{beside_mark}
-use Rattle.table_slab.specs.Kept.{row_owns, deed_owns}
-use Rattle.table_slab.specs.contracts.rights.Rooms as Rights
-use Rattle.table_slab.specs.contracts.row.Row as Slots
-use Rattle.table_slab.specs.contracts.row.Start as Begin
-use Rattle.table_slab.specs.contracts.row.Deed as Lease
-use Rattle.table_slab.proofs.Made.{token_val, word, word_had}
-use Rattle.table_slab.proofs.Rows.{closed}
-use Rattle.table_slab.specs.contracts.row.free as F
+use Rattle.table_slab.proofs.Made.{token_val, word}
+use Rattle.table_slab.proofs.Blocks.{bytes, joined, returned, token_told, Used, used, used_go, used_up, word_told}
+use Rattle.table_slab.specs.contracts.row.free.{ended, clauses}
 use Rattle.table_slab.specs.contracts.row.free.Key.{name as #self}
-use Rattle.table_slab.proofs.row.free.Statement as stated
+use Rattle.table_slab.proofs.row.free.Statement.{statement}
 use Rattle.table_slab.proofs.row.free.Code as code
 
-module _ (E : El) where
-  abbrev St : RattleType
-  St = Begin.the_row (R E)
-
-  abbrev Rw : RattleType
-  Rw = Slots.the_row (R E)
-
-  abbrev Rs : RattleType
-  Rs = Rights.the_row (R E)
-
-  abbrev sz : ℕ
-  sz = type_size (R E)
-
-module _ (E : El) (Z : Al) where
-  abbrev function : Fn
-  function = inst_fn (args E Z) code.function
-
-  abbrev ended : Ended
-  ended = F.ended E.row Z.row Z.g Z.d Z.drops
-
-  abbrev clauses : {M : Type 1} {𝓤 : Ura M} (𝓛 : Logic 𝓤) → (Memory → SProp 𝓤) → (Routine → Fun 𝓤) → Clauses 𝓤 ended
-  clauses 𝓛 = F.clauses E.row Z.row Z.g Z.d Z.drops 𝓛
-
-  abbrev Dd : RattleType
-  Dd = Lease.the_row (R E) (P E Z) Z.g
-
-  abbrev stayed : Stays ended.signature.params ended.kept
-  stayed = (stay_dropped (RefOf (0 ∷ []) tt (plain (λ _. P E Z)) (λ _. tt)) yes, (stay_dropped (plain (λ _. St E)) no, (stay_dropped (plain (λ _. usize)) yes, (stay_dropped (plain (λ _. Rw E)) no, (stay_dropped (plain (λ _. Dd)) no, tt)))))
-
-  abbrev Asks : Z.row.Denot → (St E).Denot → ℕ → (Rw E).Denot → Dd.Denot → Type 0
-  Asks a start n slots deed = (slots.at ≡ start.at) × (length slots.names ≡ n) × (deed.at ≡ start.at) × (deed.count ≡ n) × (deed.alloc ≡ a)
-
-module _ (E : El) (Z : Al) {M : Type 1} {𝓤 : Ura M} (𝓛 : Logic 𝓤) (at_mem : Memory → SProp 𝓤) (run : Routine → Fun 𝓤) (C : Calls 𝓤 𝓛.H) (Λ : Loops 𝓤 𝓛.H) (fm : FmC 𝓤 𝓛.H 𝓛.laws C)
-    (callee : Triple 𝓤 (C (gives_key Z)) (Gives Z 𝓛 at_mem run)) (κ κ₁ κ₂ : Lft) (q q₁ q₂ : Share) (short : κ ⊑ κ₂) (within : κ₂ ⊑ Z.row.lives) (rb ro : ℕ) (a : Z.row.Denot) (start : (St E).Denot) (n : ℕ) (slots : (Rw E).Denot) (deed : (Dd E Z).Denot) (us0 us1 us2 us3 us4 : List Val) where
-  open 𝓛 use {H, A}
-
-  abbrev self : Bor Z.row.Denot
-  self = record { ref_ptr = (rb, ro); now = a }
-
-  abbrev others : Item 𝓤
-  others = ‵ (flft κ₁ q₁) ⊛ ‵ (flft κ₂ q₂) ⊛ ‵ ftrue
-
-  abbrev bound : (walk_of 𝓛 (ended E Z) (stayed E Z) (clauses E Z 𝓛 at_mem run)).Ghost
-  bound = (((κ, (κ₁, (κ₂, tt))), (q, (q₁, (q₂, tt))), (short, tt), (self, (start, (n, (slots, (deed, tt))))), (us0, (us1, (us2, (us3, (us4, tt)))))), tt)
-
-  abbrev Post : Val → SProp 𝓤
-  Post = (walk_of 𝓛 (ended E Z) (stayed E Z) (clauses E Z 𝓛 at_mem run)).post bound
-
-  exits : ent 𝓤 (⋆ 𝓛 (‵ (flft κ q) ∷ others ∷ [])) (Post vunit)
-  exits =
-      qed 𝓛 (‵ (flft κ q) ∷ others ∷ []) ∵
-      suffices ! _ (ends_at 𝓛 (ended E Z) (stayed E Z) (clauses E Z 𝓛 at_mem run) bound vunit tt (tt, (tt, (tt, (tt, (tt, tt))))) (tt, (tt, (tt, (tt, (tt, tt)))))) $
-      join ! $ feq_i ! (List Val) (vunit ∷ []) (vunit ∷ []) refl $ nothing ! $ nothing ! $ fjoin ! $ nothing ! $ fjoin ! $ nothing ! $ fjoin ! $ nothing ! $ fjoin ! $ nothing ! $ fjoin ! $ join ! $
-      move ! (1 ∷ 0 ∷ []) $ join ! $ nothing ! $ move ! (1 ∷ 0 ∷ []) $ done !
-
-  abbrev Had : List (Item 𝓤)
-  Had = ‵ (row_owns (R E) slots.at slots.names) ∷ ‵ (deed_owns (R E) (token Z deed.alloc) deed.at deed.count) ∷ ‵ (hidden_shr (P E Z) κ a rb ro) ∷ ‵ (flft κ q) ∷ others ∷ []
-
-  walk : Asks E Z a start n slots deed → n < 2 ^ 64 → ent 𝓤 (⋆ 𝓛 Had) (WpFn 𝓤 H C Λ (function E Z) (vptr rb ro ∷ word start.at ∷ vint w64 n ∷ token_val ∷ token_val ∷ []) Post)
-  walk asked fits =
-      qed 𝓛 Had ∵ enter ! C Λ (function E Z) (vptr rb ro ∷ word start.at ∷ vint w64 n ∷ token_val ∷ token_val ∷ []) _ $
-      alloc_all ! (λ l. pass_all ! refl ((tt, tt), (word-Good [] start.at, ((tt, record { fits = fits }), ((tt, (tt, tt)), ((tt, (tt, tt)), tt))))) $
-      let En : Env 𝓤 H = env (function E Z).locals l in
-      let s = sz E in let al : ℕ = capped (align (elτ E)) in
-      rewrite ! 0 (λ (p : Ptr). ‵ (row_owns (R E) p slots.names)) asked.0 refl $
-      in_a_block ! start.at (λ p. row_owns (R E) p slots.names) (id⊢ 𝓤 (never 𝓤)) (λ b o e. fsplit ! $ flt_l ! (λ fit.
-      let small : n * s < 2 ^ 63 = subst (λ k. k * s < 2 ^ 63) asked.1 fit in let bytes : n * s < 2 ^ 64 = omega arith in
-      let y : (Gives Z 𝓛 at_mem run).Ghost = at_gives Z 𝓛 at_mem run κ q (rb, ro) a b o (n * s) al (block_ty E n) in
-      rewrite ! 1 (λ (d : Z.row.Denot × Ptr × ℕ). ‵ (deed_owns (R E) (token Z d.0) d.1 d.2)) (λ i. (asked.4 i, (asked.2 ∙ e) i, asked.3 i)) refl $
-      use1 𝓛 (‵ (froom (ty_array (elτ E) (length slots.names)) b o)) (closed E.row E.laws 𝓛 b slots.names o) $ rewrite ! 0 (λ (k : ℕ). ‵ (froom (ty_array (elτ E) k) b o)) asked.1 refl $ as_raw ! (ty_array (elτ E) n) b o $ first ! $ blocks ! $
-      sets ! (is ! (of_opd ! (get_in ! (fld ! refl (stop !)) (sub ! 0 refl (whole !)))) (ap ptr_val e)) refl (tt, tt) $
-      sets ! (is ! (bin ! (get ! refl) (size_word !) (record { fits = subst (λ (k : ℕ). k < 2 ^ 64) (sym (uncapped n s bytes)) bytes })) (ap (vint w64) (uncapped n s bytes))) refl (tt, record { fits = bytes }) $
-      group ! 4 $ use1 𝓛 (raw ((Gives Z 𝓛 at_mem run).pre y)) (Gives-goes Z 𝓛 at_mem run κ q (rb, ro) a (Incl-trans short within) b o (n * s) al (block_ty E n) (block_size E n bytes) (block_align E n) bytes (capped_fits (align (elτ E)))) $
-      calls_at_last ! fm (Gives Z 𝓛 at_mem run) callee y (and_then ! (get ! refl) (and_then ! (get ! refl) (and_then ! (get ! refl) (and_then ! (align_word !) (no_more !))))) (λ v.
-      use1 𝓛 (later (given (v ≡ vunit) (‵ (flft κ q)))) (Gives-Gives Z 𝓛 at_mem run κ q (rb, ro) a b o (n * s) al (block_ty E n) v) $ await ! tt $ learn ! (λ done_with.
-      lands_last ! refl (subst (λ (z : Val). T (has_ty ty_unit z) × WT z) (sym done_with) (tt, tt)) $ exec ! C Λ En (after 1 (function E Z).body) (at_ret En Post) $
-      sets ! (of_opd ! (unit_lit !)) refl (tt, tt) $ returns ! (look_at ! 0 refl) $ free_all ! refl $ keep ! (0 ∷ 1 ∷ []) $ by ! exits)))))
-
-  entry : Asks E Z a start n slots deed → ent 𝓤 (on_entry 𝓛 (ended E Z).signature (κ, (κ₁, (κ₂, tt))) (q, (q₁, (q₂, tt))) (self, (start, (n, (slots, (deed, tt))))) (us0, (us1, (us2, (us3, (us4, tt)))))) (WpFn 𝓤 H C Λ (function E Z) (us0 ++ (us1 ++ (us2 ++ (us3 ++ (us4 ++ []))))) Post)
-  entry asked =
-      qed 𝓛 ((‵ (flft κ q) ⊛ others) ∷ ‵ (owns (ShrRef (named 0) κ (P E Z) ∷ St E ∷ usize ∷ Rw E ∷ Dd E Z ∷ []) (self, (start, (n, (slots, (deed, tt))))) (us0, (us1, (us2, (us3, (us4, tt)))))) ∷ []) ∵ split ! $ move ! (2 ∷ []) $ fsplit3 ! $ fsplit ! $ feq_l ! (λ e0.
-      move ! (1 ∷ []) $ word_had ! start.at us1 (λ e1. move ! (1 ∷ []) $ fsplit3 ! $ fsplit ! $ feq_l ! (λ e2. flt_l ! (λ fits.
-      beside_mark ! us3 (λ e3. move ! (1 ∷ []) $ fsplit ! $ beside_mark ! us4 (λ e4. keep ! (2 ∷ 0 ∷ 3 ∷ 4 ∷ 5 ∷ []) $
-      by ! (subst (λ (ws : List Val × List Val × List Val × List Val × List Val). ent 𝓤 (⋆ 𝓛 Had) (WpFn 𝓤 H C Λ (function E Z) (ws.0 ++ (ws.1 ++ (ws.2 ++ (ws.3 ++ (ws.4 ++ []))))) Post))
-      (λ j. (sym e0 j, sym e1 j, sym e2 j, sym e3 j, sym e4 j)) (walk asked fits))))))))
-
-meets : (E : El) (Z : Al) {M : Type 1} {𝓤 : Ura M} (𝓛 : Logic 𝓤) (at_mem : Memory → SProp 𝓤) (run : Routine → Fun 𝓤) (𝓣 : Tables 𝓤 𝓛.H) → Triple 𝓤 (𝓣.C (gives_key Z)) (Gives Z 𝓛 at_mem run)
-    → Meets 𝓛 (ended E Z).signature (WpFn 𝓤 𝓛.H 𝓣.C 𝓣.Λ (function E Z)) (closing 𝓛 (ended E Z) (clauses E Z 𝓛 at_mem run))
-meets E Z {𝓤 = 𝓤} 𝓛 at_mem run 𝓣 callee =
-    walk_Meets 𝓛 (ended E Z) (stayed E Z) (Goes-dropped 𝓛 3 (RefOf (0 ∷ []) tt (plain (λ _. P E Z)) (λ _. tt)) yes (λ κs x f. refl), (Goes-dropped 𝓛 3 (plain (λ _. St E)) no (λ κs x f. refl), (Goes-dropped 𝓛 3 (plain (λ _. usize)) yes (λ κs x f. refl), (Goes-blank 𝓛 3 (plain (λ _. Rw E)) no (λ κs x f. tt), (Goes-blank 𝓛 3 (plain (λ _. Dd E Z)) no (λ κs x f. tt), tt)))))
-    (clauses E Z 𝓛 at_mem run) (WpFn 𝓤 𝓛.H 𝓣.C 𝓣.Λ (function E Z)) (WpFn-mono 𝓤 𝓛.H 𝓛.laws 𝓣 (function E Z))
-    (λ z. let κs = z.0.0 in let qs = z.0.1 in let a = z.0.3 in let vss = z.0.4 in let On : SProp 𝓤 = on_entry 𝓛 (ended E Z).signature κs qs a vss in
-    let asks = Asks E Z a.0.now a.1.0 a.1.1.0 a.1.1.1.0 a.1.1.1.1.0 in
-    second 𝓤 (κs.1.0 ⊑ E.row.lives) (κs.1.1.0 ⊑ Z.row.lives) On (fact 𝓤 asks) (λ within. needs 𝓤 asks On
-    (entry E Z 𝓛 at_mem run 𝓣.C 𝓣.Λ (fm_of 𝓤 𝓛.H 𝓛.laws 𝓣) callee κs.0 κs.1.0 κs.1.1.0 qs.0 qs.1.0 qs.1.1.0 z.0.2.0 within a.0.ref_ptr.0 a.0.ref_ptr.1 a.0.now a.1.0 a.1.1.0 a.1.1.1.0 a.1.1.1.1.0 vss.0 vss.1.0 vss.1.1.0 vss.1.1.1.0 vss.1.1.1.1.0)))
-
-pub free_spec : {M : Type 1} → stated.statement M
-unfolding tables_of
-free_spec 𝓤 𝓛 𝓜 𝓡 wired X W LX LW g d dd met md =
-    let E : El = record { row = X; laws = LX } in
-    let Z : Al = record { row = W; laws = LW; g = g; d = d; drops = dd } in
-    let 𝓣 : Tables 𝓤 𝓛.H = tables_of 𝓤 𝓛.H 𝓜 (tables 𝓤 𝓛.H 𝓜 𝓡 𝓡.env) in
-    entered 𝓤 𝓛.H (triple_of 𝓛 (ended E Z).signature (F.spec X W g d dd 𝓛 𝓜.mem 𝓡.returns)) 𝓣.C 𝓣.Λ (#self (args E Z)) (function E Z) (code.unfolded 𝓤 𝓛.H 𝓜 𝓡 wired (X, (W, tt)) d dd)
-    (meets E Z 𝓛 𝓜.mem 𝓡.returns 𝓣 (met.deallocate dd))
+pub free_spec : {M : Type 1} → statement M
+free_spec 𝓤 𝓛 𝓜 𝓡 wired T A LT LA g d drops met gone =
+    let E : El = record { row = T; laws = LT } in let Z : Al = record { row = A; laws = LA; g = g; d = d; drops = drops } in
+    let H = 𝓛.H in let 𝓣 = tables 𝓤 H 𝓜 𝓡 𝓡.env in let En = ended T A g d drops in let c = clauses T A g d drops 𝓛 𝓜.mem 𝓡.returns in let fn = inst_fn (args E Z) code.function in
+    let params = En.signature.params in
+    proved_at 𝓛 En (used params En.kept) c 𝓜 𝓡 (used_go 𝓛 params En.kept ((λ κs x w. tt), ((λ κs x w. tt), ((λ κs x w. tt), ((λ κs x w. tt), ((λ κs x w. tt), tt))))))
+    (#self (args E Z)) fn (code.unfolded 𝓤 H 𝓜 𝓡 wired (T, (A, tt)) d drops) (λ y are.
+    let κs = y.0.0 in let qs = y.0.1 in let a = y.0.3 in let vss = y.0.4 in let alloc = a.0 in let p : Ptr = a.1.0.at in let n : ℕ = a.1.1.0 in let row = a.1.1.1.0 in let deed = a.1.1.1.1.0 in let κ : Lft = κs.0 in let q : Share = qs.0 in let at : ℕ × ℕ = alloc.ref_ptr in
+    let Post : Val → SProp 𝓤 = (Used 𝓛 En c).post y in let Given : Vals En.signature κs → Goal 𝓤 H = λ vss. prop (WpFn 𝓤 H 𝓣.C 𝓣.Λ fn (flat (types_at params κs) vss) Post) in
+    let told : vss ≡ (vptr at.0 at.1 ∷ [], (word p ∷ [], (vint w64 n ∷ [], (token_val ∷ [], (token_val ∷ [], tt))))) = λ i. (are.0.0 i, (word_told p vss.1.0 are.1.0 i, (are.1.1.0.0 i, (token_told vss.1.1.1.0 are.1.1.1.0.0 i, (token_told vss.1.1.1.1.0 are.1.1.1.1.0.0 i, tt))))) in
+    let Asked : Type 0 = (row.at ≡ p) × (length row.names ≡ n) × (deed.at ≡ p) × (deed.count ≡ n) × (deed.alloc ≡ alloc.now) in let Others : Item 𝓤 = ‵ (flft κs.1.0 qs.1.0) ⊛ ‵ (flft κs.1.1.0 qs.1.1.0) ⊛ ‵ ftrue in
+    qed 𝓛 (((‵ (flft κ q) ⊛ Others) ⊛ ‵ (owns (types_at params κs) a vss)) ∷ raw (fact 𝓤 (κs.1.0 ⊑ T.lives)) ∷ raw (fact 𝓤 (κs.1.1.0 ⊑ A.lives)) ∷ raw (fact 𝓤 Asked) ∷ []) ∵
+    move ! (3 ∷ 2 ∷ []) $ heard ! Asked (λ asked. heard ! (κs.1.1.0 ⊑ A.lives) (λ lasting. split ! $ move ! (1 ∷ []) $ fsplit3 ! $ move ! (2 ∷ []) $ fsplit3 ! $ move ! (2 ∷ []) $ fsplit ! $ fsplit ! $
+    -- [a mark; the right to free; ..; the count; the row; the allocator; the start; the tokens; ..]
+    move ! (4 ∷ []) $ fsplit ! $ move ! (6 ∷ []) $ fsplit ! $ move ! (9 ∷ []) $ split ! $ keep ! (5 ∷ 7 ∷ 3 ∷ 0 ∷ 1 ∷ []) $
+    joined E Z ! p n alloc.now row.names row.at (deed.alloc, deed.at, deed.count) asked.0 asked.1 (λ i. (asked.4 i, asked.2 i, asked.3 i)) (λ b o is_block small. let size_fits : n * type_size (R E) < 2 ^ 64 = omega (arith, small) in
+    -- [the room; the right to free it; a `&` to the allocator; κ's token; the others]
+    regoal ! Given told refl $ enter ! 𝓣.C 𝓣.Λ fn (vptr at.0 at.1 ∷ word p ∷ vint w64 n ∷ token_val ∷ token_val ∷ []) Post $
+    alloc_all ! (λ l. pass_all ! refl ((tt, tt), (word-Good [] p, ((tt, record { fits = are.1.1.0.1 }), ((tt, (tt, tt)), ((tt, (tt, tt)), tt))))) $ let Ev = env fn.locals l in first ! $ blocks ! $
+    sets ! (is ! (of_opd ! (get_in ! (fld ! refl (stop !)) (sub ! 0 refl (whole !)))) (ap ptr_val is_block)) refl (tt, tt) $ sets ! (bytes E ! n size_fits (get ! refl)) refl (tt, record { fits = size_fits }) $
+    returned E Z 𝓜.mem 𝓡.returns κ q at alloc.now n ! (framed 𝓤 H 𝓜 𝓣) (met.deallocate drops) (Incl-trans y.0.2.0 lasting) small b o (and_then ! (get ! refl) (and_then ! (get ! refl) (and_then ! (get ! refl) (and_then ! (align_word !) (no_more !))))) $
+    lands_last ! refl (tt, tt) $ exec ! 𝓣.C 𝓣.Λ Ev (after 1 fn.body) (at_ret Ev Post) $ sets ! (of_opd ! (unit_lit !)) refl (tt, tt) $
+    returns ! (look_at ! 0 refl) $ free_all ! refl $ pure_i ! (unit.own_val tt (vunit ∷ [])) tt refl $ by ! (used_up 𝓛 En c y vunit tt (tt, (tt, (tt, (tt, (tt, tt))))) (id⊢ 𝓤 (emp 𝓤))))))))
