@@ -1,6 +1,6 @@
 //! A set of one owner becomes one that threads share.
 use super::caller::{Heap, assert_none_out, assert_same, counted};
-use shared_set::{Inserted, Partly, Share, Shared, SharedSet, Unshared};
+use shared_set::{Handle, Inserted, Partly, Share, Shared, SharedSet, Unshared};
 use std::alloc::{AllocError, Global};
 use std::process::Abort;
 use std::test::Fail;
@@ -15,6 +15,9 @@ type Held<'h> = HeldSet<Box<Counting>, CountingLaw, &'h Heap>;
 
 /// The set that threads share.
 type Boxes<'h> = SharedSet<Box<Counting>, OfTarget<CountingLaw>, &'h Heap>;
+
+/// A handle of it.
+type Boxing<'s, 'h> = Handle<'s, Box<Counting>, OfTarget<CountingLaw>, &'h Heap>;
 
 /// Such a set, with what is known of it.
 type SharedBoxes<'h> = Shared<Box<Counting>, OfTarget<CountingLaw>, &'h Heap>;
@@ -34,6 +37,12 @@ fn held<'h>(heap: &'h Heap, values: &Drops, count: u64) -> Result<Held<'h>, Allo
     Ok(set)
 }
 
+/// Returns true if the handle finds the number.
+fn has(handle: &mut Boxing<'_, '_>, probes: &Drops, number: u64) -> Result<bool, AllocError> {
+    let probe = probes.counting(number)?;
+    Ok(handle.contains(&probe))
+}
+
 /// Asserts that a handle finds each number below this one, and not this one.
 fn assert_finds(
     rt: &impl Abort,
@@ -44,12 +53,9 @@ fn assert_finds(
     let probes = Drops::new(alloc, 0)?;
     let mut handle = set.handle();
     for number in 0..count {
-        match handle.get(&probes.counting(number)?) {
-            Some(entry) => assert_same(rt, entry.number, number),
-            None => assert!(rt; false, "{number} is lost"),
-        }
+        assert_same(rt, has(&mut handle, &probes, number)?, true);
     }
-    assert!(rt; !handle.contains(&probes.counting(count)?));
+    assert_same(rt, has(&mut handle, &probes, count)?, false);
     Ok(())
 }
 

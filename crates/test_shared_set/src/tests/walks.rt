@@ -1,7 +1,7 @@
 //! Walks over the entries.
 ghost use Rattle.std.specs.Prelude.{◌≡◌};
 
-use super::caller::{Numbers, assert_none_out, assert_same, counted, fill, set_with};
+use super::caller::{Numbers, Tally, assert_none_out, assert_same, counted, fill, set_with};
 use std::alloc::{AllocError, Global};
 use std::process::Abort;
 use std::test::Fail;
@@ -32,7 +32,7 @@ fn walked(
     many: u64,
 ) -> Result<Vec<u64>, AllocError> {
     let mut handle = set.handle();
-    fill(&mut handle, 0, first, 1);
+    assert_same(rt, fill(&mut handle, 0, first, 1), Tally::of(first, 0));
     let mut values = Vec::new(alloc);
     let mut next = first;
     let mut walk = handle.iter();
@@ -43,7 +43,7 @@ fn walked(
         assert_same(rt, other.find(entry), Some((number, entry)));
         if next < many {
             let end = next.saturating_add(7);
-            fill(&mut handle, next, end, 1);
+            assert_same(rt, fill(&mut handle, next, end, 1), Tally::of(7, 0));
             next = end;
         }
     }
