@@ -2,7 +2,6 @@ mod alone;
 mod caller;
 mod drops;
 mod ending;
-mod hinted;
 mod keys;
 mod made;
 mod memory;

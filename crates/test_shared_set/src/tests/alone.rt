@@ -1,47 +1,58 @@
 //! One thread.
 use super::caller::{
-    Numbering, Numbers, Told, assert_are_below, assert_has, assert_none_out, assert_same, counted,
-    insert, told_of, values_of,
+    Numbering, Numbers, Tally, Told, assert_none_out, assert_same, counted, fill, insert, set_with,
+    told_of,
 };
-use shared_set::SharedSet;
 use std::process::Abort;
-use std::test::Fail;
 
-/// For how many entries a set has room at first, and how many numbers are placed.
-const SETS: [(usize, u64); 5] = [(0, 20_000), (0, 1), (1, 1000), (16, 1000), (1000, 1000)];
+/// For how many entries a set has room at first, how many numbers are placed, and how far they lie apart: the low 40 bits of the
+/// multiples of 2^40 are 0.
+const SETS: [(usize, u64, u64); 8] = [
+    (0, 20_000, 1),
+    (0, 1, 1),
+    (1, 1000, 1),
+    (16, 1000, 1),
+    (1000, 1000, 1),
+    (0, 10_000, 1 << 8),
+    (0, 10_000, 1 << 16),
+    (0, 10_000, 1 << 40),
+];
 
 /// The most requests that twenty thousand entries may cost. Each doubling of the slots and of the buckets costs some, and an
 /// entry costs none.
 const FEW: u64 = 100;
 
-/// Places the numbers below this one. Each is found once it is placed, and not before. One handle numbers its entries from 0 on.
-fn place(rt: &impl Abort, handle: &mut Numbering<'_, '_>, end: u64) {
-    for value in 0..end {
-        assert!(rt; !handle.contains(&value));
-        assert_same(rt, insert(handle, value), (Told::Placed, Some(value)));
-        assert_same(rt, insert(handle, value), (Told::Found, Some(value)));
-        assert_same(rt, handle.find(&value), Some((value, &value)));
-        assert!(rt; handle.contains(&value));
+/// Inserts so many multiples of the step, and asserts that each insert is told this, and that those that are found are there before. One
+/// handle numbers the entries of a set from 0 on.
+fn insert_each(
+    rt: &impl Abort,
+    handle: &mut Numbering<'_, '_>,
+    count: u64,
+    step: u64,
+    expected: Told,
+) {
+    for index in 0..count {
+        let value = index.wrapping_mul(step);
+        assert_same(rt, handle.contains(&value), expected == Told::Found);
+        assert_same(rt, insert(handle, value), (expected, Some(index)));
     }
 }
 
-/// Fills a set that has no entry. A handle that has met no growth then finds the entries too.
-fn fill(rt: &impl Abort, set: &Numbers<'_>, end: u64) {
-    let mut handle = set.handle();
-    let mut late = set.handle();
-    place(rt, &mut handle, end);
-    assert_has(rt, &mut handle, end);
-    assert_has(rt, &mut late, end);
-}
-
+/// A handle that has met no growth finds the entries too.
 #[test]
 fn each_number_is_found_over_growth(rt: HostRuntime) {
-    for (room, numbers) in SETS {
+    for (room, count, step) in SETS {
         let heap = counted(rt.alloc());
-        let set: Numbers<'_> = SharedSet::with_capacity(&heap, room).expect(&rt, "a set");
-        assert_has(&rt, &mut set.handle(), 0);
-        fill(&rt, &set, numbers);
-        assert_same(&rt, set.len(), numbers);
+        let set = set_with(&rt, &heap, room);
+        let mut handle = set.handle();
+        let mut late = set.handle();
+        insert_each(&rt, &mut handle, count, step, Told::Placed);
+        insert_each(&rt, &mut handle, count, step, Told::Found);
+        insert_each(&rt, &mut late, count, step, Told::Found);
+        assert_same(&rt, handle.get(&count.wrapping_mul(step)), None);
+        drop(handle);
+        drop(late);
+        assert_same(&rt, set.len(), count);
         assert!(rt; heap.granted() < FEW, "{}", heap.granted());
         drop(set);
         assert_none_out(&rt, &heap);
@@ -51,51 +62,44 @@ fn each_number_is_found_over_growth(rt: HostRuntime) {
 /// Places the numbers below this one by the set itself: each call has a handle of its own.
 fn place_by_the_set(rt: &impl Abort, set: &Numbers<'_>, end: u64) {
     for value in 0..end {
-        assert!(rt; !set.contains(&value));
         assert_same(rt, told_of(set.insert(value), value).0, Told::Placed);
         assert_same(rt, told_of(set.insert(value), value).0, Told::Found);
         assert_same(rt, set.get(&value), Some(&value));
-        assert_same(rt, set.len(), value + 1);
     }
 }
 
 #[test]
-fn a_set_is_called_without_a_handle(rt: HostRuntime) -> Result<(), Fail> {
+fn a_set_is_called_without_a_handle(rt: HostRuntime) {
     let heap = counted(rt.alloc());
-    let set: Numbers<'_> = SharedSet::new(&heap).expect(&rt, "a set");
+    let set = set_with(&rt, &heap, 0);
     place_by_the_set(&rt, &set, 300);
-    assert!(rt; !set.contains(&300) && set.contains(&299));
-    assert_are_below(&rt, values_of(set, rt.alloc())?.as_slice(), 300);
+    assert_same(&rt, [set.contains(&299), set.contains(&300)], [true, false]);
+    assert_same(&rt, set.len(), 300);
+    drop(set);
     assert_none_out(&rt, &heap);
-    Ok(())
 }
 
-/// The steps of the numbers: of the multiples of the last one the low 40 bits are 0.
-const STEPS: [u64; 4] = [1, 1 << 8, 1 << 16, 1 << 40];
-
-/// How many multiples there are, from 0 on.
-const MULTIPLES: u64 = 10_000;
-
-/// Inserts the multiples of the step, and counts those that are placed, and those that are found then.
-fn fill_by_steps(handle: &mut Numbering<'_, '_>, step: u64) -> (u64, u64) {
-    let (mut placed, mut found) = (0u64, 0u64);
-    for index in 0..MULTIPLES {
-        let told = insert(handle, index.wrapping_mul(step)).0;
-        placed = placed.wrapping_add(u64::from(told == Told::Placed));
-    }
-    for index in 0..MULTIPLES {
-        found = found.wrapping_add(u64::from(handle.contains(&index.wrapping_mul(step))));
-    }
-    (placed, found)
-}
+/// How many values are counted once so many were placed by one handle: the first, then 2, 4, 8, 16, 32 and 64 at a time.
+const COUNTED: [(u64, u64); 8] = [
+    (0, 0),
+    (1, 1),
+    (2, 1),
+    (3, 3),
+    (6, 3),
+    (7, 7),
+    (127, 127),
+    (190, 127),
+];
 
 #[test]
-fn numbers_in_steps(rt: HostRuntime) {
-    let heap = counted(rt.alloc());
-    for step in STEPS {
-        let set: Numbers<'_> = SharedSet::new(&heap).expect(&rt, "a set");
-        let counts = fill_by_steps(&mut set.handle(), step);
-        assert_same(&rt, counts, (MULTIPLES, MULTIPLES));
+fn a_first_value_is_counted_at_once(rt: HostRuntime) {
+    for (placed, told) in COUNTED {
+        let heap = counted(rt.alloc());
+        let set = set_with(&rt, &heap, 0);
+        let mut handle = set.handle();
+        assert_same(&rt, fill(&mut handle, 0, placed, 1), Tally::of(placed, 0));
+        assert_same(&rt, (set.len(), set.is_empty()), (told, placed == 0));
+        drop(handle);
+        assert_same(&rt, set.len(), placed);
     }
-    assert_none_out(&rt, &heap);
 }

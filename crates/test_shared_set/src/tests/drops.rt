@@ -1,7 +1,7 @@
 //! Values that count their drops: each is dropped once, by the set at its end or by whom it is returned to.
-use super::caller::{Heap, assert_none_out, assert_same};
+use super::caller::{Heap, Tally, Told, assert_none_out, assert_same};
 use shared_set::{Handle, Inserted, SharedSet};
-use std::alloc::{AllocError, Global};
+use std::alloc::AllocError;
 use std::process::Abort;
 use std::test::Fail;
 use testkit_counting::{Counting, CountingLaw, Drops};
@@ -10,105 +10,70 @@ use testkit_refusing::{Refusing, Rule};
 /// How many numbers there are.
 const NUMBERS: u64 = 300;
 
-/// For how many entries there is room at first; and that one request in so many is refused, 0 for none.
-const SETS: [(usize, u64); 4] = [(0, 0), (200, 0), (0, 2), (100, 3)];
+/// For how many entries there is room at first, how many requests are refused at most, that each is drawn as one of so many, and how many
+/// values of the ended set are taken out. The others are dropped with what is left of it.
+const SETS: [(usize, u64, u64, u64); 4] = [
+    (0, 0, 1, 0),
+    (200, 0, 1, 1),
+    (0, u64::MAX, 2, 150),
+    (100, u64::MAX, 3, NUMBERS),
+];
 
 /// A set of counting values.
 type Counts<'h> = SharedSet<Counting, CountingLaw, &'h Heap>;
 
-/// Returns a set, and places a value of each number. Returns None if the set or a value was refused too often, or an entry was the same.
-fn filled<'h>(heap: &'h Heap, room: usize, values: &Drops) -> Option<Counts<'h>> {
-    let set = made(heap, room)?;
-    let mut handle = set.handle();
-    for number in 0..NUMBERS {
-        if !places(&mut handle, values.value(number).ok()?) {
-            return None;
-        }
-    }
-    drop(handle);
-    Some(set)
-}
-
-/// Makes a set, which may be refused some times.
-fn made(heap: &Heap, room: usize) -> Option<Counts<'_>> {
-    for _tried in 0..100_000u32 {
-        if let Ok(set) = SharedSet::with_capacity(heap, room) {
-            return Some(set);
-        }
-    }
-    None
-}
-
-/// Places the value, which may be refused some times. Returns false if it was refused too often, or an entry is the same.
-fn places(handle: &mut Handle<'_, Counting, CountingLaw, &Heap>, value: Counting) -> bool {
+/// Inserts the value, which may be refused some times. One that is returned is dropped here.
+fn insert(handle: &mut Handle<'_, Counting, CountingLaw, &Heap>, value: Counting) -> Told {
     let mut value = value;
     for _tried in 0..1000u32 {
         match handle.insert(value) {
-            Inserted::Placed(_, _) => return true,
-            Inserted::Found(_, _, _) => return false,
+            Inserted::Placed(_, _) => return Told::Placed,
+            Inserted::Found(_, entry, back) => {
+                let is_same = entry.number == back.number;
+                return if is_same { Told::Found } else { Told::Wrong };
+            }
             Inserted::Refused(back) => value = back,
         }
     }
-    false
+    Told::Refused
 }
 
-/// Returns true if an entry of the number is there, and the value is returned, and is dropped here.
-fn finds(set: &Counts<'_>, value: Counting) -> bool {
-    let number = value.number;
-    match set.insert(value) {
-        Inserted::Found(_, entry, back) => entry.number == number && back.number == number,
-        Inserted::Placed(_, _) | Inserted::Refused(_) => false,
-    }
-}
-
-/// Returns memory of which one request in so many is refused, 0 for none.
-fn rarely_refused(alloc: Global, one_in: u64) -> Heap {
-    let refused = if one_in == 0 { 0 } else { u64::MAX };
-    Refusing::new(alloc, Rule::new(0, usize::MAX, 0, refused).drawn(7, one_in))
-}
-
-/// Offers a copy of each entry, which is returned.
-fn offer_all(rt: &impl Abort, alloc: Global, set: &Counts<'_>) -> Result<(), AllocError> {
-    let copies = Drops::new(alloc, NUMBERS)?;
+/// Inserts a value of each number. Returns how many were placed, and how many were found and returned.
+fn insert_all(set: &Counts<'_>, values: &Drops) -> Result<Tally, AllocError> {
+    let mut handle = set.handle();
+    let mut tally = Tally::NONE;
     for number in 0..NUMBERS {
-        assert!(rt; finds(set, copies.value(number)?));
+        tally = tally.with(insert(&mut handle, values.value(number)?));
     }
-    assert_same(rt, copies.never_and_once(), (0, NUMBERS));
-    Ok(())
+    Ok(tally)
+}
+
+/// Ends the set, takes so many values out, and drops what is left.
+fn end(rt: &impl Abort, set: Counts<'_>, values: &Drops, taken: u64) {
+    let mut ended = set.into_iter();
+    for dropped in 0..taken {
+        let never = NUMBERS.wrapping_sub(dropped);
+        assert_same(rt, values.never_and_once(), (never, dropped));
+        drop(ended.next());
+    }
+    drop(ended);
+    assert_same(rt, values.never_and_once(), (0, NUMBERS));
 }
 
 #[test]
 fn each_value_is_dropped_once(rt: HostRuntime) -> Result<(), Fail> {
-    for (room, one_in) in SETS {
+    for (room, refused, one_in, taken) in SETS {
         let values = Drops::new(rt.alloc(), NUMBERS)?;
-        let heap = rarely_refused(rt.alloc(), one_in);
-        let set = filled(&heap, room, &values).expect(&rt, "a set");
-        offer_all(&rt, rt.alloc(), &set)?;
+        let copies = Drops::new(rt.alloc(), NUMBERS)?;
+        let rule = Rule::new(0, usize::MAX, 0, 0).drawn(7, one_in);
+        let heap = Refusing::new(rt.alloc(), rule);
+        let set: Counts<'_> = SharedSet::with_capacity(&heap, room)?;
+        heap.refuse(0, refused);
+        let told = [insert_all(&set, &values)?, insert_all(&set, &copies)?];
+        assert_same(&rt, told, [Tally::of(NUMBERS, 0), Tally::of(0, NUMBERS)]);
+        assert_same(&rt, copies.never_and_once(), (0, NUMBERS));
         assert_same(&rt, values.never_and_once(), (NUMBERS, 0));
-        drop(set);
-        assert_same(&rt, values.never_and_once(), (0, NUMBERS));
-        assert_none_out(&rt, &heap);
-    }
-    Ok(())
-}
-
-/// How many values of an ended set are taken out. The others are dropped with what is left of it.
-const TAKEN: [u64; 4] = [0, 1, 150, NUMBERS];
-
-#[test]
-fn each_value_of_an_ended_set_is_dropped_once(rt: HostRuntime) -> Result<(), Fail> {
-    for taken in TAKEN {
-        let values = Drops::new(rt.alloc(), NUMBERS)?;
-        let heap = rarely_refused(rt.alloc(), 2);
-        let set = filled(&heap, 0, &values).expect(&rt, "a set");
-        let mut ended = set.into_values();
-        for dropped in 0..taken {
-            let never = NUMBERS.wrapping_sub(dropped);
-            assert_same(&rt, values.never_and_once(), (never, dropped));
-            drop(ended.next());
-        }
-        drop(ended);
-        assert_same(&rt, values.never_and_once(), (0, NUMBERS));
+        end(&rt, set, &values, taken);
         assert_none_out(&rt, &heap);
     }
     Ok(())

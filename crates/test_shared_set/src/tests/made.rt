@@ -1,11 +1,10 @@
 //! Inserts of values that are made only if they are needed.
 use super::caller::{
-    Heap, Numbering, Numbers, Told, assert_none_out, assert_same, counted, told_of,
+    Numbering, Told, assert_has, assert_none_out, assert_same, counted, set_with, told_of,
 };
-use shared_set::{GotOrInserted, KeyLaw, SameAs, SharedSet};
+use shared_set::{GotOrInserted, KeyLaw, SameAs};
 use std::process::Abort;
 use table_terms::law::{NumberLaw, hash_number};
-use testkit_refusing::{Refusing, Rule};
 
 /// A short number as a key of longer ones.
 #[derive(Drop)]
@@ -32,8 +31,14 @@ impl KeyLaw<Short, u64> for NumberLaw {
     }
 }
 
-/// How many keys are looked for.
-const MANY: u32 = 1000;
+/// Returns how a call ended that was to get this value or to insert it, with the entry's number.
+fn ended(told: GotOrInserted<'_, u64>, value: u64) -> (Told, Option<u64>) {
+    match told {
+        GotOrInserted::Got(number, entry) if *entry == value => (Told::Found, Some(number)),
+        GotOrInserted::Got(_number, _entry) => (Told::Wrong, None),
+        GotOrInserted::Made(inserted) => told_of(inserted, value),
+    }
+}
 
 /// Gets the entry that meets the key, or inserts this value. Returns how it ended, and whether the value was made.
 fn get_or_insert(
@@ -42,90 +47,72 @@ fn get_or_insert(
     value: u64,
 ) -> (Told, Option<u64>, bool) {
     let mut made = false;
-    let ended = handle.get_or_insert_with(&Short { number: key }, || {
+    let told = handle.get_or_insert_with(&Short { number: key }, || {
         made = true;
         value
     });
-    match ended {
-        GotOrInserted::Got(number, entry) if *entry == u64::from(key) => {
-            (Told::Found, Some(number), made)
-        }
-        GotOrInserted::Got(_number, _entry) => (Told::Wrong, None, made),
-        GotOrInserted::Made(inserted) => {
-            let (told, number) = told_of(inserted, value);
-            (told, number, made)
-        }
+    let got = if made { value } else { u64::from(key) };
+    let (told, number) = ended(told, got);
+    (told, number, made)
+}
+
+/// How many keys are looked for first.
+const MANY: u64 = 1000;
+
+/// Keys, values to insert if no entry meets them, how it ends, by which number, and whether the value is made. A value that doesn't meet
+/// its key is inserted too.
+const CASES: [(u32, u64, Told, u64, bool); 7] = [
+    (0, 0, Told::Found, 0, false),
+    (999, 7, Told::Found, 999, false),
+    (1000, 1001, Told::Placed, 1000, true),
+    (1000, 1001, Told::Found, 1000, true),
+    (1001, 1002, Told::Found, 1000, false),
+    (1000, 1000, Told::Placed, 1001, true),
+    (1000, 1002, Told::Found, 1001, false),
+];
+
+/// Places the first numbers, each as its own key.
+fn place_all(rt: &impl Abort, handle: &mut Numbering<'_, '_>) {
+    for key in 0..MANY as u32 {
+        let number = Some(u64::from(key));
+        let told = get_or_insert(handle, key, u64::from(key));
+        assert_same(rt, told, (Told::Placed, number, true));
     }
 }
 
 #[test]
 fn a_value_is_made_only_if_no_entry_meets_the_key(rt: HostRuntime) {
     let heap = counted(rt.alloc());
-    let set: Numbers<'_> = SharedSet::new(&heap).expect(&rt, "a set");
+    let set = set_with(&rt, &heap, 0);
     let mut handle = set.handle();
-    for key in 0..MANY {
-        let (told, number, made) = get_or_insert(&mut handle, key, u64::from(key));
-        assert_same(&rt, (told, made), (Told::Placed, true));
-        let again = get_or_insert(&mut handle, key, u64::from(key));
-        assert_same(&rt, again, (Told::Found, number, false));
+    heap.refuse(0, 1);
+    let refused = get_or_insert(&mut handle, 0, 0);
+    assert_same(&rt, refused, (Told::Refused, None, true));
+    place_all(&rt, &mut handle);
+    assert_has(&rt, &mut handle, MANY);
+    for (key, value, told, number, made) in CASES {
+        let got = get_or_insert(&mut handle, key, value);
+        assert_same(&rt, got, (told, Some(number), made));
     }
-    assert_same(&rt, handle.get(&u64::from(MANY)), None);
     drop(handle);
     drop(set);
     assert_none_out(&rt, &heap);
 }
 
-#[test]
-fn a_value_that_does_not_meet_the_key_is_inserted(rt: HostRuntime) {
-    let heap = counted(rt.alloc());
-    let set: Numbers<'_> = SharedSet::new(&heap).expect(&rt, "a set");
-    let mut handle = set.handle();
-    let (told, number, made) = get_or_insert(&mut handle, 1, 2);
-    assert_same(&rt, (told, made), (Told::Placed, true));
-    assert_same(
-        &rt,
-        get_or_insert(&mut handle, 1, 2),
-        (Told::Found, number, true),
-    );
-    assert_same(
-        &rt,
-        get_or_insert(&mut handle, 2, 3),
-        (Told::Found, number, false),
-    );
-    assert_same(&rt, handle.get(&2), Some(&2));
-    assert_same(&rt, handle.get(&1), None);
-}
-
+/// The same value is sought again while memory is refused, and then found.
 #[test]
 fn a_target_may_be_the_key(rt: HostRuntime) {
     let heap = counted(rt.alloc());
-    let set: Numbers<'_> = SharedSet::new(&heap).expect(&rt, "a set");
+    let set = set_with(&rt, &heap, 0);
     let mut handle = set.handle();
     let target = 7;
-    let sought = SameAs { target: &target };
-    match handle.seek_or_insert_with(&sought, || 7) {
-        GotOrInserted::Made(inserted) => {
-            assert_same(&rt, told_of(inserted, 7).0, Told::Placed);
-        }
-        GotOrInserted::Got(_number, _entry) => assert!(&rt; false),
+    for (refused, expected) in [
+        (1, (Told::Refused, None)),
+        (0, (Told::Placed, Some(0))),
+        (u64::MAX, (Told::Found, Some(0))),
+    ] {
+        heap.refuse(0, refused);
+        let told = handle.seek_or_insert_with(&SameAs { target: &target }, || 7);
+        assert_same(&rt, ended(told, 7), expected);
     }
-    match handle.seek_or_insert_with(&sought, || 8) {
-        GotOrInserted::Got(_number, entry) => assert_same(&rt, *entry, 7),
-        GotOrInserted::Made(_inserted) => assert!(&rt; false),
-    }
-}
-
-#[test]
-fn a_value_that_was_made_is_returned_if_memory_is_refused(rt: HostRuntime) {
-    let heap: Heap = Refusing::new(rt.alloc(), Rule::new(0, usize::MAX, 0, 0));
-    let set: Numbers<'_> = SharedSet::new(&heap).expect(&rt, "a set");
-    let mut handle = set.handle();
-    heap.refuse(0, 1);
-    assert_same(
-        &rt,
-        get_or_insert(&mut handle, 5, 5),
-        (Told::Refused, None, true),
-    );
-    let (told, _number, made) = get_or_insert(&mut handle, 5, 5);
-    assert_same(&rt, (told, made), (Told::Placed, true));
 }

@@ -1,6 +1,7 @@
 //! Memory that is refused.
 use super::caller::{
-    Heap, Numbering, Numbers, Told, assert_has, assert_none_out, assert_same, counted, insert,
+    Heap, Numbering, Numbers, Tally, Told, assert_has, assert_none_out, assert_same, counted, fill,
+    insert, set_with,
 };
 use shared_set::SharedSet;
 use std::alloc::Global;
@@ -39,25 +40,20 @@ fn place_at_last(rt: &impl Abort, handle: &mut Numbering<'_, '_>, value: u64, re
     assert_same(rt, insert(handle, value).0, Told::Placed);
 }
 
-/// Places the numbers, each as often as it takes. Then each is found, also by an insert.
-fn place_all(rt: &impl Abort, set: &Numbers<'_>, refused: u64) {
+/// A run in which so many requests are granted, and so many after them refused. Each number is placed, as often as it takes, and found
+/// then. Returns true if all were refused that were to be.
+fn run(rt: &impl Abort, alloc: Global, room: usize, granted: u64, refused: u64) -> bool {
+    let heap = Refusing::new(alloc, Rule::new(0, usize::MAX, granted, refused));
+    let set = made_at_last(rt, &heap, room, refused).expect(rt, "a set");
     let mut handle = set.handle();
     for value in 0..NUMBERS {
         place_at_last(rt, &mut handle, value, refused);
     }
-    assert_has(rt, &mut handle, NUMBERS);
-    for value in 0..NUMBERS {
-        assert_same(rt, insert(&mut handle, value).0, Told::Found);
-    }
-}
-
-/// A run in which so many requests are granted, and so many after them refused. Returns true if all were refused that were to be.
-fn run(rt: &impl Abort, alloc: Global, room: usize, granted: u64, refused: u64) -> bool {
-    let heap = Refusing::new(alloc, Rule::new(0, usize::MAX, granted, refused));
-    let set = made_at_last(rt, &heap, room, refused).expect(rt, "a set");
-    place_all(rt, &set, refused);
     let left = heap.refusals_left();
     heap.refuse(0, 0);
+    let told = fill(&mut handle, 0, NUMBERS, 1);
+    assert_same(rt, told, Tally::of(0, NUMBERS));
+    drop(handle);
     drop(set);
     assert_none_out(rt, &heap);
     left == 0
@@ -73,13 +69,14 @@ fn run_each(rt: &impl Abort, alloc: Global, room: usize, refused: u64) -> u64 {
     200
 }
 
+/// For how many entries there is room at first, and how many requests that follow each other are refused.
+const RUNS: [(usize, u64); 6] = [(0, 1), (0, 2), (0, 8), (20, 1), (20, 2), (20, 8)];
+
 #[test]
 fn each_request_refused_in_turn(rt: HostRuntime) {
-    for room in [0, 20] {
-        for refused in [1, 2, 8] {
-            let turns = run_each(&rt, rt.alloc(), room, refused);
-            assert!(&rt; 10 < turns && turns < 200, "{turns} turns");
-        }
+    for (room, refused) in RUNS {
+        let turns = run_each(&rt, rt.alloc(), room, refused);
+        assert!(&rt; 10 < turns && turns < 200, "{turns} turns");
     }
 }
 
@@ -98,14 +95,13 @@ const ROOMS: [usize; 4] = [16, 128, 1024, 1 << 14];
 fn a_set_of_a_capacity_does_not_grow(rt: HostRuntime) {
     for room in ROOMS {
         let heap = without_growth(rt.alloc(), room.saturating_mul(2));
-        let set: Numbers<'_> = SharedSet::with_capacity(&heap, room).expect(&rt, "a set");
+        let set = set_with(&rt, &heap, room);
         heap.refuse(0, u64::MAX);
         let mut handle = set.handle();
-        for value in 0..room as u64 {
-            assert_same(&rt, insert(&mut handle, value).0, Told::Placed);
-        }
+        let count = room as u64;
+        assert_same(&rt, fill(&mut handle, 0, count, 1), Tally::of(count, 0));
         assert_same(&rt, heap.refusals_left(), u64::MAX);
-        assert_same(&rt, insert(&mut handle, room as u64).0, Told::Placed);
+        assert_same(&rt, insert(&mut handle, count).0, Told::Placed);
         assert_same(&rt, heap.refusals_left(), u64::MAX - 1);
         drop(handle);
         drop(set);
@@ -113,16 +109,21 @@ fn a_set_of_a_capacity_does_not_grow(rt: HostRuntime) {
     }
 }
 
+/// Returns a set of 32 buckets that are all filled, since no growth was granted.
+pub(crate) fn full_set<'h>(rt: &impl Abort, heap: &'h Heap) -> Numbers<'h> {
+    let set = set_with(rt, heap, 16);
+    heap.refuse(0, u64::MAX);
+    let told = fill(&mut set.handle(), 0, 32, 1);
+    assert_same(rt, told, Tally::of(32, 0));
+    set
+}
+
 /// While no growth is granted, each bucket of a set is filled. Then a new value is returned, and each entry is found.
 #[test]
 fn a_set_that_cannot_grow_is_filled(rt: HostRuntime) {
     let heap = without_growth(rt.alloc(), 32);
-    let set: Numbers<'_> = SharedSet::with_capacity(&heap, 16).expect(&rt, "a set");
-    heap.refuse(0, u64::MAX);
+    let set = full_set(&rt, &heap);
     let mut handle = set.handle();
-    for value in 0u64..32 {
-        assert_same(&rt, insert(&mut handle, value), (Told::Placed, Some(value)));
-    }
     for _again in 0..3 {
         assert_same(&rt, insert(&mut handle, 32), (Told::Refused, None));
         assert_has(&rt, &mut handle, 32);
@@ -130,32 +131,20 @@ fn a_set_that_cannot_grow_is_filled(rt: HostRuntime) {
     heap.refuse(0, 0);
     assert_same(&rt, insert(&mut handle, 32).0, Told::Placed);
     assert_has(&rt, &mut handle, 33);
-    for value in 0u64..32 {
-        assert_same(&rt, handle.find(&value), Some((value, &value)));
-    }
 }
 
 /// Without memory an entry is found, by a look-up and by an insert. Neither asks for any.
 #[test]
 fn what_is_found_needs_no_memory(rt: HostRuntime) {
     let heap = counted(rt.alloc());
-    let set: Numbers<'_> = SharedSet::new(&heap).expect(&rt, "a set");
-    for value in 0u64..50 {
-        assert_same(&rt, insert(&mut set.handle(), value).0, Told::Placed);
-    }
+    let set = set_with(&rt, &heap, 0);
+    assert_same(&rt, fill(&mut set.handle(), 0, 50, 1), Tally::of(50, 0));
     let granted = heap.granted();
     heap.refuse(0, u64::MAX);
-    for value in 0u64..50 {
-        let mut handle = set.handle();
-        assert_same(&rt, insert(&mut handle, value).0, Told::Found);
-        assert_same(&rt, handle.get(&value), Some(&value));
-        assert_same(&rt, handle.get(&50), None);
-    }
-    assert_same(
-        &rt,
-        (heap.granted(), heap.refusals_left()),
-        (granted, u64::MAX),
-    );
+    assert_same(&rt, fill(&mut set.handle(), 0, 50, 1), Tally::of(0, 50));
+    assert_has(&rt, &mut set.handle(), 50);
+    assert_same(&rt, heap.granted(), granted);
+    assert_same(&rt, heap.refusals_left(), u64::MAX);
 }
 
 /// For how many entries a set is to have room, and how many refusals are left then of the most: a set of 2^31 asks for memory.

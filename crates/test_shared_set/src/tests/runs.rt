@@ -1,10 +1,11 @@
 //! Drawn runs, held against a plain list call by call.
 ghost use Rattle.std.specs.Prelude.{◌≡◌};
 
-use super::caller::{Heap, Numbering, Numbers, Told, assert_none_out, assert_same, insert};
+use super::caller::{
+    Heap, Numbering, Numbers, Told, assert_none_out, assert_same, insert, set_with,
+};
 use rand_core::{Rng, SeedableRng};
 use rand_xoshiro::SplitMix64;
-use shared_set::SharedSet;
 use std::alloc::{AllocError, Global};
 use std::process::Abort;
 use std::test::Fail;
@@ -108,7 +109,7 @@ fn drawn_runs_answer_as_a_list(rt: HostRuntime) -> Result<(), Fail> {
         for seed in 0u64..6 {
             let rule = Rule::new(0, usize::MAX, 0, 0).drawn(seed, 4);
             let heap = Refusing::new(rt.alloc(), rule);
-            let set: Numbers<'_> = SharedSet::with_capacity(&heap, room).expect(&rt, "a set");
+            let set = set_with(&rt, &heap, room);
             heap.refuse(0, refused);
             run(&rt, rt.alloc(), &heap, &set, seed)?;
             drop(set);

@@ -1,11 +1,10 @@
 //! A set of one owner becomes one that threads share.
-use super::caller::{Heap, Numbers, assert_none_out, assert_same, counted, insert};
+use super::caller::{Heap, assert_none_out, assert_same, counted};
 use shared_set::{Handle, Inserted, Partly, Share, Shared, SharedSet, Unshared};
 use std::alloc::{AllocError, Global};
 use std::process::Abort;
-use std::sync::Arc;
 use std::test::Fail;
-use table_sets::{HeldSet, Inserted as Put, NumberLaw, OfTarget};
+use table_sets::{HeldSet, Inserted as Put, OfTarget};
 use testkit_counting::{Counting, CountingLaw, Drops};
 
 /// How many values the sets have.
@@ -38,40 +37,25 @@ fn held<'h>(heap: &'h Heap, values: &Drops, count: u64) -> Result<Held<'h>, Allo
     Ok(set)
 }
 
-/// Asserts that the handle finds each number below this one, and not this one.
-fn assert_finds(
-    rt: &impl Abort,
-    handle: &mut Boxing<'_, '_>,
-    probes: &Drops,
-    count: u64,
-) -> Result<(), AllocError> {
-    for number in 0..count {
-        let found = handle.get(&probes.counting(number)?);
-        assert!(rt; found.is_some_and(|entry| entry.number == number));
-    }
-    assert!(rt; !handle.contains(&probes.counting(count)?));
-    Ok(())
+/// Returns true if the handle finds the number.
+fn has(handle: &mut Boxing<'_, '_>, probes: &Drops, number: u64) -> Result<bool, AllocError> {
+    let probe = probes.counting(number)?;
+    Ok(handle.contains(&probe))
 }
 
-#[test]
-fn each_value_is_an_entry_that_is_known(rt: HostRuntime) -> Result<(), Fail> {
-    for count in COUNTS {
-        let values = Drops::new(rt.alloc(), count)?;
-        let probes = Drops::new(rt.alloc(), 0)?;
-        let heap = counted(rt.alloc());
-        let Ok(Shared { set, known }) = held(&heap, &values, count)?.share(&heap) else {
-            return Err(Fail::new("memory was refused"));
-        };
-        let mut handle = set.handle();
-        handle.hear(&known);
-        assert_finds(&rt, &mut handle, &probes, count)?;
-        drop(handle);
-        assert_same(&rt, (set.len(), set.is_empty()), (count, count == 0));
-        assert_same(&rt, values.never_and_once(), (count, 0));
-        drop(set);
-        assert_same(&rt, values.never_and_once(), (0, count));
-        assert_none_out(&rt, &heap);
+/// Asserts that a handle finds each number below this one, and not this one.
+fn assert_finds(
+    rt: &impl Abort,
+    alloc: Global,
+    set: &Boxes<'_>,
+    count: u64,
+) -> Result<(), AllocError> {
+    let probes = Drops::new(alloc, 0)?;
+    let mut handle = set.handle();
+    for number in 0..count {
+        assert_same(rt, has(&mut handle, &probes, number)?, true);
     }
+    assert_same(rt, has(&mut handle, &probes, count)?, false);
     Ok(())
 }
 
@@ -127,34 +111,42 @@ fn set_of<'h>(
     }
 }
 
-/// How many values are shared while requests are refused.
-const NUMBERS: u64 = 300;
-
-/// Shares a set of one owner while so many requests are granted and the one after them is refused. Then each value is there once. Returns
-/// true if no request was refused.
-fn share_refused(rt: &impl Abort, alloc: Global, granted: u64) -> Result<bool, AllocError> {
-    let values = Drops::new(alloc, NUMBERS)?;
-    let probes = Drops::new(alloc, 0)?;
+/// Shares a set of so many values while so many requests are granted and the one after them is refused. Then each value is there once.
+/// Returns true if no request was refused.
+fn share(rt: &impl Abort, alloc: Global, count: u64, granted: u64) -> Result<bool, AllocError> {
+    let values = Drops::new(alloc, count)?;
     let heap = counted(alloc);
-    let held = held(&heap, &values, NUMBERS)?;
+    let held = held(&heap, &values, count)?;
     heap.refuse(granted, 1);
     let told = held.share(&heap);
     let whole = heap.refusals_left() == 1;
     heap.refuse(0, 0);
-    assert_same(rt, values.never_and_once(), (NUMBERS, 0));
-    let set = set_of(rt, &heap, told, NUMBERS);
-    assert_finds(rt, &mut set.handle(), &probes, NUMBERS)?;
-    assert_same(rt, values.never_and_once(), (NUMBERS, 0));
+    assert_same(rt, values.never_and_once(), (count, 0));
+    let set = set_of(rt, &heap, told, count);
+    assert_finds(rt, alloc, &set, count)?;
+    assert_same(rt, (set.len(), set.is_empty()), (count, count == 0));
+    assert_same(rt, values.never_and_once(), (count, 0));
     drop(set);
-    assert_same(rt, values.never_and_once(), (0, NUMBERS));
+    assert_same(rt, values.never_and_once(), (0, count));
     assert_none_out(rt, &heap);
     Ok(whole)
 }
 
 #[test]
+fn each_value_is_an_entry(rt: HostRuntime) -> Result<(), Fail> {
+    for count in COUNTS {
+        assert!(rt; share(&rt, rt.alloc(), count, 1 << 32)?);
+    }
+    Ok(())
+}
+
+/// How many values are shared while requests are refused.
+const NUMBERS: u64 = 300;
+
+#[test]
 fn a_refused_value_is_returned_with_the_rest(rt: HostRuntime) -> Result<(), Fail> {
     for granted in 0..100 {
-        if share_refused(&rt, rt.alloc(), granted)? {
+        if share(&rt, rt.alloc(), NUMBERS, granted)? {
             assert!(rt; granted > 5, "{granted}");
             return Ok(());
         }
@@ -176,45 +168,4 @@ fn what_is_left_may_be_dropped(rt: HostRuntime) -> Result<(), Fail> {
         assert_none_out(&rt, &heap);
     }
     Ok(())
-}
-
-/// A value that is shared is moved, and not copied: an `Arc` then has two owners.
-#[test]
-fn a_value_is_moved(rt: HostRuntime) -> Result<(), Fail> {
-    let mine = Arc::new(rt.alloc(), 7u64)?;
-    let mut held: HeldSet<Arc<u64>, NumberLaw> = HeldSet::new(rt.alloc());
-    assert!(rt; matches!(held.insert(mine.clone()?), Put::Placed));
-    let shared = held.share(rt.alloc()).ok().expect(&rt, "a shared set");
-    let Shared { set, known: _ } = shared;
-    let entry = set.get(&mine);
-    assert!(rt; entry.is_some_and(|entry| **entry == 7));
-    assert_same(&rt, Arc::strong_count(&mine), 2);
-    Ok(())
-}
-
-/// How many values are counted once so many were placed by one handle: the first, then 2, 4, 8, 16, 32 and 64 at a time.
-const COUNTED: [(u64, u64); 8] = [
-    (0, 0),
-    (1, 1),
-    (2, 1),
-    (3, 3),
-    (6, 3),
-    (7, 7),
-    (127, 127),
-    (190, 127),
-];
-
-#[test]
-fn a_first_value_is_counted_at_once(rt: HostRuntime) {
-    for (placed, told) in COUNTED {
-        let heap = counted(rt.alloc());
-        let set: Numbers<'_> = SharedSet::new(&heap).expect(&rt, "a set");
-        let mut handle = set.handle();
-        for value in 0..placed {
-            insert(&mut handle, value);
-        }
-        assert_same(&rt, (set.len(), set.is_empty()), (told, placed == 0));
-        drop(handle);
-        assert_same(&rt, set.len(), placed);
-    }
 }

@@ -1,14 +1,17 @@
-//! What handles and threads tell each other of a set.
+//! What threads tell each other of a set while both run.
 ghost use Rattle.std.specs.Prelude.{◌≡◌};
 
 use super::caller::{
-    Heap, Knows, Numbers, Told, assert_has, assert_none_out, assert_same, counted, insert,
+    Heap, Numbers, Tally, assert_has, assert_none_out, assert_same, counted, fill, first_missed,
+    set_with,
 };
-use shared_set::SharedSet;
+use shared_set::Known;
 use std::alloc::{AllocError, Global};
-use std::sync::OnceLock;
+use std::sync::{OnceLock, Wait};
 use std::test::Fail;
-use std::thread::{Threads, join, yield_now};
+use std::thread::yield_now;
+use table_terms::law::NumberLaw;
+use testkit_counting::tally::{Work, at_once};
 
 /// How many messages a thread sends.
 const MESSAGES: u64 = 64;
@@ -23,7 +26,7 @@ const LOOKS: u32 = 1_000_000;
 #[derive(Drop)]
 struct Message<'s, 'h> {
     set: &'s Numbers<'h>,
-    known: Knows<&'h Heap>,
+    known: Known<u64, NumberLaw, &'h Heap>,
     ghost of: { known.of ≡ set.now.of },
 }
 
@@ -31,25 +34,22 @@ struct Message<'s, 'h> {
 type Place<'s, 'h> = OnceLock<Message<'s, 'h>>;
 
 /// Places the numbers of this message, and returns it. Returns None if one isn't placed.
-fn place<'s, 'h>(set: &'s Numbers<'h>, message: u64) -> Option<Message<'s, 'h>> {
+fn message_of<'s, 'h>(set: &'s Numbers<'h>, at: u64) -> Option<Message<'s, 'h>> {
     let mut handle = set.handle();
-    let first = message.wrapping_mul(NUMBERS);
-    for number in first..first.wrapping_add(NUMBERS) {
-        if insert(&mut handle, number).0 != Told::Placed {
-            return None;
-        }
+    let first = at.wrapping_mul(NUMBERS);
+    let told = fill(&mut handle, first, first.wrapping_add(NUMBERS), 1);
+    if told != Tally::of(NUMBERS, 0) {
+        return None;
     }
-    Some(Message {
-        set,
-        known: handle.tell(),
-    })
+    let known = handle.tell();
+    Some(Message { set, known })
 }
 
 /// Sends each message once its numbers are placed. Returns how many were sent.
 fn send<'s, 'h>(set: &'s Numbers<'h>, places: &[Place<'s, 'h>]) -> u64 {
     let mut sent = 0u64;
     for (at, room) in places.iter().enumerate() {
-        if let Some(message) = place(set, at as u64)
+        if let Some(message) = message_of(set, at as u64)
             && room.try_set(message).is_ok()
         {
             sent = sent.wrapping_add(1);
@@ -63,12 +63,8 @@ fn finds(message: &Message<'_, '_>, at: u64) -> bool {
     let mut handle = message.set.handle();
     handle.hear(&message.known.again());
     let first = at.wrapping_mul(NUMBERS);
-    for number in first..first.wrapping_add(NUMBERS) {
-        if handle.get(&number) != Some(&number) {
-            return false;
-        }
-    }
-    true
+    let end = first.wrapping_add(NUMBERS);
+    first_missed(&mut handle, first, end) == end
 }
 
 /// Waits for the message. Returns None if it doesn't come.
@@ -95,47 +91,47 @@ fn hear(places: &[Place<'_, '_>]) -> u64 {
     found
 }
 
-/// One thread sends messages while another hears them. Returns how many were sent, and how many came whose numbers are found.
-fn talk<'s, 'h, R: Threads + Sync>(
-    rt: &R,
-    alloc: Global,
+/// A talk of two threads: the first one sends messages while the second one hears them.
+#[derive(Drop)]
+struct Talk<'p, 's, 'h> {
     set: &'s Numbers<'h>,
-) -> Result<(u64, u64), AllocError> {
+    places: &'p [Place<'s, 'h>],
+}
+
+/// Each message that is sent counts as placed, and each that is heard as found.
+impl Work for Talk<'_, '_, '_> {
+    fn work<R: Wait>(&self, _rt: &R, thread: u64) -> Tally {
+        if thread == 0 {
+            Tally::of(send(self.set, self.places), 0)
+        } else {
+            Tally::of(0, hear(self.places))
+        }
+    }
+}
+
+/// Returns places for the messages.
+fn places_for<'s, 'h>(alloc: Global) -> Result<Vec<Place<'s, 'h>>, AllocError> {
     let mut places: Vec<Place<'s, 'h>> = Vec::new(alloc);
     for _message in 0..MESSAGES {
         places.push(OnceLock::new())?;
     }
-    let rooms = places.as_slice();
-    Ok(join(rt, || send(set, rooms), || hear(rooms)))
+    Ok(places)
 }
 
 #[test]
 fn a_thread_hears_what_another_knows_while_both_run(rt: HostRuntime) -> Result<(), Fail> {
     let heap = counted(rt.alloc());
-    let set: Numbers<'_> = SharedSet::new(&heap).expect(&rt, "a set");
-    let counts = talk(&rt, rt.alloc(), &set)?;
-    assert_same(&rt, counts, (MESSAGES, MESSAGES));
+    let set = set_with(&rt, &heap, 0);
+    let places = places_for(rt.alloc())?;
+    let talk = Talk {
+        set: &set,
+        places: places.as_slice(),
+    };
+    let told = at_once(&rt, rt.alloc(), 2, &talk);
+    assert_same(&rt, told, Tally::of(MESSAGES, MESSAGES));
     assert_has(&rt, &mut set.handle(), MESSAGES.wrapping_mul(NUMBERS));
+    drop(places);
     drop(set);
     assert_none_out(&rt, &heap);
     Ok(())
-}
-
-/// A handle that learned of entries finds them, also after it hears again what was known before them.
-#[test]
-fn what_was_learned_is_kept(rt: HostRuntime) {
-    let heap = counted(rt.alloc());
-    let set: Numbers<'_> = SharedSet::new(&heap).expect(&rt, "a set");
-    let (mut mine, mut other) = (set.handle(), set.handle());
-    let before = mine.tell();
-    for number in 0u64..1000 {
-        assert_same(&rt, insert(&mut other, number).0, Told::Placed);
-        if number % 100 == 0 {
-            mine.learn(&other);
-            mine.hear(&before);
-            assert_has(&rt, &mut mine, number + 1);
-        }
-    }
-    other.hear(&before.again());
-    assert_has(&rt, &mut other, 1000);
 }

@@ -1,213 +1,132 @@
-//! Threads share a set over growth: each number is placed by one of them, and a thread that has learned of it finds it.
-ghost use Rattle.std.specs.Prelude.{◌≡◌, IfSome};
-
+//! Threads share a set over growth: each number is placed by one of them, and each finds what it placed or met.
 use super::caller::{
-    Heap, Knows, Numbering, Numbers, Told, assert_has, assert_none_out, assert_same, counted,
-    insert,
+    Numbers, Tally, Told, assert_has, assert_none_out, assert_numbered, assert_same, counted, fill,
+    set_with,
 };
-use shared_set::{Handle, SharedSet};
-use std::alloc::{AllocError, Global};
-use std::marker::{Send, Sync};
+use super::memory::full_set;
+use std::alloc::Global;
 use std::process::Abort;
-use std::sync::atomic::AtomicU64;
-use std::sync::atomic::Ordering::SeqCst;
-use std::test::Fail;
-use std::thread::{Threads, join};
-use table_cell::Low;
-use table_terms::law::NumberLaw;
+use std::sync::Wait;
+use std::thread::Threads;
+use testkit_counting::tally::{Work, at_once};
 use testkit_refusing::{Refusing, Rule};
 
-/// For how many entries there is room at first, how many numbers are placed, how far the threads' first numbers lie apart, and how many
-/// requests are refused at most, each drawn as one of three.
-const SETS: [(usize, u64, u64, u64); 5] = [
-    (0, 600, 0, 0),
-    (0, 600, 50, 0),
-    (300, 300, 0, 0),
-    (0, 600, 150, u64::MAX),
-    (100, 300, 0, u64::MAX),
+/// Threads that insert numbers into a set, each those from one to below another. A thread that has none asks for entries by their numbers.
+#[derive(Drop)]
+struct Filling<'p, 'h> {
+    set: &'p Numbers<'h>,
+    parts: &'p [(u64, u64)],
+    /// How often each insert is tried.
+    tries: u32,
+}
+
+impl Work for Filling<'_, '_> {
+    fn work<R: Wait>(&self, _rt: &R, thread: u64) -> Tally {
+        match self.parts.get(thread as usize) {
+            Some((from, end)) => fill(&mut self.set.handle(), *from, *end, self.tries),
+            None => ask(self.set),
+        }
+    }
+}
+
+/// How many values are inserted while another thread asks. One handle inserts them, so that each has itself as its number.
+const ASKED: u64 = 300;
+
+/// Asks for each number, and for some that nobody has, three times. An entry that is shown is the one of its number.
+fn ask(set: &Numbers<'_>) -> Tally {
+    for asked in 0..3 * (ASKED + 3) {
+        let number = asked % (ASKED + 3);
+        if let Some(value) = set.handle().entry(number)
+            && (*value != number || number >= ASKED)
+        {
+            return Tally::NONE.with(Told::Wrong);
+        }
+    }
+    Tally::NONE
+}
+
+/// One thread inserts while another asks.
+#[test]
+fn entries_are_shown_while_a_thread_inserts(rt: HostRuntime) {
+    for _round in 0..20 {
+        let heap = counted(rt.alloc());
+        let set = set_with(&rt, &heap, 0);
+        let parts = [(0, ASKED)];
+        let filling = Filling {
+            set: &set,
+            parts: parts.as_slice(),
+            tries: 1,
+        };
+        let told = at_once(&rt, rt.alloc(), 2, &filling);
+        assert_same(&rt, told, Tally::of(ASKED, 0));
+        assert_numbered(&rt, &mut set.handle(), ASKED);
+        drop(set);
+        assert_none_out(&rt, &heap);
+    }
+}
+
+/// For how many entries there is room at first, from which number on each thread inserts, how many numbers are placed, how many are found
+/// by two threads and by four, and how many requests are refused at most, each drawn as one of three.
+const SETS: [(usize, [u64; 4], u64, [u64; 2], u64); 5] = [
+    (0, [0, 0, 0, 0], 600, [600, 1800], 0),
+    (0, [0, 50, 100, 150], 600, [550, 1500], 0),
+    (300, [0, 0, 0, 0], 300, [300, 900], 0),
+    (0, [0, 150, 300, 450], 600, [450, 900], u64::MAX),
+    (100, [0, 0, 0, 0], 300, [300, 900], u64::MAX),
 ];
 
-/// How often an insert is tried.
-const TRIES: u32 = 1000;
-
-/// Inserts the number, again if it is refused, and counts it if this thread placed it. Returns false if it was refused too often, if
-/// another number was shown or returned, or if it isn't found.
-fn place<A: Low + Copy>(
-    handle: &mut Handle<'_, u64, NumberLaw, A>,
-    placed: &AtomicU64,
-    number: u64,
-) -> bool
-    ensures { handle.new.of ≡ handle.old.of }
-{
-    for _tried in 0..TRIES {
-        let told = insert(handle, number).0;
-        if told == Told::Placed {
-            placed.fetch_add(1, SeqCst);
-        }
-        if told != Told::Refused {
-            return told != Told::Wrong && handle.get(&number) == Some(&number);
-        }
-    }
-    false
-}
-
-/// Inserts the numbers of a range. Returns None if it went wrong.
-fn fill<A: Low + Copy>(
-    set: &SharedSet<u64, NumberLaw, A>,
-    placed: &AtomicU64,
-    from: u64,
-    end: u64,
-) -> Option<Knows<A>>
-    ensures { IfSome result (λ k. k.of ≡ set.now.of) }
-{
-    let mut handle = set.handle();
-    for number in from..end {
-        if !place(&mut handle, placed, number) {
-            return None;
-        }
-    }
-    Some(handle.tell())
-}
-
-/// Two threads insert the numbers of a range each, and one hears what the other knows.
-fn fill_by_two<A: Low + Copy + Send + Sync, R: Threads + Sync>(
+/// Two threads fill a set, and then four fill another one: each number is placed by one of them.
+fn assert_fills<R: Threads + Wait + Abort + Sync>(
     rt: &R,
-    set: &SharedSet<u64, NumberLaw, A>,
-    placed: &AtomicU64,
-    from: [u64; 2],
-    end: u64,
-) -> Option<Knows<A>>
-    ensures { IfSome result (λ k. k.of ≡ set.now.of) }
-{
-    let [first, second] = from;
-    let (one, other) = join(
-        rt,
-        || fill(set, placed, first, end),
-        || fill(set, placed, second, end),
-    );
-    both(set, one, other)
-}
-
-/// Four threads insert the numbers of a range each, and one hears what the others know.
-fn fill_by_four<A: Low + Copy + Send + Sync, R: Threads + Sync>(
-    rt: &R,
-    set: &SharedSet<u64, NumberLaw, A>,
-    placed: &AtomicU64,
-    from: [u64; 4],
-    end: u64,
-) -> Option<Knows<A>>
-    ensures { IfSome result (λ k. k.of ≡ set.now.of) }
-{
-    let [a, b, c, d] = from;
-    let (one, other) = join(
-        rt,
-        || fill_by_two(rt, set, placed, [a, b], end),
-        || fill_by_two(rt, set, placed, [c, d], end),
-    );
-    both(set, one, other)
-}
-
-/// Returns what is known to a handle that hears both. Returns None if one of them is missing.
-fn both<A: Low + Copy>(
-    set: &SharedSet<u64, NumberLaw, A>,
-    one: Option<Knows<A>>,
-    other: Option<Knows<A>>,
-) -> Option<Knows<A>>
-    requires one { IfSome one (λ k. k.of ≡ set.now.of) }
-    requires other { IfSome other (λ k. k.of ≡ set.now.of) }
-    ensures { IfSome result (λ k. k.of ≡ set.now.of) }
-{
-    let mut handle = set.handle();
-    handle.hear(&one?);
-    handle.hear(&other?);
-    Some(handle.tell())
-}
-
-/// Two or four threads insert the numbers below the last one, each from its own first number on, and one hears what the others know.
-fn fill_at_once<A: Low + Copy + Send + Sync, R: Threads + Sync>(
-    rt: &R,
-    set: &SharedSet<u64, NumberLaw, A>,
-    placed: &AtomicU64,
-    apart: u64,
-    end: u64,
-    by_four: bool,
-) -> Option<Knows<A>>
-    ensures { IfSome result (λ k. k.of ≡ set.now.of) }
-{
-    if by_four {
-        let twice = apart.wrapping_mul(2);
-        let from = [0, apart, twice, twice.wrapping_add(apart)];
-        return fill_by_four(rt, set, placed, from, end);
-    }
-    fill_by_two(rt, set, placed, [0, apart], end)
-}
-
-/// Two or four threads fill a set: each number is placed by one of them, and found by one that heard all.
-fn assert_fills<R: Abort + Threads + Sync>(
-    rt: &R,
-    set: &Numbers<'_>,
-    numbers: u64,
-    apart: u64,
-    by_four: bool,
-) {
-    let placed = AtomicU64::new(0);
-    let known = fill_at_once(rt, set, &placed, apart, numbers, by_four);
-    let known = known.expect(rt, "what is known");
-    let mut handle = set.handle();
-    handle.hear(&known);
-    assert_has(rt, &mut handle, numbers);
-    assert_same(rt, placed.load(SeqCst), numbers);
-    assert_same(rt, set.len(), numbers);
-}
-
-/// Asserts that the entries of the numbers below this one have different numbers.
-fn assert_numbered(
-    rt: &impl Abort,
     alloc: Global,
-    handle: &mut Numbering<'_, '_>,
-    end: u64,
-) -> Result<(), AllocError> {
-    let mut numbers = Vec::new(alloc);
-    for value in 0..end {
-        match handle.find(&value) {
-            Some((number, _)) => numbers.push(number)?,
-            None => assert!(rt; false, "{value}"),
-        }
+    seed: u64,
+    at: (usize, [u64; 4], u64, [u64; 2], u64),
+) {
+    let (room, [a, b, c, d], end, [by_two, by_four], refused) = at;
+    let parts = [(a, end), (b, end), (c, end), (d, end)];
+    for (threads, found) in [(2, by_two), (4, by_four)] {
+        let rule = Rule::new(0, usize::MAX, 0, 0).drawn(seed, 3);
+        let heap = Refusing::new(alloc, rule);
+        let set = set_with(rt, &heap, room);
+        heap.refuse(0, refused);
+        let filling = Filling {
+            set: &set,
+            parts: parts.as_slice(),
+            tries: if refused == 0 { 1 } else { 1000 },
+        };
+        let told = at_once(rt, alloc, threads, &filling);
+        assert_same(rt, told, Tally::of(end, found));
+        assert_has(rt, &mut set.handle(), end);
+        assert_numbered(rt, &mut set.handle(), end);
+        assert_same(rt, set.len(), end);
+        drop(set);
+        assert_none_out(rt, &heap);
     }
-    numbers.sort_unstable();
-    numbers.dedup();
-    assert_same(rt, numbers.len() as u64, end);
-    Ok(())
 }
 
 #[test]
-fn threads_insert_over_growth(rt: HostRuntime) -> Result<(), Fail> {
-    for (room, numbers, apart, refused) in SETS {
+fn threads_insert_over_growth(rt: HostRuntime) {
+    for at in SETS {
         for seed in 0u64..2 {
-            for by_four in [false, true] {
-                let rule = Rule::new(0, usize::MAX, 0, 0).drawn(seed, 3);
-                let heap = Refusing::new(rt.alloc(), rule);
-                let set: Numbers<'_> = SharedSet::with_capacity(&heap, room).expect(&rt, "a set");
-                heap.refuse(0, refused);
-                assert_fills(&rt, &set, numbers, apart, by_four);
-                assert_numbered(&rt, rt.alloc(), &mut set.handle(), numbers)?;
-                drop(set);
-                assert_none_out(&rt, &heap);
-            }
+            assert_fills(&rt, rt.alloc(), seed, at);
         }
     }
-    Ok(())
 }
 
-/// Two threads insert one number. Returns true if one of them places it, and the other finds it with the same number of the entry.
-fn is_placed_once<R: Threads + Sync>(rt: &R, set: &Numbers<'_>, number: u64) -> bool {
-    let (one, other) = join(
-        rt,
-        || insert(&mut set.handle(), number),
-        || insert(&mut set.handle(), number),
-    );
-    let ends = [one.0, other.0];
-    one.1 == other.1 && (ends == [Told::Placed, Told::Found] || ends == [Told::Found, Told::Placed])
+/// Two threads insert one number. One of them places it, and the other finds it.
+fn assert_placed_once<R: Threads + Wait + Abort + Sync>(
+    rt: &R,
+    alloc: Global,
+    set: &Numbers<'_>,
+    number: u64,
+) {
+    let parts = [(number, number.wrapping_add(1)); 2];
+    let filling = Filling {
+        set,
+        parts: parts.as_slice(),
+        tries: 1,
+    };
+    assert_same(rt, at_once(rt, alloc, 2, &filling), Tally::of(1, 1));
 }
 
 /// Both threads have probed and have a chunk for their slot, of 32 values of eight bytes, before either offers its value; or one has
@@ -217,8 +136,8 @@ fn one_of_two_threads_places_a_number(rt: HostRuntime) {
     let rule = Rule::new(256, 256, 0, 0).paired(u64::MAX, 10_000);
     let heap = Refusing::new(rt.alloc(), rule);
     for number in 0u64..500 {
-        let set: Numbers<'_> = SharedSet::new(&heap).expect(&rt, "a set");
-        assert!(rt; is_placed_once(&rt, &set, number), "{number}");
+        let set = set_with(&rt, &heap, 0);
+        assert_placed_once(&rt, rt.alloc(), &set, number);
         assert_same(&rt, set.get(&number), Some(&number));
         assert_same(&rt, set.len(), 1);
         drop(set);
@@ -230,32 +149,13 @@ fn one_of_two_threads_places_a_number(rt: HostRuntime) {
 #[test]
 fn one_of_two_threads_places_each_number(rt: HostRuntime) {
     let heap = counted(rt.alloc());
-    let set: Numbers<'_> = SharedSet::new(&heap).expect(&rt, "a set");
+    let set = set_with(&rt, &heap, 0);
     for number in 0u64..1000 {
-        assert!(rt; is_placed_once(&rt, &set, number), "{number}");
+        assert_placed_once(&rt, rt.alloc(), &set, number);
     }
     assert_has(&rt, &mut set.handle(), 1000);
     drop(set);
     assert_none_out(&rt, &heap);
-}
-
-/// Inserts a number into a set that has no room for it, and looks for it.
-fn placed_beyond(set: &Numbers<'_>, number: u64) -> bool {
-    let mut handle = set.handle();
-    insert(&mut handle, number).0 == Told::Placed && handle.get(&number) == Some(&number)
-}
-
-/// Returns a set of 32 buckets that are all filled, since no growth was granted. From now on it is.
-fn full<'h>(rt: &impl Abort, heap: &'h Heap) -> Numbers<'h> {
-    let set: Numbers<'_> = SharedSet::with_capacity(heap, 16).expect(rt, "a set");
-    heap.refuse(0, u64::MAX);
-    let mut handle = set.handle();
-    for number in 0u64..32 {
-        assert_same(rt, insert(&mut handle, number).0, Told::Placed);
-    }
-    heap.refuse(0, 0);
-    drop(handle);
-    set
 }
 
 /// Two threads find a set full. One of them shows the next generation, and the numbers of both are placed there.
@@ -264,9 +164,16 @@ fn two_threads_grow_a_full_set(rt: HostRuntime) {
     for _round in 0..200 {
         let rule = Rule::new(512, usize::MAX, 0, 0).paired(u64::MAX, 10_000);
         let heap = Refusing::new(rt.alloc(), rule);
-        let set = full(&rt, &heap);
-        let placed = join(&rt, || placed_beyond(&set, 32), || placed_beyond(&set, 33));
-        assert_same(&rt, placed, (true, true));
+        let set = full_set(&rt, &heap);
+        heap.refuse(0, 0);
+        let parts = [(32, 33), (33, 34)];
+        let filling = Filling {
+            set: &set,
+            parts: parts.as_slice(),
+            tries: 1,
+        };
+        let told = at_once(&rt, rt.alloc(), 2, &filling);
+        assert_same(&rt, told, Tally::of(2, 0));
         assert_has(&rt, &mut set.handle(), 34);
         drop(set);
         assert_none_out(&rt, &heap);

@@ -1,5 +1,5 @@
 use Rattle.std.proofs.Common.{◌≡◌}
-use Rattle.test_shared_set.proofs.tests.walks.count_while_growing.Given as goal
+use Rattle.test_shared_set.proofs.tests.walks.walked.Given as goal
 
 abbrev pub invariant-loop-next : goal.invariant-loop-next
 invariant-loop-next g l = l.walk.of ≡ l.set.of
