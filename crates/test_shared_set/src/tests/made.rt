@@ -41,7 +41,7 @@ fn ended(told: GotOrInserted<'_, u64>, value: u64) -> (Told, Option<u64>) {
 }
 
 /// Gets the entry that meets the key, or inserts this value. Returns how it ended, and whether the value was made.
-fn get_or_insert(
+pub(crate) fn get_or_insert(
     handle: &mut Numbering<'_, '_>,
     key: u32,
     value: u64,
@@ -54,6 +54,12 @@ fn get_or_insert(
     let got = if made { value } else { u64::from(key) };
     let (told, number) = ended(told, got);
     (told, number, made)
+}
+
+/// Gets the entry that is the same as the value, or inserts it. Returns how it ended, with the entry's number.
+pub(crate) fn seek_or_insert(handle: &mut Numbering<'_, '_>, value: u64) -> (Told, Option<u64>) {
+    let told = handle.seek_or_insert_with(&SameAs { target: &value }, || value);
+    ended(told, value)
 }
 
 /// How many keys are looked for first.
@@ -105,14 +111,12 @@ fn a_target_may_be_the_key(rt: HostRuntime) {
     let heap = counted(rt.alloc());
     let set = set_with(&rt, &heap, 0);
     let mut handle = set.handle();
-    let target = 7;
     for (refused, expected) in [
         (1, (Told::Refused, None)),
         (0, (Told::Placed, Some(0))),
         (u64::MAX, (Told::Found, Some(0))),
     ] {
         heap.refuse(0, refused);
-        let told = handle.seek_or_insert_with(&SameAs { target: &target }, || 7);
-        assert_same(&rt, ended(told, 7), expected);
+        assert_same(&rt, seek_or_insert(&mut handle, 7), expected);
     }
 }

@@ -1,8 +1,9 @@
 //! Memory that is refused.
 use super::caller::{
     Heap, Numbering, Numbers, Tally, Told, assert_has, assert_none_out, assert_same, counted, fill,
-    insert, set_with,
+    insert, set_with, told_of,
 };
+use super::made::{get_or_insert, seek_or_insert};
 use shared_set::SharedSet;
 use std::alloc::Global;
 use std::process::Abort;
@@ -10,6 +11,23 @@ use testkit_refusing::{Refusing, Rule};
 
 /// How many numbers a run places.
 const NUMBERS: u64 = 100;
+
+/// The call by which a run inserts its numbers.
+#[derive(Clone, Copy)]
+enum By {
+    Handle,
+    Set,
+    Key,
+    Sought,
+}
+
+/// Makes a set that has room for so many entries. For none it is a new one.
+fn made<'h>(heap: &'h Heap, room: usize) -> Option<Numbers<'h>> {
+    if room == 0 {
+        return SharedSet::new(heap).ok();
+    }
+    SharedSet::with_capacity(heap, room).ok()
+}
 
 /// Makes a set that has room for so many entries, tried once more than so many requests are refused.
 fn made_at_last<'h>(
@@ -19,63 +37,90 @@ fn made_at_last<'h>(
     refused: u64,
 ) -> Option<Numbers<'h>> {
     for _refused in 0..refused {
-        if let Ok(set) = SharedSet::with_capacity(heap, room) {
+        if let Some(set) = made(heap, room) {
             return Some(set);
         }
         assert_none_out(rt, heap);
     }
-    SharedSet::with_capacity(heap, room).ok()
+    made(heap, room)
 }
 
-/// Places the number, tried once more than so many requests are refused. A refused insert leaves the numbers below this one.
-fn place_at_last(rt: &impl Abort, handle: &mut Numbering<'_, '_>, value: u64, refused: u64) {
-    for _refused in 0..refused {
-        let told = insert(handle, value).0;
-        if told == Told::Placed {
-            return;
-        }
-        assert_same(rt, told, Told::Refused);
-        assert_has(rt, handle, value);
+/// Inserts the number by this call, and returns how it ended.
+fn insert_by(by: By, set: &Numbers<'_>, handle: &mut Numbering<'_, '_>, value: u64) -> Told {
+    match by {
+        By::Handle => insert(handle, value).0,
+        By::Set => told_of(set.insert(value), value).0,
+        By::Key => get_or_insert(handle, value as u32, value).0,
+        By::Sought => seek_or_insert(handle, value).0,
     }
-    assert_same(rt, insert(handle, value).0, Told::Placed);
+}
+
+/// Places the numbers of a run in a set, each tried once more than so many requests are refused. A refused insert leaves the numbers below
+/// its own.
+fn place_at_last(rt: &impl Abort, by: By, set: &Numbers<'_>, refused: u64) {
+    let mut handle = set.handle();
+    let mut value = 0;
+    let mut left = refused;
+    while value < NUMBERS {
+        let told = insert_by(by, set, &mut handle, value);
+        if told == Told::Placed {
+            value += 1;
+            left = refused;
+        } else {
+            assert_same(rt, (told, left > 0), (Told::Refused, true));
+            assert_has(rt, &mut handle, value);
+            left = left.saturating_sub(1);
+        }
+    }
 }
 
 /// A run in which so many requests are granted, and so many after them refused. Each number is placed, as often as it takes, and found
 /// then. Returns true if all were refused that were to be.
-fn run(rt: &impl Abort, alloc: Global, room: usize, granted: u64, refused: u64) -> bool {
+fn run(rt: &impl Abort, (room, refused, by): Run, alloc: Global, granted: u64) -> bool {
     let heap = Refusing::new(alloc, Rule::new(0, usize::MAX, granted, refused));
     let set = made_at_last(rt, &heap, room, refused).expect(rt, "a set");
-    let mut handle = set.handle();
-    for value in 0..NUMBERS {
-        place_at_last(rt, &mut handle, value, refused);
-    }
+    place_at_last(rt, by, &set, refused);
     let left = heap.refusals_left();
     heap.refuse(0, 0);
-    let told = fill(&mut handle, 0, NUMBERS, 1);
+    let told = fill(&mut set.handle(), 0, NUMBERS, 1);
     assert_same(rt, told, Tally::of(0, NUMBERS));
-    drop(handle);
     drop(set);
     assert_none_out(rt, &heap);
     left == 0
 }
 
 /// Returns how many requests can be granted before so many that follow each other are refused, in a run that asks for fewer than 200.
-fn run_each(rt: &impl Abort, alloc: Global, room: usize, refused: u64) -> u64 {
+fn run_each(rt: &impl Abort, alloc: Global, as_told: Run) -> u64 {
     for granted in 0..200 {
-        if !run(rt, alloc, room, granted, refused) {
+        if !run(rt, as_told, alloc, granted) {
             return granted;
         }
     }
     200
 }
 
-/// For how many entries there is room at first, and how many requests that follow each other are refused.
-const RUNS: [(usize, u64); 6] = [(0, 1), (0, 2), (0, 8), (20, 1), (20, 2), (20, 8)];
+/// For how many entries there is room at first, how many requests that follow each other are refused, and the call that inserts.
+type Run = (usize, u64, By);
+
+const RUNS: [Run; 12] = [
+    (0, 1, By::Handle),
+    (0, 2, By::Handle),
+    (0, 8, By::Handle),
+    (20, 1, By::Handle),
+    (20, 2, By::Handle),
+    (20, 8, By::Handle),
+    (0, 1, By::Set),
+    (20, 2, By::Set),
+    (0, 1, By::Key),
+    (20, 2, By::Key),
+    (0, 1, By::Sought),
+    (20, 2, By::Sought),
+];
 
 #[test]
 fn each_request_refused_in_turn(rt: HostRuntime) {
-    for (room, refused) in RUNS {
-        let turns = run_each(&rt, rt.alloc(), room, refused);
+    for as_told in RUNS {
+        let turns = run_each(&rt, rt.alloc(), as_told);
         assert!(&rt; 10 < turns && turns < 200, "{turns} turns");
     }
 }
