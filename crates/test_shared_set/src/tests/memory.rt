@@ -50,28 +50,32 @@ fn insert_by(by: By, set: &Numbers<'_>, handle: &mut Numbering<'_, '_>, value: u
     match by {
         By::Handle => insert(handle, value).0,
         By::Set => told_of(set.insert(value), value).0,
-        By::Key => get_or_insert(handle, value as u32, value).0,
+        By::Key => match u32::try_from(value) {
+            Ok(key) => get_or_insert(handle, key, value).0,
+            Err(_) => Told::Wrong,
+        },
         By::Sought => seek_or_insert(handle, value).0,
     }
 }
 
-/// Places the numbers of a run in a set, each tried once more than so many requests are refused. A refused insert leaves the numbers below
-/// its own.
-fn place_at_last(rt: &impl Abort, by: By, set: &Numbers<'_>, refused: u64) {
-    let mut handle = set.handle();
-    let mut value = 0;
-    let mut left = refused;
-    while value < NUMBERS {
-        let told = insert_by(by, set, &mut handle, value);
+/// Places the number, tried once more than so many requests are refused. A refused insert leaves the numbers below this one.
+fn place_at_last(
+    rt: &impl Abort,
+    by: By,
+    set: &Numbers<'_>,
+    handle: &mut Numbering<'_, '_>,
+    value: u64,
+    refused: u64,
+) {
+    for _refused in 0..refused {
+        let told = insert_by(by, set, handle, value);
         if told == Told::Placed {
-            value += 1;
-            left = refused;
-        } else {
-            assert_same(rt, (told, left > 0), (Told::Refused, true));
-            assert_has(rt, &mut handle, value);
-            left = left.saturating_sub(1);
+            return;
         }
+        assert_same(rt, told, Told::Refused);
+        assert_has(rt, handle, value);
     }
+    assert_same(rt, insert_by(by, set, handle, value), Told::Placed);
 }
 
 /// A run in which so many requests are granted, and so many after them refused. Each number is placed, as often as it takes, and found
@@ -79,7 +83,11 @@ fn place_at_last(rt: &impl Abort, by: By, set: &Numbers<'_>, refused: u64) {
 fn run(rt: &impl Abort, (room, refused, by): Run, alloc: Global, granted: u64) -> bool {
     let heap = Refusing::new(alloc, Rule::new(0, usize::MAX, granted, refused));
     let set = made_at_last(rt, &heap, room, refused).expect(rt, "a set");
-    place_at_last(rt, by, &set, refused);
+    let mut handle = set.handle();
+    for value in 0..NUMBERS {
+        place_at_last(rt, by, &set, &mut handle, value, refused);
+    }
+    drop(handle);
     let left = heap.refusals_left();
     heap.refuse(0, 0);
     let told = fill(&mut set.handle(), 0, NUMBERS, 1);

@@ -9,7 +9,7 @@ use shared_set::Known;
 use std::alloc::{AllocError, Global};
 use std::sync::{OnceLock, Wait};
 use std::test::Fail;
-use std::thread::yield_now;
+use std::thread::{Threads, yield_now};
 use table_terms::law::NumberLaw;
 use testkit_counting::tally::{Work, at_once};
 
@@ -118,19 +118,27 @@ fn places_for<'s, 'h>(alloc: Global) -> Result<Vec<Place<'s, 'h>>, AllocError> {
     Ok(places)
 }
 
+/// Two threads talk. Returns how many messages were sent, and how many came whose numbers are found.
+fn talk<'s, 'h, R: Threads + Wait + Sync>(
+    rt: &R,
+    alloc: Global,
+    set: &'s Numbers<'h>,
+) -> Result<Tally, AllocError> {
+    let places: Vec<Place<'s, 'h>> = places_for(alloc)?;
+    let talk = Talk {
+        set,
+        places: places.as_slice(),
+    };
+    Ok(at_once(rt, alloc, 2, &talk))
+}
+
 #[test]
 fn a_thread_hears_what_another_knows_while_both_run(rt: HostRuntime) -> Result<(), Fail> {
     let heap = counted(rt.alloc());
     let set = set_with(&rt, &heap, 0);
-    let places = places_for(rt.alloc())?;
-    let talk = Talk {
-        set: &set,
-        places: places.as_slice(),
-    };
-    let told = at_once(&rt, rt.alloc(), 2, &talk);
+    let told = talk(&rt, rt.alloc(), &set)?;
     assert_same(&rt, told, Tally::of(MESSAGES, MESSAGES));
     assert_has(&rt, &mut set.handle(), MESSAGES.wrapping_mul(NUMBERS));
-    drop(places);
     drop(set);
     assert_none_out(&rt, &heap);
     Ok(())
