@@ -1,75 +1,56 @@
 //! Memory that is refused.
-ghost use Rattle.std.specs.Prelude.{◌≡◌};
-
-use super::ending::ended;
-use super::laws::{Counting, Spread};
-use super::made::{Ended, Fared, Heap, assert_same, counted, empty_hand, found, judged, made, put};
-use std::sync::Arc;
-use std::sync::atomic::AtomicU64;
-use std::test::Fail;
-use table_numbered::{Generation, Refused};
+use super::caller::{Numbers, Told, assert_same, made};
+use super::growing::grown;
+use std::alloc::Global;
+use std::process::Abort;
 use table_slab::Slab;
+use testkit_refusing::{Refusing, Rule};
 
-type Set<'m> = Generation<Counting, Spread, &'m Heap>;
-
-/// How many values come out of a generation of two buckets that a number was placed in, and that grew once. None: memory was
-/// refused.
-fn story(heap: &Heap, drops: &Arc<AtomicU64>) -> Option<usize> {
+/// Places 1 in a generation of two buckets, which then grows. Returns how a probe for it ends in the next generation. If memory for that
+/// one is refused, returns how it ends to place 2 in the old one. `None` means that memory was refused before.
+fn story(heap: &Refusing<Global>) -> Option<Told> {
     let slab = Slab::new(heap, 1).ok()?;
-    let set: Set<'_> = made(heap, &slab, 2).ok()?;
-    let mut mine = empty_hand(&set);
-    if put(&set, &slab, &mut mine, 1, drops) != Fared::Placed(1) {
+    let set = made(heap, &slab, 2).ok()?;
+    let old = Numbers {
+        set: &set,
+        slab: &slab,
+    };
+    if old.put(1) != Told::Placed(0) {
         return None;
     }
-    let next = set.grown(heap, &mut mine.seen).ok()?;
-    let its = empty_hand(&next);
-    let values = ended(next, slab, its, heap)?;
-    Some(values.len())
+    let Ok(next) = grown(&set, heap) else {
+        return Some(old.put(2));
+    };
+    let new = Numbers {
+        set: &next,
+        slab: &slab,
+    };
+    Some(new.judge(1))
 }
 
-/// A slab asks for its cells, a generation for its words and for those of hints, a first number for its chunk and the chunk's box, growth
-/// for its words and for those of hints, and the end for room and for cells: that is all.
+/// How many requests are granted before one is refused, and how the story ends. A slab asks for its cells and for what its end needs, a
+/// generation for its words and for those of hints, a first number for its chunk and for the chunk's box, and growth for words and for
+/// those of hints: that is all.
+const ENDS: [(u64, Option<Told>); 9] = [
+    (0, None),
+    (1, None),
+    (2, None),
+    (3, None),
+    (4, None),
+    (5, None),
+    (6, Some(Told::Placed(1))),
+    (7, Some(Told::Placed(1))),
+    (8, Some(Told::Found(0))),
+];
+
+/// A refused growth closes nothing.
 #[test]
-fn each_of_nine_requests_is_refused_in_turn(rt: HostRuntime) -> Result<(), Fail> {
-    let drops = Arc::new(rt.alloc(), AtomicU64::new(0))?;
-    let heap = counted(rt.alloc());
-    for passing in 0u64..9 {
-        heap.refuse(passing, 1);
-        assert_same(&rt, story(&heap, &drops), None);
-        assert_same(&rt, heap.granted(), heap.given_back());
+fn each_of_eight_requests_is_refused_in_turn(rt: HostRuntime) {
+    let heap = Refusing::new(rt.alloc(), Rule::new(0, usize::MAX, 0, 0));
+    for (granted, told) in ENDS {
+        heap.refuse(granted, 1);
+        assert_same(&rt, (granted, story(&heap)), (granted, told));
+        assert_same(&rt, heap.given_back(), heap.granted());
     }
-    heap.refuse(9, 1);
-    assert_same(&rt, story(&heap, &drops), Some(1));
     assert_same(&rt, heap.refusals_left(), 1);
-    assert_same(&rt, heap.granted(), heap.given_back());
-    Ok(())
-}
-
-#[test]
-fn a_refused_growth_closes_nothing(rt: HostRuntime) -> Result<(), Fail> {
-    let drops = Arc::new(rt.alloc(), AtomicU64::new(0))?;
-    let heap = counted(rt.alloc());
-    let slab = Slab::new(&heap, 2)?;
-    let set: Set<'_> = made(&heap, &slab, 4)?;
-    let mut mine = empty_hand(&set);
-    assert_same(
-        &rt,
-        put(&set, &slab, &mut mine, 1, &drops),
-        Fared::Placed(1),
-    );
-    heap.refuse(0, 1);
-    let grown = set.grown(&heap, &mut mine.seen);
-    assert_same(&rt, grown.err(), Some(Refused::Memory));
-    assert_same(&rt, judged(&set, &slab, &mut mine, 2), Ended::Vacant);
-    assert_same(
-        &rt,
-        put(&set, &slab, &mut mine, 2, &drops),
-        Fared::Placed(2),
-    );
-    let seen = [
-        found(&set, &slab, &mut mine, 1),
-        found(&set, &slab, &mut mine, 2),
-    ];
-    assert_same(&rt, seen, [Some((0, 1)), Some((1, 2))]);
-    Ok(())
 }
