@@ -25,7 +25,7 @@ use Rattle.table_cell.proofs.Ajar.{Marked}
 use Rattle.table_slab.specs.Shelved.{standing}
 use Rattle.table_slab.specs.Slabs.{SlabView}
 use Rattle.table_slab.specs.Spent.{spent}
-use Rattle.table_slab.specs.contracts.receipt.Receipt as Receipt
+use Rattle.table_slab.specs.contracts.rights.Receipt as Receipt
 use Rattle.table_slab.proofs.Made.{token_val, with_mark}
 use Rattle.table_slab.proofs.Spent.{spents_differ}
 

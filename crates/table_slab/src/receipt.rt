@@ -1,43 +1,17 @@
 //! Receipts for rights that were given up.
-ghost use Rattle.std.specs.Prelude.{◌≡◌, ◌≢◌, ℕ, Some, IsSome};
-ghost use denote.Sharing.{said};
+ghost use Rattle.std.specs.Prelude.{◌≡◌, Some, IsSome};
 ghost use Rattle.table_slab.specs.Held.{IsRightTo, StandsAt};
-ghost use Rattle.table_slab.specs.Shelved.{coded_slab, standing};
-ghost use Rattle.table_slab.specs.Slabs.{SlabView, IsSlot};
-ghost use Rattle.table_slab.specs.Spent.{spent};
+ghost use Rattle.table_slab.specs.Slabs.{IsSlot};
 
 use crate::chunk::Chunk;
-use crate::rights::{Room, Written};
+use crate::rights::{Receipt, Room, Written};
 use crate::site::Site;
 use crate::slab::{Right, Slab, Standing};
 use std::alloc::Allocator;
-use std::marker::{Model, PhantomData, Send, Sync};
+use std::marker::PhantomData;
 use table_cell::Low;
 
-/// What is left of a right that was given up: it shows that the number `number` of the slab `slab` holds `value` for good. It has no
-/// bytes, it can be sent, and there is only one for a number.
-#[derive(Drop)]
-pub struct Receipt<T> {
-    pub marker: PhantomData<T>,
-    pub ghost slab: { SlabView } by { coded_slab },
-    pub ghost number: { ℕ },
-    pub ghost value: { T },
-}
-
-impl<T> Model for Receipt<T> {
-    ghost also_owns = { λ r. spent T.row r.slab r.number r.value };
-
-    ghost also_shares = { λ r _ κ. said (standing T.row r.slab r.number r.value) κ };
-}
-
 impl<T> Receipt<T> {
-    /// Shows that two receipts of one slab are of different numbers.
-    pub fn apart(&mut self, _other: &mut Receipt<T>)
-        requires slab { self.old.slab ≡ _other.old.slab }
-        ensures same { (self.new ≡ self.old) × (_other.new ≡ _other.old) }
-        ensures apart { self.old.number ≢ _other.old.number }
-    {}
-
     /// Returns what shows that the number holds the value for good.
     pub fn shows<A: Allocator>(&self) -> Standing<T, A>
         ensures of { StandsAt self.now.slab self.now.number result }
@@ -94,7 +68,3 @@ impl<T, A: Low + Copy> Slab<T, A> {
         receipt_for(self, number, site, room)
     }
 }
-
-unsafe impl<T> Send for Receipt<T> {}
-
-unsafe impl<T> Sync for Receipt<T> {}

@@ -98,7 +98,7 @@ pub fn put_at<L: SetLaw<Counting>, A: Low + Copy>(
     ensures back { IfSome result.1 (λ r. IsRightTo set.now.of.slab number r × (r.room.value ≡ None)) }
 {
     match set.place(slab, seen, number, right, value) {
-        Placing::Placed(entry) => (Fared::Placed(entry.number), None),
+        Placing::Placed(entry, _) => (Fared::Placed(entry.number), None),
         Placing::Found(met, entry, back, right) => (
             Fared::Found(met, entry.number, back.number),
             Some(right),

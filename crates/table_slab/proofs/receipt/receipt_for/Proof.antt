@@ -27,7 +27,7 @@ use Rattle.table_slab.specs.Slabs.{SlabView, IsSlot}
 use Rattle.table_slab.specs.Shelved.{Spot, right}
 use Rattle.table_slab.specs.Spent.{spent}
 use Rattle.table_slab.specs.contracts.chunk.Chunk as Chunk
-use Rattle.table_slab.specs.contracts.receipt.Receipt as Receipt
+use Rattle.table_slab.specs.contracts.rights.Receipt as Receipt
 use Rattle.table_slab.specs.contracts.rights.Room as Room
 use Rattle.table_slab.specs.contracts.site.Site as Site
 use Rattle.table_slab.specs.contracts.slab.Slab as Slab

@@ -25,7 +25,7 @@ use Rattle.core.proofs.cell.Inside.{Good}
 use Rattle.table_slab.specs.Slabs.{IsSlot}
 use Rattle.table_slab.specs.Shelved.{standing}
 use Rattle.table_slab.specs.contracts.chunk.Chunk as Chunk
-use Rattle.table_slab.specs.contracts.receipt.Receipt as Receipt
+use Rattle.table_slab.specs.contracts.rights.Receipt as Receipt
 use Rattle.table_slab.specs.contracts.rights.Written as Written
 use Rattle.table_slab.specs.contracts.site.Site as Site
 use Rattle.table_slab.proofs.Made.{token_val, written_made, pair_in}

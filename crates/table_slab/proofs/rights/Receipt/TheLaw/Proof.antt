@@ -7,12 +7,12 @@ use denote.Struct.Lending.{of_Lends}
 use Rattle.core.specs.contracts.marker.PhantomData as marker
 use Rattle.table_slab.specs.Shelved.{standing}
 use Rattle.table_slab.specs.Spent.{spent}
-use Rattle.table_slab.specs.contracts.receipt.Receipt as C
+use Rattle.table_slab.specs.contracts.rights.Receipt as C
 use Rattle.table_slab.proofs.Receipts.{Lends-shown}
 use Rattle.table_slab.proofs.Shelved.{standing_twice}
 use Rattle.table_slab.proofs.Shown.{good_laws}
 use Rattle.table_slab.proofs.Spent.{spent_stands}
-use Rattle.table_slab.proofs.receipt.Receipt.TheLaw.Statement.{statement}
+use Rattle.table_slab.proofs.rights.Receipt.TheLaw.Statement.{statement}
 
 pub shares : (T : RattleType) (L : Laws T) → statement T L
 shares T L = of_Lends (C.struct T) (C.the_codes T.Denot T.coded (marker.the_row T).coded) (C.the_heap T) (C.the_lent T)

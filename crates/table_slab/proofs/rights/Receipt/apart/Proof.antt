@@ -20,12 +20,12 @@ use Rattle.std.proofs.raw_atomic.Walks.{proved_at, leaves}
 use Rattle.table_cell.proofs.Ajar as behind
 use Rattle.table_slab.specs.Slabs.{SlabView}
 use Rattle.table_slab.specs.Spent.{spent}
-use Rattle.table_slab.specs.contracts.receipt.Receipt as Receipt
+use Rattle.table_slab.specs.contracts.rights.Receipt as Receipt
 use Rattle.table_slab.proofs.Receipts.{the_receipt, apart_numbers}
-use Rattle.table_slab.specs.contracts.receipt.Receipt.apart.{ended, clauses}
-use Rattle.table_slab.specs.contracts.receipt.Receipt.apart.Key.{name as #self}
-use Rattle.table_slab.proofs.receipt.Receipt.apart.Statement.{statement}
-use Rattle.table_slab.proofs.receipt.Receipt.apart.Code as code
+use Rattle.table_slab.specs.contracts.rights.Receipt.apart.{ended, clauses}
+use Rattle.table_slab.specs.contracts.rights.Receipt.apart.Key.{name as #self}
+use Rattle.table_slab.proofs.rights.Receipt.apart.Statement.{statement}
+use Rattle.table_slab.proofs.rights.Receipt.apart.Code as code
 
 pub apart_spec : {M : Type 1} → statement M
 apart_spec 𝓤 𝓛 𝓜 𝓡 wired T L =
