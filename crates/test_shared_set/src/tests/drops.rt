@@ -44,7 +44,7 @@ fn places(handle: &mut Handle<'_, Counting, CountingLaw, &Heap>, value: Counting
     let mut value = value;
     for _tried in 0..1000u32 {
         match handle.insert(value) {
-            Inserted::Placed(_, _) => return true,
+            Inserted::Placed(_, _, _) => return true,
             Inserted::Found(_, _, _) => return false,
             Inserted::Refused(back) => value = back,
         }
@@ -57,7 +57,7 @@ fn finds(set: &Counts<'_>, value: Counting) -> bool {
     let number = value.number;
     match set.insert(value) {
         Inserted::Found(_, entry, back) => entry.number == number && back.number == number,
-        Inserted::Placed(_, _) | Inserted::Refused(_) => false,
+        Inserted::Placed(_, _, _) | Inserted::Refused(_) => false,
     }
 }
 
