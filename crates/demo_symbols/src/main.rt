@@ -18,7 +18,7 @@ const NAMES: [[&str; 3]; 2] = [["price", "count", "total"], ["total", "size", "p
 /// Returns the number of the name, which is inserted if it is new. Err: no memory.
 fn number_of(naming: &mut Naming<'_>, alloc: Global, name: &str) -> Result<u64, AllocError> {
     match naming.insert(String::from_str(alloc, name)?) {
-        Inserted::Placed(number, _) => Ok(number),
+        Inserted::Placed(number, _, _) => Ok(number),
         Inserted::Found(number, _, _) => Ok(number),
         Inserted::Refused(_) => Err(AllocError),
     }

@@ -12,7 +12,7 @@ pub fn place_below(set: &Numbers<Global>, count: u64) -> u64 {
     let mut mine = set.handle();
     let mut placed = 0u64;
     for number in 0..count {
-        if let Inserted::Placed(_, _) = mine.insert(number) {
+        if let Inserted::Placed(_, _, _) = mine.insert(number) {
             placed = placed.saturating_add(1);
         }
     }

@@ -19,7 +19,7 @@ pub fn put<V: Drop, L: SetLaw<V>, A: Low + Copy>(
     ensures there { IfSome result (λ _. SomePasses (L.same value) (IsEntry mine.new.history)) }
 {
     match mine.insert(value) {
-        Inserted::Placed(_, _) => Some(()),
+        Inserted::Placed(_, _, _) => Some(()),
         Inserted::Found(_, _, _) => Some(()),
         Inserted::Refused(_) => None,
     }

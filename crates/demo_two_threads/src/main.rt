@@ -12,7 +12,7 @@ fn insert_all(set: &SharedSet<u64, NumberLaw>) -> Result<u64, AllocError> {
     let mut placed: u64 = 0;
     for number in 0..1000 {
         match mine.insert(number) {
-            Inserted::Placed(_, _) => placed = placed.saturating_add(1),
+            Inserted::Placed(_, _, _) => placed = placed.saturating_add(1),
             Inserted::Found(_, _, _) => {}
             Inserted::Refused(_) => return Err(AllocError),
         }

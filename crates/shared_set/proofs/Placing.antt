@@ -50,25 +50,25 @@ module _ {V : Type 0} (same : V → V → Bool) (hash : V → ℕ) where
 
   -- what an insert answers of a value that is the same one, by what was known before
   pub inserts_after : (r : Inserted V) (v w : V) (old mid new : History (Numbered V)) → w ≡ v → Keeps old mid → Inserts same hash w mid new r → Inserts same hash v old new r
-  inserts_after (inserted.Placed k e) v w old mid new is kept told = (told.0 ∙ is, subst (λ (x : V). IsPlaced same k x old new) is (placed_after same k w old mid new kept told.1))
+  inserts_after (inserted.Placed k e r) v w old mid new is kept told = (told.0 ∙ is, subst (λ (x : V). IsPlaced same k x old new) is (placed_after same k w old mid new kept told.1))
   inserts_after (inserted.Found k e back) v w old mid new is kept told = subst (λ (x : V). Inserts same hash x old new (inserted.Found k e back)) is told
   inserts_after (inserted.Refused back) v w old mid new is kept told = subst (λ (x : V). Inserts same hash x old new (inserted.Refused back)) is told
 
   pub here_after : (r : Attempt V) (v w : V) (old mid new : History (Numbered V)) → w ≡ v → Keeps old mid → InsertsHere same hash w mid new r → InsertsHere same hash v old new r
-  here_after (attempt.Done (inserted.Placed k e)) v w old mid new is kept told = (told.0 ∙ is, subst (λ (x : V). IsPlaced same k x old new) is (placed_after same k w old mid new kept told.1))
+  here_after (attempt.Done (inserted.Placed k e r)) v w old mid new is kept told = (told.0 ∙ is, subst (λ (x : V). IsPlaced same k x old new) is (placed_after same k w old mid new kept told.1))
   here_after (attempt.Done (inserted.Found k e back)) v w old mid new is kept told = subst (λ (x : V). InsertsHere same hash x old new (attempt.Done (inserted.Found k e back))) is told
   here_after (attempt.Done (inserted.Refused back)) v w old mid new is kept told = subst (λ (x : V). InsertsHere same hash x old new (attempt.Done (inserted.Refused back))) is told
   here_after (attempt.Full back) v w old mid new is kept told = subst (λ (x : V). InsertsHere same hash x old new (attempt.Full back)) is told
 
   -- what is done in one generation is done
   pub done_here : (r : Inserted V) (v : V) (old new : History (Numbered V)) → InsertsHere same hash v old new (attempt.Done r) → Inserts same hash v old new r
-  done_here (inserted.Placed k e) v old new told = told
+  done_here (inserted.Placed k e r) v old new told = told
   done_here (inserted.Found k e back) v old new told = told
   done_here (inserted.Refused back) v old new told = (told.0, told.1, inl told.2)
 
   -- what an insert answers to a caller that knew only what the set began with
   pub replies : (r : Inserted V) (v : V) (start old new : History (Numbered V)) → Keeps start old → Keeps old new → Inserts same hash v old new r → Replies same v start r
-  replies (inserted.Placed k e) v start old new kept on told =
+  replies (inserted.Placed k e r) v start old new kept on told =
       (told.0, none_before (of_value (same v)) start told.1.before (keeps_trans start old told.1.before kept told.1.keeps) told.1.none)
   replies (inserted.Found k e back) v start old new kept on told = (told.0, told.1.0)
   replies (inserted.Refused back) v start old new kept on told = (told.0, none_before (of_value (same v)) start new (keeps_trans start old new kept on) told.1)

@@ -7,8 +7,8 @@ use Rattle.table_numbered.specs.declared.event.Numbered.{Numbered}
 use Rattle.shared_set.specs.declared.insert.Inserted.{Inserted}
 use Rattle.shared_set.specs.declared.get_or_insert.GotOrInserted.{GotOrInserted}
 use Rattle.shared_set.specs.declared.get_or_insert.GotOrInserted.TheVariants as got
-use Rattle.shared_set.specs.Known.{Keeps}
-use Rattle.shared_set.specs.Inserting.{Inserts}
+use Rattle.shared_set.specs.Known.{SharedView, Keeps}
+use Rattle.shared_set.specs.Inserting.{Inserts, HasReceipt}
 
 module _ {V : Type 0} (same : V → V → Bool) (hash : V → ℕ) (accepts : V → Bool) (IsMade : V → Type 0) where
   -- none of the entries that were known was accepted, and so a value was made, and its insert ended so
@@ -24,3 +24,8 @@ module _ {V : Type 0} (same : V → V → Bool) (hash : V → ℕ) (accepts : V 
   abbrev pub GetsOrInserts : History (Numbered V) → History (Numbered V) → GotOrInserted V → Type 0
   GetsOrInserts old new (got.Got k e) = Passes accepts (IsEntry new) k e.now
   GetsOrInserts old new (got.Made it) = MakesAndInserts old new it
+
+-- what was made and placed has a receipt
+abbrev pub GetsReceipt : {V : Type 0} → SharedView → GotOrInserted V → Type 0
+GetsReceipt g (got.Got k e) = Unit {0}
+GetsReceipt g (got.Made it) = HasReceipt g it

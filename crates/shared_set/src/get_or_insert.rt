@@ -2,7 +2,7 @@
 ghost use Rattle.table_numbered.specs.Words.{of_value};
 ghost use Rattle.table_numbered.specs.History.{IsEntry, NonePasses};
 ghost use Rattle.shared_set.specs.Known.{KnowsMore};
-ghost use Rattle.shared_set.specs.Getting.{GetsOrInserts};
+ghost use Rattle.shared_set.specs.Getting.{GetsOrInserts, GetsReceipt};
 
 use crate::handle::Handle;
 use crate::insert::Inserted;
@@ -10,7 +10,7 @@ use table_cell::Low;
 use table_numbered::{KeyLaw, MetBy, SetLaw, Sought};
 
 /// How a call of `get_or_insert_with` ended.
-#[derive(Debug, PartialEq, Eq, Drop)]
+#[derive(Debug, Drop)]
 pub enum GotOrInserted<'a, V> {
     /// This entry, which has this number, is what was sought. No value was made.
     Got(u64, &'a V),
@@ -30,6 +30,7 @@ impl<'a, V, L: SetLaw<V>, A: Low + Copy> Handle<'a, V, L, A> {
         ensures known { KnowsMore self.old self.new }
         ensures told { GetsOrInserts L.same L.hash_of (S.accepts sought.now) (F.post make) self.old.history
             self.new.history result }
+        ensures receipt { GetsReceipt self.new.of result }
     {
         match self.seek(sought) {
             Some((number, entry)) => GotOrInserted::Got(number, entry),
@@ -50,6 +51,7 @@ impl<'a, V, L: SetLaw<V>, A: Low + Copy> Handle<'a, V, L, A> {
         ensures known { KnowsMore self.old self.new }
         ensures told { GetsOrInserts L.same L.hash_of (L.meets key.now) (F.post make) self.old.history
             self.new.history result }
+        ensures receipt { GetsReceipt self.new.of result }
     {
         self.seek_or_insert_with(&MetBy { key }, make)
     }

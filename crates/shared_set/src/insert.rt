@@ -1,7 +1,7 @@
 //! Inserts.
 ghost use Rattle.std.specs.Prelude.{◌≡◌};
 ghost use Rattle.shared_set.specs.Known.{KnowsMore};
-ghost use Rattle.shared_set.specs.Inserting.{Inserts, InsertsHere, Attempts};
+ghost use Rattle.shared_set.specs.Inserting.{Inserts, InsertsHere, Attempts, HasReceipt, HasReceiptHere};
 ghost use Rattle.shared_set.specs.Supplies.{IsVacant};
 
 use crate::handle::Handle;
@@ -11,13 +11,13 @@ use std::cmp::{max, min};
 use std::sync::atomic::Ordering::SeqCst;
 use table_cell::Low;
 use table_numbered::{Judged, Placing, SameAs, SetLaw};
-use table_slab::Right;
+use table_slab::{Receipt, Right};
 
 /// How an insert ended.
-#[derive(Debug, PartialEq, Eq, Drop)]
+#[derive(Debug, Drop)]
 pub enum Inserted<'a, V> {
-    /// The value is a new entry, with this number.
-    Placed(u64, &'a V),
+    /// The value is a new entry, with this number. No other call gets a receipt for it.
+    Placed(u64, &'a V, Receipt<V>),
     /// This entry, which has this number, is the same. The value is returned.
     Found(u64, &'a V, V),
     /// There is no memory, or no number or generation is left. The value is returned.
@@ -62,13 +62,14 @@ impl<'a, V, L: SetLaw<V>, A: Low + Copy> Handle<'a, V, L, A> {
         requires vacant { IsVacant self.old.of.slab (number, right) }
         ensures known { KnowsMore self.old self.new }
         ensures told { InsertsHere L.same L.hash_of value self.old.history self.new.history result }
+        ensures receipt { HasReceiptHere self.new.of result }
     {
         let set = self.set;
         let generation = self.stage.generation();
         match generation.place(&set.slab, &mut self.cursor.entries, number, right, value) {
-            Placing::Placed(entry) => {
+            Placing::Placed(entry, receipt) => {
                 self.count(number);
-                Attempt::Done(Inserted::Placed(number, entry))
+                Attempt::Done(Inserted::Placed(number, entry, receipt))
             }
             Placing::Found(found, entry, back, right) => {
                 self.supply.keep(number, right);
@@ -85,6 +86,7 @@ impl<'a, V, L: SetLaw<V>, A: Low + Copy> Handle<'a, V, L, A> {
     fn place_if_new(&mut self, value: V) -> Attempt<'a, V>
         ensures known { KnowsMore self.old self.new }
         ensures told { InsertsHere L.same L.hash_of value self.old.history self.new.history result }
+        ensures receipt { HasReceiptHere self.new.of result }
     {
         let set = self.set;
         let generation = self.stage.generation();
@@ -113,6 +115,7 @@ impl<'a, V, L: SetLaw<V>, A: Low + Copy> Handle<'a, V, L, A> {
     fn insert_here(&mut self, value: V) -> Attempt<'a, V>
         ensures known { KnowsMore self.old self.new }
         ensures told { InsertsHere L.same L.hash_of value self.old.history self.new.history result }
+        ensures receipt { HasReceiptHere self.new.of result }
     {
         match self.supply.take() {
             Some((number, right)) => self.place(number, right, value),
@@ -124,6 +127,7 @@ impl<'a, V, L: SetLaw<V>, A: Low + Copy> Handle<'a, V, L, A> {
     fn insert_or_grow(&mut self, value: V) -> Attempt<'a, V>
         ensures known { KnowsMore self.old self.new }
         ensures told { Attempts L.same L.hash_of value self.old.history self.new.history result }
+        ensures receipt { HasReceiptHere self.new.of result }
     {
         self.advance();
         match self.insert_here(value) {
@@ -140,11 +144,12 @@ impl<'a, V, L: SetLaw<V>, A: Low + Copy> Handle<'a, V, L, A> {
 
     /// Inserts the value, unless an entry is the same.
     ///
-    /// `Placed`: no entry that was placed before it is the same. `Found`: the entry that is returned is the same. `Refused`: no entry
+    /// `Placed`: no entry that was placed before it is the same, and the receipt is of this set and of the entry. `Found`: the entry that is returned is the same. `Refused`: no entry
     /// known to this handle is the same, and its buckets are known up to an empty one, to a closed one or to the last.
     pub fn insert(&mut self, value: V) -> Inserted<'a, V>
         ensures known { KnowsMore self.old self.new }
         ensures told { Inserts L.same L.hash_of value self.old.history self.new.history result }
+        ensures receipt { HasReceipt self.new.of result }
     {
         let mut value = value;
         for _tried in 0..STAGES {

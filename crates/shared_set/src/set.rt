@@ -6,7 +6,7 @@ ghost use Rattle.table_chain.specs.History.{Stands};
 ghost use Rattle.table_numbered.specs.Words.{of_value};
 ghost use Rattle.table_numbered.specs.History.{size_of, IsEntry, NonePasses};
 ghost use Rattle.shared_set.specs.Known.{shared_view, IsShared, Keeps, IsEmpty, IsFresh, IsSeen, IsCursor, IsFurther, Stepped};
-ghost use Rattle.shared_set.specs.Inserting.{Replies};
+ghost use Rattle.shared_set.specs.Inserting.{Replies, HasReceipt};
 
 use crate::cursor::{Cursor, Stages};
 use crate::handle::Handle;
@@ -259,6 +259,7 @@ impl<V, L: SetLaw<V>, A: Low + Copy> SharedSet<V, L, A> {
     /// Inserts the value, unless an entry is the same, as a new handle does.
     pub fn insert(&self, value: V) -> Inserted<'_, V>
         ensures replies { Replies L.same value self.now.start result }
+        ensures receipt { HasReceipt self.now.of result }
     {
         let mut handle = self.handle();
         handle.insert(value)

@@ -64,7 +64,7 @@ impl<'a, T: AtomicValue, L: SetLaw<T>, A: Low + Copy> Handle<'a, T, L, A> {
     {
         while let Some(value) = values.next() {
             match self.insert(value) {
-                Inserted::Placed(_, _) => {}
+                Inserted::Placed(_, _, _) => {}
                 Inserted::Found(_, _, back) => return Some(back),
                 Inserted::Refused(back) => return Some(back),
             }

@@ -2,7 +2,10 @@
 use Rattle.std.proofs.Common.{◌≡◌, ◌≢◌, ℕ, ◌+◌, ◌/◌, ◌%◌, ◌^◌, ◌≤◌, Bool, true, false, Some, ap, sym, subst, ◌∙◌, arith}
 use Rattle.std.specs.Prelude.{Option, None}
 use mathlib.Core.List.{IsPrefix}
+use Rattle.std.specs.Borrow.{Bor}
+use Rattle.table_slab.specs.Held.{IsReceiptFor}
 use Rattle.table_slab.specs.Slabs.{SlabView}
+use Rattle.table_slab.specs.declared.rights.Receipt.{Receipt}
 use Rattle.table_numbered.specs.declared.event.Numbered.{Numbered}
 use Rattle.table_numbered.specs.declared.event.Stored.TheVariants.{Entry}
 use Rattle.table_numbered.specs.declared.place.Claim.{Claim}
@@ -12,7 +15,7 @@ use Rattle.table_numbered.specs.Words.{mark_of, numbered, alike, marked, word_of
 use Rattle.table_numbered.specs.History.{event, History, Stands, Says, IsReached, Adds}
 use Rattle.table_numbered.specs.Generations.{IsComing, Claims}
 use Rattle.table_numbered.proofs.Histories.{false_unless, same_value}
-use Rattle.table_numbered.proofs.Steps.{entry_says, number_says, adds_after, added}
+use Rattle.table_numbered.proofs.Steps.{entry_says, number_says, adds_after}
 
 abbrev or_value : {X : Type 0} → X → Option X → X
 or_value d (Some x) = x
@@ -49,7 +52,7 @@ module _ {V : Type 0} (same : V → V → Bool) (hash : V → ℕ) where
 
   -- what a claim tells does not depend on when its caller looked last
   pub claims_after : {A : Type 0} (s : SlabView) (v : V) (k p : ℕ) (old mid new : History (Numbered V)) (r : Claim V A) → IsPrefix old mid → Claims same hash s v k p mid new r → Claims same hash s v k p old new r
-  claims_after s v k p old mid new (claim.Placed e) on told = (told.0, adds_after (alike same) (marked hash) p (event p (Some (Entry (numbered k v)))) old mid new on told.1)
+  claims_after s v k p old mid new (claim.Placed e r) on told = (told.0, adds_after (alike same) (marked hash) p (event p (Some (Entry (numbered k v)))) old mid new on told.1, told.2)
   claims_after s v k p old mid new (claim.Met j e back) on told = told
   claims_after s v k p old mid new (claim.Passed back) on told = told
   claims_after s v k p old mid new (claim.Closed back) on told = told
@@ -61,11 +64,10 @@ module _ {V : Type 0} (same : V → V → Bool) (hash : V → ℕ) where
   pub coming_as : {A : Type 0} (s : SlabView) (v : V) (k : ℕ) (c : Coming V A) → IsComing same hash s v k c → IsComing same hash s c.value c.number c
   coming_as s v k c t = subst (λ (z : V × ℕ). IsComing same hash s z.0 z.1 c) (λ i. (sym t.value i, sym t.number i)) t
 
-  -- what is shown of an entry that was placed just now is what was placed
-  pub placed : (p k : ℕ) (e w x v : V) (old new : History (Numbered V)) → e ≡ w → Stands new p (numbered k w) → x ≡ v → Adds (alike same) (marked hash) (Entry (numbered k x)) p old new → (e ≡ v) × Adds (alike same) (marked hash) (Entry (numbered k v)) p old new
-  placed p k e w x v old new shown there is a =
-      let one : w ≡ x = ap (λ (z : Numbered V). z.value) (same_value (alike same) (marked hash) new p (numbered k w) (numbered k x) a.5 there (added (alike same) (marked hash) p (Entry (numbered k x)) old new a)) in
-      (shown ∙ (one ∙ is), subst (λ (u : V). Adds (alike same) (marked hash) (Entry (numbered k u)) p old new) is a)
+  -- what is shown of an entry that was placed just now is what was placed, and its receipt is of it
+  pub placed : (A : Type 0) (s : SlabView) (p k : ℕ) (shown : Bor V) (r : Receipt V) (x v : V) (old new : History (Numbered V)) → shown.now ≡ r.value → x ≡ v → Adds (alike same) (marked hash) (Entry (numbered k x)) p old new → IsReceiptFor s k x r
+      → Claims same hash s v k {A = A} p old new (claim.Placed shown r)
+  placed A s p k shown r x v old new reads is a for = (reads ∙ (for.2 ∙ is), subst (λ (u : V). Adds (alike same) (marked hash) (Entry (numbered k u)) p old new) is a, (for.0, for.1, for.2 ∙ is))
 
   -- a word is that of the entry which the bucket has
   pub word_is : (p word : ℕ) (log : History (Numbered V)) (r : IsReached (alike same) (marked hash) log) (says : Says (alike same) (marked hash) p word log) (more : 2 ≤ word) (k : ℕ) (x : V) → Stands log p (numbered k x) → word ≡ word_of (marked hash) (Entry (numbered k x))

@@ -10,13 +10,15 @@ use types.Logic.{Logic, sem}
 use types.Kit.{‵, raw, ◌⊛◌, ◌$◌, ◌∵◌, !, qed, by, move, drop, split, fsplit, fjoin, frame, each, assume, suffices, use1, use2, given, learn, check, rewrite, done}
 use contract.Monad.{fact, fact_i, fact_mono}
 use native.Mathlib.Decide.{ℕ_discrete}
-use Rattle.table_slab.proofs.Shelved.{right_publishes, standing_twice, standings_agree}
+use Rattle.table_slab.proofs.Shelved.{standing_twice, standings_agree}
+use Rattle.table_slab.proofs.Spent.{right_spends, spent_stands}
 use Rattle.table_numbered.proofs.Apart.{first_or_other}
 use denote.RattleType.{RattleType}
 use denote.Steps.{nothing, heard}
 use Rattle.logbook.specs.Kept.{offer_owns}
 use Rattle.table_slab.specs.Slabs.{SlabView}
 use Rattle.table_slab.specs.Shelved.{slab_of, right, standing}
+use Rattle.table_slab.specs.Spent.{spent}
 use Rattle.table_numbered.specs.declared.event.Event.{Event}
 use Rattle.table_numbered.specs.declared.event.Stored.{Stored}
 use Rattle.table_numbered.specs.declared.event.Stored.TheVariants.{Entry, Closed}
@@ -43,6 +45,14 @@ module _ {V : Type 0} where
 
   value_of : (e : Numbered V) (k : ℕ) (x : V) → Some (Entry e) ≡ Some (Entry (numbered k x)) → e.value ≡ x
   value_of e k x is = ap (λ (o : Option (Stored (Numbered V))). (or_entry e o).value) is
+
+  abbrev or_asked : Numbered V → List (Happening V) → Numbered V
+  or_asked d [] = d
+  or_asked d (e ∷ es) = or_entry d e.value
+
+  -- what was asked for tells the value
+  pub same_ask : (p k : ℕ) (x y : V) → event p (Some (Entry (numbered k x))) ∷ [] ≡ event p (Some (Entry (numbered k y))) ∷ [] → x ≡ y
+  same_ask p k x y is = ap (λ (es : List (Happening V)). (or_asked (numbered k x) es).value) is
 
 module _ {M : Type 1} {𝓤 : Ura M} (𝓛 : Logic 𝓤) (R : RattleType) (names : List ℕ) where
   open 𝓛 use {A}
@@ -175,10 +185,14 @@ module _ {M : Type 1} {𝓤 : Ura M} (𝓛 : Logic 𝓤) (R : RattleType) (names
     abbrev Known : Fml
     Known = standing R s k x
 
+    abbrev Spent : Fml
+    Spent = spent R s k x
+
     runs : (xs ys : List E) (r : ℕ) → Moved ask xs ys r → ⟦ K xs ⟧ ∗ ⟦ Right ⟧ ⊢ upd 𝓤 (⟦ K ys ⟧ ∗ ⟦ Gain r ⟧)
     runs xs ys r (inl e) = subst (λ (z : List E × ℕ). ⟦ K xs ⟧ ∗ ⟦ Right ⟧ ⊢ upd 𝓤 (⟦ K z.0 ⟧ ∗ ⟦ Gain z.1 ⟧)) (λ i. (sym e.1 i, sym e.0 i))
-        (qed 𝓛 (‵ (K xs) ∷ ‵ Right ∷ []) ∵ suffices ! _ (upd_i 𝓤 (⟦ K (xs ++ ask ∷ []) ⟧ ∗ ⟦ Gain 1 ⟧)) $ move ! (1 ∷ []) $ use1 𝓛 (‵ Known) (right_publishes 𝓛 R s k x) $ use1 𝓛 (‵ Known ⊛ ‵ Known) (standing_twice 𝓛 R s k x) $ split ! $ move ! (2 ∷ 0 ∷ []) $
-        use2 𝓛 (‵ (K (xs ++ ask ∷ []))) (pushes xs ask) $ frame ! $ nothing ! $ move ! (1 ∷ 0 ∷ []) $ fjoin ! $ done !)
+        (qed 𝓛 (‵ (K xs) ∷ ‵ Right ∷ []) ∵ suffices ! _ (upd_i 𝓤 (⟦ K (xs ++ ask ∷ []) ⟧ ∗ ⟦ Gain 1 ⟧)) $ move ! (1 ∷ []) $ use1 𝓛 (‵ Spent) (right_spends 𝓛 R s k x) $ use1 𝓛 (‵ Spent ⊛ ‵ Known) (spent_stands 𝓛 R s k x) $ split ! $
+        -- [the receipt; what it shows; what is kept]
+        move ! (2 ∷ 1 ∷ []) $ use2 𝓛 (‵ (K (xs ++ ask ∷ []))) (pushes xs ask) $ frame ! $ done !)
     runs xs ys r (inr e) = subst (λ (z : List E × ℕ). ⟦ K xs ⟧ ∗ ⟦ Right ⟧ ⊢ upd 𝓤 (⟦ K z.0 ⟧ ∗ ⟦ Gain z.1 ⟧)) (λ i. (sym e.1 i, sym e.0 i)) (upd_i 𝓤 (⟦ K xs ⟧ ∗ ⟦ Right ⟧))
 
     abbrev Moves : List E × List E × ℕ → Pr

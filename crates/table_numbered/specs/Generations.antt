@@ -4,7 +4,7 @@ use Rattle.std.specs.Int.{IsPowerOfTwo}
 use Rattle.std.specs.Borrow.{Bor}
 use mathlib.Core.List.{IsPrefix}
 use Rattle.logbook.specs.Pages.{Book, Named}
-use Rattle.table_slab.specs.Held.{IsRightTo}
+use Rattle.table_slab.specs.Held.{IsRightTo, IsReceiptFor}
 use Rattle.table_slab.specs.Shelved.{slab_of}
 use Rattle.table_slab.specs.Slabs.{SlabView}
 use Rattle.table_slab.specs.declared.slab.Right.{Right}
@@ -119,11 +119,11 @@ module _ {V : Type 0} (same : V → V → Bool) (hash : V → ℕ) where
     pub small : IsNumber k
 
   module _ (s : SlabView) (v : V) (k : ℕ) where
-    -- v is placed in the bucket p, in the slot k; or it comes back, and the bucket has an entry that is the same,
+    -- v is placed in the bucket p, in the slot k, with its receipt; or it comes back, and the bucket has an entry that is the same,
     -- has another one, or is closed
     abbrev pub Claims : {A : Type 0} → ℕ → History (Numbered V) → History (Numbered V) → Claim V A → Type 0
-    Claims p old new (claim.Placed e) =
-        (e.now ≡ v) × Adds (alike same) (marked hash) (Entry (numbered k v)) p old new
+    Claims p old new (claim.Placed e r) =
+        (e.now ≡ v) × Adds (alike same) (marked hash) (Entry (numbered k v)) p old new × IsReceiptFor s k v r
     Claims p old new (claim.Met j e back) =
         IsComing s v k back × (same v e.now ≡ true) × Stands new p (numbered j e.now)
     Claims p old new (claim.Passed back) =
@@ -144,18 +144,18 @@ module _ {V : Type 0} (same : V → V → Bool) (hash : V → ℕ) where
 
   -- what an insert answers, by the histories that its caller knew before and knows after
   abbrev pub Inserts : {A : Type 0} → V → ℕ → History (Numbered V) → History (Numbered V) → Placing V A → Type 0
-  Inserts v k old new (placing.Placed e) = (e.now ≡ v) × IsPlaced k v old new
+  Inserts v k old new (placing.Placed e r) = (e.now ≡ v) × IsPlaced k v old new
   Inserts v k old new (placing.Found j e back right) = Passes (same v) (IsEntry new) j e.now
   Inserts v k old new (placing.Full back right) = NonePasses (of_value (same v)) (IsEntry new)
 
-  -- what comes back of an insert that placed nothing
+  -- what comes back of an insert: the receipt of what it placed, or else the value and the right
   abbrev pub GivesBack : {A : Type 0} → SlabView → V → ℕ → Placing V A → Type 0
-  GivesBack s v k (placing.Placed e) = Unit {0}
+  GivesBack s v k (placing.Placed e r) = IsReceiptFor s k v r
   GivesBack s v k (placing.Found j e back right) = ComesBack s v k back right
   GivesBack s v k (placing.Full back right) = ComesBack s v k back right
 
   -- an insert is Full only where no bucket is left
   abbrev pub IsFullBy : {A : Type 0} → ℕ → V → History (Numbered V) → Placing V A → Type 0
-  IsFullBy n v log (placing.Placed e) = Unit {0}
+  IsFullBy n v log (placing.Placed e r) = Unit {0}
   IsFullBy n v log (placing.Found j e back right) = Unit {0}
   IsFullBy n v log (placing.Full back right) = IsSpent (same v) n (mark_of (hash v)) log

@@ -3,6 +3,7 @@ use Rattle.std.specs.Prelude.{ℕ, zero, suc, List, [], ◌∷◌, Option, Some,
 use base.Fml.{Fml, ftrue, fsep}
 use denote.RattleType.{RattleType}
 use Rattle.table_slab.specs.Shelved.{slab_of, right, standing}
+use Rattle.table_slab.specs.Spent.{spent}
 use Rattle.table_numbered.specs.declared.event.Event.{Event}
 use Rattle.table_numbered.specs.declared.event.Stored.{Stored}
 use Rattle.table_numbered.specs.declared.event.Stored.TheVariants.{Entry, Closed}
@@ -28,7 +29,17 @@ module _ (R : RattleType) (names : List ℕ) where
   right_of [] = ftrue
   right_of (e ∷ es) = right_in e.value
 
-  -- what a client has once its update has run: the entry that it asked for, or the right as it was
+  -- what is left of that right once it is given up
+  abbrev pub receipt_in : Option (Stored (Numbered R.Denot)) → Fml
+  receipt_in None = ftrue
+  receipt_in (Some (Entry e)) = spent R (slab_of names) e.number e.value
+  receipt_in (Some Closed) = ftrue
+
+  abbrev pub receipt_of : List (Event (Stored (Numbered R.Denot))) → Fml
+  receipt_of [] = ftrue
+  receipt_of (e ∷ es) = receipt_in e.value
+
+  -- what a client has once its update has run: the receipt of the entry that it asked for, or the right as it was
   abbrev pub traded : List (Event (Stored (Numbered R.Denot))) → ℕ → Fml
   traded about zero = right_of about
-  traded about (suc n) = all_kept about
+  traded about (suc n) = receipt_of about

@@ -1,7 +1,7 @@
 //! The steps on a bucket's word.
 ghost use Rattle.std.specs.Prelude.{◌≡◌, ◌≢◌, ℕ, ◌<◌, true, Some, IsSome, IfOk, IfErr};
 ghost use mathlib.Core.List.{IsPrefix};
-ghost use Rattle.table_slab.specs.Held.{IsRightTo, StandsAt};
+ghost use Rattle.table_slab.specs.Held.{IsRightTo, StandsAt, IsReceiptFor};
 ghost use Rattle.table_slab.specs.Shelved.{slab_of};
 ghost use Rattle.table_numbered.specs.Words.{numbered, alike, marked, word_of};
 ghost use Rattle.table_numbered.specs.History.{Has, Stands, IsInside, size_of, Fits, Says, IsReached, IsWhole, Adds};
@@ -9,9 +9,9 @@ ghost use Rattle.table_numbered.specs.Generations.{IsWord};
 ghost use Rattle.table_numbered.specs.declared.event.Stored.TheVariants.{Entry, Closed};
 
 use crate::rule::{Bucket, Look, Nothing, Publish, Token};
-use crate::trade::{Carrying, Publishing, Trade, carrying, closing, publishing, returned};
+use crate::trade::{Carrying, Publishing, Trade, carrying, closing, publishing, returned, won};
 use std::alloc::Allocator;
-use table_slab::{Right, Standing};
+use table_slab::{Receipt, Right, Standing};
 use table_terms::law::SetLaw;
 
 /// What comes back from a bucket that was set before.
@@ -34,7 +34,7 @@ pub(crate) fn look<V, L: SetLaw<V>>(word: &Bucket<V, L>, seen: &mut Token<V, L>)
     word.load::<Look<V, L>, Nothing>(seen, &mut offer)
 }
 
-/// Publishes what lies in the slot by one exchange, unless the bucket was set before.
+/// Publishes what lies in the slot by one exchange, unless the bucket was set before. Returns the receipt of the entry.
 pub(crate) fn publish<V, L: SetLaw<V>, A: Allocator>(
     word: &Bucket<V, L>,
     seen: &mut Token<V, L>,
@@ -42,7 +42,7 @@ pub(crate) fn publish<V, L: SetLaw<V>, A: Allocator>(
     number: u64,
     bits: u64,
     right: Right<V, A>,
-) -> Result<(), Lost<V, A>>
+) -> Result<Receipt<V>, Lost<V, A>>
     requires word { IsWord seen.old.book word.now }
     requires place { place ≡ word.now.key }
     requires inside { IsInside word.now.key seen.old.log }
@@ -56,9 +56,10 @@ pub(crate) fn publish<V, L: SetLaw<V>, A: Allocator>(
     ensures same { (seen.new.book ≡ seen.old.book) × (seen.new.names ≡ seen.old.names) }
     ensures longer { IsPrefix seen.old.log seen.new.log }
     ensures reached { IsReached (alike L.same) (marked L.hash_of) seen.new.log }
-    ensures ok { IfOk result (λ _. (x : V) × (right.room.value ≡ Some x)
+    ensures ok { IfOk result (λ r. (x : V) × (right.room.value ≡ Some x)
         × Adds (alike L.same) (marked L.hash_of) (Entry (numbered number x)) place seen.old.log
-        seen.new.log) }
+        seen.new.log
+        × IsReceiptFor (slab_of seen.old.names) number x r) }
     ensures err { IfErr result (λ l. IsRightTo (slab_of seen.old.names) number l.right
         × (l.right.room.value ≡ right.room.value)
         × (l.found ≢ 0)
@@ -71,7 +72,7 @@ pub(crate) fn publish<V, L: SetLaw<V>, A: Allocator>(
         0, bits, seen, &mut offer, &mut pen,
     );
     if found == 0 {
-        return Ok(());
+        return Ok(won(offer.into_gain(), place, number));
     }
     let (site, room) = returned(offer.into_gain(), place, number);
     let right = Right { site, room };

@@ -9,19 +9,18 @@ ghost use Rattle.table_numbered.specs.Generations.{IsOf, IsComing, Claims, Inser
 use crate::bucket::{Lost, publish};
 use crate::generation::Generation;
 use crate::rule::Token;
-use crate::trade::known;
 use crate::word::{first_bucket, mark_of_hash, mark_of_word, number_of_word, word_of_entry};
 use std::alloc::Allocator;
 use table_cell::Low;
-use table_slab::{Right, Slab};
+use table_slab::{Receipt, Right, Slab};
 use table_terms::law::SetLaw;
 use table_terms::probe::next_bucket;
 
 /// How an insert ended.
 #[derive(Drop)]
 pub enum Placing<'a, V, A: Allocator> {
-    /// The value is an entry now, which is shown.
-    Placed(&'a V),
+    /// The value is an entry now, which is shown. Nothing else has its receipt.
+    Placed(&'a V, Receipt<V>),
     /// This entry, by its number, is the same. The value comes back, and the right to the empty slot.
     Found(u64, &'a V, V, Right<V, A>),
     /// No bucket is left for the value, and no entry that is known then is the same. The value comes back, and the right to the
@@ -42,7 +41,7 @@ pub(crate) struct Coming<V, A: Allocator> {
 #[derive(Drop)]
 pub(crate) enum Claim<'a, V, A: Allocator> {
     /// The value was placed there.
-    Placed(&'a V),
+    Placed(&'a V, Receipt<V>),
     /// The bucket has this entry, which is the same.
     Met(u64, &'a V, Coming<V, A>),
     /// The bucket has another entry.
@@ -116,7 +115,7 @@ impl<V, L: SetLaw<V>, A: Low + Copy> Generation<V, L, A> {
         let right = slab.put(number, right, value);
         let place = index as u64;
         match publish(self.row.word(index), seen, place, number, bits, right) {
-            Ok(()) => Claim::Placed(slab.get(number, &known(seen, place, number))),
+            Ok(receipt) => Claim::Placed(slab.get(number, &receipt.shows()), receipt),
             Err(Lost { found, right }) => {
                 let (value, right) = slab.take(number, right);
                 let back = Coming {
@@ -188,9 +187,9 @@ impl<V, L: SetLaw<V>, A: Low + Copy> Generation<V, L, A> {
         };
         for _claimed in 0..count {
             match self.claim(slab, seen, index, coming) {
-                Claim::Placed(entry) => {
+                Claim::Placed(entry, receipt) => {
                     self.hint_placed(seen, number);
-                    return Placing::Placed(entry);
+                    return Placing::Placed(entry, receipt);
                 }
                 Claim::Met(met, entry, back) => {
                     return Placing::Found(met, entry, back.value, back.right);

@@ -1,6 +1,6 @@
-//! What the step that publishes an entry trades: the right to its slot for what everyone may know, or else the right comes back.
+//! What the step that publishes an entry trades: the right to its slot for a receipt, or else the right comes back.
 ghost use Rattle.std.specs.Prelude.{◌≡◌, ℕ, Some, None, [], ◌∷◌, IsSome};
-ghost use Rattle.table_slab.specs.Held.{StandsAt};
+ghost use Rattle.table_slab.specs.Held.{StandsAt, IsReceiptFor};
 ghost use Rattle.table_slab.specs.Shelved.{slab_of};
 ghost use Rattle.table_slab.specs.Slabs.{IsSlot};
 ghost use Rattle.table_numbered.specs.Words.{numbered};
@@ -12,7 +12,7 @@ use crate::rule::{Nothing, SetRule, Token};
 use logbook::{Gain, Gained, Offer, Start};
 use std::alloc::Allocator;
 use std::marker::PhantomData;
-use table_slab::{Chunk, Room, Site, Standing, Written};
+use table_slab::{Chunk, Receipt, Room, Site, Standing, Written};
 use table_terms::law::Law;
 
 /// What the step is to trade.
@@ -106,6 +106,25 @@ pub(crate) fn closing<V, L: Law<V>>(_seen: &Token<V, L>, _place: u64) -> Carryin
     ensures state { result.state ≡ None }
 {
     Offer {
+        marker: PhantomData,
+    }
+}
+
+/// The receipt, where the entry was published.
+pub(crate) fn won<V>(
+    gained: Gained<Event<Stored<Numbered<V>>>, u64, Trade<V>>,
+    _place: u64,
+    _number: u64,
+) -> Receipt<V>
+    requires won { gained.answer ≡ 1 }
+    requires about { (x : V)
+        × (gained.about ≡ event _place (Some (Entry (numbered _number x))) ∷ []) }
+    ensures receipt { (x : V)
+        × (gained.about ≡ event _place (Some (Entry (numbered _number x))) ∷ [])
+        × IsReceiptFor (slab_of gained.names) _number x result }
+{
+    let Gained { marker: _ } = gained;
+    Receipt {
         marker: PhantomData,
     }
 }

@@ -1,6 +1,7 @@
 -- What a history keeps of a number of a slab: the right to it, or that it holds a value for good. A slot that has the number says where both are.
 use Rattle.std.specs.Prelude.{ℕ, List, [], ◌∷◌, Option, Some}
-use Rattle.std.specs.Coded.{coded_option, coded_list, coded_ℕ}
+use Rattle.std.specs.Coded.{Coded, coded_option, coded_list, coded_ℕ}
+use base.Stored.{coded_via}
 use base.Fml.{Fml, ftrue, fsep, fex, fres}
 use denote.RattleType.{RattleType}
 use Rattle.table_slab.specs.Rights.{room, written}
@@ -13,6 +14,9 @@ names_of s = s.bits ∷ s.cells
 abbrev pub slab_of : List ℕ → SlabView
 slab_of [] = record { bits = 0; cells = [] }
 slab_of (bits ∷ cells) = record { bits = bits; cells = cells }
+
+abbrev pub coded_slab : Coded SlabView
+coded_slab = coded_via (coded_list coded_ℕ) names_of (λ s t e i. slab_of (e i))
 
 -- a cell, the names of the slots of the chunk that it holds, and one of them
 pub record Spot : Type 0 where

@@ -1,9 +1,9 @@
-//! What rights and what stands for good say of each other.
+//! What rights, receipts and what stands for good say of each other.
 ghost use Rattle.std.specs.Prelude.{◌≡◌, ◌≢◌, ℕ};
 ghost use Rattle.table_slab.specs.Held.{IsRightTo, StandsAt};
 ghost use Rattle.table_slab.specs.Slabs.{SlabView};
 
-use crate::rights::{Room, Written};
+use crate::rights::{Receipt, Room, Written};
 use crate::site::Site;
 use crate::slab::{Right, Standing};
 use std::alloc::Allocator;
@@ -34,6 +34,15 @@ impl<T, A: Allocator> Right<T, A> {
         same_site(&self.site, &other.site);
         rooms_apart(&mut self.room, &mut other.room);
     }
+}
+
+impl<T> Receipt<T> {
+    /// Shows that two receipts of one slab are of different numbers.
+    pub fn apart(&mut self, _other: &mut Receipt<T>)
+        requires slab { self.old.slab ≡ _other.old.slab }
+        ensures same { (self.new ≡ self.old) × (_other.new ≡ _other.old) }
+        ensures apart { self.old.number ≢ _other.old.number }
+    {}
 }
 
 impl<T, A: Allocator> Standing<T, A> {

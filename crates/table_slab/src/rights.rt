@@ -3,7 +3,12 @@ ghost use Rattle.std.specs.Prelude.{◌≡◌, ℕ, ◌<◌, ◌≤◌, List, []
 ghost use denote.Sharing.{said};
 ghost use Rattle.std.specs.Coded.{coded_option, coded_list, coded_ℕ};
 ghost use Rattle.table_slab.specs.Rights.{room, rooms, written};
+ghost use Rattle.table_slab.specs.Shelved.{coded_slab, standing};
+ghost use Rattle.table_slab.specs.Slabs.{SlabView};
+ghost use Rattle.table_slab.specs.Spent.{spent};
 
+use std::fmt;
+use std::fmt::{Debug, Formatter, Write};
 use std::marker::{Model, PhantomData, Send, Sync};
 
 /// The right to the slot `of`, which holds `value`, and which no one else reads.
@@ -41,6 +46,29 @@ impl<T> Model for Written<T> {
     ghost also_owns = { λ w. written T.row w.of w.value };
 
     ghost also_shares = { λ w _ κ. said (written T.row w.of w.value) κ };
+}
+
+/// What is left of a right to a number that was given up: it shows that the number `number` of the slab `slab` holds `value` for good. It has no
+/// bytes, it can be sent, and there is only one for a number.
+#[derive(Drop)]
+pub struct Receipt<T> {
+    pub marker: PhantomData<T>,
+    pub ghost slab: { SlabView } by { coded_slab },
+    pub ghost number: { ℕ },
+    pub ghost value: { T },
+}
+
+impl<T> Model for Receipt<T> {
+    ghost also_owns = { λ r. spent T.row r.slab r.number r.value };
+
+    ghost also_shares = { λ r _ κ. said (standing T.row r.slab r.number r.value) κ };
+}
+
+impl<T> Debug for Receipt<T> {
+    /// Writes the word `Receipt`.
+    fn fmt<W: Write>(&self, f: &mut Formatter<W>) -> fmt::Result {
+        f.write_str("Receipt")
+    }
 }
 
 impl<T> Room<T> {
@@ -121,3 +149,7 @@ unsafe impl<T> Send for Rooms<T> {}
 unsafe impl<T> Send for Written<T> {}
 
 unsafe impl<T> Sync for Written<T> {}
+
+unsafe impl<T> Send for Receipt<T> {}
+
+unsafe impl<T> Sync for Receipt<T> {}

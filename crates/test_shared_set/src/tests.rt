@@ -6,6 +6,7 @@ mod keys;
 mod made;
 mod memory;
 mod numbers;
+mod receipts;
 mod runs;
 mod sharing;
 mod telling;

@@ -19,7 +19,7 @@ impl Empty for SharedSetKeys {
 
 impl<'a> KeySet for Handle<'a, u64, NumberLaw> {
     fn insert(&mut self, number: u64) -> bool {
-        matches!(self.insert(number), Inserted::Placed(_, _))
+        matches!(self.insert(number), Inserted::Placed(_, _, _))
     }
 
     fn contains(&mut self, number: u64) -> bool {

@@ -92,7 +92,7 @@ impl<'a, A: Low + Copy> Numbers<'a, A> {
     {
         let mut seen = self.set.start();
         match self.set.place(self.slab, &mut seen, slot, right, number) {
-            Placing::Placed(_entry) => (Told::Placed(slot), None),
+            Placing::Placed(_entry, _receipt) => (Told::Placed(slot), None),
             Placing::Found(met, _entry, _back, right) => (Told::Found(met), Some(right)),
             Placing::Full(_back, right) => (Told::Full, Some(right)),
         }

@@ -41,7 +41,7 @@ pub(crate) fn assert_none_out(rt: &impl Abort, heap: &Heap) {
 /// Returns how an insert of this number ended, with the entry's number.
 pub(crate) fn told_of(ended: Inserted<'_, u64>, value: u64) -> (Told, Option<u64>) {
     match ended {
-        Inserted::Placed(number, entry) if *entry == value => (Told::Placed, Some(number)),
+        Inserted::Placed(number, entry, _) if *entry == value => (Told::Placed, Some(number)),
         Inserted::Found(number, entry, back) if *entry == value && back == value => {
             (Told::Found, Some(number))
         }

@@ -27,7 +27,7 @@ fn insert(handle: &mut Handle<'_, Counting, CountingLaw, &Heap>, value: Counting
     let mut value = value;
     for _tried in 0..1000u32 {
         match handle.insert(value) {
-            Inserted::Placed(_, _) => return Told::Placed,
+            Inserted::Placed(_, _, _) => return Told::Placed,
             Inserted::Found(_, entry, back) => {
                 let is_same = entry.number == back.number;
                 return if is_same { Told::Found } else { Told::Wrong };

@@ -26,7 +26,7 @@ fn has(handle: &mut Texting<'_>, letters: &str) -> bool {
 /// Returns how an insert of a text of these letters ended.
 fn told_of(ended: &Inserted<'_, String>, letters: &str) -> Told {
     match ended {
-        Inserted::Placed(_, entry) if entry.as_str() == letters => Told::Placed,
+        Inserted::Placed(_, entry, _) if entry.as_str() == letters => Told::Placed,
         Inserted::Found(_, entry, back) if entry.as_str() == letters && back.as_str() == letters =>
             Told::Found,
         Inserted::Refused(back) if back.as_str() == letters => Told::Refused,

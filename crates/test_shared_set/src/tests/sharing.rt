@@ -71,9 +71,9 @@ fn insert_left<'h>(
     } = partly;
     let Shared { set, known: _ } = shared;
     let mut handle = set.handle();
-    assert!(rt; matches!(handle.insert(refused), Inserted::Placed(_, _)));
+    assert!(rt; matches!(handle.insert(refused), Inserted::Placed(_, _, _)));
     for value in rest {
-        assert!(rt; matches!(handle.insert(value), Inserted::Placed(_, _)));
+        assert!(rt; matches!(handle.insert(value), Inserted::Placed(_, _, _)));
     }
     drop(handle);
     set

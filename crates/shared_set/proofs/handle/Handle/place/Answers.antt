@@ -69,6 +69,16 @@ returns-in-Placed-clause-told g c = let k = c.self.inside.cursor in let n = c.pl
       (placed_here g.L.Law.same g.L.Law.hash_of c.args.number c.args.value k.entries.log n.log told.1)),
 )
 
+pub returns-in-Placed-clause-receipt : goal.returns-in-Placed-clause-receipt
+returns-in-Placed-clause-receipt g c = let i = c.self.invariant in let k = c.self.inside.cursor in let s = c.self.inside.stage.now in let back = c.in-Placed.ensures.back in (
+  back.0
+      ∙ (ap (λ (v : GenerationView g.row.V.Denot). v.of.slab) c.generation-generation.ensures
+      ∙ (at_shown g.L.Law.same g.L.Law.hash_of c.self.inside.set.now.of k.slot k.stages.book k.stages.names k.stages.log k.entries.book k.entries.names k.entries.log s i.shown i.at).0
+      ∙ sym (ap (λ (v : KnownView g.row.V.Denot). v.of.slab) c.count.ensures)),
+  back.1,
+  back.2 ∙ sym c.in-Placed.ensures.told.0,
+)
+
 pub returns-in-Found-clause-known : goal.returns-in-Found-clause-known
 returns-in-Found-clause-known g c = knows_longer c.self.inside.set.now.of c.args.self.now c.self.inside.cursor.entries.log c.place.new.seen.log c.self.view_is c.place.ensures.longer
 

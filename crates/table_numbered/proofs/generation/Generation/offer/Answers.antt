@@ -1,11 +1,11 @@
 use Rattle.std.proofs.Common.{refl, ◌≡◌, ℕ, sym, ◌∙◌, ap, subst, arith, inr}
-use Rattle.table_numbered.specs.declared.event.Stored.TheVariants.{Entry}
+use Rattle.table_slab.specs.Held.{StandsAt}
+use Rattle.table_slab.specs.Slabs.{SlabView}
 use Rattle.table_numbered.specs.Words.{numbered, alike, marked}
 use Rattle.table_numbered.specs.History.{Reaches}
 use Rattle.table_numbered.proofs.Marks.{mark_small}
 use Rattle.table_numbered.proofs.Histories.{size_is}
 use Rattle.table_numbered.proofs.Meetings.{some_is, claims_of, placed}
-use Rattle.table_numbered.proofs.Steps.{added}
 use Rattle.table_numbered.proofs.Known.{word_of_book, of_on}
 use Rattle.table_numbered.proofs.generation.Generation.offer.Goals as goal
 
@@ -23,12 +23,14 @@ publish-requires-clause-fits g c = λ x is. let it : c.args.coming.value ≡ x =
 pub publish-requires-clause-word : goal.publish-requires-clause-word
 publish-requires-clause-word g c = word_of_book c.self.inside.row.of c.args.seen.now.book c.word.result.now (c.requires.of.0 ∙ sym (ap (λ x. x.of.book) c.self.view_is)) c.word.ensures.word
 
-pub known-requires : goal.known-requires
-known-requires g c = let ok = c.in-Ok.ensures.ok in record { there = (ok.0, added (alike g.L.Law.same) (marked g.L.Law.hash_of) c.args.index (Entry (numbered c.args.coming.number ok.0)) c.args.seen.now.log c.publish.new.seen.log ok.2) }
+pub get-requires : goal.get-requires
+get-requires g c = let ok = c.in-Ok.ensures.ok in let here : c.in-Ok.receipt.slab ≡ c.args.slab.now = ok.3.0 ∙ (c.requires.of.1 ∙ sym c.requires.slab) in
+    subst (λ (z : SlabView × ℕ). StandsAt z.0 z.1 c.shows.result) (λ i. (here i, ok.3.1 i)) c.shows.ensures.of
 
 pub returns-in-Ok-clause-told : goal.returns-in-Ok-clause-told
 returns-in-Ok-clause-told g c = let ok = c.in-Ok.ensures.ok in let it : ok.0 ≡ c.args.coming.value = some_is ok.0 c.args.coming.value (sym ok.1 ∙ c.put-right.ensures.value) in
-    placed g.L.Law.same g.L.Law.hash_of c.args.index c.args.coming.number c.get.result.now c.known.result.written.value ok.0 c.args.coming.value c.args.seen.now.log c.publish.new.seen.log c.get.ensures c.known.ensures.value it ok.2
+    placed g.L.Law.same g.L.Law.hash_of g.row.A.Denot c.args.self.now.of.slab c.args.index c.args.coming.number c.get.result c.in-Ok.receipt ok.0 c.args.coming.value c.args.seen.now.log c.publish.new.seen.log (c.get.ensures ∙ c.shows.ensures.value) it ok.2
+    (ok.3.0 ∙ c.requires.of.1, ok.3.1, ok.3.2)
 
 pub returns-in-Err-clause-told : goal.returns-in-Err-clause-told
 returns-in-Err-clause-told g c = let err = c.in-Err.ensures.err in

@@ -61,8 +61,12 @@ loop-claimed-preserved g c = let inv = c.loop-claimed.invariant in let e = c.cla
 
 pub returns-in-Placed-clause-told : goal.returns-in-Placed-clause-told
 returns-in-Placed-clause-told g c = let inv = c.loop-claimed.invariant in
-    let told = claims_of g.L.Law.same g.L.Law.hash_of {A = g.row.A.Denot} c.args.self.now.of.slab c.loop-claimed.coming.value c.args.value c.loop-claimed.coming.number c.args.number c.loop-claimed.index c.loop-claimed.seen.log c.claim.new.seen.log (claim.Placed c.in-Placed.entry) inv.coming.value inv.coming.number c.in-Placed.ensures.told in
+    let told = claims_of g.L.Law.same g.L.Law.hash_of {A = g.row.A.Denot} c.args.self.now.of.slab c.loop-claimed.coming.value c.args.value c.loop-claimed.coming.number c.args.number c.loop-claimed.index c.loop-claimed.seen.log c.claim.new.seen.log (claim.Placed c.in-Placed.entry c.in-Placed.receipt) inv.coming.value inv.coming.number c.in-Placed.ensures.told in
     (told.0, goes_placed g.L.Law.lawful inv.goes c.args.number c.args.seen.now.log c.claim.new.seen.log inv.longer inv.of.2 told.1)
+
+pub returns-in-Placed-clause-back : goal.returns-in-Placed-clause-back
+returns-in-Placed-clause-back g c = let inv = c.loop-claimed.invariant in
+    (claims_of g.L.Law.same g.L.Law.hash_of {A = g.row.A.Denot} c.args.self.now.of.slab c.loop-claimed.coming.value c.args.value c.loop-claimed.coming.number c.args.number c.loop-claimed.index c.loop-claimed.seen.log c.claim.new.seen.log (claim.Placed c.in-Placed.entry c.in-Placed.receipt) inv.coming.value inv.coming.number c.in-Placed.ensures.told).2
 
 pub returns-in-Closed-clause-told : goal.returns-in-Closed-clause-told
 returns-in-Closed-clause-told g c = let of = c.claim.ensures.of in let new = c.claim.new.seen.log in
@@ -74,5 +78,5 @@ returns-in-Closed-clause-full g c = goes_closed c.loop-claimed.invariant.goes c.
 
 pub hint_placed-requires-clause-taken : goal.hint_placed-requires-clause-taken
 hint_placed-requires-clause-taken g c = let inv = c.loop-claimed.invariant in
-    let told = claims_of g.L.Law.same g.L.Law.hash_of {A = g.row.A.Denot} c.args.self.now.of.slab c.loop-claimed.coming.value c.args.value c.loop-claimed.coming.number c.args.number c.loop-claimed.index c.loop-claimed.seen.log c.claim.new.seen.log (claim.Placed c.in-Placed.entry) inv.coming.value inv.coming.number c.in-Placed.ensures.told in
+    let told = claims_of g.L.Law.same g.L.Law.hash_of {A = g.row.A.Denot} c.args.self.now.of.slab c.loop-claimed.coming.value c.args.value c.loop-claimed.coming.number c.args.number c.loop-claimed.index c.loop-claimed.seen.log c.claim.new.seen.log (claim.Placed c.in-Placed.entry c.in-Placed.receipt) inv.coming.value inv.coming.number c.in-Placed.ensures.told in
     (c.args.value, (c.loop-claimed.index, added (alike g.L.Law.same) (marked g.L.Law.hash_of) c.loop-claimed.index (Entry (numbered c.args.number c.args.value)) c.loop-claimed.seen.log c.claim.new.seen.log told.1))
