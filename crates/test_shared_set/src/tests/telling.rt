@@ -119,7 +119,7 @@ fn places_for<'s, 'h>(alloc: Global) -> Result<Vec<Place<'s, 'h>>, AllocError> {
 }
 
 /// Two threads talk. Returns how many messages were sent, and how many came whose numbers are found.
-fn talk<'s, 'h, R: Threads + Wait + Sync>(
+fn let_talk<'s, 'h, R: Threads + Wait + Sync>(
     rt: &R,
     alloc: Global,
     set: &'s Numbers<'h>,
@@ -136,7 +136,7 @@ fn talk<'s, 'h, R: Threads + Wait + Sync>(
 fn a_thread_hears_what_another_knows_while_both_run(rt: HostRuntime) -> Result<(), Fail> {
     let heap = counted(rt.alloc());
     let set = set_with(&rt, &heap, 0);
-    let told = talk(&rt, rt.alloc(), &set)?;
+    let told = let_talk(&rt, rt.alloc(), &set)?;
     assert_same(&rt, told, Tally::of(MESSAGES, MESSAGES));
     assert_has(&rt, &mut set.handle(), MESSAGES.wrapping_mul(NUMBERS));
     drop(set);
