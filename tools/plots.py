@@ -35,12 +35,12 @@ TABLES = {
     "held-shards": ("HeldShardedTable, InPlace", "#8c564b", "^--"),
     "shared-in-place": ("LockFreeRawTable, InPlace", "#1f77b4", "o-"),
     "shared": ("LockFreeRawTable, Box", "#1f77b4", "o--"),
-    "shared-set": ("SharedSet, InPlace", "#9467bd", "s-"),
+    "shared-set": ("SharedSet", "#9467bd", "s-"),
     "shared-shards": ("ShardedLockFreeRawTable, InPlace", "#1f77b4", "o:"),
-    "growing": ("GrowingSet", "#393b79", "<-"),
-    "growing-shards": ("ShardedGrowingSet", "#393b79", "<:"),
     STEPS: ("the original's steps, Box", "#000000", "P-"),
+    "original": ("the Rust original, Box", "#000000", "P--"),
     "dashmap": ("dashmap, Box", "#d62728", "x-"),
+    "dashmap-u64": ("dashmap, u64", "#d62728", "x--"),
     "rwlock-HashSet": ("RwLock of a HashSet, Box", "#7f7f7f", "+-"),
     "std-HashSet": ("std HashSet, Box", "#bcbd22", "d-"),
     "tbb-unordered_set": ("TBB unordered_set", "#ff7f0e", "*-"),
@@ -102,7 +102,7 @@ def draw_bars(axis, found, look):
     middles = [statistics.median(found[name][look[1]]) for name in shown]
     colours = [TABLES[name][1] for name in shown]
     for at, (name, middle, colour) in enumerate(zip(shown, middles, colours)):
-        hatch = "" if "InPlace" in TABLES[name][0] else "///"
+        hatch = "" if "InPlace" in TABLES[name][0] or name == "shared-set" else "///"
         axis.barh(at, middle, color=colour, alpha=0.75, hatch=hatch, edgecolor="white")
         axis.text(middle, at, f" {middle:.0f}", va="center", fontsize=8)
     axis.set_yticks(range(len(shown)), [TABLES[name][0] for name in shown], fontsize=8)

@@ -38,8 +38,9 @@ SMALL = ("1e4", "1e5")
 KEEPS = {"MALLOC_MMAP_THRESHOLD_": str(32 << 20), "MALLOC_TRIM_THRESHOLD_": str(64 << 20)}
 # The groups of each table in `all`: those that its program knows.
 GROUPS_OF_ALL = {name: ["one", "seq", "step", *SIZES] for name in ("held", "held-in-place", "held-set", "held-shards", "std-HashSet")}
-SHARED = ["shared", "shared-in-place", "shared-set", "shared-shards", "growing", "growing-shards"]
-GROUPS_OF_ALL |= {name: ["one", "seq", "step", *THREADED, *SIZES] for name in (*SHARED, "plain-steps", "dashmap", "rwlock-HashSet")}
+SHARED = ["shared", "shared-in-place", "shared-set", "shared-shards"]
+GROUPS_OF_ALL |= {name: ["one", "seq", "step", *THREADED, *SIZES] for name in (*SHARED, "plain-steps", "dashmap", "dashmap-u64", "rwlock-HashSet")}
+GROUPS_OF_ALL |= {"original": ["one", "seq", *THREADED, *SIZES]}
 GROUPS_OF_ALL |= {name: ["one", "seq", "same", "ins"] for name in ("model-direct", "tbb-unordered_set", "libcuckoo", "urcu-lfht-presized")}
 # The kind of each table in `run`, and its groups.
 KINDS = {"core": "core", "seats": "seats", "plain-atomics": "seats", "interner": "interner", "plain-interner": "interner"}

@@ -73,9 +73,9 @@ def owner_of(lines, number):
     if "trait" in names[0]:
         return names[0][names[0].index("trait") + 1]
     # an impl of an alias has the names of its parameters behind it; one of a trait has those of the type, of what it is of, and of
-    # the trait in one, and behind them that of the type that the trait is for
-    if len(names) == 1:
-        return rf"{names[0][-1]}(?:\+\w+)*"
+    # the trait in one, and behind them that of the type that the trait is for; one of Drop has the name of the type alone
+    if len(names) == 1 or names[0][-1] == "Drop":
+        return rf"{names[-1][-1]}(?:\+\w+)*"
     of = re.match(r"\s*impl \w+<(\w+)> for", whole)
     named = rf"{names[1][-1]}\w*{names[0][-1]}" + (of[1][0].upper() + of[1][1:] if of else r"\w*")
     return {"&": r"Ref\w*", "[": r"\w*", "(": r"\w*"}.get(parts[1].strip()[0], "") + named

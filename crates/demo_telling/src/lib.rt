@@ -1,5 +1,5 @@
-//! Two threads tell each other of what they placed while a set grows, and who was told of it finds it: proved.
+//! Two threads tell each other what they placed while a set grows, and who was told of it finds it: proved.
 #![tactic(auto)]
 
-pub mod shards;
+pub mod owned;
 pub mod tell;

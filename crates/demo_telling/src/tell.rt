@@ -1,92 +1,69 @@
-//! Two threads place a value each while the set grows, and who was told of both finds both.
+//! Two threads place a number each while a set grows, and who was told of both finds both.
 ghost use Rattle.std.specs.Prelude.{◌≡◌, true, IfSome};
 ghost use Rattle.table_terms.specs.Laws.{same_number};
-ghost use Rattle.table_bounded.specs.History.{IsCarried};
-ghost use Rattle.table_bounded.specs.Sets.{KnowsMore};
-ghost use Rattle.demo_telling.specs.Told.{IsThere};
+ghost use Rattle.table_numbered.specs.History.{IsEntry};
+ghost use Rattle.shared_set.specs.Known.{KnowsMore, SomePasses};
 
+use shared_set::{Handle, Inserted, Known, SharedSet};
 use std::marker::{Send, Sync};
-use std::sync::Wait;
 use std::thread::{Threads, join};
 use table_cell::Low;
-use table_growing::{GrowingSet, Known, Placing};
-use table_sets::{NumberLaw, SetLaw};
+use table_terms::law::{NumberLaw, SetLaw};
 
-/// Sees to it that the value or one that is the same is in the set. None: memory was refused.
-pub fn put<V: Drop, L: SetLaw<V>, A: Low + Copy, R: Wait>(
-    rt: &R,
-    set: &GrowingSet<V, L, A>,
-    known: Known<V, L, A>,
+/// Sees to it that the value or an equal one is an entry. `None`: memory was refused.
+pub fn put<V: Drop, L: SetLaw<V>, A: Low + Copy>(
+    mine: &mut Handle<'_, V, L, A>,
     value: V,
-) -> Option<Known<V, L, A>>
-    requires of { known.of ≡ set.now }
-    ensures more { IfSome result (λ k. KnowsMore IsCarried known k) }
-    ensures there { IfSome result (λ k. IsThere L.same k.history value) }
+) -> Option<()>
+    ensures more { KnowsMore mine.old mine.new }
+    ensures there { IfSome result (λ _. SomePasses (L.same value) (IsEntry mine.new.history)) }
 {
-    let mut known = known;
-    match set.insert(rt, &mut known, value) {
-        Placing::Placed(_) => Some(known),
-        Placing::Found(_, _) => Some(known),
-        Placing::Full(_) | Placing::NoMemory(_) => None,
+    match mine.insert(value) {
+        Inserted::Placed(_, _, _) => Some(()),
+        Inserted::Found(_, _, _) => Some(()),
+        Inserted::Refused(_) => None,
     }
 }
 
-/// Looks for a value that is known to be there.
-pub fn find<V, L: SetLaw<V>, A: Low + Copy>(
-    set: &GrowingSet<V, L, A>,
-    known: &Known<V, L, A>,
-    value: &V,
-) -> bool
-    requires of { known.now.of ≡ set.now }
-    requires there { IsThere L.same known.now.history value.now }
-    ensures { result ≡ true }
+/// Looks up a value of which the handle knows that it, or an equal one, is an entry.
+pub fn find<V, L: SetLaw<V>, A: Low + Copy>(mine: &mut Handle<'_, V, L, A>, value: &V) -> bool
+    requires there { SomePasses (L.same value.now) (IsEntry mine.old.history) }
+    ensures more { KnowsMore mine.old mine.new }
+    ensures found { result ≡ true }
 {
-    let mut mine = known.again();
-    set.get(&mut mine, value).is_some()
+    mine.get(value).is_some()
 }
 
 /// A set of numbers.
-pub type Numbers<A> = GrowingSet<u64, NumberLaw, A>;
+pub type Numbers<A> = SharedSet<u64, NumberLaw, A>;
 
 /// What a thread knows of it.
 pub type KnownNumbers<A> = Known<u64, NumberLaw, A>;
 
-/// Sees to it that the numbers below `count` are in the set: so many, and it grows. None: memory was refused.
-pub fn put_below<A: Low + Copy, R: Wait>(
-    rt: &R,
-    set: &Numbers<A>,
-    known: KnownNumbers<A>,
-    count: u64,
-) -> Option<KnownNumbers<A>>
-    requires of { known.of ≡ set.now }
-    ensures { IfSome result (λ k. KnowsMore IsCarried known k) }
+/// Sees to it that the numbers below `count` are in the set: so many that it grows. `None`: memory was refused.
+pub fn put_below<A: Low + Copy>(mine: &mut Handle<'_, u64, NumberLaw, A>, count: u64) -> Option<()>
+    ensures more { KnowsMore mine.old mine.new }
 {
-    let mut known = known;
     for number in 0..count {
-        known = put(rt, set, known, number)?;
+        put(mine, number)?;
     }
-    Some(known)
+    Some(())
 }
 
-/// A number that is known to be there is found once the numbers below `count` are there too, whatever the set grew meanwhile.
-pub fn outlast<A: Low + Copy, R: Wait>(
-    rt: &R,
-    set: &Numbers<A>,
-    known: KnownNumbers<A>,
-    number: u64,
-    count: u64,
-) -> Option<bool>
-    requires of { known.of ≡ set.now }
-    requires there { IsThere same_number known.history number }
-    ensures { IfSome result (λ r. r ≡ true) }
+/// Places a number, and then the numbers below `more`, by a handle of its own. Returns what the handle knows then. `None`: memory was
+/// refused.
+pub fn place<A: Low + Copy>(set: &Numbers<A>, number: u64, more: u64) -> Option<KnownNumbers<A>>
+    ensures of { IfSome result (λ k. k.of ≡ set.now.of) }
+    ensures there { IfSome result (λ k. SomePasses (same_number number) (IsEntry k.history)) }
 {
-    let known = put_below(rt, set, known, count)?;
-    Some(find(set, &known, &number))
+    let mut mine = set.handle();
+    put(&mut mine, number)?;
+    put_below(&mut mine, more)?;
+    Some(mine.tell())
 }
 
-/// Two threads place a number each, and the second one then the numbers below `more`. Who was told of both finds both. None:
-/// memory was refused.
-pub fn tell<A: Low + Copy + Send + Sync, R: Threads + Wait + Sync>(
+/// Lets two threads place a number each, and the numbers below `more`. Who was told of both finds both. `None`: memory was refused.
+pub fn tell<A: Low + Copy + Send + Sync, R: Threads>(
     rt: &R,
     set: &Numbers<A>,
     a: u64,
@@ -95,27 +72,21 @@ pub fn tell<A: Low + Copy + Send + Sync, R: Threads + Wait + Sync>(
 ) -> Option<(bool, bool)>
     ensures { IfSome result (λ r. (r.0 ≡ true) × (r.1 ≡ true)) }
 {
-    let one = set.known();
-    let two = set.known();
     let (one, two) = join(
         rt,
         || -> Option<KnownNumbers<A>>
-            requires { one.of ≡ set.now }
-            ensures of { IfSome result (λ k. k.of ≡ set.entry.now) }
-            ensures there { IfSome result (λ k. IsThere same_number k.history a) }
-        { put(rt, set, one, a) },
+            ensures of { IfSome result (λ k. k.of ≡ set.entry.now.of) }
+            ensures there { IfSome result (λ k. SomePasses (same_number a) (IsEntry k.history)) }
+        { place(set, a, more) },
         || -> Option<KnownNumbers<A>>
-            requires { two.of ≡ set.now }
-            ensures of { IfSome result (λ k. k.of ≡ set.entry.now) }
-            ensures there { IfSome result (λ k. IsThere same_number k.history b) }
-        {
-            let two = put(rt, set, two, b)?;
-            put_below(rt, set, two, more)
-        },
+            ensures of { IfSome result (λ k. k.of ≡ set.entry.now.of) }
+            ensures there { IfSome result (λ k. SomePasses (same_number b) (IsEntry k.history)) }
+        { place(set, b, more) },
     );
-    let mut known = one?;
-    set.learn(&mut known, &two?);
-    let first = find(set, &known, &a);
-    let second = find(set, &known, &b);
+    let mut mine = set.handle();
+    mine.hear(&one?);
+    mine.hear(&two?);
+    let first = find(&mut mine, &a);
+    let second = find(&mut mine, &b);
     Some((first, second))
 }

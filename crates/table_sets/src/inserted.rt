@@ -15,7 +15,7 @@ pub enum Inserted<T> {
 ///
 /// A `HeldSet` promises more than the variants say. It returns `Placed` or `Refused` only if no entry was equal. `Found` shows an
 /// entry that was there before. The target shown is that of an entry in the set that is left, and the value of `Placed` is one of
-/// its entries. For a `SharedSet` these facts are tested, not proved.
+/// its entries.
 #[derive(Clone, Copy, Debug, PartialEq, Eq, Drop)]
 pub enum Shown<E, T> {
     /// The value was placed. Shows its target.

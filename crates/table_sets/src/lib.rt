@@ -10,11 +10,13 @@ mod lawful;
 pub mod laws;
 pub mod pairs;
 mod placing;
+pub mod pointers;
 pub mod set;
 pub mod texts;
 
 pub use inserted::{Inserted, Shown};
 pub use pairs::PairsOf;
+pub use pointers::OfTarget;
 pub use set::HeldSet;
 pub use table_held::{AtomicValue, HeldIter, InPlace, IntoIter, Law, is_first_capacity};
 pub use table_terms::law::{KeyLaw, NumberLaw, SetLaw};

@@ -1,4 +1,4 @@
-//! Tests of the sets, held by one owner and shared by threads.
+//! Tests of the sets of one owner.
 #![tactic(auto)]
 
 #[cfg(test)]

@@ -3,9 +3,6 @@ mod held;
 mod keys;
 mod laws;
 mod memory;
-mod over;
-mod sharded;
-mod shared;
 mod steps;
 
 ghost use Rattle.std.specs.Iterator.{IsFinite};

@@ -7,13 +7,13 @@ use std::io;
 use std::rt::Clock;
 use std::sync::Wait;
 use std::thread::Threads;
-use testkit_measures::growing::{GrowingKeys, GrowingShards};
+use testkit_measures::handles::SharedSetKeys;
 use testkit_measures::held::{check_held, measure_held};
 use testkit_measures::numbers::NumberSet;
 use testkit_measures::report::{Report, refuse_words};
 use testkit_measures::schedules::{check_schedules, measure_schedules};
 use testkit_measures::seats::{check_seats, measure_seats};
-use testkit_measures::sets::{HeldSetKeys, SharedSetKeys};
+use testkit_measures::sets::HeldSetKeys;
 use testkit_measures::sharded::{HeldShards, SharedShards};
 use testkit_measures::shared::{SharedNumbers, check_shared, measure_shared};
 use testkit_measures::texts::{check_interner, measure_interner};
@@ -34,10 +34,6 @@ const SHARED_SET: &str = "shared-set";
 
 const SHARED_SHARDS: &str = "shared-shards";
 
-const GROWING: &str = "growing";
-
-const GROWING_SHARDS: &str = "growing-shards";
-
 /// Each workload once, counted and not timed.
 pub fn check_all<R: Print + Threads + Wait + Sync + AllocGlobal>(rt: &R) -> io::Result<()> {
     check_held::<NumberSet<Box<u64>>, R>(rt, HELD)?;
@@ -46,10 +42,8 @@ pub fn check_all<R: Print + Threads + Wait + Sync + AllocGlobal>(rt: &R) -> io::
     check_held::<HeldShards<InPlace<u64>>, R>(rt, HELD_SHARDS)?;
     check_shared::<SharedNumbers<Box<u64>>, R>(rt, SHARED)?;
     check_shared::<SharedNumbers<InPlace<u64>>, R>(rt, SHARED_IN_PLACE)?;
-    check_shared::<SharedSetKeys<InPlace<u64>>, R>(rt, SHARED_SET)?;
+    check_shared::<SharedSetKeys, R>(rt, SHARED_SET)?;
     check_shared::<SharedShards<InPlace<u64>>, R>(rt, SHARED_SHARDS)?;
-    check_shared::<GrowingKeys, R>(rt, GROWING)?;
-    check_shared::<GrowingShards, R>(rt, GROWING_SHARDS)?;
     check_seats(rt)?;
     check_schedules(rt)?;
     check_interner(rt)
@@ -65,7 +59,7 @@ pub fn run_bench<R: Print + Eprint + Clock + Files + Threads + Wait + Sync + All
         [] => check_all(rt),
         [word] if word.as_str() == "list" => println!(rt;
             "{HELD}\n{HELD_IN_PLACE}\n{HELD_SET}\n{HELD_SHARDS}\n{SHARED}\n{SHARED_IN_PLACE}\n{SHARED_SET}\n\
-            {SHARED_SHARDS}\n{GROWING}\n{GROWING_SHARDS}\nseats\ncore\ninterner"
+            {SHARED_SHARDS}\nseats\ncore\ninterner"
         ),
         [name, group] => measure(rt, name.as_str(), group.as_str()),
         [name, group, threads] => measure_threads(
@@ -111,12 +105,10 @@ fn measure_threads<R: Print + Eprint + Clock + Files + Threads + Wait + Sync + A
         SHARED_IN_PLACE => measure_shared::<SharedNumbers<InPlace<u64>>, R>(
             rt, &report, group, threads,
         ),
-        SHARED_SET => measure_shared::<SharedSetKeys<InPlace<u64>>, R>(rt, &report, group, threads),
+        SHARED_SET => measure_shared::<SharedSetKeys, R>(rt, &report, group, threads),
         SHARED_SHARDS => measure_shared::<SharedShards<InPlace<u64>>, R>(
             rt, &report, group, threads,
         ),
-        GROWING => measure_shared::<GrowingKeys, R>(rt, &report, group, threads),
-        GROWING_SHARDS => measure_shared::<GrowingShards, R>(rt, &report, group, threads),
         _ => refuse_words(rt),
     }
 }

@@ -13,7 +13,7 @@ use std::alloc::{AllocError, Global};
 use std::sync::Arc;
 use std::sync::atomic::{AtomicU64, Ordering};
 use table_runs::alone::AloneTable;
-use table_terms::law::{Law, hash_number};
+use table_terms::law::{Law, SetLaw, hash_number};
 
 /// A number, with the count of its drops.
 pub struct Counting {
@@ -123,4 +123,14 @@ impl Law<Counting> for CountingLaw {
     ghost hash_of = { hash_by_number (λ value. value.number) };
 
     ghost lawful = { number_lawful (λ value. value.number) };
+}
+
+impl SetLaw<Counting> for CountingLaw {
+    fn is_same(one: &Counting, other: &Counting) -> bool {
+        one.number == other.number
+    }
+
+    fn hash(target: &Counting) -> u64 {
+        hash_number(target.number)
+    }
 }

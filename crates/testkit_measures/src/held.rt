@@ -3,7 +3,8 @@
 use crate::numbers::{ABSENT, COUNT, Empty, KeySet, spread, turn};
 use crate::report::Report;
 use crate::sizes::measure_sizes;
-use std::alloc::Global;
+use crate::tasks::{HeldSets, Sets, Task};
+use std::marker::PhantomData;
 use std::num::nearest_u64_to_f64;
 use std::rt::{Clock, Files};
 use std::time::Instant;
@@ -14,7 +15,7 @@ const STEP: u64 = 1 << 16;
 
 /// A row of keys: 0, 1, 2, .. times a step.
 #[derive(Clone, Copy)]
-pub(crate) enum Row {
+enum Row {
     /// The keys 0, 1, 2, ..
     InOrder,
     /// The multiples of `STEP`.
@@ -51,20 +52,69 @@ impl Row {
 const PAGE: u64 = 4096;
 
 /// Runs a group of measurements of a set that one owner holds alone. A group that is not known is refused.
-pub fn measure_held<
-    S: KeySet + Empty<Means = Global> + Drop,
-    R: Print + Eprint + Clock + Files + AllocGlobal,
->(rt: &R, report: &Report<'_>, group: &str) -> io::Result<()> {
+pub fn measure_held<S: KeySet + Empty + Drop, R: Print + Eprint + Clock + Files + AllocGlobal>(
+    rt: &R,
+    report: &Report<'_>,
+    group: &str,
+) -> io::Result<()> {
+    let sets: HeldSets<S> = HeldSets {
+        alloc: rt.alloc(),
+        of: PhantomData,
+    };
     match group {
-        "one" => measure_one(rt, report, &mut S::empty(rt.alloc())?),
-        "seq" => measure_row(rt, report, Row::InOrder, &mut S::empty(rt.alloc())?),
-        "step" => measure_row(rt, report, Row::InSteps, &mut S::empty(rt.alloc())?),
-        _ => measure_sizes::<S, R>(rt, report, group, rt.alloc()),
+        "one" => sets.with_empty(&Spread { rt, report })?,
+        _ => measure_rows(rt, report, group, &sets),
+    }
+}
+
+/// Runs a group of measurements of rows of keys, or of other numbers of keys than a million. A group that is not known is refused.
+pub(crate) fn measure_rows<S: Sets, R: Print + Eprint + Clock>(
+    rt: &R,
+    report: &Report<'_>,
+    group: &str,
+    sets: &S,
+) -> io::Result<()> {
+    let row = match group {
+        "seq" => Row::InOrder,
+        "step" => Row::InSteps,
+        _ => return measure_sizes(rt, report, group, sets),
+    };
+    sets.with_empty(&InRow { rt, report, row })?
+}
+
+/// Measures spread keys.
+#[derive(Drop)]
+pub(crate) struct Spread<'a, R> {
+    pub(crate) rt: &'a R,
+    pub(crate) report: &'a Report<'a>,
+}
+
+impl<'a, R: Print + Clock + Files + AllocGlobal> Task for Spread<'a, R> {
+    type Answer = io::Result<()>;
+
+    fn run<K: KeySet>(&self, keys: &mut K) -> io::Result<()> {
+        measure_one(self.rt, self.report, keys)
+    }
+}
+
+/// Measures a row of keys.
+#[derive(Drop)]
+struct InRow<'a, R> {
+    rt: &'a R,
+    report: &'a Report<'a>,
+    row: Row,
+}
+
+impl<'a, R: Print + Clock> Task for InRow<'a, R> {
+    type Answer = io::Result<()>;
+
+    fn run<K: KeySet>(&self, keys: &mut K) -> io::Result<()> {
+        measure_row(self.rt, self.report, self.row, keys)
     }
 }
 
 /// Spread keys in an empty set: inserts, resident bytes, hits and misses.
-pub(crate) fn measure_one<R: Print + Clock + Files + AllocGlobal, S: KeySet>(
+fn measure_one<R: Print + Clock + Files + AllocGlobal, S: KeySet>(
     rt: &R,
     report: &Report<'_>,
     set: &mut S,
@@ -90,7 +140,7 @@ pub(crate) fn measure_one<R: Print + Clock + Files + AllocGlobal, S: KeySet>(
 }
 
 /// Measures a row of keys in an empty set: inserts and hits.
-pub(crate) fn measure_row<R: Print + Clock, S: KeySet>(
+fn measure_row<R: Print + Clock, S: KeySet>(
     rt: &R,
     report: &Report<'_>,
     row: Row,
@@ -108,7 +158,7 @@ pub(crate) fn measure_row<R: Print + Clock, S: KeySet>(
 }
 
 /// Each workload once on a set that one owner holds alone, counted and not timed.
-pub fn check_held<S: KeySet + Empty<Means = Global> + Drop, R: Print + AllocGlobal>(
+pub fn check_held<S: KeySet + Empty + Drop, R: Print + AllocGlobal>(
     rt: &R,
     name: &str,
 ) -> io::Result<()> {

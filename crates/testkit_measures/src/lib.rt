@@ -1,7 +1,7 @@
 //! What is measured: the tables, the interner and the machine of all schedules, each workload also counted without a clock.
 #![tactic(auto)]
 
-pub mod growing;
+pub mod handles;
 pub mod held;
 pub mod numbers;
 pub mod report;
@@ -11,4 +11,6 @@ pub mod sets;
 pub mod sharded;
 pub mod shared;
 mod sizes;
+pub mod tasks;
 pub mod texts;
+mod work;

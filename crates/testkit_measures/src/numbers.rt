@@ -43,11 +43,8 @@ pub fn total(counts: &[u64]) -> u64 {
 
 /// A set that begins empty.
 pub trait Empty {
-    /// What a set is made with, and works with.
-    type Means: Copy;
-
     /// The empty set. Err: memory was refused.
-    fn empty(means: Self::Means) -> Result<Self, AllocError>;
+    fn empty(alloc: Global) -> Result<Self, AllocError>;
 }
 
 /// A set of numbers, as one thread works with it.
@@ -103,8 +100,6 @@ pub struct Numbers<T> {
 }
 
 impl<T: NumberTable> Empty for Numbers<T> {
-    type Means = Global;
-
     fn empty(alloc: Global) -> Result<Self, AllocError> {
         let table = T::empty(alloc);
         Ok(Numbers { table, alloc })

@@ -10,8 +10,8 @@ use std::time::Instant;
 pub fn refuse_words(rt: &impl Eprint) -> io::Result<()> {
     eprintln!(rt;
         "usage: tool_checks bench [list | held|held-in-place|held-set|held-shards one|seq|step|1e4|1e5|1e7 | \
-        shared|shared-in-place|shared-set|shared-shards|growing|growing-shards one|seq|step|1e4|1e5|1e7 | \
-        shared|shared-in-place|shared-set|shared-shards|growing|growing-shards same|ins|hit [THREADS] | \
+        shared|shared-in-place|shared-set|shared-shards one|seq|step|1e4|1e5|1e7 | \
+        shared|shared-in-place|shared-set|shared-shards same|ins|hit [THREADS] | \
         seats one|seq|same|ins | core one | interner 1e4|1e5|1e6]"
     )?;
     Err(io::Error::from(io::ErrorKind::InvalidInput))

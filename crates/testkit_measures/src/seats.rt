@@ -5,6 +5,7 @@ ghost use Rattle.seated.specs.Numbers.{known_pairs, own_numbers, Knows};
 
 use crate::numbers::{ABSENT, COUNT, START, STRIDE, spread, total};
 use crate::report::{Report, refuse_words};
+use crate::work::{MOST, ROUNDS, SAME, Work};
 use seated::{NumberAnswer, NumberTable, Seat};
 use std::alloc::{AllocError, Global};
 use std::num::NonZeroU64;
@@ -15,36 +16,6 @@ use std::{io, thread};
 
 /// The table is about half full in the end.
 const WORDS: usize = 1 << 21;
-
-const THREADS: u64 = 4;
-
-/// How often each thread inserts the same keys.
-const ROUNDS: u64 = 25;
-
-/// Those keys.
-const SAME: u64 = 10_000;
-
-/// What four threads do at once.
-#[derive(Clone, Copy)]
-enum Work {
-    /// Each inserts the same keys, again and again.
-    Same,
-    /// Each inserts a quarter of the spread keys.
-    Inserts,
-    /// Each looks up all of the spread keys, in an order that begins elsewhere for each.
-    Hits,
-}
-
-impl Work {
-    /// Its name, how many keys are placed or found, and by how many calls.
-    fn terms(self) -> (&'static str, u64, u64) {
-        match self {
-            Work::Same => ("d_same4", SAME, ROUNDS * SAME * THREADS),
-            Work::Inserts => ("e_ins4", COUNT, COUNT),
-            Work::Hits => ("f_hit4", COUNT * THREADS, COUNT * THREADS),
-        }
-    }
-}
 
 /// Runs a group of measurements. A group that is not known is refused.
 pub fn measure_seats<R: Print + Eprint + Clock + Threads + Sync + AllocGlobal>(
@@ -120,7 +91,8 @@ fn measure_work<R: Print + Clock + Threads + Sync + AllocGlobal>(
 ) -> io::Result<()>
     requires { IsSeatOf table.now seat }
 {
-    let (name, wanted, operations) = work.terms();
+    let name = work.name(rt.alloc(), MOST)?;
+    let (wanted, operations) = work.wanted(MOST);
     let parts = parts_for(rt.alloc(), table, seat)?;
     let start = Instant::now(rt)?;
     let counts = thread::map_vec(
@@ -131,7 +103,7 @@ fn measure_work<R: Print + Clock + Threads + Sync + AllocGlobal>(
         { count_part(table, part, work) },
     )?;
     let done = total(counts.as_slice());
-    report.time(rt, name, start, done, wanted, operations)
+    report.time(rt, name.as_str(), start, done, wanted, operations)
 }
 
 /// How many keys one thread places or finds.
@@ -139,10 +111,10 @@ fn count_part(table: &NumberTable<Global>, part: Part, work: Work) -> u64
     requires { (part.worker < 4) × IsSeatOf table.now part.seat }
 {
     let Part { worker, mut seat } = part;
-    let from = worker * (COUNT / THREADS);
+    let from = worker * (COUNT / MOST);
     match work {
         Work::Same => insert_same(table, &mut seat),
-        Work::Inserts => insert_keys(table, &mut seat, from, COUNT / THREADS, &spread),
+        Work::Inserts => insert_keys(table, &mut seat, from, COUNT / MOST, &spread),
         Work::Hits => count_keys(table, &mut seat, START + from * STRIDE, &spread),
     }
 }
@@ -170,13 +142,13 @@ fn parts_for(
     seat: Seat,
 ) -> Result<Vec<Part>, AllocError>
     requires { IsSeatOf table.now seat }
-    ensures each { IfOk result (λ parts. length parts.items ≡ THREADS) }
+    ensures each { IfOk result (λ parts. length parts.items ≡ MOST) }
     ensures fit { IfOk result (λ parts. All (λ part. (part.worker < 4)
         × IsSeatOf table.now part.seat) parts.items) }
 {
-    let mut parts = Vec::with_capacity(alloc, THREADS as usize)?;
+    let mut parts = Vec::with_capacity(alloc, MOST as usize)?;
     let mut last = seat;
-    for worker in 0..THREADS {
+    for worker in 0..MOST {
         let Ok((rest, own)) = table.split(last) else {
             unreachable!()
         };

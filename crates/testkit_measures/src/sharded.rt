@@ -8,7 +8,7 @@ use std::sync::Wait;
 use table_terms::law::{NumberLaw, hash_number};
 
 /// How many shards there are.
-pub(crate) const SHARDS: usize = 16;
+const SHARDS: usize = 16;
 
 /// The numbers in a table over shards that one owner holds alone, kept as `V`.
 pub type HeldShards<V> = Numbers<HeldShardedTable<V, SHARDS>>;

@@ -1,8 +1,9 @@
 //! Measurements of a set by one thread with fewer keys than a million, and with more.
 
 use crate::held::insert_spread;
-use crate::numbers::{ABSENT, Empty, KeySet, START, STRIDE, spread};
+use crate::numbers::{ABSENT, KeySet, START, STRIDE, spread};
 use crate::report::{Report, refuse_words};
+use crate::tasks::{Sets, Task};
 use std::alloc::AllocError;
 use std::io;
 use std::rt::Clock;
@@ -18,59 +19,87 @@ const SIZE_1E5: Size = (100_000, 10, ["ins_1e5", "hit_1e5", "miss_1e5"]);
 const SIZE_1E7: Size = (10_000_000, 1, ["ins_1e7", "hit_1e7", "miss_1e7"]);
 
 /// Runs a group of measurements: so many keys. A group that is not known is refused.
-pub(crate) fn measure_sizes<S: KeySet + Empty + Drop, R: Print + Eprint + Clock>(
+pub(crate) fn measure_sizes<S: Sets, R: Print + Eprint + Clock>(
     rt: &R,
     report: &Report<'_>,
     group: &str,
-    means: S::Means,
+    sets: &S,
 ) -> io::Result<()> {
     match group {
-        "1e4" => measure_size::<S, R>(rt, report, &SIZE_1E4, means),
-        "1e5" => measure_size::<S, R>(rt, report, &SIZE_1E5, means),
-        "1e7" => measure_size::<S, R>(rt, report, &SIZE_1E7, means),
+        "1e4" => measure_size(rt, report, &SIZE_1E4, sets),
+        "1e5" => measure_size(rt, report, &SIZE_1E5, sets),
+        "1e7" => measure_size(rt, report, &SIZE_1E7, sets),
         _ => refuse_words(rt),
     }
 }
 
 /// Spread keys, so many a table: inserts into so many tables, each of which is dropped, then hits and misses of one table, over
 /// all its keys as often.
-fn measure_size<S: KeySet + Empty + Drop, R: Print + Clock>(
+fn measure_size<S: Sets, R: Print + Clock>(
     rt: &R,
     report: &Report<'_>,
     size: &Size,
-    means: S::Means,
+    sets: &S,
 ) -> io::Result<()> {
-    let (keys, rounds, [inserts, hits, misses]) = *size;
+    let (keys, rounds, [inserts, _, _]) = *size;
     let operations = keys.wrapping_mul(rounds);
 
     let start = Instant::now(rt)?;
-    let placed = fill_tables::<S>(means, keys, rounds)?;
+    let placed = fill_tables(sets, keys, rounds)?;
     report.time(rt, inserts, start, placed, operations, operations)?;
 
-    let mut set = S::empty(means)?;
-    let _ = insert_spread(&mut set, 0, keys);
+    sets.with_empty(&Looks { rt, report, size })?
+}
 
-    let start = Instant::now(rt)?;
-    let found = look_rounds(&mut set, keys, rounds, 0);
-    report.time(rt, hits, start, found, operations, operations)?;
+/// Inserts so many spread keys.
+#[derive(Drop)]
+struct Fill {
+    keys: u64,
+}
 
-    let start = Instant::now(rt)?;
-    let found = look_rounds(&mut set, keys, rounds, ABSENT);
-    report.time(rt, misses, start, found, 0, operations)
+impl Task for Fill {
+    type Answer = u64;
+
+    fn run<K: KeySet>(&self, keys: &mut K) -> u64 {
+        insert_spread(keys, 0, self.keys)
+    }
 }
 
 /// How many keys were placed, of so many in each of so many tables, which are made and dropped one after the other.
-fn fill_tables<S: KeySet + Empty + Drop>(
-    means: S::Means,
-    keys: u64,
-    rounds: u64,
-) -> Result<u64, AllocError> {
+fn fill_tables<S: Sets>(sets: &S, keys: u64, rounds: u64) -> Result<u64, AllocError> {
     let mut placed: u64 = 0;
     for _round in 0..rounds {
-        let mut set = S::empty(means)?;
-        placed = placed.wrapping_add(insert_spread(&mut set, 0, keys));
+        placed = placed.wrapping_add(sets.with_empty(&Fill { keys })?);
     }
     Ok(placed)
+}
+
+/// Measures hits and misses of so many spread keys.
+#[derive(Drop)]
+struct Looks<'a, R> {
+    rt: &'a R,
+    report: &'a Report<'a>,
+    size: &'a Size,
+}
+
+impl<'a, R: Print + Clock> Task for Looks<'a, R> {
+    type Answer = io::Result<()>;
+
+    fn run<K: KeySet>(&self, set: &mut K) -> io::Result<()> {
+        let (keys, rounds, [_, hits, misses]) = *self.size;
+        let operations = keys.wrapping_mul(rounds);
+        let _ = insert_spread(set, 0, keys);
+
+        let start = Instant::now(self.rt)?;
+        let found = look_rounds(set, keys, rounds, 0);
+        self.report
+            .time(self.rt, hits, start, found, operations, operations)?;
+
+        let start = Instant::now(self.rt)?;
+        let found = look_rounds(set, keys, rounds, ABSENT);
+        self.report
+            .time(self.rt, misses, start, found, 0, operations)
+    }
 }
 
 /// How many look-ups of keys so much further on found an entry, in so many rounds over as many keys.

@@ -10,14 +10,13 @@
 //!     tool_checks bench shared GROUP                  the table that threads share, by one thread: as the table held alone
 //!     tool_checks bench shared GROUP [THREADS]        by that many threads, of four at most, or by one to four in turn: same,
 //!                                                     ins or hit
-//!     tool_checks bench growing GROUP [THREADS]       the set that grows: as the table that threads share
 //!     tool_checks bench seats GROUP                   the number table of seated threads: one, seq, same or ins
 //!     tool_checks bench core one                      the machine of all schedules
 //!     tool_checks bench interner N                    the interner with 1e4, 1e5 or 1e6 texts
 //!
 //! `held` and `shared` keep each number in a box. `held-in-place` and `shared-in-place` keep it in the table's own block, and so do the
-//! sets, `held-set` and `shared-set`, and the tables over sixteen shards, `held-shards` and `shared-shards`; `growing-shards` is the set
-//! that grows over sixteen shards.
+//! set `held-set` and the tables over sixteen shards, `held-shards` and `shared-shards`. `shared-set` is the set that threads share by
+//! handles, and is measured as such a table is.
 //!
 //! Without numbers a few schedules and small rounds run, from seed 0 on. A group of measurements runs once, in a fresh process. At
 //! the first fault the program says the seed or the round and what was wrong, and the status is 1, as it is for other words.

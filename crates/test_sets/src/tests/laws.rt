@@ -1,11 +1,14 @@
 //! What the ready-made laws answer. The hashes were computed by another program, from the definitions.
 use super::assert_same;
 use std::alloc::Global;
+use std::sync::Arc;
 use std::test::Fail;
 use table_sets::laws::inserted_is_found_again;
 use table_sets::pairs::mix_hashes;
 use table_sets::texts::hash_text;
-use table_sets::{InPlace, KeyLaw, NumberLaw, PairsOf, SetLaw, TextLaw};
+use table_sets::{
+    HeldSet, InPlace, Inserted, KeyLaw, NumberLaw, OfTarget, PairsOf, SetLaw, TextLaw,
+};
 
 /// Numbers, and the hash of each.
 const NUMBERS: [(u64, u64); 5] = [
@@ -56,6 +59,32 @@ fn keys(rt: HostRuntime) -> Result<(), Fail> {
     assert!(rt; TextLaw::is_met(&"ab", &text) && !TextLaw::is_met(&"ab", &other));
     assert!(rt; TextLaw::is_same(&text, &text) && !TextLaw::is_same(&text, &other));
     assert_same(&rt, TextLaw::hash(&text), 0xB1A1_C301_919D_DD8F);
+    Ok(())
+}
+
+/// Two pointers are equal if the numbers that they lead to are.
+#[test]
+fn pointers(rt: HostRuntime) -> Result<(), Fail> {
+    type Law = OfTarget<NumberLaw>;
+    let (one, again) = (Arc::new(rt.alloc(), 1u64)?, Arc::new(rt.alloc(), 1u64)?);
+    let two = Arc::new(rt.alloc(), 2u64)?;
+    assert!(rt; Law::is_same(&one, &again) && !Law::is_same(&one, &two));
+    assert_same(&rt, Law::hash(&one), 0x7980_1DCC_73DB_173E);
+    let boxed = Box::new(rt.alloc(), &1u64)?;
+    assert_same(&rt, OfTarget::<Law>::hash(&boxed), 0x7980_1DCC_73DB_173E);
+    Ok(())
+}
+
+/// A set of texts behind two pointers is searched by a key of the texts.
+#[test]
+fn pointers_by_keys(rt: HostRuntime) -> Result<(), Fail> {
+    let mut set: HeldSet<Box<Arc<String<Global>>>, OfTarget<TextLaw>> = HeldSet::new(rt.alloc());
+    let text = Arc::new(rt.alloc(), String::from_str(rt.alloc(), "ab")?)?;
+    let again = Arc::try_clone(&text)?;
+    assert!(rt; matches!(set.insert(Box::new(rt.alloc(), text)?), Inserted::Placed));
+    assert!(rt; matches!(set.insert(Box::new(rt.alloc(), again)?), Inserted::Found(_)));
+    assert!(rt; matches!(set.get_by_key(&"ab"), Some(shown) if shown.as_str() == "ab"));
+    assert!(rt; set.get_by_key(&"bb").is_none());
     Ok(())
 }
 

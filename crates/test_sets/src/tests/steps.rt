@@ -2,10 +2,8 @@
 use super::assert_same;
 use std::alloc::{AllocError, Global};
 use std::process::Abort;
-use std::sync::Wait;
 use std::test::Fail;
-use table_sets::{Inserted, SetLaw};
-use table_shared_sets::{HeldSet, InPlace, NumberLaw, SharedSet, Shown};
+use table_sets::{HeldSet, InPlace, Inserted, NumberLaw, SetLaw};
 
 /// The steps: of the multiples of the last one the low 40 bits are 0.
 const STEPS: [u64; 4] = [1, 1 << 8, 1 << 16, 1 << 40];
@@ -27,31 +25,10 @@ fn fill_held(alloc: Global, step: u64) -> (u64, u64) {
     (placed, found)
 }
 
-/// Does the same with a set that threads share.
-fn fill_shared<R: Wait>(rt: &R, alloc: Global, step: u64) -> (u64, u64) {
-    let set: SharedSet<InPlace<u64>, NumberLaw> = SharedSet::new(alloc);
-    let (mut placed, mut found) = (0u64, 0u64);
-    for index in 0..COUNT {
-        let told = set.insert(rt, InPlace(index.wrapping_mul(step)));
-        placed = placed.wrapping_add(u64::from(matches!(told, Shown::Placed(_))));
-    }
-    for index in 0..COUNT {
-        found = found.wrapping_add(u64::from(set.contains(&index.wrapping_mul(step))));
-    }
-    (placed, found)
-}
-
 #[test]
 fn held(rt: HostRuntime) {
     for step in STEPS {
         assert_same(&rt, fill_held(rt.alloc(), step), (COUNT, COUNT));
-    }
-}
-
-#[test]
-fn shared(rt: HostRuntime) {
-    for step in STEPS {
-        assert_same(&rt, fill_shared(&rt, rt.alloc(), step), (COUNT, COUNT));
     }
 }
 

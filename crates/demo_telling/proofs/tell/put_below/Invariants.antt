@@ -1,6 +1,5 @@
-use Rattle.table_bounded.specs.History.{IsCarried}
-use Rattle.table_bounded.specs.Sets.{KnowsMore}
+use Rattle.shared_set.specs.Known.{KnowsMore}
 use Rattle.demo_telling.proofs.tell.put_below.Given as goal
 
 abbrev pub invariant-loop-number : goal.invariant-loop-number
-invariant-loop-number g l = KnowsMore IsCarried l.fn.known l.known
+invariant-loop-number g l = KnowsMore l.fn.mine l.mine

@@ -1,0 +1,10 @@
+mod Courses
+mod Keeping
+mod Moving
+mod Ended
+mod Starting
+mod Supplying
+mod Sizes
+pub mod Placing
+mod Walking
+mod Sharing

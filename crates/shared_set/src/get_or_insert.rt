@@ -1,0 +1,58 @@
+//! Inserts of values that are made only if they are needed.
+ghost use Rattle.table_numbered.specs.Words.{of_value};
+ghost use Rattle.table_numbered.specs.History.{IsEntry, NonePasses};
+ghost use Rattle.shared_set.specs.Known.{KnowsMore};
+ghost use Rattle.shared_set.specs.Getting.{GetsOrInserts, GetsReceipt};
+
+use crate::handle::Handle;
+use crate::insert::Inserted;
+use table_cell::Low;
+use table_numbered::{KeyLaw, MetBy, SetLaw, Sought};
+
+/// How a call of `get_or_insert_with` ended.
+#[derive(Debug, Drop)]
+pub enum GotOrInserted<'a, V> {
+    /// This entry, which has this number, is what was sought. No value was made.
+    Got(u64, &'a V),
+    /// No entry known to the handle was what was sought. A value was made, and its insert ended so.
+    Made(Inserted<'a, V>),
+}
+
+impl<'a, V, L: SetLaw<V>, A: Low + Copy> Handle<'a, V, L, A> {
+    /// Returns what is sought. If no entry known to this handle is it, inserts the value that `make` makes, as `insert` does: whether the
+    /// value is what was sought is not asked. `make` runs at most once, and only then.
+    pub fn seek_or_insert_with<S: Sought<V, L>, F: FnOnce() -> V>(
+        &mut self,
+        sought: &S,
+        make: F,
+    ) -> GotOrInserted<'a, V>
+        requires callable { NonePasses (of_value (S.accepts sought.now)) (IsEntry self.old.history) → F.pre make }
+        ensures known { KnowsMore self.old self.new }
+        ensures told { GetsOrInserts L.same L.hash_of (S.accepts sought.now) (F.post make) self.old.history
+            self.new.history result }
+        ensures receipt { GetsReceipt self.new.of result }
+    {
+        match self.seek(sought) {
+            Some((number, entry)) => GotOrInserted::Got(number, entry),
+            None => GotOrInserted::Made(self.insert(make())),
+        }
+    }
+
+    /// Returns an entry that meets the key. If no entry known to this handle meets it, inserts the value that `make` makes, as `insert`
+    /// does: whether the value meets the key is not asked. `make` runs at most once, and only then.
+    pub fn get_or_insert_with<K, F: FnOnce() -> V>(
+        &mut self,
+        key: &K,
+        make: F,
+    ) -> GotOrInserted<'a, V>
+    where
+        L: KeyLaw<K, V>,
+        requires callable { NonePasses (of_value (L.meets key.now)) (IsEntry self.old.history) → F.pre make }
+        ensures known { KnowsMore self.old self.new }
+        ensures told { GetsOrInserts L.same L.hash_of (L.meets key.now) (F.post make) self.old.history
+            self.new.history result }
+        ensures receipt { GetsReceipt self.new.of result }
+    {
+        self.seek_or_insert_with(&MetBy { key }, make)
+    }
+}

@@ -1,0 +1,293 @@
+//! The set, and what any thread may call on it.
+ghost use Rattle.std.specs.Prelude.{◌≡◌, suc, ◌<◌, ◌≤◌, ◌^◌, ◌*◌, true, false, IfOk, MatchOption};
+ghost use Rattle.std.specs.Int.{IsPowerOfTwo};
+ghost use mathlib.Core.List.{IsPrefix};
+ghost use Rattle.table_chain.specs.History.{Stands};
+ghost use Rattle.table_numbered.specs.Words.{of_value};
+ghost use Rattle.table_numbered.specs.History.{size_of, IsEntry, NonePasses};
+ghost use Rattle.shared_set.specs.Known.{shared_view, IsShared, Keeps, IsEmpty, IsFresh, IsSeen, IsCursor, IsFurther, Stepped};
+ghost use Rattle.shared_set.specs.Inserting.{Replies, HasReceipt};
+
+use crate::cursor::{Cursor, Stages};
+use crate::handle::Handle;
+use crate::insert::Inserted;
+use crate::stage::{Grows, Stage};
+use crate::supply::Supply;
+use std::alloc::{AllocError, Global};
+use std::marker::Model;
+use std::sync::atomic::Ordering::SeqCst;
+use std::sync::atomic::{AtomicBool, AtomicU64, AtomicUsize};
+use table_cell::Low;
+use table_chain::Chain;
+use table_numbered::{Generation, SetLaw, Token};
+use table_slab::Slab;
+
+/// How many stages a set may have: from one bucket to 2^32.
+pub(crate) const STAGES: usize = 33;
+
+/// The first chunk of a set's slab has 32 slots.
+const FIRST_CHUNK_BITS: u32 = 5;
+
+/// The fewest buckets that a generation has.
+const LEAST_BUCKETS: usize = 16;
+
+/// The most entries for which a set can have buckets.
+const MOST_ENTRIES: usize = 1 << 31;
+
+/// A set of values that threads share through `&`, and that grows. No two of its entries are the same under the law `L`. No entry is removed
+/// or moved.
+///
+/// A contract sees which set it is, and what its first generation began with. Which entries it has is what its handles know.
+pub struct SharedSet<V, L: SetLaw<V>, A: Low + Copy = Global> {
+    pub(crate) slab: Slab<V, A>,
+    pub(crate) chain: Chain<Stage<V, L, A>, Grows<V, L, A>, A>,
+    pub(crate) alloc: A,
+    /// What is known of the first generation from the first.
+    pub(crate) start: Token<V, L>,
+    /// A slot of the chain that has a stage: where a new handle begins.
+    pub(crate) begin: AtomicUsize,
+    /// True while a thread builds the next stage.
+    pub(crate) growing: AtomicBool,
+    /// How many values were placed, as far as handles have counted them.
+    pub(crate) placed: AtomicU64,
+}
+
+impl<V, L: SetLaw<V>, A: Low + Copy> Model for SharedSet<V, L, A> {
+    ghost use Rattle.shared_set.specs.Known.{SharedSetView, shared_view, shared_set_view, IsShared};
+
+    ghost Value = { SharedSetView V };
+
+    ghost view = { λ s. shared_set_view (shared_view s.chain s.slab) s.start.log };
+
+    ghost invariant = { λ s. IsShared L.same L.hash_of s.chain s.slab s.start.log };
+}
+
+impl<V, L: SetLaw<V>, A: Low + Copy> SharedSet<V, L, A> {
+    /// Makes an empty set. A refused request leaves nothing.
+    pub fn new(alloc: A) -> Result<Self, AllocError>
+        ensures { IfOk result (λ s. IsEmpty s.start) }
+    {
+        SharedSet::with_buckets(alloc, LEAST_BUCKETS)
+    }
+
+    /// Makes an empty set that has buckets for this many entries before it grows. A refused request leaves nothing.
+    pub fn with_capacity(alloc: A, entries: usize) -> Result<Self, AllocError>
+        ensures empty { IfOk result (λ s. IsEmpty s.start) }
+        ensures room { IfOk result (λ s. entries * 2 ≤ size_of s.start) }
+    {
+        if entries > MOST_ENTRIES {
+            return Err(AllocError);
+        }
+        SharedSet::with_buckets(alloc, buckets_for(entries))
+    }
+
+    /// Makes an empty set whose first generation has this many buckets.
+    fn with_buckets(alloc: A, buckets: usize) -> Result<Self, AllocError>
+        requires power { IsPowerOfTwo buckets }
+        requires few { buckets ≤ 2 ^ 32 }
+        ensures empty { IfOk result (λ s. IsEmpty s.start) }
+        ensures size { IfOk result (λ s. size_of s.start ≡ buckets) }
+    {
+        let slab = Slab::new(alloc, FIRST_CHUNK_BITS)?;
+        let generation = Generation::new(alloc, &slab, buckets)?;
+        let start = generation.start();
+        let before = start.again();
+        let first = Stage { generation, before };
+        match Chain::new(alloc, STAGES, first) {
+            Ok(chain) => Ok(SharedSet {
+                slab,
+                chain,
+                alloc,
+                start,
+                begin: AtomicUsize::new(0),
+                growing: AtomicBool::new(false),
+                placed: AtomicU64::new(0),
+            }),
+            Err(_first) => Err(AllocError),
+        }
+    }
+
+    /// Returns the number of values that were placed, as far as handles have counted them. A handle counts its first value before that
+    /// insert returns, then 2, 4, 8, 16 and 32 values at a time, then 64 at a time, and the rest when it is dropped. `insert` of the set
+    /// itself counts its value before it returns.
+    pub fn len(&self) -> u64 {
+        self.placed.load(SeqCst)
+    }
+
+    /// Returns true if no value was counted, as `len` counts them. A handle counts its first value before that insert returns, so a set
+    /// of which an insert has returned `Placed` is not empty.
+    pub fn is_empty(&self) -> bool {
+        self.len() == 0
+    }
+
+    /// Returns a slot that has a stage: the newest one of which the set has been told.
+    fn newest_told(&self, seen: &mut Stages<V, L, A>) -> usize
+        requires seen { IsSeen L.same L.hash_of self.now.of seen.old.book seen.old.names seen.old.log }
+        requires first { (s : _) × Stands seen.old.log 0 s }
+        ensures seen { IsSeen L.same L.hash_of self.now.of seen.new.book seen.new.names seen.new.log }
+        ensures longer { IsPrefix seen.old.log seen.new.log }
+        ensures shown { (s : _) × Stands seen.new.log result s }
+    {
+        let slot = self.begin.load(SeqCst);
+        if slot >= STAGES {
+            return 0;
+        }
+        match self.chain.look(seen, slot) {
+            Some(_) => slot,
+            None => 0,
+        }
+    }
+
+    /// Returns a cursor at a stage that was shown.
+    fn cursor(&self) -> Cursor<V, L, A>
+        ensures at { IsCursor L.same L.hash_of self.now.of result }
+        ensures keeps { Keeps self.now.start result.entries.log }
+        ensures fresh { IsFresh self.now.start result.entries.log }
+    {
+        let mut stages = self.chain.start();
+        let slot = self.newest_told(&mut stages);
+        let stage = self.chain.get(&stages, slot);
+        let entries = stage.generation().start();
+        Cursor {
+            slot,
+            stages,
+            entries,
+        }
+    }
+
+    /// Returns a handle, by which one thread calls the set. The handle knows what one generation began with: the first, or one that grew out
+    /// of a full one. Each entry that the set began with is known.
+    pub fn handle(&self) -> Handle<'_, V, L, A>
+        ensures of { result.of ≡ self.now.of }
+        ensures keeps { Keeps self.now.start result.history }
+        ensures fresh { IsFresh self.now.start result.history }
+    {
+        let cursor = self.cursor();
+        Handle {
+            set: self,
+            stage: self.chain.get(&cursor.stages, cursor.slot),
+            cursor,
+            supply: Supply::new(),
+            uncounted: 0,
+            portion: 1,
+        }
+    }
+
+    /// Moves the cursor to the next stage, if one was shown.
+    pub(crate) fn step(&self, cursor: &mut Cursor<V, L, A>) -> Option<&Stage<V, L, A>>
+        requires at { IsCursor L.same L.hash_of self.now.of cursor.old }
+        ensures at { IsCursor L.same L.hash_of self.now.of cursor.new }
+        ensures keeps { Keeps cursor.old.entries.log cursor.new.entries.log }
+        ensures longer { IsPrefix cursor.old.stages.log cursor.new.stages.log }
+        ensures stepped { Stepped cursor.old.slot cursor.new.slot cursor.new.stages.log result }
+    {
+        let next = cursor.slot + 1;
+        if next == STAGES {
+            return None;
+        }
+        match self.chain.look(&mut cursor.stages, next) {
+            Some(stage) => {
+                stage.carry_over(&mut cursor.entries);
+                cursor.slot = next;
+                Some(stage)
+            }
+            None => None,
+        }
+    }
+
+    /// Moves the cursor to this slot, which has a stage, unless the cursor is there or beyond.
+    pub(crate) fn go_to(&self, cursor: &mut Cursor<V, L, A>, slot: usize)
+        requires at { IsCursor L.same L.hash_of self.now.of cursor.old }
+        requires shown { (s : _) × Stands cursor.old.stages.log slot s }
+        ensures at { IsCursor L.same L.hash_of self.now.of cursor.new }
+        ensures keeps { Keeps cursor.old.entries.log cursor.new.entries.log }
+        ensures longer { IsPrefix cursor.old.stages.log cursor.new.stages.log }
+        ensures there { IsFurther cursor.old.slot slot cursor.new.slot }
+    {
+        for _passed in cursor.slot..slot {
+            self.step(cursor).unwrap();
+        }
+    }
+
+    /// Brings together what two cursors know, at the further one of their slots.
+    pub(crate) fn join(&self, cursor: &mut Cursor<V, L, A>, theirs: Cursor<V, L, A>)
+        requires mine { IsCursor L.same L.hash_of self.now.of cursor.old }
+        requires theirs { IsCursor L.same L.hash_of self.now.of theirs }
+        ensures at { IsCursor L.same L.hash_of self.now.of cursor.new }
+        ensures mine { Keeps cursor.old.entries.log cursor.new.entries.log }
+        ensures theirs { Keeps theirs.entries.log cursor.new.entries.log }
+    {
+        let mut theirs = theirs;
+        cursor.stages.learn(&theirs.stages);
+        self.go_to(cursor, theirs.slot);
+        theirs.stages.learn(&cursor.stages);
+        self.go_to(&mut theirs, cursor.slot);
+        cursor.stages.learn(&theirs.stages);
+        cursor.entries.learn(&theirs.entries);
+    }
+}
+
+/// Returns a power of two of buckets, of which so many entries fill at most half.
+fn buckets_for(entries: usize) -> usize
+    requires { entries ≤ 2 ^ 31 }
+    ensures power { IsPowerOfTwo result }
+    ensures few { result ≤ 2 ^ 32 }
+    ensures enough { entries * 2 ≤ result }
+{
+    (2 * entries).max(LEAST_BUCKETS).next_power_of_two()
+}
+
+impl<V, L: SetLaw<V>, A: Low + Copy> SharedSet<V, L, A> {
+    /// Returns the entry that is the same as the target, as a new handle does. `None` means that no entry that the set began with is the
+    /// same.
+    pub fn get(&self, target: &V) -> Option<&V>
+        ensures finds { MatchOption result (NonePasses (of_value (L.same target.now)) (IsEntry self.now.start))
+            (λ e. L.same target.now e.now ≡ true) }
+    {
+        let mut handle = self.handle();
+        handle.get(target)
+    }
+
+    /// Returns true if an entry is the same as the target, as a new handle does. `false` means that no entry that the set began with is
+    /// the same.
+    pub fn contains(&self, target: &V) -> bool
+        ensures none { result ≡ false → NonePasses (of_value (L.same target.now)) (IsEntry self.now.start) }
+    {
+        self.get(target).is_some()
+    }
+
+    /// Inserts the value, unless an entry is the same, as a new handle does.
+    pub fn insert(&self, value: V) -> Inserted<'_, V>
+        ensures replies { Replies L.same value self.now.start result }
+        ensures receipt { HasReceipt self.now.of result }
+    {
+        let mut handle = self.handle();
+        handle.insert(value)
+    }
+}
+
+impl<V, L: SetLaw<V>, A: Low + Copy> SharedSet<V, L, A> {
+    /// Takes the set apart.
+    pub(crate) fn into_parts(self) -> (Slab<V, A>, Chain<Stage<V, L, A>, Grows<V, L, A>, A>)
+        ensures view { self.of ≡ shared_view result.1 result.0 }
+        ensures shared { IsShared L.same L.hash_of result.1 result.0 self.start }
+    {
+        let SharedSet {
+            slab,
+            chain,
+            alloc: _,
+            start: _,
+            begin: _,
+            growing: _,
+            placed: _,
+        } = self;
+        (slab, chain)
+    }
+}
+
+impl<V: Drop, L: SetLaw<V>, A: Low + Copy> Drop for SharedSet<V, L, A> {
+    /// Drops each entry, and frees the memory.
+    fn drop(self) {
+        drop(self.into_values());
+    }
+}

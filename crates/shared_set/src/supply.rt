@@ -1,0 +1,90 @@
+//! The numbers that a handle has taken ahead.
+ghost use Rattle.std.specs.Prelude.{◌≡◌, ◌<◌, IfSome, IfOk};
+ghost use Rattle.table_slab.specs.Slabs.{SlabView};
+ghost use Rattle.shared_set.specs.Supplies.{IsVacant, IsSupplyOf};
+
+use std::alloc::Allocator;
+use std::cmp::min;
+use table_cell::Low;
+use table_slab::{Refused, Right, Run, Slab};
+
+/// Numbers of a slab that no other handle has, with the rights to their slots.
+#[derive(Drop)]
+pub(crate) struct Supply<V, A: Allocator> {
+    pub(crate) spare: Option<(u64, Right<V, A>)>,
+    pub(crate) run: Run<V, A>,
+    pub(crate) want: u64,
+}
+
+impl<V, A: Allocator> Supply<V, A> {
+    /// Returns a supply with no number.
+    pub(crate) fn new() -> Self
+        ensures { (s : SlabView) → IsSupplyOf s result }
+    {
+        Supply {
+            spare: None,
+            run: Run::new(),
+            want: 1,
+        }
+    }
+
+    /// Takes a number that is there.
+    pub(crate) fn take(&mut self) -> Option<(u64, Right<V, A>)>
+        requires { (s : SlabView) × IsSupplyOf s self.old }
+        ensures number { (s : SlabView) → IsSupplyOf s self.old → IfSome result (IsVacant s) }
+        ensures rest { (s : SlabView) → IsSupplyOf s self.old → IsSupplyOf s self.new }
+    {
+        match self.spare.take() {
+            Some(spare) => Some(spare),
+            None => self.run.take(),
+        }
+    }
+
+    /// Keeps a number whose slot is empty for the next call of `take`.
+    pub(crate) fn keep(&mut self, number: u64, right: Right<V, A>)
+        ensures { (s : SlabView) → IsVacant s (number, right) → IsSupplyOf s self.old → IsSupplyOf s self.new }
+    {
+        self.spare = Some((number, right));
+    }
+}
+
+impl<V, A: Low + Copy> Supply<V, A> {
+    /// Asks the slab for a run of numbers, and takes one. Each run is twice as long as the one before it, up to `most`. A refusal
+    /// leaves the numbers that are there.
+    pub(crate) fn fetch(
+        &mut self,
+        slab: &Slab<V, A>,
+        most: u64,
+    ) -> Result<(u64, Right<V, A>), Refused>
+        requires { IsSupplyOf slab.now self.old }
+        ensures number { IfOk result (IsVacant slab.now) }
+        ensures rest { IsSupplyOf slab.now self.new }
+    {
+        let next = slab.number(&mut self.run, self.want)?;
+        if self.want < most {
+            self.want = longer(self.want, most);
+        }
+        Ok(next)
+    }
+
+    /// Gives the numbers that are left back to the slab.
+    pub(crate) fn give_back(self, slab: &Slab<V, A>)
+        requires { IsSupplyOf slab.now self }
+    {
+        let Supply {
+            spare: _,
+            run,
+            want: _,
+        } = self;
+        slab.give_back(run);
+    }
+}
+
+/// Returns twice the length, or else `most`.
+fn longer(length: u64, most: u64) -> u64
+    requires some { 0 < length }
+    requires less { length < most }
+    ensures { 0 < result }
+{
+    min(most, length.saturating_mul(2))
+}

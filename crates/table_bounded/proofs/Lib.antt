@@ -1,9 +1,0 @@
-pub mod Histories
-pub mod Rows
-pub mod Steps
-pub mod Probes
-pub mod Keys
-pub mod Endings
-pub mod Rights
-pub mod Carried
-pub mod Finished

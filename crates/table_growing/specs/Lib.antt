@@ -1,4 +1,0 @@
-pub mod Chain
-pub mod Known
-pub mod Ending
-pub mod Taken

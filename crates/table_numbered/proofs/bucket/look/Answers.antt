@@ -1,0 +1,14 @@
+use Rattle.std.proofs.Common.{sym}
+use Rattle.std.specs.Prelude.{None}
+use Rattle.table_numbered.specs.Words.{alike, marked}
+use Rattle.table_numbered.specs.History.{event}
+use Rattle.table_numbered.proofs.Steps.{looks_moves}
+use Rattle.table_numbered.proofs.bucket.look.Goals as goal
+
+pub load-requires : goal.load-requires
+load-requires g c = let offer = c.plain-offer.ensures in (
+  c.requires.word.0,
+  sym c.requires.word.1,
+  offer.0,
+  rw (offer.1, offer.3) (looks_moves (alike g.L.Law.same) (marked g.L.Law.hash_of) c.args.word.now.key c.args.seen.now.log (event 0 None) c.requires.inside),
+)

@@ -1,0 +1,9 @@
+pub mod Words
+pub mod Probing
+pub mod History
+pub mod Kept
+pub mod Generations
+pub mod Carrying
+pub mod Ending
+pub mod Walking
+pub mod Hints

@@ -1,0 +1,128 @@
+//! Probes for what is sought.
+ghost use Rattle.std.specs.Prelude.{◌≡◌, ℕ, ◌<◌};
+ghost use mathlib.Core.List.{IsPrefix};
+ghost use Rattle.table_numbered.specs.Words.{mark_of};
+ghost use Rattle.table_numbered.specs.History.{IsEntry};
+ghost use Rattle.table_numbered.specs.Generations.{IsOf, Meets, Finds, Judges, Ends};
+
+use crate::generation::Generation;
+use crate::rule::Token;
+use crate::sought::Sought;
+use crate::word::{first_bucket, mark_of_hash, mark_of_word, number_of_word};
+use table_cell::Low;
+use table_slab::Slab;
+use table_terms::law::SetLaw;
+use table_terms::probe::next_bucket;
+
+/// What a probe meets in one bucket.
+#[derive(Drop)]
+pub(crate) enum Meeting<'a, V> {
+    /// What is sought, by its number.
+    Passes(u64, &'a V),
+    /// Another entry.
+    Differs,
+    /// Nothing.
+    Vacant,
+    /// That the bucket is closed.
+    Closed,
+}
+
+/// How a probe ended.
+#[derive(Debug, PartialEq, Eq, Drop)]
+pub enum Judged<'a, V> {
+    /// What is sought is there, by its number.
+    Found(u64, &'a V),
+    /// No entry that is known then is it, and the probe came to an empty bucket.
+    Vacant,
+    /// No entry that is known then is it, and the probe came to a closed bucket or round the end.
+    Spent,
+}
+
+impl<V, L: SetLaw<V>, A: Low + Copy> Generation<V, L, A> {
+    /// Compares what is sought with what the bucket has. An entry is read only where its mark is that of what is sought.
+    pub(crate) fn meet<'a, S: Sought<V, L>>(
+        &self,
+        slab: &'a Slab<V, A>,
+        seen: &mut Token<V, L>,
+        index: usize,
+        mark: u64,
+        sought: &S,
+    ) -> Meeting<'a, V>
+        requires slab { slab.now ≡ self.now.of.slab }
+        requires of { IsOf L.same L.hash_of self.now.of seen.old.book seen.old.names seen.old.log }
+        requires inside { index < self.now.of.size }
+        requires mark { mark ≡ mark_of (S.sought_hash sought.now) }
+        ensures of { IsOf L.same L.hash_of self.now.of seen.new.book seen.new.names seen.new.log }
+        ensures longer { IsPrefix seen.old.log seen.new.log }
+        ensures meets { Meets (S.accepts sought.now) index seen.new.log result }
+    {
+        let word = self.look_at(seen, index);
+        if word == 0 {
+            return Meeting::Vacant;
+        }
+        if word == 1 {
+            return Meeting::Closed;
+        }
+        if mark_of_word(word) != mark {
+            return Meeting::Differs;
+        }
+        let number = number_of_word(word);
+        let entry = self.entry_at(slab, seen, index, number);
+        if sought.is(entry) {
+            Meeting::Passes(number, entry)
+        } else {
+            Meeting::Differs
+        }
+    }
+
+    /// Probes for what is sought, and says where the probe ended. It takes no memory and changes nothing but what is known.
+    pub fn judge<'a, S: Sought<V, L>>(
+        &self,
+        slab: &'a Slab<V, A>,
+        seen: &mut Token<V, L>,
+        sought: &S,
+    ) -> Judged<'a, V>
+        requires slab { slab.now ≡ self.now.of.slab }
+        requires of { IsOf L.same L.hash_of self.now.of seen.old.book seen.old.names seen.old.log }
+        ensures of { IsOf L.same L.hash_of self.now.of seen.new.book seen.new.names seen.new.log }
+        ensures longer { IsPrefix seen.old.log seen.new.log }
+        ensures judges { Judges (S.accepts sought.now) (IsEntry seen.new.log) result }
+        ensures ends { Ends (S.accepts sought.now) self.now.of.size
+            (mark_of (S.sought_hash sought.now)) seen.new.log result }
+    {
+        let count = self.buckets();
+        let mark = mark_of_hash(sought.hash());
+        let mut index = first_bucket(mark, count);
+        for _tried in 0..count {
+            match self.meet(slab, seen, index, mark, sought) {
+                Meeting::Passes(number, entry) => return Judged::Found(number, entry),
+                Meeting::Differs => {}
+                Meeting::Vacant => return Judged::Vacant,
+                Meeting::Closed => return Judged::Spent,
+            }
+            index = next_bucket(index, count);
+        }
+        Judged::Spent
+    }
+
+    /// Shows what is sought, with its number, or None: then no entry is it that its caller knew of. It takes no memory and
+    /// changes nothing but what is known.
+    pub fn seek<'a, S: Sought<V, L>>(
+        &self,
+        slab: &'a Slab<V, A>,
+        seen: &mut Token<V, L>,
+        sought: &S,
+    ) -> Option<(u64, &'a V)>
+        requires slab { slab.now ≡ self.now.of.slab }
+        requires of { IsOf L.same L.hash_of self.now.of seen.old.book seen.old.names seen.old.log }
+        ensures of { IsOf L.same L.hash_of self.now.of seen.new.book seen.new.names seen.new.log }
+        ensures longer { IsPrefix seen.old.log seen.new.log }
+        ensures finds { Finds (S.accepts sought.now) (IsEntry seen.new.log) result }
+    {
+        match self.judge(slab, seen, sought) {
+            Judged::Found(number, entry) => Some((number, entry)),
+            Judged::Vacant => None,
+            Judged::Spent => None,
+        }
+    }
+}

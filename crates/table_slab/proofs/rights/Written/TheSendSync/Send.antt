@@ -1,0 +1,7 @@
+use denote.RattleType.{RattleType}
+use denote.Param.Send.{IsSend}
+use Rattle.table_slab.proofs.Sent as sent
+use Rattle.table_slab.specs.contracts.rights.Written.{the_row}
+
+pub send : (T : RattleType) → IsSend (the_row T)
+send = sent.written_send

@@ -1,3 +1,0 @@
-mod alone;
-mod made;
-mod threads;

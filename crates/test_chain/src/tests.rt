@@ -1,0 +1,4 @@
+mod alone;
+mod counting;
+mod rising;
+mod threads;

@@ -1,0 +1,64 @@
+//! One thread, one generation: empty, with entries, full.
+use super::caller::{By, Numbers, Row, Told, made};
+use std::alloc::{AllocError, Global};
+use std::process::Abort;
+use std::test::Fail;
+use table_slab::Slab;
+
+/// Asserts that the calls of a new generation of so many buckets end as they should.
+fn assert_calls(
+    rt: &impl Abort,
+    alloc: Global,
+    buckets: usize,
+    rows: &[Row],
+) -> Result<(), AllocError> {
+    let slab = Slab::new(alloc, 2)?;
+    let set = made(alloc, &slab, buckets)?;
+    let numbers = Numbers {
+        set: &set,
+        slab: &slab,
+    };
+    numbers.assert_ends(rt, rows);
+    Ok(())
+}
+
+/// A value that is found comes back, and the slot that came back takes the next one. Numbers 4 to 6 have one mark.
+const EIGHT: [Row; 15] = [
+    (By::Judge, 0, Told::Vacant),
+    (By::Judge, u64::MAX, Told::Vacant),
+    (By::Show, 5, Told::Missed),
+    (By::Put, 5, Told::Placed(0)),
+    (By::PutOrNext, 5, Told::Placed(1)),
+    (By::Show, 5, Told::Shown(5)),
+    (By::Show, 6, Told::Shown(6)),
+    (By::Show, 7, Told::Missed),
+    (By::Put, 4, Told::Placed(2)),
+    (By::Put, 1, Told::Placed(3)),
+    (By::Put, 6, Told::Found(1)),
+    (By::Judge, 4, Told::Found(2)),
+    (By::Judge, 6, Told::Found(1)),
+    (By::Judge, 1, Told::Found(3)),
+    (By::Judge, 7, Told::Vacant),
+];
+
+#[test]
+fn a_value_is_placed_once_and_found(rt: HostRuntime) -> Result<(), Fail> {
+    assert_calls(&rt, rt.alloc(), 8, EIGHT.as_slice())?;
+    Ok(())
+}
+
+/// The value that finds no bucket comes back, and so does one that is there.
+const TWO: [Row; 6] = [
+    (By::Put, 1, Told::Placed(0)),
+    (By::Put, 2, Told::Placed(1)),
+    (By::Put, 9, Told::Full),
+    (By::Put, 1, Told::Found(0)),
+    (By::Judge, 9, Told::Spent),
+    (By::Show, 9, Told::Missed),
+];
+
+#[test]
+fn a_full_generation_gives_the_value_back(rt: HostRuntime) -> Result<(), Fail> {
+    assert_calls(&rt, rt.alloc(), 2, TWO.as_slice())?;
+    Ok(())
+}

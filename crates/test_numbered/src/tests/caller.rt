@@ -1,0 +1,159 @@
+//! One generation of numbers, its slab, and the calls of them.
+ghost use Rattle.std.specs.Prelude.{◌≡◌, IfOk, IfSome, None};
+ghost use Rattle.table_slab.specs.Held.{IsRightTo};
+ghost use Rattle.table_numbered.specs.Words.{IsNumber};
+
+use super::laws::Fours;
+use std::alloc::AllocError;
+use std::fmt::Debug;
+use std::process::Abort;
+use table_cell::Low;
+use table_numbered::{Generation, Judged, Placing, SameAs};
+use table_slab::{Right, Run, Slab};
+
+/// The call that a row makes with its number.
+#[derive(Clone, Copy, Drop)]
+pub(crate) enum By {
+    /// Places the number in a slot of its own.
+    Put,
+    /// Places the number. If it comes back, the number after it is placed in the slot that came back.
+    PutOrNext,
+    /// Probes for the number.
+    Judge,
+    /// Seeks the number, and reads it once more by the number of its slot.
+    Show,
+    /// Asks whether an entry has this number.
+    Has,
+}
+
+/// How a call ended. A number that was placed or found comes with the number of its slot.
+#[derive(PartialEq, Eq, Debug, Clone, Copy, Drop)]
+pub(crate) enum Told {
+    Placed(u64),
+    Found(u64),
+    Full,
+    NoSlot,
+    Vacant,
+    Spent,
+    Shown(u64),
+    Missed,
+    Has(bool),
+}
+
+/// A call, its number, and how it should end.
+pub(crate) type Row = (By, u64, Told);
+
+/// Asserts that both are equal.
+pub(crate) fn assert_same<X: PartialEq + Debug + Drop>(rt: &impl Abort, got: X, expected: X) {
+    assert_eq!(rt; got, expected);
+}
+
+/// Makes a generation of so many buckets, of which there are 1, 2, 4 or 8.
+pub(crate) fn made<A: Low + Copy>(
+    alloc: A,
+    slab: &Slab<u64, A>,
+    buckets: usize,
+) -> Result<Generation<u64, Fours, A>, AllocError>
+    ensures slab { IfOk result (λ g. g.of.slab ≡ slab.now) }
+{
+    if buckets.is_power_of_two() && buckets <= 8 {
+        Generation::new(alloc, slab, buckets)
+    } else {
+        Err(AllocError)
+    }
+}
+
+/// A generation of numbers, and the slab that they lie in.
+#[derive(Drop)]
+pub(crate) struct Numbers<'a, A: Low + Copy> {
+    pub(crate) set: &'a Generation<u64, Fours, A>,
+    pub(crate) slab: &'a Slab<u64, A>,
+    ghost of: { slab.now ≡ set.now.of.slab },
+}
+
+impl<'a, A: Low + Copy> Numbers<'a, A> {
+    /// Returns a slot that is empty, and the right to it. `None` means that memory was refused.
+    fn slot(&self) -> Option<(u64, Right<u64, A>)>
+        ensures number { IfSome result (λ r. IsNumber r.0) }
+        ensures right { IfSome result (λ r. IsRightTo self.now.slab.now r.0 r.1) }
+        ensures empty { IfSome result (λ r. r.1.room.value ≡ None) }
+    {
+        let mut run = Run::new();
+        self.slab.number(&mut run, 1).ok()
+    }
+
+    /// Places the number in the slot. The right comes back unless the number was placed.
+    fn put_at(&self, slot: u64, right: Right<u64, A>, number: u64) -> (Told, Option<Right<u64, A>>)
+        requires number { IsNumber slot }
+        requires right { IsRightTo self.now.slab.now slot right }
+        requires empty { right.room.value ≡ None }
+        ensures right { IfSome result.1 (λ r. IsRightTo self.now.slab.now slot r) }
+        ensures empty { IfSome result.1 (λ r. r.room.value ≡ None) }
+    {
+        let mut seen = self.set.start();
+        match self.set.place(self.slab, &mut seen, slot, right, number) {
+            Placing::Placed(_entry, _receipt) => (Told::Placed(slot), None),
+            Placing::Found(met, _entry, _back, right) => (Told::Found(met), Some(right)),
+            Placing::Full(_back, right) => (Told::Full, Some(right)),
+        }
+    }
+
+    /// Places the number in a slot of its own.
+    pub(crate) fn put(&self, number: u64) -> Told {
+        match self.slot() {
+            Some((slot, right)) => self.put_at(slot, right, number).0,
+            None => Told::NoSlot,
+        }
+    }
+
+    /// Places the number. If it comes back, the number after it is placed in the slot that came back.
+    fn put_or_next(&self, number: u64) -> Told {
+        let Some((slot, right)) = self.slot() else {
+            return Told::NoSlot;
+        };
+        match self.put_at(slot, right, number) {
+            (_, Some(right)) => self.put_at(slot, right, number.wrapping_add(1)).0,
+            (told, None) => told,
+        }
+    }
+
+    /// Probes for the number.
+    pub(crate) fn judge(&self, number: u64) -> Told {
+        let mut seen = self.set.start();
+        let sought = SameAs { target: &number };
+        match self.set.judge(self.slab, &mut seen, &sought) {
+            Judged::Found(slot, _entry) => Told::Found(slot),
+            Judged::Vacant => Told::Vacant,
+            Judged::Spent => Told::Spent,
+        }
+    }
+
+    /// Seeks the number, and reads it once more by the number of its slot.
+    fn show(&self, number: u64) -> Told {
+        let mut seen = self.set.start();
+        let sought = SameAs { target: &number };
+        match self.set.seek(self.slab, &mut seen, &sought) {
+            Some((slot, _entry)) => Told::Shown(*self.set.entry(self.slab, &seen, slot)),
+            None => Told::Missed,
+        }
+    }
+
+    /// Makes the call with the number.
+    fn call(&self, by: By, number: u64) -> Told {
+        match by {
+            By::Put => self.put(number),
+            By::PutOrNext => self.put_or_next(number),
+            By::Judge => self.judge(number),
+            By::Show => self.show(number),
+            By::Has => Told::Has(self.set.has_number(&mut self.set.start(), number)),
+        }
+    }
+
+    /// Makes each call, and asserts that it ends as it should.
+    pub(crate) fn assert_ends(&self, rt: &impl Abort, rows: &[Row]) {
+        for (by, number, told) in rows {
+            let got = self.call(*by, *number);
+            assert_same(rt, (*number, got), (*number, *told));
+        }
+    }
+}

@@ -1,0 +1,102 @@
+//! The next generation: what is carried, and the old one, which is closed.
+ghost use Rattle.std.specs.Prelude.{◌≡◌, IfOk};
+
+use super::caller::{By, Numbers, Row, Told, assert_same, made};
+use super::laws::Fours;
+use std::alloc::{AllocError, Global};
+use std::process::Abort;
+use std::test::Fail;
+use table_cell::Low;
+use table_numbered::{Generation, Refused};
+use table_slab::Slab;
+
+/// Slots have the numbers from 0 on, in the order in which they are taken. The first question for one finds no hint, and the others do,
+/// also for a number that is placed after it.
+const BEFORE: [Row; 9] = [
+    (By::Put, 4, Told::Placed(0)),
+    (By::Put, 5, Told::Placed(1)),
+    (By::Has, 0, Told::Has(true)),
+    (By::Has, 1, Told::Has(true)),
+    (By::Has, 2, Told::Has(false)),
+    (By::Has, u64::MAX, Told::Has(false)),
+    (By::Put, 9, Told::Placed(2)),
+    (By::Has, 2, Told::Has(true)),
+    (By::Judge, 6, Told::Vacant),
+];
+
+/// The next generation has each entry by its number. A new number is placed there.
+const NEXT: [Row; 12] = [
+    (By::Has, 0, Told::Has(true)),
+    (By::Has, 1, Told::Has(true)),
+    (By::Has, 2, Told::Has(true)),
+    (By::Has, 3, Told::Has(false)),
+    (By::Judge, 4, Told::Found(0)),
+    (By::Judge, 5, Told::Found(1)),
+    (By::Judge, 9, Told::Found(2)),
+    (By::Judge, 6, Told::Vacant),
+    (By::Put, 6, Told::Placed(3)),
+    (By::Has, 3, Told::Has(true)),
+    (By::Has, u64::MAX, Told::Has(false)),
+    (By::Put, 5, Told::Found(1)),
+];
+
+/// The old generation shows its entries, and takes no other.
+const CLOSED: [Row; 4] = [
+    (By::Judge, 5, Told::Found(1)),
+    (By::Judge, 6, Told::Spent),
+    (By::Put, 6, Told::Full),
+    (By::Show, 6, Told::Missed),
+];
+
+/// Returns the next generation.
+pub(crate) fn grown<A: Low + Copy>(
+    set: &Generation<u64, Fours, A>,
+    alloc: A,
+) -> Result<Generation<u64, Fours, A>, Refused>
+    ensures slab { IfOk result (λ g. g.of.slab ≡ set.now.of.slab) }
+{
+    let mut seen = set.start();
+    set.grown(alloc, &mut seen)
+}
+
+/// Ends the generation. Returns how often each of the numbers 0 to 9 is among its values.
+fn tally(set: &Generation<u64, Fours, Global>, slab: Slab<u64, Global>) -> [u64; 10]
+    requires slab { slab ≡ set.now.of.slab }
+{
+    let mut counts = [0u64; 10];
+    let mut left = set.end(slab.end(), &mut set.start());
+    while let Some(value) = left.next(set) {
+        if let Some(count) = counts.get_mut(value as usize) {
+            *count = count.wrapping_add(1);
+        }
+    }
+    counts
+}
+
+/// Asserts that the next generation carries each entry, that the old one is closed, and that each value is returned once at the end.
+fn assert_carries(rt: &impl Abort, alloc: Global) -> Result<(), AllocError> {
+    let slab = Slab::new(alloc, 1)?;
+    let set = made(alloc, &slab, 4)?;
+    let old = Numbers {
+        set: &set,
+        slab: &slab,
+    };
+    old.assert_ends(rt, BEFORE.as_slice());
+    let Ok(next) = grown(&set, alloc) else {
+        return Err(AllocError);
+    };
+    let new = Numbers {
+        set: &next,
+        slab: &slab,
+    };
+    new.assert_ends(rt, NEXT.as_slice());
+    old.assert_ends(rt, CLOSED.as_slice());
+    assert_same(rt, tally(&next, slab), [0, 0, 0, 0, 1, 1, 1, 0, 0, 1]);
+    Ok(())
+}
+
+#[test]
+fn growth_carries_each_entry_with_its_number(rt: HostRuntime) -> Result<(), Fail> {
+    assert_carries(&rt, rt.alloc())?;
+    Ok(())
+}

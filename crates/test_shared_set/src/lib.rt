@@ -1,0 +1,5 @@
+//! Tests of a set that threads share.
+#![tactic(auto)]
+
+#[cfg(test)]
+mod tests;

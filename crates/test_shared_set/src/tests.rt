@@ -1,0 +1,14 @@
+mod alone;
+mod caller;
+mod drops;
+mod ending;
+mod keys;
+mod made;
+mod memory;
+mod numbers;
+mod receipts;
+mod runs;
+mod sharing;
+mod telling;
+mod threads;
+mod walks;

@@ -1,0 +1,114 @@
+//! Sets of numbers in memory that counts.
+ghost use Rattle.std.specs.Prelude.{◌≡◌};
+
+use shared_set::{Handle, Inserted, SharedSet};
+use std::alloc::Global;
+use std::fmt::Debug;
+use std::process::Abort;
+use table_terms::law::NumberLaw;
+pub(crate) use testkit_counting::numbers::Told;
+pub(crate) use testkit_counting::tally::Tally;
+use testkit_refusing::{Refusing, Rule};
+
+pub(crate) type Heap = Refusing<Global>;
+
+/// A set of numbers.
+pub(crate) type Numbers<'h> = SharedSet<u64, NumberLaw, &'h Heap>;
+
+/// A handle of such a set.
+pub(crate) type Numbering<'s, 'h> = Handle<'s, u64, NumberLaw, &'h Heap>;
+
+/// Asserts that both are equal.
+pub(crate) fn assert_same<X: PartialEq + Debug + Drop>(rt: &impl Abort, got: X, expected: X) {
+    assert_eq!(rt; got, expected);
+}
+
+/// Returns memory that grants all that is asked of it, and counts.
+pub(crate) fn counted(alloc: Global) -> Heap {
+    Refusing::new(alloc, Rule::new(0, usize::MAX, 0, 0))
+}
+
+/// Makes an empty set that has room for so many entries.
+pub(crate) fn set_with<'h>(rt: &impl Abort, heap: &'h Heap, room: usize) -> Numbers<'h> {
+    SharedSet::with_capacity(heap, room).expect(rt, "a set")
+}
+
+/// Asserts that each block that was granted was given back.
+pub(crate) fn assert_none_out(rt: &impl Abort, heap: &Heap) {
+    assert_same(rt, heap.given_back(), heap.granted());
+}
+
+/// Returns how an insert of this number ended, with the entry's number.
+pub(crate) fn told_of(ended: Inserted<'_, u64>, value: u64) -> (Told, Option<u64>) {
+    match ended {
+        Inserted::Placed(number, entry, _) if *entry == value => (Told::Placed, Some(number)),
+        Inserted::Found(number, entry, back) if *entry == value && back == value => {
+            (Told::Found, Some(number))
+        }
+        Inserted::Refused(back) if back == value => (Told::Refused, None),
+        _ => (Told::Wrong, None),
+    }
+}
+
+/// Inserts a number.
+pub(crate) fn insert(handle: &mut Numbering<'_, '_>, value: u64) -> (Told, Option<u64>)
+    ensures { handle.new.of ≡ handle.old.of }
+{
+    let ended = handle.insert(value);
+    told_of(ended, value)
+}
+
+/// Inserts a number, at most so often, until it isn't refused. Then it looks for it.
+fn place(handle: &mut Numbering<'_, '_>, value: u64, tries: u32) -> Told
+    ensures { handle.new.of ≡ handle.old.of }
+{
+    for _tried in 0..tries {
+        let told = insert(handle, value).0;
+        if told != Told::Refused {
+            let found = handle.get(&value) == Some(&value);
+            return if found { told } else { Told::Wrong };
+        }
+    }
+    Told::Refused
+}
+
+/// Inserts the numbers from one to below another, each at most so often. Returns how many were placed and how many were found.
+pub(crate) fn fill(handle: &mut Numbering<'_, '_>, from: u64, end: u64, tries: u32) -> Tally
+    ensures { handle.new.of ≡ handle.old.of }
+{
+    let mut tally = Tally::NONE;
+    for value in from..end {
+        tally = tally.with(place(handle, value, tries));
+    }
+    tally
+}
+
+/// Returns the first number from one to below another that isn't found. Returns the other if each is found.
+pub(crate) fn first_missed(handle: &mut Numbering<'_, '_>, from: u64, end: u64) -> u64 {
+    for value in from..end {
+        if handle.get(&value) != Some(&value) {
+            return value;
+        }
+    }
+    end
+}
+
+/// Asserts that the handle finds each number below this one, and not this one.
+pub(crate) fn assert_has(rt: &impl Abort, handle: &mut Numbering<'_, '_>, end: u64) {
+    assert_same(rt, first_missed(handle, 0, end), end);
+    assert_same(rt, handle.get(&end), None);
+}
+
+/// Asserts that each value below this one has a number, and is shown by it. So no two have one number.
+pub(crate) fn assert_numbered(rt: &impl Abort, handle: &mut Numbering<'_, '_>, end: u64) {
+    for value in 0..end {
+        match handle.find(&value) {
+            Some((number, entry)) => {
+                let known = *handle.known_entry(number);
+                assert_same(rt, (*entry, known), (value, value));
+                assert_same(rt, handle.entry(number), Some(&value));
+            }
+            None => assert!(rt; false, "{value} is lost"),
+        }
+    }
+}

@@ -1,0 +1,80 @@
+//! Values that count their drops: each is dropped once, by the set at its end or by whom it is returned to.
+use super::caller::{Heap, Tally, Told, assert_none_out, assert_same};
+use shared_set::{Handle, Inserted, SharedSet};
+use std::alloc::AllocError;
+use std::process::Abort;
+use std::test::Fail;
+use testkit_counting::{Counting, CountingLaw, Drops};
+use testkit_refusing::{Refusing, Rule};
+
+/// How many numbers there are.
+const NUMBERS: u64 = 300;
+
+/// For how many entries there is room at first, how many requests are refused at most, that each is drawn as one of so many, and how many
+/// values of the ended set are taken out. The others are dropped with what is left of it.
+const SETS: [(usize, u64, u64, u64); 4] = [
+    (0, 0, 1, 0),
+    (200, 0, 1, 1),
+    (0, u64::MAX, 2, 150),
+    (100, u64::MAX, 3, NUMBERS),
+];
+
+/// A set of counting values.
+type Counts<'h> = SharedSet<Counting, CountingLaw, &'h Heap>;
+
+/// Inserts the value, which may be refused some times. One that is returned is dropped here.
+fn insert(handle: &mut Handle<'_, Counting, CountingLaw, &Heap>, value: Counting) -> Told {
+    let mut value = value;
+    for _tried in 0..1000u32 {
+        match handle.insert(value) {
+            Inserted::Placed(_, _, _) => return Told::Placed,
+            Inserted::Found(_, entry, back) => {
+                let is_same = entry.number == back.number;
+                return if is_same { Told::Found } else { Told::Wrong };
+            }
+            Inserted::Refused(back) => value = back,
+        }
+    }
+    Told::Refused
+}
+
+/// Inserts a value of each number. Returns how many were placed, and how many were found and returned.
+fn insert_all(set: &Counts<'_>, values: &Drops) -> Result<Tally, AllocError> {
+    let mut handle = set.handle();
+    let mut tally = Tally::NONE;
+    for number in 0..NUMBERS {
+        tally = tally.with(insert(&mut handle, values.value(number)?));
+    }
+    Ok(tally)
+}
+
+/// Ends the set, takes so many values out, and drops what is left.
+fn end(rt: &impl Abort, set: Counts<'_>, values: &Drops, taken: u64) {
+    let mut ended = set.into_iter();
+    for dropped in 0..taken {
+        let never = NUMBERS.wrapping_sub(dropped);
+        assert_same(rt, values.never_and_once(), (never, dropped));
+        drop(ended.next());
+    }
+    drop(ended);
+    assert_same(rt, values.never_and_once(), (0, NUMBERS));
+}
+
+#[test]
+fn each_value_is_dropped_once(rt: HostRuntime) -> Result<(), Fail> {
+    for (room, refused, one_in, taken) in SETS {
+        let values = Drops::new(rt.alloc(), NUMBERS)?;
+        let copies = Drops::new(rt.alloc(), NUMBERS)?;
+        let rule = Rule::new(0, usize::MAX, 0, 0).drawn(7, one_in);
+        let heap = Refusing::new(rt.alloc(), rule);
+        let set: Counts<'_> = SharedSet::with_capacity(&heap, room)?;
+        heap.refuse(0, refused);
+        let told = [insert_all(&set, &values)?, insert_all(&set, &copies)?];
+        assert_same(&rt, told, [Tally::of(NUMBERS, 0), Tally::of(0, NUMBERS)]);
+        assert_same(&rt, copies.never_and_once(), (0, NUMBERS));
+        assert_same(&rt, values.never_and_once(), (NUMBERS, 0));
+        end(&rt, set, &values, taken);
+        assert_none_out(&rt, &heap);
+    }
+    Ok(())
+}

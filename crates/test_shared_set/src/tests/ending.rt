@@ -1,0 +1,67 @@
+//! The end of a set.
+use super::caller::{Heap, Tally, assert_none_out, assert_same, counted, fill, set_with};
+use shared_set::IntoValues;
+use std::alloc::{AllocError, Global};
+use std::process::Abort;
+use std::test::Fail;
+use table_terms::law::NumberLaw;
+use testkit_counting::numbers::count_first;
+
+/// The values of a set of numbers that has ended.
+type Ended<'h> = IntoValues<u64, NumberLaw, &'h Heap>;
+
+/// How many values a set has when it ends.
+const COUNTS: [usize; 6] = [0, 1, 7, 8, 9, 1000];
+
+/// Takes so many values, which are all. The number of those that are left is exact.
+fn take_all(
+    rt: &impl Abort,
+    alloc: Global,
+    ended: &mut Ended<'_>,
+    count: usize,
+) -> Result<Vec<u64>, AllocError> {
+    let mut values = Vec::new(alloc);
+    for taken in 0..count {
+        let left = count - taken;
+        assert_same(rt, ended.len(), left);
+        assert_same(rt, ended.size_hint(), (left, Some(left)));
+        values.push(ended.next().expect(rt, "a value"))?;
+    }
+    assert_same(rt, ended.size_hint(), (0, Some(0)));
+    assert_same(rt, (ended.next(), ended.next()), (None, None));
+    Ok(values)
+}
+
+/// Ends a set of so many values. The end asks for no memory, so it returns each value once also while all memory is refused. What handles
+/// knew is among them.
+fn assert_ends(rt: &impl Abort, alloc: Global, count: usize) -> Result<(), AllocError> {
+    let heap = counted(alloc);
+    let set = set_with(rt, &heap, 0);
+    let early = set.handle().tell();
+    let mut handle = set.handle();
+    let half = count as u64 / 2;
+    assert_same(rt, fill(&mut handle, 0, half, 1), Tally::of(half, 0));
+    let known = handle.tell();
+    drop(handle);
+    let rest = count as u64 - half;
+    let told = fill(&mut set.handle(), half, count as u64, 1);
+    assert_same(rt, told, Tally::of(rest, 0));
+    heap.refuse(0, u64::MAX);
+    let mut ended = set.into_values();
+    ended.has_all(&early);
+    ended.has_all(&known);
+    let values = take_all(rt, alloc, &mut ended, count)?;
+    drop(ended);
+    assert_same(rt, count_first(values), (count as u64, count as u64));
+    assert_same(rt, heap.refusals_left(), u64::MAX);
+    assert_none_out(rt, &heap);
+    Ok(())
+}
+
+#[test]
+fn each_value_is_returned_once(rt: HostRuntime) -> Result<(), Fail> {
+    for count in COUNTS {
+        assert_ends(&rt, rt.alloc(), count)?;
+    }
+    Ok(())
+}

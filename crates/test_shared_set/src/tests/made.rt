@@ -1,0 +1,122 @@
+//! Inserts of values that are made only if they are needed.
+use super::caller::{
+    Numbering, Told, assert_has, assert_none_out, assert_same, counted, set_with, told_of,
+};
+use shared_set::{GotOrInserted, KeyLaw, SameAs};
+use std::process::Abort;
+use table_terms::law::{NumberLaw, hash_number};
+
+/// A short number as a key of longer ones.
+#[derive(Drop)]
+struct Short {
+    number: u32,
+}
+
+impl KeyLaw<Short, u64> for NumberLaw {
+    ghost use Rattle.table_terms.specs.Laws.{same_number, number_hash, number_law};
+    ghost use Rattle.std.proofs.Common.{sym};
+
+    ghost meets = { λ k v. same_number k.number v };
+
+    ghost key_hash = { λ k. number_hash k.number };
+
+    ghost agrees = { λ k v is. sym (number_law.agrees k.number v is) };
+
+    fn is_met(key: &Short, target: &u64) -> bool {
+        u64::from(key.number) == *target
+    }
+
+    fn hash_key(key: &Short) -> u64 {
+        hash_number(u64::from(key.number))
+    }
+}
+
+/// Returns how a call ended that was to get this value or to insert it, with the entry's number.
+fn ended(told: GotOrInserted<'_, u64>, value: u64) -> (Told, Option<u64>) {
+    match told {
+        GotOrInserted::Got(number, entry) if *entry == value => (Told::Found, Some(number)),
+        GotOrInserted::Got(_number, _entry) => (Told::Wrong, None),
+        GotOrInserted::Made(inserted) => told_of(inserted, value),
+    }
+}
+
+/// Gets the entry that meets the key, or inserts this value. Returns how it ended, and whether the value was made.
+pub(crate) fn get_or_insert(
+    handle: &mut Numbering<'_, '_>,
+    key: u32,
+    value: u64,
+) -> (Told, Option<u64>, bool) {
+    let mut made = false;
+    let told = handle.get_or_insert_with(&Short { number: key }, || {
+        made = true;
+        value
+    });
+    let got = if made { value } else { u64::from(key) };
+    let (told, number) = ended(told, got);
+    (told, number, made)
+}
+
+/// Gets the entry that is the same as the value, or inserts it. Returns how it ended, with the entry's number.
+pub(crate) fn seek_or_insert(handle: &mut Numbering<'_, '_>, value: u64) -> (Told, Option<u64>) {
+    let told = handle.seek_or_insert_with(&SameAs { target: &value }, || value);
+    ended(told, value)
+}
+
+/// How many keys are looked for first.
+const MANY: u64 = 1000;
+
+/// Keys, values to insert if no entry meets them, how it ends, by which number, and whether the value is made. A value that doesn't meet
+/// its key is inserted too.
+const CASES: [(u32, u64, Told, u64, bool); 7] = [
+    (0, 0, Told::Found, 0, false),
+    (999, 7, Told::Found, 999, false),
+    (1000, 1001, Told::Placed, 1000, true),
+    (1000, 1001, Told::Found, 1000, true),
+    (1001, 1002, Told::Found, 1000, false),
+    (1000, 1000, Told::Placed, 1001, true),
+    (1000, 1002, Told::Found, 1001, false),
+];
+
+/// Places the first numbers, each as its own key.
+fn place_all(rt: &impl Abort, handle: &mut Numbering<'_, '_>) {
+    for key in 0..MANY as u32 {
+        let number = Some(u64::from(key));
+        let told = get_or_insert(handle, key, u64::from(key));
+        assert_same(rt, told, (Told::Placed, number, true));
+    }
+}
+
+#[test]
+fn a_value_is_made_only_if_no_entry_meets_the_key(rt: HostRuntime) {
+    let heap = counted(rt.alloc());
+    let set = set_with(&rt, &heap, 0);
+    let mut handle = set.handle();
+    heap.refuse(0, 1);
+    let refused = get_or_insert(&mut handle, 0, 0);
+    assert_same(&rt, refused, (Told::Refused, None, true));
+    place_all(&rt, &mut handle);
+    assert_has(&rt, &mut handle, MANY);
+    for (key, value, told, number, made) in CASES {
+        let got = get_or_insert(&mut handle, key, value);
+        assert_same(&rt, got, (told, Some(number), made));
+    }
+    drop(handle);
+    drop(set);
+    assert_none_out(&rt, &heap);
+}
+
+/// The same value is sought again while memory is refused, and then found.
+#[test]
+fn a_target_may_be_the_key(rt: HostRuntime) {
+    let heap = counted(rt.alloc());
+    let set = set_with(&rt, &heap, 0);
+    let mut handle = set.handle();
+    for (refused, expected) in [
+        (1, (Told::Refused, None)),
+        (0, (Told::Placed, Some(0))),
+        (u64::MAX, (Told::Found, Some(0))),
+    ] {
+        heap.refuse(0, refused);
+        assert_same(&rt, seek_or_insert(&mut handle, 7), expected);
+    }
+}

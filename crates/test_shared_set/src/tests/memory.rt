@@ -1,0 +1,221 @@
+//! Memory that is refused.
+use super::caller::{
+    Heap, Numbering, Numbers, Tally, Told, assert_has, assert_none_out, assert_same, counted, fill,
+    insert, set_with, told_of,
+};
+use super::made::{get_or_insert, seek_or_insert};
+use shared_set::SharedSet;
+use std::alloc::Global;
+use std::process::Abort;
+use testkit_refusing::{Refusing, Rule};
+
+/// How many numbers a run places.
+const NUMBERS: u64 = 100;
+
+/// The call by which a run inserts its numbers.
+#[derive(Clone, Copy)]
+enum By {
+    Handle,
+    Set,
+    Key,
+    Sought,
+}
+
+/// Makes a set that has room for so many entries. For none it is a new one.
+fn made<'h>(heap: &'h Heap, room: usize) -> Option<Numbers<'h>> {
+    if room == 0 {
+        return SharedSet::new(heap).ok();
+    }
+    SharedSet::with_capacity(heap, room).ok()
+}
+
+/// Makes a set that has room for so many entries, tried once more than so many requests are refused.
+fn made_at_last<'h>(
+    rt: &impl Abort,
+    heap: &'h Heap,
+    room: usize,
+    refused: u64,
+) -> Option<Numbers<'h>> {
+    for _refused in 0..refused {
+        if let Some(set) = made(heap, room) {
+            return Some(set);
+        }
+        assert_none_out(rt, heap);
+    }
+    made(heap, room)
+}
+
+/// Inserts the number by this call, and returns how it ended.
+fn insert_by(by: By, set: &Numbers<'_>, handle: &mut Numbering<'_, '_>, value: u64) -> Told {
+    match by {
+        By::Handle => insert(handle, value).0,
+        By::Set => told_of(set.insert(value), value).0,
+        By::Key => match u32::try_from(value) {
+            Ok(key) => get_or_insert(handle, key, value).0,
+            Err(_) => Told::Wrong,
+        },
+        By::Sought => seek_or_insert(handle, value).0,
+    }
+}
+
+/// Places the number, tried once more than so many requests are refused. A refused insert leaves the numbers below this one.
+fn place_at_last(
+    rt: &impl Abort,
+    by: By,
+    set: &Numbers<'_>,
+    handle: &mut Numbering<'_, '_>,
+    value: u64,
+    refused: u64,
+) {
+    for _refused in 0..refused {
+        let told = insert_by(by, set, handle, value);
+        if told == Told::Placed {
+            return;
+        }
+        assert_same(rt, told, Told::Refused);
+        assert_has(rt, handle, value);
+    }
+    assert_same(rt, insert_by(by, set, handle, value), Told::Placed);
+}
+
+/// A run in which so many requests are granted, and so many after them refused. Each number is placed, as often as it takes, and found
+/// then. Returns true if all were refused that were to be.
+fn run(rt: &impl Abort, (room, refused, by): Run, alloc: Global, granted: u64) -> bool {
+    let heap = Refusing::new(alloc, Rule::new(0, usize::MAX, granted, refused));
+    let set = made_at_last(rt, &heap, room, refused).expect(rt, "a set");
+    let mut handle = set.handle();
+    for value in 0..NUMBERS {
+        place_at_last(rt, by, &set, &mut handle, value, refused);
+    }
+    drop(handle);
+    let left = heap.refusals_left();
+    heap.refuse(0, 0);
+    let told = fill(&mut set.handle(), 0, NUMBERS, 1);
+    assert_same(rt, told, Tally::of(0, NUMBERS));
+    drop(set);
+    assert_none_out(rt, &heap);
+    left == 0
+}
+
+/// Returns how many requests can be granted before so many that follow each other are refused, in a run that asks for fewer than 200.
+fn run_each(rt: &impl Abort, alloc: Global, as_told: Run) -> u64 {
+    for granted in 0..200 {
+        if !run(rt, as_told, alloc, granted) {
+            return granted;
+        }
+    }
+    200
+}
+
+/// For how many entries there is room at first, how many requests that follow each other are refused, and the call that inserts.
+type Run = (usize, u64, By);
+
+const RUNS: [Run; 12] = [
+    (0, 1, By::Handle),
+    (0, 2, By::Handle),
+    (0, 8, By::Handle),
+    (20, 1, By::Handle),
+    (20, 2, By::Handle),
+    (20, 8, By::Handle),
+    (0, 1, By::Set),
+    (20, 2, By::Set),
+    (0, 1, By::Key),
+    (20, 2, By::Key),
+    (0, 1, By::Sought),
+    (20, 2, By::Sought),
+];
+
+#[test]
+fn each_request_refused_in_turn(rt: HostRuntime) {
+    for as_told in RUNS {
+        let turns = run_each(&rt, rt.alloc(), as_told);
+        assert!(&rt; 10 < turns && turns < 200, "{turns} turns");
+    }
+}
+
+/// Returns memory that refuses, once it is told to, what the growth of a set of so many buckets asks for: twice as many words of eight
+/// bytes.
+fn without_growth(alloc: Global, buckets: usize) -> Heap {
+    let least = buckets.saturating_mul(16);
+    Refusing::new(alloc, Rule::new(least, usize::MAX, 0, 0))
+}
+
+/// For how many entries sets have room: for so many it is a power of two, so that half of the buckets are filled.
+const ROOMS: [usize; 4] = [16, 128, 1024, 1 << 14];
+
+/// A set asks for no growth until it has as many entries as it has room for.
+#[test]
+fn a_set_of_a_capacity_does_not_grow(rt: HostRuntime) {
+    for room in ROOMS {
+        let heap = without_growth(rt.alloc(), room.saturating_mul(2));
+        let set = set_with(&rt, &heap, room);
+        heap.refuse(0, u64::MAX);
+        let mut handle = set.handle();
+        let count = room as u64;
+        assert_same(&rt, fill(&mut handle, 0, count, 1), Tally::of(count, 0));
+        assert_same(&rt, heap.refusals_left(), u64::MAX);
+        assert_same(&rt, insert(&mut handle, count).0, Told::Placed);
+        assert_same(&rt, heap.refusals_left(), u64::MAX - 1);
+        drop(handle);
+        drop(set);
+        assert_none_out(&rt, &heap);
+    }
+}
+
+/// Returns a set of 32 buckets that are all filled, since no growth was granted.
+pub(crate) fn full_set<'h>(rt: &impl Abort, heap: &'h Heap) -> Numbers<'h> {
+    let set = set_with(rt, heap, 16);
+    heap.refuse(0, u64::MAX);
+    let told = fill(&mut set.handle(), 0, 32, 1);
+    assert_same(rt, told, Tally::of(32, 0));
+    set
+}
+
+/// While no growth is granted, each bucket of a set is filled. Then a new value is returned, and each entry is found.
+#[test]
+fn a_set_that_cannot_grow_is_filled(rt: HostRuntime) {
+    let heap = without_growth(rt.alloc(), 32);
+    let set = full_set(&rt, &heap);
+    let mut handle = set.handle();
+    for _again in 0..3 {
+        assert_same(&rt, insert(&mut handle, 32), (Told::Refused, None));
+        assert_has(&rt, &mut handle, 32);
+    }
+    heap.refuse(0, 0);
+    assert_same(&rt, insert(&mut handle, 32).0, Told::Placed);
+    assert_has(&rt, &mut handle, 33);
+}
+
+/// Without memory an entry is found, by a look-up and by an insert. Neither asks for any.
+#[test]
+fn what_is_found_needs_no_memory(rt: HostRuntime) {
+    let heap = counted(rt.alloc());
+    let set = set_with(&rt, &heap, 0);
+    assert_same(&rt, fill(&mut set.handle(), 0, 50, 1), Tally::of(50, 0));
+    let granted = heap.granted();
+    heap.refuse(0, u64::MAX);
+    assert_same(&rt, fill(&mut set.handle(), 0, 50, 1), Tally::of(0, 50));
+    assert_has(&rt, &mut set.handle(), 50);
+    assert_same(&rt, heap.granted(), granted);
+    assert_same(&rt, heap.refusals_left(), u64::MAX);
+}
+
+/// For how many entries a set is to have room, and how many refusals are left then of the most: a set of 2^31 asks for memory.
+const TOO_MANY: [(usize, u64); 3] = [
+    (1 << 31, u64::MAX - 1),
+    ((1 << 31) + 1, u64::MAX),
+    (usize::MAX, u64::MAX),
+];
+
+/// A set may have room for as many entries as half of its most buckets hold, which are 2^32, and for no more.
+#[test]
+fn too_many_entries_are_refused(rt: HostRuntime) {
+    let heap = Refusing::new(rt.alloc(), Rule::new(1 << 30, usize::MAX, 0, u64::MAX));
+    for (room, left) in TOO_MANY {
+        heap.refuse(0, u64::MAX);
+        let made: Result<Numbers<'_>, _> = SharedSet::with_capacity(&heap, room);
+        assert!(rt; made.is_err());
+        assert_same(&rt, heap.refusals_left(), left);
+        assert_none_out(&rt, &heap);
+    }
+}

@@ -1,0 +1,67 @@
+//! Entries by their numbers.
+use super::caller::{
+    Numbering, Tally, Told, assert_none_out, assert_numbered, assert_same, counted, fill, insert,
+    set_with,
+};
+use std::process::Abort;
+
+/// How many values are inserted.
+const MANY: u64 = 1000;
+
+/// Inserts a new value by the first handle. Both handles then show it by its number.
+fn assert_shown(
+    rt: &impl Abort,
+    mine: &mut Numbering<'_, '_>,
+    other: &mut Numbering<'_, '_>,
+    value: u64,
+) {
+    let (told, number) = insert(mine, value);
+    assert_same(rt, told, Told::Placed);
+    let number = number.expect(rt, "a number");
+    assert_same(rt, mine.entry(number), Some(&value));
+    assert_same(rt, other.entry(number), Some(&value));
+}
+
+/// Inserts every third value by the first handle, and the others by the second.
+fn fill_by_two(rt: &impl Abort, one: &mut Numbering<'_, '_>, other: &mut Numbering<'_, '_>) {
+    for value in 0..MANY {
+        if value % 3 == 0 {
+            assert_shown(rt, one, other, value);
+        } else {
+            assert_shown(rt, other, one, value);
+        }
+    }
+}
+
+/// Numbers that no entry has.
+const NONE: [u64; 6] = [MANY + 200, MANY + 201, 1 << 20, 1 << 31, 1 << 32, u64::MAX];
+
+/// Asserts that no entry is shown by a number that nobody has.
+fn assert_no_other(rt: &impl Abort, handle: &mut Numbering<'_, '_>) {
+    for number in NONE {
+        assert_same(rt, handle.entry(number), None);
+    }
+}
+
+/// The first question comes before the first insert and others come between the inserts, or each comes after the last growth.
+#[test]
+fn each_entry_is_found_by_its_number(rt: HostRuntime) {
+    for early in [true, false] {
+        let heap = counted(rt.alloc());
+        let set = set_with(&rt, &heap, 0);
+        if early {
+            assert_same(&rt, set.handle().entry(0), None);
+            fill_by_two(&rt, &mut set.handle(), &mut set.handle());
+        } else {
+            let told = fill(&mut set.handle(), 0, MANY, 1);
+            assert_same(&rt, told, Tally::of(MANY, 0));
+            assert_same(&rt, set.handle().entry(MANY), None);
+        }
+        let mut handle = set.handle();
+        assert_numbered(&rt, &mut handle, MANY);
+        assert_no_other(&rt, &mut handle);
+        drop(handle);
+        drop(set);
+        assert_none_out(&rt, &heap);
+    }
+}

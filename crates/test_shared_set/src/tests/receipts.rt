@@ -1,0 +1,40 @@
+//! Receipts of what was placed.
+ghost use Rattle.std.specs.Prelude.{◌≡◌, ◌≢◌, IfSome};
+
+use super::caller::{Numbering, Numbers, assert_none_out, assert_same, counted};
+use shared_set::{Inserted, Receipt, SharedSet};
+
+/// Places a value. `None`: it wasn't placed.
+fn place(handle: &mut Numbering<'_, '_>, value: u64) -> Option<(u64, Receipt<u64>)>
+    ensures same { handle.new.of ≡ handle.old.of }
+    ensures set { IfSome result (λ p. p.1.slab ≡ handle.old.of.slab) }
+    ensures number { IfSome result (λ p. p.1.number ≡ p.0) }
+    ensures value { IfSome result (λ p. p.1.value ≡ value) }
+{
+    match handle.insert(value) {
+        Inserted::Placed(number, _, receipt) => Some((number, receipt)),
+        _ => None,
+    }
+}
+
+/// Places two values, and returns their numbers, which are two, and the entries of their receipts.
+fn two_receipts(set: &Numbers<'_>, a: u64, b: u64) -> Option<(u64, u64, u64, u64)>
+    ensures numbers { IfSome result (λ r. r.0 ≢ r.1) }
+    ensures entries { IfSome result (λ r. (r.2 ≡ a) × (r.3 ≡ b)) }
+{
+    let mut handle = set.handle();
+    let (m, mut one) = place(&mut handle, a)?;
+    let (n, mut other) = place(&mut handle, b)?;
+    one.apart(&mut other);
+    Some((m, n, *handle.entry_of(m, &one), *set.entry_of(n, &other)))
+}
+
+#[test]
+fn receipts_are_of_different_entries(rt: HostRuntime) {
+    let heap = counted(rt.alloc());
+    let set: Numbers<'_> = SharedSet::new(&heap).expect(&rt, "a set");
+    assert_same(&rt, two_receipts(&set, 7, 8), Some((0, 1, 7, 8)));
+    assert_same(&rt, two_receipts(&set, 9, 8), None);
+    drop(set);
+    assert_none_out(&rt, &heap);
+}

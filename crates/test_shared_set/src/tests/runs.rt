@@ -1,0 +1,120 @@
+//! Drawn runs, held against a plain list call by call.
+ghost use Rattle.std.specs.Prelude.{◌≡◌};
+
+use super::caller::{
+    Heap, Numbering, Numbers, Told, assert_none_out, assert_same, insert, set_with,
+};
+use rand_core::{Rng, SeedableRng};
+use rand_xoshiro::SplitMix64;
+use std::alloc::{AllocError, Global};
+use std::process::Abort;
+use std::test::Fail;
+use testkit_refusing::{Refusing, Rule};
+
+/// How many calls a run has.
+const CALLS: u64 = 800;
+
+/// Numbers are drawn below this one.
+const BOUND: u64 = 400;
+
+/// For how many entries there is room at first, and how many requests are refused at most, each drawn as one of four.
+const RUNS: [(usize, u64); 4] = [(0, 0), (100, 0), (0, u64::MAX), (100, u64::MAX)];
+
+/// Draws a number below `bound`; 0 if that is 0.
+fn draw(numbers: &mut SplitMix64, bound: u64) -> u64 {
+    numbers.next_u64().checked_rem(bound).unwrap_or(0)
+}
+
+/// Inserts the number into both. It may be refused where a request was, and no entry is the same.
+fn insert_into_both(
+    rt: &impl Abort,
+    heap: &Heap,
+    handle: &mut Numbering<'_, '_>,
+    list: &mut Vec<u64>,
+    number: u64,
+) -> Result<(), AllocError>
+    ensures { handle.new.of ≡ handle.old.of }
+{
+    let before = heap.refusals_left();
+    let told = insert(handle, number).0;
+    if list.contains(&number) {
+        assert_same(rt, told, Told::Found);
+    } else if told == Told::Placed {
+        list.push(number)?;
+    } else {
+        assert!(rt; told == Told::Refused && heap.refusals_left() < before);
+    }
+    Ok(())
+}
+
+/// Asserts that the handle finds the number where the list has it.
+fn assert_agrees(rt: &impl Abort, handle: &mut Numbering<'_, '_>, list: &Vec<u64>, number: u64)
+    ensures { handle.new.of ≡ handle.old.of }
+{
+    assert_same(rt, handle.contains(&number), list.contains(&number));
+}
+
+/// Makes a call of the first handle, which may learn what the other one knows.
+fn call<'s, 'h>(
+    rt: &impl Abort,
+    heap: &Heap,
+    handle: &mut Numbering<'s, 'h>,
+    other: &Numbering<'s, 'h>,
+    list: &mut Vec<u64>,
+    numbers: &mut SplitMix64,
+) -> Result<(), AllocError>
+    requires { other.now.of ≡ handle.old.of }
+    ensures { handle.new.of ≡ handle.old.of }
+{
+    let number = draw(numbers, BOUND);
+    match draw(numbers, 8) {
+        0..=4 => insert_into_both(rt, heap, handle, list, number)?,
+        5 | 6 => assert_agrees(rt, handle, list, number),
+        _ => handle.learn(other),
+    }
+    Ok(())
+}
+
+/// Makes calls of two handles, which begin when the set is empty.
+fn run(
+    rt: &impl Abort,
+    alloc: Global,
+    heap: &Heap,
+    set: &Numbers<'_>,
+    seed: u64,
+) -> Result<(), AllocError> {
+    let mut numbers = SplitMix64::seed_from_u64(seed);
+    let mut list = Vec::new(alloc);
+    let mut one = set.handle();
+    let mut other = set.handle();
+    for _call in 0..CALLS {
+        if draw(&mut numbers, 2) == 0 {
+            call(rt, heap, &mut one, &other, &mut list, &mut numbers)?;
+        } else {
+            call(rt, heap, &mut other, &one, &mut list, &mut numbers)?;
+        }
+    }
+    for number in 0..BOUND {
+        assert_agrees(rt, &mut one, &list, number);
+    }
+    drop(one);
+    drop(other);
+    assert_same(rt, set.len(), list.len() as u64);
+    Ok(())
+}
+
+#[test]
+fn drawn_runs_answer_as_a_list(rt: HostRuntime) -> Result<(), Fail> {
+    for (room, refused) in RUNS {
+        for seed in 0u64..6 {
+            let rule = Rule::new(0, usize::MAX, 0, 0).drawn(seed, 4);
+            let heap = Refusing::new(rt.alloc(), rule);
+            let set = set_with(&rt, &heap, room);
+            heap.refuse(0, refused);
+            run(&rt, rt.alloc(), &heap, &set, seed)?;
+            drop(set);
+            assert_none_out(&rt, &heap);
+        }
+    }
+    Ok(())
+}

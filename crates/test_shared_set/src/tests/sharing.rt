@@ -1,0 +1,171 @@
+//! A set of one owner becomes one that threads share.
+use super::caller::{Heap, assert_none_out, assert_same, counted};
+use shared_set::{Handle, Inserted, Partly, Share, Shared, SharedSet, Unshared};
+use std::alloc::{AllocError, Global};
+use std::process::Abort;
+use std::test::Fail;
+use table_sets::{HeldSet, Inserted as Put, OfTarget};
+use testkit_counting::{Counting, CountingLaw, Drops};
+
+/// How many values the sets have.
+const COUNTS: [u64; 6] = [0, 1, 2, 16, 17, 1000];
+
+/// A set of one owner, of boxes whose drops are counted.
+type Held<'h> = HeldSet<Box<Counting>, CountingLaw, &'h Heap>;
+
+/// The set that threads share.
+type Boxes<'h> = SharedSet<Box<Counting>, OfTarget<CountingLaw>, &'h Heap>;
+
+/// A handle of it.
+type Boxing<'s, 'h> = Handle<'s, Box<Counting>, OfTarget<CountingLaw>, &'h Heap>;
+
+/// Such a set, with what is known of it.
+type SharedBoxes<'h> = Shared<Box<Counting>, OfTarget<CountingLaw>, &'h Heap>;
+
+/// What is left of a set that could not be shared.
+type Left<'h> = Unshared<Box<Counting>, CountingLaw, OfTarget<CountingLaw>, &'h Heap>;
+
+/// Returns a set of one owner that has the numbers below this one.
+fn held<'h>(heap: &'h Heap, values: &Drops, count: u64) -> Result<Held<'h>, AllocError> {
+    let mut set: Held<'h> = HeldSet::new(heap);
+    for number in 0..count {
+        match set.insert(values.counting(number)?) {
+            Put::Placed => {}
+            Put::Found(_) | Put::Refused(_) => return Err(AllocError),
+        }
+    }
+    Ok(set)
+}
+
+/// Returns true if the handle finds the number.
+fn has(handle: &mut Boxing<'_, '_>, probes: &Drops, number: u64) -> Result<bool, AllocError> {
+    let probe = probes.counting(number)?;
+    Ok(handle.contains(&probe))
+}
+
+/// Asserts that a handle finds each number below this one, and not this one.
+fn assert_finds(
+    rt: &impl Abort,
+    alloc: Global,
+    set: &Boxes<'_>,
+    count: u64,
+) -> Result<(), AllocError> {
+    let probes = Drops::new(alloc, 0)?;
+    let mut handle = set.handle();
+    for number in 0..count {
+        assert_same(rt, has(&mut handle, &probes, number)?, true);
+    }
+    assert_same(rt, has(&mut handle, &probes, count)?, false);
+    Ok(())
+}
+
+/// Inserts what was left by a handle of the set, and returns the set.
+fn insert_left<'h>(
+    rt: &impl Abort,
+    partly: Partly<Box<Counting>, OfTarget<CountingLaw>, &'h Heap>,
+) -> Boxes<'h> {
+    let Partly {
+        shared,
+        refused,
+        rest,
+    } = partly;
+    let Shared { set, known: _ } = shared;
+    let mut handle = set.handle();
+    assert!(rt; matches!(handle.insert(refused), Inserted::Placed(_, _, _)));
+    for value in rest {
+        assert!(rt; matches!(handle.insert(value), Inserted::Placed(_, _, _)));
+    }
+    drop(handle);
+    set
+}
+
+/// Asserts that what was left has each value once, and shares it now that memory is granted.
+fn share_left<'h>(rt: &impl Abort, heap: &'h Heap, left: Left<'h>, count: u64) -> Boxes<'h> {
+    match left {
+        Unshared::Held(held) => {
+            assert_same(rt, held.len() as u64, count);
+            let Shared { set, known: _ } = held.share(heap).ok().expect(rt, "a shared set");
+            set
+        }
+        Unshared::Partly(partly) => {
+            let kept = partly.shared.set.len().wrapping_add(1);
+            assert_same(rt, kept.wrapping_add(partly.rest.len() as u64), count);
+            insert_left(rt, partly)
+        }
+    }
+}
+
+/// Returns the shared set. What was left is shared now.
+fn set_of<'h>(
+    rt: &impl Abort,
+    heap: &'h Heap,
+    told: Result<SharedBoxes<'h>, Left<'h>>,
+    count: u64,
+) -> Boxes<'h> {
+    match told {
+        Ok(shared) => {
+            let Shared { set, known: _ } = shared;
+            set
+        }
+        Err(left) => share_left(rt, heap, left, count),
+    }
+}
+
+/// Shares a set of so many values while so many requests are granted and the one after them is refused. Then each value is there once.
+/// Returns true if no request was refused.
+fn share(rt: &impl Abort, alloc: Global, count: u64, granted: u64) -> Result<bool, AllocError> {
+    let values = Drops::new(alloc, count)?;
+    let heap = counted(alloc);
+    let held = held(&heap, &values, count)?;
+    heap.refuse(granted, 1);
+    let told = held.share(&heap);
+    let whole = heap.refusals_left() == 1;
+    heap.refuse(0, 0);
+    assert_same(rt, values.never_and_once(), (count, 0));
+    let set = set_of(rt, &heap, told, count);
+    assert_finds(rt, alloc, &set, count)?;
+    assert_same(rt, (set.len(), set.is_empty()), (count, count == 0));
+    assert_same(rt, values.never_and_once(), (count, 0));
+    drop(set);
+    assert_same(rt, values.never_and_once(), (0, count));
+    assert_none_out(rt, &heap);
+    Ok(whole)
+}
+
+#[test]
+fn each_value_is_an_entry(rt: HostRuntime) -> Result<(), Fail> {
+    for count in COUNTS {
+        assert!(rt; share(&rt, rt.alloc(), count, 1 << 32)?);
+    }
+    Ok(())
+}
+
+/// How many values are shared while requests are refused.
+const NUMBERS: u64 = 300;
+
+#[test]
+fn a_refused_value_is_returned_with_the_rest(rt: HostRuntime) -> Result<(), Fail> {
+    for granted in 0..100 {
+        if share(&rt, rt.alloc(), NUMBERS, granted)? {
+            assert!(rt; granted > 5, "{granted}");
+            return Ok(());
+        }
+    }
+    assert!(rt; false);
+    Ok(())
+}
+
+/// What is left is dropped, each value once.
+#[test]
+fn what_is_left_may_be_dropped(rt: HostRuntime) -> Result<(), Fail> {
+    for granted in 0..20 {
+        let values = Drops::new(rt.alloc(), NUMBERS)?;
+        let heap = counted(rt.alloc());
+        let held = held(&heap, &values, NUMBERS)?;
+        heap.refuse(granted, u64::MAX);
+        drop(held.share(&heap));
+        assert_same(&rt, values.never_and_once(), (0, NUMBERS));
+        assert_none_out(&rt, &heap);
+    }
+    Ok(())
+}

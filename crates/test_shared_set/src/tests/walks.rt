@@ -1,0 +1,78 @@
+//! Walks over the entries.
+ghost use Rattle.std.specs.Prelude.{◌≡◌};
+
+use super::caller::{Numbers, Tally, assert_none_out, assert_same, counted, fill, set_with};
+use std::alloc::{AllocError, Global};
+use std::process::Abort;
+use std::test::Fail;
+use testkit_counting::numbers::count_first;
+
+/// How many values a walk is over, and how many there are once it has begun: none more, or eight times as many.
+const WALKS: [(u64, u64); 11] = [
+    (0, 0),
+    (1, 1),
+    (8, 8),
+    (9, 9),
+    (100, 100),
+    (1000, 1000),
+    (1, 8),
+    (8, 64),
+    (9, 72),
+    (100, 800),
+    (1000, 8000),
+];
+
+/// Walks over a set that holds the values below `first`, and inserts those from it to `many` meanwhile. Asserts that each value has its own
+/// number, and returns the values.
+fn walked(
+    rt: &impl Abort,
+    alloc: Global,
+    set: &Numbers<'_>,
+    first: u64,
+    many: u64,
+) -> Result<Vec<u64>, AllocError> {
+    let mut handle = set.handle();
+    assert_same(rt, fill(&mut handle, 0, first, 1), Tally::of(first, 0));
+    let mut values = Vec::new(alloc);
+    let mut next = first;
+    let mut walk = handle.iter();
+    while let Some((number, entry)) = walk.next() {
+        values.push(*entry)?;
+        let mut other = set.handle();
+        other.hear(&walk.tell());
+        assert_same(rt, other.find(entry), Some((number, entry)));
+        if next < many {
+            let end = next.saturating_add(7);
+            assert_same(rt, fill(&mut handle, next, end, 1), Tally::of(7, 0));
+            next = end;
+        }
+    }
+    assert_same(rt, walk.next(), None);
+    Ok(values)
+}
+
+/// Asserts that each value below this one is there once, and no other one twice.
+fn assert_once(rt: &impl Abort, mut values: Vec<u64>, first: u64) {
+    let all = values.len();
+    values.sort_unstable();
+    values.dedup();
+    assert_same(rt, values.len(), all);
+    assert!(rt; first <= count_first(values).1);
+}
+
+#[test]
+fn a_walk_returns_each_entry_once(rt: HostRuntime) -> Result<(), Fail> {
+    for (first, many) in WALKS {
+        let heap = counted(rt.alloc());
+        let set = set_with(&rt, &heap, 0);
+        let values = walked(&rt, rt.alloc(), &set, first, many)?;
+        if first == many {
+            assert_same(&rt, count_first(values), (first, first));
+        } else {
+            assert_once(&rt, values, first);
+        }
+        drop(set);
+        assert_none_out(&rt, &heap);
+    }
+    Ok(())
+}

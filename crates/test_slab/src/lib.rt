@@ -1,0 +1,5 @@
+//! Tests of slots.
+#![tactic(auto)]
+
+#[cfg(test)]
+mod tests;

@@ -1,3 +1,0 @@
-mod alone;
-mod pair;
-mod threads;
