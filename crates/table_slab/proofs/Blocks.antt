@@ -1,7 +1,7 @@
 -- Blocks of slots: room is asked of an allocator and cut into a row, and a row goes back to it as the block that it was. Assumes `Logic`.
 --     token_owns      a proof's step: what a value without bytes owns, beside its mark
 --     token_made      a proof's step: such a value is put into a local, which was empty
---     word_told, token_told      what a struct of one pointer says of itself, and a value without bytes, gives its machine values
+--     word_told       what a struct of one pointer says of itself gives its machine value
 --     goes_into       a proof's step: a `match` on a tag that is written out goes into the arm of that tag
 --     used, Unsaid, used_go      of a function that gives up all its parameters: what it has of them at its end, nothing;  and that this is lawful where the contract says nothing of what is left of them
 --     Used, used_up      the triple in which its walk ends, and how: with the result and the tokens
@@ -95,9 +95,6 @@ module _ {M : Type 1} {𝓤 : Ura M} {𝓛 : Logic 𝓤} {K : Type 0} {Γ : List
 -- ---- what a value's type says of it
 pub word_told : (p : Ptr) (vs : List Val) → shadow (Word.own_val (p, tt) vs) → vs ≡ word p ∷ []
 word_told p vs is = is.1.0 ∙ ap (λ (pointer : List Val). vstruct (of_list (pointer ++ [])) ∷ []) is.1.1.0
-
-pub token_told : (vs : List Val) → shadow (InMemory vs) → vs ≡ token_val ∷ []
-token_told vs is = is.1.0 ∙ ap (λ (fields : List Val). vstruct (of_list (fields ++ [])) ∷ []) is.1.1.0.1.0
 
 -- ---- a function that gives up all its parameters
 abbrev pub used : {n : ℕ} (ss : List (Slot n)) (ks : Kepts ss) → Stays ss ks

@@ -1,6 +1,5 @@
 -- The laws of what a history keeps of numbers. Assumes `Logic`.
 --     right_kept, standing_kept    what is known of a slot is known of its number
---     right_publishes      the right to a value, given up, shows the value for good
 --     standing_twice, standings_agree    what a number holds for good can be had twice, and is one value
 use Rattle.std.proofs.Common.{◌≡◌, ℕ, List, [], ◌∷◌, refl, sym, ap}
 use Rattle.std.specs.Prelude.{Option, Some, unwrap_or}
@@ -18,7 +17,7 @@ use Rattle.table_slab.specs.Rights.{room, written}
 use Rattle.table_slab.specs.Slabs.{SlabView}
 use Rattle.table_slab.specs.Shelved.{Spot, IsSpot, chunk, right, right_at, standing, standing_at}
 use Rattle.table_slab.proofs.Seats.{same_cell, same_name}
-use Rattle.table_slab.proofs.Tokens.{res_same, room_publishes, written_twice, written_agree}
+use Rattle.table_slab.proofs.Tokens.{res_same, written_twice, written_agree}
 
 abbrev pub code : List ℕ → Gv
 code names = (coded_option (coded_list coded_ℕ)).code (Some names)
@@ -38,10 +37,6 @@ module _ {M : Type 1} {𝓤 : Ura M} (𝓛 : Logic 𝓤) (R : RattleType) (s : S
     pub standing_kept : (x : R.Denot) → ent 𝓤 (sep 𝓤 (Has (chunk z.cell z.names)) (Has (written R z.of x))) (Has (standing R s number x))
     standing_kept x = qed 𝓛 (‵ (chunk z.cell z.names) ∷ ‵ (written R z.of x) ∷ []) ∵ nothing ! $ fpack ! (IsSpot s number z) (λ _. ftrue) is $
         move ! (2 ∷ 0 ∷ []) $ fjoin ! $ move ! (1 ∷ 0 ∷ []) $ fjoin ! $ fpack ! Spot (standing_at R s number x) z $ done !
-
-  pub right_publishes : (x : R.Denot) → ent 𝓤 (Has (right R s number (Some x))) (Has (standing R s number x))
-  right_publishes x = qed 𝓛 (‵ (right R s number (Some x)) ∷ []) ∵ fpick ! (λ z. fsplit3 ! $ move ! (2 ∷ []) $ fpick ! (λ is. drop ! $ move ! (1 ∷ []) $
-      use1 𝓛 (‵ (written R z.of x)) (room_publishes 𝓛 R z.of x) $ move ! (1 ∷ 0 ∷ []) $ by ! (standing_kept z is x)))
 
   pub standing_twice : (x : R.Denot) → ent 𝓤 (Has (standing R s number x)) (sep 𝓤 (Has (standing R s number x)) (Has (standing R s number x)))
   standing_twice x = let S : Fml = standing R s number x in qed 𝓛 (‵ S ∷ []) ∵ fpick ! (λ z. let C : Fml = chunk z.cell z.names in let W : Fml = written R z.of x in

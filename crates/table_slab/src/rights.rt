@@ -48,8 +48,8 @@ impl<T> Model for Written<T> {
     ghost also_shares = { λ w _ κ. said (written T.row w.of w.value) κ };
 }
 
-/// What is left of a right to a number that was given up: it shows that the number `number` of the slab `slab` holds `value` for good. It has no
-/// bytes, it can be sent, and there is only one for a number.
+/// What is left of a right to a number that was given up. It shows that the number `number` of the slab `slab` holds `value` for good. It
+/// has no bytes, it can be sent, and there is only one for a number.
 #[derive(Drop)]
 pub struct Receipt<T> {
     pub marker: PhantomData<T>,

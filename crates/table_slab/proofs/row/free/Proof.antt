@@ -17,7 +17,7 @@ use denote.Shadow.{pure_i}
 use denote.Signature.{types_at}
 use denote.Steps.{heard}
 use denote.Builtin.{unit}
-use denote.RawPtr.{Ptr, ptr_val}
+use denote.RawPtr.{Ptr, ptr_val, RawPtr}
 use denote.Triple.Entry.{Vals}
 use denote.Triple.Table.{framed}
 use Rattle.std.proofs.raw_atomic.Walks.{proved_at}
@@ -27,8 +27,8 @@ use Rattle.core.proofs.alloc.Calls.{Al}
 use Rattle.core.proofs.slots.Leases.{args}
 use Rattle.std_alloc.proofs.RcSteps.{word-Good}
 use Rattle.std_alloc.proofs.VecSteps.Shapes.{after}
-use Rattle.table_slab.proofs.Made.{token_val, word}
-use Rattle.table_slab.proofs.Blocks.{bytes, joined, returned, token_told, Used, used, used_go, used_up, word_told}
+use Rattle.table_slab.proofs.Made.{token_val, token_told, word}
+use Rattle.table_slab.proofs.Blocks.{bytes, joined, returned, Used, used, used_go, used_up, word_told}
 use Rattle.table_slab.specs.contracts.row.free.{ended, clauses}
 use Rattle.table_slab.specs.contracts.row.free.Key.{name as #self}
 use Rattle.table_slab.proofs.row.free.Statement.{statement}
@@ -43,7 +43,7 @@ free_spec 𝓤 𝓛 𝓜 𝓡 wired T A LT LA g d drops met gone =
     (#self (args E Z)) fn (code.unfolded 𝓤 H 𝓜 𝓡 wired (T, (A, tt)) d drops) (λ y are.
     let κs = y.0.0 in let qs = y.0.1 in let a = y.0.3 in let vss = y.0.4 in let alloc = a.0 in let p : Ptr = a.1.0.at in let n : ℕ = a.1.1.0 in let row = a.1.1.1.0 in let deed = a.1.1.1.1.0 in let κ : Lft = κs.0 in let q : Share = qs.0 in let at : ℕ × ℕ = alloc.ref_ptr in
     let Post : Val → SProp 𝓤 = (Used 𝓛 En c).post y in let Given : Vals En.signature κs → Goal 𝓤 H = λ vss. prop (WpFn 𝓤 H 𝓣.C 𝓣.Λ fn (flat (types_at params κs) vss) Post) in
-    let told : vss ≡ (vptr at.0 at.1 ∷ [], (word p ∷ [], (vint w64 n ∷ [], (token_val ∷ [], (token_val ∷ [], tt))))) = λ i. (are.0.0 i, (word_told p vss.1.0 are.1.0 i, (are.1.1.0.0 i, (token_told vss.1.1.1.0 are.1.1.1.0.0 i, (token_told vss.1.1.1.1.0 are.1.1.1.1.0.0 i, tt))))) in
+    let told : vss ≡ (vptr at.0 at.1 ∷ [], (word p ∷ [], (vint w64 n ∷ [], (token_val ∷ [], (token_val ∷ [], tt))))) = λ i. (are.0.0 i, (word_told p vss.1.0 are.1.0 i, (are.1.1.0.0 i, (token_told RawPtr vss.1.1.1.0 are.1.1.1.0.0 i, (token_told RawPtr vss.1.1.1.1.0 are.1.1.1.1.0.0 i, tt))))) in
     let Asked : Type 0 = (row.at ≡ p) × (length row.names ≡ n) × (deed.at ≡ p) × (deed.count ≡ n) × (deed.alloc ≡ alloc.now) in let Others : Item 𝓤 = ‵ (flft κs.1.0 qs.1.0) ⊛ ‵ (flft κs.1.1.0 qs.1.1.0) ⊛ ‵ ftrue in
     qed 𝓛 (((‵ (flft κ q) ⊛ Others) ⊛ ‵ (owns (types_at params κs) a vss)) ∷ raw (fact 𝓤 (κs.1.0 ⊑ T.lives)) ∷ raw (fact 𝓤 (κs.1.1.0 ⊑ A.lives)) ∷ raw (fact 𝓤 Asked) ∷ []) ∵
     move ! (3 ∷ 2 ∷ []) $ heard ! Asked (λ asked. heard ! (κs.1.1.0 ⊑ A.lives) (λ lasting. split ! $ move ! (1 ∷ []) $ fsplit3 ! $ move ! (2 ∷ []) $ fsplit3 ! $ move ! (2 ∷ []) $ fsplit ! $ fsplit ! $
