@@ -1,5 +1,6 @@
-//! Two threads tell each other what they placed while a set grows, and who was told of it finds it: proved.
+//! Threads tell each other what they placed while a set grows, and account for every value at its end: proved.
 #![tactic(auto)]
 
+pub mod accounts;
 pub mod owned;
 pub mod tell;

@@ -1,10 +1,25 @@
 //! Two threads place a number each while a set grows, a hundred times. Who was told of both finds both. Then two threads own a set together.
+//! Then three threads insert lists of numbers, and each number comes out of the set or comes back.
 #![tactic(auto)]
 
+use demo_telling::accounts::insert_lists;
 use demo_telling::owned::place_by_two;
 use demo_telling::tell::tell;
 use shared_set::SharedSet;
+use std::alloc::{AllocError, Global};
 use std::io;
+
+/// The numbers of three lists. Two lists beside each other share half of theirs.
+const LISTS: [(u64, u64); 3] = [(0, 1000), (500, 1500), (1000, 2000)];
+
+/// Returns the lists.
+fn lists(alloc: Global) -> Result<Vec<Vec<u64>>, AllocError> {
+    let mut all = Vec::new(alloc);
+    for (from, end) in LISTS {
+        all.push((from..end).collect(alloc)?)?;
+    }
+    Ok(all)
+}
 
 fn main(rt: HostRuntime) -> io::Result<()> {
     let mut told = 0u64;
@@ -20,5 +35,8 @@ fn main(rt: HostRuntime) -> io::Result<()> {
     println!(rt;
         "placed in a set that two threads own: {}",
         place_by_two(&rt, rt.alloc(), 1000)?
-    )
+    )?;
+    let outcome = insert_lists(&rt, rt.alloc(), rt.alloc(), lists(rt.alloc())?)?;
+    let (out, back) = (outcome.out.len(), outcome.back.len());
+    println!(rt; "of three lists of 1000 numbers came out: {out}, came back: {back}")
 }

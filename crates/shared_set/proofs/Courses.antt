@@ -4,14 +4,12 @@
 --     one_slab       all stages are over one slab
 --     inside         a slot with a stage is one of the chain's
 --     shown_stands   a stage that was shown stands in its slot
-use Rattle.std.proofs.Common.{◌≡◌, ◌≢◌, ℕ, zero, suc, ◌+◌, ◌<◌, ◌≤◌, ◌⊎◌, Bool, Some, refl, ap, sym, subst, ◌∙◌, arith, inl, inr}
+use Rattle.std.proofs.Common.{◌≡◌, ℕ, zero, suc, ◌<◌, ◌≤◌, Bool, Some, refl, ap, sym, subst, ◌∙◌, arith, inl, inr}
 use Rattle.std.proofs.lemmas.List.Elements.{Contains-push}
-use mathlib.Core.List.{IsPrefix}
 use Rattle.table_chain.specs.History as chain
-use Rattle.table_chain.specs.Chains.{IsOpen, IsEnd, IsShown}
+use Rattle.table_chain.specs.Chains.{IsOpen, IsShown}
 use Rattle.table_chain.specs.declared.event.Stored.TheVariants.{Shown, End}
 use Rattle.table_chain.proofs.Chained as chained
-use Rattle.table_chain.proofs.Steps.{slots_is}
 use Rattle.shared_set.specs.Stages.{StageView, Course, Begins, GrowsInto, IsRun}
 
 module _ {V : Type 0} (same : V → V → Bool) (hash : V → ℕ) where

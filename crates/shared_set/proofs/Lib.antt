@@ -8,3 +8,5 @@ mod Sizes
 pub mod Placing
 mod Walking
 mod Sharing
+mod Covered
+mod Accounting

@@ -1,5 +1,5 @@
 -- A cursor moves on to the stages that are behind its own.
-use Rattle.std.proofs.Common.{◌≡◌, ℕ, suc, ◌+◌, ◌<◌, ◌≤◌, ◌⊎◌, Bool, arith, inl, inr, sym, subst, ◌∙◌, rules}
+use Rattle.std.proofs.Common.{◌≡◌, ℕ, suc, ◌<◌, Bool, arith, inl, inr, sym, rules}
 use Rattle.std.specs.Prelude.{Option, Some, None, IsSome}
 use Rattle.std.specs.Borrow.{Bor}
 use Rattle.table_chain.specs.History as chain

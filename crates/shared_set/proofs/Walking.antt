@@ -1,8 +1,8 @@
 -- What a walk gives, one bucket after another.
-use Rattle.std.proofs.Common.{◌≡◌, ◌≢◌, cond, ℕ, ◌+◌, ◌-◌, ◌<◌, ◌≤◌, ◌⊎◌, ◌==◌, Bool, true, false, List, [], ◌∷◌, Option, Some, None, map, refl, ap, sym, subst, ◌∙◌, arith, inl, inr}
+use Rattle.std.proofs.Common.{◌≡◌, ◌≢◌, ℕ, ◌-◌, ◌<◌, ◌≤◌, ◌⊎◌, ◌==◌, Bool, List, [], ◌∷◌, Option, Some, None, refl, sym, subst, ◌∙◌, arith, inl, inr}
 use Rattle.std.specs.Prelude.{Contains, MatchOption, IfSome, count_by}
 use Rattle.std.specs.Borrow.{Bor}
-use Rattle.std.specs.Iterator.{Yields, Drains}
+use Rattle.std.specs.Iterator.{Yields}
 use Rattle.std.proofs.lemmas.Bool.{cases_Bool, eqb-true}
 use Rattle.std.proofs.lemmas.List.Elements.{Contains-append_right}
 use Rattle.std.proofs.lemmas.List.Sums.{sum_by-cons}
@@ -12,12 +12,12 @@ use native.Mathlib.Decide.{ℕ_discrete}
 use Rattle.table_numbered.specs.Words.{numbered, alike, marked}
 use Rattle.table_numbered.specs.History.{History, Stands, IsFree, IsEntry, HasSize, IsReached}
 use Rattle.table_numbered.specs.declared.event.Stored.TheVariants.{Entry}
-use Rattle.table_numbered.specs.Walking.{HasAt, IsOnlyAt}
+use Rattle.table_numbered.specs.Walking.{IsOnlyAt}
 use Rattle.table_numbered.specs.declared.event.Numbered.{Numbered}
 use Rattle.table_numbered.proofs.Apart.{first_or_other}
 use Rattle.table_numbered.proofs.Histories.{stands_on, same_value, has_inside}
 use Rattle.shared_set.specs.Known.{SharedView, KnownView}
-use Rattle.shared_set.specs.Walks.{WalkView, walk_view, IsDue, IsPassed, GoesOn, PassesNone, Gives, IsOver, ComesNext, HasEnded, Visits, WalksOn, given, AreApart, NeverTwice, GivesEntries, GivesAllOf, Begins}
+use Rattle.shared_set.specs.Walks.{WalkView, walk_view, IsDue, IsPassed, GoesOn, PassesNone, Gives, IsOver, ComesNext, HasEnded, Visits, WalksOn, given, NeverTwice, GivesEntries, GivesAllOf, Begins}
 use Rattle.shared_set.proofs.Keeping.{keeps_trans, keeps_longer}
 
 module _ {V : Type 0} where

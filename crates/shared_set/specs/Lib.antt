@@ -6,3 +6,4 @@ pub mod Walks
 pub mod Getting
 pub mod Ending
 pub mod Sharing
+pub mod Accounts

@@ -98,7 +98,7 @@ impl<V, L: SetLaw<V>, A: Low + Copy> IntoValues<V, L, A> {
     }
 
     /// Moves a cursor on to the newest stage, whose history has what the cursor knows.
-    fn reaches(&self, from: Cursor<V, L, A>)
+    pub(crate) fn reaches(&self, from: Cursor<V, L, A>)
         requires at { IsCursor L.same L.hash_of self.now.of from }
         ensures { Keeps from.entries.log self.now.history }
     {

@@ -1,6 +1,7 @@
 //! A set of values that threads share, and that grows.
 #![tactic(auto)]
 
+mod account;
 mod cursor;
 mod ending;
 mod get_or_insert;
@@ -16,6 +17,7 @@ mod share;
 mod stage;
 mod supply;
 
+pub use account::Account;
 pub use ending::IntoValues;
 pub use get_or_insert::GotOrInserted;
 pub use handle::Handle;
@@ -25,4 +27,4 @@ pub use known::Known;
 pub use set::SharedSet;
 pub use share::{Partly, Share, Shared, Unshared};
 pub use table_numbered::{KeyLaw, MetBy, SameAs, SetLaw, Sought};
-pub use table_slab::Receipt;
+pub use table_slab::{Receipt, Receipts};

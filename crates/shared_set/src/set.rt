@@ -139,7 +139,7 @@ impl<V, L: SetLaw<V>, A: Low + Copy> SharedSet<V, L, A> {
     }
 
     /// Returns a cursor at a stage that was shown.
-    fn cursor(&self) -> Cursor<V, L, A>
+    pub(crate) fn cursor(&self) -> Cursor<V, L, A>
         ensures at { IsCursor L.same L.hash_of self.now.of result }
         ensures keeps { Keeps self.now.start result.entries.log }
         ensures fresh { IsFresh self.now.start result.entries.log }

@@ -2,7 +2,8 @@
 --     right_spends     the right to a value can be given up, and kept so
 --     spent_stands     what it is kept for stands for good
 --     spents_differ    nobody has it twice
-use Rattle.std.proofs.Common.{◌≡◌, ℕ, [], ◌∷◌, refl, sym, ap}
+--     spents_split, spents_join     what is kept for a list of numbers is cut, and put together
+use Rattle.std.proofs.Common.{◌≡◌, ℕ, List, [], ◌∷◌, ◌++◌, refl, sym, ap}
 use Rattle.std.specs.Prelude.{Some}
 use seplogic.Ra.Ura.{Ura}
 use base.Logic.{SProp, ent, sep, never}
@@ -15,7 +16,8 @@ use denote.Steps.{nothing, heard}
 use Rattle.table_slab.specs.Rights.{once, mark, room, written}
 use Rattle.table_slab.specs.Slabs.{SlabView}
 use Rattle.table_slab.specs.Shelved.{Spot, IsSpot, chunk, right, standing}
-use Rattle.table_slab.specs.Spent.{spent_as, spent_room, spent_at, spent}
+use Rattle.table_slab.specs.Spent.{spent_as, spent_room, spent_at, spent, spents}
+use Rattle.table_slab.proofs.Listed.{list_split, list_join}
 use Rattle.table_slab.proofs.Seats.{same_cell, same_name}
 use Rattle.table_slab.proofs.Shelved.{standing_kept, code, one_code}
 use Rattle.table_slab.proofs.Tokens.{first, number, res_same, once_once}
@@ -60,3 +62,13 @@ module _ {M : Type 1} {𝓤 : Ura M} (𝓛 : Logic 𝓤) (R : RattleType) (s : S
       move ! (2 ∷ 0 ∷ []) $ rewrite ! 1 (λ (k : ℕ). ‵ (chunk k w.names)) (sym (same_cell a b)) refl $
       use2 𝓛 (raw (fact 𝓤 (code z.names ≡ code w.names))) (res_same 𝓛 z.cell (code z.names) (code w.names)) $ heard ! (code z.names ≡ code w.names) (λ e.
       rewrite ! 0 (λ (k : ℕ). ‵ (spent_room R k y)) (sym (same_name a b (one_code z.names w.names e))) refl $ move ! (1 ∷ 0 ∷ []) $ by ! (rooms_spent_differ 𝓛 R z.of x y))))))
+
+module _ {M : Type 1} {𝓤 : Ura M} (𝓛 : Logic 𝓤) (R : RattleType) (s : SlabView) where
+  abbrev Of : ℕ × R.Denot → Fml
+  Of e = spent R s e.0 e.1
+
+  pub spents_split : (es fs : List (ℕ × R.Denot)) → ent 𝓤 (sem 𝓛 (spents R s (es ++ fs))) (sep 𝓤 (sem 𝓛 (spents R s es)) (sem 𝓛 (spents R s fs)))
+  spents_split = list_split (spents R s) Of refl (λ e es. refl) 𝓛
+
+  pub spents_join : (es fs : List (ℕ × R.Denot)) → ent 𝓤 (sep 𝓤 (sem 𝓛 (spents R s es)) (sem 𝓛 (spents R s fs))) (sem 𝓛 (spents R s (es ++ fs)))
+  spents_join = list_join (spents R s) Of refl (λ e es. refl) 𝓛

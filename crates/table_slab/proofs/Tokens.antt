@@ -12,12 +12,13 @@ use base.Fml.{GName, Fml, fres, fown}
 use contract.Monad.{fact, fact_mono, conj_i}
 use types.Logic.{Logic, sem}
 use types.Owned.{own_glued}
-use types.Kit.{‵, raw, ◌⊛◌, ◌$◌, ◌∵◌, !, qed, by, move, keep, use1, use2, split, fsplit, fjoin, fpick, fpack, rewrite, done}
+use types.Kit.{‵, raw, ◌⊛◌, ◌$◌, ◌∵◌, !, qed, by, move, keep, use1, use2, split, fsplit, fpick, fpack, rewrite, done}
 use denote.RattleType.{RattleType}
-use denote.Steps.{nothing, heard}
+use denote.Steps.{heard}
 use Rattle.core.specs.declared.option.Option.{Option}
 use Rattle.core.specs.declared.option.Option.TheVariants.{None, Some}
 use Rattle.table_slab.specs.Rights.{once, content, mark, room, rooms, written}
+use Rattle.table_slab.proofs.Listed.{list_split, list_join}
 
 abbrev pub first : Gv → Gv
 first (gcons a b) = a
@@ -94,11 +95,7 @@ module _ {M : Type 1} {𝓤 : Ura M} (𝓛 : Logic 𝓤) where
 
   module _ (R : RattleType) where
     pub rooms_split : (γs δs : List GName) → ent 𝓤 (sem 𝓛 (rooms R (γs ++ δs))) (sep 𝓤 (sem 𝓛 (rooms R γs)) (sem 𝓛 (rooms R δs)))
-    rooms_split [] δs = qed 𝓛 (‵ (rooms R δs) ∷ []) ∵ nothing ! $ done !
-    rooms_split (γ ∷ γs) δs = qed 𝓛 (‵ (rooms R (γ ∷ γs ++ δs)) ∷ []) ∵ fsplit ! $ move ! (1 ∷ []) $ use1 𝓛 (‵ (rooms R γs) ⊛ ‵ (rooms R δs)) (rooms_split γs δs) $ split ! $
-        move ! (2 ∷ 0 ∷ []) $ fjoin ! $ done !
+    rooms_split = list_split (rooms R) (λ γ. room R γ None) refl (λ γ γs. refl) 𝓛
 
     pub rooms_join : (γs δs : List GName) → ent 𝓤 (sep 𝓤 (sem 𝓛 (rooms R γs)) (sem 𝓛 (rooms R δs))) (sem 𝓛 (rooms R (γs ++ δs)))
-    rooms_join [] δs = qed 𝓛 (‵ (rooms R []) ∷ ‵ (rooms R δs) ∷ []) ∵ keep ! (1 ∷ []) $ done !
-    rooms_join (γ ∷ γs) δs = qed 𝓛 (‵ (rooms R (γ ∷ γs)) ∷ ‵ (rooms R δs) ∷ []) ∵ fsplit ! $ move ! (1 ∷ 2 ∷ []) $ use2 𝓛 (‵ (rooms R (γs ++ δs))) (rooms_join γs δs) $
-        move ! (1 ∷ 0 ∷ []) $ fjoin ! $ done !
+    rooms_join = list_join (rooms R) (λ γ. room R γ None) refl (λ γ γs. refl) 𝓛

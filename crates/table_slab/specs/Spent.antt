@@ -1,5 +1,5 @@
 -- A right that was given up with a value in its slot. Nobody has it twice, so who keeps it knows that no other number has the slot.
-use Rattle.std.specs.Prelude.{ℕ, Some}
+use Rattle.std.specs.Prelude.{ℕ, List, [], ◌∷◌, Some}
 use base.Fml.{GName, Fml, ftrue, fsep, fex, fres, fown}
 use denote.RattleType.{RattleType}
 use Rattle.table_slab.specs.Rights.{once, mark}
@@ -22,3 +22,9 @@ module _ (R : RattleType) (s : SlabView) (number : ℕ) where
   -- the number holds x for good, and nobody has the right to it
   abbrev pub spent : R.Denot → Fml
   spent x = fex Spot (spent_at x)
+
+module _ (R : RattleType) (s : SlabView) where
+  -- the same of each of these numbers, with the value that it holds
+  abbrev pub spents : List (ℕ × R.Denot) → Fml
+  spents [] = ftrue
+  spents (e ∷ es) = fsep (spent R s e.0 e.1) (spents es)

@@ -1,9 +1,9 @@
 //! What rights, receipts and what stands for good say of each other.
 ghost use Rattle.std.specs.Prelude.{◌≡◌, ◌≢◌, ℕ};
-ghost use Rattle.table_slab.specs.Held.{IsRightTo, StandsAt};
+ghost use Rattle.table_slab.specs.Held.{IsRightTo, StandsAt, AreDistinct};
 ghost use Rattle.table_slab.specs.Slabs.{SlabView};
 
-use crate::rights::{Receipt, Room, Written};
+use crate::rights::{Receipt, Receipts, Room, Written};
 use crate::site::Site;
 use crate::slab::{Right, Standing};
 use std::alloc::Allocator;
@@ -42,6 +42,14 @@ impl<T> Receipt<T> {
         requires slab { self.old.slab ≡ _other.old.slab }
         ensures same { (self.new ≡ self.old) × (_other.new ≡ _other.old) }
         ensures apart { self.old.number ≢ _other.old.number }
+    {}
+}
+
+impl<T> Receipts<T> {
+    /// Shows that no two of the receipts are of one number.
+    pub fn apart(&mut self)
+        ensures same { self.new ≡ self.old }
+        ensures apart { AreDistinct self.old.entries }
     {}
 }
 

@@ -18,7 +18,7 @@ pub use chunk::Chunk;
 pub use ending::Ending;
 pub use laws::{rooms_apart, same_site, same_value};
 pub use numbering::{chunk_len, number_at, where_is};
-pub use rights::{Receipt, Room, Rooms, Written};
+pub use rights::{Receipt, Receipts, Room, Rooms, Written};
 pub use run::{Refused, Run};
 pub use site::{Site, hear, tell};
 pub use slab::{Right, Slab, Standing};

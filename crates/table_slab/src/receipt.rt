@@ -1,10 +1,10 @@
 //! Receipts for rights that were given up.
-ghost use Rattle.std.specs.Prelude.{◌≡◌, Some, IsSome};
+ghost use Rattle.std.specs.Prelude.{◌≡◌, ◌≤◌, ◌++◌, [], ◌∷◌, length, Some, IsSome};
 ghost use Rattle.table_slab.specs.Held.{IsRightTo, StandsAt};
 ghost use Rattle.table_slab.specs.Slabs.{IsSlot};
 
 use crate::chunk::Chunk;
-use crate::rights::{Receipt, Room, Written};
+use crate::rights::{Receipt, Receipts, Room, Written};
 use crate::site::Site;
 use crate::slab::{Right, Slab, Standing};
 use std::alloc::Allocator;
@@ -66,5 +66,61 @@ impl<T, A: Low + Copy> Slab<T, A> {
     {
         let Right { site, room } = right;
         receipt_for(self, number, site, room)
+    }
+}
+
+impl<T> Receipts<T> {
+    /// Returns the receipts of no number, of this slab.
+    pub fn none<A: Low + Copy>(_slab: &Slab<T, A>) -> Receipts<T>
+        ensures { (result.slab ≡ _slab.now) × (result.entries ≡ []) }
+    {
+        Receipts {
+            marker: PhantomData,
+        }
+    }
+
+    /// Puts a receipt behind these.
+    pub fn with(self, receipt: Receipt<T>) -> Receipts<T>
+        requires { receipt.slab ≡ self.slab }
+        ensures slab { result.slab ≡ self.slab }
+        ensures entries { result.entries ≡ self.entries ++ (receipt.number, receipt.value) ∷ [] }
+    {
+        let Receipt { marker: _ } = receipt;
+        let Receipts { marker: _ } = self;
+        Receipts {
+            marker: PhantomData,
+        }
+    }
+
+    /// Puts the other receipts behind these.
+    pub fn join(self, other: Receipts<T>) -> Receipts<T>
+        requires { other.slab ≡ self.slab }
+        ensures slab { result.slab ≡ self.slab }
+        ensures entries { result.entries ≡ self.entries ++ other.entries }
+    {
+        let Receipts { marker: _ } = other;
+        let Receipts { marker: _ } = self;
+        Receipts {
+            marker: PhantomData,
+        }
+    }
+
+    /// Returns the first `count` receipts, and the others.
+    pub fn split(self, count: usize) -> (Receipts<T>, Receipts<T>)
+        requires { count ≤ length self.entries }
+        ensures slab { (result.0.slab ≡ self.slab) × (result.1.slab ≡ self.slab) }
+        ensures entries { self.entries ≡ result.0.entries ++ result.1.entries }
+        ensures count { length result.0.entries ≡ count }
+    {
+        let Receipts { marker: _ } = self;
+        let _ = count;
+        (
+            Receipts {
+                marker: PhantomData,
+            },
+            Receipts {
+                marker: PhantomData,
+            },
+        )
     }
 }

@@ -1,11 +1,11 @@
 //! Who may write a slot, and who may read it. None of these has bytes.
 ghost use Rattle.std.specs.Prelude.{◌≡◌, ℕ, ◌<◌, ◌≤◌, List, [], ◌∷◌, ◌++◌, length, Option, Some, None, IsSome};
 ghost use denote.Sharing.{said};
-ghost use Rattle.std.specs.Coded.{coded_option, coded_list, coded_ℕ};
+ghost use Rattle.std.specs.Coded.{coded_option, coded_list, coded×, coded_ℕ};
 ghost use Rattle.table_slab.specs.Rights.{room, rooms, written};
 ghost use Rattle.table_slab.specs.Shelved.{coded_slab, standing};
 ghost use Rattle.table_slab.specs.Slabs.{SlabView};
-ghost use Rattle.table_slab.specs.Spent.{spent};
+ghost use Rattle.table_slab.specs.Spent.{spent, spents};
 
 use std::fmt;
 use std::fmt::{Debug, Formatter, Write};
@@ -62,6 +62,19 @@ impl<T> Model for Receipt<T> {
     ghost also_owns = { λ r. spent T.row r.slab r.number r.value };
 
     ghost also_shares = { λ r _ κ. said (standing T.row r.slab r.number r.value) κ };
+}
+
+/// The receipts of these numbers of the slab `slab`, with the value that each of them holds for good. No two are of one number. They have no
+/// bytes, and can be sent.
+#[derive(Drop)]
+pub struct Receipts<T> {
+    pub marker: PhantomData<T>,
+    pub ghost slab: { SlabView } by { coded_slab },
+    pub ghost entries: { List (ℕ × T) } by { coded_list (coded× coded_ℕ T.code) },
+}
+
+impl<T> Model for Receipts<T> {
+    ghost also_owns = { λ r. spents T.row r.slab r.entries };
 }
 
 impl<T> Debug for Receipt<T> {
@@ -153,3 +166,5 @@ unsafe impl<T> Sync for Written<T> {}
 unsafe impl<T> Send for Receipt<T> {}
 
 unsafe impl<T> Sync for Receipt<T> {}
+
+unsafe impl<T> Send for Receipts<T> {}

@@ -1,3 +1,4 @@
+mod accounts;
 mod alone;
 mod caller;
 mod drops;

@@ -4,3 +4,4 @@
 pub mod bench;
 pub mod check;
 pub mod program;
+pub mod set_rounds;

@@ -1,6 +1,7 @@
 //! The program, over its words and streams.
 use crate::bench::{check_all, run_bench};
 use crate::check::{Check, parse_check};
+use crate::set_rounds::run_set_rounds;
 use std::alloc::Global;
 use std::convert::AsStr;
 use std::fs::Files;
@@ -20,7 +21,7 @@ const WELL: u8 = 0;
 /// The status of a check with a fault, or of words that name none.
 const BAD: u8 = 1;
 
-const USAGE: &str = "usage: tool_checks [replays .. | stress .. | bench ..]";
+const USAGE: &str = "usage: tool_checks [replays .. | stress [set] .. | bench ..]";
 
 /// Runs the check that the words of the environment name, and answers the status. The first fault goes to `messages`.
 pub fn run_program<
@@ -57,13 +58,35 @@ fn run_check<
         Check::All => {
             let replayed = run_replays(rt, alloc, words, output, messages);
             let rounds = run_rounds(rt, alloc, words, output, messages);
+            let of_sets = status_of_rounds(run_set_rounds(rt, alloc, words, output, messages));
             let measured = status_of(check_all(rt), messages);
-            replayed.max(rounds).max(measured)
+            replayed.max(rounds).max(of_sets).max(measured)
         }
         Check::Replays => run_replays(rt, alloc, words, output, messages),
-        Check::Stress => run_rounds(rt, alloc, words, output, messages),
+        Check::Stress => run_stress(rt, alloc, words, output, messages),
         Check::Bench => status_of(run_bench(rt, words), messages),
     }
+}
+
+/// Runs rounds on a set if the first word asks for that, and else on a raw table.
+fn run_stress<R: Threads + Wait + Sync + Clock, S: AsStr, O: Write, M: Write>(
+    rt: &R,
+    alloc: Global,
+    words: &[S],
+    output: &mut O,
+    messages: &mut M,
+) -> u8 {
+    match words {
+        [of, rest @ ..] if of.as_str() == "set" => {
+            status_of_rounds(run_set_rounds(rt, alloc, rest, output, messages))
+        }
+        _ => run_rounds(rt, alloc, words, output, messages),
+    }
+}
+
+/// The status of rounds, which ended without a fault or with one.
+fn status_of_rounds(well: bool) -> u8 {
+    if well { WELL } else { BAD }
 }
 
 /// The status of measurements that ended so.

@@ -5,6 +5,8 @@
 //!                                                     of stepped calls, and of whole calls on two threads
 //!     tool_checks stress [MINUTES [FIRST-SEED]]       runs drawn rounds, in which threads give values to one table at once,
 //!                                                     and accounts for each value; it says each minute what they came to
+//!     tool_checks stress set [MINUTES [FIRST-SEED]]   runs drawn rounds, in which threads insert lists of numbers into one set;
+//!                                                     each number comes out at the set's end or comes back
 //!     tool_checks bench list                          the names of what is measured
 //!     tool_checks bench held GROUP                    the table held alone: one or seq, with a million keys, or 1e4, 1e5 or 1e7
 //!     tool_checks bench shared GROUP                  the table that threads share, by one thread: as the table held alone

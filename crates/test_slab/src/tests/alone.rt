@@ -1,41 +1,39 @@
 //! Slots that one thread holds.
-ghost use Rattle.std.specs.Prelude.{◌≡◌, length, get_or, IfOk};
+ghost use Rattle.std.specs.Prelude.{◌≡◌, length, get_or};
 
 use super::counting::Counting;
-use std::alloc::{AllocError, Global};
-use std::sync::Arc;
+use std::alloc::Global;
 use std::sync::atomic::AtomicU64;
 use std::sync::atomic::Ordering::SeqCst;
 use std::test::Fail;
 use table_slab::{Rooms, Slots, Written};
 
 /// What a test saw of a slot's values: of the one that was taken back, and what shows the one that stays.
-type Seen = (u64, Written<Counting>);
+type Seen<'d> = (u64, Written<Counting<'d>>);
 
 /// A value is written and taken back, and another is written for good.
-fn write_twice(
-    slots: &Slots<Counting, Global>,
-    rooms: Rooms<Counting>,
-    drops: &Arc<AtomicU64>,
-) -> Result<Seen, AllocError>
+fn write_twice<'d>(
+    slots: &Slots<Counting<'d>, Global>,
+    rooms: Rooms<Counting<'d>>,
+    drops: &'d AtomicU64,
+) -> Seen<'d>
     requires one { length slots.now ≡ 1 }
     requires rights { rooms.names ≡ slots.now }
-    ensures { IfOk result (λ s. s.1.of ≡ get_or slots.now 0 0) }
+    ensures { result.1.of ≡ get_or slots.now 0 0 }
 {
     let (room, _none) = rooms.first();
-    let (one, other) = (Arc::try_clone(drops)?, Arc::try_clone(drops)?);
-    let room = slots.put(0, room, Counting::new(5, one));
+    let room = slots.put(0, room, Counting::new(5, drops));
     let (back, room) = slots.take(0, room);
     let number = back.number;
-    let room = slots.put(0, room, Counting::new(6, other));
-    Ok((number, room.publish()))
+    let room = slots.put(0, room, Counting::new(6, drops));
+    (number, room.publish())
 }
 
 #[test]
 fn a_value_is_taken_back_and_one_is_taken_out(rt: HostRuntime) -> Result<(), Fail> {
-    let drops = Arc::new(rt.alloc(), AtomicU64::new(0))?;
+    let drops = AtomicU64::new(0);
     let (mut slots, rooms) = Slots::new(rt.alloc(), 1)?;
-    let (back, written) = write_twice(&slots, rooms, &drops)?;
+    let (back, written) = write_twice(&slots, rooms, &drops);
     let shown = slots.get(0, &written).number;
     let (value, _room) = slots.take_out(0, &written);
     let out = value.number;
@@ -47,9 +45,9 @@ fn a_value_is_taken_back_and_one_is_taken_out(rt: HostRuntime) -> Result<(), Fai
 
 #[test]
 fn a_value_that_lies_in_a_slot_is_not_dropped(rt: HostRuntime) -> Result<(), Fail> {
-    let drops = Arc::new(rt.alloc(), AtomicU64::new(0))?;
+    let drops = AtomicU64::new(0);
     let (slots, rooms) = Slots::new(rt.alloc(), 1)?;
-    let (_back, _written) = write_twice(&slots, rooms, &drops)?;
+    let (_back, _written) = write_twice(&slots, rooms, &drops);
     drop(slots);
     assert_eq!(rt; drops.load(SeqCst), 1);
     Ok(())

@@ -1,21 +1,20 @@
 //! A value that counts its drops.
-use std::sync::Arc;
 use std::sync::atomic::AtomicU64;
 use std::sync::atomic::Ordering::SeqCst;
 
 /// A number that counts its drops.
-pub(crate) struct Counting {
+pub(crate) struct Counting<'d> {
     pub(crate) number: u64,
-    drops: Arc<AtomicU64>,
+    drops: &'d AtomicU64,
 }
 
-impl Counting {
-    pub(crate) fn new(number: u64, drops: Arc<AtomicU64>) -> Counting {
+impl<'d> Counting<'d> {
+    pub(crate) fn new(number: u64, drops: &'d AtomicU64) -> Counting<'d> {
         Counting { number, drops }
     }
 }
 
-impl Drop for Counting {
+impl Drop for Counting<'_> {
     fn drop(self) {
         let Counting { number: _, drops } = self;
         drops.fetch_add(1, SeqCst);

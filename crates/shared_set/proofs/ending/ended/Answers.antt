@@ -1,5 +1,4 @@
-use Rattle.std.proofs.Common.{◌≡◌, ◌-◌, ◌<◌, ◌∙◌, ℕ, suc, ap, sym, arith}
-use Rattle.table_slab.specs.Slabs.{SlabView}
+use Rattle.std.proofs.Common.{◌≡◌, ◌-◌, ◌<◌, ◌∙◌, suc, ap, sym, arith}
 use Rattle.table_numbered.specs.Generations.{SetView, GenerationView}
 use Rattle.shared_set.specs.Known.{shared_view}
 use Rattle.shared_set.proofs.Ended.{first_shown, over_slab, ends_with}

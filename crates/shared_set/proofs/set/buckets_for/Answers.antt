@@ -1,4 +1,4 @@
-use Rattle.std.proofs.Common.{◌≡◌, ◌<◌, ◌≤◌, ◌^◌, ◌/◌, arith}
+use Rattle.std.proofs.Common.{arith}
 use Rattle.shared_set.proofs.Sizes.{at_most}
 use Rattle.shared_set.proofs.set.buckets_for.Goals as goal
 

@@ -25,7 +25,7 @@ use Rattle.logbook.proofs.Fields.{token, token_told}
 use Rattle.table_slab.specs.Shelved.{slab_of}
 use Rattle.table_slab.specs.Spent.{spent}
 use Rattle.table_slab.specs.contracts.rights.Receipt as Receipt
-use Rattle.table_slab.proofs.Receipts.{receipt_made}
+use Rattle.table_slab.proofs.Received.{receipt_made}
 use Rattle.table_numbered.proofs.Trades.{Happening}
 use Rattle.table_numbered.specs.declared.event.Stored.TheVariants.{Entry}
 use Rattle.std.specs.Prelude.{Some}

@@ -32,7 +32,7 @@ use Rattle.table_slab.specs.contracts.rights.Room as Room
 use Rattle.table_slab.specs.contracts.site.Site as Site
 use Rattle.table_slab.specs.contracts.slab.Slab as Slab
 use Rattle.table_slab.proofs.Made.{token_val, token_told, set_of}
-use Rattle.table_slab.proofs.Receipts.{receipt_made}
+use Rattle.table_slab.proofs.Received.{receipt_made}
 use Rattle.table_slab.proofs.Shelved.{right_kept}
 use Rattle.table_slab.proofs.Spent.{right_spends}
 use Rattle.table_slab.specs.contracts.receipt.receipt_for as f

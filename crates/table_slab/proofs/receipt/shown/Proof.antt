@@ -29,7 +29,7 @@ use Rattle.table_slab.specs.contracts.rights.Receipt as Receipt
 use Rattle.table_slab.specs.contracts.rights.Written as Written
 use Rattle.table_slab.specs.contracts.site.Site as Site
 use Rattle.table_slab.proofs.Made.{token_val, written_made, pair_in}
-use Rattle.table_slab.proofs.Receipts.{receipt_shown}
+use Rattle.table_slab.proofs.Received.{receipt_shown}
 use Rattle.table_slab.proofs.Sites.{site_made}
 use Rattle.table_slab.specs.contracts.receipt.shown as f
 use Rattle.table_slab.proofs.receipt.shown.Statement.{statement}

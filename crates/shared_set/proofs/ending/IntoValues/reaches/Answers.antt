@@ -1,4 +1,4 @@
-use Rattle.std.proofs.Common.{◌≡◌, ◌≤◌, ◌+◌, ◌∙◌, ℕ, suc, [], ap, sym, subst, refl, arith}
+use Rattle.std.proofs.Common.{◌≤◌, ◌+◌, ◌∙◌, ap, sym, subst, refl, arith}
 use base.Growing.{prefix_refl}
 use Rattle.table_numbered.specs.History.{History}
 use Rattle.table_numbered.specs.declared.event.Numbered.{Numbered}

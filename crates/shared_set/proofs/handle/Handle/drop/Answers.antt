@@ -1,4 +1,4 @@
-use Rattle.std.proofs.Common.{◌≡◌, ap, sym, subst}
+use Rattle.std.proofs.Common.{ap, sym, subst}
 use Rattle.table_slab.specs.Slabs.{SlabView}
 use Rattle.shared_set.specs.Known.{SharedSetView}
 use Rattle.shared_set.specs.Supplies.{IsSupplyOf}

@@ -1,4 +1,4 @@
-use Rattle.std.proofs.Common.{◌≡◌, ℕ, refl, sym, subst}
+use Rattle.std.proofs.Common.{ℕ, refl, sym, subst}
 use Rattle.table_chain.specs.History as chain
 use Rattle.table_chain.proofs.Chained as chained
 use Rattle.shared_set.specs.Stages.{Begins, GrowsInto}

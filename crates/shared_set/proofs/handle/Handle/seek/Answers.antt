@@ -1,6 +1,6 @@
-use Rattle.std.proofs.Common.{◌≡◌, ℕ, ap, sym, subst, ◌∙◌, refl}
+use Rattle.std.proofs.Common.{ap, sym, subst, ◌∙◌, refl}
 use Rattle.table_numbered.specs.Generations.{GenerationView, IsOf}
-use Rattle.shared_set.specs.Known.{SharedView, KnownView, known_view, KnowsMore}
+use Rattle.shared_set.specs.Known.{SharedView, known_view, KnowsMore}
 use Rattle.shared_set.proofs.Keeping.{one_set, keeps_longer, knows_trans, at_shown, at_more}
 use Rattle.shared_set.proofs.handle.Handle.seek.Goals as goal
 

@@ -1,7 +1,6 @@
-use Rattle.std.proofs.Common.{◌≡◌, ℕ, suc, ◌+◌, ◌∙◌, ap, arith, inl, inr, refl, []}
+use Rattle.std.proofs.Common.{◌≡◌, suc, arith, inl, inr, refl, []}
 use Rattle.std.proofs.lemmas.List.{append-nil}
 use base.Growing.{prefix_trans}
-use Rattle.table_chain.specs.History as chain
 use Rattle.table_chain.proofs.Chained as chained
 use Rattle.shared_set.specs.Stages.{Begins, GrowsInto}
 use Rattle.shared_set.proofs.Keeping.{keeps_trans}

@@ -1,4 +1,4 @@
-use Rattle.std.proofs.Common.{◌∙◌, sym}
+use Rattle.std.proofs.Common.{sym}
 use Rattle.table_chain.proofs.Chained as chained
 use Rattle.shared_set.specs.Stages.{Begins, GrowsInto}
 use Rattle.shared_set.proofs.Keeping.{keeps_trans, keeps_longer, seen_on, at_longer, at_more_of, one_generation}

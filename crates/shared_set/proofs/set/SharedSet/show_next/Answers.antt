@@ -1,4 +1,4 @@
-use Rattle.std.proofs.Common.{◌≡◌, ℕ, suc, ◌+◌, ◌<◌, sym, subst, arith}
+use Rattle.std.proofs.Common.{ℕ, ◌+◌, sym, subst, arith}
 use Rattle.table_chain.specs.History as chain
 use Rattle.shared_set.specs.Known.{IsSeen}
 use Rattle.shared_set.proofs.Courses.{shown_stands}

@@ -1,4 +1,4 @@
-use Rattle.std.proofs.Common.{◌≡◌, ◌<◌, ℕ, suc, ◌+◌, refl, ap, sym, subst, ◌∙◌, arith}
+use Rattle.std.proofs.Common.{◌<◌, ℕ, suc, ◌+◌, refl, subst, arith}
 use Rattle.table_chain.specs.Chains.{IsOpen}
 use Rattle.shared_set.specs.Stages.{stages}
 use Rattle.shared_set.proofs.Courses.{outside}

@@ -8,7 +8,7 @@ use Rattle.core.specs.contracts.marker.PhantomData as marker
 use Rattle.table_slab.specs.Shelved.{standing}
 use Rattle.table_slab.specs.Spent.{spent}
 use Rattle.table_slab.specs.contracts.rights.Receipt as C
-use Rattle.table_slab.proofs.Receipts.{Lends-shown}
+use Rattle.table_slab.proofs.Received.{Lends-shown}
 use Rattle.table_slab.proofs.Shelved.{standing_twice}
 use Rattle.table_slab.proofs.Shown.{good_laws}
 use Rattle.table_slab.proofs.Spent.{spent_stands}

@@ -21,7 +21,7 @@ use Rattle.table_cell.proofs.Ajar as behind
 use Rattle.table_slab.specs.Slabs.{SlabView}
 use Rattle.table_slab.specs.Spent.{spent}
 use Rattle.table_slab.specs.contracts.rights.Receipt as Receipt
-use Rattle.table_slab.proofs.Receipts.{the_receipt, apart_numbers}
+use Rattle.table_slab.proofs.Received.{the_receipt, apart_numbers}
 use Rattle.table_slab.specs.contracts.rights.Receipt.apart.{ended, clauses}
 use Rattle.table_slab.specs.contracts.rights.Receipt.apart.Key.{name as #self}
 use Rattle.table_slab.proofs.rights.Receipt.apart.Statement.{statement}

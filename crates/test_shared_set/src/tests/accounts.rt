@@ -1,0 +1,146 @@
+//! Accounts of what was placed.
+ghost use Rattle.std.specs.Prelude.{◌≡◌, IfSome, length};
+
+use super::caller::{Heap, Numbering, Numbers, assert_none_out, assert_same, counted, set_with};
+use demo_telling::accounts::insert_lists;
+use shared_set::{Account, Inserted};
+use std::alloc::{AllocError, Global};
+use std::process::Abort;
+use std::sync::Wait;
+use std::thread::Threads;
+use table_terms::law::NumberLaw;
+
+/// An account of a set of numbers.
+type Numbered<'h> = Account<u64, NumberLaw, &'h Heap>;
+
+/// How many threads insert a list each.
+const LISTS: u64 = 3;
+
+/// How many numbers a list has. Lists beside each other share half of theirs.
+const EACH: u64 = 100;
+
+/// Runs grant fewer requests than this before all are refused.
+const GRANTED: u64 = 60;
+
+/// Inserts a number, and adds its receipt to the account. Returns true if it was placed.
+fn place<'h>(handle: &mut Numbering<'_, 'h>, account: &mut Numbered<'h>, number: u64) -> bool
+    requires of { handle.old.of ≡ account.old.of }
+    ensures of { (handle.new.of ≡ handle.old.of) × (account.new.of ≡ account.old.of) }
+{
+    match handle.insert(number) {
+        Inserted::Placed(_, _, receipt) => {
+            account.add(receipt, handle);
+            true
+        }
+        _ => false,
+    }
+}
+
+/// Places three numbers. Returns the account of them.
+fn account_of_three<'h>(rt: &impl Abort, set: &Numbers<'h>) -> Numbered<'h>
+    ensures { result.of ≡ set.now.of }
+{
+    let mut handle = set.handle();
+    let mut account = set.account();
+    let first = place(&mut handle, &mut account, 7);
+    let second = place(&mut handle, &mut account, 8);
+    let third = place(&mut handle, &mut account, 9);
+    assert_same(rt, (first, second, third), (true, true, true));
+    assert_same(
+        rt,
+        (place(&mut handle, &mut account, 8), account.len()),
+        (false, 3),
+    );
+    account
+}
+
+/// Asserts that a handle that hears of the account finds the numbers 7, 8 and 9.
+fn assert_shows<'h>(rt: &impl Abort, set: &Numbers<'h>, account: &Numbered<'h>)
+    requires { account.now.of ≡ set.now.of }
+{
+    let mut handle = set.handle();
+    handle.hear(&account.known());
+    let found = (
+        handle.contains(&7),
+        handle.contains(&8),
+        handle.contains(&9),
+    );
+    assert_same(rt, found, (true, true, true));
+}
+
+/// Cuts the account, puts the parts together the other way round, and returns it.
+fn turned<'h>(rt: &impl Abort, set: &Numbers<'h>, account: Numbered<'h>) -> Option<Numbered<'h>>
+    requires { account.of ≡ set.now.of }
+    ensures { IfSome result (λ a. a.of ≡ set.now.of) }
+{
+    if account.len() < 1 {
+        return None;
+    }
+    let (one, mut others) = account.split(1);
+    assert_same(rt, (one.len(), others.len()), (1, 2));
+    others.join(set, one);
+    assert_same(rt, others.len(), 3);
+    Some(others)
+}
+
+#[test]
+fn accounts_are_cut_and_put_together(rt: HostRuntime) {
+    let heap = counted(rt.alloc());
+    let set = set_with(&rt, &heap, 0);
+    let account = account_of_three(&rt, &set);
+    let account = turned(&rt, &set, account).expect(&rt, "an account");
+    assert_shows(&rt, &set, &account);
+    let beside = set.insert(10);
+    assert!(&rt;
+        matches!(beside, Inserted::Placed(_, _, _)),
+        "a number without account"
+    );
+    drop(beside);
+    let placed = account.len();
+    let values = set.settle(account);
+    assert_same(&rt, (placed, values.len()), (3, 4));
+    drop(values);
+    assert_none_out(&rt, &heap);
+}
+
+/// Returns the lists.
+fn lists(heap: Global) -> Result<Vec<Vec<u64>>, AllocError> {
+    let mut all = Vec::new(heap);
+    for list in 0..LISTS {
+        let first = list * (EACH / 2);
+        all.push((first..first + EACH).collect(heap)?)?;
+    }
+    Ok(all)
+}
+
+/// Lets threads insert the lists into a set of which so many requests are granted. As many numbers come out or back as were handed in. Returns
+/// how many came out, or `None` if there was no memory for the set itself.
+fn run<R: Threads + Wait + Abort + Sync>(rt: &R, alloc: Global, granted: u64) -> Option<usize> {
+    let heap = counted(alloc);
+    heap.refuse(granted, u64::MAX);
+    let lists = lists(alloc).expect(rt, "lists");
+    let out = match insert_lists(rt, alloc, &heap, lists) {
+        Ok(outcome) => {
+            let came = outcome.out.len() + outcome.back.len();
+            assert_same(rt, came as u64, LISTS * EACH);
+            Some(outcome.out.len())
+        }
+        Err(_) => None,
+    };
+    assert_none_out(rt, &heap);
+    out
+}
+
+#[test]
+fn each_number_comes_out_or_back(rt: HostRuntime) {
+    let all = (LISTS + 1) * (EACH / 2);
+    let mut some: u64 = 0;
+    for granted in 0..GRANTED {
+        if let Some(out) = run(&rt, rt.alloc(), granted) {
+            assert!(&rt; out as u64 <= all, "{out} came out");
+            some = some.wrapping_add(u64::from((out as u64) < all));
+        }
+    }
+    assert!(&rt; some > 0, "memory was refused in no run");
+    assert_same(&rt, run(&rt, rt.alloc(), u64::MAX), Some(all as usize));
+}

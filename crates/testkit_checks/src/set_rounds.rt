@@ -1,0 +1,262 @@
+//! Rounds of threads on a set that threads share. Each thread inserts a list of numbers. At the end of the set each number that was handed in
+//! has come out or come back, once, no two that came out are equal, and all memory is given back.
+
+use demo_telling::accounts::{Outcome, insert_lists};
+use std::alloc::{AllocError, Global};
+use std::convert::AsStr;
+use std::fmt::{Display, Formatter};
+use std::io::Write;
+use std::rt::Clock;
+use std::thread::Threads;
+use std::time::Instant;
+use std::{fmt, io};
+use testkit_refusing::{Refusing, Rule};
+use testkit_rounds::{Fault, Kind, Round};
+
+/// The seconds of a minute.
+const MINUTE: u64 = 60;
+
+/// How many rounds run where no time is given, and how many numbers they have at most.
+const FEW: (u64, u64) = (20, 10_000);
+
+/// How many numbers the rounds have at most where a time is given.
+const LARGE: u64 = 1_000_000;
+
+/// Where memory is refused, one request in so many is, on average.
+const REFUSED_ONE_IN: u64 = 6;
+
+/// What rounds without a fault came to.
+#[derive(Clone, Copy)]
+struct Sum {
+    rounds: u64,
+    out: u64,
+    back: u64,
+    /// Rounds in which there was no memory for the set itself or for a list.
+    unmade: u64,
+}
+
+impl Display for Sum {
+    fn fmt<W: fmt::Write>(&self, f: &mut Formatter<W>) -> fmt::Result {
+        write!(
+            f,
+            "{} rounds, {} numbers came out, {} came back, {} sets without memory",
+            self.rounds, self.out, self.back, self.unmade
+        )
+    }
+}
+
+/// What rounds don't go on from.
+#[derive(Debug, Drop)]
+enum Stop {
+    /// A round had a fault.
+    Fault(Round, Fault),
+    /// There is no clock, or the output takes nothing.
+    Io(io::Error),
+}
+
+impl From<io::Error> for Stop {
+    fn from(error: io::Error) -> Stop {
+        Stop::Io(error)
+    }
+}
+
+impl Display for Stop {
+    fn fmt<W: fmt::Write>(&self, f: &mut Formatter<W>) -> fmt::Result {
+        match self {
+            Stop::Fault(round, fault) => write!(f, "{round:?}: {fault}"),
+            Stop::Io(error) => write!(f, "{error}"),
+        }
+    }
+}
+
+/// Runs the rounds that the words ask for: for how many minutes, and the seed of the first round. Without words a few small rounds run. Returns
+/// false after the first fault, which goes to `messages` with its round, and for words that are no numbers.
+pub fn run_set_rounds<R: Threads + Clock + Sync, S: AsStr, O: Write, M: Write>(
+    rt: &R,
+    alloc: Global,
+    words: &[S],
+    output: &mut O,
+    messages: &mut M,
+) -> bool {
+    let Some((minutes, first_seed)) = plan_of(words) else {
+        let _ = writeln!(
+            messages,
+            "usage: tool_checks stress set [MINUTES [FIRST-SEED]]"
+        );
+        return false;
+    };
+    match run_each(rt, alloc, minutes, first_seed, output) {
+        Ok(sum) => writeln!(
+            output,
+            "{} rounds on a set: each number is accounted for",
+            sum.rounds
+        )
+        .is_ok(),
+        Err(stop) => {
+            let _ = writeln!(messages, "{stop}");
+            false
+        }
+    }
+}
+
+/// Reads for how many minutes rounds run, if a time is given, and the first seed.
+fn plan_of<S: AsStr>(words: &[S]) -> Option<(Option<u64>, u64)> {
+    match words {
+        [] => Some((None, 0)),
+        [minutes] => Some((Some(number_of(minutes)?), 0)),
+        [minutes, seed] => Some((Some(number_of(minutes)?), number_of(seed)?)),
+        _ => None,
+    }
+}
+
+/// Reads a number.
+fn number_of<S: AsStr>(word: &S) -> Option<u64> {
+    word.as_str().parse::<u64>().ok()
+}
+
+/// Runs rounds until their time is over, and writes every minute what they came to.
+fn run_each<R: Threads + Clock + Sync, O: Write>(
+    rt: &R,
+    alloc: Global,
+    minutes: Option<u64>,
+    first_seed: u64,
+    output: &mut O,
+) -> Result<Sum, Stop> {
+    let start = Instant::now(rt)?;
+    let most = if minutes.is_some() { LARGE } else { FEW.1 };
+    let mut sum = Sum {
+        rounds: 0,
+        out: 0,
+        back: 0,
+        unmade: 0,
+    };
+    let mut told = 0;
+    for seed in first_seed..u64::MAX {
+        let passed = start.elapsed(rt)?.as_secs() / MINUTE;
+        if told < passed {
+            writeln!(output, "minute {passed}: {sum}")?;
+            told = passed;
+        }
+        if is_over(minutes, sum.rounds, passed) {
+            break;
+        }
+        let round = Round::drawn(seed, most);
+        match run_round(rt, alloc, round) {
+            Ok(outcome) => sum = with(sum, outcome),
+            Err(fault) => return Err(Stop::Fault(round, fault)),
+        }
+    }
+    Ok(sum)
+}
+
+/// Returns true if no more rounds begin.
+fn is_over(minutes: Option<u64>, rounds: u64, passed: u64) -> bool {
+    match minutes {
+        Some(most) => most <= passed,
+        None => FEW.0 <= rounds,
+    }
+}
+
+/// Adds a round: how many numbers came out and how many came back, or none if there was no memory for the set.
+fn with(sum: Sum, outcome: Option<(u64, u64)>) -> Sum {
+    let (out, back) = outcome.unwrap_or((0, 0));
+    Sum {
+        rounds: sum.rounds.saturating_add(1),
+        out: sum.out.saturating_add(out),
+        back: sum.back.saturating_add(back),
+        unmade: sum.unmade.saturating_add(u64::from(outcome.is_none())),
+    }
+}
+
+/// Runs a round, and accounts for each number. Returns how many came out and how many came back.
+fn run_round<R: Threads + Sync>(
+    rt: &R,
+    alloc: Global,
+    round: Round,
+) -> Result<Option<(u64, u64)>, Fault> {
+    let heap = Refusing::new(alloc, rule_of(round));
+    let lists = lists_of(alloc, round)?;
+    let mut left = count_each(alloc, round, &lists)?;
+    let came = match insert_lists(rt, alloc, &heap, lists) {
+        Ok(outcome) => Some(account_for(alloc, &mut left, &outcome)?),
+        Err(_) => None,
+    };
+    if heap.granted() != heap.given_back() {
+        return Err(Fault::Blocks);
+    }
+    Ok(came)
+}
+
+/// Which requests for the set's memory are refused.
+fn rule_of(round: Round) -> Rule {
+    let refused = match round.kind {
+        Kind::Refused => u64::MAX,
+        _ => 0,
+    };
+    Rule::new(0, usize::MAX, 0, refused).drawn(round.seed, REFUSED_ONE_IN)
+}
+
+/// Returns the first number of a thread's list.
+fn first_of(round: Round, thread: u64) -> u64 {
+    match round.kind {
+        Kind::Equal => 0,
+        _ => thread.wrapping_mul(round.each / 2),
+    }
+}
+
+/// Returns a list for each thread. Two lists beside each other share half of their numbers, or all lists are the same.
+fn lists_of(alloc: Global, round: Round) -> Result<Vec<Vec<u64>>, AllocError> {
+    let mut lists = Vec::new(alloc);
+    for thread in 0..round.threads {
+        let first = first_of(round, thread);
+        lists.push((first..first.saturating_add(round.each)).collect(alloc)?)?;
+    }
+    Ok(lists)
+}
+
+/// Returns how often each number was handed in.
+fn count_each(alloc: Global, round: Round, lists: &[Vec<u64>]) -> Result<Vec<u64>, AllocError> {
+    let mut counts = Vec::new(alloc);
+    counts.resize(round.values() as usize, 0)?;
+    for list in lists {
+        count_list(&mut counts, list);
+    }
+    Ok(counts)
+}
+
+/// Counts the numbers of a list.
+fn count_list(counts: &mut [u64], list: &[u64]) {
+    for number in list {
+        if let Some(count) = counts.get_mut(*number as usize) {
+            *count = count.saturating_add(1);
+        }
+    }
+}
+
+/// Accounts for each number that was handed in. Returns how many came out and how many came back.
+fn account_for(
+    alloc: Global,
+    left: &mut [u64],
+    outcome: &Outcome<u64>,
+) -> Result<(u64, u64), Fault> {
+    let mut seen = Vec::new(alloc);
+    seen.resize(left.len(), 1)?;
+    take_each(&mut seen, &outcome.out).map_err(Fault::Equal)?;
+    take_each(left, &outcome.out).map_err(Fault::Unknown)?;
+    take_each(left, &outcome.back).map_err(Fault::Unknown)?;
+    match left.iter().position(|count| *count > 0) {
+        Some(number) => Err(Fault::Lost(number as u64)),
+        None => Ok((outcome.out.len() as u64, outcome.back.len() as u64)),
+    }
+}
+
+/// Takes each number from what is left of it. `Err`: nothing is left of this number.
+fn take_each(left: &mut [u64], numbers: &[u64]) -> Result<(), u64> {
+    for number in numbers {
+        match left.get_mut(*number as usize) {
+            Some(count) if *count > 0 => *count -= 1,
+            _ => return Err(*number),
+        }
+    }
+    Ok(())
+}
