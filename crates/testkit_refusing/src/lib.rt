@@ -5,6 +5,7 @@
 ghost use Rattle.std.specs.Prelude.{◌≡◌, ◌↔◌, IsTrue};
 ghost use Rattle.testkit_refusing.specs.Rules.{least_counted, most_counted, Counts, memory_of, rule_of};
 
+pub mod handover;
 mod lot;
 mod pairs;
 mod turns;

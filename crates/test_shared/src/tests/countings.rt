@@ -6,13 +6,11 @@ use std::process::Abort;
 use std::sync::Wait;
 use testkit_counting::asked::Lawful;
 use testkit_counting::{Counting, Drops};
+use testkit_refusing::handover::MOST_LOOKS;
 use testkit_refusing::{Refusing, Rule};
 
 /// How many bytes the block of an entry has. No other request is that small in a table of `CAPACITY` buckets.
 const BLOCK: usize = 16;
-
-/// How often a request looks for the other one of its pair.
-const LOOKS: u64 = 1 << 27;
 
 /// A first capacity at which a round needs no growth.
 const CAPACITY: usize = 1024;
@@ -39,7 +37,10 @@ impl<'m> Counted<'m> {
 
 /// Memory of which the first block of an entry is refused, and the next ones are granted in so many pairs.
 pub(crate) fn paired(alloc: Global, pairs: u64) -> Refusing<Global> {
-    Refusing::new(alloc, Rule::new(BLOCK, BLOCK, 0, 1).paired(pairs, LOOKS))
+    Refusing::new(
+        alloc,
+        Rule::new(BLOCK, BLOCK, 0, 1).paired(pairs, MOST_LOOKS),
+    )
 }
 
 /// A table that has its first generation and no entry: the block of this value was refused.

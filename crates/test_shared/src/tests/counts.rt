@@ -1,6 +1,5 @@
 //! What the count of a table says while threads insert, and what they are told where a generation is full.
 use super::numbers::{Boxed, Inserts, Numbers, Told, assert_same, assert_told, walk_length};
-use super::waits::look_for;
 use std::alloc::Global;
 use std::process::Abort;
 use std::sync::Wait;
@@ -11,21 +10,16 @@ use table_terms::law::hash_number;
 use testkit_counting::asked::{Asked, Lawful};
 use testkit_counting::numbers::{fill, fill_at_once, seen, those_below};
 use testkit_counting::tally::{Tally, Work, at_once};
+use testkit_refusing::handover::{MOST_LOOKS, QUIET_LOOKS, look_for};
 use testkit_refusing::{Refusing, Rule};
 
 /// How many bytes the block of an entry has; all else that a table asks for is more.
 const BLOCK: usize = 16;
 
-/// How often a request looks for the other one of its pair, and a thread for what another one says.
-const LOOKS: u64 = 1 << 27;
-
 /// How many numbers two threads insert in a round, and how many rounds there are.
 const NUMBERS: u64 = 260;
 
 const ROUNDS: u64 = 20;
-
-/// How often a thread looks while another one waits for memory.
-const QUIET_LOOKS: u64 = 20_000;
 
 /// Memory of which growth asks one allocator, and entries ask another one above it.
 type Memory<'m> = Refusing<&'m Refusing<Global>>;
@@ -104,7 +98,10 @@ fn offer_all<R: Threads + Wait + Sync>(
 fn assert_meets<R: Abort + Threads + Wait + Sync>(rt: &R, alloc: Global, meeting: &Meeting) {
     let pairs = meeting.pairs.len() as u64;
     let growth = Refusing::new(alloc, Rule::new(BLOCK + 1, usize::MAX, 0, 0));
-    let heap = Refusing::new(&growth, Rule::new(BLOCK, BLOCK, 0, 1).paired(pairs, LOOKS));
+    let heap = Refusing::new(
+        &growth,
+        Rule::new(BLOCK, BLOCK, 0, 1).paired(pairs, MOST_LOOKS),
+    );
     let table: Boxed<&Memory<'_>> = Boxed::new(&heap, alloc, meeting.lawful);
     assert_told(rt, &table, 0, Told::Refused);
     assert_same(rt, seen(&table, 0), those_below(0));
@@ -211,7 +208,10 @@ impl<'m> Work for Looked<'m> {
 
 #[test]
 fn an_entry_is_counted_once_it_is_there(rt: HostRuntime) {
-    let heap = Refusing::new(rt.alloc(), Rule::new(BLOCK, BLOCK, 0, 1).paired(1, LOOKS));
+    let heap = Refusing::new(
+        rt.alloc(),
+        Rule::new(BLOCK, BLOCK, 0, 1).paired(1, MOST_LOOKS),
+    );
     let looked = Looked {
         table: Boxed::new(&heap, rt.alloc(), Lawful::Spread),
         begun: AtomicU64::new(0),
@@ -256,7 +256,7 @@ impl Watched {
     /// Looks until both are done: how often the count was above that of a later walk, or the number 0 was missed.
     fn watch(&self) -> u64 {
         let mut missed = 0u64;
-        for _look in 0..LOOKS {
+        for _look in 0..MOST_LOOKS {
             let [counted, shown, _] = self.table.size();
             if shown < counted || !self.table.contains(0) {
                 missed = missed.wrapping_add(1);

@@ -3,6 +3,7 @@ use super::numbers::assert_same;
 use std::alloc::{AllocError, Allocator, Global};
 use std::sync::atomic::{AtomicU64, Ordering};
 use std::thread;
+use testkit_refusing::handover::MOST_LOOKS;
 use testkit_refusing::{Refusing, Rule};
 
 /// How many requests a lot is asked about.
@@ -19,9 +20,6 @@ const LOTS: [(u64, u64, u64, u64); 5] = [
 
 /// How many requests meet another one.
 const PAIRS: u64 = 200;
-
-/// How often a request looks for its other one.
-const LOOKS: u64 = 1 << 27;
 
 /// Whether a request of so many bytes is granted. The block is given back.
 fn grants<A: Allocator + Copy>(alloc: A, bytes: usize) -> bool {
@@ -120,7 +118,7 @@ fn asks_in_pairs(heap: &Refusing<Global>, said: &AtomicU64, other: &AtomicU64) -
 
 #[test]
 fn neither_of_a_pair_is_answered_first(rt: HostRuntime) {
-    let heap = Refusing::new(rt.alloc(), Rule::new(8, 8, 0, 0).paired(PAIRS, LOOKS));
+    let heap = Refusing::new(rt.alloc(), Rule::new(8, 8, 0, 0).paired(PAIRS, MOST_LOOKS));
     let one = AtomicU64::new(0);
     let other = AtomicU64::new(0);
     let met = thread::join(

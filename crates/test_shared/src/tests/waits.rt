@@ -3,12 +3,12 @@ use super::numbers::{Boxed, Inserts, assert_same};
 use std::alloc::Global;
 use std::process::Abort;
 use std::sync::Wait;
-use std::sync::atomic::{AtomicU64, Ordering};
 use std::thread::Threads;
 use table_terms::law::hash_number;
 use testkit_counting::asked::{Asked, Lawful};
 use testkit_counting::numbers::{Told, fill, seen, those_below};
 use testkit_counting::tally::{Tally, Work, at_once};
+use testkit_refusing::handover::Handover;
 
 /// The first number by which a table grows that has all below it.
 const GROWS: u64 = 7;
@@ -16,38 +16,17 @@ const GROWS: u64 = 7;
 /// How often the tables are grown so.
 const ROUNDS: u64 = 20;
 
-/// How often a thread looks for what another one says, and how often it looks in vain, so that the other one comes to the
-/// lock.
-const LOOKS: u64 = 1 << 27;
-
-const QUIET_LOOKS: u64 = 20_000;
-
 /// A table, and what the two threads say: that one copies, and that the other one is about to insert.
 #[derive(Drop)]
 struct Growing {
     table: Boxed<Global>,
-    copies: AtomicU64,
-    inserts: AtomicU64,
-}
-
-/// Looks until the sign is there.
-pub(crate) fn look_for(sign: &AtomicU64) {
-    for _look in 0..LOOKS {
-        if sign.load(Ordering::SeqCst) == 1 {
-            break;
-        }
-    }
+    signs: Handover,
 }
 
 /// The growth is told the hash of a number once the other thread has had the time to come to the lock.
 impl Asked for Growing {
     fn hash(&self, number: u64) -> u64 {
-        if self.copies.swap(1, Ordering::SeqCst) == 0 {
-            look_for(&self.inserts);
-            for _look in 0..QUIET_LOOKS {
-                let _sign = self.inserts.load(Ordering::SeqCst);
-            }
-        }
+        self.signs.hand_over();
         hash_number(number)
     }
 }
@@ -55,8 +34,7 @@ impl Asked for Growing {
 impl Growing {
     /// Inserts the next number while the other thread copies.
     fn insert_meanwhile<R: Wait>(&self, rt: &R) -> Told {
-        look_for(&self.copies);
-        self.inserts.store(1, Ordering::SeqCst);
+        self.signs.take_over();
         self.table.insert(rt, GROWS.wrapping_add(1))
     }
 }
@@ -75,8 +53,7 @@ impl Work for Growing {
 fn assert_waits<R: Abort + Threads + Wait + Sync>(rt: &R, alloc: Global) {
     let growing = Growing {
         table: Boxed::new(alloc, alloc, Lawful::Spread),
-        copies: AtomicU64::new(0),
-        inserts: AtomicU64::new(0),
+        signs: Handover::new(),
     };
     assert_same(rt, fill(rt, &growing.table, 0..GROWS), Tally::of(GROWS, 0));
     assert_same(rt, at_once(rt, alloc, 2, &growing), Tally::of(2, 0));

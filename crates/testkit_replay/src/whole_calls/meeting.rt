@@ -15,18 +15,13 @@ use crate::whole_calls::whole::{Inside, Lock, Whole, run_alone, run_plan};
 use crate::whole_calls::{Plan, Tops, follow, told_in};
 use std::alloc::Global;
 use std::sync::Wait;
-use std::sync::atomic::{AtomicU64, Ordering};
 use std::thread;
 use std::thread::Threads;
+use testkit_refusing::handover::{Handover, MOST_LOOKS};
 use testkit_refusing::{Refusing, Rule};
 
 /// How many bytes the block of an entry has. No request for a generation is that small.
 pub(crate) const BLOCK: usize = 16;
-
-/// How often a thread looks for the other one, and how often the growth looks in vain, so that the other one comes to the lock.
-const LOOKS: u64 = 1 << 27;
-
-const QUIET_LOOKS: u64 = 20_000;
 
 /// Where two calls meet.
 #[derive(Clone, Copy, PartialEq)]
@@ -56,53 +51,11 @@ impl Meeting {
     }
 }
 
-/// What two threads tell one another: that a growth asks for hashes, and that the second call begins.
-#[derive(Drop)]
-struct Signs {
-    copies: AtomicU64,
-    begins: AtomicU64,
-}
-
-impl Signs {
-    /// Neither is told yet.
-    fn new() -> Signs {
-        Signs {
-            copies: AtomicU64::new(0),
-            begins: AtomicU64::new(0),
-        }
-    }
-
-    /// Where the growth first asks for a hash: it goes on once the second call has begun, and had time to come to the lock.
-    fn hand_over(&self) {
-        if self.copies.swap(1, Ordering::SeqCst) == 0 {
-            look_for(&self.begins);
-            for _look in 0..QUIET_LOOKS {
-                let _begun = self.begins.load(Ordering::SeqCst);
-            }
-        }
-    }
-
-    /// Before the second call begins.
-    fn take_over(&self) {
-        look_for(&self.copies);
-        self.begins.store(1, Ordering::SeqCst);
-    }
-}
-
-impl Inside for Signs {
-    /// Where a growth asks for a hash.
+impl Inside for Handover {
+    /// Hands over where a growth first asks for a hash.
     fn run<R: Wait>(&self, _whole: &Whole<'_, '_, '_, R>, lock: Lock) {
         if lock == Lock::Alone {
             self.hand_over();
-        }
-    }
-}
-
-/// Looks until the sign is there.
-fn look_for(sign: &AtomicU64) {
-    for _look in 0..LOOKS {
-        if sign.load(Ordering::SeqCst) == 1 {
-            break;
         }
     }
 }
@@ -111,7 +64,7 @@ fn look_for(sign: &AtomicU64) {
 #[derive(Clone, Copy)]
 struct Place<'w, 'm> {
     ground: Ground<'w, 'm>,
-    signs: &'w Signs,
+    signs: &'w Handover,
 }
 
 impl<'w, 'm> Place<'w, 'm> {
@@ -197,9 +150,9 @@ pub fn run_meeting<R: Threads + Wait + Sync>(
 ) -> Result<Vec<(u64, Said)>, Fault>
     requires { IsFirstCapacity first }
 {
-    let memory = Refusing::new(alloc, meeting.rule().paired(meeting.pairs(), LOOKS));
+    let memory = Refusing::new(alloc, meeting.rule().paired(meeting.pairs(), MOST_LOOKS));
     let table = new_table(&memory, first);
-    let signs = Signs::new();
+    let signs = Handover::new();
     let place = Place {
         ground: Ground::new(alloc, first, &memory, &table),
         signs: &signs,
