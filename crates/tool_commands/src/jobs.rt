@@ -3,12 +3,13 @@ ghost use Rattle.std.specs.Prelude.{◌≡◌, ◌<◌, ◌≤◌, IfOk, IfErr};
 ghost use Rattle.tool_call_texts.specs.Faults.{IsStartFault, IsJobFault};
 ghost use Rattle.tool_call_texts.specs.Stress.{entries_of};
 
-use crate::gate::{Gate, no_thread};
+use crate::gate::Gate;
+use crate::joining::{join_all, keep};
 use crate::workers::{ValueTable, Worker, insert_all, look_all};
 use std::alloc::Allocator;
 use std::sync::Wait;
 use std::thread;
-use std::thread::{Builder, JoinHandle, Threads};
+use std::thread::{Builder, Threads};
 use tool_call_texts::endings::Ending;
 use tool_call_texts::faults::Fault;
 use tool_call_texts::job::Job;
@@ -112,25 +113,11 @@ fn start_workers<
                     .spawn_scoped(scope, move || -> Ending {
                         work(rt, alloc, gate, table, worker, part)
                     });
-                let Ok(handle) = started else {
-                    return Err(no_thread(gate));
-                };
-                let Ok(()) = workers.push(handle) else {
-                    return Err(Fault::Stream(StreamFault::NoMemory));
-                };
+                keep(&mut workers, started, gate)?;
             }
             Ok(join_all(rt, workers))
         },
     )
-}
-
-/// Waits for these workers, and returns their joint ending.
-fn join_all<R: Threads, A: Allocator>(rt: &R, workers: Vec<JoinHandle<Ending>, A>) -> Ending {
-    let mut all = Ending::Well;
-    for worker in workers {
-        all = all.and(worker.join(rt));
-    }
-    all
 }
 
 /// Runs the worker's part of its job.

@@ -4,6 +4,7 @@
 pub mod calls;
 pub mod gate;
 pub mod jobs;
+mod joining;
 mod lines;
 pub mod pairs;
 pub mod program;

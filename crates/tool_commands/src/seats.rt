@@ -4,14 +4,15 @@ ghost use Rattle.seated.specs.Tables.{IsSeatOf};
 ghost use Rattle.seated.specs.Numbers.{own_numbers};
 ghost use Rattle.tool_call_texts.specs.Faults.{IsStartFault, IsThreadFault};
 
-use crate::gate::{Gate, no_thread};
+use crate::gate::Gate;
+use crate::joining::{Joined, join_all, keep};
 use seated::{NumberAnswer, NumberTable, Seat};
 use std::alloc::Allocator;
 use std::io::Write;
 use std::num::NonZeroU64;
 use std::sync::Wait;
 use std::thread;
-use std::thread::{Builder, JoinHandle, Threads};
+use std::thread::{Builder, Threads};
 use tool_call_texts::faults::Fault;
 use tool_streams::faults::StreamFault;
 
@@ -41,6 +42,12 @@ impl Tally {
             full: 0,
             is_stuck: false,
         }
+    }
+}
+
+impl Joined for Tally {
+    fn none() -> Tally {
+        Tally::nothing()
     }
 
     /// Adds two tallies. A count stops at the greatest number.
@@ -129,25 +136,11 @@ fn start_workers<R: Threads + Wait, A: Allocator + Copy + Send + Sync, G: Gate +
                         requires { IsSeatOf table.now own }
                     { work(gate, worker, table, own).1 },
                 );
-                let Ok(handle) = started else {
-                    return Err(no_thread(gate));
-                };
-                let Ok(()) = workers.push(handle) else {
-                    return Err(Fault::Stream(StreamFault::NoMemory));
-                };
+                keep(&mut workers, started, gate)?;
             }
             Ok(join_all(rt, workers))
         },
     )
-}
-
-/// Waits for these workers, and returns the sum of their results.
-fn join_all<R: Threads, A: Allocator>(rt: &R, workers: Vec<JoinHandle<Tally>, A>) -> Tally {
-    let mut all = Tally::nothing();
-    for worker in workers {
-        all = all.and(worker.join(rt));
-    }
-    all
 }
 
 /// Inserts the numbers from 1 to one more than the table holds, in order, as long as the gate lets it. Returns the seat and the
