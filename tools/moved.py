@@ -1,11 +1,11 @@
 #!/usr/bin/env python3
-"""Tries what must not compile since it uses a value again that a call took.
+"""Tries what must not compile since it uses a value again that a call took, or changes what is only shared.
 
     tools/moved.py
 
-A trial is a file crates/NAME/moved/WHAT.edit, in the form of an edit that must fail. It changes a test so that it uses such a value
-again. A copy with it is compiled, and the compiler has to say 'use of moved value' there. The last line is `N passed, M failed`: of N
-trials it says that. The status is 0 only where M is 0.
+A trial is a file crates/NAME/moved/WHAT.edit, in the form of an edit that must fail. It changes a test so that it does so. A copy with it
+is compiled, and the compiler has to say one of `SAID` there. The last line is `N passed, M failed`: of N trials it says that. The status is
+0 only where M is 0.
 """
 import argparse
 import pathlib
@@ -18,7 +18,7 @@ sys.dont_write_bytecode = True
 from modules.crates import TOP
 from modules.edit_files import BadEdit, read_edit
 
-SAID = "use of moved value"
+SAID = ("use of moved value", "as mutable, as it is behind a `&` reference")
 
 
 def copy_to(room):
@@ -40,7 +40,7 @@ def said_of(room, trial):
         (folder / file).write_text(text)
     lines = (ran.stdout + ran.stderr).splitlines()
     places = [f"{file}:{at + 1}:" for file, at in edit.lines]
-    refused = [line for line in lines if SAID in line and line.startswith(tuple(places))]
+    refused = [line for line in lines if any(said in line for said in SAID) and line.startswith(tuple(places))]
     return next(iter(refused), None), (lines or ["it said nothing"])[-1]
 
 

@@ -44,7 +44,7 @@ impl<V, L: SetLaw<V>, A: Low + Copy> Model for IntoValues<V, L, A> {
 /// Closes the chain, and ends its newest generation.
 fn ended<V, L: SetLaw<V>, A: Low + Copy>(
     slab: Ending<V, A>,
-    chain: Chain<Stage<V, L, A>, Grows<V, L, A>, A>,
+    mut chain: Chain<Stage<V, L, A>, Grows<V, L, A>, A>,
 ) -> IntoValues<V, L, A>
     requires shared { (start : _) × IsShared L.same L.hash_of chain slab.slab start }
     requires left { (k : ℕ) → IsLeft slab k }

@@ -39,9 +39,22 @@ const LONGEST_RUN: usize = 64;
 /// The most values that a handle places before the set counts them.
 const MOST_UNCOUNTED: u64 = 64;
 
+/// How often inserts try to grow a generation that is more than half full, if memory is refused each time.
+const TRIES: u64 = 16;
+
+/// Returns true if an insert that placed its value with this number is to grow a generation of this many buckets: at the first number past
+/// half of them, and then at each sixteenth part of the rest.
+fn is_due(number: u64, buckets: u64) -> bool {
+    let half = buckets / 2;
+    if number < half {
+        return false;
+    }
+    (number - half) % max(1, half / TRIES) == 0
+}
+
 impl<'a, V, L: SetLaw<V>, A: Low + Copy> Handle<'a, V, L, A> {
-    /// Counts a value that was placed with this number, and grows the set if its generation is half full. The set counts a handle's first
-    /// value at once, and then the values in portions of 2, 4 and so on up to 64.
+    /// Counts a value that was placed with this number, and grows the set if a growth is due. The set counts a handle's first value at once,
+    /// and then the values in portions of 2, 4 and so on up to 64.
     fn count(&mut self, number: u64)
         ensures { self.new ≡ self.old }
     {
@@ -52,7 +65,7 @@ impl<'a, V, L: SetLaw<V>, A: Low + Copy> Handle<'a, V, L, A> {
             self.uncounted = 0;
             self.portion = min(MOST_UNCOUNTED, self.portion.saturating_mul(2));
         }
-        if number >= self.stage.generation().buckets() as u64 / 2 {
+        if is_due(number, self.stage.generation().buckets() as u64) {
             set.grow_if_free(&self.cursor, self.stage);
         }
     }

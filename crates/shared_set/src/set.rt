@@ -1,5 +1,5 @@
 //! The set, and what any thread may call on it.
-ghost use Rattle.std.specs.Prelude.{◌≡◌, suc, ◌<◌, ◌≤◌, ◌^◌, ◌*◌, true, false, IfOk, MatchOption};
+ghost use Rattle.std.specs.Prelude.{◌≡◌, suc, ◌<◌, ◌≤◌, ◌^◌, ◌*◌, max, true, false, IfOk, MatchOption};
 ghost use Rattle.std.specs.Int.{IsPowerOfTwo};
 ghost use mathlib.Core.List.{IsPrefix};
 ghost use Rattle.table_chain.specs.History.{Stands};
@@ -63,17 +63,20 @@ impl<V, L: SetLaw<V>, A: Low + Copy> Model for SharedSet<V, L, A> {
 }
 
 impl<V, L: SetLaw<V>, A: Low + Copy> SharedSet<V, L, A> {
-    /// Makes an empty set. A refused request leaves nothing.
+    /// Makes an empty set of 16 buckets. A refused request leaves nothing.
     pub fn new(alloc: A) -> Result<Self, AllocError>
-        ensures { IfOk result (λ s. IsEmpty s.start) }
+        ensures empty { IfOk result (λ s. IsEmpty s.start) }
+        ensures size { IfOk result (λ s. size_of s.start ≡ 16) }
     {
         SharedSet::with_buckets(alloc, LEAST_BUCKETS)
     }
 
-    /// Makes an empty set that has buckets for this many entries before it grows. A refused request leaves nothing.
+    /// Makes an empty set that has buckets for this many entries before it grows: twice as many, in a power of two, and 16 at least. A refused
+    /// request leaves nothing.
     pub fn with_capacity(alloc: A, entries: usize) -> Result<Self, AllocError>
         ensures empty { IfOk result (λ s. IsEmpty s.start) }
         ensures room { IfOk result (λ s. entries * 2 ≤ size_of s.start) }
+        ensures few { IfOk result (λ s. size_of s.start ≤ max 16 (entries * 4)) }
     {
         if entries > MOST_ENTRIES {
             return Err(AllocError);
@@ -227,12 +230,13 @@ impl<V, L: SetLaw<V>, A: Low + Copy> SharedSet<V, L, A> {
     }
 }
 
-/// Returns a power of two of buckets, of which so many entries fill at most half.
+/// Returns a power of two of buckets, of which so many entries fill at most half: 16, or at most four times the entries.
 fn buckets_for(entries: usize) -> usize
     requires { entries ≤ 2 ^ 31 }
     ensures power { IsPowerOfTwo result }
-    ensures few { result ≤ 2 ^ 32 }
+    ensures within { result ≤ 2 ^ 32 }
     ensures enough { entries * 2 ≤ result }
+    ensures few { result ≤ max 16 (entries * 4) }
 {
     (2 * entries).max(LEAST_BUCKETS).next_power_of_two()
 }

@@ -27,6 +27,15 @@ chain_view b ws names log = record { book = b; slots = length ws; names = names;
 abbrev pub AreWords : Book → List Named → Type 0
 AreWords b ws = (k : ℕ) (d : Named) → k < length ws → IsWord b (slice_index_or ws k d) × ((slice_index_or ws k d).key ≡ k)
 
+module _ {G : Type 0} where
+  -- the chain ends before the slot
+  abbrev pub IsEnd : History G → ℕ → Type 0
+  IsEnd log p = (k : ℕ) × Has log p k End
+
+  -- no value stands in the slot
+  abbrev pub IsOpen : History G → ℕ → Type 0
+  IsOpen log p = IsUntouched log p ⊎ IsEnd log p
+
 module _ {G : Type 0} (Begins : G → Type 0) (Follows : G → G → Type 0) where
   pub record IsLaid (b : Book) (log : History G) (ws : List Named) : Type 0 where
     pub words : AreWords b ws
@@ -41,21 +50,13 @@ module _ {G : Type 0} (Begins : G → Type 0) (Follows : G → G → Type 0) whe
   abbrev pub IsShown : ℕ → G → History G → History G → Type 0
   IsShown p g old new = (k : ℕ) × Adds Begins Follows (event p k (Some (Shown g))) p old new
 
-  -- the value is shown in the slot p; or it comes back, beside what stands there; or it comes back
+  -- the value is shown in the slot p; or it comes back, beside what stands there; or it comes back, and no value stands there
   abbrev pub Shows : ℕ → G → History G → History G → Showing G → Type 0
   Shows p g old new (showing.Shown e) = (e.now ≡ g) × IsShown p g old new
   Shows p g old new (showing.Other e back) = (back ≡ g) × Stands new p e.now
-  Shows p g old new (showing.Refused back) = back ≡ g
+  Shows p g old new (showing.Refused back) = (back ≡ g) × IsOpen new p
 
 module _ {G : Type 0} where
-  -- the chain ends before the slot
-  abbrev pub IsEnd : History G → ℕ → Type 0
-  IsEnd log p = (k : ℕ) × Has log p k End
-
-  -- no value stands in the slot
-  abbrev pub IsOpen : History G → ℕ → Type 0
-  IsOpen log p = IsUntouched log p ⊎ IsEnd log p
-
   -- the slots below n have values, and the chain ends there
   pub record IsWhole (slots n : ℕ) (log : History G) : Type 0 where
     pub within : n ≤ slots

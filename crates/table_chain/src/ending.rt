@@ -55,12 +55,14 @@ fn close_behind<G, F: Follows<G>, A: Allocator>(
 }
 
 impl<G: Drop, F: Follows<G>, A: Low + Copy> Chain<G, F, A> {
-    /// Closes the chain: no value can be shown any more, and the values stay where they are. Returns the number of values.
-    pub fn close(&self, seen: &mut Token<G, F>) -> usize
-        requires of { IsOf F.begins F.follows self.now seen.old.book seen.old.names seen.old.log }
-        ensures of { IsOf F.begins F.follows self.now seen.new.book seen.new.names seen.new.log }
+    /// Closes the chain: no value can be shown any more, and the values stay where they are. Returns the number of values. Threads that share
+    /// the chain can't call it.
+    pub fn close(&mut self, seen: &mut Token<G, F>) -> usize
+        requires of { IsOf F.begins F.follows self.old seen.old.book seen.old.names seen.old.log }
+        ensures same { self.new ≡ self.old }
+        ensures of { IsOf F.begins F.follows self.old seen.new.book seen.new.names seen.new.log }
         ensures longer { IsPrefix seen.old.log seen.new.log }
-        ensures whole { IsWhole self.now.slots result seen.new.log }
+        ensures whole { IsWhole self.old.slots result seen.new.log }
         ensures counted { (p : ℕ) (g : G) → Stands seen.new.log p g → p < result }
         ensures ended { IsFinal F.begins F.follows seen.new.log }
     {
@@ -68,7 +70,7 @@ impl<G: Drop, F: Follows<G>, A: Low + Copy> Chain<G, F, A> {
     }
 
     /// Ends the chain. No value can be shown any more. It asks for no memory.
-    pub fn into_ending(self, seen: &mut Token<G, F>) -> Ending<G, F, A>
+    pub fn into_ending(mut self, seen: &mut Token<G, F>) -> Ending<G, F, A>
         requires of { IsOf F.begins F.follows self seen.old.book seen.old.names seen.old.log }
         ensures of { IsOf F.begins F.follows self seen.new.book seen.new.names seen.new.log }
         ensures longer { IsPrefix seen.old.log seen.new.log }

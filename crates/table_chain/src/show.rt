@@ -21,7 +21,7 @@ pub enum Showing<'a, G> {
     Shown(&'a G),
     /// The slot has this other value. The caller's value is returned.
     Other(&'a G, G),
-    /// There is no memory for the value, or no number is left, or the chain has ended. The value is returned.
+    /// No value is in the slot. There is no memory for the value, or no number is left, or the chain has ended. The value is returned.
     Refused(G),
 }
 

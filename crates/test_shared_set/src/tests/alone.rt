@@ -59,24 +59,57 @@ fn each_number_is_found_over_growth(rt: HostRuntime) {
     }
 }
 
-/// Places the numbers below this one by the set itself: each call has a handle of its own.
-fn place_by_the_set(rt: &impl Abort, set: &Numbers<'_>, end: u64) {
-    for value in 0..end {
-        assert_same(rt, told_of(set.insert(value), value).0, Told::Placed);
-        assert_same(rt, told_of(set.insert(value), value).0, Told::Found);
+/// Inserts a number by the set itself.
+fn insert_by(set: &Numbers<'_>, value: u64) -> (Told, Option<u64>) {
+    told_of(set.insert(value), value)
+}
+
+/// Places multiples of 7 by the set itself. Each call has a handle of its own, which takes the next number. An insert answers with the number
+/// that a handle finds.
+fn place_by_the_set(rt: &impl Abort, set: &Numbers<'_>, count: u64) {
+    for index in 0..count {
+        let value = index.wrapping_mul(7);
+        assert_same(rt, set.contains(&value), false);
+        assert_same(rt, insert_by(set, value), (Told::Placed, Some(index)));
+        assert_same(rt, insert_by(set, value), (Told::Found, Some(index)));
+        assert_same(rt, set.handle().find(&value), Some((index, &value)));
         assert_same(rt, set.get(&value), Some(&value));
+        assert_same(rt, set.len(), index.wrapping_add(1));
     }
 }
 
+/// The length is asked for in each generation, and the set grows on.
 #[test]
 fn a_set_is_called_without_a_handle(rt: HostRuntime) {
     let heap = counted(rt.alloc());
     let set = set_with(&rt, &heap, 0);
     place_by_the_set(&rt, &set, 300);
-    assert_same(&rt, [set.contains(&299), set.contains(&300)], [true, false]);
+    assert_same(&rt, set.contains(&2093), true);
+    assert_same(&rt, set.contains(&2100), false);
     assert_same(&rt, set.len(), 300);
     drop(set);
     assert_none_out(&rt, &heap);
+}
+
+/// The numbers that a second handle takes after a first one placed four values and ended. The first one left 4, 5 and 6 of a run of four. Who
+/// wants fewer takes new numbers, and the second handle wants one, two and then four.
+const NEXT: [u64; 8] = [7, 8, 9, 4, 5, 6, 10, 11];
+
+/// Asserts that new values, from this one on, have these numbers.
+fn assert_takes(rt: &impl Abort, handle: &mut Numbering<'_, '_>, from: u64, numbers: &[u64]) {
+    for (index, number) in numbers.iter().enumerate() {
+        let value = from.wrapping_add(index as u64);
+        assert_same(rt, insert(handle, value), (Told::Placed, Some(*number)));
+    }
+}
+
+#[test]
+fn numbers_that_a_handle_leaves_are_used(rt: HostRuntime) {
+    let heap = counted(rt.alloc());
+    let set = set_with(&rt, &heap, 1000);
+    assert_takes(&rt, &mut set.handle(), 0, [0, 1, 2, 3].as_slice());
+    assert_takes(&rt, &mut set.handle(), 4, NEXT.as_slice());
+    assert_same(&rt, set.len(), 12);
 }
 
 /// How many values are counted once so many were placed by one handle: the first, then 2, 4, 8, 16, 32 and 64 at a time.

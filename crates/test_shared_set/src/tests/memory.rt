@@ -140,22 +140,51 @@ fn without_growth(alloc: Global, buckets: usize) -> Heap {
     Refusing::new(alloc, Rule::new(least, usize::MAX, 0, 0))
 }
 
-/// For how many entries sets have room: for so many it is a power of two, so that half of the buckets are filled.
-const ROOMS: [usize; 4] = [16, 128, 1024, 1 << 14];
+/// For how many entries a set has room at first, and how many fill half of one of its generations, the first or a later one.
+const HALVES: [(usize, usize); 7] = [
+    (16, 16),
+    (128, 128),
+    (1024, 1024),
+    (1 << 14, 1 << 14),
+    (0, 16),
+    (0, 1024),
+    (20, 1 << 10),
+];
 
-/// A set asks for no growth until it has as many entries as it has room for.
+/// No generation grows until half of it is filled. Then the next insert asks for the growth.
 #[test]
-fn a_set_of_a_capacity_does_not_grow(rt: HostRuntime) {
-    for room in ROOMS {
-        let heap = without_growth(rt.alloc(), room.saturating_mul(2));
+fn a_generation_grows_once_half_of_it_is_filled(rt: HostRuntime) {
+    for (room, half) in HALVES {
+        let heap = without_growth(rt.alloc(), half.saturating_mul(2));
         let set = set_with(&rt, &heap, room);
         heap.refuse(0, u64::MAX);
         let mut handle = set.handle();
-        let count = room as u64;
+        let count = half as u64;
         assert_same(&rt, fill(&mut handle, 0, count, 1), Tally::of(count, 0));
         assert_same(&rt, heap.refusals_left(), u64::MAX);
         assert_same(&rt, insert(&mut handle, count).0, Told::Placed);
         assert_same(&rt, heap.refusals_left(), u64::MAX - 1);
+        drop(handle);
+        drop(set);
+        assert_none_out(&rt, &heap);
+    }
+}
+
+/// For how many entries a set has room at first: twice as many fill it.
+const FILLED: [(usize, u64); 3] = [(16, 32), (128, 256), (1024, 2048)];
+
+/// From the half of its buckets on, a set asks for its growth sixteen times before it is full, and then at each insert.
+#[test]
+fn a_refused_growth_is_asked_for_now_and_then(rt: HostRuntime) {
+    for (room, full) in FILLED {
+        let heap = without_growth(rt.alloc(), room.saturating_mul(2));
+        let set = set_with(&rt, &heap, room);
+        heap.refuse(0, u64::MAX);
+        let mut handle = set.handle();
+        assert_same(&rt, fill(&mut handle, 0, full, 1), Tally::of(full, 0));
+        assert_same(&rt, heap.refusals_left(), u64::MAX - 16);
+        assert_same(&rt, insert(&mut handle, full).0, Told::Refused);
+        assert_same(&rt, heap.refusals_left(), u64::MAX - 17);
         drop(handle);
         drop(set);
         assert_none_out(&rt, &heap);

@@ -1,7 +1,9 @@
 //! Walks over the entries.
 ghost use Rattle.std.specs.Prelude.{◌≡◌};
 
-use super::caller::{Numbers, Tally, assert_none_out, assert_same, counted, fill, set_with};
+use super::caller::{
+    Numbering, Numbers, Tally, assert_none_out, assert_same, counted, fill, set_with,
+};
 use std::alloc::{AllocError, Global};
 use std::process::Abort;
 use std::test::Fail;
@@ -58,6 +60,27 @@ fn assert_once(rt: &impl Abort, mut values: Vec<u64>, first: u64) {
     values.dedup();
     assert_same(rt, values.len(), all);
     assert!(rt; first <= count_first(values).1);
+}
+
+/// Returns the values of a walk.
+fn values_of(alloc: Global, handle: &mut Numbering<'_, '_>) -> Result<Vec<u64>, AllocError> {
+    let mut values = Vec::new(alloc);
+    for (_number, entry) in handle.iter() {
+        values.push(*entry)?;
+    }
+    Ok(values)
+}
+
+/// A handle that met no growth walks over the newest generation.
+#[test]
+fn a_walk_is_over_the_newest_generation(rt: HostRuntime) -> Result<(), Fail> {
+    let heap = counted(rt.alloc());
+    let set = set_with(&rt, &heap, 0);
+    let mut late = set.handle();
+    assert_same(&rt, fill(&mut set.handle(), 0, 100, 1), Tally::of(100, 0));
+    let values = values_of(rt.alloc(), &mut late)?;
+    assert_same(&rt, count_first(values), (100, 100));
+    Ok(())
 }
 
 #[test]

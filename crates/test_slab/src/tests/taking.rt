@@ -5,6 +5,9 @@ use std::test::Fail;
 use std::thread::{Threads, join};
 use table_slab::{Run, Slab};
 
+/// How many numbers a thread takes one by one: so many that two threads meet at the counter.
+const MANY: usize = 20_000;
+
 /// Whether these are the numbers from 0 on, each once, in any order.
 fn are_all(taken: [Vec<u64>; 2]) -> bool {
     let [mut all, others] = taken;
@@ -59,10 +62,10 @@ fn two_threads_take_each_number_once(rt: HostRuntime) -> Result<(), Fail> {
     let (shared, alloc) = (&slab, rt.alloc());
     let (one, other) = join(
         &rt,
-        move || numbers(shared, alloc, 300),
-        move || numbers(shared, alloc, 300),
+        move || numbers(shared, alloc, MANY),
+        move || numbers(shared, alloc, MANY),
     );
-    assert_eq!(rt; [one.len(), other.len()], [300, 300]);
+    assert_eq!(rt; [one.len(), other.len()], [MANY, MANY]);
     assert!(rt; are_all([one, other]));
     Ok(())
 }

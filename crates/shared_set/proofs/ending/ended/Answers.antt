@@ -22,12 +22,12 @@ pub invariant_of-result : goal.invariant_of-result
 invariant_of-result g c = let t = c.start-stages.result in let e = c.close-count.ensures in let new = c.close-count.new.seen in let shared = c.requires.shared.1 in
     let some : 0 < c.close-count.result = e.counted 0 shared.first (first_shown g.L.Law.same g.L.Law.hash_of c.args.chain c.args.slab.slab c.requires.shared.0 shared t.log new.log c.start-stages.ensures.log e.longer) in
     let is : c.close-count.result ≡ suc (c.close-count.result - 1) = omega (arith, some) in
-    ends_with g.L.Law.same g.L.Law.hash_of c.args.chain new.book new.names new.log c.close-count.result (c.close-count.result - 1) c.get-stage.result.now c.generation-generation.result.now c.end-values.result shared.slots e.of e.ended e.counted is
-    c.get-stage.ensures.there c.generation-generation.ensures c.end-values.ensures.is
+    rw e.same (ends_with g.L.Law.same g.L.Law.hash_of c.args.chain new.book new.names new.log c.close-count.result (c.close-count.result - 1) c.get-stage.result.now c.generation-generation.result.now c.end-values.result shared.slots e.of e.ended e.counted is
+    c.get-stage.ensures.there c.generation-generation.ensures c.end-values.ensures.is)
 
 pub returns : goal.returns
 returns g c = let t = c.start-stages.result in let e = c.close-count.ensures in let new = c.close-count.new.seen in record {
-  of = ap (shared_view c.args.chain) (ap (λ (s : SetView). s.slab) c.end-values.ensures.is ∙ (ap (λ (v : GenerationView g.row.V.Denot). v.of.slab) c.generation-generation.ensures
-      ∙ over_slab g.L.Law.same g.L.Law.hash_of c.args.chain c.args.slab.slab c.requires.shared.0 c.requires.shared.1 t.log new.log c.start-stages.ensures.log e.longer e.of.3 (c.close-count.result - 1) c.get-stage.result.now c.get-stage.ensures.there));
+  of = rw e.same (ap (shared_view c.args.chain) (ap (λ (s : SetView). s.slab) c.end-values.ensures.is ∙ (ap (λ (v : GenerationView g.row.V.Denot). v.of.slab) c.generation-generation.ensures
+      ∙ over_slab g.L.Law.same g.L.Law.hash_of c.args.chain c.args.slab.slab c.requires.shared.0 c.requires.shared.1 t.log new.log c.start-stages.ensures.log e.longer e.of.3 (c.close-count.result - 1) c.get-stage.result.now c.get-stage.ensures.there)));
   values = c.end-values.ensures.values;
 }
