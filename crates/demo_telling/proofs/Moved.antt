@@ -13,6 +13,10 @@ module _ {V : Type 0} where
   pub behind_second : (a b : List V) (v : V) → IsPermutation (v ∷ (a ++ b)) (a ++ (b ++ v ∷ []))
   behind_second a b v = subst (IsPermutation (v ∷ (a ++ b))) (append_assoc a b (v ∷ [])) (IsPermutation-append_comm (v ∷ []) (a ++ b))
 
+  -- where the second part gains a value, both together do
+  pub gains : (a b c : List V) (v : V) → IsPermutation (v ∷ b) c → IsPermutation (v ∷ (a ++ b)) (a ++ c)
+  gains a b c v more = IsPermutation-trans (v ∷ (a ++ b)) (a ++ v ∷ b) (a ++ c) (IsPermutation-sym (a ++ v ∷ b) (v ∷ (a ++ b)) (IsPermutation-middle a v b)) (IsPermutation-append_right a (v ∷ b) c more)
+
   -- the next value goes where it goes
   pub next_moved : (all done new rest : List V) (v : V) → IsPermutation all (done ++ v ∷ rest) → IsPermutation (v ∷ done) new → IsPermutation all (new ++ rest)
   next_moved all done new rest v moved one = IsPermutation-trans all (done ++ v ∷ rest) (new ++ rest) moved
@@ -26,10 +30,15 @@ module _ {V : Type 0} where
       subst (λ (l : List V). IsPermutation l ((a ++ c) ++ (b ++ d))) (sym (append_assoc a b (c ++ d)))
       (subst (IsPermutation (a ++ (b ++ (c ++ d)))) (sym (append_assoc a c (b ++ d))) (IsPermutation-append_right a (b ++ (c ++ d)) (c ++ (b ++ d)) inner))
 
-  pub next_together : (all a b c d rest : List V) → IsPermutation all ((a ++ b) ++ ((c ++ d) ++ rest)) → IsPermutation all (((a ++ c) ++ (b ++ d)) ++ rest)
-  next_together all a b c d rest moved = IsPermutation-trans all ((a ++ b) ++ (c ++ d) ++ rest) (((a ++ c) ++ (b ++ d)) ++ rest)
-      (subst (IsPermutation all) (sym (append_assoc (a ++ b) (c ++ d) rest)) moved)
-      (IsPermutation-append_left rest ((a ++ b) ++ (c ++ d)) ((a ++ c) ++ (b ++ d)) (parts_together a b c d))
+  -- two lists of three parts are put together part by part
+  pub three_together : (a b c x y z : List V) → IsPermutation ((a ++ (b ++ c)) ++ (x ++ (y ++ z))) ((a ++ x) ++ ((b ++ y) ++ (c ++ z)))
+  three_together a b c x y z = IsPermutation-trans ((a ++ (b ++ c)) ++ (x ++ (y ++ z))) ((a ++ x) ++ ((b ++ c) ++ (y ++ z))) ((a ++ x) ++ ((b ++ y) ++ (c ++ z)))
+      (parts_together a (b ++ c) x (y ++ z)) (IsPermutation-append_right (a ++ x) ((b ++ c) ++ (y ++ z)) ((b ++ y) ++ (c ++ z)) (parts_together b c y z))
+
+  -- the next list goes where it goes
+  pub next_joined : (all done next new rest : List V) → IsPermutation all (done ++ (next ++ rest)) → IsPermutation (done ++ next) new → IsPermutation all (new ++ rest)
+  next_joined all done next new rest moved one = IsPermutation-trans all ((done ++ next) ++ rest) (new ++ rest) (subst (IsPermutation all) (sym (append_assoc done next rest)) moved)
+      (IsPermutation-append_left rest (done ++ next) new one)
 
 module _ {J R V : Type 0} (given : J → List V) (left : R → List V) where
   -- what each result has are the values of its job
