@@ -43,7 +43,7 @@ module _ {V : Type 0} where
     known_comes_out e there = Contains-permutation (values_of log) out e.value each (image_among (λ (x : Numbered V). x.value) (entries log) e (stands_among log there.0 e there.1))
 
     module _ (es : List (ℕ × V)) (apart : AreDistinct es) (known : AreKnown es log) where
-      values : List V
+      abbrev values : List V
       values = map (λ (e : Numbered V). e.value) (entries_of es)
 
       as_many_values : length values ≡ length es
@@ -96,6 +96,15 @@ module _ {V L A : Type 0} (same : V → V → Bool) (hash : V → ℕ) where
 
     pub together : (s : SlabView) (m n : ℕ) → s ≡ g.slab → m ≡ length es → n ≡ length fs → IsAccount same hash both s all (m + n)
     together s m n of counted counted' = record { at = own_cursor g both at; of = of ∙ sym (at.of.1 ∙ at.slab); known = all_known; counted = omega (arith, counted, counted', counted_together) }
+
+  -- a cursor of an account learns more
+  pub learned : (g : SharedView) (was now : Cursor V L A) (s : SlabView) (es : List (ℕ × V)) (n : ℕ) → IsAccount same hash was s es n → set_of was ≡ g → IsCursor same hash g now → Keeps was.entries.log now.entries.log → IsAccount same hash now s es n
+  learned g was now s es n it is at keeps = record {
+    at = own_cursor g now at;
+    of = it.of ∙ (ap (λ (x : SharedView). x.slab) is ∙ sym (at.of.1 ∙ at.slab));
+    known = λ e among. keeps e (it.known e among);
+    counted = it.counted;
+  }
 
   -- an account is cut in two
   module _ (c : Cursor V L A) (s part : SlabView) (es fs all : List (ℕ × V)) (n m : ℕ) (it : IsAccount same hash c s all n) (is : all ≡ es ++ fs) (one_slab : part ≡ s) (first : length es ≡ m) where
