@@ -12,7 +12,7 @@ use Rattle.demo_telling.specs.Accounts.{AreFound, HasSame}
 
 module _ {V : Type 0} (same : V → V → Bool) where
   pub found_on : (old new : History (Numbered V)) (found : List V) → Keeps old new → AreFound same old found → AreFound same new found
-  found_on old new found kept known v among = let it = known v among in (it.0, it.1, it.2.0, kept (numbered it.0 it.1) it.2.1)
+  found_on old new found kept known v among = let it = known v among in (it.0, it.1, (it.2.0, kept (numbered it.0 it.1) it.2.1))
 
   one_found : (log : History (Numbered V)) (v : V) → SomePasses (same v) (IsEntry log) → AreFound same log (v ∷ [])
   one_found log v there w (zero, within, is) = subst (λ (x : V). SomePasses (same x) (IsEntry log)) is there

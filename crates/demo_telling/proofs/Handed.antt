@@ -1,7 +1,7 @@
 -- Where a value goes that is handed in: into the account, to what was found, or to what was refused.
 use Rattle.std.proofs.Common.{◌≡◌, refl, length, ℕ, suc, All, arith, List, [], ◌∷◌, ◌++◌, Bool, map, sym, subst, ap, ◌∙◌}
 use Rattle.std.specs.List.Sorted.{IsPermutation}
-use Rattle.std.proofs.lemmas.List.Sorted.{IsPermutation-refl, IsPermutation-trans, IsPermutation-append_left}
+use Rattle.std.proofs.lemmas.List.Sorted.{IsPermutation-trans, IsPermutation-append_left}
 use Rattle.std.proofs.lemmas.List.{map-append}
 use Rattle.table_terms.specs.Laws.{AllApart}
 use Rattle.table_numbered.specs.Words.{numbered}
@@ -59,5 +59,5 @@ module _ {V : Type 0} (same : V → V → Bool) where
   accounted given placed found refused out log moved settled apart known come = record {
     all = IsPermutation-trans given (placed ++ (found ++ refused)) (out ++ (found ++ refused)) moved (IsPermutation-append_left (found ++ refused) placed out settled);
     apart = apart;
-    found = found_comes_out same log found out known come;
+    same_out = found_comes_out same log found out known come;
   }

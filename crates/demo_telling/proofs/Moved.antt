@@ -1,5 +1,5 @@
 -- Values that are moved from list to list are the same values in another order.
-use Rattle.std.proofs.Common.{◌≡◌, ℕ, suc, ◌<◌, List, [], ◌∷◌, ◌++◌, append_assoc, length, sym, subst, arith}
+use Rattle.std.proofs.Common.{◌≡◌, ℕ, suc, ◌<◌, List, [], ◌∷◌, ◌++◌, append_assoc, append-nil, length, sym, subst, arith}
 use Rattle.std.specs.Prelude.{slice_index_or}
 use Rattle.std.specs.List.{flat_map}
 use Rattle.std.specs.List.Sorted.{IsPermutation}
@@ -39,6 +39,10 @@ module _ {V : Type 0} where
   pub next_joined : (all done next new rest : List V) → IsPermutation all (done ++ (next ++ rest)) → IsPermutation (done ++ next) new → IsPermutation all (new ++ rest)
   next_joined all done next new rest moved one = IsPermutation-trans all ((done ++ next) ++ rest) (new ++ rest) (subst (IsPermutation all) (sym (append_assoc done next rest)) moved)
       (IsPermutation-append_left rest (done ++ next) new one)
+
+  -- where nothing is left, all is done
+  pub all_done : (all done rest : List V) → rest ≡ [] → IsPermutation all (done ++ rest) → IsPermutation all done
+  all_done all done rest none moved = subst (IsPermutation all) (append-nil done) (subst (λ (vs : List V). IsPermutation all (done ++ vs)) none moved)
 
 module _ {J R V : Type 0} (given : J → List V) (left : R → List V) where
   -- what each result has are the values of its job

@@ -42,4 +42,4 @@ module _ {V : Type 0} (same : V → V → Bool) where
   pub record AreAccounted (given out found refused : List V) : Type 0 where
     pub all : IsPermutation given (out ++ (found ++ refused))
     pub apart : AllApart same out
-    pub found : (v : V) → Contains found v → HasSame out v
+    pub same_out : (v : V) → Contains found v → HasSame out v

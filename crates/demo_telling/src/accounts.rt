@@ -180,11 +180,12 @@ pub fn insert_lists<A: Low + Copy + Send + Sync, R: Threads + Sync>(
             ensures moved { IsPermutation values.items (worked result) }
         { insert_all(shared, heap, values) },
     )?;
+    let all = put_together(&set, heap, works)?;
     let Work {
         account,
         found,
         refused,
-    } = put_together(&set, heap, works)?;
+    } = all;
     match set.settle(account) {
         Settled::All(values) => {
             let out = take_all(values, heap)?;

@@ -1,4 +1,4 @@
-use Rattle.std.proofs.Common.{◌++◌, ◌<◌, ◌∙◌, List, length, sym, subst, rules}
+use Rattle.std.proofs.Common.{◌++◌, ◌<◌, List, length, subst, rules}
 use Rattle.std.specs.List.Sorted.{IsPermutation}
 use Rattle.shared_set.specs.Accounts.{AccountView, placed_values, ComeOut}
 use Rattle.shared_set.proofs.Accounting.{known_comes_out, all_come_out, more_come_out}
