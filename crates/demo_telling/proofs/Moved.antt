@@ -1,5 +1,5 @@
 -- Values that are moved from list to list are the same values in another order.
-use Rattle.std.proofs.Common.{◌≡◌, ℕ, suc, ◌<◌, List, [], ◌∷◌, ◌++◌, append_assoc, length, sym, subst, arith}
+use Rattle.std.proofs.Common.{◌≡◌, ℕ, suc, ◌<◌, List, [], ◌∷◌, ◌++◌, append_assoc, append-nil, length, sym, subst, arith}
 use Rattle.std.specs.Prelude.{slice_index_or}
 use Rattle.std.specs.List.{flat_map}
 use Rattle.std.specs.List.Sorted.{IsPermutation}
@@ -12,6 +12,10 @@ module _ {V : Type 0} where
 
   pub behind_second : (a b : List V) (v : V) → IsPermutation (v ∷ (a ++ b)) (a ++ (b ++ v ∷ []))
   behind_second a b v = subst (IsPermutation (v ∷ (a ++ b))) (append_assoc a b (v ∷ [])) (IsPermutation-append_comm (v ∷ []) (a ++ b))
+
+  -- where the second part gains a value, both together do
+  pub gains : (a b c : List V) (v : V) → IsPermutation (v ∷ b) c → IsPermutation (v ∷ (a ++ b)) (a ++ c)
+  gains a b c v more = IsPermutation-trans (v ∷ (a ++ b)) (a ++ v ∷ b) (a ++ c) (IsPermutation-sym (a ++ v ∷ b) (v ∷ (a ++ b)) (IsPermutation-middle a v b)) (IsPermutation-append_right a (v ∷ b) c more)
 
   -- the next value goes where it goes
   pub next_moved : (all done new rest : List V) (v : V) → IsPermutation all (done ++ v ∷ rest) → IsPermutation (v ∷ done) new → IsPermutation all (new ++ rest)
@@ -26,10 +30,19 @@ module _ {V : Type 0} where
       subst (λ (l : List V). IsPermutation l ((a ++ c) ++ (b ++ d))) (sym (append_assoc a b (c ++ d)))
       (subst (IsPermutation (a ++ (b ++ (c ++ d)))) (sym (append_assoc a c (b ++ d))) (IsPermutation-append_right a (b ++ (c ++ d)) (c ++ (b ++ d)) inner))
 
-  pub next_together : (all a b c d rest : List V) → IsPermutation all ((a ++ b) ++ ((c ++ d) ++ rest)) → IsPermutation all (((a ++ c) ++ (b ++ d)) ++ rest)
-  next_together all a b c d rest moved = IsPermutation-trans all ((a ++ b) ++ (c ++ d) ++ rest) (((a ++ c) ++ (b ++ d)) ++ rest)
-      (subst (IsPermutation all) (sym (append_assoc (a ++ b) (c ++ d) rest)) moved)
-      (IsPermutation-append_left rest ((a ++ b) ++ (c ++ d)) ((a ++ c) ++ (b ++ d)) (parts_together a b c d))
+  -- two lists of three parts are put together part by part
+  pub three_together : (a b c x y z : List V) → IsPermutation ((a ++ (b ++ c)) ++ (x ++ (y ++ z))) ((a ++ x) ++ ((b ++ y) ++ (c ++ z)))
+  three_together a b c x y z = IsPermutation-trans ((a ++ (b ++ c)) ++ (x ++ (y ++ z))) ((a ++ x) ++ ((b ++ c) ++ (y ++ z))) ((a ++ x) ++ ((b ++ y) ++ (c ++ z)))
+      (parts_together a (b ++ c) x (y ++ z)) (IsPermutation-append_right (a ++ x) ((b ++ c) ++ (y ++ z)) ((b ++ y) ++ (c ++ z)) (parts_together b c y z))
+
+  -- the next list goes where it goes
+  pub next_joined : (all done next new rest : List V) → IsPermutation all (done ++ (next ++ rest)) → IsPermutation (done ++ next) new → IsPermutation all (new ++ rest)
+  next_joined all done next new rest moved one = IsPermutation-trans all ((done ++ next) ++ rest) (new ++ rest) (subst (IsPermutation all) (sym (append_assoc done next rest)) moved)
+      (IsPermutation-append_left rest (done ++ next) new one)
+
+  -- where nothing is left, all is done
+  pub all_done : (all done rest : List V) → rest ≡ [] → IsPermutation all (done ++ rest) → IsPermutation all done
+  all_done all done rest none moved = subst (IsPermutation all) (append-nil done) (subst (λ (vs : List V). IsPermutation all (done ++ vs)) none moved)
 
 module _ {J R V : Type 0} (given : J → List V) (left : R → List V) where
   -- what each result has are the values of its job

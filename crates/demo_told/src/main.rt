@@ -1,8 +1,8 @@
 //! Two threads place a number each while a set grows, a hundred times. Who was told of both finds both. Then two threads own a set together.
-//! Then three threads insert lists of numbers, and each number comes out of the set or comes back.
+//! Then three threads insert lists of numbers, and each number comes out of the set or is found there.
 #![tactic(auto)]
 
-use demo_telling::accounts::insert_lists;
+use demo_telling::accounts::{NoOutcome, Outcome, insert_lists};
 use demo_telling::owned::place_by_two;
 use demo_telling::tell::tell;
 use shared_set::SharedSet;
@@ -36,7 +36,20 @@ fn main(rt: HostRuntime) -> io::Result<()> {
         "placed in a set that two threads own: {}",
         place_by_two(&rt, rt.alloc(), 1000)?
     )?;
-    let outcome = insert_lists(&rt, rt.alloc(), rt.alloc(), lists(rt.alloc())?)?;
-    let (out, back) = (outcome.out.len(), outcome.back.len());
-    println!(rt; "of three lists of 1000 numbers came out: {out}, came back: {back}")
+    match insert_lists(&rt, rt.alloc(), rt.alloc(), lists(rt.alloc())?) {
+        Ok(
+            Outcome {
+                out,
+                found,
+                refused,
+            },
+        ) => println!(rt;
+            "of three lists of 1000 numbers came out: {}, were found: {}, were refused: {}",
+            out.len(),
+            found.len(),
+            refused.len()
+        ),
+        Err(NoOutcome::Memory) => println!(rt; "three lists: no memory"),
+        Err(NoOutcome::Others) => println!(rt; "three lists: others came out"),
+    }
 }

@@ -1,10 +1,10 @@
 -- What the receipts of an account are of, how many they are, and what that says of the values that come out.
-use Rattle.std.proofs.Common.{◌≡◌, ℕ, zero, suc, ◌+◌, ◌-◌, ◌≤◌, ◌^◌, Bool, List, [], ◌∷◌, ◌++◌, length, length-append, map, refl, sym, subst, ap, ◌∙◌, arith, inl, inr}
+use Rattle.std.proofs.Common.{◌≡◌, ℕ, zero, suc, ◌+◌, ◌-◌, ◌<◌, ◌≤◌, ◌^◌, Bool, List, [], ◌∷◌, ◌++◌, length, length-append, map, refl, sym, subst, ap, ◌∙◌, arith, inl, inr}
 use Rattle.std.specs.Prelude.{Contains, ◌==◌}
 use Rattle.std.specs.List.Sorted.{IsPermutation}
 use Rattle.std.proofs.lemmas.List.{length-map, map-append}
 use Rattle.std.proofs.lemmas.List.Elements.{Contains-append_cases, Contains-append_left, Contains-append_right}
-use Rattle.std.proofs.lemmas.List.Sorted.{IsPermutation-map, IsPermutation-trans}
+use Rattle.std.proofs.lemmas.List.Sorted.{IsPermutation-map, IsPermutation-trans, Contains-permutation}
 use Rattle.table_slab.specs.Held.{AreDistinct}
 use Rattle.table_slab.specs.Slabs.{SlabView}
 use Rattle.table_numbered.specs.Words.{IsNumber, numbered}
@@ -14,8 +14,8 @@ use Rattle.table_numbered.specs.Ending.{values_of}
 use Rattle.table_numbered.proofs.Histories.{stands_among}
 use Rattle.shared_set.specs.declared.cursor.Cursor.{Cursor}
 use Rattle.shared_set.specs.Known.{SharedView, Keeps, IsCursor, set_of}
-use Rattle.shared_set.specs.Accounts.{entries_of, Accounts, IsAccount}
-use Rattle.shared_set.proofs.Covered.{Differ, covered, counts_of_images, few_below, no_rest}
+use Rattle.shared_set.specs.Accounts.{entries_of, ComeOut, IsAccount}
+use Rattle.shared_set.proofs.Covered.{Differ, covered, counts_of_images, image_among, few_below, no_others, some_others}
 
 module _ {V : Type 0} where
   -- these are entries that are known
@@ -37,15 +37,32 @@ module _ {V : Type 0} where
   one_known k v log there e (zero, within, is) = subst (IsEntry log) is there
   one_known k v log there e (suc i, within, is) = absurd (omega (arith, within))
 
-  -- the values of different entries of a history are among those that come out, and if as many come out, they are all
-  pub accounts_for : (es : List (ℕ × V)) (log : History (Numbered V)) (out : List V) → AreDistinct es → AreKnown es log → IsPermutation (values_of log) out → Accounts (map (λ (e : Numbered V). e.value) (entries_of es)) out
-  accounts_for es log out apart known each =
-      let value : Numbered V → V = λ e. e.value in let placed = entries_of es in
-      let r = covered (λ (e : Numbered V). e.number) placed (entries log) (differ_by_number es apart) (λ e among. let there = known e among in stands_among log there.0 e there.1) in
-      let rest : List V = map value r.0 in
-      let moved : IsPermutation (map value placed ++ rest) out = subst (λ (vs : List V). IsPermutation vs out) (map-append value placed r.0)
-      (IsPermutation-trans (map value (placed ++ r.0)) (values_of log) out (IsPermutation-map value (placed ++ r.0) (entries log) r.1) each) in
-      record { none_lost = (rest, moved); all = no_rest (map value placed) rest out moved }
+  module _ (log : History (Numbered V)) (out : List V) (each : IsPermutation (values_of log) out) where
+    -- each entry of the history comes out
+    pub known_comes_out : ComeOut log out
+    known_comes_out e there = Contains-permutation (values_of log) out e.value each (image_among (λ (x : Numbered V). x.value) (entries log) e (stands_among log there.0 e there.1))
+
+    module _ (es : List (ℕ × V)) (apart : AreDistinct es) (known : AreKnown es log) where
+      abbrev values : List V
+      values = map (λ (e : Numbered V). e.value) (entries_of es)
+
+      as_many_values : length values ≡ length es
+      as_many_values = length-map (entries_of es) (λ (e : Numbered V). e.value) ∙ length-map es (λ (p : ℕ × V). numbered p.0 p.1)
+
+      -- the values of different entries of the history come out, each once, and others
+      with_others : (others : List V) × IsPermutation (values ++ others) out
+      with_others =
+          let value : Numbered V → V = λ e. e.value in let placed = entries_of es in
+          let r = covered (λ (e : Numbered V). e.number) placed (entries log) (differ_by_number es apart) (λ e among. let there = known e among in stands_among log there.0 e there.1) in
+          (map value r.0, subst (λ (vs : List V). IsPermutation vs out) (map-append value placed r.0) (IsPermutation-trans (map value (placed ++ r.0)) (values_of log) out (IsPermutation-map value (placed ++ r.0) (entries log) r.1) each))
+
+      -- where as many come out, there are no others
+      pub all_come_out : length out ≡ length es → IsPermutation values out
+      all_come_out as_many = no_others values with_others.0 out with_others.1 (as_many ∙ sym as_many_values)
+
+      -- where not as many come out, there are others
+      pub more_come_out : (length out ≡ length es → ⊥) → (others : List V) × (0 < length others) × IsPermutation (values ++ others) out
+      more_come_out other = (with_others.0, some_others values with_others.0 out with_others.1 (λ as_many. other (as_many ∙ as_many_values)), with_others.1)
 
 module _ {V L A : Type 0} (same : V → V → Bool) (hash : V → ℕ) where
   -- numbers have 32 bits, so there are at most as many receipts
@@ -79,6 +96,15 @@ module _ {V L A : Type 0} (same : V → V → Bool) (hash : V → ℕ) where
 
     pub together : (s : SlabView) (m n : ℕ) → s ≡ g.slab → m ≡ length es → n ≡ length fs → IsAccount same hash both s all (m + n)
     together s m n of counted counted' = record { at = own_cursor g both at; of = of ∙ sym (at.of.1 ∙ at.slab); known = all_known; counted = omega (arith, counted, counted', counted_together) }
+
+  -- a cursor of an account learns more
+  pub learned : (g : SharedView) (was now : Cursor V L A) (s : SlabView) (es : List (ℕ × V)) (n : ℕ) → IsAccount same hash was s es n → set_of was ≡ g → IsCursor same hash g now → Keeps was.entries.log now.entries.log → IsAccount same hash now s es n
+  learned g was now s es n it is at keeps = record {
+    at = own_cursor g now at;
+    of = it.of ∙ (ap (λ (x : SharedView). x.slab) is ∙ sym (at.of.1 ∙ at.slab));
+    known = λ e among. keeps e (it.known e among);
+    counted = it.counted;
+  }
 
   -- an account is cut in two
   module _ (c : Cursor V L A) (s part : SlabView) (es fs all : List (ℕ × V)) (n m : ℕ) (it : IsAccount same hash c s all n) (is : all ≡ es ++ fs) (one_slab : part ≡ s) (first : length es ≡ m) where

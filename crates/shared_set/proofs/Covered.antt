@@ -49,6 +49,14 @@ module _ {X Y : Type 0} (f : X → Y) where
   counts_of_images passes [] = refl
   counts_of_images passes (x ∷ xs) = rw (sum_by-cons (λ y. cond (passes y) 1 0) (f x) (map f xs), sum_by-cons (λ y. cond (passes (f y)) 1 0) x xs, counts_of_images passes xs) refl
 
+  -- the image of an element is one of the images
+  pub image_among : (xs : List X) (x : X) → Contains xs x → Contains (map f xs) (f x)
+  image_among [] x (k, within, is) = absurd (omega arith)
+  image_among (y ∷ ys) x among = elim (first_or_other y ys x among) [
+    | inl is ↦ (0, omega arith, ap f is)
+    | inr rest ↦ Contains-append_right (f y ∷ []) (map f ys) (f x) (image_among ys x rest)
+  ]
+
   -- an image is that of an element
   pub image_of : (xs : List X) (y : Y) → Contains (map f xs) y → (x : X) × Contains xs x × (f x ≡ y)
   image_of [] y (k, within, is) = absurd (omega arith)
@@ -68,7 +76,12 @@ module _ {X : Type 0} (number : X → ℕ) where
       omega (arith, length_permutation (numbers ++ r.0) all r.1, length-append numbers r.0, length-map xs number, length-range_with_len 0 n)
 
 module _ {V : Type 0} where
-  -- where as many come out as were placed, the rest is empty
-  pub no_rest : (placed rest out : List V) → IsPermutation (placed ++ rest) out → length out ≡ length placed → IsPermutation placed out
-  no_rest placed [] out moved as_many = subst (λ (vs : List V). IsPermutation vs out) (append-nil placed) moved
-  no_rest placed (v ∷ vs) out moved as_many = absurd (let l = length_permutation (placed ++ v ∷ vs) out moved in let m = length-append placed (v ∷ vs) in omega (arith, l, m, as_many))
+  -- where as many come out as were placed, no others do
+  pub no_others : (placed others out : List V) → IsPermutation (placed ++ others) out → length out ≡ length placed → IsPermutation placed out
+  no_others placed [] out moved as_many = subst (λ (vs : List V). IsPermutation vs out) (append-nil placed) moved
+  no_others placed (v ∷ vs) out moved as_many = absurd (let l = length_permutation (placed ++ v ∷ vs) out moved in let m = length-append placed (v ∷ vs) in omega (arith, l, m, as_many))
+
+  -- where not as many come out, others do
+  pub some_others : (placed others out : List V) → IsPermutation (placed ++ others) out → (length out ≡ length placed → ⊥) → 0 < length others
+  some_others placed [] out moved other = absurd (other (let l = length_permutation (placed ++ []) out moved in let m = length-append placed [] in omega (arith, l, m)))
+  some_others placed (v ∷ vs) out moved other = omega arith

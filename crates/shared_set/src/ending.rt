@@ -97,6 +97,13 @@ impl<V, L: SetLaw<V>, A: Low + Copy> IntoValues<V, L, A> {
         self.reaches(known.cursor.again());
     }
 
+    /// Returns the number of values that are left.
+    pub(crate) fn values_left(&self) -> usize
+        ensures { result ≡ length self.now.left }
+    {
+        self.values.len()
+    }
+
     /// Moves a cursor on to the newest stage, whose history has what the cursor knows.
     pub(crate) fn reaches(&self, from: Cursor<V, L, A>)
         requires at { IsCursor L.same L.hash_of self.now.of from }
@@ -136,7 +143,7 @@ impl<V: Drop, L: SetLaw<V>, A: Low + Copy> Iterator for IntoValues<V, L, A> {
         ensures upper { IfSome result.1 (UpTo (at_most (length self.now.left))) }
         ensures exact { result ≡ (length self.now.left, Some (length self.now.left)) }
     {
-        let left = self.values.len();
+        let left = self.values_left();
         (left, Some(left))
     }
 }
@@ -144,7 +151,7 @@ impl<V: Drop, L: SetLaw<V>, A: Low + Copy> Iterator for IntoValues<V, L, A> {
 impl<V: Drop, L: SetLaw<V>, A: Low + Copy> ExactSizeIterator for IntoValues<V, L, A> {
     /// Returns the number of values that are left.
     fn len(&self) -> usize {
-        self.values.len()
+        self.values_left()
     }
 }
 

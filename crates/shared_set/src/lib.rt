@@ -17,7 +17,7 @@ mod share;
 mod stage;
 mod supply;
 
-pub use account::Account;
+pub use account::{Account, Settled};
 pub use ending::IntoValues;
 pub use get_or_insert::GotOrInserted;
 pub use handle::Handle;
@@ -27,4 +27,4 @@ pub use known::Known;
 pub use set::SharedSet;
 pub use share::{Partly, Share, Shared, Unshared};
 pub use table_numbered::{KeyLaw, MetBy, SameAs, SetLaw, Sought};
-pub use table_slab::{Receipt, Receipts};
+pub use table_slab::Receipt;

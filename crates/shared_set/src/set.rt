@@ -260,7 +260,8 @@ impl<V, L: SetLaw<V>, A: Low + Copy> SharedSet<V, L, A> {
         self.get(target).is_some()
     }
 
-    /// Inserts the value, unless an entry is the same, as a new handle does.
+    /// Inserts the value, unless an entry is the same, as a new handle does. No handle is left that knows the entry, so the receipt can't be
+    /// added to an account: whoever keeps an account inserts by a handle.
     pub fn insert(&self, value: V) -> Inserted<'_, V>
         ensures replies { Replies L.same value self.now.start result }
         ensures receipt { HasReceipt self.now.of result }

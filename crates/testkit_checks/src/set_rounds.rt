@@ -1,7 +1,7 @@
 //! Rounds of threads on a set that threads share. Each thread inserts a list of numbers. At the end of the set each number that was handed in
-//! has come out or come back, once, no two that came out are equal, and all memory is given back.
+//! has come out, was found or was refused, once, no two that came out are equal, each that was found came out, and all memory is given back.
 
-use demo_telling::accounts::{Outcome, insert_lists};
+use demo_telling::accounts::{NoOutcome, Outcome, insert_lists};
 use std::alloc::{AllocError, Global};
 use std::convert::AsStr;
 use std::fmt::{Display, Formatter};
@@ -25,12 +25,26 @@ const LARGE: u64 = 1_000_000;
 /// Where memory is refused, one request in so many is, on average.
 const REFUSED_ONE_IN: u64 = 6;
 
+/// How many numbers came out, were found and were refused.
+#[derive(Clone, Copy)]
+struct Counts {
+    out: u64,
+    found: u64,
+    refused: u64,
+}
+
+/// No number.
+const NONE: Counts = Counts {
+    out: 0,
+    found: 0,
+    refused: 0,
+};
+
 /// What rounds without a fault came to.
 #[derive(Clone, Copy)]
 struct Sum {
     rounds: u64,
-    out: u64,
-    back: u64,
+    counts: Counts,
     /// Rounds in which there was no memory for the set itself or for a list.
     unmade: u64,
 }
@@ -39,8 +53,8 @@ impl Display for Sum {
     fn fmt<W: fmt::Write>(&self, f: &mut Formatter<W>) -> fmt::Result {
         write!(
             f,
-            "{} rounds, {} numbers came out, {} came back, {} sets without memory",
-            self.rounds, self.out, self.back, self.unmade
+            "{} rounds, {} numbers came out, {} were found, {} were refused, {} sets without memory",
+            self.rounds, self.counts.out, self.counts.found, self.counts.refused, self.unmade
         )
     }
 }
@@ -126,8 +140,7 @@ fn run_each<R: Threads + Clock + Sync, O: Write>(
     let most = if minutes.is_some() { LARGE } else { FEW.1 };
     let mut sum = Sum {
         rounds: 0,
-        out: 0,
-        back: 0,
+        counts: NONE,
         unmade: 0,
     };
     let mut told = 0;
@@ -157,29 +170,37 @@ fn is_over(minutes: Option<u64>, rounds: u64, passed: u64) -> bool {
     }
 }
 
-/// Adds a round: how many numbers came out and how many came back, or none if there was no memory for the set.
-fn with(sum: Sum, outcome: Option<(u64, u64)>) -> Sum {
-    let (out, back) = outcome.unwrap_or((0, 0));
+/// Adds a round: what became of its numbers, or nothing if there was no memory for the set.
+fn with(sum: Sum, outcome: Option<Counts>) -> Sum {
+    let Counts {
+        out,
+        found,
+        refused,
+    } = outcome.unwrap_or(NONE);
     Sum {
         rounds: sum.rounds.saturating_add(1),
-        out: sum.out.saturating_add(out),
-        back: sum.back.saturating_add(back),
+        counts: Counts {
+            out: sum.counts.out.saturating_add(out),
+            found: sum.counts.found.saturating_add(found),
+            refused: sum.counts.refused.saturating_add(refused),
+        },
         unmade: sum.unmade.saturating_add(u64::from(outcome.is_none())),
     }
 }
 
-/// Runs a round, and accounts for each number. Returns how many came out and how many came back.
+/// Runs a round, and accounts for each number.
 fn run_round<R: Threads + Sync>(
     rt: &R,
     alloc: Global,
     round: Round,
-) -> Result<Option<(u64, u64)>, Fault> {
+) -> Result<Option<Counts>, Fault> {
     let heap = Refusing::new(alloc, rule_of(round));
     let lists = lists_of(alloc, round)?;
     let mut left = count_each(alloc, round, &lists)?;
     let came = match insert_lists(rt, alloc, &heap, lists) {
         Ok(outcome) => Some(account_for(alloc, &mut left, &outcome)?),
-        Err(_) => None,
+        Err(NoOutcome::Memory) => None,
+        Err(NoOutcome::Others) => return Err(Fault::Length),
     };
     if heap.granted() != heap.given_back() {
         return Err(Fault::Blocks);
@@ -233,21 +254,34 @@ fn count_list(counts: &mut [u64], list: &[u64]) {
     }
 }
 
-/// Accounts for each number that was handed in. Returns how many came out and how many came back.
-fn account_for(
-    alloc: Global,
-    left: &mut [u64],
-    outcome: &Outcome<u64>,
-) -> Result<(u64, u64), Fault> {
-    let mut seen = Vec::new(alloc);
-    seen.resize(left.len(), 1)?;
-    take_each(&mut seen, &outcome.out).map_err(Fault::Equal)?;
-    take_each(left, &outcome.out).map_err(Fault::Unknown)?;
-    take_each(left, &outcome.back).map_err(Fault::Unknown)?;
+/// Accounts for each number that was handed in.
+fn account_for(alloc: Global, left: &mut [u64], outcome: &Outcome<u64>) -> Result<Counts, Fault> {
+    let mut not_out = Vec::new(alloc);
+    not_out.resize(left.len(), 1)?;
+    take_each(&mut not_out, &outcome.out).map_err(Fault::Equal)?;
+    for numbers in [&outcome.out, &outcome.found, &outcome.refused] {
+        take_each(left, numbers).map_err(Fault::Unknown)?;
+    }
+    if let Some(number) = outcome
+        .found
+        .iter()
+        .find(|number| is_left(&not_out, **number))
+    {
+        return Err(Fault::NotFound(*number));
+    }
     match left.iter().position(|count| *count > 0) {
         Some(number) => Err(Fault::Lost(number as u64)),
-        None => Ok((outcome.out.len() as u64, outcome.back.len() as u64)),
+        None => Ok(Counts {
+            out: outcome.out.len() as u64,
+            found: outcome.found.len() as u64,
+            refused: outcome.refused.len() as u64,
+        }),
     }
+}
+
+/// Returns true if something is left of the number.
+fn is_left(left: &[u64], number: u64) -> bool {
+    left.get(number as usize).is_some_and(|count| *count > 0)
 }
 
 /// Takes each number from what is left of it. `Err`: nothing is left of this number.

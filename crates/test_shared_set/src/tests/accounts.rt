@@ -2,8 +2,8 @@
 ghost use Rattle.std.specs.Prelude.{◌≡◌, IfSome, length};
 
 use super::caller::{Heap, Numbering, Numbers, assert_none_out, assert_same, counted, set_with};
-use demo_telling::accounts::insert_lists;
-use shared_set::{Account, Inserted};
+use demo_telling::accounts::{NoOutcome, Outcome, insert_lists};
+use shared_set::{Account, Inserted, Settled};
 use std::alloc::{AllocError, Global};
 use std::process::Abort;
 use std::sync::Wait;
@@ -18,6 +18,11 @@ const LISTS: u64 = 3;
 
 /// How many numbers a list has. Lists beside each other share half of theirs.
 const EACH: u64 = 100;
+
+/// How many different numbers the lists have, and how many are in two lists.
+const DIFFERENT: u64 = 200;
+
+const TWICE: u64 = 100;
 
 /// Runs grant fewer requests than this before all are refused.
 const GRANTED: u64 = 60;
@@ -89,6 +94,7 @@ fn accounts_are_cut_and_put_together(rt: HostRuntime) {
     let set = set_with(&rt, &heap, 0);
     let account = account_of_three(&rt, &set);
     let account = turned(&rt, &set, account).expect(&rt, "an account");
+    assert_same(&rt, account.len(), 3);
     assert_shows(&rt, &set, &account);
     let beside = set.insert(10);
     assert!(&rt;
@@ -96,10 +102,27 @@ fn accounts_are_cut_and_put_together(rt: HostRuntime) {
         "a number without account"
     );
     drop(beside);
-    let placed = account.len();
-    let values = set.settle(account);
-    assert_same(&rt, (placed, values.len()), (3, 4));
-    drop(values);
+    assert_same(&rt, ended(set, account), (false, 4));
+    assert_none_out(&rt, &heap);
+}
+
+/// Ends the set. Returns true if the values of the account came out and no others, and how many came out.
+fn ended<'h>(set: Numbers<'h>, account: Numbered<'h>) -> (bool, usize)
+    requires { account.of ≡ set.of }
+{
+    match set.settle(account) {
+        Settled::All(values) => (true, values.len()),
+        Settled::More(values) => (false, values.len()),
+    }
+}
+
+#[test]
+fn a_set_ends_with_what_its_account_has(rt: HostRuntime) {
+    let heap = counted(rt.alloc());
+    let set = set_with(&rt, &heap, 0);
+    let mut account = account_of_three(&rt, &set);
+    account.apart();
+    assert_same(&rt, ended(set, account), (true, 3));
     assert_none_out(&rt, &heap);
 }
 
@@ -113,34 +136,51 @@ fn lists(heap: Global) -> Result<Vec<Vec<u64>>, AllocError> {
     Ok(all)
 }
 
-/// Lets threads insert the lists into a set of which so many requests are granted. As many numbers come out or back as were handed in. Returns
-/// how many came out, or `None` if there was no memory for the set itself.
-fn run<R: Threads + Wait + Abort + Sync>(rt: &R, alloc: Global, granted: u64) -> Option<usize> {
+/// How many numbers came out, were found and were refused.
+type Counts = (u64, u64, u64);
+
+/// Returns how many numbers came out, were found and were refused.
+fn counts_of(outcome: &Outcome<u64>) -> Counts {
+    (
+        outcome.out.len() as u64,
+        outcome.found.len() as u64,
+        outcome.refused.len() as u64,
+    )
+}
+
+/// Lets threads insert the lists into a set of which so many requests are granted. Returns what became of the numbers, or `None` if there was
+/// no memory for the set itself.
+fn run<R: Threads + Wait + Abort + Sync>(rt: &R, alloc: Global, granted: u64) -> Option<Counts> {
     let heap = counted(alloc);
     heap.refuse(granted, u64::MAX);
     let lists = lists(alloc).expect(rt, "lists");
-    let out = match insert_lists(rt, alloc, &heap, lists) {
-        Ok(outcome) => {
-            let came = outcome.out.len() + outcome.back.len();
-            assert_same(rt, came as u64, LISTS * EACH);
-            Some(outcome.out.len())
-        }
-        Err(_) => None,
+    let counts = match insert_lists(rt, alloc, &heap, lists) {
+        Ok(outcome) => Some(counts_of(&outcome)),
+        Err(NoOutcome::Memory) => None,
+        Err(NoOutcome::Others) => panic!(rt; "others came out"),
     };
     assert_none_out(rt, &heap);
-    out
+    counts
+}
+
+/// Asserts that each number is counted once, and that no more came out or were found than the lists have.
+fn assert_counted(rt: &impl Abort, counts: Counts) {
+    let (out, found, refused) = counts;
+    assert_same(rt, out + found + refused, LISTS * EACH);
+    assert!(rt; out <= DIFFERENT, "{out} came out");
+    assert!(rt; found <= TWICE, "{found} were found");
 }
 
 #[test]
 fn each_number_comes_out_or_back(rt: HostRuntime) {
-    let all = (LISTS + 1) * (EACH / 2);
     let mut some: u64 = 0;
     for granted in 0..GRANTED {
-        if let Some(out) = run(&rt, rt.alloc(), granted) {
-            assert!(&rt; out as u64 <= all, "{out} came out");
-            some = some.wrapping_add(u64::from((out as u64) < all));
+        if let Some(counts) = run(&rt, rt.alloc(), granted) {
+            assert_counted(&rt, counts);
+            some = some.wrapping_add(u64::from(counts.2 > 0));
         }
     }
     assert!(&rt; some > 0, "memory was refused in no run");
-    assert_same(&rt, run(&rt, rt.alloc(), u64::MAX), Some(all as usize));
+    let ample = run(&rt, rt.alloc(), u64::MAX);
+    assert_same(&rt, ample, Some((DIFFERENT, TWICE, 0)));
 }

@@ -28,3 +28,11 @@ invariant_of-self g c = let was = c.self.inside in let by = c.by.inside in let n
     ∙ c.self.invariant.of ∙ ap (λ (a : AccountView g.row.V.Denot). a.of.slab) c.self.view_is ∙ ap (λ (s : SharedView). s.slab) (sym c.requires.handle) ∙ ap (λ (k : KnownView g.row.V.Denot). k.of.slab) (sym c.by.view_is) in
     together g.L.Law.same g.L.Law.hash_of by.set.now.of was.cursor by.cursor new was.receipts.entries one all c.join.ensures.at c.join.ensures.mine theirs c.self.invariant.known there is
     (subst (λ (rs : Receipts g.row.V.Denot). AreDistinct rs.entries) (sym c.apart.ensures.same) c.apart.ensures.apart) c.apart.new.self.slab was.count 1 of c.self.invariant.counted refl
+
+pub returns-clause-known : goal.returns-clause-known
+returns-clause-known g c = subst (λ (a : AccountView g.row.V.Denot). Keeps a.history c.join.new.cursor.entries.log) c.self.view_is c.join.ensures.mine
+
+pub returns-clause-theirs : goal.returns-clause-theirs
+returns-clause-theirs g c = let new = c.join.new.cursor in
+    subst (λ (k : KnownView g.row.V.Denot). Keeps k.history new.entries.log) c.by.view_is
+    (subst (λ (k : Cursor g.row.V.Denot g.row.L.Denot g.row.A.Denot). Keeps k.entries.log new.entries.log) c.again.ensures c.join.ensures.theirs)

@@ -1,7 +1,7 @@
 use Rattle.std.proofs.Common.{◌≡◌, ◌++◌, ap, sym, subst, ◌∙◌, arith}
 use Rattle.table_slab.specs.Held.{AreDistinct}
 use Rattle.table_slab.specs.declared.rights.Receipts.{Receipts}
-use Rattle.shared_set.specs.Known.{SharedView}
+use Rattle.shared_set.specs.Known.{SharedView, Keeps}
 use Rattle.shared_set.specs.Accounts.{AccountView}
 use Rattle.shared_set.proofs.Accounting.{few_together, together}
 use Rattle.shared_set.proofs.account.Account.join.Goals as goal
@@ -22,3 +22,9 @@ invariant_of-self g c = let was = c.self.inside in let other = c.other.inside in
     together g.L.Law.same g.L.Law.hash_of c.args.set.now.of was.cursor other.cursor c.join.new.cursor was.receipts.entries other.receipts.entries all c.join.ensures.at c.join.ensures.mine c.join.ensures.theirs
     c.self.invariant.known c.other.invariant.known is (subst (λ (rs : Receipts g.row.V.Denot). AreDistinct rs.entries) (sym c.apart.ensures.same) c.apart.ensures.apart)
     c.apart.new.self.slab was.count other.count of c.self.invariant.counted c.other.invariant.counted
+
+pub returns-clause-known : goal.returns-clause-known
+returns-clause-known g c = subst (λ (a : AccountView g.row.V.Denot). Keeps a.history c.join.new.cursor.entries.log) c.self.view_is c.join.ensures.mine
+
+pub returns-clause-theirs : goal.returns-clause-theirs
+returns-clause-theirs g c = subst (λ (a : AccountView g.row.V.Denot). Keeps a.history c.join.new.cursor.entries.log) c.other.view_is c.join.ensures.theirs
