@@ -30,7 +30,7 @@ pub record AreApart (known : Texts) : Type 0 where
   pub one_text : (s : Symbol) (a b : List ℕ) → IsNamed known s a → IsNamed known s b → a ≡ b
 
 -- the text is known under this symbol, and all symbols are apart
-pub record Names (known : Texts) (s : Symbol) (text : List ℕ) : Type 0 where
+pub record IsSymbolOf (known : Texts) (text : List ℕ) (s : Symbol) : Type 0 where
   pub named : IsNamed known s text
   pub apart : AreApart known
 
@@ -41,10 +41,10 @@ pub record HasSymbol (known : Texts) (number : ℕ) (s : Symbol) : Type 0 where
 
 -- a look-up of a text gives its symbol, and None where no known text is this one
 abbrev pub FindsSymbol : Texts → List ℕ → Option Symbol → Type 0
-FindsSymbol known text (Some s) = Names known s text
+FindsSymbol known text (Some s) = IsSymbolOf known text s
 FindsSymbol known text None = IsUnknown known text
 
 -- a look-up of a symbol gives its text, and None where it is the symbol of no known text
 abbrev pub FindsText : Texts → Symbol → Option (Bor (List ℕ)) → Type 0
-FindsText known s (Some text) = Names known s text.now
+FindsText known s (Some text) = IsSymbolOf known text.now s
 FindsText known s None = IsSymbol known s → ⊥

@@ -2,7 +2,7 @@
 ghost use Rattle.std.specs.Prelude.{◌≡◌, IfOk, OnErr};
 ghost use Rattle.table_numbered.specs.Walking.{IsTaken};
 ghost use Rattle.shared_set.specs.Known.{KnowsMore, Keeps};
-ghost use Rattle.shared_interner.specs.Naming.{Names, IsSymbol, IsUnknown, FindsSymbol, FindsText, AreApart, HasSymbol};
+ghost use Rattle.shared_interner.specs.Naming.{IsSymbolOf, IsSymbol, IsUnknown, FindsSymbol, FindsText, AreApart, HasSymbol};
 
 use crate::symbol::Symbol;
 use crate::text::Text;
@@ -66,7 +66,7 @@ impl<'a, A: Low + Copy> Names<'a, A> {
     /// Copies the text and inserts the copy, unless an entry is the same.
     fn insert(&mut self, text: &str) -> Result<Symbol, AllocError>
         ensures known { KnowsMore self.old self.new }
-        ensures named { IfOk result (λ s. Names self.new.history s text.now) }
+        ensures named { IfOk result (IsSymbolOf self.new.history text.now) }
     {
         let Ok(copy) = Text::new(self.alloc, text) else {
             return Err(AllocError);
@@ -83,7 +83,7 @@ impl<'a, A: Low + Copy> Names<'a, A> {
     /// `Err`: memory was refused, or no symbol is left. Then the text is not known.
     pub fn intern(&mut self, text: &str) -> Result<Symbol, AllocError>
         ensures known { KnowsMore self.old self.new }
-        ensures named { IfOk result (λ s. Names self.new.history s text.now) }
+        ensures named { IfOk result (IsSymbolOf self.new.history text.now) }
         ensures refused { OnErr result (IsUnknown self.old.history text.now) }
     {
         match self.get(text) {
@@ -109,7 +109,7 @@ impl<'a, A: Low + Copy> Names<'a, A> {
     /// Returns the text of a symbol that this handle knows. It reads that text, and nothing else.
     pub fn known_text(&self, symbol: Symbol) -> &'a str
         requires known { IsSymbol self.now.history symbol }
-        ensures { Names self.now.history symbol result.now }
+        ensures { IsSymbolOf self.now.history result.now symbol }
     {
         self.apart(symbol);
         self.handle.known_entry(symbol.number()).as_str()

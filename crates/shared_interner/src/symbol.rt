@@ -27,7 +27,7 @@ impl Symbol {
     pub(crate) fn number(self) -> u64
         ensures { result ≡ number_of self }
     {
-        u64::from(self.number.get() - 1)
+        u64::from(self.to_u32() - 1)
     }
 
     /// Returns the symbol as a number above zero.

@@ -1,5 +1,5 @@
 -- No two entries of a history that was reached are the same.
-use Rattle.std.proofs.Common.{◌≡◌, ◌∙◌, ℕ, Bool, sym}
+use Rattle.std.proofs.Common.{◌∙◌, ℕ, Bool, sym}
 use Rattle.std.proofs.lemmas.Option.{same_Some}
 use Rattle.table_terms.specs.Laws.{IsLaw}
 use Rattle.table_numbered.specs.Words.{alike, marked}
