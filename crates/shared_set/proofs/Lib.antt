@@ -10,3 +10,4 @@ mod Walking
 mod Sharing
 mod Covered
 mod Accounting
+mod Distinct

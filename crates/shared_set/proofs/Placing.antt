@@ -1,9 +1,11 @@
 -- What an insert answers, as its caller says it.
-use Rattle.std.proofs.Common.{◌≡◌, ℕ, Bool, refl, subst, sym, ◌∙◌, inl}
+use Rattle.std.proofs.Common.{◌≡◌, ℕ, ◌++◌, Bool, [], ◌∷◌, Some, refl, subst, sym, ◌∙◌, arith, inl}
+use Rattle.std.proofs.lemmas.List.Elements.{Contains-append_right}
 use mathlib.Core.List.{IsPrefix}
-use Rattle.table_numbered.specs.Words.{mark_of, of_value}
+use Rattle.table_numbered.specs.Words.{mark_of, numbered, of_value}
 use Rattle.table_numbered.specs.declared.event.Numbered.{Numbered}
-use Rattle.table_numbered.specs.History.{History, HasSize}
+use Rattle.table_numbered.specs.declared.event.Stored.TheVariants.{Entry}
+use Rattle.table_numbered.specs.History.{History, event, HasSize, IsEntry}
 use Rattle.table_numbered.specs.Generations.{HasRoom, IsSpent}
 use Rattle.table_numbered.specs.Generations as generation
 use Rattle.table_numbered.proofs.Histories.{size_is}
@@ -29,6 +31,13 @@ module _ {V : Type 0} (same : V → V → Bool) where
     none = it.none;
     then = it.then;
   }
+
+  -- what was placed is an entry
+  pub placed_entry : (k : ℕ) (v : V) (old new : History (Numbered V)) → IsPlaced same k v old new → IsEntry new (numbered k v)
+  placed_entry k v old new it =
+      let last : IsEntry (it.before ++ event it.place (Some (Entry (numbered k v))) ∷ []) (numbered k v) =
+      (it.place, Contains-append_right it.before (event it.place (Some (Entry (numbered k v))) ∷ []) (event it.place (Some (Entry (numbered k v)))) (0, omega arith, refl)) in
+      subst (λ (log : History (Numbered V)). IsEntry log (numbered k v)) (sym it.then) last
 
   -- what a generation says that was placed
   pub placed_here : (hash : V → ℕ) (k : ℕ) (v : V) (old new : History (Numbered V)) → generation.IsPlaced same hash k v old new → IsPlaced same k v old new

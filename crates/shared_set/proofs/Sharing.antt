@@ -1,29 +1,22 @@
 -- Values that are moved into a set are entries of it.
-use Rattle.std.proofs.Common.{◌≡◌, ◌∙◌, ℕ, ◌++◌, Bool, List, [], ◌∷◌, Some, refl, sym, subst, arith, inl, inr}
+use Rattle.std.proofs.Common.{◌≡◌, ◌∙◌, ℕ, ◌++◌, Bool, List, [], ◌∷◌, sym, subst, inl, inr}
 use Rattle.std.specs.List.Sorted.{IsPermutation}
 use Rattle.std.proofs.lemmas.List.{append_assoc, append-nil}
-use Rattle.std.proofs.lemmas.List.Elements.{Contains-append_right, Contains-push_cases}
+use Rattle.std.proofs.lemmas.List.Elements.{Contains-push_cases}
 use Rattle.std.proofs.lemmas.List.Sorted.{IsPermutation-refl, IsPermutation-trans, Contains-permutation}
 use Rattle.table_numbered.specs.Words.{numbered}
-use Rattle.table_numbered.specs.History.{History, event, IsEntry}
+use Rattle.table_numbered.specs.History.{History, IsEntry}
 use Rattle.table_numbered.specs.declared.event.Numbered.{Numbered}
-use Rattle.table_numbered.specs.declared.event.Stored.TheVariants.{Entry}
 use Rattle.shared_set.specs.declared.share.Shared.{Shared}
 use Rattle.shared_set.specs.declared.share.Partly.{Partly}
 use Rattle.shared_set.specs.Known.{Keeps}
 use Rattle.shared_set.specs.Inserting.{IsPlaced}
 use Rattle.shared_set.specs.Sharing.{HasValue, HasEach, Moves, KnowsEach, HasPart}
+use Rattle.shared_set.proofs.Placing.{placed_entry}
 
 module _ {V : Type 0} where
   value_kept : (old new : History (Numbered V)) (v : V) → Keeps old new → HasValue old v → HasValue new v
   value_kept old new v kept it = (it.0, kept (numbered it.0 v) it.1)
-
-  -- a value that was placed is an entry
-  placed_value : (same : V → V → Bool) (k : ℕ) (v : V) (old new : History (Numbered V)) → IsPlaced same k v old new → HasValue new v
-  placed_value same k v old new it =
-      let last : IsEntry (it.before ++ event it.place (Some (Entry (numbered k v))) ∷ []) (numbered k v) =
-      (it.place, Contains-append_right it.before (event it.place (Some (Entry (numbered k v))) ∷ []) (event it.place (Some (Entry (numbered k v)))) (0, omega arith, refl)) in
-      (k, subst (λ (log : History (Numbered V)). IsEntry log (numbered k v)) (sym it.then) last)
 
   -- what was moved stays moved
   moves_later : (values left : List V) (old new : History (Numbered V)) → Keeps old new → Moves values old left → Moves values new left
@@ -40,7 +33,7 @@ module _ {V : Type 0} where
     all = it.all ∙ sym (append_assoc it.moved (v ∷ []) rest);
     entries = λ w among. elim (Contains-push_cases it.moved v w among) [
       | inl before ↦ value_kept old new w kept (it.entries w before)
-      | inr is ↦ subst (HasValue new) is (placed_value same k v old new placed)
+      | inr is ↦ subst (HasValue new) is (k, placed_entry same k v old new placed)
     ];
   }
 

@@ -7,3 +7,4 @@ pub mod Getting
 pub mod Ending
 pub mod Sharing
 pub mod Accounts
+pub mod Apart

@@ -2,6 +2,7 @@
 #![tactic(auto)]
 
 mod account;
+mod apart;
 mod cursor;
 mod ending;
 mod get_or_insert;

@@ -1,0 +1,6 @@
+mod caller;
+mod growth;
+mod memory;
+mod symbols;
+mod texts;
+mod threads;

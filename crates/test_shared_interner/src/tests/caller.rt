@@ -1,0 +1,50 @@
+//! Interners in memory that counts, and numbered texts.
+use shared_interner::{SharedInterner, Symbol};
+use std::alloc::{AllocError, Global};
+use std::fmt::Debug;
+use std::process::Abort;
+use testkit_refusing::{Refusing, Rule};
+
+pub(crate) type Heap = Refusing<Global>;
+
+pub(crate) type Interner<'h> = SharedInterner<&'h Heap>;
+
+/// Asserts that both are equal.
+pub(crate) fn assert_same<X: PartialEq + Debug + Drop>(rt: &impl Abort, got: X, expected: X) {
+    assert_eq!(rt; got, expected);
+}
+
+/// Returns memory that grants all that is asked of it, and counts.
+pub(crate) fn counted(alloc: Global) -> Heap {
+    Refusing::new(alloc, Rule::new(0, usize::MAX, 0, 0))
+}
+
+/// Makes an empty interner that has room for so many texts.
+pub(crate) fn interner_with<'h>(rt: &impl Abort, heap: &'h Heap, room: usize) -> Interner<'h> {
+    SharedInterner::with_capacity(heap, room).expect(rt, "an interner")
+}
+
+/// Asserts that each block that was granted was given back.
+pub(crate) fn assert_none_out(rt: &impl Abort, heap: &Heap) {
+    assert_same(rt, heap.given_back(), heap.granted());
+}
+
+/// Returns the text of this number. Every third text is long.
+pub(crate) fn text_of(alloc: Global, number: u64) -> Result<String, AllocError> {
+    if number % 3 == 0 {
+        format!(in alloc; "a text that lies in a block of its own, {number}")
+    } else {
+        format!(in alloc; "{number}")
+    }
+}
+
+/// Asserts that the text has this symbol, by each call, and that the symbol gives it back.
+pub(crate) fn assert_named(rt: &impl Abort, interner: &Interner<'_>, text: &str, symbol: Symbol) {
+    assert_same(rt, interner.get(text), Some(symbol));
+    assert_same(rt, interner.intern(text).ok(), Some(symbol));
+    assert_same(rt, interner.text(symbol), Some(text));
+    let mut names = interner.names();
+    assert_same(rt, names.get(text), Some(symbol));
+    assert_same(rt, names.intern(text).ok(), Some(symbol));
+    assert_same(rt, names.text(symbol), Some(text));
+}

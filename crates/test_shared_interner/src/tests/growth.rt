@@ -1,0 +1,61 @@
+//! Interners that grow.
+use super::caller::{
+    Interner, assert_named, assert_none_out, assert_same, counted, interner_with, text_of,
+};
+use shared_interner::Symbol;
+use std::alloc::{AllocError, Global};
+use std::process::Abort;
+use std::test::Fail;
+
+/// How many texts there are.
+const TEXTS: u64 = 10_000;
+
+/// Interns each text by one handle, and returns the symbols. The first symbol gives its text back all along.
+fn fill(
+    rt: &impl Abort,
+    alloc: Global,
+    interner: &Interner<'_>,
+) -> Result<Vec<Symbol>, AllocError> {
+    let mut names = interner.names();
+    let first = names.intern("1")?;
+    let mut symbols = Vec::new(alloc);
+    for number in 0..TEXTS {
+        symbols.push(names.intern(text_of(alloc, number)?.as_str())?)?;
+        assert_same(rt, names.text(first), Some("1"));
+    }
+    Ok(symbols)
+}
+
+/// Each symbol gives its text back after growth, and each text has its symbol.
+#[test]
+fn symbols_give_their_texts_back_after_growth(rt: HostRuntime) -> Result<(), Fail> {
+    for room in [0, TEXTS as usize] {
+        let heap = counted(rt.alloc());
+        let interner = interner_with(&rt, &heap, room);
+        let symbols = fill(&rt, rt.alloc(), &interner)?;
+        let mut number: u64 = 0;
+        for symbol in &symbols {
+            let text = text_of(rt.alloc(), number)?;
+            assert_named(&rt, &interner, text.as_str(), *symbol);
+            number = number.wrapping_add(1);
+        }
+        assert_same(&rt, (number, interner.len()), (TEXTS, TEXTS));
+        drop(interner);
+        assert_none_out(&rt, &heap);
+    }
+    Ok(())
+}
+
+/// A handle that is told what another knows finds its texts.
+#[test]
+fn a_handle_hears_of_texts(rt: HostRuntime) -> Result<(), Fail> {
+    let heap = counted(rt.alloc());
+    let interner = interner_with(&rt, &heap, 0);
+    let mut one = interner.names();
+    let mut other = interner.names();
+    let symbol = one.intern("a")?;
+    other.hear(&one.tell());
+    assert_same(&rt, other.get("a"), Some(symbol));
+    assert_same(&rt, other.text(symbol), Some("a"));
+    Ok(())
+}

@@ -1,0 +1,47 @@
+//! Symbols as numbers.
+use super::caller::assert_same;
+use shared_interner::{SharedInterner, Symbol, Text};
+use std::mem::size_of;
+use std::test::Fail;
+
+/// Numbers of symbols that nobody was given.
+const NONE: [u32; 4] = [1000, 1 << 20, u32::MAX - 1, u32::MAX];
+
+#[test]
+fn symbols_are_numbers_above_zero(rt: HostRuntime) {
+    assert_same(&rt, Symbol::from_u32(0), None);
+    for number in [1, 2, 1 << 31, u32::MAX] {
+        let symbol = Symbol::from_u32(number);
+        assert_same(&rt, symbol.map(|s: Symbol| s.to_u32()), Some(number));
+        assert!(rt; symbol == Symbol::from_u32(number) && symbol != Symbol::from_u32(number - 1));
+    }
+    assert!(rt; Symbol::from_u32(1) < Symbol::from_u32(2));
+    assert_same(&rt, size_of::<Symbol>(), 4);
+    assert_same(&rt, size_of::<Text>(), 24);
+}
+
+/// A symbol that nobody was given has no text, before the first text and after it.
+#[test]
+fn unknown_symbols_have_no_text(rt: HostRuntime) -> Result<(), Fail> {
+    let interner = SharedInterner::new(rt.alloc())?;
+    for _again in 0..2 {
+        for number in NONE {
+            let symbol = Symbol::from_u32(number).expect(&rt, "a symbol");
+            assert_same(&rt, interner.text(symbol), None);
+            assert_same(&rt, interner.names().text(symbol), None);
+        }
+        interner.intern("a")?;
+    }
+    Ok(())
+}
+
+/// A symbol that was sent as a number is the same symbol.
+#[test]
+fn a_symbol_comes_back_from_its_number(rt: HostRuntime) -> Result<(), Fail> {
+    let interner = SharedInterner::new(rt.alloc())?;
+    let symbol = interner.intern("a")?;
+    let again = Symbol::from_u32(symbol.to_u32()).expect(&rt, "a symbol");
+    assert_same(&rt, again, symbol);
+    assert_same(&rt, interner.text(again), Some("a"));
+    Ok(())
+}
