@@ -9,7 +9,10 @@ use std::sync::Wait;
 use std::thread::Threads;
 use testkit_measures::handles::SharedSetKeys;
 use testkit_measures::held::{check_held, measure_held};
+use testkit_measures::interning::{check_texts, measure_texts};
+use testkit_measures::naming::SharedSetTexts;
 use testkit_measures::numbers::NumberSet;
+use testkit_measures::records::SharedSetRecords;
 use testkit_measures::report::{Report, refuse_words};
 use testkit_measures::schedules::{check_schedules, measure_schedules};
 use testkit_measures::seats::{check_seats, measure_seats};
@@ -34,6 +37,10 @@ const SHARED_SET: &str = "shared-set";
 
 const SHARED_SHARDS: &str = "shared-shards";
 
+const RECORDS: &str = "records-shared-set";
+
+const TEXTS: &str = "texts-shared-set";
+
 /// Each workload once, counted and not timed.
 pub fn check_all<R: Print + Threads + Wait + Sync + AllocGlobal>(rt: &R) -> io::Result<()> {
     check_held::<NumberSet<Box<u64>>, R>(rt, HELD)?;
@@ -44,6 +51,8 @@ pub fn check_all<R: Print + Threads + Wait + Sync + AllocGlobal>(rt: &R) -> io::
     check_shared::<SharedNumbers<InPlace<u64>>, R>(rt, SHARED_IN_PLACE)?;
     check_shared::<SharedSetKeys, R>(rt, SHARED_SET)?;
     check_shared::<SharedShards<InPlace<u64>>, R>(rt, SHARED_SHARDS)?;
+    check_shared::<SharedSetRecords, R>(rt, RECORDS)?;
+    check_texts::<SharedSetTexts, R>(rt, TEXTS)?;
     check_seats(rt)?;
     check_schedules(rt)?;
     check_interner(rt)
@@ -59,7 +68,7 @@ pub fn run_bench<R: Print + Eprint + Clock + Files + Threads + Wait + Sync + All
         [] => check_all(rt),
         [word] if word.as_str() == "list" => println!(rt;
             "{HELD}\n{HELD_IN_PLACE}\n{HELD_SET}\n{HELD_SHARDS}\n{SHARED}\n{SHARED_IN_PLACE}\n{SHARED_SET}\n\
-            {SHARED_SHARDS}\nseats\ncore\ninterner"
+            {SHARED_SHARDS}\n{RECORDS}\n{TEXTS}\nseats\ncore\ninterner"
         ),
         [name, group] => measure(rt, name.as_str(), group.as_str()),
         [name, group, threads] => measure_threads(
@@ -87,6 +96,7 @@ fn measure<R: Print + Eprint + Clock + Files + Threads + Wait + Sync + AllocGlob
         "seats" => measure_seats(rt, &report, group),
         "core" => measure_schedules(rt, &report, group),
         "interner" => measure_interner(rt, &report, group),
+        TEXTS => measure_texts::<SharedSetTexts, R>(rt, &report, group),
         _ => measure_threads(rt, name, group, None),
     }
 }
@@ -109,6 +119,7 @@ fn measure_threads<R: Print + Eprint + Clock + Files + Threads + Wait + Sync + A
         SHARED_SHARDS => measure_shared::<SharedShards<InPlace<u64>>, R>(
             rt, &report, group, threads,
         ),
+        RECORDS => measure_shared::<SharedSetRecords, R>(rt, &report, group, threads),
         _ => refuse_words(rt),
     }
 }

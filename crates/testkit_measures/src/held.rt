@@ -1,14 +1,14 @@
 //! Measurements of a set by one thread.
 
+use crate::memory::{print_bytes, resident_bytes};
 use crate::numbers::{ABSENT, COUNT, Empty, KeySet, spread, turn};
 use crate::report::Report;
-use crate::sizes::measure_sizes;
+use crate::sizes::{Largest, measure_sizes};
 use crate::tasks::{HeldSets, Sets, Task};
+use std::io;
 use std::marker::PhantomData;
-use std::num::nearest_u64_to_f64;
 use std::rt::{Clock, Files};
 use std::time::Instant;
-use std::{fs, io};
 
 /// A power of two: its multiples pile up under a hash whose low bits depend on the low bits of a key alone.
 const STEP: u64 = 1 << 16;
@@ -48,9 +48,6 @@ impl Row {
     }
 }
 
-/// The bytes of a page of memory.
-const PAGE: u64 = 4096;
-
 /// Runs a group of measurements of a set that one owner holds alone. A group that is not known is refused.
 pub fn measure_held<S: KeySet + Empty + Drop, R: Print + Eprint + Clock + Files + AllocGlobal>(
     rt: &R,
@@ -63,6 +60,7 @@ pub fn measure_held<S: KeySet + Empty + Drop, R: Print + Eprint + Clock + Files 
     };
     match group {
         "one" => sets.with_empty(&Spread { rt, report })?,
+        "1e8" => sets.with_empty(&Largest { rt, report })?,
         _ => measure_rows(rt, report, group, &sets),
     }
 }
@@ -125,10 +123,7 @@ fn measure_one<R: Print + Clock + Files + AllocGlobal, S: KeySet>(
     let placed = insert_spread(set, 0, COUNT);
     report.time(rt, "a_ins1", start, placed, COUNT, COUNT)?;
 
-    let name = report.name;
-    let bytes = nearest_u64_to_f64(resident_bytes(rt)?.saturating_sub(before))
-        / nearest_u64_to_f64(COUNT);
-    println!(rt; "{name} g_rss {bytes:.2}")?;
+    print_bytes(rt, report, "g_rss", before, COUNT)?;
 
     let start = Instant::now(rt)?;
     let hits = count_spread(set, 0, 0);
@@ -222,14 +217,4 @@ fn count_row<S: KeySet>(set: &mut S, step: u64) -> u64 {
         found = found.wrapping_add(u64::from(set.contains(turn(index).wrapping_mul(step))));
     }
     found
-}
-
-/// The resident bytes of this process, as Linux counts them.
-fn resident_bytes<R: Files + AllocGlobal>(rt: &R) -> io::Result<u64> {
-    let text = fs::read_to_string(rt, "/proc/self/statm")?;
-    let pages = match text.split_whitespace().nth(1) {
-        Some(pages) => pages.parse::<u64>().unwrap_or(0),
-        None => 0,
-    };
-    Ok(pages.saturating_mul(PAGE))
 }

@@ -9,12 +9,22 @@ use std::time::Instant;
 /// Says how the program is called, and fails.
 pub fn refuse_words(rt: &impl Eprint) -> io::Result<()> {
     eprintln!(rt;
-        "usage: tool_checks bench [list | held|held-in-place|held-set|held-shards one|seq|step|1e4|1e5|1e7 | \
-        shared|shared-in-place|shared-set|shared-shards one|seq|step|1e4|1e5|1e7 | \
-        shared|shared-in-place|shared-set|shared-shards same|ins|hit [THREADS] | \
-        seats one|seq|same|ins | core one | interner 1e4|1e5|1e6]"
+        "usage: tool_checks bench [list | held|held-in-place|held-set|held-shards one|seq|step|1e4|1e5|1e7|1e8 | \
+        shared|shared-in-place|shared-set|shared-shards|records-shared-set one|seq|step|1e4|1e5|1e7|1e8 | \
+        shared|shared-in-place|shared-set|shared-shards|records-shared-set same|ins|hit [THREADS] | \
+        texts-shared-set txt|txt4|words | seats one|seq|same|ins | core one | interner 1e4|1e5|1e6]"
     )?;
     Err(io::Error::from(io::ErrorKind::InvalidInput))
+}
+
+/// Returns an error if this is not the count that is wanted.
+pub(crate) fn expect(count: u64, wanted: u64) -> io::Result<()>
+    ensures { OnOk result (count ≡ wanted) }
+{
+    if count != wanted {
+        return Err(io::Error::from(io::ErrorKind::InvalidData));
+    }
+    Ok(())
 }
 
 /// Who reports a measurement.
@@ -36,9 +46,7 @@ impl Report<'_> {
     ) -> io::Result<()>
         ensures { OnOk result (done ≡ wanted) }
     {
-        if done != wanted {
-            return Err(io::Error::from(io::ErrorKind::InvalidData));
-        }
+        expect(done, wanted)?;
         let nanos = start.elapsed(rt)?.as_secs_f64() * 1e9 / nearest_u64_to_f64(operations);
         let name = self.name;
         println!(rt; "{name} {measurement} {nanos:.2}")

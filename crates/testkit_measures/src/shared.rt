@@ -5,6 +5,7 @@ use crate::numbers::{
     COUNT, Empty, KeySet, NumberTable, NumberValue, Numbers, hash_of, is_same, total,
 };
 use crate::report::{Report, refuse_words};
+use crate::sizes::Largest;
 use crate::tasks::{Sets, Task};
 use crate::work::{MOST, ROUNDS, SAME, Work, part_for};
 use std::alloc::{AllocError, Global};
@@ -101,6 +102,10 @@ pub fn measure_shared<
             let set = S::empty(rt.alloc())?;
             set.by_thread(rt, &Spread { rt, report })?;
             time_work(rt, report, &set, Work::Hits, MOST)
+        }
+        ("1e8", None) => {
+            let set = S::empty(rt.alloc())?;
+            set.by_thread(rt, &Largest { rt, report })
         }
         ("same", _) => measure_work::<R, S>(rt, report, Work::Same, threads),
         ("ins", _) => measure_work::<R, S>(rt, report, Work::Inserts, threads),

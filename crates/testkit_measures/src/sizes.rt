@@ -1,12 +1,13 @@
 //! Measurements of a set by one thread with fewer keys than a million, and with more.
 
 use crate::held::insert_spread;
+use crate::memory::{print_bytes, resident_bytes};
 use crate::numbers::{ABSENT, KeySet, START, STRIDE, spread};
 use crate::report::{Report, refuse_words};
 use crate::tasks::{Sets, Task};
 use std::alloc::AllocError;
 use std::io;
-use std::rt::Clock;
+use std::rt::{Clock, Files};
 use std::time::Instant;
 
 /// How many keys a table has, how many rounds there are, and the names of what is measured.
@@ -17,6 +18,9 @@ const SIZE_1E4: Size = (10_000, 100, ["ins_1e4", "hit_1e4", "miss_1e4"]);
 const SIZE_1E5: Size = (100_000, 10, ["ins_1e5", "hit_1e5", "miss_1e5"]);
 
 const SIZE_1E7: Size = (10_000_000, 1, ["ins_1e7", "hit_1e7", "miss_1e7"]);
+
+/// The keys of the largest table, which is made once.
+const LARGEST: u64 = 100_000_000;
 
 /// Runs a group of measurements: so many keys. A group that is not known is refused.
 pub(crate) fn measure_sizes<S: Sets, R: Print + Eprint + Clock>(
@@ -119,4 +123,42 @@ fn look_all<S: KeySet>(set: &mut S, keys: u64, further: u64) -> u64 {
         found = found.wrapping_add(u64::from(set.contains(spread(at.wrapping_add(further)))));
     }
     found
+}
+
+/// Measures a hundred million spread keys.
+#[derive(Drop)]
+pub(crate) struct Largest<'a, R> {
+    pub(crate) rt: &'a R,
+    pub(crate) report: &'a Report<'a>,
+}
+
+impl<'a, R: Print + Clock + Files + AllocGlobal> Task for Largest<'a, R> {
+    type Answer = io::Result<()>;
+
+    fn run<K: KeySet>(&self, set: &mut K) -> io::Result<()> {
+        measure_largest(self.rt, self.report, set)
+    }
+}
+
+/// A hundred million spread keys in an empty set: inserts, resident bytes, hits and misses.
+fn measure_largest<R: Print + Clock + Files + AllocGlobal, S: KeySet>(
+    rt: &R,
+    report: &Report<'_>,
+    set: &mut S,
+) -> io::Result<()> {
+    let before = resident_bytes(rt)?;
+
+    let start = Instant::now(rt)?;
+    let placed = insert_spread(set, 0, LARGEST);
+    report.time(rt, "ins_1e8", start, placed, LARGEST, LARGEST)?;
+
+    print_bytes(rt, report, "rss_1e8", before, LARGEST)?;
+
+    let start = Instant::now(rt)?;
+    let hits = look_all(set, LARGEST, 0);
+    report.time(rt, "hit_1e8", start, hits, LARGEST, LARGEST)?;
+
+    let start = Instant::now(rt)?;
+    let found = look_all(set, LARGEST, ABSENT);
+    report.time(rt, "miss_1e8", start, found, 0, LARGEST)
 }

@@ -1,7 +1,7 @@
-//! The keys of the measurements, and std's set of them.
+//! The keys of the measurements, records of them, and std's sets of both.
 
 use std::collections::HashSet;
-use std::hash::{BuildHasherDefault, Hasher};
+use std::hash::{BuildHasherDefault, Hash, Hasher};
 
 pub const COUNT: u64 = 1_000_000;
 
@@ -42,4 +42,43 @@ impl Hasher for Stated {
     }
 }
 
-pub type StdSet = HashSet<Box<u64>, BuildHasherDefault<Stated>>;
+pub type ByStated = BuildHasherDefault<Stated>;
+pub type StdSet = HashSet<Box<u64>, ByStated>;
+pub type PlainSet = HashSet<u64, ByStated>;
+pub type RecordSet = HashSet<Record, ByStated>;
+
+/// A record of 24 bytes. Two are equal if their keys are, and the other two numbers follow from the key.
+pub struct Record {
+    key: u64,
+    next: u64,
+    inverse: u64,
+}
+
+impl Record {
+    pub fn of(key: u64) -> Self {
+        Record { key, next: key.wrapping_add(1), inverse: !key }
+    }
+
+    /// What a record of this key is sought by.
+    pub fn sought(key: u64) -> Self {
+        Record { key, next: 0, inverse: 0 }
+    }
+
+    pub fn is_of(&self, key: u64) -> bool {
+        self.next == key.wrapping_add(1) && self.inverse == !key
+    }
+}
+
+impl PartialEq for Record {
+    fn eq(&self, other: &Self) -> bool {
+        self.key == other.key
+    }
+}
+
+impl Eq for Record {}
+
+impl Hash for Record {
+    fn hash<H: Hasher>(&self, state: &mut H) {
+        state.write_u64(self.key);
+    }
+}

@@ -3,13 +3,14 @@
 //! A bucket is two words: the plain part, which holds the name of an entry of an earlier generation and its eight bits,
 //! and the block of an own entry. The table is held alone, so no word is atomic and no lock is taken.
 //! `steps` is a table that threads share, in the steps of the Rust original. `atomics` has numbers that threads share. `interner` is one
-//! over std's map.
+//! over std's map, and `texts` measures interners that threads share.
 
 pub mod atomics;
 pub mod interner;
 pub mod keys;
 pub mod sharing;
 pub mod steps;
+pub mod texts;
 pub mod timing;
 
 struct Block<T> {

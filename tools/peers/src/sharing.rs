@@ -1,6 +1,6 @@
-//! Sets of boxed numbers that threads share, and that a user would take instead: by the workloads of `tool_checks bench`.
+//! Sets of numbers that threads share, and that a user would take instead: by the workloads of `tool_checks bench`.
 
-use crate::keys::{spread, turn_of, StdSet, COUNT, STEP};
+use crate::keys::{spread, turn_of, Record, RecordSet, StdSet, COUNT, STEP};
 use crate::timing::{resident_bytes, time, time_of};
 use std::hint::black_box;
 use std::sync::RwLock;
@@ -27,6 +27,15 @@ impl Shared for RwLock<StdSet> {
     }
 }
 
+impl Shared for RwLock<RecordSet> {
+    fn insert(&self, number: u64) -> bool {
+        self.write().unwrap().insert(Record::of(number))
+    }
+    fn has(&self, number: u64) -> bool {
+        self.read().unwrap().get(&Record::sought(number)).is_some_and(|record| record.is_of(number))
+    }
+}
+
 /// Runs the group of workloads on such a set, and prints a line a measurement.
 pub fn measure_set<S: Shared>(name: &str, group: &str) {
     match group {
@@ -47,6 +56,7 @@ pub fn measure_set<S: Shared>(name: &str, group: &str) {
         "1e4" => measure_size::<S>(name, group, 10_000, 100),
         "1e5" => measure_size::<S>(name, group, 100_000, 10),
         "1e7" => measure_size::<S>(name, group, 10_000_000, 1),
+        "1e8" => measure_largest::<S>(name),
         _ => {}
     }
 }
@@ -124,4 +134,19 @@ fn measure_size<S: Shared>(name: &str, size: &str, keys: u64, rounds: u64) {
     };
     time_of(name, &format!("hit_{size}"), operations, || look(0, true));
     time_of(name, &format!("miss_{size}"), operations, || look(ABSENT, false));
+}
+
+/// A hundred million keys in one set, which is made once.
+const LARGEST: u64 = 100_000_000;
+
+fn measure_largest<S: Shared>(name: &str) {
+    let before = resident_bytes();
+    let set = S::default();
+    time_of(name, "ins_1e8", LARGEST, || insert_all(&set, 0, LARGEST));
+    println!("{name} rss_1e8 {:.2}", (resident_bytes() - before) as f64 / LARGEST as f64);
+    let look = |further: u64, is_there: bool| {
+        (0..LARGEST).for_each(|i| assert_eq!(set.has(spread(turn_of(i, LARGEST) + further)), is_there));
+    };
+    time_of(name, "hit_1e8", LARGEST, || look(0, true));
+    time_of(name, "miss_1e8", LARGEST, || look(ABSENT, false));
 }
