@@ -18,7 +18,7 @@ module _ {V : Type 0} (same : V → V → Bool) where
   one_found log v there w (zero, within, is) = subst (λ (x : V). SomePasses (same x) (IsEntry log)) is there
   one_found log v there w (suc i, within, is) = absurd (omega (arith, within))
 
-  pub both_found : (log : History (Numbered V)) (found more : List V) → AreFound same log found → AreFound same log more → AreFound same log (found ++ more)
+  both_found : (log : History (Numbered V)) (found more : List V) → AreFound same log found → AreFound same log more → AreFound same log (found ++ more)
   both_found log found more known known' v among = elim (Contains-append_cases found more v among) [
     | inl mine ↦ known v mine
     | inr theirs ↦ known' v theirs
@@ -28,6 +28,11 @@ module _ {V : Type 0} (same : V → V → Bool) where
   pub found_more : (old new : History (Numbered V)) (found now : List V) (v w : V) {k : ℕ} {e : V} → now ≡ found ++ w ∷ [] → w ≡ v → Keeps old new → Passes (same v) (IsEntry new) k e → AreFound same old found → AreFound same new now
   found_more old new found now v w {k} {e} more is kept passed known = subst (AreFound same new) (sym (more ∙ ap (λ (x : V). found ++ x ∷ []) is))
       (both_found new found (v ∷ []) (found_on old new found kept known) (one_found new v (k, e, passed)))
+
+  -- what two have found is known to who knows what both knew
+  pub found_by_both : (mine theirs both : History (Numbered V)) (found more all : List V) → all ≡ found ++ more → Keeps mine both → Keeps theirs both → AreFound same mine found → AreFound same theirs more → AreFound same both all
+  found_by_both mine theirs both found more all is kept kept' known known' =
+      subst (AreFound same both) (sym is) (both_found both found more (found_on mine both found kept known) (found_on theirs both more kept' known'))
 
   -- for each that was found the same one comes out
   pub found_comes_out : (log : History (Numbered V)) (found out : List V) → AreFound same log found → ComeOut log out → (v : V) → Contains found v → HasSame same out v
