@@ -53,7 +53,7 @@ GROUPS = {"held": ["one", "seq", "step"], "seats": ["one", "seq", "same", "ins"]
 # The kind of each table in `more`, and its groups. A set of string_cache has 4,096 buckets for good: it is too slow with a million texts.
 KINDS_OF_MORE = {name: "large" for name in ("shared-set", "dashmap-u64", "std-HashSet-u64")}
 KINDS_OF_MORE |= {f"records-{name}": "records" for name in ("shared-set", "dashmap", "rwlock", "std-HashSet")}
-KINDS_OF_MORE |= {f"texts-{name}": "texts" for name in ("shared-set", "dashmap", "two-dashmaps", "rwlock", "string-cache")}
+KINDS_OF_MORE |= {f"texts-{name}": "texts" for name in ("shared-interner", "dashmap", "two-dashmaps", "rwlock", "string-cache")}
 GROUPS_OF_MORE = {"large": ["1e8"], "records": ["one", "ins", "hit"], "texts": ["txt", "txt4", "words"]}
 FEWER_OF_MORE = {"records-std-HashSet": ["one"], "texts-string-cache": ["words"]}
 ONE_THREAD = ["a_ins1", "b_hit1", "c_miss1", "seq_ins1", "seq_hit1", "step_ins1", "step_hit1", "g_rss"]

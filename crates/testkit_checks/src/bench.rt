@@ -1,6 +1,7 @@
 //! Which measurement is asked for. Each line printed is the name, the measurement and nanoseconds of wall time an operation
 //! (`g_rss`: resident bytes an entry).
 use lock_free_hashtable::atomic_value::InPlace;
+use shared_interner::SharedInterner;
 use std::convert::AsStr;
 use std::fs::Files;
 use std::io;
@@ -10,7 +11,6 @@ use std::thread::Threads;
 use testkit_measures::handles::SharedSetKeys;
 use testkit_measures::held::{check_held, measure_held};
 use testkit_measures::interning::{check_texts, measure_texts};
-use testkit_measures::naming::SharedSetTexts;
 use testkit_measures::numbers::NumberSet;
 use testkit_measures::records::SharedSetRecords;
 use testkit_measures::report::{Report, refuse_words};
@@ -39,7 +39,7 @@ const SHARED_SHARDS: &str = "shared-shards";
 
 const RECORDS: &str = "records-shared-set";
 
-const TEXTS: &str = "texts-shared-set";
+const TEXTS: &str = "texts-shared-interner";
 
 /// Each workload once, counted and not timed.
 pub fn check_all<R: Print + Threads + Wait + Sync + AllocGlobal>(rt: &R) -> io::Result<()> {
@@ -52,7 +52,7 @@ pub fn check_all<R: Print + Threads + Wait + Sync + AllocGlobal>(rt: &R) -> io::
     check_shared::<SharedSetKeys, R>(rt, SHARED_SET)?;
     check_shared::<SharedShards<InPlace<u64>>, R>(rt, SHARED_SHARDS)?;
     check_shared::<SharedSetRecords, R>(rt, RECORDS)?;
-    check_texts::<SharedSetTexts, R>(rt, TEXTS)?;
+    check_texts::<SharedInterner, R>(rt, TEXTS)?;
     check_seats(rt)?;
     check_schedules(rt)?;
     check_interner(rt)
@@ -96,7 +96,7 @@ fn measure<R: Print + Eprint + Clock + Files + Threads + Wait + Sync + AllocGlob
         "seats" => measure_seats(rt, &report, group),
         "core" => measure_schedules(rt, &report, group),
         "interner" => measure_interner(rt, &report, group),
-        TEXTS => measure_texts::<SharedSetTexts, R>(rt, &report, group),
+        TEXTS => measure_texts::<SharedInterner, R>(rt, &report, group),
         _ => measure_threads(rt, name, group, None),
     }
 }

@@ -183,15 +183,12 @@ fn count_job<S: SharedTexts + Sync, R: Threads + Sync>(
         threads as usize,
         &|worker: usize| {
             let from = count.wrapping_mul(worker as u64);
-            set.by_thread(
-                alloc,
-                &Part {
-                    job,
-                    lists,
-                    from,
-                    count,
-                },
-            )
+            set.by_thread(&Part {
+                job,
+                lists,
+                from,
+                count,
+            })
         },
     )?;
     Ok(total(counts.as_slice()))
@@ -318,7 +315,7 @@ fn list_numbers<S: SharedTexts>(
     set: &S,
     texts: &[String],
 ) -> Result<Vec<u64>, AllocError> {
-    set.by_thread(alloc, &Listed { alloc, texts })
+    set.by_thread(&Listed { alloc, texts })
 }
 
 /// Each job once by four threads, counted and not timed.

@@ -1,9 +1,8 @@
-//! Interners that threads share, and the set that threads share by handles as one of them.
+//! Interners that threads share.
 
 use crate::numbers::Empty;
-use shared_set::{Handle, Inserted, MetBy, SharedSet};
+use shared_interner::{Names, SharedInterner, Symbol};
 use std::alloc::{AllocError, Global};
-use table_sets::TextLaw;
 
 /// What one thread names texts by.
 pub trait Naming {
@@ -26,62 +25,40 @@ pub trait TextTask {
 /// An interner that threads share.
 pub trait SharedTexts {
     /// Does the task by what a thread names texts by.
-    fn by_thread<T: TextTask>(&self, alloc: Global, task: &T) -> T::Answer;
+    fn by_thread<T: TextTask>(&self, task: &T) -> T::Answer;
 
     /// Returns how many texts it has.
     fn count(&self) -> u64;
 }
 
-/// Texts in a `SharedSet`.
-pub type SharedSetTexts = SharedSet<String, TextLaw>;
-
-/// What one thread names the texts of a `SharedSet` by.
-#[derive(Drop)]
-struct ByHandle<'a> {
-    handle: Handle<'a, String, TextLaw>,
-    alloc: Global,
-}
-
-impl<'a> ByHandle<'a> {
-    /// Copies the text, and inserts it unless an entry is the same.
-    fn add(&mut self, text: &str) -> Option<u64> {
-        let Ok(kept) = String::from_str(self.alloc, text) else {
-            return None;
-        };
-        match self.handle.insert(kept) {
-            Inserted::Placed(number, _, _) => Some(number),
-            Inserted::Found(number, _, _) => Some(number),
-            Inserted::Refused(_) => None,
-        }
-    }
-}
-
-impl<'a> Naming for ByHandle<'a> {
+impl<'a> Naming for Names<'a> {
     fn number_of(&mut self, text: &str) -> Option<u64> {
-        match self.handle.seek(&MetBy { key: &text }) {
-            Some((number, _)) => Some(number),
-            None => self.add(text),
+        match self.intern(text) {
+            Ok(symbol) => Some(u64::from(symbol.to_u32())),
+            Err(_) => None,
         }
     }
 
     fn is_text(&mut self, number: u64, text: &str) -> bool {
-        match self.handle.entry(number) {
-            Some(entry) => entry.as_str() == text,
+        let Some(symbol) = Symbol::from_u32(number as u32) else {
+            return false;
+        };
+        match self.text(symbol) {
+            Some(shown) => shown == text,
             None => false,
         }
     }
 }
 
-impl Empty for SharedSetTexts {
+impl Empty for SharedInterner {
     fn empty(alloc: Global) -> Result<Self, AllocError> {
-        SharedSet::new(alloc)
+        SharedInterner::new(alloc)
     }
 }
 
-impl SharedTexts for SharedSetTexts {
-    fn by_thread<T: TextTask>(&self, alloc: Global, task: &T) -> T::Answer {
-        let handle = self.handle();
-        task.run(&mut ByHandle { handle, alloc })
+impl SharedTexts for SharedInterner {
+    fn by_thread<T: TextTask>(&self, task: &T) -> T::Answer {
+        task.run(&mut self.names())
     }
 
     fn count(&self) -> u64 {

@@ -12,7 +12,7 @@
 //!     tool_checks bench shared GROUP                  the table that threads share, by one thread: as the table held alone
 //!     tool_checks bench shared GROUP [THREADS]        by that many threads, of four at most, or by one to four in turn: same,
 //!                                                     ins or hit
-//!     tool_checks bench texts-shared-set GROUP        texts that threads name: a million different ones by one thread (txt) or by
+//!     tool_checks bench texts-shared-interner GROUP        texts that threads name: a million different ones by one thread (txt) or by
 //!                                                     four (txt4), or a million calls with 50,000 words (words)
 //!     tool_checks bench seats GROUP                   the number table of seated threads: one, seq, same or ins
 //!     tool_checks bench core one                      the machine of all schedules
