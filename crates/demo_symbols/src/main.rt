@@ -24,8 +24,10 @@ fn main(rt: HostRuntime) -> io::Result<()> {
     let (here, there) = (here?, there?);
     println!(rt; "different words: {}", names.len())?;
     println!(rt; "both lines end with one word: {}", here == there)?;
-    if let Some(symbol) = here {
-        println!(rt; "the word: {:?}", names.text(symbol))?;
+    if let Some(symbol) = here
+        && let Some(word) = names.text(symbol)
+    {
+        println!(rt; "the word: {word}")?;
     }
     Ok(())
 }
