@@ -3,3 +3,4 @@ pub mod Apart
 pub mod Schedules
 pub mod Asks
 pub mod Unshown
+pub mod Accounts

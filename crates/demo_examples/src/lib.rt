@@ -1,10 +1,16 @@
-//! Small examples: functions whose contracts follow from those of the tables that they call.
+//! Small examples, proved: what follows from the contracts of tables, and threads that tell each other and account for every value.
+//!
+//! Threads tell each other what they placed while a set grows ([`tell`]), own a set together ([`owned`]), and account for every value at
+//! its end ([`accounts`]). The other modules have functions whose contracts follow from those of the tables that they call.
 #![tactic(auto)]
 
+pub mod accounts;
 pub mod alike;
 pub mod apart;
 pub mod held;
+pub mod owned;
 pub mod schedules;
 pub mod seats;
 pub mod shared;
+pub mod tell;
 pub mod unshown;

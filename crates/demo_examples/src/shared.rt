@@ -1,6 +1,6 @@
 //! Tables of any kind that one owner filled and then shares with threads: no entry is lost.
 ghost use Rattle.std.specs.Prelude.{◌≡◌};
-ghost use Rattle.table_shared_shards.specs.SharedTables.{entries_in, buckets_in};
+ghost use Rattle.table_shards.specs.SharedTables.{entries_in, buckets_in};
 
 use lock_free_hashtable::Share;
 

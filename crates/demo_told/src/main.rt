@@ -2,9 +2,9 @@
 //! Then three threads insert lists of numbers, and each number comes out of the set or is found there.
 #![tactic(auto)]
 
-use demo_telling::accounts::{NoOutcome, Outcome, insert_lists};
-use demo_telling::owned::place_by_two;
-use demo_telling::tell::tell;
+use demo_examples::accounts::{NoOutcome, Outcome, insert_lists};
+use demo_examples::owned::place_by_two;
+use demo_examples::tell::tell;
 use shared_set::SharedSet;
 use std::alloc::{AllocError, Global};
 use std::io;

@@ -3,4 +3,4 @@
 
 pub use table_runs::alone::laws;
 pub use table_shards::sharded::{HeldIntoIter, HeldIter, HeldShardedTable, ShardPlace, place};
-pub use table_shared_shards::{IntoIter, Iter, ShardedLockFreeRawTable, Share};
+pub use table_shards::shared::{IntoIter, Iter, ShardedLockFreeRawTable, Share};

@@ -43,3 +43,4 @@ mod HistoryRuns
 mod OneHistory
 mod ToldOnce
 mod ToldAtEnd
+pub mod ByPhase

@@ -15,3 +15,5 @@ pub mod Law
 pub mod Values
 pub mod Lists
 pub mod Worked
+pub mod RunningPhases
+pub mod RunningSteps

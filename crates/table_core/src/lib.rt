@@ -1,4 +1,6 @@
 //! The steps of the table as a pure state machine: any number of threads, growth, iteration and refusals are lists of events.
+//!
+//! Module [`steps`] has the steps of a call on a running table. Each is [`decide`], with the postconditions that its caller needs.
 #![tactic(auto)]
 
 pub mod call;
@@ -9,6 +11,7 @@ mod generation;
 mod machine;
 pub mod reply;
 pub mod state;
+pub mod steps;
 mod table;
 pub mod theorems;
 

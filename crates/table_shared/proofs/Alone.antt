@@ -8,7 +8,7 @@ use Rattle.table_generations.specs.Buckets.{Content, vacant, own, named, shown, 
 use Rattle.table_generations.specs.Generations.{GenerationView}
 use Rattle.table_generations.specs.Looks.{IsSeen}
 use Rattle.table_core.specs.declared.call.Answer.TheVariants.{Holds}
-use Rattle.table_turns.specs.Steps.{passed}
+use Rattle.table_core.specs.RunningSteps.{passed}
 use Rattle.table_shared.specs.Reads.{Accepts, AtAlone, IsTrueOf, StepTells}
 use Rattle.table_shared.proofs.Looked.{some_same}
 

@@ -13,8 +13,8 @@ use Rattle.table_core.specs.declared.call.Outcome.TheVariants.{Pending, New}
 use Rattle.table_core.specs.declared.call.Phase.{Phase}
 use Rattle.table_core.specs.declared.call.Phase.TheVariants.{WantShared, Shared, Probe, AtEmpty, Placed, LeaveOk, LeaveGrow, LeaveRefused, LeaveOwned, LeaveFailed, AskSize, WantOwned, Owned, Building, Done}
 use Rattle.table_core.specs.Phases.{Free, Shares}
-use Rattle.table_turns.specs.Phases.{Nothing, Inserts, Meets, AtBucket, Hopes, Walks, Leaves, lock_in, reached, reached_by}
-use Rattle.table_turns.specs.Steps.{Starting, Passing, Leaving, passed}
+use Rattle.table_core.specs.RunningPhases.{Nothing, Inserts, Meets, AtBucket, Hopes, Walks, Leaves, lock_in, reached, reached_by}
+use Rattle.table_core.specs.RunningSteps.{Starting, Passing, Leaving, passed}
 use Rattle.table_shared.specs.declared.insert.between.Carried.{Carried}
 use Rattle.table_shared.specs.declared.insert.between.Carried.TheVariants.{Gone, Value, Own, Met}
 use Rattle.table_shared.specs.declared.insert.between.Held.{Held}

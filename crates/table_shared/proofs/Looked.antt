@@ -8,7 +8,7 @@ use Rattle.table_generations.specs.Looks.{Tells, IsSeen}
 use Rattle.table_generations.specs.declared.fixed.shared.Look.{Look}
 use Rattle.table_generations.specs.declared.fixed.shared.Look.TheVariants as look
 use Rattle.table_core.specs.declared.call.CallState.{CallState}
-use Rattle.table_turns.specs.Steps.{passed}
+use Rattle.table_core.specs.RunningSteps.{passed}
 use Rattle.table_shared.specs.declared.probe.Read.{Read}
 use Rattle.table_shared.specs.declared.probe.Read.TheVariants as read
 use Rattle.table_shared.specs.Reads.{ShowsAlike, ShowsMarked, Declines, MeetsTarget, StepsAt, IsTrueOf, Accepts, ReadTells}

@@ -5,8 +5,8 @@ use Rattle.table_generations.specs.Generations.{GenerationView}
 use Rattle.table_core.specs.declared.call.CallState.{CallState}
 use Rattle.table_core.specs.declared.call.Outcome.TheVariants.{Pending}
 use Rattle.table_core.specs.declared.call.Phase.TheVariants.{Done, LookProbe}
-use Rattle.table_turns.specs.Phases.{Looks}
-use Rattle.table_turns.specs.Steps.{Starting, passed}
+use Rattle.table_core.specs.RunningPhases.{Looks}
+use Rattle.table_core.specs.RunningSteps.{Starting, passed}
 use Rattle.table_shared.specs.Between.{IsLooking}
 use Rattle.table_shared.specs.Reads.{Takes}
 use Rattle.table_shared.proofs.Looked.{some_same}

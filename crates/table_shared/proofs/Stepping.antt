@@ -7,8 +7,8 @@ use Rattle.std.specs.Option.{ForSome}
 use Rattle.table_generations.specs.declared.atomic_value.AtomicValue.{Ghosts}
 use Rattle.table_core.specs.declared.call.Answer.{Answer}
 use Rattle.table_core.specs.declared.call.Phase.TheVariants.{Done}
-use Rattle.table_turns.specs.Phases.{Reached, reached}
-use Rattle.table_turns.specs.Steps.{Went}
+use Rattle.table_core.specs.RunningPhases.{Reached, reached}
+use Rattle.table_core.specs.RunningSteps.{Went}
 use Rattle.table_shared.specs.declared.insert.between.Carried.{Carried}
 use Rattle.table_shared.specs.declared.insert.between.Carried.TheVariants.{Gone, Value, Own, Met}
 use Rattle.table_shared.specs.declared.insert.between.Inserting.{Inserting}

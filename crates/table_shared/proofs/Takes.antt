@@ -7,9 +7,9 @@ use Rattle.table_core.specs.declared.call.CallState.{CallState}
 use Rattle.table_core.specs.declared.call.Outcome.TheVariants.{Pending}
 use Rattle.table_core.specs.declared.call.Phase.TheVariants.{LeaveGrow, LeaveOk, LookProbe, Probe}
 use Rattle.table_core.specs.declared.call.Phase.{Phase}
-use Rattle.table_turns.specs.Phases.{Meets}
-use Rattle.table_turns.specs.Steps.{LookingPast, Passing, passed}
-use Rattle.table_turns.proofs.ByPhase.{accepted_by, looks_past, passes_by}
+use Rattle.table_core.specs.RunningPhases.{Meets}
+use Rattle.table_core.specs.RunningSteps.{LookingPast, Passing, passed}
+use Rattle.table_core.proofs.ByPhase.{accepted_by, looks_past, passes_by}
 use Rattle.table_shared.specs.Reads.{Takes}
 
 module _ (s t : CallState) where

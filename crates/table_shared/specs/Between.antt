@@ -11,8 +11,8 @@ use Rattle.table_core.specs.declared.call.Outcome.{Outcome}
 use Rattle.table_core.specs.declared.call.Outcome.TheVariants.{Pending}
 use Rattle.table_core.specs.declared.call.Phase.{Phase}
 use Rattle.table_core.specs.declared.call.Phase.TheVariants.{Building, Done, LookLoad, LookProbe, Probe, Shared}
-use Rattle.table_turns.specs.Phases.{Inserts, AtBucket, Hopes, Looks, Walks, lock_in, reached}
-use Rattle.table_turns.specs.Steps.{Starting}
+use Rattle.table_core.specs.RunningPhases.{Inserts, AtBucket, Hopes, Looks, Walks, lock_in, reached}
+use Rattle.table_core.specs.RunningSteps.{Starting}
 use Rattle.table_shared.specs.declared.insert.between.Asking.{Asking}
 use Rattle.table_shared.specs.declared.insert.between.Carried.{Carried}
 use Rattle.table_shared.specs.declared.insert.between.Carried.TheVariants.{Gone}

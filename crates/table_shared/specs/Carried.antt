@@ -9,8 +9,8 @@ use Rattle.table_core.specs.declared.call.Outcome.{Outcome}
 use Rattle.table_core.specs.declared.call.Phase.{Phase}
 use Rattle.table_core.specs.declared.call.Phase.TheVariants.{WantShared, WantOwned}
 use Rattle.table_core.specs.Phases.{Lock, Free, Shares, Owns}
-use Rattle.table_turns.specs.Phases.{Reached}
-use Rattle.table_turns.specs.Phases.{Nothing as ReachedNothing, Own as ReachedOwn, Other as ReachedOther}
+use Rattle.table_core.specs.RunningPhases.{Reached}
+use Rattle.table_core.specs.RunningPhases.{Nothing as ReachedNothing, Own as ReachedOwn, Other as ReachedOther}
 use Rattle.table_shared.specs.declared.insert.between.Carried.{Carried}
 use Rattle.table_shared.specs.declared.insert.between.Carried.TheVariants.{Gone, Value, Own, Met}
 use Rattle.table_shared.specs.declared.insert.between.Asking.{Asking}

@@ -3,7 +3,7 @@ use Rattle.std.specs.Prelude.{◌≡◌, Bool, true, Option, Some, None}
 use Rattle.std.specs.declared.result.Result.{Result}
 use Rattle.std.specs.declared.result.Result.TheVariants.{Ok, Err}
 use Rattle.std.specs.Borrow.{Bor}
-use Rattle.table_turns.specs.Phases.{Reached, Nothing, Own, Other}
+use Rattle.table_core.specs.RunningPhases.{Reached, Nothing, Own, Other}
 
 module _ {V X : Type 0} where
   -- with nothing handed back, the target shown is that of the value

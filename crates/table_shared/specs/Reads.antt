@@ -15,7 +15,7 @@ use Rattle.table_core.specs.declared.call.Answer.{Answer}
 use Rattle.table_core.specs.declared.call.Answer.TheVariants.{Holds, HoldsUnasked, Empty, Won as IsWon, MemoryRefused, Sized}
 use Rattle.table_core.specs.declared.call.CallState.{CallState}
 use Rattle.table_terms.specs.Hashes.{bits_of}
-use Rattle.table_turns.specs.Steps.{Went, Passing, passed}
+use Rattle.table_core.specs.RunningSteps.{Went, Passing, passed}
 use Rattle.table_shared.specs.declared.probe.Read.{Read}
 use Rattle.table_shared.specs.declared.probe.Read.TheVariants as read
 use Rattle.table_shared.specs.declared.probe.Put.{Put}

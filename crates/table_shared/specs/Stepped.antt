@@ -8,8 +8,8 @@ use Rattle.table_core.specs.declared.call.Answer.{Answer}
 use Rattle.table_core.specs.declared.call.Phase.{Phase}
 use Rattle.table_core.specs.declared.call.Phase.TheVariants.{WantShared, WantOwned, Done}
 use Rattle.table_core.specs.declared.call.CallState.{CallState}
-use Rattle.table_turns.specs.Phases.{Reached, Nothing, Other}
-use Rattle.table_turns.specs.Steps.{Went}
+use Rattle.table_core.specs.RunningPhases.{Reached, Nothing, Other}
+use Rattle.table_core.specs.RunningSteps.{Went}
 use Rattle.table_shared.specs.declared.stepped.Progress.{Progress}
 use Rattle.table_shared.specs.declared.stepped.Progress.TheVariants.{Moved, Blocked}
 use Rattle.table_shared.specs.declared.stepped.Progress.TheVariants.{Done as Ended}

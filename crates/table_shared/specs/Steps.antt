@@ -6,8 +6,8 @@ use Rattle.std.specs.Fn.{Shared as SharedFn, FnReturnsAtPair}
 use Rattle.table_generations.specs.declared.atomic_value.AtomicValue.{Ghosts}
 use Rattle.table_core.specs.declared.call.Answer.{Answer}
 use Rattle.table_terms.specs.Hashes.{bits_of}
-use Rattle.table_turns.specs.Phases.{reached_by}
-use Rattle.table_turns.specs.Steps.{Went}
+use Rattle.table_core.specs.RunningPhases.{reached_by}
+use Rattle.table_core.specs.RunningSteps.{Went}
 use Rattle.table_shared.specs.declared.insert.between.Carried.TheVariants.{Gone}
 use Rattle.table_shared.specs.declared.insert.between.Inserting.{Inserting}
 use Rattle.table_shared.specs.Carried.{met_in, Heard}

@@ -17,10 +17,10 @@ use crate::table::LockFreeRawTable;
 use std::snapshot::Snapshot;
 use std::sync::Wait;
 use table_cell::Low;
+use table_core::steps::{step, step_loaded};
 use table_core::{Answer, CallState, Outcome, Phase};
 use table_generations::atomic_value::AtomicValue;
 use table_generations::fixed::Generation;
-use table_turns::{step, step_loaded};
 
 /// Returns the same state, built field by field from what the caller knows of it. The compiler then keeps the state in registers;
 /// a state that is copied whole from step to step is kept in memory.

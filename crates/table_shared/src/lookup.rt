@@ -8,9 +8,9 @@ pub(crate) mod steps;
 use crate::probe::{Read, Reading, Tested};
 use crate::table::LockFreeRawTable;
 use std::alloc::Allocator;
+use table_core::steps::step_loaded;
 use table_core::{CallState, Phase};
 use table_generations::atomic_value::AtomicValue;
-use table_turns::step_loaded;
 
 /// Returns the same state, of a look-up that goes on to its next bucket. Its phase is written out, so that the compiler removes
 /// the steps of other phases from the loop.

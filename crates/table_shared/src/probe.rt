@@ -12,18 +12,18 @@ ghost use Rattle.table_terms.specs.Hashes.{bits_of};
 ghost use Rattle.table_core.specs.Calls.{stands_at_bucket};
 ghost use Rattle.table_core.specs.declared.call.Outcome.TheVariants.{Pending};
 ghost use Rattle.table_core.specs.declared.call.Phase.TheVariants.{AtEmpty};
-ghost use Rattle.table_turns.specs.Phases.{ReadsBucket, MeetsEntry};
+ghost use Rattle.table_core.specs.RunningPhases.{ReadsBucket, MeetsEntry};
 ghost use Rattle.table_shared.specs.Reads.{ShowsAlike, ShowsMarked, MeetsTarget, StepsAt, InsertPuts, ReadTells, LossTells, PutTells};
 
 use crate::table::LockFreeRawTable;
 use std::alloc::Allocator;
 use table_cell::{Entry, Low, Missed, Note};
+use table_core::steps::{passed, step};
 use table_core::{Answer, CallState};
 use table_generations::atomic_value::AtomicValue;
 use table_generations::fixed::Generation;
 use table_generations::fixed::shared::Look;
 use table_terms::probe::bits_of_hash;
-use table_turns::{passed, step};
 
 /// The closure that a probe calls with the target of an entry that has the bits of its hash.
 pub(crate) trait Probing<X> {

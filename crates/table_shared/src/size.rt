@@ -4,7 +4,7 @@ ghost use Rattle.table_core.specs.Calls.{stands_at_bucket, to};
 ghost use Rattle.table_core.specs.declared.call.Outcome.TheVariants.{New};
 ghost use Rattle.table_core.specs.declared.call.Phase.TheVariants.{Placed, LeaveOk, AskSize, WantOwned, Done};
 ghost use Rattle.table_core.specs.declared.call.Answer.TheVariants.{Counted, Sized};
-ghost use Rattle.table_turns.specs.Steps.{Went};
+ghost use Rattle.table_core.specs.RunningSteps.{Went};
 ghost use Rattle.table_shared.specs.Reads.{AsksSize};
 
 use crate::locks::SharedLock;
@@ -12,9 +12,9 @@ use crate::table::LockFreeRawTable;
 use std::alloc::Allocator;
 use std::sync::atomic::AtomicUsize;
 use std::sync::atomic::Ordering::SeqCst;
+use table_core::steps::step;
 use table_core::{Answer, CallState};
 use table_generations::atomic_value::AtomicValue;
-use table_turns::step;
 
 /// The number of entries. Each is counted once, after it was placed and while the lock is held. Only an insert that has placed
 /// its value changes it.

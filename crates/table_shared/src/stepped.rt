@@ -6,7 +6,7 @@ ghost use Rattle.std.specs.Prelude.{◌≡◌, ◌≢◌, None, true, IfSome};
 ghost use Rattle.std.specs.Fn.{FnReturnsAt, FnReturnsAtPair};
 ghost use Rattle.table_core.specs.Calls.{insert_start, lookup_start};
 ghost use Rattle.table_core.specs.declared.call.Phase.TheVariants.{Done};
-ghost use Rattle.table_turns.specs.Phases.{Other, reached_by};
+ghost use Rattle.table_core.specs.RunningPhases.{Other, reached_by};
 ghost use Rattle.table_shared.specs.Inserts.{Answers, told_by};
 ghost use Rattle.table_shared.specs.Stepped.{MayStep, Advances, MayBlock, IfMoved, IfBlocked, IfEnded, found_by, accepted_in};
 

@@ -4,7 +4,7 @@ ghost use Rattle.std.specs.Int.{IsPowerOfTwo};
 ghost use Rattle.std.specs.Option.{ForSome, IsSomeAnd};
 ghost use Rattle.table_terms.specs.Capacities.{IsFirstCapacity};
 ghost use Rattle.table_core.specs.declared.call.Phase.TheVariants.{Shared, LookLoad};
-ghost use Rattle.table_turns.specs.Steps.{Went};
+ghost use Rattle.table_core.specs.RunningSteps.{Went};
 ghost use Rattle.table_shared.specs.Between.{Loads};
 ghost use Rattle.table_shared.specs.Lineages.{AreOfHome, IsNumber, LastIsBare, shown_in};
 
@@ -16,12 +16,12 @@ use crate::size::Size;
 use std::alloc::{Allocator, Global};
 use std::marker::Model;
 use table_cell::{Home, Note};
+use table_core::steps::{step, step_loaded};
 use table_core::{Answer, CallState};
 use table_generations::atomic_value::AtomicValue;
 use table_generations::fixed::Generation;
 use table_generations::values::IntoIter;
 use table_terms::capacity::FIRST_CAPACITY;
-use table_turns::{step, step_loaded};
 
 /// An insertion-only hash table that threads share. A look-up takes no lock; an insert takes one.
 ///

@@ -1,4 +1,4 @@
-//! Tests of the hash tables, over several of their modules at once.
+//! Tests of the hash tables and the sets of one owner, over several of their modules at once.
 #![tactic(auto)]
 
 #[cfg(test)]

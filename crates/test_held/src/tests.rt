@@ -7,6 +7,7 @@ mod memory;
 mod pairs;
 mod refusals;
 mod runs;
+mod sets;
 mod values;
 
 use pairs::{Pair, Pairs, Told};

@@ -19,8 +19,8 @@ use std::process::Abort;
 use std::str;
 use std::sync::Wait;
 use std::thread::Threads;
-use testkit_refusing::{Refusing, Rule};
-use tool_call_texts::faults::Fault;
+use testkit::refusing::{Refusing, Rule};
+use tool_commands::faults::Fault;
 use tool_commands::program::run_words;
 
 /// What a run printed, and its status.

@@ -1,5 +1,17 @@
 //! Which measurement is asked for. Each line printed is the name, the measurement and nanoseconds of wall time an operation
 //! (`g_rss`: resident bytes an entry).
+use crate::measures::handles::SharedSetKeys;
+use crate::measures::held::{check_held, measure_held};
+use crate::measures::interning::{check_texts, measure_texts};
+use crate::measures::numbers::NumberSet;
+use crate::measures::records::SharedSetRecords;
+use crate::measures::report::{Report, refuse_words};
+use crate::measures::schedules::{check_schedules, measure_schedules};
+use crate::measures::seats::{check_seats, measure_seats};
+use crate::measures::sets::HeldSetKeys;
+use crate::measures::sharded::{HeldShards, SharedShards};
+use crate::measures::shared::{SharedNumbers, check_shared, measure_shared};
+use crate::measures::texts::{check_interner, measure_interner};
 use lock_free_hashtable::atomic_value::InPlace;
 use shared_interner::SharedInterner;
 use std::convert::AsStr;
@@ -8,18 +20,6 @@ use std::io;
 use std::rt::Clock;
 use std::sync::Wait;
 use std::thread::Threads;
-use testkit_measures::handles::SharedSetKeys;
-use testkit_measures::held::{check_held, measure_held};
-use testkit_measures::interning::{check_texts, measure_texts};
-use testkit_measures::numbers::NumberSet;
-use testkit_measures::records::SharedSetRecords;
-use testkit_measures::report::{Report, refuse_words};
-use testkit_measures::schedules::{check_schedules, measure_schedules};
-use testkit_measures::seats::{check_seats, measure_seats};
-use testkit_measures::sets::HeldSetKeys;
-use testkit_measures::sharded::{HeldShards, SharedShards};
-use testkit_measures::shared::{SharedNumbers, check_shared, measure_shared};
-use testkit_measures::texts::{check_interner, measure_interner};
 
 const HELD: &str = "held";
 

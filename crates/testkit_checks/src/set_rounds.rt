@@ -1,7 +1,8 @@
 //! Rounds of threads on a set that threads share. Each thread inserts a list of numbers. At the end of the set each number that was handed in
 //! has come out, was found or was refused, once, no two that came out are equal, each that was found came out, and all memory is given back.
 
-use demo_telling::accounts::{NoOutcome, Outcome, insert_lists};
+use crate::rounds::{Fault, Kind, Round};
+use demo_examples::accounts::{NoOutcome, Outcome, insert_lists};
 use std::alloc::{AllocError, Global};
 use std::convert::AsStr;
 use std::fmt::{Display, Formatter};
@@ -10,8 +11,7 @@ use std::rt::Clock;
 use std::thread::Threads;
 use std::time::Instant;
 use std::{fmt, io};
-use testkit_refusing::{Refusing, Rule};
-use testkit_rounds::{Fault, Kind, Round};
+use testkit::refusing::{Refusing, Rule};
 
 /// The seconds of a minute.
 const MINUTE: u64 = 60;

@@ -14,7 +14,7 @@ use table_core::call::{CallState, Phase};
 use table_core::event::Event;
 use table_core::reply::{Finished, Reply};
 use table_shared::LockFreeRawTable;
-use testkit_refusing::{Refusing, Rule};
+use testkit::refusing::{Refusing, Rule};
 
 /// A table without a generation, whose first one will have `first` buckets.
 pub(crate) fn new_table(memory: &Refusing<Global>, first: u64) -> Table<'_>

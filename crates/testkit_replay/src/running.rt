@@ -7,7 +7,7 @@ use crate::replay::{Replay, Turn};
 use std::alloc::Global;
 use table_core::call::CallState;
 use table_shared::{InsertCall, LockFreeRawTable, LookupCall, Progress};
-use testkit_refusing::Refusing;
+use testkit::refusing::Refusing;
 
 /// A table of the values of a schedule, whose memory can be refused.
 pub type Table<'m> = LockFreeRawTable<Box<Item>, &'m Refusing<Global>>;

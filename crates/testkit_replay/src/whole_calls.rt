@@ -21,7 +21,7 @@ use crate::whole_calls::trace::Mark;
 use crate::whole_calls::whole::run_plan;
 use std::alloc::Global;
 use std::sync::Wait;
-use testkit_refusing::{Refusing, Rule};
+use testkit::refusing::{Refusing, Rule};
 
 /// Of a call's requests for memory, how many are granted first, and how many of the next are refused.
 pub type Refusals = (u64, u64);

@@ -1,9 +1,9 @@
 -- Which reply a line is given.
 use Rattle.std.specs.Prelude.{◌≡◌, ℕ, List, length, decimal, Option}
 use Rattle.table_terms.specs.declared.insertion.Insertion.{Insertion}
-use Rattle.tool_call_texts.specs.declared.spelling.Line.{Line}
-use Rattle.tool_call_texts.specs.declared.spelling.Line.TheVariants as line
-use Rattle.tool_call_texts.specs.Replies.{number_list, insertion_text, lookup_text}
+use Rattle.tool_commands.specs.declared.spelling.Line.{Line}
+use Rattle.tool_commands.specs.declared.spelling.Line.TheVariants as line
+use Rattle.tool_commands.specs.Replies.{number_list, insertion_text, lookup_text}
 use Rattle.tool_commands.specs.Pairs.{ShowsPairs, InsertsPair, LooksUpPair, ListsNumbers}
 
 -- the table t was asked the line when it held the pairs ps; it is told this text, and then holds

@@ -1,16 +1,16 @@
 //! The lines of `calls` and `shards`, run on a single-owner table.
 ghost use Rattle.std.specs.Prelude.{◌≡◌, ◌≢◌, ◌++◌, ℕ, List, OnOk, IfErr, codes};
 ghost use Rattle.std.specs.Io.KnownBytes.{Appends};
-ghost use Rattle.tool_call_texts.specs.Faults.{IsInputFault};
+ghost use Rattle.tool_commands.specs.Faults.{IsInputFault};
 
+use crate::faults::Fault;
 use crate::lines::run_lines;
 use crate::pairs::PairTable;
+use crate::replies::{Reply, write_reply};
+use crate::spelling::{Line, parse_line};
 use crate::stores::PairStore;
 use std::alloc::Allocator;
 use std::io::{Read, Write};
-use tool_call_texts::faults::Fault;
-use tool_call_texts::replies::{Reply, write_reply};
-use tool_call_texts::spelling::{Line, parse_line};
 use tool_streams::faults::StreamFault;
 use tool_streams::line_command::LineCommand;
 use tool_streams::output::Output;
@@ -19,7 +19,7 @@ use tool_streams::short_lines::ShortLines;
 impl<A: Allocator + Copy, B: PairStore<A>> LineCommand for PairTable<B, A> {
     ghost use Rattle.std.specs.Prelude.{ℕ, List};
     ghost use Rattle.tool_commands.specs.Answered.{AnswersAsPairs};
-    ghost use Rattle.tool_call_texts.specs.Spelling.{SpellsLine};
+    ghost use Rattle.tool_commands.specs.Spelling.{SpellsLine};
 
     type Line = Line;
 

@@ -1,10 +1,10 @@
 //! A gate that workers pass only if they run at the same time.
 ghost use Rattle.std.specs.Prelude.{◌≡◌, ◌<◌, IsTrue};
 
+use crate::faults::Fault;
 use std::hint::spin_loop;
 use std::sync::atomic::{AtomicBool, Ordering};
 use std::thread::yield_now;
-use tool_call_texts::faults::Fault;
 
 /// A gate that workers ask before each of their inserts. Workers and inserts are numbered from 0.
 pub trait Gate {

@@ -1,19 +1,19 @@
 //! A job of `stress`: workers that share a table at the same time.
 ghost use Rattle.std.specs.Prelude.{◌≡◌, ◌<◌, ◌≤◌, IfOk, IfErr};
-ghost use Rattle.tool_call_texts.specs.Faults.{IsStartFault, IsJobFault};
-ghost use Rattle.tool_call_texts.specs.Stress.{entries_of};
+ghost use Rattle.tool_commands.specs.Faults.{IsStartFault, IsJobFault};
+ghost use Rattle.tool_commands.specs.Stress.{entries_of};
 
+use crate::endings::Ending;
+use crate::faults::Fault;
 use crate::gate::Gate;
+use crate::job::Job;
 use crate::joining::{join_all, keep};
+use crate::kinds::Kind;
 use crate::workers::{ValueTable, Worker, insert_all, look_all};
 use std::alloc::Allocator;
 use std::sync::Wait;
 use std::thread;
 use std::thread::{Builder, Threads};
-use tool_call_texts::endings::Ending;
-use tool_call_texts::faults::Fault;
-use tool_call_texts::job::Job;
-use tool_call_texts::kinds::Kind;
 use tool_streams::faults::StreamFault;
 
 /// The workers that run at the same time.

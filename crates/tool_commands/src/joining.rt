@@ -1,13 +1,13 @@
 //! What workers leave that run at the same time, each in a thread of its own.
 ghost use Rattle.std.specs.Prelude.{IfErr};
-ghost use Rattle.tool_call_texts.specs.Faults.{IsStartFault};
+ghost use Rattle.tool_commands.specs.Faults.{IsStartFault};
 
+use crate::endings::Ending;
+use crate::faults::Fault;
 use crate::gate::{Gate, no_thread};
 use std::alloc::Allocator;
 use std::io;
 use std::thread::{JoinHandle, Threads};
-use tool_call_texts::endings::Ending;
-use tool_call_texts::faults::Fault;
 use tool_streams::faults::StreamFault;
 
 /// What a worker leaves, which can be put together with what another one leaves.

@@ -1,9 +1,9 @@
 //! Commands whose input is lines.
 ghost use Rattle.std.specs.Prelude.{IfErr};
-ghost use Rattle.tool_call_texts.specs.Faults.{IsInputFault};
+ghost use Rattle.tool_commands.specs.Faults.{IsInputFault};
 
+use crate::faults::Fault;
 use std::io::{Read, Write};
-use tool_call_texts::faults::Fault;
 use tool_streams::line_command::{LineCommand, take_lines};
 use tool_streams::output::Output;
 use tool_streams::short_lines::ShortLines;

@@ -1,14 +1,17 @@
 //! The program, over its arguments and streams.
 ghost use Rattle.std.specs.Prelude.{◌≡◌, ◌⊎◌, IfErr, map};
-ghost use Rattle.tool_call_texts.specs.Arguments.{NamesCommand, IsRunnable, IsFaultOf};
-ghost use Rattle.tool_call_texts.specs.Faults.{status_of};
-ghost use Rattle.tool_call_texts.specs.declared.arguments.Command.{Command as CommandOf};
-ghost use Rattle.tool_call_texts.specs.declared.faults.Fault.{Fault as FaultOf};
+ghost use Rattle.tool_commands.specs.Arguments.{NamesCommand, IsRunnable, IsFaultOf};
+ghost use Rattle.tool_commands.specs.Faults.{status_of};
+ghost use Rattle.tool_commands.specs.declared.arguments.Command.{Command as CommandOf};
+ghost use Rattle.tool_commands.specs.declared.faults.Fault.{Fault as FaultOf};
 
+use crate::arguments::{Command, parse_command};
 use crate::calls::run_pairs;
+use crate::faults::Fault;
 use crate::gate::{Gates, ProgramGates};
 use crate::jobs::Crew;
 use crate::lines::run_lines;
+use crate::schedules::Schedule;
 use crate::seats::{WORKER_STACK, run_seats};
 use crate::shards::run_shards;
 use crate::stores::RawPairs;
@@ -19,9 +22,6 @@ use std::rt::Env;
 use std::sync::Wait;
 use std::thread::Threads;
 use table_cell::Low;
-use tool_call_texts::arguments::{Command, parse_command};
-use tool_call_texts::faults::Fault;
-use tool_call_texts::schedules::Schedule;
 use tool_streams::arguments::words_or_status;
 use tool_streams::faults::StreamFault;
 use tool_streams::messages::end_with;

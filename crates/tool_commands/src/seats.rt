@@ -2,8 +2,9 @@
 ghost use Rattle.std.specs.Prelude.{◌≡◌, ◌+◌, length, IfErr};
 ghost use Rattle.seated.specs.Tables.{IsSeatOf};
 ghost use Rattle.seated.specs.Numbers.{own_numbers};
-ghost use Rattle.tool_call_texts.specs.Faults.{IsStartFault, IsThreadFault};
+ghost use Rattle.tool_commands.specs.Faults.{IsStartFault, IsThreadFault};
 
+use crate::faults::Fault;
 use crate::gate::Gate;
 use crate::joining::{Joined, join_all, keep};
 use seated::{NumberAnswer, NumberTable, Seat};
@@ -13,7 +14,6 @@ use std::num::NonZeroU64;
 use std::sync::Wait;
 use std::thread;
 use std::thread::{Builder, Threads};
-use tool_call_texts::faults::Fault;
 use tool_streams::faults::StreamFault;
 
 /// The capacity of the number table. Each worker inserts one number more.

@@ -2,14 +2,14 @@
 ghost use Rattle.std.specs.Prelude.{◌≤◌, IfErr};
 ghost use Rattle.std.specs.Int.{IsPowerOfTwo};
 ghost use Rattle.table_terms.specs.Capacities.{IsFirstCapacity};
-ghost use Rattle.tool_call_texts.specs.Faults.{IsInputFault};
+ghost use Rattle.tool_commands.specs.Faults.{IsInputFault};
 
+use crate::arguments::ShardCount;
 use crate::calls::run_pairs;
+use crate::faults::Fault;
 use crate::stores::ShardedPairs;
 use std::alloc::Allocator;
 use std::io::{Read, Write};
-use tool_call_texts::arguments::ShardCount;
-use tool_call_texts::faults::Fault;
 use tool_streams::output::Output;
 use tool_streams::short_lines::ShortLines;
 

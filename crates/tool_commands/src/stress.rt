@@ -1,19 +1,19 @@
 //! The command `stress`: jobs of three kinds, each run by several threads at once on a table that they share.
 ghost use Rattle.std.specs.Prelude.{◌≡◌, ◌<◌, ◌≤◌, IfOk, OnOk, IfErr};
 ghost use Rattle.std.specs.Io.KnownBytes.{Appends};
-ghost use Rattle.tool_call_texts.specs.Faults.{IsJobFault, IsStressFault};
-ghost use Rattle.tool_call_texts.specs.Stress.{entries_of, kind_line, stress_text};
+ghost use Rattle.tool_commands.specs.Faults.{IsJobFault, IsStressFault};
+ghost use Rattle.tool_commands.specs.Stress.{entries_of, kind_line, stress_text};
 
+use crate::faults::Fault;
 use crate::gate::Gates;
 use crate::jobs::{Crew, run_job};
+use crate::kinds::Kind;
 use crate::workers::Values;
 use std::io::Write;
 use std::sync::Wait;
 use std::thread::Threads;
 use table_cell::Low;
 use table_shared::LockFreeRawTable;
-use tool_call_texts::faults::Fault;
-use tool_call_texts::kinds::Kind;
 use tool_streams::faults::StreamFault;
 
 /// Runs `jobs` jobs of each kind, each by this crew on a new table and under a new gate. After the jobs of a kind it prints the

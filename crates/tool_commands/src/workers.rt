@@ -1,15 +1,15 @@
 //! The calls of each worker of a job on the table that they share.
 ghost use Rattle.std.specs.Prelude.{◌≡◌, ◌<◌, IfOk};
-ghost use Rattle.tool_call_texts.specs.Stress.{inserts_of, value_of, value_hash};
+ghost use Rattle.tool_commands.specs.Stress.{inserts_of, value_of, value_hash};
 
+use crate::endings::Ending;
 use crate::gate::Gate;
+use crate::job::Job;
+use crate::kinds::Kind;
 use std::alloc::{AllocError, Allocator};
 use std::sync::Wait;
 use table_cell::Low;
 use table_shared::LockFreeRawTable;
-use tool_call_texts::endings::Ending;
-use tool_call_texts::job::Job;
-use tool_call_texts::kinds::Kind;
 
 /// A table of values that the workers of a job share.
 pub trait ValueTable<A: Allocator + Copy> {

@@ -2,7 +2,7 @@
 #![tactic(auto)]
 
 use std::process::ExitCode;
-use tool_memo_table::memo_lines::run_memo;
+use tool_lines::memo_lines::run_memo;
 
 fn main(rt: HostRuntime) -> ExitCode {
     let mut output = rt.stdout();

@@ -2,8 +2,8 @@
 #![tactic(auto)]
 
 use std::process::ExitCode;
-use tool_text_lines::program::run_program;
-use tool_text_lines::texts::SystemFiles;
+use tool_lines::program::run_program;
+use tool_lines::texts::SystemFiles;
 
 fn main(rt: HostRuntime) -> ExitCode {
     let files = SystemFiles { files: &rt };

@@ -14,10 +14,10 @@ use crate::locks::OwnedLock;
 use std::alloc::Allocator;
 use std::array;
 use table_cell::{Bucket, Entry, Home, Word};
+use table_core::steps::step;
 use table_core::{Answer, CallState};
 use table_generations::atomic_value::AtomicValue;
 use table_generations::fixed::Generation;
-use table_turns::step;
 
 /// The number of buckets that are read before the entries of the first of them are copied.
 pub(crate) const WINDOW: usize = 64;

@@ -5,8 +5,8 @@ ghost use Rattle.std.specs.Option.{ForSome};
 ghost use Rattle.table_core.specs.Calls.{finds_entry};
 ghost use Rattle.table_core.specs.declared.call.Phase.TheVariants.{Shared, Probe, AtEmpty, Placed, LeaveOk, AskSize, Owned, Building, Done};
 ghost use Rattle.table_core.specs.declared.call.Answer.TheVariants.{Taken, Holds, MemoryRefused};
-ghost use Rattle.table_turns.specs.Phases.{Meets, Turns, Leaves};
-ghost use Rattle.table_turns.specs.Steps.{Went, Passing, passed as passed_answer};
+ghost use Rattle.table_core.specs.RunningPhases.{Meets, Turns, Leaves};
+ghost use Rattle.table_core.specs.RunningSteps.{Went, Passing, passed as passed_answer};
 ghost use Rattle.table_shared.specs.Carried.{Asks, Wants, lock_of, table_in, met_in};
 ghost use Rattle.table_shared.specs.Inserts.{Answers};
 ghost use Rattle.table_shared.specs.Steps.{Steps, Stays, TellsAlone, Ends, TriesStep};
@@ -18,9 +18,9 @@ use crate::table::LockFreeRawTable;
 use std::mem;
 use std::sync::Wait;
 use table_cell::Low;
+use table_core::steps::{passed, released, step, step_released};
 use table_core::{Answer, CallState, Phase};
 use table_generations::atomic_value::AtomicValue;
-use table_turns::{passed, released, step, step_released};
 
 impl<'a, T: AtomicValue, A: Low + Copy, E, H> Inserting<'a, T, A, E, H>
 where

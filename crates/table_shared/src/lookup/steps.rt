@@ -4,8 +4,8 @@ ghost use Rattle.std.specs.Fn.{FnReturnsAt};
 ghost use Rattle.table_core.specs.Calls.{lookup_start};
 ghost use Rattle.table_core.specs.declared.call.Outcome.TheVariants.{Pending};
 ghost use Rattle.table_core.specs.declared.call.Phase.TheVariants.{LookLoad, LookProbe, Done};
-ghost use Rattle.table_turns.specs.Phases.{reached_by};
-ghost use Rattle.table_turns.specs.Steps.{Went};
+ghost use Rattle.table_core.specs.RunningPhases.{reached_by};
+ghost use Rattle.table_core.specs.RunningSteps.{Went};
 ghost use Rattle.table_terms.specs.Hashes.{bits_of};
 ghost use Rattle.table_shared.specs.Between.{IsLooking};
 ghost use Rattle.table_shared.specs.Reads.{AtAlone, StepTells};
@@ -14,10 +14,10 @@ ghost use Rattle.table_shared.specs.Stepped.{found_by};
 use crate::probe::{Read, Stepping, Tested};
 use crate::table::LockFreeRawTable;
 use std::alloc::Allocator;
+use table_core::steps::passed;
 use table_core::{Answer, CallState, Phase};
 use table_generations::atomic_value::AtomicValue;
 use table_generations::fixed::Generation;
-use table_turns::passed;
 
 /// A look-up between two steps: its state, and the generation that it probes.
 #[derive(Drop)]

@@ -5,7 +5,7 @@ use std::alloc::{AllocError, Global};
 use std::process::Abort;
 use std::test::Fail;
 use table_held::raw::IntoIter;
-use testkit_refusing::{Refusing, Rule};
+use testkit::refusing::{Refusing, Rule};
 
 /// Entries of a table, and the blocks that it holds at least: one for each entry, and two for each
 /// generation.

@@ -6,7 +6,7 @@ use std::test::Fail;
 use table_held::raw::HeldRawTable;
 use table_held::{AtomicValue, InPlace};
 use table_terms::law::hash_number;
-use testkit_counting::{Counting, CountingLaw, Drops};
+use testkit::counting::{Counting, CountingLaw, Drops};
 
 type Countings = HeldRawTable<Box<Counting>>;
 

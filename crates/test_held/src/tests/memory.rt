@@ -5,7 +5,7 @@ use std::alloc::{AllocError, Allocator, Global};
 use std::ops::Range;
 use std::process::Abort;
 use std::test::Fail;
-use testkit_refusing::{Refusing, Rule};
+use testkit::refusing::{Refusing, Rule};
 
 /// A block of an entry takes fewer bytes, and all else that a table asks for more.
 const BLOCK: usize = 32;

@@ -2,7 +2,7 @@
 use std::alloc::{AllocError, Allocator};
 use std::process::Abort;
 use std::test::Fail;
-use testkit_refusing::{Refusing, Rule};
+use testkit::refusing::{Refusing, Rule};
 
 /// Whether a request of so many bytes is granted. The block is given back.
 fn grants<A: Allocator + Copy>(alloc: A, bytes: usize) -> bool {

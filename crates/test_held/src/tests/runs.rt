@@ -9,8 +9,8 @@ use std::test::Fail;
 use table_held::{AtomicValue, InPlace};
 use table_runs::alone::AloneTable;
 use table_terms::law::PairLaw;
-use testkit_plain_list::PlainList;
-use testkit_refusing::{Refusing, Rule};
+use testkit::plain_list::PlainList;
+use testkit::refusing::{Refusing, Rule};
 
 /// The plain list of pairs that a table stands for.
 type PairList = PlainList<InPlace<Pair>>;

@@ -6,8 +6,8 @@ use std::test::Fail;
 use table_core::event::Event;
 use table_core::reply::Finished;
 use table_core::state::{NoMemory, State, run, run_with};
-use tool_call_texts::answers::Answer;
-use tool_call_texts::events::{ScheduleLine, parse_schedule_line};
+use tool_commands::answers::Answer;
+use tool_commands::events::{ScheduleLine, parse_schedule_line};
 
 /// The events of some lines, but for those that ask for the buckets.
 pub(super) fn events_of(alloc: Global, input: &str) -> Result<Vec<Event>, Fail> {

@@ -4,7 +4,7 @@ use std::process::Abort;
 use std::sync::Wait;
 use std::test::Fail;
 use std::thread::Threads;
-use testkit_refusing::Rule;
+use testkit::refusing::Rule;
 
 /// The lines `i k k` for k below 17, then the fifth again.
 fn push_inserts(input: &mut String) -> Result<(), Fail> {

@@ -17,9 +17,9 @@ use table_core::event::Event;
 use table_core::reply::Finished;
 use table_core::state::{NoMemory, State};
 use table_terms::capacity::is_first_capacity;
-use testkit_refusing::{Refusing, Rule};
-use testkit_schedules::script::push_events;
-use testkit_schedules::worked::LOST_TO_AN_EQUAL;
+use testkit::refusing::{Refusing, Rule};
+use testkit::schedules::script::push_events;
+use testkit::schedules::worked::LOST_TO_AN_EQUAL;
 
 /// More requests than any schedule here makes.
 const REQUESTS: u64 = 10_000;

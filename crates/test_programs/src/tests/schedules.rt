@@ -7,7 +7,7 @@ use std::sync::Wait;
 use std::test::Fail;
 use std::thread::Threads;
 use table_terms::capacity::is_first_capacity;
-use testkit_schedules::worked::{Row, SCHEDULES, lines_of, printed_by};
+use testkit::schedules::worked::{Row, SCHEDULES, lines_of, printed_by};
 
 /// The program's words that name this first capacity: one of those in the table.
 fn words_for(first: u64) -> &'static [&'static str] {

@@ -7,7 +7,7 @@ use std::process::Abort;
 use std::sync::Wait;
 use std::test::Fail;
 use std::thread::Threads;
-use testkit_streams::Failing;
+use testkit::streams::Failing;
 
 const INPUT: &str = "i 0 1\ni 0 1\nl 0 1\nn\nw\n";
 

@@ -4,8 +4,8 @@ use std::alloc::Allocator;
 use std::process::Abort;
 use std::sync::Wait;
 use std::thread::Threads;
-use testkit_refusing::{Refusing, Rule};
-use testkit_streams::Called;
+use testkit::refusing::{Refusing, Rule};
+use testkit::streams::Called;
 use tool_commands::program::run_program;
 
 /// Arguments, what they print over the same lines, and the status.

@@ -7,8 +7,8 @@ use std::sync::atomic::{AtomicU64, Ordering};
 use std::sync::{Arc, Wait};
 use std::test::Fail;
 use table_shared::{InsertCall, LockFreeRawTable, Progress};
-use testkit_counting::Counting;
-use testkit_refusing::{Refusing, Rule};
+use testkit::counting::Counting;
+use testkit::refusing::{Refusing, Rule};
 
 type Table<'a> = LockFreeRawTable<Box<Counting>, &'a Refusing<Global>>;
 

@@ -6,7 +6,7 @@ use std::test::Fail;
 use table_core::event::Event;
 use table_core::reply::{Finished, Reply};
 use table_core::state::{State, run};
-use testkit_schedules::load::{Hashes, INSERTS, LOOKUPS, load_events};
+use testkit::schedules::load::{Hashes, INSERTS, LOOKUPS, load_events};
 
 /// Each insert of a load places its number and each look-up finds it, in turn; then there are so many buckets.
 fn check_load(rt: &impl Abort, alloc: Global, hashes: Hashes) -> Result<(), Fail> {

@@ -6,10 +6,10 @@ use std::process::Abort;
 use std::test::Fail;
 use table_core::event::Event;
 use table_terms::capacity::is_first_capacity;
+use testkit::schedules::worked::{Row, SCHEDULES, lines_of};
 use testkit_replay::course::{Course, run_course};
 use testkit_replay::script::Manner;
-use testkit_schedules::worked::{Row, SCHEDULES, lines_of};
-use tool_call_texts::events::{ScheduleLine, parse_schedule_line};
+use tool_commands::events::{ScheduleLine, parse_schedule_line};
 
 /// The events of these lines, and none for `b`.
 fn events_of(alloc: Global, lines: &str) -> Result<Vec<Option<Event>>, Fail> {

@@ -2,9 +2,9 @@
 use super::numbers::{Boxed, Inserts, Numbers, Told, assert_same};
 use std::alloc::Global;
 use std::sync::Wait;
-use testkit_counting::asked::Lawful;
-use testkit_counting::numbers::{fill, seen, those_below};
-use testkit_counting::tally::Tally;
+use testkit::counting::asked::Lawful;
+use testkit::counting::numbers::{fill, seen, those_below};
+use testkit::counting::tally::Tally;
 
 /// More than seven growths' worth.
 const NUMBERS: u64 = 2000;

@@ -7,9 +7,9 @@ use std::sync::Wait;
 use std::sync::atomic::{AtomicU64, Ordering};
 use std::test::Fail;
 use std::thread::Threads;
-use testkit_counting::asked::Asked;
-use testkit_counting::numbers::Told;
-use testkit_counting::tally::{Tally, Work, at_once};
+use testkit::counting::asked::Asked;
+use testkit::counting::numbers::Told;
+use testkit::counting::tally::{Tally, Work, at_once};
 
 /// How many numbers each thread gives.
 const NUMBERS: u64 = 40;

@@ -4,10 +4,10 @@ use lock_free_hashtable::raw::{LockFreeRawTable, is_first_capacity};
 use std::alloc::Global;
 use std::process::Abort;
 use std::sync::Wait;
-use testkit_counting::asked::Lawful;
-use testkit_counting::{Counting, Drops};
-use testkit_refusing::handover::MOST_LOOKS;
-use testkit_refusing::{Refusing, Rule};
+use testkit::counting::asked::Lawful;
+use testkit::counting::{Counting, Drops};
+use testkit::refusing::handover::MOST_LOOKS;
+use testkit::refusing::{Refusing, Rule};
 
 /// How many bytes the block of an entry has. No other request is that small in a table of `CAPACITY` buckets.
 const BLOCK: usize = 16;

@@ -7,11 +7,11 @@ use std::sync::atomic::{AtomicU64, Ordering};
 use std::thread::Threads;
 use table_cell::Low;
 use table_terms::law::hash_number;
-use testkit_counting::asked::{Asked, Lawful};
-use testkit_counting::numbers::{fill, fill_at_once, seen, those_below};
-use testkit_counting::tally::{Tally, Work, at_once};
-use testkit_refusing::handover::{MOST_LOOKS, QUIET_LOOKS, look_for};
-use testkit_refusing::{Refusing, Rule};
+use testkit::counting::asked::{Asked, Lawful};
+use testkit::counting::numbers::{fill, fill_at_once, seen, those_below};
+use testkit::counting::tally::{Tally, Work, at_once};
+use testkit::refusing::handover::{MOST_LOOKS, QUIET_LOOKS, look_for};
+use testkit::refusing::{Refusing, Rule};
 
 /// How many bytes the block of an entry has; all else that a table asks for is more.
 const BLOCK: usize = 16;

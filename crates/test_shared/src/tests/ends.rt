@@ -7,10 +7,10 @@ use std::process::Abort;
 use std::sync::Wait;
 use std::test::Fail;
 use std::thread::Threads;
-use testkit_counting::Drops;
-use testkit_counting::asked::{Asked, Lawful};
-use testkit_counting::tally::{Tally, Work, at_once};
-use testkit_refusing::{Refusing, Rule};
+use testkit::counting::Drops;
+use testkit::counting::asked::{Asked, Lawful};
+use testkit::counting::tally::{Tally, Work, at_once};
+use testkit::refusing::{Refusing, Rule};
 
 /// How many classes two threads insert at once, each losing its exchange or winning it.
 const LOST: u64 = 60;

@@ -10,9 +10,9 @@ use std::sync::atomic::{AtomicU64, Ordering};
 use std::test::Fail;
 use std::thread::Threads;
 use table_terms::law::{NumberLaw, hash_number};
-use testkit_counting::asked::{Lawful, Numbered, hash, same};
-use testkit_counting::numbers::{fill_at_once, seen, those_below};
-use testkit_counting::tally::Tally;
+use testkit::counting::asked::{Lawful, Numbered, hash, same};
+use testkit::counting::numbers::{fill_at_once, seen, those_below};
+use testkit::counting::tally::Tally;
 
 /// How many numbers are placed one by one.
 const PLACED: u64 = 256;

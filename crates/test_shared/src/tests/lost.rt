@@ -7,8 +7,8 @@ use std::process::Abort;
 use std::sync::Wait;
 use std::test::Fail;
 use std::thread::Threads;
-use testkit_counting::Drops;
-use testkit_counting::tally::{Tally, Work, at_once};
+use testkit::counting::Drops;
+use testkit::counting::tally::{Tally, Work, at_once};
 
 /// The hash of the first of two values, whose number is 0.
 const HASH: u64 = 5;

@@ -5,9 +5,9 @@ use std::alloc::{AllocError, Allocator, Global};
 use std::fmt::Debug;
 use std::process::Abort;
 use std::sync::Wait;
-use testkit_counting::asked::{Asked, Lawful, Numbered};
-use testkit_counting::made::Made;
-pub(crate) use testkit_counting::numbers::{Inserts, Numbers, Told};
+use testkit::counting::asked::{Asked, Lawful, Numbered};
+use testkit::counting::made::Made;
+pub(crate) use testkit::counting::numbers::{Inserts, Numbers, Told};
 
 /// What an insert of the value under this hash is told, and the target that it shows.
 pub(crate) fn insert_and_show<'a, R: Wait, T: AtomicValue, A: Low + Copy, L: Asked>(

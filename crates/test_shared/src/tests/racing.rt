@@ -4,9 +4,9 @@ use std::alloc::Global;
 use std::process::Abort;
 use std::sync::Wait;
 use std::thread::Threads;
-use testkit_counting::asked::Lawful;
-use testkit_counting::numbers::{fill_at_once, seen, those_below};
-use testkit_counting::tally::Tally;
+use testkit::counting::asked::Lawful;
+use testkit::counting::numbers::{fill_at_once, seen, those_below};
+use testkit::counting::tally::Tally;
 
 /// How many numbers there are where a table grows.
 const NUMBERS: u64 = 6000;

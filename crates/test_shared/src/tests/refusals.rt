@@ -2,9 +2,9 @@
 use super::numbers::{Boxed, assert_same};
 use std::alloc::Global;
 use std::sync::Wait;
-use testkit_counting::asked::Lawful;
-use testkit_counting::numbers::{refused_in_turn, refused_inserts};
-use testkit_refusing::{Refusing, Rule};
+use testkit::counting::asked::Lawful;
+use testkit::counting::numbers::{refused_in_turn, refused_inserts};
+use testkit::refusing::{Refusing, Rule};
 
 /// How many numbers are inserted: a growth from 16 buckets to 32 lies among them.
 const NUMBERS: u64 = 17;

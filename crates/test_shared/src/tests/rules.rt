@@ -3,8 +3,8 @@ use super::numbers::assert_same;
 use std::alloc::{AllocError, Allocator, Global};
 use std::sync::atomic::{AtomicU64, Ordering};
 use std::thread;
-use testkit_refusing::handover::MOST_LOOKS;
-use testkit_refusing::{Refusing, Rule};
+use testkit::refusing::handover::MOST_LOOKS;
+use testkit::refusing::{Refusing, Rule};
 
 /// How many requests a lot is asked about.
 const REQUESTS: u64 = 6000;

@@ -8,9 +8,9 @@ use table_cell::Missed;
 use table_generations::fixed::shared::Look;
 use table_terms::law::hash_number;
 use table_terms::probe::bits_of_hash;
-use testkit_counting::numbers::count_first;
-use testkit_counting::{Counting, Drops};
-use testkit_refusing::{Refusing, Rule};
+use testkit::counting::numbers::count_first;
+use testkit::counting::{Counting, Drops};
+use testkit::refusing::{Refusing, Rule};
 
 type Memory<'a> = &'a Refusing<Global>;
 

@@ -6,10 +6,10 @@ use std::num::NonZeroU32;
 use std::process::Abort;
 use std::sync::{Arc, Wait};
 use std::test::Fail;
-use testkit_counting::asked::{Lawful, Numbered};
-use testkit_counting::made::Made;
-use testkit_counting::numbers::{count_first, fill, seen, those_below};
-use testkit_counting::tally::{Tally, Work, at_once};
+use testkit::counting::asked::{Lawful, Numbered};
+use testkit::counting::made::Made;
+use testkit::counting::numbers::{count_first, fill, seen, those_below};
+use testkit::counting::tally::{Tally, Work, at_once};
 
 /// The numbers below `count`, as values of this kind: each is placed and found, the walk shows them, and the table hands them out.
 fn assert_holds<R: Abort + Wait, T: Made>(

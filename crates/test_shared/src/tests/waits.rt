@@ -5,10 +5,10 @@ use std::process::Abort;
 use std::sync::Wait;
 use std::thread::Threads;
 use table_terms::law::hash_number;
-use testkit_counting::asked::{Asked, Lawful};
-use testkit_counting::numbers::{Told, fill, seen, those_below};
-use testkit_counting::tally::{Tally, Work, at_once};
-use testkit_refusing::handover::Handover;
+use testkit::counting::asked::{Asked, Lawful};
+use testkit::counting::numbers::{Told, fill, seen, those_below};
+use testkit::counting::tally::{Tally, Work, at_once};
+use testkit::refusing::handover::Handover;
 
 /// The first number by which a table grows that has all below it.
 const GROWS: u64 = 7;

@@ -3,7 +3,7 @@ use shared_interner::{SharedInterner, Symbol};
 use std::alloc::{AllocError, Global};
 use std::fmt::Debug;
 use std::process::Abort;
-use testkit_refusing::{Refusing, Rule};
+use testkit::refusing::{Refusing, Rule};
 
 pub(crate) type Heap = Refusing<Global>;
 

@@ -6,7 +6,7 @@ use shared_interner::{SharedInterner, Symbol};
 use std::alloc::{AllocError, Global};
 use std::process::Abort;
 use std::test::Fail;
-use testkit_refusing::{Refusing, Rule};
+use testkit::refusing::{Refusing, Rule};
 
 /// How many texts a run interns.
 const TEXTS: u64 = 60;

@@ -4,7 +4,7 @@ use shared_interner::{Names, SharedInterner, Symbol};
 use std::alloc::{AllocError, Global};
 use std::process::Abort;
 use std::test::Fail;
-use testkit_refusing::Refusing;
+use testkit::refusing::Refusing;
 
 /// Texts of 0 to 100 bytes, no two of which are equal. Some differ in the last byte only.
 const TEXTS: [&str; 32] = [

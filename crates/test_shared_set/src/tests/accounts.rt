@@ -2,7 +2,7 @@
 ghost use Rattle.std.specs.Prelude.{◌≡◌, IfSome, length};
 
 use super::caller::{Heap, Numbering, Numbers, assert_none_out, assert_same, counted, set_with};
-use demo_telling::accounts::{NoOutcome, Outcome, insert_lists};
+use demo_examples::accounts::{NoOutcome, Outcome, insert_lists};
 use shared_set::{Account, Inserted, Settled};
 use std::alloc::{AllocError, Global};
 use std::process::Abort;

@@ -6,9 +6,9 @@ use std::alloc::Global;
 use std::fmt::Debug;
 use std::process::Abort;
 use table_terms::law::NumberLaw;
-pub(crate) use testkit_counting::numbers::Told;
-pub(crate) use testkit_counting::tally::Tally;
-use testkit_refusing::{Refusing, Rule};
+pub(crate) use testkit::counting::numbers::Told;
+pub(crate) use testkit::counting::tally::Tally;
+use testkit::refusing::{Refusing, Rule};
 
 pub(crate) type Heap = Refusing<Global>;
 

@@ -4,8 +4,8 @@ use shared_set::{Handle, Inserted, SharedSet};
 use std::alloc::AllocError;
 use std::process::Abort;
 use std::test::Fail;
-use testkit_counting::{Counting, CountingLaw, Drops};
-use testkit_refusing::{Refusing, Rule};
+use testkit::counting::{Counting, CountingLaw, Drops};
+use testkit::refusing::{Refusing, Rule};
 
 /// How many numbers there are.
 const NUMBERS: u64 = 300;

@@ -5,7 +5,7 @@ use std::alloc::{AllocError, Global};
 use std::process::Abort;
 use std::test::Fail;
 use table_terms::law::NumberLaw;
-use testkit_counting::numbers::count_first;
+use testkit::counting::numbers::count_first;
 
 /// The values of a set of numbers that has ended.
 type Ended<'h> = IntoValues<u64, NumberLaw, &'h Heap>;

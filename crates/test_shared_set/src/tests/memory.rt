@@ -7,7 +7,7 @@ use super::made::{get_or_insert, seek_or_insert};
 use shared_set::SharedSet;
 use std::alloc::Global;
 use std::process::Abort;
-use testkit_refusing::{Refusing, Rule};
+use testkit::refusing::{Refusing, Rule};
 
 /// How many numbers a run places.
 const NUMBERS: u64 = 100;

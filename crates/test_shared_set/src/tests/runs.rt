@@ -9,7 +9,7 @@ use rand_xoshiro::SplitMix64;
 use std::alloc::{AllocError, Global};
 use std::process::Abort;
 use std::test::Fail;
-use testkit_refusing::{Refusing, Rule};
+use testkit::refusing::{Refusing, Rule};
 
 /// How many calls a run has.
 const CALLS: u64 = 800;

@@ -5,7 +5,7 @@ use std::alloc::{AllocError, Global};
 use std::process::Abort;
 use std::test::Fail;
 use table_sets::{HeldSet, Inserted as Put, OfTarget};
-use testkit_counting::{Counting, CountingLaw, Drops};
+use testkit::counting::{Counting, CountingLaw, Drops};
 
 /// How many values the sets have.
 const COUNTS: [u64; 6] = [0, 1, 2, 16, 17, 1000];

@@ -11,7 +11,7 @@ use std::sync::{OnceLock, Wait};
 use std::test::Fail;
 use std::thread::{Threads, yield_now};
 use table_terms::law::NumberLaw;
-use testkit_counting::tally::{Work, at_once};
+use testkit::counting::tally::{Work, at_once};
 
 /// How many messages a thread sends.
 const MESSAGES: u64 = 64;

@@ -8,8 +8,8 @@ use std::alloc::Global;
 use std::process::Abort;
 use std::sync::Wait;
 use std::thread::Threads;
-use testkit_counting::tally::{Work, at_once};
-use testkit_refusing::{Refusing, Rule};
+use testkit::counting::tally::{Work, at_once};
+use testkit::refusing::{Refusing, Rule};
 
 /// Threads that insert numbers into a set, each those from one to below another. A thread that has none asks for entries by their numbers.
 #[derive(Drop)]

@@ -7,7 +7,7 @@ use super::caller::{
 use std::alloc::{AllocError, Global};
 use std::process::Abort;
 use std::test::Fail;
-use testkit_counting::numbers::count_first;
+use testkit::counting::numbers::count_first;
 
 /// How many values a walk is over, and how many there are once it has begun: none more, or eight times as many.
 const WALKS: [(u64, u64); 11] = [

@@ -10,7 +10,7 @@ mod words;
 
 use super::assert_same;
 use std::alloc::Allocator;
-use tool_memo_table::memo::Memo;
+use tool_lines::memo::Memo;
 
 /// The Fibonacci number of the argument by plain addition, modulo 2^64.
 fn slow_fibonacci(argument: u64) -> u64 {

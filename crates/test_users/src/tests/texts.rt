@@ -12,8 +12,8 @@ use std::io;
 use std::io::{ErrorKind, Read, Write};
 use std::process::Abort;
 use std::test::Fail;
-use tool_text_lines::program::run_over;
-use tool_text_lines::texts::TextFiles;
+use tool_lines::program::run_over;
+use tool_lines::texts::TextFiles;
 
 /// How the program is called.
 const USAGE: &str =

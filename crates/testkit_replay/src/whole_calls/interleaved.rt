@@ -17,7 +17,7 @@ use std::sync::Wait;
 use std::sync::atomic::{AtomicU64, Ordering};
 use std::thread;
 use std::thread::Threads;
-use testkit_refusing::{Refusing, Rule};
+use testkit::refusing::{Refusing, Rule};
 
 /// The capacity of the first generation.
 const FIRST: u64 = 16;

@@ -17,8 +17,8 @@ use std::alloc::Global;
 use std::sync::Wait;
 use std::thread;
 use std::thread::Threads;
-use testkit_refusing::handover::{Handover, MOST_LOOKS};
-use testkit_refusing::{Refusing, Rule};
+use testkit::refusing::handover::{Handover, MOST_LOOKS};
+use testkit::refusing::{Refusing, Rule};
 
 /// How many bytes the block of an entry has. No request for a generation is that small.
 pub(crate) const BLOCK: usize = 16;

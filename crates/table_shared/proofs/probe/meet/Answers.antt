@@ -1,7 +1,7 @@
 use Rattle.std.proofs.Common.{◌≡◌, subst, sym, true}
 use Rattle.table_core.specs.Calls.{fits}
 use Rattle.table_core.specs.declared.call.Answer.{Answer}
-use Rattle.table_turns.proofs.ByPhase.{accepted_fits, passed_fits}
+use Rattle.table_core.proofs.ByPhase.{accepted_fits, passed_fits}
 use Rattle.table_shared.proofs.probe.meet.Goals as goal
 
 pub step-requires : goal.step-requires

@@ -5,7 +5,7 @@ use lock_free_hashtable::sharded::HeldShardedTable;
 use std::alloc::{AllocError, Global};
 use std::process::Abort;
 use std::test::Fail;
-use testkit_counting::{Counting, Drops};
+use testkit::counting::{Counting, Drops};
 
 type Countings = HeldShardedTable<Box<Counting>, 8>;
 

@@ -2,7 +2,7 @@
 use lock_free_hashtable::AtomicValue;
 use lock_free_hashtable::sharded::HeldShardedTable;
 use std::alloc::Global;
-use testkit_refusing::Refusing;
+use testkit::refusing::Refusing;
 
 /// Two shards of boxed numbers, whose memory this heap grants or refuses.
 pub fn two_shards_of(heap: &Refusing<Global>) -> HeldShardedTable<Box<u64>, 2, &Refusing<Global>> {

@@ -2,8 +2,8 @@
 use lock_free_hashtable::sharded::HeldShardedTable;
 use std::alloc::{Allocator, Global};
 use table_terms::law::{NumberLaw, hash_number};
-use testkit_counting::asked::{hash, same};
-use testkit_counting::numbers::{Told, told_by};
+use testkit::counting::asked::{hash, same};
+use testkit::counting::numbers::{Told, told_by};
 
 /// A table of boxed numbers over so many shards.
 pub type Numbers<const SHARDS: usize, A> = HeldShardedTable<Box<u64>, SHARDS, A>;

@@ -7,9 +7,9 @@ use lock_free_hashtable::raw::HeldRawTable;
 use std::alloc::{AllocError, Global};
 use std::process::Abort;
 use std::test::Fail;
-use testkit_counting::numbers::{Told, refused_in_turn};
-use testkit_plain_list::told::Told as Reply;
-use testkit_refusing::{Refusing, Rule};
+use testkit::counting::numbers::{Told, refused_in_turn};
+use testkit::plain_list::told::Told as Reply;
+use testkit::refusing::{Refusing, Rule};
 
 /// How many runs are made, of which each lets one request more pass than the one before.
 const RUNS: u64 = 100;

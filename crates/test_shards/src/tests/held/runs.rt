@@ -8,8 +8,8 @@ use std::alloc::{AllocError, Allocator, Global};
 use std::process::Abort;
 use std::test::Fail;
 use table_terms::law::{NumberLaw, hash_number};
-use testkit_plain_list::PlainList;
-use testkit_plain_list::told::{Told, told_by};
+use testkit::plain_list::PlainList;
+use testkit::plain_list::told::{Told, told_by};
 
 /// A call with numbers.
 #[derive(Clone, Copy)]

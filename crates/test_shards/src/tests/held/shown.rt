@@ -7,8 +7,8 @@ use std::alloc::{AllocError, Global};
 use std::process::Abort;
 use std::test::Fail;
 use table_terms::law::NumberLaw;
-use testkit_counting::asked::hash;
-use testkit_counting::numbers::Told;
+use testkit::counting::asked::hash;
+use testkit::counting::numbers::Told;
 
 /// The tables have the same entries in the same order, and as many buckets.
 fn are_alike<const SHARDS: usize>(

@@ -7,7 +7,7 @@ use crate::tests::assert_same;
 use std::alloc::{AllocError, Global};
 use std::process::Abort;
 use std::test::Fail;
-use testkit_counting::numbers::count_first;
+use testkit::counting::numbers::count_first;
 
 type EightShards = Numbers<8, Global>;
 

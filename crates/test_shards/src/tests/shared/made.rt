@@ -4,7 +4,7 @@ ghost use Rattle.table_terms.specs.Capacities.{IsFirstCapacity};
 use lock_free_hashtable::sharded::{HeldShardedTable, ShardedLockFreeRawTable};
 use std::alloc::Global;
 use table_generations::atomic_value::AtomicValue;
-use testkit_refusing::Refusing;
+use testkit::refusing::Refusing;
 
 /// Eight shards held alone.
 pub(crate) fn eight_held(alloc: Global) -> HeldShardedTable<Box<u64>, 8> {

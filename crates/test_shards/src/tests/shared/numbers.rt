@@ -7,10 +7,10 @@ use std::process::Abort;
 use std::sync::Wait;
 use table_cell::Low;
 use table_terms::law::hash_number;
-use testkit_counting::asked;
-use testkit_counting::asked::Numbered;
-use testkit_counting::numbers::{count_first, told_by};
-pub(crate) use testkit_counting::numbers::{Inserts, Numbers, Told};
+use testkit::counting::asked;
+use testkit::counting::asked::Numbered;
+use testkit::counting::numbers::{count_first, told_by};
+pub(crate) use testkit::counting::numbers::{Inserts, Numbers, Told};
 
 /// A table of boxed numbers over so many shards.
 pub(crate) type Table<const SHARDS: usize, A> = ShardedLockFreeRawTable<Box<u64>, SHARDS, A>;

@@ -4,8 +4,8 @@ use super::numbers::Sharded;
 use crate::tests::assert_same;
 use std::process::Abort;
 use std::sync::Wait;
-use testkit_counting::numbers::{refused_in_turn, refused_inserts};
-use testkit_refusing::{Refusing, Rule};
+use testkit::counting::numbers::{refused_in_turn, refused_inserts};
+use testkit::refusing::{Refusing, Rule};
 
 /// How many numbers are inserted: each shard grows from 16 buckets to 32.
 const NUMBERS: u64 = 17;

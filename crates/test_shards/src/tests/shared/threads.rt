@@ -2,8 +2,8 @@
 use super::made::sixteen;
 use super::numbers::Sharded;
 use crate::tests::assert_same;
-use testkit_counting::numbers::{fill_at_once, seen, those_below};
-use testkit_counting::tally::Tally;
+use testkit::counting::numbers::{fill_at_once, seen, those_below};
+use testkit::counting::tally::Tally;
 
 /// The numbers of four threads, each from one on up to another.
 const PARTS: [(u64, u64); 4] = [

@@ -8,7 +8,7 @@ use std::process::Abort;
 use std::sync::Wait;
 use std::test::Fail;
 use table_terms::law::hash_number;
-use testkit_counting::{Counting, Drops};
+use testkit::counting::{Counting, Drops};
 
 /// How many values there are.
 const VALUES: u64 = 200;

@@ -8,9 +8,9 @@ use std::process::Abort;
 use std::sync::Wait;
 use std::test::Fail;
 use table_terms::law::{NumberLaw, hash_number};
-use testkit_counting::asked::{hash, same};
-use testkit_counting::numbers::{fill, seen, those_below};
-use testkit_counting::tally::Tally;
+use testkit::counting::asked::{hash, same};
+use testkit::counting::numbers::{fill, seen, those_below};
+use testkit::counting::tally::Tally;
 
 /// How many numbers there are.
 const NUMBERS: u64 = 1000;

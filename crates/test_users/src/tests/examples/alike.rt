@@ -6,7 +6,7 @@ use lock_free_hashtable::InPlace;
 use lock_free_hashtable::alone::Reply;
 use std::process::Abort;
 use std::test::Fail;
-use testkit_plain_list::told::{Told, told_by};
+use testkit::plain_list::told::{Told, told_by};
 
 /// In the shards 0, 1, 2 and 3 of four.
 const LOW: u64 = 7;

@@ -1,7 +1,7 @@
 //! What a memo answers, whatever it was asked before.
 use super::{ask, slow_fibonacci};
 use std::process::Abort;
-use tool_memo_table::memo::Memo;
+use tool_lines::memo::Memo;
 
 /// Every argument below is asked.
 const ARGUMENTS: u64 = 400;

@@ -2,8 +2,8 @@
 use std::alloc::{Allocator, Global};
 use std::process::Abort;
 use std::test::Fail;
-use testkit_refusing::{Refusing, Rule};
-use tool_memo_table::memo_lines::run_memo;
+use testkit::refusing::{Refusing, Rule};
+use tool_lines::memo_lines::run_memo;
 
 /// An input, and what it prints: answers, a message and a status.
 type Row = (&'static str, &'static str, &'static str, u8);

@@ -3,8 +3,8 @@ use super::{ask, assert_same, slow_fibonacci};
 use std::alloc::Global;
 use std::process::Abort;
 use std::test::Fail;
-use testkit_refusing::{Refusing, Rule};
-use tool_memo_table::memo::Memo;
+use testkit::refusing::{Refusing, Rule};
+use tool_lines::memo::Memo;
 
 /// More requests than one call makes.
 const ENOUGH: u64 = 200;

@@ -6,7 +6,7 @@ use lock_free_hashtable::sharded::{HeldShardedTable, ShardedLockFreeRawTable};
 use lock_free_hashtable::{HeldRawTable, InPlace, LockFreeRawTable};
 use std::alloc::Global;
 use std::process::Abort;
-use testkit_refusing::{Refusing, Rule};
+use testkit::refusing::{Refusing, Rule};
 
 type Memory<'a> = &'a Refusing<Global>;
 

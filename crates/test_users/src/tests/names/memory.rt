@@ -4,7 +4,7 @@ use interner::Interner;
 use std::alloc::{AllocError, Allocator, Global};
 use std::process::Abort;
 use std::test::Fail;
-use testkit_refusing::{Refusing, Rule};
+use testkit::refusing::{Refusing, Rule};
 
 /// Enough texts for a second generation of the table and more room in the vector.
 const TEXTS: [&str; 9] = [

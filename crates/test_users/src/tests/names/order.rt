@@ -4,7 +4,7 @@ use interner::{Interner, Refused};
 use std::alloc::{AllocError, Global};
 use std::process::Abort;
 use std::test::Fail;
-use testkit_refusing::{Refusing, Rule};
+use testkit::refusing::{Refusing, Rule};
 
 /// The texts that come first: the next one finds no room in the vector.
 const FIRST: [&str; 4] = ["one", "two", "three", "four"];

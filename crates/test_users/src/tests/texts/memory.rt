@@ -3,7 +3,7 @@ use super::{DEDUP, WORDS, assert_ended, assert_status, numbered_lines, run_on};
 use std::alloc::Global;
 use std::process::Abort;
 use std::test::Fail;
-use testkit_refusing::{Refusing, Rule};
+use testkit::refusing::{Refusing, Rule};
 
 /// Lines and words enough for a second generation of a table.
 const TEXT: &[u8] = b"one\ntwo\nthree\nfour\none\nfive\nsix\nseven\neight\nnine\ntwo\n";

@@ -2,9 +2,9 @@
 use super::{Ended, HELP, Shelf, USAGE, assert_ended};
 use std::alloc::{Allocator, Global};
 use std::process::Abort;
-use testkit_refusing::{Refusing, Rule};
-use testkit_streams::Called;
-use tool_text_lines::program::run_program;
+use testkit::refusing::{Refusing, Rule};
+use testkit::streams::Called;
+use tool_lines::program::run_program;
 
 /// Arguments, what they print, what they say, and the status.
 type Row = (&'static [&'static [u8]], &'static str, &'static str, u8);

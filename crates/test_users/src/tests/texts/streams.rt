@@ -7,7 +7,7 @@ use std::io;
 use std::io::{ErrorKind, Read, Write};
 use std::process::Abort;
 use std::test::Fail;
-use testkit_streams::Failing;
+use testkit::streams::Failing;
 
 const INPUT: &[u8] = b"one\ntwo\none\n\nthree\ntwo";
 

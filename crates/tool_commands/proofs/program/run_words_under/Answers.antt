@@ -1,5 +1,5 @@
 use Rattle.std.proofs.Common.{inr}
-use Rattle.tool_call_texts.specs.declared.faults.Fault.TheVariants.{Usage}
+use Rattle.tool_commands.specs.declared.faults.Fault.TheVariants.{Usage}
 use Rattle.tool_commands.proofs.program.run_words_under.Goals as goal
 
 pub returns-in_default-clause-status : goal.returns-in_default-clause-status

@@ -1,5 +1,5 @@
 use Rattle.std.proofs.Common.{◌≡◌, ◌<◌}
-use Rattle.tool_call_texts.specs.Stress.{entries_of}
+use Rattle.tool_commands.specs.Stress.{entries_of}
 use Rattle.tool_commands.proofs.stress.run_jobs.Given as goal
 
 abbrev pub invariant-loop-number : goal.invariant-loop-number

@@ -1,5 +1,5 @@
 use Rattle.std.proofs.Common.{◌∙◌}
-use Rattle.table_turns.proofs.ByPhase.{power_some}
+use Rattle.table_core.proofs.ByPhase.{power_some}
 use Rattle.table_shared.proofs.Starts.{twice_as_fresh}
 use Rattle.table_shared.proofs.table.LockFreeRawTable.begin_after.Goals as goal
 

@@ -1,7 +1,7 @@
 use Rattle.std.proofs.Common.{◌≡◌, ◌∙◌, Bool, ap, inr, rules, sym}
 use Rattle.table_core.specs.declared.call.CallState.{CallState}
 use Rattle.table_core.specs.declared.call.Phase.TheVariants.{LookLoad, LookProbe}
-use Rattle.table_turns.specs.Steps.{passed}
+use Rattle.table_core.specs.RunningSteps.{passed}
 use Rattle.table_shared.specs.Reads.{Takes}
 use Rattle.table_shared.proofs.LooksOn.{look_passes, look_starts}
 use Rattle.table_shared.proofs.Takes.{looks_past_entry}

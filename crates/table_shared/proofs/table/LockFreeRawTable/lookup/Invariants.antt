@@ -1,6 +1,6 @@
 use Rattle.std.proofs.Common.{◌≢◌, Some}
 use Rattle.table_core.specs.declared.call.Phase.TheVariants.{LookLoad}
-use Rattle.table_turns.specs.Phases.{left}
+use Rattle.table_core.specs.RunningPhases.{left}
 use Rattle.table_shared.specs.Between.{IsLooking}
 use Rattle.table_shared.proofs.table.LockFreeRawTable.lookup.Given as goal
 

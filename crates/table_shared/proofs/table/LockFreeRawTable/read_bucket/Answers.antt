@@ -1,7 +1,7 @@
 use Rattle.std.proofs.Common.{◌≡◌, ◌≢◌, ◌∙◌, true, false, sym}
 use Rattle.table_generations.specs.declared.fixed.shared.Look.TheVariants as look
 use Rattle.table_terms.specs.Hashes.{bits_of}
-use Rattle.table_turns.proofs.ByPhase.{empty_fits, reads_entry}
+use Rattle.table_core.proofs.ByPhase.{empty_fits, reads_entry}
 use Rattle.table_shared.proofs.Looked.{met_read, read_tells, seen_so}
 use Rattle.table_shared.proofs.table.LockFreeRawTable.read_bucket.Goals.{in-Vacant, in_default}
 use Rattle.table_shared.proofs.table.LockFreeRawTable.read_bucket.Goals as goal

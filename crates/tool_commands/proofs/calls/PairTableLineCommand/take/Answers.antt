@@ -1,6 +1,6 @@
 use Rattle.std.proofs.Common.{refl, ap}
 use Rattle.std.specs.Prelude.{decimal}
-use Rattle.tool_call_texts.specs.Replies.{insertion_text, lookup_text, number_list}
+use Rattle.tool_commands.specs.Replies.{insertion_text, lookup_text, number_list}
 use Rattle.tool_commands.proofs.Replied.{on_ok}
 use Rattle.tool_commands.proofs.calls.PairTableLineCommand.take.Goals as goal
 

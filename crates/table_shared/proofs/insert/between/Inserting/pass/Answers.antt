@@ -1,6 +1,6 @@
 use Rattle.std.proofs.Common.{refl, subst, sym}
 use Rattle.table_core.specs.declared.call.Answer.{Answer}
-use Rattle.table_turns.specs.Steps.{Went}
+use Rattle.table_core.specs.RunningSteps.{Went}
 use Rattle.table_shared.proofs.Between.{meets_carries, passes}
 use Rattle.table_shared.proofs.Stepping.{carries_on}
 use Rattle.table_shared.proofs.insert.between.Inserting.pass.Goals as goal

@@ -1,2 +1,0 @@
-pub mod SharedShards
-mod SharedTables

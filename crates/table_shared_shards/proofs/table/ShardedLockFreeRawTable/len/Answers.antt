@@ -1,5 +1,0 @@
-use Rattle.table_shared_shards.proofs.SharedShards.{elements_fit}
-use Rattle.table_shared_shards.proofs.table.ShardedLockFreeRawTable.len.Goals as goal
-
-pub as_slice-shards-requires : goal.as_slice-shards-requires
-as_slice-shards-requires g c = search elements_fit

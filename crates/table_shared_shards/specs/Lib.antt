@@ -1,2 +1,0 @@
-pub mod SharedShards
-pub mod SharedTables

@@ -1,3 +1,0 @@
-pub mod Phases
-pub mod Steps
-pub use Rattle.table_core.specs.Calls

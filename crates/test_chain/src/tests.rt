@@ -1,4 +1,0 @@
-mod alone;
-mod counting;
-mod rising;
-mod threads;

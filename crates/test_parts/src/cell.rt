@@ -1,0 +1,7 @@
+//! Tests of buckets that name their blocks.
+mod held;
+mod latest;
+mod noted;
+mod refused;
+mod settled;
+mod shared;

@@ -1,0 +1,116 @@
+//! One thread: shown one behind another, full, refused, and the end.
+ghost use Rattle.test_parts.specs.Known.{Knows};
+
+use super::counting::{Fared, Numbers, Seen, assert_same, made, push};
+use std::alloc::Global;
+use std::sync::Arc;
+use std::sync::atomic::AtomicU64;
+use std::sync::atomic::Ordering::SeqCst;
+use std::test::Fail;
+use table_cell::Low;
+use testkit::refusing::{Refusing, Rule};
+
+/// How three numbers fare that are shown one behind another.
+fn pushed<A: Low + Copy>(
+    chain: &Numbers<A>,
+    seen: &mut Seen,
+    drops: &Arc<AtomicU64>,
+) -> Result<(Fared, Fared, Fared), Fail>
+    requires known { Knows chain.now seen.old.book seen.old.names seen.old.log }
+    ensures known { Knows chain.now seen.new.book seen.new.names seen.new.log }
+{
+    let (mine, yours, theirs) = (drops.clone()?, drops.clone()?, drops.clone()?);
+    let first = push(chain, seen, 1, mine);
+    let second = push(chain, seen, 2, yours);
+    let third = push(chain, seen, 3, theirs);
+    Ok((first, second, third))
+}
+
+/// How a fourth number fares, and the values that come out then, each the last digit behind those before it.
+fn ended<A: Low + Copy>(
+    chain: Numbers<A>,
+    seen: &mut Seen,
+    drops: &Arc<AtomicU64>,
+) -> Result<(Fared, u64), Fail>
+    requires known { Knows chain seen.old.book seen.old.names seen.old.log }
+{
+    let fourth = push(&chain, seen, 4, drops.clone()?);
+    let mut digits = 0u64;
+    let mut ending = chain.into_ending(seen);
+    for _value in 0..4u8 {
+        if let Some(value) = ending.next() {
+            digits = digits.wrapping_mul(10).wrapping_add(value.number);
+        }
+    }
+    Ok((fourth, digits))
+}
+
+#[test]
+fn values_come_out_in_the_order_of_slots(rt: HostRuntime) -> Result<(), Fail> {
+    let drops = Arc::new(rt.alloc(), AtomicU64::new(0))?;
+    let chain = made(rt.alloc(), drops.clone()?).ok_or("a chain")?;
+    let mut seen = chain.start();
+    let pushed = pushed(&chain, &mut seen, &drops)?;
+    assert_same(
+        &rt,
+        pushed,
+        (Fared::Shown(1), Fared::Shown(2), Fared::Shown(3)),
+    );
+    assert_same(&rt, ended(chain, &mut seen, &drops)?, (Fared::Full, 7123));
+    assert_same(&rt, drops.load(SeqCst), 4);
+    Ok(())
+}
+
+#[test]
+fn a_value_without_memory_is_refused(rt: HostRuntime) -> Result<(), Fail> {
+    let drops = Arc::new(rt.alloc(), AtomicU64::new(0))?;
+    let heap = Refusing::new(rt.alloc(), Rule::new(0, usize::MAX, 0, 0));
+    let chain = made(&heap, drops.clone()?).ok_or("a chain")?;
+    let mut seen = chain.start();
+    heap.refuse(0, 1);
+    let pushed = pushed(&chain, &mut seen, &drops)?;
+    assert_same(
+        &rt,
+        pushed,
+        (Fared::Refused, Fared::Shown(2), Fared::Shown(3)),
+    );
+    assert_same(&rt, drops.load(SeqCst), 1);
+    drop(chain);
+    assert_same(&rt, drops.load(SeqCst), 4);
+    assert_same(&rt, heap.granted(), heap.given_back());
+    Ok(())
+}
+
+#[test]
+fn what_is_dropped_half_way_drops_the_rest(rt: HostRuntime) -> Result<(), Fail> {
+    let drops = Arc::new(rt.alloc(), AtomicU64::new(0))?;
+    let chain = made(rt.alloc(), drops.clone()?).ok_or("a chain")?;
+    let mut seen = chain.start();
+    let _pushed = pushed(&chain, &mut seen, &drops)?;
+    let mut ending = chain.into_ending(&mut seen);
+    let first = ending.next();
+    assert_same(&rt, first.map(|value| value.number), Some(7));
+    assert_same(&rt, drops.load(SeqCst), 1);
+    drop(ending);
+    assert_same(&rt, drops.load(SeqCst), 4);
+    Ok(())
+}
+
+/// Whether a chain was made, where of the requests for it the first `passing` are granted and the next is refused.
+fn made_with(alloc: Global, passing: u64, drops: Arc<AtomicU64>) -> bool {
+    let heap = Refusing::new(alloc, Rule::new(0, usize::MAX, passing, 1));
+    made(&heap, drops).is_some()
+}
+
+#[test]
+fn a_refused_chain_leaves_nothing(rt: HostRuntime) -> Result<(), Fail> {
+    let drops = Arc::new(rt.alloc(), AtomicU64::new(0))?;
+    for passing in 0u64..4 {
+        let mine = drops.clone()?;
+        assert!(rt; !made_with(rt.alloc(), passing, mine));
+    }
+    let last = drops.clone()?;
+    assert!(rt; made_with(rt.alloc(), 5, last));
+    assert_same(&rt, drops.load(SeqCst), 5);
+    Ok(())
+}

@@ -1,0 +1,99 @@
+//! Chains of numbers that count how many of them were dropped.
+ghost use Rattle.std.specs.Prelude.{◌≡◌, ◌<◌, IfSome};
+ghost use Rattle.table_chain.specs.History.{Stands};
+ghost use Rattle.test_parts.specs.Known.{Knows};
+
+use std::fmt::Debug;
+use std::process::Abort;
+use std::sync::Arc;
+use std::sync::atomic::AtomicU64;
+use std::sync::atomic::Ordering::SeqCst;
+use table_cell::Low;
+use table_chain::{Chain, Follows, Showing, Token};
+
+/// A number that counts its drops.
+pub struct Counting {
+    pub number: u64,
+    pub drops: Arc<AtomicU64>,
+}
+
+impl Drop for Counting {
+    fn drop(self) {
+        let Counting { number: _, drops } = self;
+        drops.fetch_add(1, SeqCst);
+    }
+}
+
+/// Anything may stand behind anything.
+pub struct Any;
+
+impl<G> Follows<G> for Any {
+    ghost begins = { λ g. Unit {0} };
+
+    ghost follows = { λ f g. Unit {0} };
+}
+
+pub type Numbers<A> = Chain<Counting, Any, A>;
+
+pub type Seen = Token<Counting, Any>;
+
+/// How a value fared, by the number that its slot then shows.
+#[derive(PartialEq, Eq, Debug, Clone, Copy, Drop)]
+pub enum Fared {
+    Shown(u64),
+    Other(u64, u64),
+    Refused,
+    Full,
+}
+
+impl Fared {
+    /// How it ended.
+    pub fn of(showing: Showing<'_, Counting>) -> Fared {
+        match showing {
+            Showing::Shown(value) => Fared::Shown(value.number),
+            Showing::Other(value, back) => Fared::Other(value.number, back.number),
+            Showing::Refused(_) => Fared::Refused,
+        }
+    }
+}
+
+/// Both are the same.
+pub fn assert_same<X: PartialEq + Debug + Drop>(rt: &impl Abort, got: X, expected: X) {
+    assert_eq!(rt; got, expected);
+}
+
+/// A chain of four slots that begins with the number 7.
+pub fn made<A: Low + Copy>(alloc: A, drops: Arc<AtomicU64>) -> Option<Numbers<A>>
+    ensures slots { IfSome result (λ c. c.slots ≡ 4) }
+    ensures first { IfSome result (λ c. (g : _) × Stands c.start 0 g) }
+{
+    Chain::new(alloc, 4, Counting { number: 7, drops }).ok()
+}
+
+/// Shows the number in the second slot.
+pub fn show<A: Low + Copy>(chain: &Numbers<A>, number: u64, drops: Arc<AtomicU64>) -> Fared
+    requires slots { 1 < chain.now.slots }
+    requires first { (g : _) × Stands chain.now.start 0 g }
+{
+    let mut seen = chain.start();
+    Fared::of(chain.show(&mut seen, 1, Counting { number, drops }))
+}
+
+/// Shows the number behind the newest.
+pub fn push<A: Low + Copy>(
+    chain: &Numbers<A>,
+    seen: &mut Seen,
+    number: u64,
+    drops: Arc<AtomicU64>,
+) -> Fared
+    requires known { Knows chain.now seen.old.book seen.old.names seen.old.log }
+    ensures known { Knows chain.now seen.new.book seen.new.names seen.new.log }
+{
+    let slots = chain.slots();
+    let (newest, _value) = chain.newest(seen, 0);
+    if newest + 1 < slots {
+        Fared::of(chain.show(seen, newest + 1, Counting { number, drops }))
+    } else {
+        Fared::Full
+    }
+}

@@ -1,0 +1,19 @@
+//! Slots whose memory is refused.
+use std::alloc::Global;
+use table_slab::Slots;
+use testkit::refusing::{Refusing, Rule};
+
+/// Whether memory for so many numbers is granted.
+fn is_granted(memory: &Refusing<Global>, count: usize) -> bool {
+    match Slots::<u64, &Refusing<Global>>::new(memory, count) {
+        Ok((_slots, _rooms)) => true,
+        Err(_) => false,
+    }
+}
+
+#[test]
+fn memory_of_too_many_bytes_is_not_asked_for(rt: HostRuntime) {
+    let memory = Refusing::new(rt.alloc(), Rule::new(32, 32, 0, 0));
+    let answers = [is_granted(&memory, 1 << 61), is_granted(&memory, 0)];
+    assert_eq!(rt; answers, [false, true]);
+}

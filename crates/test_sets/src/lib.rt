@@ -1,5 +1,0 @@
-//! Tests of the sets of one owner.
-#![tactic(auto)]
-
-#[cfg(test)]
-mod tests;

@@ -1,5 +1,0 @@
-use Rattle.table_slab.specs.Runs.{IsRunOf}
-use Rattle.test_slab.proofs.tests.numbers.numbers.Given as goal
-
-abbrev pub invariant-loop-taken : goal.invariant-loop-taken
-invariant-loop-taken l = IsRunOf l.slab l.run

@@ -1,5 +1,0 @@
-//! Tests of slots.
-#![tactic(auto)]
-
-#[cfg(test)]
-mod tests;

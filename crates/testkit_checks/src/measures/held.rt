@@ -1,0 +1,220 @@
+//! Measurements of a set by one thread.
+
+use crate::measures::memory::{print_bytes, resident_bytes};
+use crate::measures::numbers::{ABSENT, COUNT, Empty, KeySet, spread, turn};
+use crate::measures::report::Report;
+use crate::measures::sizes::{Largest, measure_sizes};
+use crate::measures::tasks::{HeldSets, Sets, Task};
+use std::io;
+use std::marker::PhantomData;
+use std::rt::{Clock, Files};
+use std::time::Instant;
+
+/// A power of two: its multiples pile up under a hash whose low bits depend on the low bits of a key alone.
+const STEP: u64 = 1 << 16;
+
+/// A row of keys: 0, 1, 2, .. times a step.
+#[derive(Clone, Copy)]
+enum Row {
+    /// The keys 0, 1, 2, ..
+    InOrder,
+    /// The multiples of `STEP`.
+    InSteps,
+}
+
+impl Row {
+    /// Returns the step from a key to the next one.
+    fn step(self) -> u64 {
+        match self {
+            Row::InOrder => 1,
+            Row::InSteps => STEP,
+        }
+    }
+
+    /// Returns what its inserts are named.
+    fn inserts(self) -> &'static str {
+        match self {
+            Row::InOrder => "seq_ins1",
+            Row::InSteps => "step_ins1",
+        }
+    }
+
+    /// Returns what its hits are named.
+    fn hits(self) -> &'static str {
+        match self {
+            Row::InOrder => "seq_hit1",
+            Row::InSteps => "step_hit1",
+        }
+    }
+}
+
+/// Runs a group of measurements of a set that one owner holds alone. A group that is not known is refused.
+pub fn measure_held<S: KeySet + Empty + Drop, R: Print + Eprint + Clock + Files + AllocGlobal>(
+    rt: &R,
+    report: &Report<'_>,
+    group: &str,
+) -> io::Result<()> {
+    let sets: HeldSets<S> = HeldSets {
+        alloc: rt.alloc(),
+        of: PhantomData,
+    };
+    match group {
+        "one" => sets.with_empty(&Spread { rt, report })?,
+        "1e8" => sets.with_empty(&Largest { rt, report })?,
+        _ => measure_rows(rt, report, group, &sets),
+    }
+}
+
+/// Runs a group of measurements of rows of keys, or of other numbers of keys than a million. A group that is not known is refused.
+pub(crate) fn measure_rows<S: Sets, R: Print + Eprint + Clock>(
+    rt: &R,
+    report: &Report<'_>,
+    group: &str,
+    sets: &S,
+) -> io::Result<()> {
+    let row = match group {
+        "seq" => Row::InOrder,
+        "step" => Row::InSteps,
+        _ => return measure_sizes(rt, report, group, sets),
+    };
+    sets.with_empty(&InRow { rt, report, row })?
+}
+
+/// Measures spread keys.
+#[derive(Drop)]
+pub(crate) struct Spread<'a, R> {
+    pub(crate) rt: &'a R,
+    pub(crate) report: &'a Report<'a>,
+}
+
+impl<'a, R: Print + Clock + Files + AllocGlobal> Task for Spread<'a, R> {
+    type Answer = io::Result<()>;
+
+    fn run<K: KeySet>(&self, keys: &mut K) -> io::Result<()> {
+        measure_one(self.rt, self.report, keys)
+    }
+}
+
+/// Measures a row of keys.
+#[derive(Drop)]
+struct InRow<'a, R> {
+    rt: &'a R,
+    report: &'a Report<'a>,
+    row: Row,
+}
+
+impl<'a, R: Print + Clock> Task for InRow<'a, R> {
+    type Answer = io::Result<()>;
+
+    fn run<K: KeySet>(&self, keys: &mut K) -> io::Result<()> {
+        measure_row(self.rt, self.report, self.row, keys)
+    }
+}
+
+/// Spread keys in an empty set: inserts, resident bytes, hits and misses.
+fn measure_one<R: Print + Clock + Files + AllocGlobal, S: KeySet>(
+    rt: &R,
+    report: &Report<'_>,
+    set: &mut S,
+) -> io::Result<()> {
+    let before = resident_bytes(rt)?;
+
+    let start = Instant::now(rt)?;
+    let placed = insert_spread(set, 0, COUNT);
+    report.time(rt, "a_ins1", start, placed, COUNT, COUNT)?;
+
+    print_bytes(rt, report, "g_rss", before, COUNT)?;
+
+    let start = Instant::now(rt)?;
+    let hits = count_spread(set, 0, 0);
+    report.time(rt, "b_hit1", start, hits, COUNT, COUNT)?;
+
+    let start = Instant::now(rt)?;
+    let found = count_spread(set, 0, ABSENT);
+    report.time(rt, "c_miss1", start, found, 0, COUNT)
+}
+
+/// Measures a row of keys in an empty set: inserts and hits.
+fn measure_row<R: Print + Clock, S: KeySet>(
+    rt: &R,
+    report: &Report<'_>,
+    row: Row,
+    set: &mut S,
+) -> io::Result<()> {
+    let step = row.step();
+
+    let start = Instant::now(rt)?;
+    let placed = insert_row(set, step);
+    report.time(rt, row.inserts(), start, placed, COUNT, COUNT)?;
+
+    let start = Instant::now(rt)?;
+    let found = count_row(set, step);
+    report.time(rt, row.hits(), start, found, COUNT, COUNT)
+}
+
+/// Each workload once on a set that one owner holds alone, counted and not timed.
+pub fn check_held<S: KeySet + Empty + Drop, R: Print + AllocGlobal>(
+    rt: &R,
+    name: &str,
+) -> io::Result<()> {
+    let (placed, hits, found) = count_once(&mut S::empty(rt.alloc())?);
+    let misses = COUNT.saturating_sub(found);
+    println!(rt; "{name} spread: {placed} placed, {hits} hits, {misses} misses")?;
+
+    let (placed, hits) = count_in_row(&mut S::empty(rt.alloc())?, 1);
+    println!(rt; "{name} in order: {placed} placed, {hits} hits")?;
+
+    let (placed, hits) = count_in_row(&mut S::empty(rt.alloc())?, STEP);
+    println!(rt; "{name} in steps of {STEP}: {placed} placed, {hits} hits")
+}
+
+/// How many of the spread keys were placed in an empty set, how many of them are entries then, and how many absent ones.
+pub(crate) fn count_once<S: KeySet>(set: &mut S) -> (u64, u64, u64) {
+    let placed = insert_spread(set, 0, COUNT);
+    let hits = count_spread(set, 0, 0);
+    (placed, hits, count_spread(set, 0, ABSENT))
+}
+
+/// How many of so many spread keys, from this one on, were placed.
+pub(crate) fn insert_spread<S: KeySet>(set: &mut S, from: u64, count: u64) -> u64 {
+    let mut placed = 0u64;
+    for index in 0..count {
+        let key = spread(from.wrapping_add(index));
+        placed = placed.wrapping_add(u64::from(set.insert(key)));
+    }
+    placed
+}
+
+/// Counts the keys of a row that were placed in an empty set, and those that are entries then.
+fn count_in_row<S: KeySet>(set: &mut S, step: u64) -> (u64, u64) {
+    let placed = insert_row(set, step);
+    (placed, count_row(set, step))
+}
+
+/// Inserts the keys 0, 1, 2, .. times the step, and counts those that were placed.
+fn insert_row<S: KeySet>(set: &mut S, step: u64) -> u64 {
+    let mut placed = 0u64;
+    for index in 0..COUNT {
+        placed = placed.wrapping_add(u64::from(set.insert(index.wrapping_mul(step))));
+    }
+    placed
+}
+
+/// How many of the spread keys, so much further on and taken in another order from its turn `start` on, are entries.
+pub(crate) fn count_spread<S: KeySet>(set: &mut S, start: u64, further: u64) -> u64 {
+    let mut found = 0u64;
+    for index in 0..COUNT {
+        let key = spread(turn(index.wrapping_add(start) % COUNT).wrapping_add(further));
+        found = found.wrapping_add(u64::from(set.contains(key)));
+    }
+    found
+}
+
+/// Counts the keys 0, 1, 2, .. times the step, taken in another order, that are entries.
+fn count_row<S: KeySet>(set: &mut S, step: u64) -> u64 {
+    let mut found = 0u64;
+    for index in 0..COUNT {
+        found = found.wrapping_add(u64::from(set.contains(turn(index).wrapping_mul(step))));
+    }
+    found
+}

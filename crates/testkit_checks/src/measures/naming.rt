@@ -1,0 +1,67 @@
+//! Interners that threads share.
+
+use crate::measures::numbers::Empty;
+use shared_interner::{Names, SharedInterner, Symbol};
+use std::alloc::{AllocError, Global};
+
+/// What one thread names texts by.
+pub trait Naming {
+    /// Returns the number of the text, which is added if it is new. `None`: memory was refused.
+    fn number_of(&mut self, text: &str) -> Option<u64>;
+
+    /// Returns true if the number is that of this text.
+    fn is_text(&mut self, number: u64, text: &str) -> bool;
+}
+
+/// Something that one thread does with an interner.
+pub trait TextTask {
+    /// What it comes to.
+    type Answer;
+
+    /// Does it by this naming.
+    fn run<N: Naming>(&self, naming: &mut N) -> Self::Answer;
+}
+
+/// An interner that threads share.
+pub trait SharedTexts {
+    /// Does the task by what a thread names texts by.
+    fn by_thread<T: TextTask>(&self, task: &T) -> T::Answer;
+
+    /// Returns how many texts it has.
+    fn count(&self) -> u64;
+}
+
+impl<'a> Naming for Names<'a> {
+    fn number_of(&mut self, text: &str) -> Option<u64> {
+        match self.intern(text) {
+            Ok(symbol) => Some(u64::from(symbol.to_u32())),
+            Err(_) => None,
+        }
+    }
+
+    fn is_text(&mut self, number: u64, text: &str) -> bool {
+        let Some(symbol) = Symbol::from_u32(number as u32) else {
+            return false;
+        };
+        match self.text(symbol) {
+            Some(shown) => shown == text,
+            None => false,
+        }
+    }
+}
+
+impl Empty for SharedInterner {
+    fn empty(alloc: Global) -> Result<Self, AllocError> {
+        SharedInterner::new(alloc)
+    }
+}
+
+impl SharedTexts for SharedInterner {
+    fn by_thread<T: TextTask>(&self, task: &T) -> T::Answer {
+        task.run(&mut self.names())
+    }
+
+    fn count(&self) -> u64 {
+        self.len()
+    }
+}

@@ -1,0 +1,49 @@
+//! Measurements of the machine of all schedules: many calls, one after another.
+
+use crate::measures::report::{Report, refuse_words};
+use std::io;
+use std::rt::Clock;
+use std::time::Instant;
+use table_core::event::Event;
+use table_core::state::{NoMemory, State};
+use testkit::schedules::load::{Hashes, INSERTS, LOOKUPS, load_events};
+
+/// Runs the group `one`: the time of an event, each number its own hash. Another group is refused.
+pub fn measure_schedules<R: Print + Eprint + Clock + AllocGlobal>(
+    rt: &R,
+    report: &Report<'_>,
+    group: &str,
+) -> io::Result<()> {
+    if group != "one" {
+        return refuse_words(rt);
+    }
+    let events = load_events(rt.alloc(), Hashes::Own)?;
+    let mut state = State::new(rt.alloc());
+    let start = Instant::now(rt)?;
+    let replies = take_all(&mut state, events.as_slice())?;
+    let operations = events.len() as u64;
+    report.time(rt, "event", start, replies, INSERTS + LOOKUPS, operations)
+}
+
+/// The schedule once, counted and not timed.
+pub fn check_schedules<R: Print + AllocGlobal>(rt: &R) -> io::Result<()> {
+    let events = load_events(rt.alloc(), Hashes::Own)?;
+    let mut state = State::new(rt.alloc());
+    let replies = take_all(&mut state, events.as_slice())?;
+    let taken = events.len();
+    let buckets = state.buckets();
+    println!(rt; "core: {taken} events, {replies} replies, {buckets} buckets")
+}
+
+/// How many calls end by these events.
+fn take_all(state: &mut State, events: &[Event]) -> io::Result<u64> {
+    let mut replies = 0u64;
+    for event in events {
+        match state.step(*event) {
+            Ok(None) => {}
+            Ok(Some(_)) => replies = replies.wrapping_add(1),
+            Err(NoMemory) => return Err(io::Error::from(io::ErrorKind::OutOfMemory)),
+        }
+    }
+    Ok(replies)
+}

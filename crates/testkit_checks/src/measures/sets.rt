@@ -1,0 +1,26 @@
+//! The set that one owner holds and whose law is in its type, as a table of numbers.
+
+use crate::measures::numbers::{HeldTable, NumberTable, NumberValue, Numbers};
+use std::alloc::Global;
+use table_sets::{HeldSet, Inserted, NumberLaw};
+
+/// The numbers in a `HeldSet`, kept as `V`.
+pub type HeldSetKeys<V> = Numbers<HeldSet<V, NumberLaw>>;
+
+impl<V: NumberValue> NumberTable for HeldSet<V, NumberLaw> {
+    type Value = V;
+
+    fn empty(alloc: Global) -> Self {
+        HeldSet::new(alloc)
+    }
+
+    fn has(&self, number: u64) -> bool {
+        self.contains(&number)
+    }
+}
+
+impl<V: NumberValue> HeldTable for HeldSet<V, NumberLaw> {
+    fn place(&mut self, _number: u64, value: V) -> bool {
+        matches!(self.insert(value), Inserted::Placed)
+    }
+}

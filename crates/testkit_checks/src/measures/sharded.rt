@@ -1,0 +1,62 @@
+//! Tables over sixteen shards as sets of numbers: one that is held alone, and one that threads share.
+
+use crate::measures::numbers::{HeldTable, NumberTable, NumberValue, Numbers, hash_of, is_same};
+use crate::measures::shared::SharedTable;
+use lock_free_hashtable::sharded::{HeldShardedTable, ShardedLockFreeRawTable};
+use std::alloc::Global;
+use std::sync::Wait;
+use table_terms::law::{NumberLaw, hash_number};
+
+/// How many shards there are.
+const SHARDS: usize = 16;
+
+/// The numbers in a table over shards that one owner holds alone, kept as `V`.
+pub type HeldShards<V> = Numbers<HeldShardedTable<V, SHARDS>>;
+
+impl<V: NumberValue> NumberTable for HeldShardedTable<V, SHARDS> {
+    type Value = V;
+
+    fn empty(alloc: Global) -> Self {
+        HeldShardedTable::new(alloc)
+    }
+
+    fn has(&self, number: u64) -> bool {
+        self.lookup_alone::<NumberLaw, _>(hash_number(number), |entry: &u64| *entry == number)
+            .is_some()
+    }
+}
+
+impl<V: NumberValue> HeldTable for HeldShardedTable<V, SHARDS> {
+    fn place(&mut self, number: u64, value: V) -> bool {
+        let placed = self.place_alone::<NumberLaw, _, _>(
+            hash_number(number),
+            value,
+            &is_same,
+            &hash_of,
+        );
+        matches!(placed, Ok((_, None)))
+    }
+}
+
+/// The numbers in a table over shards that threads share, kept as `V`.
+pub type SharedShards<V> = Numbers<ShardedLockFreeRawTable<V, SHARDS>>;
+
+impl<V: NumberValue + Send + Sync> NumberTable for ShardedLockFreeRawTable<V, SHARDS> {
+    type Value = V;
+
+    fn empty(alloc: Global) -> Self {
+        ShardedLockFreeRawTable::new(alloc)
+    }
+
+    fn has(&self, number: u64) -> bool {
+        self.lookup(hash_number(number), |entry: &u64| *entry == number)
+            .is_some()
+    }
+}
+
+impl<V: NumberValue + Send + Sync> SharedTable for ShardedLockFreeRawTable<V, SHARDS> {
+    fn place<R: Wait>(&self, rt: &R, number: u64, value: V) -> bool {
+        let placed = self.insert(rt, hash_number(number), value, is_same, hash_of);
+        matches!(placed, Ok((_, None)))
+    }
+}

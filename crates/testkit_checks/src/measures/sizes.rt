@@ -1,0 +1,164 @@
+//! Measurements of a set by one thread with fewer keys than a million, and with more.
+
+use crate::measures::held::insert_spread;
+use crate::measures::memory::{print_bytes, resident_bytes};
+use crate::measures::numbers::{ABSENT, KeySet, START, STRIDE, spread};
+use crate::measures::report::{Report, refuse_words};
+use crate::measures::tasks::{Sets, Task};
+use std::alloc::AllocError;
+use std::io;
+use std::rt::{Clock, Files};
+use std::time::Instant;
+
+/// How many keys a table has, how many rounds there are, and the names of what is measured.
+type Size = (u64, u64, [&'static str; 3]);
+
+const SIZE_1E4: Size = (10_000, 100, ["ins_1e4", "hit_1e4", "miss_1e4"]);
+
+const SIZE_1E5: Size = (100_000, 10, ["ins_1e5", "hit_1e5", "miss_1e5"]);
+
+const SIZE_1E7: Size = (10_000_000, 1, ["ins_1e7", "hit_1e7", "miss_1e7"]);
+
+/// The keys of the largest table, which is made once.
+const LARGEST: u64 = 100_000_000;
+
+/// Runs a group of measurements: so many keys. A group that is not known is refused.
+pub(crate) fn measure_sizes<S: Sets, R: Print + Eprint + Clock>(
+    rt: &R,
+    report: &Report<'_>,
+    group: &str,
+    sets: &S,
+) -> io::Result<()> {
+    match group {
+        "1e4" => measure_size(rt, report, &SIZE_1E4, sets),
+        "1e5" => measure_size(rt, report, &SIZE_1E5, sets),
+        "1e7" => measure_size(rt, report, &SIZE_1E7, sets),
+        _ => refuse_words(rt),
+    }
+}
+
+/// Spread keys, so many a table: inserts into so many tables, each of which is dropped, then hits and misses of one table, over
+/// all its keys as often.
+fn measure_size<S: Sets, R: Print + Clock>(
+    rt: &R,
+    report: &Report<'_>,
+    size: &Size,
+    sets: &S,
+) -> io::Result<()> {
+    let (keys, rounds, [inserts, _, _]) = *size;
+    let operations = keys.wrapping_mul(rounds);
+
+    let start = Instant::now(rt)?;
+    let placed = fill_tables(sets, keys, rounds)?;
+    report.time(rt, inserts, start, placed, operations, operations)?;
+
+    sets.with_empty(&Looks { rt, report, size })?
+}
+
+/// Inserts so many spread keys.
+#[derive(Drop)]
+struct Fill {
+    keys: u64,
+}
+
+impl Task for Fill {
+    type Answer = u64;
+
+    fn run<K: KeySet>(&self, keys: &mut K) -> u64 {
+        insert_spread(keys, 0, self.keys)
+    }
+}
+
+/// How many keys were placed, of so many in each of so many tables, which are made and dropped one after the other.
+fn fill_tables<S: Sets>(sets: &S, keys: u64, rounds: u64) -> Result<u64, AllocError> {
+    let mut placed: u64 = 0;
+    for _round in 0..rounds {
+        placed = placed.wrapping_add(sets.with_empty(&Fill { keys })?);
+    }
+    Ok(placed)
+}
+
+/// Measures hits and misses of so many spread keys.
+#[derive(Drop)]
+struct Looks<'a, R> {
+    rt: &'a R,
+    report: &'a Report<'a>,
+    size: &'a Size,
+}
+
+impl<'a, R: Print + Clock> Task for Looks<'a, R> {
+    type Answer = io::Result<()>;
+
+    fn run<K: KeySet>(&self, set: &mut K) -> io::Result<()> {
+        let (keys, rounds, [_, hits, misses]) = *self.size;
+        let operations = keys.wrapping_mul(rounds);
+        let _ = insert_spread(set, 0, keys);
+
+        let start = Instant::now(self.rt)?;
+        let found = look_rounds(set, keys, rounds, 0);
+        self.report
+            .time(self.rt, hits, start, found, operations, operations)?;
+
+        let start = Instant::now(self.rt)?;
+        let found = look_rounds(set, keys, rounds, ABSENT);
+        self.report
+            .time(self.rt, misses, start, found, 0, operations)
+    }
+}
+
+/// How many look-ups of keys so much further on found an entry, in so many rounds over as many keys.
+fn look_rounds<S: KeySet>(set: &mut S, keys: u64, rounds: u64, further: u64) -> u64 {
+    let mut found: u64 = 0;
+    for _round in 0..rounds {
+        found = found.wrapping_add(look_all(set, keys, further));
+    }
+    found
+}
+
+/// How many look-ups of keys so much further on found an entry. They come in an order that jumps.
+fn look_all<S: KeySet>(set: &mut S, keys: u64, further: u64) -> u64 {
+    let mut found: u64 = 0;
+    for index in 0..keys {
+        let at = index.wrapping_mul(STRIDE).wrapping_add(START) % keys;
+        found = found.wrapping_add(u64::from(set.contains(spread(at.wrapping_add(further)))));
+    }
+    found
+}
+
+/// Measures a hundred million spread keys.
+#[derive(Drop)]
+pub(crate) struct Largest<'a, R> {
+    pub(crate) rt: &'a R,
+    pub(crate) report: &'a Report<'a>,
+}
+
+impl<'a, R: Print + Clock + Files + AllocGlobal> Task for Largest<'a, R> {
+    type Answer = io::Result<()>;
+
+    fn run<K: KeySet>(&self, set: &mut K) -> io::Result<()> {
+        measure_largest(self.rt, self.report, set)
+    }
+}
+
+/// A hundred million spread keys in an empty set: inserts, resident bytes, hits and misses.
+fn measure_largest<R: Print + Clock + Files + AllocGlobal, S: KeySet>(
+    rt: &R,
+    report: &Report<'_>,
+    set: &mut S,
+) -> io::Result<()> {
+    let before = resident_bytes(rt)?;
+
+    let start = Instant::now(rt)?;
+    let placed = insert_spread(set, 0, LARGEST);
+    report.time(rt, "ins_1e8", start, placed, LARGEST, LARGEST)?;
+
+    print_bytes(rt, report, "rss_1e8", before, LARGEST)?;
+
+    let start = Instant::now(rt)?;
+    let hits = look_all(set, LARGEST, 0);
+    report.time(rt, "hit_1e8", start, hits, LARGEST, LARGEST)?;
+
+    let start = Instant::now(rt)?;
+    let found = look_all(set, LARGEST, ABSENT);
+    report.time(rt, "miss_1e8", start, found, 0, LARGEST)
+}

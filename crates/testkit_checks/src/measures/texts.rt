@@ -1,0 +1,145 @@
+//! Measurements of the interner: numbers of new texts, numbers of known texts, and texts of numbers.
+
+use crate::measures::report::{Report, refuse_words};
+use interner::Interner;
+use std::alloc::{AllocError, Global};
+use std::io;
+use std::num::NonZeroU32;
+use std::rt::Clock;
+use std::time::Instant;
+
+/// The calls of each measurement. They go over the texts again and again.
+const CALLS: u64 = 1_000_000;
+
+/// How many texts there are, how many rounds over all of them, and the names of what is measured.
+type Size = (u32, u64, [&'static str; 3]);
+
+const SIZE_1E4: Size = (10_000, 100, ["new_1e4", "known_1e4", "back_1e4"]);
+
+const SIZE_1E5: Size = (100_000, 10, ["new_1e5", "known_1e5", "back_1e5"]);
+
+const SIZE_1E6: Size = (1_000_000, 1, ["new_1e6", "known_1e6", "back_1e6"]);
+
+/// Runs a group of measurements: so many texts. A group that is not known is refused.
+pub fn measure_interner<R: Print + Eprint + Clock + AllocGlobal>(
+    rt: &R,
+    report: &Report<'_>,
+    group: &str,
+) -> io::Result<()> {
+    match group {
+        "1e4" => measure_texts(rt, report, &SIZE_1E4),
+        "1e5" => measure_texts(rt, report, &SIZE_1E5),
+        "1e6" => measure_texts(rt, report, &SIZE_1E6),
+        _ => refuse_words(rt),
+    }
+}
+
+/// New texts, in an interner of their own in each round; known texts; and numbers.
+fn measure_texts<R: Print + Clock + AllocGlobal>(
+    rt: &R,
+    report: &Report<'_>,
+    size: &Size,
+) -> io::Result<()> {
+    let (count, rounds, [new, known, back]) = *size;
+    let texts = texts_of(rt.alloc(), count)?;
+
+    let start = Instant::now(rt)?;
+    let given = count_new(rt.alloc(), texts.as_slice(), rounds);
+    report.time(rt, new, start, given, CALLS, CALLS)?;
+
+    let mut interner = Interner::new(rt.alloc());
+    intern_all(&mut interner, texts.as_slice());
+    let start = Instant::now(rt)?;
+    let found = count_known(&mut interner, texts.as_slice(), rounds);
+    report.time(rt, known, start, found, CALLS, CALLS)?;
+
+    let start = Instant::now(rt)?;
+    let shown = count_back(&interner, count, rounds);
+    report.time(rt, back, start, shown, CALLS, CALLS)
+}
+
+/// Ten thousand texts, counted and not timed.
+pub fn check_interner<R: Print + AllocGlobal>(rt: &R) -> io::Result<()> {
+    let texts = texts_of(rt.alloc(), 10_000)?;
+    let mut interner = Interner::new(rt.alloc());
+    let new = intern_all(&mut interner, texts.as_slice());
+    let known = intern_all(&mut interner, texts.as_slice());
+    let back = texts_back(&interner, 10_000);
+    println!(rt; "interner: {new} new, {known} known, {back} back")
+}
+
+/// The texts name0, name1, ..
+fn texts_of(alloc: Global, count: u32) -> Result<Vec<String>, AllocError> {
+    let mut texts = Vec::new(alloc);
+    for index in 0..count {
+        texts.push(format!(in alloc; "name{index}")?)?;
+    }
+    Ok(texts)
+}
+
+/// How many of the texts are given the number of their place.
+fn intern_all(interner: &mut Interner<Global>, texts: &[String]) -> u64 {
+    let mut given = 0u64;
+    let mut place = 0u64;
+    for text in texts {
+        place = place.wrapping_add(1);
+        given = given.wrapping_add(u64::from(intern_as(interner, text.as_str(), place)));
+    }
+    given
+}
+
+/// Whether the text is given this number.
+fn intern_as(interner: &mut Interner<Global>, text: &str, place: u64) -> bool {
+    match interner.intern_alone(text) {
+        Ok(number) => u64::from(number.get()) == place,
+        Err(_) => false,
+    }
+}
+
+/// How many of the texts are given the number of their place, in a new interner each round.
+fn count_new(alloc: Global, texts: &[String], rounds: u64) -> u64 {
+    let mut given = 0u64;
+    for _round in 0..rounds {
+        let mut interner = Interner::new(alloc);
+        given = given.wrapping_add(intern_all(&mut interner, texts));
+    }
+    given
+}
+
+/// How many of the known texts are given the number of their place, in all rounds.
+fn count_known(interner: &mut Interner<Global>, texts: &[String], rounds: u64) -> u64 {
+    let mut given = 0u64;
+    for _round in 0..rounds {
+        given = given.wrapping_add(intern_all(interner, texts));
+    }
+    given
+}
+
+/// How many of the numbers up to this one name a text that begins with n, as all do.
+fn texts_back(interner: &Interner<Global>, count: u32) -> u64 {
+    let mut shown = 0u64;
+    for index in 1..=count {
+        shown = shown.wrapping_add(u64::from(begins_with_n(interner, index)));
+    }
+    shown
+}
+
+/// Whether this number names a text that begins with n.
+fn begins_with_n(interner: &Interner<Global>, index: u32) -> bool {
+    match NonZeroU32::new(index) {
+        Some(number) => match interner.text_alone(number) {
+            Some(text) => text.as_bytes().first() == Some(&b'n'),
+            None => false,
+        },
+        None => false,
+    }
+}
+
+/// How many of these numbers name a text, in all rounds.
+fn count_back(interner: &Interner<Global>, count: u32, rounds: u64) -> u64 {
+    let mut shown = 0u64;
+    for _round in 0..rounds {
+        shown = shown.wrapping_add(texts_back(interner, count));
+    }
+    shown
+}

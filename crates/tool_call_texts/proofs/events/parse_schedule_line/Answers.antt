@@ -1,5 +1,0 @@
-use Rattle.std.proofs.Common.{rules}
-use Rattle.tool_call_texts.proofs.events.parse_schedule_line.Goals as goal
-
-pub returns-in-b-clause-bad : goal.returns-in-b-clause-bad
-returns-in-b-clause-bad c = search rules

@@ -1,0 +1,18 @@
+//! Tools over lines: `words` counts the words of a text, `dedup` writes each different line once, and a memo table answers numbers.
+//!
+//! Each is a function over a reader and a writer. What it stores in memory has a type of its own. The program `tool_text` runs `words`
+//! or `dedup` ([`program`]). The program `tool_memo` runs [`memo_lines`], over a memo table that stores the results of a recursive
+//! function ([`memo`]).
+#![tactic(auto)]
+
+pub mod dedup;
+pub mod faults;
+pub mod line_tool;
+pub mod memo;
+pub mod memo_lines;
+pub mod program;
+pub mod seen;
+pub mod texts;
+pub mod tool;
+pub mod word_counts;
+pub mod words;

@@ -1,2 +1,0 @@
-mod Doubling
-mod Kept

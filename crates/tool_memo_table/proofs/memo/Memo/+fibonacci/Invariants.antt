@@ -1,5 +1,0 @@
-use Rattle.tool_memo_table.proofs.memo.Memo.+fibonacci.Given as goal
-
--- each call is for about half of the argument
-abbrev pub decreases-fibonacci : goal.decreases-fibonacci
-decreases-fibonacci g l = l.argument

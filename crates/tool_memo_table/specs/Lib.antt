@@ -1,2 +1,0 @@
-pub mod Fibonacci
-pub mod Memo
