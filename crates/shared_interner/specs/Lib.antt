@@ -1,3 +1,4 @@
 pub mod Symbols
 pub mod Naming
 pub mod Texts
+pub mod Sharing

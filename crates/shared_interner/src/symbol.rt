@@ -30,6 +30,13 @@ impl Symbol {
         u64::from(self.to_u32() - 1)
     }
 
+    /// Returns the symbol as a number that isn't zero.
+    pub(crate) fn to_non_zero(self) -> NonZeroU32
+        ensures { non_zero_u32_get result ≡ number_of self + 1 }
+    {
+        self.number
+    }
+
     /// Returns the symbol as a number above zero.
     pub fn to_u32(self) -> u32
         ensures { result ≡ number_of self + 1 }

@@ -1,6 +1,7 @@
 mod caller;
 mod growth;
 mod memory;
+mod sharing;
 mod symbols;
 mod texts;
 mod threads;

@@ -2,6 +2,7 @@
 use super::caller::assert_same;
 use shared_interner::{SharedInterner, Symbol, Text};
 use std::mem::size_of;
+use std::process::Abort;
 use std::test::Fail;
 
 /// Numbers of symbols that nobody was given.
@@ -20,18 +21,23 @@ fn symbols_are_numbers_above_zero(rt: HostRuntime) {
     assert_same(&rt, size_of::<Text>(), 24);
 }
 
+/// Asserts that no text has a symbol of these numbers, by each call.
+fn assert_none(rt: &impl Abort, interner: &SharedInterner) {
+    let mut names = interner.names();
+    for number in NONE {
+        let symbol = Symbol::from_u32(number).expect(rt, "a symbol");
+        assert_same(rt, interner.text(symbol), None);
+        assert_same(rt, names.text(symbol), None);
+    }
+}
+
 /// A symbol that nobody was given has no text, before the first text and after it.
 #[test]
 fn unknown_symbols_have_no_text(rt: HostRuntime) -> Result<(), Fail> {
     let interner = SharedInterner::new(rt.alloc())?;
-    for _again in 0..2 {
-        for number in NONE {
-            let symbol = Symbol::from_u32(number).expect(&rt, "a symbol");
-            assert_same(&rt, interner.text(symbol), None);
-            assert_same(&rt, interner.names().text(symbol), None);
-        }
-        interner.intern("a")?;
-    }
+    assert_none(&rt, &interner);
+    interner.intern("a")?;
+    assert_none(&rt, &interner);
     Ok(())
 }
 
