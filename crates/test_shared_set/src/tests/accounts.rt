@@ -166,7 +166,8 @@ fn run<R: Threads + Wait + Abort + Sync>(rt: &R, alloc: Global, granted: u64) ->
 /// Asserts that each number is counted once, and that no more came out or were found than the lists have.
 fn assert_counted(rt: &impl Abort, counts: Counts) {
     let (out, found, refused) = counts;
-    assert_same(rt, out + found + refused, LISTS * EACH);
+    let all = out.saturating_add(found).saturating_add(refused);
+    assert_same(rt, all, LISTS * EACH);
     assert!(rt; out <= DIFFERENT, "{out} came out");
     assert!(rt; found <= TWICE, "{found} were found");
 }
