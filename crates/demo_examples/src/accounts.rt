@@ -47,7 +47,7 @@ impl From<AllocError> for NoOutcome {
     }
 }
 
-/// Returns work of no value, with room for so many. `Err`: memory was refused.
+/// Returns work of no value. Each list has room for `count` values. `Err`: memory was refused.
 fn no_work<V: Drop, L: SetLaw<V>, A: Low + Copy>(
     set: &SharedSet<V, L, A>,
     heap: Global,
@@ -87,7 +87,7 @@ fn insert_one<V: Drop, L: SetLaw<V>, A: Low + Copy>(
     }
 }
 
-/// Inserts the values by a handle of its own. If there is no memory for the lists of what comes back, all of them are refused.
+/// Inserts the values by a handle of its own. If memory for the lists is refused, all values are refused.
 fn insert_all<V: Drop, L: SetLaw<V>, A: Low + Copy>(
     set: &SharedSet<V, L, A>,
     heap: Global,

@@ -6,7 +6,8 @@ use std::alloc::AllocError;
 use std::{io, thread};
 
 /// Interns the words of the line, and returns the symbol of the last one. `Err`: no memory.
-fn intern_words(names: &SharedInterner, line: &str) -> Result<Option<Symbol>, AllocError> {
+fn intern_words(interner: &SharedInterner, line: &str) -> Result<Option<Symbol>, AllocError> {
+    let mut names = interner.names();
     let mut last = None;
     for word in line.split_whitespace() {
         last = Some(names.intern(word)?);
@@ -15,17 +16,17 @@ fn intern_words(names: &SharedInterner, line: &str) -> Result<Option<Symbol>, Al
 }
 
 fn main(rt: HostRuntime) -> io::Result<()> {
-    let names = SharedInterner::new(rt.alloc())?;
+    let interner = SharedInterner::new(rt.alloc())?;
     let (here, there) = thread::join(
         &rt,
-        || intern_words(&names, "to be or not to be"),
-        || intern_words(&names, "that is to be"),
+        || intern_words(&interner, "to be or not to be"),
+        || intern_words(&interner, "that is to be"),
     );
     let (here, there) = (here?, there?);
-    println!(rt; "different words: {}", names.len())?;
+    println!(rt; "different words: {}", interner.len())?;
     println!(rt; "both lines end with one word: {}", here == there)?;
     if let Some(symbol) = here
-        && let Some(word) = names.text(symbol)
+        && let Some(word) = interner.names().text(symbol)
     {
         println!(rt; "the word: {word}")?;
     }

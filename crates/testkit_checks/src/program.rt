@@ -58,7 +58,7 @@ fn run_check<
         Check::All => {
             let replayed = run_replays(rt, alloc, words, output, messages);
             let rounds = run_rounds(rt, alloc, words, output, messages);
-            let of_sets = status_of_rounds(run_set_rounds(rt, alloc, words, output, messages));
+            let of_sets = run_set_rounds(rt, alloc, words, output, messages);
             let measured = status_of(check_all(rt), messages);
             replayed.max(rounds).max(of_sets).max(measured)
         }
@@ -78,15 +78,10 @@ fn run_stress<R: Threads + Wait + Sync + Clock, S: AsStr, O: Write, M: Write>(
 ) -> u8 {
     match words {
         [of, rest @ ..] if of.as_str() == "set" => {
-            status_of_rounds(run_set_rounds(rt, alloc, rest, output, messages))
+            run_set_rounds(rt, alloc, rest, output, messages)
         }
         _ => run_rounds(rt, alloc, words, output, messages),
     }
-}
-
-/// The status of rounds, which ended without a fault or with one.
-fn status_of_rounds(well: bool) -> u8 {
-    if well { WELL } else { BAD }
 }
 
 /// The status of measurements that ended so.

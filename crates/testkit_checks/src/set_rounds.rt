@@ -1,26 +1,27 @@
 //! Rounds of threads on a set that threads share. Each thread inserts a list of numbers. At the end of the set each number that was handed in
 //! has come out, was found or was refused, once, no two that came out are equal, each that was found came out, and all memory is given back.
 
+use crate::rounds::drawn::{Plan, Stop};
 use crate::rounds::{Fault, Kind, Round};
 use demo_examples::accounts::{NoOutcome, Outcome, insert_lists};
 use std::alloc::{AllocError, Global};
 use std::convert::AsStr;
+use std::fmt;
 use std::fmt::{Display, Formatter};
 use std::io::Write;
 use std::rt::Clock;
 use std::thread::Threads;
 use std::time::Instant;
-use std::{fmt, io};
 use testkit::refusing::{Refusing, Rule};
+
+/// The status of rounds without a fault.
+const WELL: u8 = 0;
+
+/// The status of a round with a fault, or of words that are no numbers.
+const BAD: u8 = 1;
 
 /// The seconds of a minute.
 const MINUTE: u64 = 60;
-
-/// How many rounds run where no time is given, and how many numbers they have at most.
-const FEW: (u64, u64) = (20, 10_000);
-
-/// How many numbers the rounds have at most where a time is given.
-const LARGE: u64 = 1_000_000;
 
 /// Where memory is refused, one request in so many is, on average.
 const REFUSED_ONE_IN: u64 = 6;
@@ -59,115 +60,77 @@ impl Display for Sum {
     }
 }
 
-/// What rounds don't go on from.
-#[derive(Debug, Drop)]
-enum Stop {
-    /// A round had a fault.
-    Fault(Round, Fault),
-    /// There is no clock, or the output takes nothing.
-    Io(io::Error),
-}
-
-impl From<io::Error> for Stop {
-    fn from(error: io::Error) -> Stop {
-        Stop::Io(error)
-    }
-}
-
-impl Display for Stop {
-    fn fmt<W: fmt::Write>(&self, f: &mut Formatter<W>) -> fmt::Result {
-        match self {
-            Stop::Fault(round, fault) => write!(f, "{round:?}: {fault}"),
-            Stop::Io(error) => write!(f, "{error}"),
-        }
-    }
-}
-
-/// Runs the rounds that the words ask for: for how many minutes, and the seed of the first round. Without words a few small rounds run. Returns
-/// false after the first fault, which goes to `messages` with its round, and for words that are no numbers.
+/// Runs the rounds that the words ask for, and returns the status. The words are for how many minutes, and the seed of the first round; without
+/// them a few small rounds run. The first fault goes to `messages`, with its round.
 pub fn run_set_rounds<R: Threads + Clock + Sync, S: AsStr, O: Write, M: Write>(
     rt: &R,
     alloc: Global,
     words: &[S],
     output: &mut O,
     messages: &mut M,
-) -> bool {
-    let Some((minutes, first_seed)) = plan_of(words) else {
+) -> u8 {
+    let Some(plan) = Plan::of_words(words) else {
         let _ = writeln!(
             messages,
             "usage: tool_checks stress set [MINUTES [FIRST-SEED]]"
         );
-        return false;
+        return BAD;
     };
-    match run_each(rt, alloc, minutes, first_seed, output) {
-        Ok(sum) => writeln!(
-            output,
-            "{} rounds on a set: each number is accounted for",
-            sum.rounds
-        )
-        .is_ok(),
+    match run_plan(rt, alloc, plan, output) {
+        Ok(()) => WELL,
         Err(stop) => {
             let _ = writeln!(messages, "{stop}");
-            false
+            BAD
         }
     }
 }
 
-/// Reads for how many minutes rounds run, if a time is given, and the first seed.
-fn plan_of<S: AsStr>(words: &[S]) -> Option<(Option<u64>, u64)> {
-    match words {
-        [] => Some((None, 0)),
-        [minutes] => Some((Some(number_of(minutes)?), 0)),
-        [minutes, seed] => Some((Some(number_of(minutes)?), number_of(seed)?)),
-        _ => None,
-    }
+/// Runs the rounds of a plan, and says at the end how many there were.
+fn run_plan<R: Threads + Clock + Sync, O: Write>(
+    rt: &R,
+    alloc: Global,
+    plan: Plan,
+    output: &mut O,
+) -> Result<(), Stop> {
+    let sum = run_each(rt, alloc, plan, output)?;
+    writeln!(
+        output,
+        "{} rounds on a set: each number is accounted for",
+        sum.rounds
+    )?;
+    Ok(())
 }
 
-/// Reads a number.
-fn number_of<S: AsStr>(word: &S) -> Option<u64> {
-    word.as_str().parse::<u64>().ok()
-}
-
-/// Runs rounds until their time is over, and writes every minute what they came to.
+/// Runs the rounds of a plan, and writes every minute what they came to.
 fn run_each<R: Threads + Clock + Sync, O: Write>(
     rt: &R,
     alloc: Global,
-    minutes: Option<u64>,
-    first_seed: u64,
+    plan: Plan,
     output: &mut O,
 ) -> Result<Sum, Stop> {
     let start = Instant::now(rt)?;
-    let most = if minutes.is_some() { LARGE } else { FEW.1 };
     let mut sum = Sum {
         rounds: 0,
         counts: NONE,
         unmade: 0,
     };
-    let mut told = 0;
-    for seed in first_seed..u64::MAX {
-        let passed = start.elapsed(rt)?.as_secs() / MINUTE;
-        if told < passed {
-            writeln!(output, "minute {passed}: {sum}")?;
-            told = passed;
+    let mut told = 0u64;
+    for seed in plan.first_seed..u64::MAX {
+        let minutes = start.elapsed(rt)?.as_secs() / MINUTE;
+        if told < minutes {
+            writeln!(output, "minute {minutes}: {sum}")?;
+            told = minutes;
         }
-        if is_over(minutes, sum.rounds, passed) {
+        if plan.is_over(sum.rounds, minutes) {
             break;
         }
-        let round = Round::drawn(seed, most);
+        let round = Round::drawn(seed, plan.most);
         match run_round(rt, alloc, round) {
             Ok(outcome) => sum = with(sum, outcome),
             Err(fault) => return Err(Stop::Fault(round, fault)),
         }
     }
     Ok(sum)
-}
-
-/// Returns true if no more rounds begin.
-fn is_over(minutes: Option<u64>, rounds: u64, passed: u64) -> bool {
-    match minutes {
-        Some(most) => most <= passed,
-        None => FEW.0 <= rounds,
-    }
 }
 
 /// Adds a round: what became of its numbers, or nothing if there was no memory for the set.
