@@ -1,6 +1,5 @@
 -- What the entries of an interner say of texts and symbols.
-use Rattle.std.proofs.Common.{◌≡◌, ◌∙◌, ◌<◌, ℕ, List, Result, Ok, Err, refl, ap, sym, subst, arith}
-use Rattle.std.specs.Prelude.{OnErr}
+use Rattle.std.proofs.Common.{◌≡◌, ◌∙◌, ◌<◌, ℕ, List, refl, ap, sym, subst, arith}
 use Rattle.std.specs.declared.num.NonZeroU32.{NonZeroU32}
 use Rattle.std.proofs.lemmas.Bool.{false≢true}
 use Rattle.std.proofs.lemmas.Slice.Eq.{bytes_eq-Decides}
@@ -11,7 +10,6 @@ use Rattle.table_numbered.specs.History.{IsEntry, NonePasses, OneValue}
 use Rattle.table_numbered.specs.declared.event.Numbered.{Numbered}
 use Rattle.table_sets.specs.Texts.{same_by_text, meets_text}
 use Rattle.shared_set.specs.Apart as entries
-use Rattle.shared_set.specs.Known.{Keeps}
 use Rattle.shared_interner.specs.declared.symbol.Symbol.{Symbol}
 use Rattle.shared_interner.specs.Symbols.{number_of}
 use Rattle.shared_interner.specs.Naming.{Texts, IsNamed, IsUnknown, AreApart}
@@ -39,7 +37,6 @@ none_known known text none s named = false≢true (sym (none (numbered (number_o
 pub named_by : (known : Texts) (s : Symbol) (k : ℕ) (kept text : List ℕ) → number_of s ≡ k → kept ≡ text → IsEntry known (numbered k kept) → IsNamed known s text
 named_by known s k kept text is same there = subst (λ (n : ℕ). IsEntry known (numbered n text)) (sym is) (subst (λ (t : List ℕ). IsEntry known (numbered k t)) same there)
 
--- what is unknown later was unknown before, so it may be refused
-pub may_refuse : {T E : Type 0} (r : Result T E) (text : List ℕ) (old new : Texts) → Keeps old new → IsUnknown new text → OnErr r (IsUnknown old text)
-may_refuse (Ok x) text old new kept none = tt
-may_refuse (Err e) text old new kept none = λ s there. none s (kept (numbered (number_of s) text) there)
+-- where no entry is the same as a copy of the text, it is unknown
+pub none_same : (known : Texts) (kept text : List ℕ) → kept ≡ text → NonePasses (of_value (same_by_text (λ t. t) kept)) (IsEntry known) → IsUnknown known text
+none_same known kept text is none s named = false≢true (sym (none (numbered (number_of s) text) named) ∙ (bytes_eq-Decides kept text).1 is)

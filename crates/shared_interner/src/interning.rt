@@ -1,5 +1,5 @@
 //! The interner, and what any thread may call on it.
-ghost use Rattle.std.specs.Prelude.{◌≡◌, ◌*◌, ◌≤◌, IfOk};
+ghost use Rattle.std.specs.Prelude.{◌≡◌, ◌*◌, ◌≤◌, max, IfOk};
 ghost use Rattle.table_numbered.specs.History.{size_of};
 ghost use Rattle.shared_set.specs.Known.{IsEmpty, Keeps};
 
@@ -32,9 +32,10 @@ impl<A: Low + Copy> Model for SharedInterner<A> {
 }
 
 impl<A: Low + Copy> SharedInterner<A> {
-    /// Makes an empty interner. A refused request leaves nothing.
+    /// Makes an empty interner of 16 buckets. A refused request leaves nothing.
     pub fn new(alloc: A) -> Result<Self, AllocError>
-        ensures { IfOk result (λ s. IsEmpty s.start) }
+        ensures empty { IfOk result (λ s. IsEmpty s.start) }
+        ensures size { IfOk result (λ s. size_of s.start ≡ 16) }
     {
         match SharedSet::new(alloc) {
             Ok(set) => Ok(SharedInterner { set, alloc }),
@@ -46,6 +47,7 @@ impl<A: Low + Copy> SharedInterner<A> {
     pub fn with_capacity(alloc: A, texts: usize) -> Result<Self, AllocError>
         ensures empty { IfOk result (λ s. IsEmpty s.start) }
         ensures room { IfOk result (λ s. texts * 2 ≤ size_of s.start) }
+        ensures few { IfOk result (λ s. size_of s.start ≤ max 16 (texts * 4)) }
     {
         match SharedSet::with_capacity(alloc, texts) {
             Ok(set) => Ok(SharedInterner { set, alloc }),

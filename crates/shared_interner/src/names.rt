@@ -63,10 +63,12 @@ impl<'a, A: Low + Copy> Names<'a, A> {
         }
     }
 
-    /// Copies the text and inserts the copy, unless an entry is the same.
+    /// Copies the text, which this handle doesn't know, and inserts the copy unless an entry is the same.
     fn insert(&mut self, text: &str) -> Result<Symbol, AllocError>
+        requires unknown { IsUnknown self.old.history text.now }
         ensures known { KnowsMore self.old self.new }
         ensures named { IfOk result (IsSymbolOf self.new.history text.now) }
+        ensures refused { OnErr result (IsUnknown self.new.history text.now) }
     {
         let Ok(copy) = Text::new(self.alloc, text) else {
             return Err(AllocError);
@@ -80,11 +82,11 @@ impl<'a, A: Low + Copy> Names<'a, A> {
 
     /// Returns the symbol of the text. A new text gets one that no other text has. A text that is there needs no memory.
     ///
-    /// `Err`: memory was refused, or no symbol is left. Then the text is not known.
+    /// `Err`: memory was refused, or no symbol is left. Then this handle doesn't know the text.
     pub fn intern(&mut self, text: &str) -> Result<Symbol, AllocError>
         ensures known { KnowsMore self.old self.new }
         ensures named { IfOk result (IsSymbolOf self.new.history text.now) }
-        ensures refused { OnErr result (IsUnknown self.old.history text.now) }
+        ensures refused { OnErr result (IsUnknown self.new.history text.now) }
     {
         match self.get(text) {
             Some(symbol) => Ok(symbol),

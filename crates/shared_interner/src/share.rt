@@ -53,7 +53,7 @@ impl<'a, A: Low + Copy> Names<'a, A> {
         }
     }
 
-    /// Interns the texts in the order of their numbers.
+    /// Interns the texts in the order of their numbers. `Err`: memory was refused, or a text has another symbol.
     fn take_all<B: Allocator + Copy, H: TextHash>(
         &mut self,
         texts: &Interner<B, H>,
@@ -72,8 +72,8 @@ impl<'a, A: Low + Copy> Names<'a, A> {
 }
 
 impl<A: Low + Copy> SharedInterner<A> {
-    /// Copies the texts of an interner of one owner, which stays as it is. The number of a text is its symbol's. Returns the new interner with what
-    /// is known of it: each of the texts. `Err`: memory was refused.
+    /// Copies the texts of an interner of one owner, which stays as it is. Each symbol's `to_u32` is the number of its text. Returns the new interner
+    /// with what is known of it: each of the texts. `Err`: memory was refused, or there are more than 2^31 texts.
     pub fn copy_of<B: Allocator + Copy, H: TextHash>(
         alloc: A,
         texts: &Interner<B, H>,

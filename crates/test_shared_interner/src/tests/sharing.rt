@@ -42,6 +42,7 @@ fn texts_keep_their_numbers(rt: HostRuntime) -> Result<(), Fail> {
     let mut names = interner.names();
     names.hear(&known);
     assert_same(&rt, names.get("1").map(|s: Symbol| s.to_u32()), Some(2));
+    assert_same(&rt, names.intern("a new text")?.to_u32(), TEXTS + 1);
     drop(names);
     drop(known);
     drop(interner);

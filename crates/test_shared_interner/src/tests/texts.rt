@@ -67,6 +67,7 @@ fn each_text_has_a_symbol_that_gives_it_back(rt: HostRuntime) -> Result<(), Fail
         assert_named(&rt, &interner, *text, *symbol);
     }
     assert_same(&rt, interner.len(), TEXTS.len() as u64);
+    assert!(rt; !interner.is_empty());
     drop(interner);
     assert_none_out(&rt, &heap);
     Ok(())
@@ -89,5 +90,19 @@ fn known_symbols_give_their_texts_back(rt: HostRuntime) -> Result<(), Fail> {
         assert_same(&rt, shown(&mut names, text), Some(text));
         assert_same(&rt, shown(&mut names, text), Some(text));
     }
+    Ok(())
+}
+
+/// How many bytes a long text has.
+const LONG: usize = 100_000;
+
+/// A text of a hundred thousand bytes is a text like others.
+#[test]
+fn a_long_text_has_a_symbol(rt: HostRuntime) -> Result<(), Fail> {
+    let interner = SharedInterner::new(rt.alloc())?;
+    let long = "x".repeat(rt.alloc(), LONG)?;
+    let symbol = interner.intern(long.as_str())?;
+    assert_same(&rt, interner.text(symbol), Some(long.as_str()));
+    assert_same(&rt, interner.intern(long.as_str())?, symbol);
     Ok(())
 }
