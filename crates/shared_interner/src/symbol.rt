@@ -5,7 +5,7 @@ ghost use Rattle.shared_interner.specs.Symbols.{number_of};
 
 use std::num::NonZeroU32;
 
-/// What stands for a text of one `SharedInterner`. It has four bytes, and so has an `Option` of it.
+/// What stands for a text of one `SharedInterner`. It has four bytes. Symbols are ordered by their numbers.
 #[derive(Clone, Copy, PartialEq, Eq, PartialOrd, Ord, Hash, Debug, Drop)]
 pub struct Symbol {
     number: NonZeroU32,
