@@ -40,7 +40,10 @@ impl<'a> Naming for Names<'a> {
     }
 
     fn is_text(&mut self, number: u64, text: &str) -> bool {
-        let Some(symbol) = Symbol::from_u32(number as u32) else {
+        let Ok(number) = u32::try_from(number) else {
+            return false;
+        };
+        let Some(symbol) = Symbol::from_u32(number) else {
             return false;
         };
         match self.text(symbol) {
