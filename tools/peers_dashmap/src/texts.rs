@@ -6,10 +6,24 @@ use peers::texts::{kept, ByText, Texts};
 use std::sync::atomic::{AtomicU32, Ordering::SeqCst};
 use std::sync::RwLock;
 
+type Numbers = DashMap<&'static str, u32, ByText>;
+
+/// The number of the text in the map. A new text is copied, and gets the number that `add` returns.
+fn number_in(numbers: &Numbers, text: &str, add: impl FnOnce(&'static str) -> u32) -> u32 {
+    if let Some(number) = numbers.get(text) {
+        return *number;
+    }
+    let text = kept(text);
+    match numbers.entry(text) {
+        Entry::Occupied(entry) => *entry.get(),
+        Entry::Vacant(entry) => *entry.insert(add(text)),
+    }
+}
+
 /// A map, and the texts by their numbers.
 #[derive(Default)]
 pub struct Listed {
-    by_text: DashMap<&'static str, u32, ByText>,
+    by_text: Numbers,
     by_number: RwLock<Vec<&'static str>>,
 }
 
@@ -25,14 +39,7 @@ impl Texts for Listed {
     type Name = u32;
 
     fn name_of(&self, text: &str) -> u32 {
-        if let Some(number) = self.by_text.get(text) {
-            return *number;
-        }
-        let text = kept(text);
-        match self.by_text.entry(text) {
-            Entry::Occupied(entry) => *entry.get(),
-            Entry::Vacant(entry) => *entry.insert(self.push(text)),
-        }
+        number_in(&self.by_text, text, |text| self.push(text))
     }
     fn is_text(&self, number: &u32, text: &str) -> bool {
         self.by_number.read().unwrap().get(*number as usize).is_some_and(|entry| *entry == text)
@@ -45,7 +52,7 @@ impl Texts for Listed {
 /// Two maps.
 #[derive(Default)]
 pub struct Mapped {
-    by_text: DashMap<&'static str, u32, ByText>,
+    by_text: Numbers,
     by_number: DashMap<u32, &'static str, ByText>,
     next: AtomicU32,
 }
@@ -62,14 +69,7 @@ impl Texts for Mapped {
     type Name = u32;
 
     fn name_of(&self, text: &str) -> u32 {
-        if let Some(number) = self.by_text.get(text) {
-            return *number;
-        }
-        let text = kept(text);
-        match self.by_text.entry(text) {
-            Entry::Occupied(entry) => *entry.get(),
-            Entry::Vacant(entry) => *entry.insert(self.put(text)),
-        }
+        number_in(&self.by_text, text, |text| self.put(text))
     }
     fn is_text(&self, number: &u32, text: &str) -> bool {
         self.by_number.get(number).is_some_and(|entry| **entry == *text)
