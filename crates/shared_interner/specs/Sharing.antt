@@ -14,7 +14,8 @@ KeepsNumbers texts known = (s : Symbol) (text : List ℕ) → HasNumber texts te
 abbrev pub KeepsFirst : ℕ → List (List ℕ) → Texts → Type 0
 KeepsFirst n texts known = (s : Symbol) (text : List ℕ) → number_of s < n → HasNumber texts text (number_of s + 1) → IsNamed known s text
 
--- what is known is of this interner, and of each text
+-- what is known is of this interner, and of each text; each new handle of the interner knows the same
 pub record Shares {A : Type 0} (texts : List (List ℕ)) (s : Shared A) : Type 0 where
   pub of : s.known.of ≡ s.interner.of
   pub numbers : KeepsNumbers texts s.known.history
+  pub from_first : s.interner.known ≡ s.known.history

@@ -1,9 +1,10 @@
 //! The interner, and what any thread may call on it.
-ghost use Rattle.std.specs.Prelude.{◌≡◌, ◌*◌, ◌≤◌, max, IfOk};
+ghost use Rattle.std.specs.Prelude.{◌≡◌, ◌*◌, ◌≤◌, max, IfOk, OnErr};
 ghost use Rattle.table_numbered.specs.History.{size_of};
-ghost use Rattle.shared_set.specs.Known.{IsEmpty, Keeps};
+ghost use Rattle.shared_set.specs.Known.{IsEmpty, Keeps, Later};
+ghost use Rattle.shared_interner.specs.Naming.{IsSymbolOf, IsUnknown, FindsSymbol, FindsText};
 
-use crate::names::Names;
+use crate::names::{KnownNames, Names};
 use crate::symbol::Symbol;
 use crate::text::Text;
 use shared_set::SharedSet;
@@ -15,7 +16,7 @@ use table_sets::TextLaw;
 /// A symbol table that threads share through `&`, and that grows. Equal texts have one symbol, and a symbol gives its text back. No text is
 /// removed or moved.
 ///
-/// A contract sees which interner it is, and what it began with. Which texts it has is what its handles know.
+/// A contract sees which interner it is, what it began with, and what each new handle knows. Which texts it has is what its handles know.
 #[derive(Drop)]
 pub struct SharedInterner<A: Low + Copy = Global> {
     pub(crate) set: SharedSet<Text<A>, TextLaw, A>,
@@ -55,10 +56,19 @@ impl<A: Low + Copy> SharedInterner<A> {
         }
     }
 
-    /// Returns a handle, by which one thread calls the interner.
+    /// Makes each handle that is made from now on know what is known here. The owner of the interner calls it, before threads share it.
+    pub fn begin_with(&mut self, known: KnownNames<A>)
+        requires of { known.of ≡ self.old.of }
+        ensures of { self.new.of ≡ self.old.of }
+        ensures known { self.new.known ≡ known.history }
+    {
+        self.set.begin_with(known);
+    }
+
+    /// Returns a handle, by which one thread calls the interner. It knows each text that `begin_with` was given.
     pub fn names(&self) -> Names<'_, A>
         ensures of { result.of ≡ self.now.of }
-        ensures keeps { Keeps self.now.start result.history }
+        ensures keeps { Keeps self.now.known result.history }
     {
         Names {
             handle: self.set.handle(),
@@ -68,20 +78,27 @@ impl<A: Low + Copy> SharedInterner<A> {
 
     /// Returns the symbol of the text. A new text gets a symbol that no other text has. A text that is there needs no memory.
     ///
-    /// `Err`: memory was refused, or no symbol is left.
-    pub fn intern(&self, text: &str) -> Result<Symbol, AllocError> {
+    /// `Err`: memory was refused, or no symbol is left. Then no new handle knows the text.
+    pub fn intern(&self, text: &str) -> Result<Symbol, AllocError>
+        ensures named { Later self.now.known (λ known. IfOk result (IsSymbolOf known text.now)) }
+        ensures refused { Later self.now.known (λ known. OnErr result (IsUnknown known text.now)) }
+    {
         let mut names = self.names();
         names.intern(text)
     }
 
-    /// Returns the symbol of the text, or `None` if the text is not there.
-    pub fn get(&self, text: &str) -> Option<Symbol> {
+    /// Returns the symbol of the text, as a new handle does. `None` means that no text that each new handle knows is this one.
+    pub fn get(&self, text: &str) -> Option<Symbol>
+        ensures finds { Later self.now.known (λ known. FindsSymbol known text.now result) }
+    {
         let mut names = self.names();
         names.get(text)
     }
 
-    /// Returns the text of the symbol, or `None` if no text has it.
-    pub fn text(&self, symbol: Symbol) -> Option<&str> {
+    /// Returns the text of the symbol, as a new handle does. `None` means that no text that each new handle knows has it.
+    pub fn text(&self, symbol: Symbol) -> Option<&str>
+        ensures finds { Later self.now.known (λ known. FindsText known symbol result) }
+    {
         let mut names = self.names();
         names.text(symbol)
     }

@@ -17,7 +17,7 @@ use table_cell::Low;
 #[derive(Drop)]
 pub struct Shared<A: Low + Copy = Global> {
     pub interner: SharedInterner<A>,
-    /// What a handle of the interner hears to know the texts.
+    /// What each new handle of the interner knows: the texts.
     pub known: KnownNames<A>,
 }
 
@@ -72,15 +72,15 @@ impl<'a, A: Low + Copy> Names<'a, A> {
 }
 
 impl<A: Low + Copy> SharedInterner<A> {
-    /// Copies the texts of an interner of one owner, which stays as it is. Each symbol's `to_u32` is the number of its text. Returns the new interner
-    /// with what is known of it: each of the texts. `Err`: memory was refused, or there are more than 2^31 texts.
+    /// Copies the texts of an interner of one owner, which stays as it is. Each symbol's `to_u32` is the number of its text. Returns the new
+    /// interner with what is known of it, and each new handle knows: each of the texts. `Err`: memory was refused, or there are more than 2^31 texts.
     pub fn copy_of<B: Allocator + Copy, H: TextHash>(
         alloc: A,
         texts: &Interner<B, H>,
     ) -> Result<Shared<A>, AllocError>
         ensures shares { IfOk result (Shares texts.now) }
     {
-        let Ok(interner) = SharedInterner::with_capacity(alloc, texts.len_alone()) else {
+        let Ok(mut interner) = SharedInterner::with_capacity(alloc, texts.len_alone()) else {
             return Err(AllocError);
         };
         let mut names = interner.names();
@@ -88,7 +88,10 @@ impl<A: Low + Copy> SharedInterner<A> {
         let known = names.tell();
         drop(names);
         match taken {
-            Ok(()) => Ok(Shared { interner, known }),
+            Ok(()) => {
+                interner.begin_with(known.again());
+                Ok(Shared { interner, known })
+            }
             Err(_) => Err(AllocError),
         }
     }

@@ -12,13 +12,13 @@ use Rattle.table_numbered.specs.Generations.{SetView, GenerationView}
 use Rattle.table_numbered.specs.History.{History}
 use Rattle.table_numbered.specs.declared.event.Numbered.{Numbered}
 use Rattle.shared_set.specs.Stages.{stages, StageView, Course, Begins, GrowsInto, IsRun}
-use Rattle.shared_set.specs.Known.{SharedView, shared_view, IsSeen, IsAt, IsShared}
+use Rattle.shared_set.specs.Known.{SharedView, shared_view, IsSeen, IsAt, IsChainOver}
 use Rattle.shared_set.specs.Ending.{IsEnded}
 use Rattle.shared_set.proofs.Courses.{one_slab, one_stage, below}
 use Rattle.shared_set.proofs.Keeping.{seen_of_set, seen_of_chain}
 
 module _ {V : Type 0} (same : V → V → Bool) (hash : V → ℕ) where
-  module _ (c : ChainView (StageView V)) (s : SlabView) (begun : History (Numbered V)) (shared : IsShared same hash c s begun) (start new : Course V) (is : start ≡ c.start) (on : IsPrefix start new) where
+  module _ (c : ChainView (StageView V)) (s : SlabView) (shared : IsChainOver c s) (start new : Course V) (is : start ≡ c.start) (on : IsPrefix start new) where
     -- the first stage stands in each later course
     pub first_shown : chain.Stands new 0 shared.first
     first_shown = chained.stands_on (Begins same hash) (GrowsInto same hash) start new 0 shared.first on (subst (λ (l : Course V). chain.Stands l 0 shared.first) (sym is) shared.begins)

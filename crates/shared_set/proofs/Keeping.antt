@@ -1,7 +1,5 @@
 -- What is known of a set stays known.
-use Rattle.std.proofs.Common.{◌≡◌, ℕ, suc, ◌<◌, Bool, true, List, Option, Some, None, ap, sym, subst, ◌∙◌}
-use Rattle.std.specs.Prelude.{MatchOption}
-use Rattle.std.specs.Borrow.{Bor}
+use Rattle.std.proofs.Common.{◌≡◌, ℕ, suc, ◌<◌, Bool, List, ap, sym, subst, ◌∙◌}
 use mathlib.Core.List.{IsPrefix}
 use Rattle.logbook.specs.Pages.{Book}
 use Rattle.table_slab.specs.Shelved.{slab_of}
@@ -18,7 +16,7 @@ use Rattle.table_numbered.specs.History.{History, IsEntry, NonePasses, IsReached
 use Rattle.table_numbered.specs.Generations.{SetView, IsOf}
 use Rattle.table_numbered.proofs.Histories.{stands_on, size_on, whole_on, full_says}
 use Rattle.shared_set.specs.Stages.{stages, StageView, Course, Begins, GrowsInto, IsRun}
-use Rattle.shared_set.specs.Known.{SharedView, shared_view, SharedSetView, KnownView, Keeps, KnowsMore, Gets, IsSeen, IsAt}
+use Rattle.shared_set.specs.Known.{SharedView, shared_view, SharedSetView, KnownView, Keeps, KnowsMore, IsSeen, IsAt}
 use Rattle.shared_set.proofs.Courses.{one_stage, grows_at, inside}
 
 module _ {V : Type 0} where
@@ -35,11 +33,6 @@ module _ {V : Type 0} where
   -- where nothing that is known passes a test, nothing that was known before does
   pub none_before : (test : Numbered V → Bool) (a b : History (Numbered V)) → Keeps a b → NonePasses test (IsEntry b) → NonePasses test (IsEntry a)
   none_before test a b kept none e there = none e (kept e there)
-
-  -- what is shown passes, and where nothing is shown nothing that was known before passes
-  pub finds_before : (r : Option (Bor V)) (test : V → Bool) (a b : History (Numbered V)) → Keeps a b → Gets test (IsEntry b) r → MatchOption r (NonePasses (of_value test) (IsEntry a)) (λ e. test e.now ≡ true)
-  finds_before None test a b kept none = none_before (of_value test) a b kept none
-  finds_before (Some e) test a b kept found = found.1.0
 
   pub knows_trans : (a b c : KnownView V) → KnowsMore a b → KnowsMore b c → KnowsMore a c
   knows_trans a b c one other = (other.0 ∙ one.0, keeps_trans a.history b.history c.history one.1 other.1)

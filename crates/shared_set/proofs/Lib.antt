@@ -2,7 +2,6 @@ mod Courses
 mod Keeping
 mod Moving
 mod Ended
-mod Starting
 mod Supplying
 mod Sizes
 pub mod Placing

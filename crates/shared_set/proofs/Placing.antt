@@ -14,8 +14,8 @@ use Rattle.shared_set.specs.declared.insert.Attempt.TheVariants as attempt
 use Rattle.shared_set.specs.declared.insert.Inserted.{Inserted}
 use Rattle.shared_set.specs.declared.insert.Inserted.TheVariants as inserted
 use Rattle.shared_set.specs.Known.{SharedView, KnownView, known_view, Keeps, KnowsMore}
-use Rattle.shared_set.specs.Inserting.{IsPlaced, HasBucket, HasNoBucket, Inserts, InsertsHere, Replies}
-use Rattle.shared_set.proofs.Keeping.{keeps_trans, keeps_longer, none_before}
+use Rattle.shared_set.specs.Inserting.{IsPlaced, HasBucket, HasNoBucket, Inserts, InsertsHere}
+use Rattle.shared_set.proofs.Keeping.{keeps_trans, keeps_longer}
 
 -- a handle that has seen more of its generation knows more
 pub knows_longer : {V : Type 0} (g : SharedView) (v : KnownView V) (a b : History (Numbered V)) → known_view g a ≡ v → IsPrefix a b → KnowsMore v (known_view g b)
@@ -74,10 +74,3 @@ module _ {V : Type 0} (same : V → V → Bool) (hash : V → ℕ) where
   done_here (inserted.Placed k e r) v old new told = told
   done_here (inserted.Found k e back) v old new told = told
   done_here (inserted.Refused back) v old new told = (told.0, told.1, inl told.2)
-
-  -- what an insert answers to a caller that knew only what the set began with
-  pub replies : (r : Inserted V) (v : V) (start old new : History (Numbered V)) → Keeps start old → Keeps old new → Inserts same hash v old new r → Replies same v start r
-  replies (inserted.Placed k e r) v start old new kept on told =
-      (told.0, none_before (of_value (same v)) start told.1.before (keeps_trans start old told.1.before kept told.1.keeps) told.1.none)
-  replies (inserted.Found k e back) v start old new kept on told = (told.0, told.1.0)
-  replies (inserted.Refused back) v start old new kept on told = (told.0, none_before (of_value (same v)) start new (keeps_trans start old new kept on) told.1)

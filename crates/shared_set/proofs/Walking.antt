@@ -21,9 +21,6 @@ use Rattle.shared_set.specs.Walks.{WalkView, walk_view, IsDue, IsPassed, GoesOn,
 use Rattle.shared_set.proofs.Keeping.{keeps_trans, keeps_longer}
 
 module _ {V : Type 0} where
-  goes_same : (w : WalkView V) → GoesOn w w
-  goes_same w = record { of = refl; begun = refl; keeps = λ e there. there; passed = λ k there. there; left = omega arith }
-
   goes_on : (a b c : WalkView V) → GoesOn a b → GoesOn b c → GoesOn a c
   goes_on a b c one other = record {
     of = other.of ∙ one.of;
@@ -32,9 +29,6 @@ module _ {V : Type 0} where
     passed = λ k there. other.passed k (one.passed k there);
     left = omega (arith, one.left, other.left);
   }
-
-  pub passes_same : (w : WalkView V) → PassesNone w w
-  passes_same w = record { on = goes_same w; due = λ d there. there }
 
   pub passes_on : (a b c : WalkView V) → PassesNone a b → PassesNone b c → PassesNone a c
   passes_on a b c one other = record { on = goes_on a b c one.on other.on; due = λ d there. other.due d (one.due d there) }

@@ -1,5 +1,5 @@
 -- What an insert answers.
-use Rattle.std.specs.Prelude.{◌≡◌, ℕ, ◌++◌, ◌⊎◌, Bool, true, [], ◌∷◌, Some}
+use Rattle.std.specs.Prelude.{◌≡◌, ℕ, ◌++◌, ◌⊎◌, Bool, [], ◌∷◌, Some}
 use Rattle.table_slab.specs.Held.{IsReceiptFor}
 use Rattle.table_numbered.specs.Words.{mark_of, numbered, of_value}
 use Rattle.table_numbered.specs.History.{History, event, size_of, IsEntry, NonePasses}
@@ -20,12 +20,6 @@ module _ {V : Type 0} (same : V → V → Bool) where
     pub keeps : Keeps old before
     pub none : NonePasses (of_value (same v)) (IsEntry before)
     pub then : new ≡ before ++ event place (Some (Entry (numbered k v))) ∷ []
-
-  -- what an insert of v answers to a caller that knows only what the set began with
-  abbrev pub Replies : V → History (Numbered V) → Inserted V → Type 0
-  Replies v start (inserted.Placed k e r) = (e.now ≡ v) × NonePasses (of_value (same v)) (IsEntry start)
-  Replies v start (inserted.Found k e back) = (back ≡ v) × (same v e.now ≡ true)
-  Replies v start (inserted.Refused back) = (back ≡ v) × NonePasses (of_value (same v)) (IsEntry start)
 
 module _ {V : Type 0} (same : V → V → Bool) (hash : V → ℕ) where
   -- on its way through the buckets v passes others' entries, and comes to an empty bucket

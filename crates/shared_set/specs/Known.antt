@@ -1,5 +1,5 @@
 -- What a thread knows of a set, and where in its chain it is.
-use Rattle.std.specs.Prelude.{◌≡◌, ℕ, suc, ◌≤◌, ◌⊎◌, Bool, List, Option, Some, None}
+use Rattle.std.specs.Prelude.{◌≡◌, ℕ, suc, ◌≤◌, ◌⊎◌, Bool, List, [], Option, Some, None, IfSome}
 use Rattle.std.specs.Borrow.{Bor}
 use Rattle.logbook.specs.Pages.{Book}
 use Rattle.table_slab.specs.Slabs.{SlabView}
@@ -12,7 +12,7 @@ use Rattle.table_numbered.specs.Generations.{IsOf, Passes}
 use Rattle.table_numbered.specs.declared.event.Numbered.{Numbered}
 use Rattle.shared_set.specs.declared.cursor.Cursor.{Cursor}
 use Rattle.shared_set.specs.declared.supply.Supply.{Supply}
-use Rattle.shared_set.specs.Stages.{stages, StageView, Course, HasGrown, IsRun}
+use Rattle.shared_set.specs.Stages.{stages, StageView, Course, IsRun}
 use Rattle.shared_set.specs.Supplies.{IsSupplyOf}
 
 -- which set it is: the book and the slab of its chain, and the slab of its entries
@@ -24,13 +24,19 @@ pub record SharedView : Type 0 where
 abbrev pub shared_view : {V : Type 0} → ChainView (StageView V) → SlabView → SharedView
 shared_view c s = record { book = c.book; names = c.names; slab = s }
 
--- what a contract sees of a set: which set it is, and the history that its first generation began with
+-- what a contract sees of a set: which set it is, the history that its first generation began with, and what each new handle knows
 pub record SharedSetView (V : Type 0) : Type 0 where
   pub of : SharedView
   pub start : History (Numbered V)
+  pub known : History (Numbered V)
 
-abbrev pub shared_set_view : {V : Type 0} → SharedView → History (Numbered V) → SharedSetView V
-shared_set_view g log = record { of = g; start = log }
+-- what a cursor knows, and nothing where there is none
+abbrev pub known_by : {V L A : Type 0} → Option (Cursor V L A) → History (Numbered V)
+known_by None = []
+known_by (Some c) = c.entries.log
+
+abbrev pub shared_set_view : {V : Type 0} → SharedView → History (Numbered V) → History (Numbered V) → SharedSetView V
+shared_set_view g log others = record { of = g; start = log; known = others }
 
 -- the set that a cursor is of
 abbrev pub set_of : {V L A : Type 0} → Cursor V L A → SharedView
@@ -53,6 +59,10 @@ module _ {V : Type 0} where
   abbrev pub Keeps : History (Numbered V) → History (Numbered V) → Type 0
   Keeps old new = (e : Numbered V) → IsEntry old e → IsEntry new e
 
+  -- what holds of some history that has each entry of this one
+  abbrev pub Later : History (Numbered V) → (History (Numbered V) → Type 0) → Type 0
+  Later known Holds = (log : History (Numbered V)) × Keeps known log × Holds log
+
   -- it is of the same set, and each entry that was known before is known later
   abbrev pub KnowsMore : KnownView V → KnownView V → Type 0
   KnowsMore old new = (new.of ≡ old.of) × Keeps old.history new.history
@@ -70,9 +80,12 @@ module _ {V : Type 0} where
   abbrev pub IsEmpty : History (Numbered V) → Type 0
   IsEmpty log = (p : ℕ) → IsUntouched log p
 
-  -- what a new handle knows of a set: what its first generation began with, or what a later one began with
-  abbrev pub IsFresh : History (Numbered V) → History (Numbered V) → Type 0
-  IsFresh start log = (log ≡ start) ⊎ HasGrown log
+-- the chain of a set over this slab: its first stage is over the slab
+pub record IsChainOver {V : Type 0} (c : ChainView (StageView V)) (s : SlabView) : Type 0 where
+  pub slots : c.slots ≡ stages
+  pub first : StageView V
+  pub begins : chain.Stands c.start 0 first
+  pub over : first.of.of.slab ≡ s
 
 -- where a cursor that was in the slot `old` is after a step: at the stage that is shown, or where it was, since none is in the next slot
 abbrev pub Stepped : {V : Type 0} → ℕ → ℕ → Course V → Option (Bor (StageView V)) → Type 0
@@ -104,13 +117,14 @@ module _ {V : Type 0} (same : V → V → Bool) (hash : V → ℕ) where
   abbrev pub IsCursor : {L A : Type 0} → SharedView → Cursor V L A → Type 0
   IsCursor g c = IsAt g c.slot c.stages.book c.stages.names c.stages.log c.entries.book c.entries.names c.entries.log
 
-  -- a set between two calls: its first stage is over its slab, and began with this history
-  pub record IsShared (c : ChainView (StageView V)) (s : SlabView) (start : History (Numbered V)) : Type 0 where
+  -- a set between two calls: its first stage is over its slab, and began with this history; what each new handle knows is of this set
+  pub record IsShared {L A : Type 0} (c : ChainView (StageView V)) (s : SlabView) (start : History (Numbered V)) (told : Option (Cursor V L A)) : Type 0 where
     pub slots : c.slots ≡ stages
     pub first : StageView V
     pub begins : chain.Stands c.start 0 first
     pub over : first.of.of.slab ≡ s
     pub with : first.of.start ≡ start
+    pub known : IfSome told (λ k. IsCursor (shared_view c s) k)
 
   -- a handle between two calls
   pub record IsHandle {L A : Type 0} (g : SharedView) (stage : StageView V) (c : Cursor V L A) (s : Supply V A) : Type 0 where

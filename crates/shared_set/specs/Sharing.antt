@@ -29,10 +29,11 @@ module _ {V : Type 0} where
   Leaves values log None rest = Moves values log []
   Leaves values log (Some v) rest = Moves values log (v ∷ rest)
 
-  -- what is known is of this set, and each of the values is an entry of it
+  -- what is known is of this set, and each of the values is an entry of it; each new handle of the set knows the same
   pub record KnowsEach {L A : Type 0} (values : List V) (s : Shared V L A) : Type 0 where
     pub of : s.known.of ≡ s.set.of
     pub entries : HasEach s.known.history values
+    pub from_first : s.set.known ≡ s.known.history
 
   -- each of the values once: some are known entries of the set, one was refused, and the others are left
   pub record HasPart {L A U : Type 0} (values : List V) (p : Partly V L A U) : Type 0 where

@@ -30,14 +30,6 @@ Course V = chain.History (StageView V)
 abbrev pub HasNext : {V : Type 0} → ℕ → Course V → Type 0
 HasNext {V} slot course = (s : StageView V) × chain.Stands course (suc slot) s
 
--- a history of a generation that grew out of a full one: it began with the entries of that one, and with nothing else
-pub record HasGrown {V : Type 0} (log : History (Numbered V)) : Type 0 where
-  pub size : ℕ
-  pub before : History (Numbered V)
-  pub begun : HasSize size before
-  pub full : IsFull size before
-  pub begins : BeginsAs before log
-
 module _ {V : Type 0} (same : V → V → Bool) (hash : V → ℕ) where
   -- any stage may be the first
   abbrev pub Begins : StageView V → Type 0

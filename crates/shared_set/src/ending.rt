@@ -3,7 +3,7 @@ ghost use Rattle.std.specs.Prelude.{◌≡◌, ℕ, ⊤, length, Some, IfSome};
 ghost use Rattle.std.specs.Iterator.{YieldsFirst, MakesProgress, item_count, at_most, UpTo};
 ghost use Rattle.std.specs.Iterator.SizeHint.{IsWithinCount};
 ghost use Rattle.table_slab.specs.Endings.{IsLeft};
-ghost use Rattle.shared_set.specs.Known.{shared_view, IsShared, IsCursor, Keeps};
+ghost use Rattle.shared_set.specs.Known.{shared_view, IsChainOver, IsCursor, Keeps};
 ghost use Rattle.shared_set.specs.Ending.{Ends, IsSameEnd};
 
 use crate::cursor::{Cursor, Stages};
@@ -46,7 +46,7 @@ fn ended<V, L: SetLaw<V>, A: Low + Copy>(
     slab: Ending<V, A>,
     mut chain: Chain<Stage<V, L, A>, Grows<V, L, A>, A>,
 ) -> IntoValues<V, L, A>
-    requires shared { (start : _) × IsShared L.same L.hash_of chain slab.slab start }
+    requires over { IsChainOver chain slab.slab }
     requires left { (k : ℕ) → IsLeft slab k }
     ensures { Ends L.same (shared_view chain slab.slab) result }
 {

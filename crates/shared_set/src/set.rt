@@ -1,16 +1,29 @@
 //! The set, and what any thread may call on it.
-ghost use Rattle.std.specs.Prelude.{◌≡◌, suc, ◌<◌, ◌≤◌, ◌^◌, ◌*◌, max, true, false, IfOk, MatchOption};
+ghost use Rattle.std.specs.Prelude.{◌≡◌, suc, ◌<◌, ◌≤◌, ◌^◌, ◌*◌, max, true, false, IfOk};
 ghost use Rattle.std.specs.Int.{IsPowerOfTwo};
 ghost use mathlib.Core.List.{IsPrefix};
 ghost use Rattle.table_chain.specs.History.{Stands};
 ghost use Rattle.table_numbered.specs.Words.{of_value};
 ghost use Rattle.table_numbered.specs.History.{size_of, IsEntry, NonePasses};
-ghost use Rattle.shared_set.specs.Known.{shared_view, IsShared, Keeps, IsEmpty, IsFresh, IsSeen, IsCursor, IsFurther, Stepped};
-ghost use Rattle.shared_set.specs.Inserting.{Replies, HasReceipt};
+ghost use Rattle.shared_set.specs.Known.{
+  shared_view,
+  Keeps,
+  Later,
+  SomePasses,
+  Gets,
+  IsEmpty,
+  Stepped,
+  IsFurther,
+  IsSeen,
+  IsCursor,
+  IsChainOver,
+};
+ghost use Rattle.shared_set.specs.Inserting.{Inserts, HasReceipt};
 
 use crate::cursor::{Cursor, Stages};
 use crate::handle::Handle;
 use crate::insert::Inserted;
+use crate::known::Known;
 use crate::stage::{Grows, Stage};
 use crate::supply::Supply;
 use std::alloc::{AllocError, Global};
@@ -37,13 +50,16 @@ const MOST_ENTRIES: usize = 1 << 31;
 /// A set of values that threads share through `&`, and that grows. No two of its entries are the same under the law `L`. No entry is removed
 /// or moved.
 ///
-/// A contract sees which set it is, and what its first generation began with. Which entries it has is what its handles know.
+/// A contract sees which set it is, what its first generation began with, and what each new handle knows. Which entries it has is what its
+/// handles know.
 pub struct SharedSet<V, L: SetLaw<V>, A: Low + Copy = Global> {
     pub(crate) slab: Slab<V, A>,
     pub(crate) chain: Chain<Stage<V, L, A>, Grows<V, L, A>, A>,
     pub(crate) alloc: A,
     /// What is known of the first generation from the first.
     pub(crate) start: Token<V, L>,
+    /// What each new handle knows, if it knows anything.
+    pub(crate) known: Option<Cursor<V, L, A>>,
     /// A slot of the chain that has a stage: where a new handle begins.
     pub(crate) begin: AtomicUsize,
     /// True while a thread builds the next stage.
@@ -53,13 +69,13 @@ pub struct SharedSet<V, L: SetLaw<V>, A: Low + Copy = Global> {
 }
 
 impl<V, L: SetLaw<V>, A: Low + Copy> Model for SharedSet<V, L, A> {
-    ghost use Rattle.shared_set.specs.Known.{SharedSetView, shared_view, shared_set_view, IsShared};
+    ghost use Rattle.shared_set.specs.Known.{SharedSetView, shared_view, shared_set_view, known_by, IsShared};
 
     ghost Value = { SharedSetView V };
 
-    ghost view = { λ s. shared_set_view (shared_view s.chain s.slab) s.start.log };
+    ghost view = { λ s. shared_set_view (shared_view s.chain s.slab) s.start.log (known_by s.known) };
 
-    ghost invariant = { λ s. IsShared L.same L.hash_of s.chain s.slab s.start.log };
+    ghost invariant = { λ s. IsShared L.same L.hash_of s.chain s.slab s.start.log s.known };
 }
 
 impl<V, L: SetLaw<V>, A: Low + Copy> SharedSet<V, L, A> {
@@ -102,6 +118,7 @@ impl<V, L: SetLaw<V>, A: Low + Copy> SharedSet<V, L, A> {
                 chain,
                 alloc,
                 start,
+                known: None,
                 begin: AtomicUsize::new(0),
                 growing: AtomicBool::new(false),
                 placed: AtomicU64::new(0),
@@ -141,11 +158,18 @@ impl<V, L: SetLaw<V>, A: Low + Copy> SharedSet<V, L, A> {
         }
     }
 
-    /// Returns a cursor at a stage that was shown.
-    pub(crate) fn cursor(&self) -> Cursor<V, L, A>
-        ensures at { IsCursor L.same L.hash_of self.now.of result }
-        ensures keeps { Keeps self.now.start result.entries.log }
-        ensures fresh { IsFresh self.now.start result.entries.log }
+    /// Makes each handle that is made from now on know what is known here. The owner of the set calls it, before threads share the set.
+    pub fn begin_with(&mut self, known: Known<V, L, A>)
+        requires of { known.of ≡ self.old.of }
+        ensures of { self.new.of ≡ self.old.of }
+        ensures known { self.new.known ≡ known.history }
+    {
+        self.known = Some(known.cursor);
+    }
+
+    /// Returns a cursor at the newest stage of which the set has been told. It knows nothing.
+    fn newest(&self) -> Cursor<V, L, A>
+        ensures { IsCursor L.same L.hash_of self.now.of result }
     {
         let mut stages = self.chain.start();
         let slot = self.newest_told(&mut stages);
@@ -158,12 +182,33 @@ impl<V, L: SetLaw<V>, A: Low + Copy> SharedSet<V, L, A> {
         }
     }
 
-    /// Returns a handle, by which one thread calls the set. The handle knows what one generation began with: the first, or one that grew out
-    /// of a full one. Each entry that the set began with is known.
+    /// Returns a copy of the cursor that has moved on to the newest stage of which the set has been told.
+    fn brought_on(&self, known: &Cursor<V, L, A>) -> Cursor<V, L, A>
+        requires at { IsCursor L.same L.hash_of self.now.of known.now }
+        ensures at { IsCursor L.same L.hash_of self.now.of result }
+        ensures keeps { Keeps known.now.entries.log result.entries.log }
+    {
+        let mut cursor = known.again();
+        let slot = self.newest_told(&mut cursor.stages);
+        self.go_to(&mut cursor, slot);
+        cursor
+    }
+
+    /// Returns a cursor at a stage that was shown. It knows what each new handle knows.
+    pub(crate) fn cursor(&self) -> Cursor<V, L, A>
+        ensures at { IsCursor L.same L.hash_of self.now.of result }
+        ensures keeps { Keeps self.now.known result.entries.log }
+    {
+        match &self.known {
+            Some(known) => self.brought_on(known),
+            None => self.newest(),
+        }
+    }
+
+    /// Returns a handle, by which one thread calls the set. It knows each entry that `begin_with` was given.
     pub fn handle(&self) -> Handle<'_, V, L, A>
         ensures of { result.of ≡ self.now.of }
-        ensures keeps { Keeps self.now.start result.history }
-        ensures fresh { IsFresh self.now.start result.history }
+        ensures keeps { Keeps self.now.known result.history }
     {
         let cursor = self.cursor();
         Handle {
@@ -242,28 +287,29 @@ fn buckets_for(entries: usize) -> usize
 }
 
 impl<V, L: SetLaw<V>, A: Low + Copy> SharedSet<V, L, A> {
-    /// Returns the entry that is the same as the target, as a new handle does. `None` means that no entry that the set began with is the
+    /// Returns the entry that is the same as the target, as a new handle does. `None` means that no entry that each new handle knows is the
     /// same.
     pub fn get(&self, target: &V) -> Option<&V>
-        ensures finds { MatchOption result (NonePasses (of_value (L.same target.now)) (IsEntry self.now.start))
-            (λ e. L.same target.now e.now ≡ true) }
+        ensures finds { Later self.now.known (λ log. Gets (L.same target.now) (IsEntry log) result) }
     {
         let mut handle = self.handle();
         handle.get(target)
     }
 
-    /// Returns true if an entry is the same as the target, as a new handle does. `false` means that no entry that the set began with is
+    /// Returns true if an entry is the same as the target, as a new handle does. `false` means that no entry that each new handle knows is
     /// the same.
     pub fn contains(&self, target: &V) -> bool
-        ensures none { result ≡ false → NonePasses (of_value (L.same target.now)) (IsEntry self.now.start) }
+        ensures some { result ≡ true → Later self.now.known (λ log. SomePasses (L.same target.now) (IsEntry log)) }
+        ensures none { result ≡ false → NonePasses (of_value (L.same target.now)) (IsEntry self.now.known) }
     {
-        self.get(target).is_some()
+        let mut handle = self.handle();
+        handle.contains(target)
     }
 
     /// Inserts the value, unless an entry is the same, as a new handle does. No handle is left that knows the entry, so the receipt can't be
     /// added to an account: whoever keeps an account inserts by a handle.
     pub fn insert(&self, value: V) -> Inserted<'_, V>
-        ensures replies { Replies L.same value self.now.start result }
+        ensures told { Later self.now.known (λ old. Later old (λ new. Inserts L.same L.hash_of value old new result)) }
         ensures receipt { HasReceipt self.now.of result }
     {
         let mut handle = self.handle();
@@ -275,13 +321,14 @@ impl<V, L: SetLaw<V>, A: Low + Copy> SharedSet<V, L, A> {
     /// Takes the set apart.
     pub(crate) fn into_parts(self) -> (Slab<V, A>, Chain<Stage<V, L, A>, Grows<V, L, A>, A>)
         ensures view { self.of ≡ shared_view result.1 result.0 }
-        ensures shared { IsShared L.same L.hash_of result.1 result.0 self.start }
+        ensures over { IsChainOver result.1 result.0 }
     {
         let SharedSet {
             slab,
             chain,
             alloc: _,
             start: _,
+            known: _,
             begin: _,
             growing: _,
             placed: _,

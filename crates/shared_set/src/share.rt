@@ -16,7 +16,7 @@ use table_sets::{AtomicValue, HeldSet, IntoIter, OfTarget};
 #[derive(Drop)]
 pub struct Shared<V, L: SetLaw<V>, A: Low + Copy = Global> {
     pub set: SharedSet<V, L, A>,
-    /// What a handle of the set hears to know the entries.
+    /// What each new handle of the set knows: the entries.
     pub known: Known<V, L, A>,
 }
 
@@ -48,8 +48,8 @@ where
 
     ghost entries: { Self → List T };
 
-    /// Moves each value into a set that threads share, and returns that set with what is known of it: each value is a known entry. Two
-    /// values are the same there if their targets are the same here. A refusal returns each value, in the shared set or beside it. The
+    /// Moves each value into a set that threads share, and returns that set with what is known of it: each value is an entry that each new
+    /// handle knows. Two values are the same there if their targets are the same here. A refusal returns each value, in the shared set or beside it. The
     /// owner of the set calls it.
     fn share(self, alloc: A) -> Result<Shared<T, OfTarget<L>, A>, Unshared<T, L, OfTarget<L>, A>>
         ensures known { IfOk result (KnowsEach (entries self)) }
@@ -81,11 +81,13 @@ fn move_into<T: AtomicValue, L: SetLaw<T>, A: Low + Copy>(
     ensures known { IfOk result (KnowsEach values) }
     ensures kept { IfErr result (HasPart values) }
 {
+    let mut set = set;
     let mut rest = values;
     let mut handle = set.handle();
     let left = handle.insert_each(&mut rest);
     let known = handle.tell();
     drop(handle);
+    set.begin_with(known.again());
     let shared = Shared { set, known };
     match left {
         None => Ok(shared),
@@ -103,8 +105,8 @@ where
 {
     ghost entries = { λ s. s };
 
-    /// Moves each value into a set that threads share, and returns that set with what is known of it: each value is a known entry. The set
-    /// has buckets for all values from the first. A refusal returns each value: the held set as it is, or a shared set that has some of the
+    /// Moves each value into a set that threads share, and returns that set with what is known of it: each value is an entry that each new
+    /// handle knows. The set has buckets for all values from the first. A refusal returns each value: the held set as it is, or a shared set that has some of the
     /// values, the one that was refused, and the others. The owner of the held set calls it.
     fn share(self, alloc: A) -> Result<Shared<T, OfTarget<L>, A>, Unshared<T, L, OfTarget<L>, A>>
         ensures known { IfOk result (KnowsEach self) }

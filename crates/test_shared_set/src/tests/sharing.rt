@@ -169,3 +169,28 @@ fn what_is_left_may_be_dropped(rt: HostRuntime) -> Result<(), Fail> {
     }
     Ok(())
 }
+
+/// How many values a set begins with before it grows.
+const FIRST: u64 = 17;
+
+/// New handles find what the set began with in each later generation.
+#[test]
+fn new_handles_find_each_value_after_growth(rt: HostRuntime) -> Result<(), Fail> {
+    let values = Drops::new(rt.alloc(), NUMBERS)?;
+    let heap = counted(rt.alloc());
+    let told = held(&heap, &values, FIRST)?.share(&heap);
+    let set = set_of(&rt, &heap, told, FIRST);
+    for number in FIRST..NUMBERS {
+        assert!(&rt;
+            matches!(
+                set.insert(values.counting(number)?),
+                Inserted::Placed(_, _, _)
+            )
+        );
+        assert_finds(&rt, rt.alloc(), &set, number.wrapping_add(1))?;
+    }
+    drop(set);
+    assert_same(&rt, values.never_and_once(), (0, NUMBERS));
+    assert_none_out(&rt, &heap);
+    Ok(())
+}
