@@ -167,6 +167,11 @@ module _ {M : Type 1} {𝓤 : Ura M} (𝓛 : Logic 𝓤) (R : RattleType) (names
     ]
   ]
 
+  -- what is kept shows that a number has one value
+  values_apart : (es : List E) → ⟦ K es ⟧ ⊢ ⟦ K es ⟧ ∗ fact 𝓤 (OneValue es)
+  values_apart es = qed 𝓛 (‵ (K es) ∷ []) ∵ use1 𝓛 (‵ (K es) ⊛ ‵ (K es)) (all_twice es) $ split ! $ use1 𝓛 (raw (fact 𝓤 (Pairwise es))) (pairwise es) $ heard ! (Pairwise es) (λ all.
+      frame ! $ by ! (fact_i 𝓤 (OneValue es) (emp 𝓤) (λ p q k x y. one_value es p q k x y all)))
+
   -- what is kept of an entry may be had, and that a number has one value
   pub has_one : (es : List E) (e : E) → Contains es e → ⟦ K es ⟧ ⊢ ⟦ K es ⟧ ∗ guard 𝓤 (OneValue es) ⟦ One e ⟧
   has_one es e there = qed 𝓛 (‵ (K es) ∷ []) ∵ use1 𝓛 (‵ (K es) ⊛ ‵ (K es)) (all_twice es) $ split ! $ use1 𝓛 (raw (fact 𝓤 (Pairwise es))) (pairwise es) $ heard ! (Pairwise es) (λ all.
@@ -242,6 +247,12 @@ module _ {M : Type 1} {𝓤 : Ura M} (𝓛 : Logic 𝓤) (R : RattleType) (names
       → ent 𝓤 (sem 𝓛 (all_kept R names fs)) (sep 𝓤 (sem 𝓛 (all_kept R names fs)) (guard 𝓤 (OneValue es) (sem 𝓛 (kept_in R names e.value))))
   has_earlier es fs e on there = qed 𝓛 (‵ (all_kept R names fs) ∷ []) ∵ use1 𝓛 (‵ (all_kept R names fs) ⊛ given (OneValue fs) (‵ (kept_in R names e.value))) (has_one 𝓛 R names fs e there) $ split ! $
       move ! (1 ∷ []) $ learn ! (λ one. move ! (1 ∷ 0 ∷ []) $ frame ! $ check ! (λ p q k v w a b. one p q k v w (later es fs p (Entry (numbered k v)) on a) (later es fs q (Entry (numbered k w)) on b)) $ done !)
+
+  -- what is kept beside a later history shows that a number has one value
+  pub values_earlier : (es fs : List (Happening R.Denot)) → IsPrefix es fs
+      → ent 𝓤 (sem 𝓛 (all_kept R names fs)) (sep 𝓤 (sem 𝓛 (all_kept R names fs)) (fact 𝓤 (OneValue es)))
+  values_earlier es fs on = qed 𝓛 (‵ (all_kept R names fs) ∷ []) ∵ use1 𝓛 (‵ (all_kept R names fs) ⊛ raw (fact 𝓤 (OneValue fs))) (values_apart 𝓛 R names fs) $ split ! $
+      move ! (1 ∷ []) $ heard ! (OneValue fs) (λ one. frame ! $ by ! (fact_i 𝓤 (OneValue es) (emp 𝓤) (λ p q k v w a b. one p q k v w (later es fs p (Entry (numbered k v)) on a) (later es fs q (Entry (numbered k w)) on b))))
 
 -- what is kept beside a history names no token of one thread
 module _ (R : RattleType) (names : List ℕ) where

@@ -3,7 +3,7 @@ ghost use Rattle.std.specs.Prelude.{◌≡◌, ◌≢◌, ◌≤◌, ◌<◌, �
 ghost use Rattle.std.specs.Int.{IsPowerOfTwo};
 ghost use mathlib.Core.List.{IsPrefix};
 ghost use Rattle.table_numbered.specs.Words.{numbered, alike, marked};
-ghost use Rattle.table_numbered.specs.History.{event, Has, Stands, IsEntry, OneValue, Says};
+ghost use Rattle.table_numbered.specs.History.{event, Has, Stands, IsEntry, Says};
 ghost use Rattle.table_numbered.specs.Generations.{IsOf};
 ghost use Rattle.table_numbered.specs.declared.event.Stored.TheVariants.{Closed};
 
@@ -15,7 +15,7 @@ use crate::trade::{known, known_by};
 use std::alloc::{AllocError, Allocator};
 use std::marker::Model;
 use table_cell::Low;
-use table_slab::{Slab, Standing};
+use table_slab::Slab;
 use table_terms::law::SetLaw;
 
 /// A fixed number of buckets, each of which is set once by any thread: to the number of an entry, which lies in the slab that is
@@ -126,13 +126,5 @@ impl<V, L: SetLaw<V>, A: Low + Copy> Generation<V, L, A> {
     {
         let standing = known_by(seen, number);
         slab.get(number, &standing)
-    }
-
-    /// States that a number has one value, in a history with an entry. Nothing happens.
-    pub fn one_value(&self, seen: &Token<V, L>, number: u64)
-        requires there { (x : V) × IsEntry seen.now.log (numbered number x) }
-        ensures { OneValue seen.now.log }
-    {
-        let _known: Standing<V, A> = known_by(seen, number);
     }
 }

@@ -26,3 +26,4 @@ pub use probe::Judged;
 pub use rule::{SetRule, Token};
 pub use sought::{MetBy, SameAs, Sought};
 pub use table_terms::law::{KeyLaw, SetLaw};
+pub use trade::one_value;

@@ -201,3 +201,8 @@ pub(crate) fn known<V, L: Law<V>, A: Allocator>(
 {
     known_by(seen, number)
 }
+
+/// States that a number has one value. Nothing happens.
+pub fn one_value<V, L: Law<V>>(_seen: &Token<V, L>)
+    ensures { OneValue _seen.now.log }
+{}
