@@ -18,6 +18,7 @@ ghost use Rattle.shared_set.specs.Known.{
   IsCursor,
   IsChainOver,
 };
+ghost use Rattle.shared_set.specs.Apart.{AreApart};
 ghost use Rattle.shared_set.specs.Inserting.{Inserts, HasReceipt};
 
 use crate::cursor::{Cursor, Stages};
@@ -290,10 +291,12 @@ impl<V, L: SetLaw<V>, A: Low + Copy> SharedSet<V, L, A> {
     /// Returns the entry that is the same as the target, as a new handle does. `None` means that no entry that each new handle knows is the
     /// same.
     pub fn get(&self, target: &V) -> Option<&V>
-        ensures finds { Later self.now.known (λ log. Gets (L.same target.now) (IsEntry log) result) }
+        ensures finds { Later self.now.known (λ log. AreApart L.same log × Gets (L.same target.now) (IsEntry log) result) }
     {
         let mut handle = self.handle();
-        handle.get(target)
+        let found = handle.get(target);
+        handle.apart();
+        found
     }
 
     /// Returns true if an entry is the same as the target, as a new handle does. `false` means that no entry that each new handle knows is
@@ -309,11 +312,14 @@ impl<V, L: SetLaw<V>, A: Low + Copy> SharedSet<V, L, A> {
     /// Inserts the value, unless an entry is the same, as a new handle does. No handle is left that knows the entry, so the receipt can't be
     /// added to an account: whoever keeps an account inserts by a handle.
     pub fn insert(&self, value: V) -> Inserted<'_, V>
-        ensures told { Later self.now.known (λ old. Later old (λ new. Inserts L.same L.hash_of value old new result)) }
+        ensures told { Later self.now.known (λ old. Later old (λ new.
+            AreApart L.same new × Inserts L.same L.hash_of value old new result)) }
         ensures receipt { HasReceipt self.now.of result }
     {
         let mut handle = self.handle();
-        handle.insert(value)
+        let inserted = handle.insert(value);
+        handle.apart();
+        inserted
     }
 }
 
