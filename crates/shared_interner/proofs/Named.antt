@@ -18,7 +18,7 @@ same_number : (m n : NonZeroU32) → m.value ≡ n.value → m ≡ n
 same_number m n is = λ i. record { value = is i; ok = is_prop→PathP (λ j. 0 < is j) (λ j. le_prop) m.ok n.ok i }
 
 -- symbols of one entry are one
-same_symbol : (s t : Symbol) → number_of s ≡ number_of t → s ≡ t
+pub same_symbol : (s t : Symbol) → number_of s ≡ number_of t → s ≡ t
 same_symbol s t is = let one : s.number ≡ t.number = same_number s.number t.number (omega (arith, is, s.number.ok, t.number.ok)) in λ i. record { number = one i }
 
 -- where no two entries are the same, and no two have one number, all symbols are apart

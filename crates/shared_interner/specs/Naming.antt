@@ -24,10 +24,18 @@ IsSymbol known s = IsTaken known (number_of s)
 abbrev pub IsUnknown : Texts → List ℕ → Type 0
 IsUnknown known text = (s : Symbol) → IsNamed known s text → ⊥
 
+-- a text has one symbol
+abbrev pub OneSymbol : Texts → Type 0
+OneSymbol known = (s t : Symbol) (text : List ℕ) → IsNamed known s text → IsNamed known t text → s ≡ t
+
+-- a symbol has one text
+abbrev pub OneText : Texts → Type 0
+OneText known = (s : Symbol) (a b : List ℕ) → IsNamed known s a → IsNamed known s b → a ≡ b
+
 -- different symbols have different texts, and different texts have different symbols
 pub record AreApart (known : Texts) : Type 0 where
-  pub one_symbol : (s t : Symbol) (text : List ℕ) → IsNamed known s text → IsNamed known t text → s ≡ t
-  pub one_text : (s : Symbol) (a b : List ℕ) → IsNamed known s a → IsNamed known s b → a ≡ b
+  pub one_symbol : OneSymbol known
+  pub one_text : OneText known
 
 -- the text is known under this symbol, and all symbols are apart
 pub record IsSymbolOf (known : Texts) (text : List ℕ) (s : Symbol) : Type 0 where

@@ -1,7 +1,10 @@
 //! A symbol table that threads share: each different text gets one symbol, which gives the text back.
 #![tactic(auto)]
 
+mod apart;
+pub mod example;
 mod interning;
+mod iter;
 mod names;
 mod share;
 mod short;
@@ -9,6 +12,7 @@ mod symbol;
 mod text;
 
 pub use interning::SharedInterner;
+pub use iter::Iter;
 pub use names::{KnownNames, Names};
 pub use share::Shared;
 pub use symbol::Symbol;

@@ -2,7 +2,7 @@
 ghost use Rattle.std.specs.Prelude.{◌≡◌, IfOk, OnErr};
 ghost use Rattle.table_numbered.specs.Walking.{IsTaken};
 ghost use Rattle.shared_set.specs.Known.{KnowsMore, Keeps};
-ghost use Rattle.shared_interner.specs.Naming.{IsSymbolOf, IsSymbol, IsUnknown, FindsSymbol, FindsText, AreApart, HasSymbol};
+ghost use Rattle.shared_interner.specs.Naming.{IsSymbolOf, IsSymbol, IsUnknown, FindsSymbol, FindsText, HasSymbol};
 
 use crate::symbol::Symbol;
 use crate::text::Text;
@@ -39,17 +39,8 @@ impl<'a, A: Low + Copy> Names<'a, A> {
         requires known { IsTaken self.now.history number }
         ensures { HasSymbol self.now.history number result }
     {
-        self.handle.apart(number);
+        self.handle.apart();
         Symbol::of_number(number)
-    }
-
-    /// States that no two symbols known to this handle have one text, and that no two texts have one symbol. The symbol given is any that it
-    /// knows. Nothing happens.
-    pub fn apart(&self, symbol: Symbol)
-        requires known { IsSymbol self.now.history symbol }
-        ensures { AreApart self.now.history }
-    {
-        self.handle.apart(symbol.number());
     }
 
     /// Returns the symbol of the text. `None` means that no text known to this handle is this one.
@@ -101,7 +92,7 @@ impl<'a, A: Low + Copy> Names<'a, A> {
     {
         match self.handle.entry(symbol.number()) {
             Some(text) => {
-                self.apart(symbol);
+                self.apart();
                 Some(text.as_str())
             }
             None => None,
@@ -113,7 +104,7 @@ impl<'a, A: Low + Copy> Names<'a, A> {
         requires known { IsSymbol self.now.history symbol }
         ensures { IsSymbolOf self.now.history result.now symbol }
     {
-        self.apart(symbol);
+        self.apart();
         self.handle.known_entry(symbol.number()).as_str()
     }
 

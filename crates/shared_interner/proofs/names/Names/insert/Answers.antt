@@ -1,5 +1,3 @@
-use Rattle.table_numbered.specs.History.{IsEntry}
-use Rattle.table_numbered.specs.Words.{numbered}
 use Rattle.table_sets.specs.Texts.{same_by_text}
 use Rattle.shared_set.proofs.Placing.{placed_entry}
 use Rattle.shared_interner.proofs.Named.{named_by, none_same}
