@@ -18,4 +18,4 @@ KeepsFirst n texts known = (s : Symbol) (text : List ℕ) → number_of s < n �
 pub record Shares {A : Type 0} (texts : List (List ℕ)) (s : Shared A) : Type 0 where
   pub of : s.known.of ≡ s.interner.of
   pub numbers : KeepsNumbers texts s.known.history
-  pub from_first : s.interner.known ≡ s.known.history
+  pub handles : s.interner.known ≡ s.known.history

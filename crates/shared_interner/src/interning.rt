@@ -1,5 +1,5 @@
 //! The interner, and what any thread may call on it.
-ghost use Rattle.std.specs.Prelude.{◌≡◌, ◌*◌, ◌≤◌, max, IfOk, OnErr};
+ghost use Rattle.std.specs.Prelude.{◌≡◌, [], ◌*◌, ◌≤◌, max, IfOk, OnErr};
 ghost use Rattle.table_numbered.specs.History.{size_of};
 ghost use Rattle.shared_set.specs.Known.{IsEmpty, Keeps, Later};
 ghost use Rattle.shared_interner.specs.Naming.{IsSymbolOf, IsUnknown, FindsSymbol, FindsText};
@@ -36,6 +36,7 @@ impl<A: Low + Copy> SharedInterner<A> {
     /// Makes an empty interner of 16 buckets. A refused request leaves nothing.
     pub fn new(alloc: A) -> Result<Self, AllocError>
         ensures empty { IfOk result (λ s. IsEmpty s.start) }
+        ensures none { IfOk result (λ s. s.known ≡ []) }
         ensures size { IfOk result (λ s. size_of s.start ≡ 16) }
     {
         match SharedSet::new(alloc) {
@@ -47,6 +48,7 @@ impl<A: Low + Copy> SharedInterner<A> {
     /// Makes an empty interner that has buckets for this many texts before it grows. A refused request leaves nothing.
     pub fn with_capacity(alloc: A, texts: usize) -> Result<Self, AllocError>
         ensures empty { IfOk result (λ s. IsEmpty s.start) }
+        ensures none { IfOk result (λ s. s.known ≡ []) }
         ensures room { IfOk result (λ s. texts * 2 ≤ size_of s.start) }
         ensures few { IfOk result (λ s. size_of s.start ≤ max 16 (texts * 4)) }
     {
@@ -56,16 +58,18 @@ impl<A: Low + Copy> SharedInterner<A> {
         }
     }
 
-    /// Makes each handle that is made from now on know what is known here. The owner of the interner calls it, before threads share it.
+    /// Makes each new handle know what `known` has, in place of what an earlier call gave. The owner of the interner calls it, before threads
+    /// share it. A new handle then takes one load for each growth since `known` was told.
     pub fn begin_with(&mut self, known: KnownNames<A>)
         requires of { known.of ≡ self.old.of }
         ensures of { self.new.of ≡ self.old.of }
+        ensures start { self.new.start ≡ self.old.start }
         ensures known { self.new.known ≡ known.history }
     {
         self.set.begin_with(known);
     }
 
-    /// Returns a handle, by which one thread calls the interner. It knows each text that `begin_with` was given.
+    /// Returns a handle, by which one thread calls the interner. It knows each text that `begin_with` was last given.
     pub fn names(&self) -> Names<'_, A>
         ensures of { result.of ≡ self.now.of }
         ensures keeps { Keeps self.now.known result.history }
@@ -78,7 +82,7 @@ impl<A: Low + Copy> SharedInterner<A> {
 
     /// Returns the symbol of the text. A new text gets a symbol that no other text has. A text that is there needs no memory.
     ///
-    /// `Err`: memory was refused, or no symbol is left. Then no new handle knows the text.
+    /// `Err`: memory was refused, or no symbol is left. Then `begin_with` was not given the text.
     pub fn intern(&self, text: &str) -> Result<Symbol, AllocError>
         ensures named { Later self.now.known (λ known. IfOk result (IsSymbolOf known text.now)) }
         ensures refused { Later self.now.known (λ known. OnErr result (IsUnknown known text.now)) }
@@ -87,7 +91,7 @@ impl<A: Low + Copy> SharedInterner<A> {
         names.intern(text)
     }
 
-    /// Returns the symbol of the text, as a new handle does. `None` means that no text that each new handle knows is this one.
+    /// Returns the symbol of the text, as a new handle does. `None` means that `begin_with` was not given the text.
     pub fn get(&self, text: &str) -> Option<Symbol>
         ensures finds { Later self.now.known (λ known. FindsSymbol known text.now result) }
     {
@@ -95,7 +99,7 @@ impl<A: Low + Copy> SharedInterner<A> {
         names.get(text)
     }
 
-    /// Returns the text of the symbol, as a new handle does. `None` means that no text that each new handle knows has it.
+    /// Returns the text of the symbol, as a new handle does. `None` means that no text that `begin_with` was given has it.
     pub fn text(&self, symbol: Symbol) -> Option<&str>
         ensures finds { Later self.now.known (λ known. FindsText known symbol result) }
     {

@@ -73,7 +73,7 @@ impl<'a, A: Low + Copy> Names<'a, A> {
 
 impl<A: Low + Copy> SharedInterner<A> {
     /// Copies the texts of an interner of one owner, which stays as it is. Each symbol's `to_u32` is the number of its text. Returns the new
-    /// interner with what is known of it, and each new handle knows: each of the texts. `Err`: memory was refused, or there are more than 2^31 texts.
+    /// interner, and each text as known. Each new handle knows them. `Err`: memory was refused, or there are more than 2^31 texts.
     pub fn copy_of<B: Allocator + Copy, H: TextHash>(
         alloc: A,
         texts: &Interner<B, H>,

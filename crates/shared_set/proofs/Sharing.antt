@@ -40,14 +40,14 @@ module _ {V : Type 0} where
   module _ {L A : Type 0} where
     -- where no value is left, each is known
     pub knows_each : (values : List V) (s : Shared V L A) → s.known.of ≡ s.set.of → s.set.known ≡ s.known.history → Moves values s.known.history [] → KnowsEach values s
-    knows_each values s of begun it = record { of = of; entries = subst (HasEach s.known.history) (sym (it.all ∙ append-nil it.moved)) it.entries; from_first = begun }
+    knows_each values s of begun it = record { of = of; entries = subst (HasEach s.known.history) (sym (it.all ∙ append-nil it.moved)) it.entries; handles = begun }
 
     knows_moved : (values left : List V) (s : Shared V L A) → s.known.of ≡ s.set.of → s.set.known ≡ s.known.history → (it : Moves values s.known.history left) → KnowsEach it.moved s
-    knows_moved values left s of begun it = record { of = of; entries = it.entries; from_first = begun }
+    knows_moved values left s of begun it = record { of = of; entries = it.entries; handles = begun }
 
     -- the same of values in another order
     pub knows_in_order : (xs ys : List V) (s : Shared V L A) → IsPermutation xs ys → KnowsEach ys s → KnowsEach xs s
-    knows_in_order xs ys s is it = record { of = it.of; entries = λ v among. it.entries v (Contains-permutation xs ys v is among); from_first = it.from_first }
+    knows_in_order xs ys s is it = record { of = it.of; entries = λ v among. it.entries v (Contains-permutation xs ys v is among); handles = it.handles }
 
     module _ {U : Type 0} where
       pub has_part : (values : List V) (p : Partly V L A U) → p.shared.known.of ≡ p.shared.set.of → p.shared.set.known ≡ p.shared.known.history → Moves values p.shared.known.history (p.refused ∷ p.rest) → HasPart values p

@@ -36,7 +36,7 @@ known_by None = []
 known_by (Some c) = c.entries.log
 
 abbrev pub shared_set_view : {V : Type 0} → SharedView → History (Numbered V) → History (Numbered V) → SharedSetView V
-shared_set_view g log others = record { of = g; start = log; known = others }
+shared_set_view g start known = record { of = g; start = start; known = known }
 
 -- the set that a cursor is of
 abbrev pub set_of : {V L A : Type 0} → Cursor V L A → SharedView
@@ -117,13 +117,10 @@ module _ {V : Type 0} (same : V → V → Bool) (hash : V → ℕ) where
   abbrev pub IsCursor : {L A : Type 0} → SharedView → Cursor V L A → Type 0
   IsCursor g c = IsAt g c.slot c.stages.book c.stages.names c.stages.log c.entries.book c.entries.names c.entries.log
 
-  -- a set between two calls: its first stage is over its slab, and began with this history; what each new handle knows is of this set
+  -- a set between two calls: its chain is over its slab, its first stage began with this history, and what each new handle knows is of this set
   pub record IsShared {L A : Type 0} (c : ChainView (StageView V)) (s : SlabView) (start : History (Numbered V)) (told : Option (Cursor V L A)) : Type 0 where
-    pub slots : c.slots ≡ stages
-    pub first : StageView V
-    pub begins : chain.Stands c.start 0 first
-    pub over : first.of.of.slab ≡ s
-    pub with : first.of.start ≡ start
+    pub chain : IsChainOver c s
+    pub with : chain.first.of.start ≡ start
     pub known : IfSome told (λ k. IsCursor (shared_view c s) k)
 
   -- a handle between two calls

@@ -33,7 +33,7 @@ module _ {V : Type 0} where
   pub record KnowsEach {L A : Type 0} (values : List V) (s : Shared V L A) : Type 0 where
     pub of : s.known.of ≡ s.set.of
     pub entries : HasEach s.known.history values
-    pub from_first : s.set.known ≡ s.known.history
+    pub handles : s.set.known ≡ s.known.history
 
   -- each of the values once: some are known entries of the set, one was refused, and the others are left
   pub record HasPart {L A U : Type 0} (values : List V) (p : Partly V L A U) : Type 0 where

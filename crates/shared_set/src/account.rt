@@ -156,9 +156,10 @@ impl<V, L: SetLaw<V>, A: Low + Copy> Account<V, L, A> {
 }
 
 impl<V, L: SetLaw<V>, A: Low + Copy> SharedSet<V, L, A> {
-    /// Returns an account of this set that has no receipts.
+    /// Returns an account of this set that has no receipts. It knows what a new handle knows.
     pub fn account(&self) -> Account<V, L, A>
         ensures of { result.of ≡ self.now.of }
+        ensures keeps { Keeps self.now.known result.history }
         ensures none { result.placed ≡ [] }
     {
         Account {

@@ -1,5 +1,5 @@
 //! The set, and what any thread may call on it.
-ghost use Rattle.std.specs.Prelude.{◌≡◌, suc, ◌<◌, ◌≤◌, ◌^◌, ◌*◌, max, true, false, IfOk};
+ghost use Rattle.std.specs.Prelude.{◌≡◌, [], suc, ◌<◌, ◌≤◌, ◌^◌, ◌*◌, max, true, false, IfOk};
 ghost use Rattle.std.specs.Int.{IsPowerOfTwo};
 ghost use mathlib.Core.List.{IsPrefix};
 ghost use Rattle.table_chain.specs.History.{Stands};
@@ -9,7 +9,6 @@ ghost use Rattle.shared_set.specs.Known.{
   shared_view,
   Keeps,
   Later,
-  SomePasses,
   Gets,
   IsEmpty,
   Stepped,
@@ -18,7 +17,7 @@ ghost use Rattle.shared_set.specs.Known.{
   IsCursor,
   IsChainOver,
 };
-ghost use Rattle.shared_set.specs.Apart.{AreApart};
+ghost use Rattle.shared_set.specs.Apart.{IsApart};
 ghost use Rattle.shared_set.specs.Inserting.{Inserts, HasReceipt};
 
 use crate::cursor::{Cursor, Stages};
@@ -83,6 +82,7 @@ impl<V, L: SetLaw<V>, A: Low + Copy> SharedSet<V, L, A> {
     /// Makes an empty set of 16 buckets. A refused request leaves nothing.
     pub fn new(alloc: A) -> Result<Self, AllocError>
         ensures empty { IfOk result (λ s. IsEmpty s.start) }
+        ensures none { IfOk result (λ s. s.known ≡ []) }
         ensures size { IfOk result (λ s. size_of s.start ≡ 16) }
     {
         SharedSet::with_buckets(alloc, LEAST_BUCKETS)
@@ -92,6 +92,7 @@ impl<V, L: SetLaw<V>, A: Low + Copy> SharedSet<V, L, A> {
     /// request leaves nothing.
     pub fn with_capacity(alloc: A, entries: usize) -> Result<Self, AllocError>
         ensures empty { IfOk result (λ s. IsEmpty s.start) }
+        ensures none { IfOk result (λ s. s.known ≡ []) }
         ensures room { IfOk result (λ s. entries * 2 ≤ size_of s.start) }
         ensures few { IfOk result (λ s. size_of s.start ≤ max 16 (entries * 4)) }
     {
@@ -106,6 +107,7 @@ impl<V, L: SetLaw<V>, A: Low + Copy> SharedSet<V, L, A> {
         requires power { IsPowerOfTwo buckets }
         requires few { buckets ≤ 2 ^ 32 }
         ensures empty { IfOk result (λ s. IsEmpty s.start) }
+        ensures none { IfOk result (λ s. s.known ≡ []) }
         ensures size { IfOk result (λ s. size_of s.start ≡ buckets) }
     {
         let slab = Slab::new(alloc, FIRST_CHUNK_BITS)?;
@@ -159,10 +161,12 @@ impl<V, L: SetLaw<V>, A: Low + Copy> SharedSet<V, L, A> {
         }
     }
 
-    /// Makes each handle that is made from now on know what is known here. The owner of the set calls it, before threads share the set.
+    /// Makes each new handle know what `known` has, in place of what an earlier call gave. The owner of the set calls it, before threads
+    /// share the set. A new handle then takes one load for each growth since `known` was told.
     pub fn begin_with(&mut self, known: Known<V, L, A>)
         requires of { known.of ≡ self.old.of }
         ensures of { self.new.of ≡ self.old.of }
+        ensures start { self.new.start ≡ self.old.start }
         ensures known { self.new.known ≡ known.history }
     {
         self.known = Some(known.cursor);
@@ -206,7 +210,7 @@ impl<V, L: SetLaw<V>, A: Low + Copy> SharedSet<V, L, A> {
         }
     }
 
-    /// Returns a handle, by which one thread calls the set. It knows each entry that `begin_with` was given.
+    /// Returns a handle, by which one thread calls the set. It knows each entry that `begin_with` was last given.
     pub fn handle(&self) -> Handle<'_, V, L, A>
         ensures of { result.of ≡ self.now.of }
         ensures keeps { Keeps self.now.known result.history }
@@ -288,10 +292,10 @@ fn buckets_for(entries: usize) -> usize
 }
 
 impl<V, L: SetLaw<V>, A: Low + Copy> SharedSet<V, L, A> {
-    /// Returns the entry that is the same as the target, as a new handle does. `None` means that no entry that each new handle knows is the
-    /// same.
+    /// Returns the entry that is the same as the target, as a new handle does. `None` means that no entry that `begin_with` was given is
+    /// the same.
     pub fn get(&self, target: &V) -> Option<&V>
-        ensures finds { Later self.now.known (λ log. AreApart L.same log × Gets (L.same target.now) (IsEntry log) result) }
+        ensures finds { Later self.now.known (λ log. IsApart L.same log × Gets (L.same target.now) (IsEntry log) result) }
     {
         let mut handle = self.handle();
         let found = handle.get(target);
@@ -299,10 +303,9 @@ impl<V, L: SetLaw<V>, A: Low + Copy> SharedSet<V, L, A> {
         found
     }
 
-    /// Returns true if an entry is the same as the target, as a new handle does. `false` means that no entry that each new handle knows is
+    /// Returns true if an entry is the same as the target, as a new handle does. `false` means that no entry that `begin_with` was given is
     /// the same.
     pub fn contains(&self, target: &V) -> bool
-        ensures some { result ≡ true → Later self.now.known (λ log. SomePasses (L.same target.now) (IsEntry log)) }
         ensures none { result ≡ false → NonePasses (of_value (L.same target.now)) (IsEntry self.now.known) }
     {
         let mut handle = self.handle();
@@ -312,8 +315,8 @@ impl<V, L: SetLaw<V>, A: Low + Copy> SharedSet<V, L, A> {
     /// Inserts the value, unless an entry is the same, as a new handle does. No handle is left that knows the entry, so the receipt can't be
     /// added to an account: whoever keeps an account inserts by a handle.
     pub fn insert(&self, value: V) -> Inserted<'_, V>
-        ensures told { Later self.now.known (λ old. Later old (λ new.
-            AreApart L.same new × Inserts L.same L.hash_of value old new result)) }
+        ensures told { Later self.now.known (λ log.
+            IsApart L.same log × Inserts L.same L.hash_of value self.now.known log result) }
         ensures receipt { HasReceipt self.now.of result }
     {
         let mut handle = self.handle();

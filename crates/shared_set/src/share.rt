@@ -49,8 +49,8 @@ where
     ghost entries: { Self → List T };
 
     /// Moves each value into a set that threads share, and returns that set with what is known of it: each value is an entry that each new
-    /// handle knows. Two values are the same there if their targets are the same here. A refusal returns each value, in the shared set or beside it. The
-    /// owner of the set calls it.
+    /// handle knows. Two values are the same there if their targets are the same here. A refusal returns each value, in the shared set or
+    /// beside it. The owner of the set calls it.
     fn share(self, alloc: A) -> Result<Shared<T, OfTarget<L>, A>, Unshared<T, L, OfTarget<L>, A>>
         ensures known { IfOk result (KnowsEach (entries self)) }
         ensures kept { IfErr result (KeepsEach (entries self)) };
@@ -106,8 +106,8 @@ where
     ghost entries = { λ s. s };
 
     /// Moves each value into a set that threads share, and returns that set with what is known of it: each value is an entry that each new
-    /// handle knows. The set has buckets for all values from the first. A refusal returns each value: the held set as it is, or a shared set that has some of the
-    /// values, the one that was refused, and the others. The owner of the held set calls it.
+    /// handle knows. The set has buckets for all values from the first. A refusal returns each value: the held set as it is, or a shared set
+    /// that has some of the values, the one that was refused, and the others. The owner of the held set calls it.
     fn share(self, alloc: A) -> Result<Shared<T, OfTarget<L>, A>, Unshared<T, L, OfTarget<L>, A>>
         ensures known { IfOk result (KnowsEach self) }
         ensures kept { IfErr result (KeepsEach self) }

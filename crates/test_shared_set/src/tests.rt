@@ -1,5 +1,6 @@
 mod accounts;
 mod alone;
+mod beginning;
 mod caller;
 mod drops;
 mod ending;

@@ -11,6 +11,6 @@ returns-in-Ok-taken g c = record {
   shares = record {
     of = ap (λ (v : KnownView (List ℕ)). v.of) c.tell-known.ensures ∙ (c.take_all-taken.ensures.known.0 ∙ (c.names-names.ensures.of ∙ sym c.begin_with.ensures.of));
     numbers = subst (λ (v : KnownView (List ℕ)). KeepsNumbers c.args.texts.now v.history) (sym c.tell-known.ensures) c.in-Ok-taken.ensures.numbers;
-    from_first = c.begin_with.ensures.known ∙ ap (λ (v : KnownView (List ℕ)). v.history) c.again.ensures;
+    handles = c.begin_with.ensures.known ∙ ap (λ (v : KnownView (List ℕ)). v.history) c.again.ensures;
   };
 }

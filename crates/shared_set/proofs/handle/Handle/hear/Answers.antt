@@ -14,7 +14,7 @@ join-requires-clause-theirs g c =
 
 pub get-self-inside-requires-clause-of : goal.get-self-inside-requires-clause-of
 get-self-inside-requires-clause-of g c = let t = c.join.new.cursor.stages in
-    seen_of_chain g.L.Law.same g.L.Law.hash_of c.self.inside.set.now.of c.set.inside.chain c.set.inside.slab (one_set c.set.view_is) c.set.invariant.slots t.book t.names t.log c.join.ensures.at.seen
+    seen_of_chain g.L.Law.same g.L.Law.hash_of c.self.inside.set.now.of c.set.inside.chain c.set.inside.slab (one_set c.set.view_is) c.set.invariant.chain.slots t.book t.names t.log c.join.ensures.at.seen
 
 pub get-self-inside-requires-clause-there : goal.get-self-inside-requires-clause-there
 get-self-inside-requires-clause-there g c = let at = c.join.ensures.at in (at.stage, at.shown)

@@ -5,10 +5,7 @@ use Rattle.shared_set.proofs.set.SharedSet.begin_with.Goals as goal
 
 pub invariant_of-self : goal.invariant_of-self
 invariant_of-self g c = let was = c.self.invariant in record {
-  slots = was.slots;
-  first = was.first;
-  begins = was.begins;
-  over = was.over;
+  chain = was.chain;
   with = was.with;
   known = subst (λ (s : SharedView). IsCursor g.L.Law.same g.L.Law.hash_of s c.known.inside.cursor)
       (ap (λ (k : KnownView g.row.V.Denot). k.of) c.known.view_is ∙ (c.requires.of ∙ sym (one_set c.self.view_is))) c.known.invariant;

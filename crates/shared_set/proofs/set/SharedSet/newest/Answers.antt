@@ -10,20 +10,20 @@ use Rattle.shared_set.proofs.set.SharedSet.newest.Goals as goal
 
 pub newest_told-slot-requires-clause-seen : goal.newest_told-slot-requires-clause-seen
 newest_told-slot-requires-clause-seen g c = let t = c.start-stages.result in
-    seen_of_set g.L.Law.same g.L.Law.hash_of c.args.self.now.of c.self.inside.chain c.self.inside.slab (one_set c.self.view_is) c.self.invariant.slots t.book t.names t.log c.start-stages.ensures.of
+    seen_of_set g.L.Law.same g.L.Law.hash_of c.args.self.now.of c.self.inside.chain c.self.inside.slab (one_set c.self.view_is) c.self.invariant.chain.slots t.book t.names t.log c.start-stages.ensures.of
 
 pub newest_told-slot-requires-clause-first : goal.newest_told-slot-requires-clause-first
-newest_told-slot-requires-clause-first g c = let i = c.self.invariant in (i.first, subst (λ (l : Course g.row.V.Denot). chain.Stands l 0 i.first) (sym c.start-stages.ensures.log) i.begins)
+newest_told-slot-requires-clause-first g c = let i = c.self.invariant.chain in (i.first, subst (λ (l : Course g.row.V.Denot). chain.Stands l 0 i.first) (sym c.start-stages.ensures.log) i.begins)
 
 pub get-stage-requires-clause-of : goal.get-stage-requires-clause-of
 get-stage-requires-clause-of g c = let t = c.newest_told-slot.new.seen in
-    seen_of_chain g.L.Law.same g.L.Law.hash_of c.args.self.now.of c.self.inside.chain c.self.inside.slab (one_set c.self.view_is) c.self.invariant.slots t.book t.names t.log c.newest_told-slot.ensures.seen
+    seen_of_chain g.L.Law.same g.L.Law.hash_of c.args.self.now.of c.self.inside.chain c.self.inside.slab (one_set c.self.view_is) c.self.invariant.chain.slots t.book t.names t.log c.newest_told-slot.ensures.seen
 
 pub get-stage-requires-clause-there : goal.get-stage-requires-clause-there
 get-stage-requires-clause-there g c = c.newest_told-slot.ensures.shown
 
 pub returns : goal.returns
-returns g c = let i = c.self.invariant in let t = c.newest_told-slot.new.seen in let s = c.get-stage.result.now in
+returns g c = let i = c.self.invariant.chain in let t = c.newest_told-slot.new.seen in let s = c.get-stage.result.now in
     let begins : chain.Stands t.log 0 i.first = chained.stands_on (Begins g.L.Law.same g.L.Law.hash_of) (GrowsInto g.L.Law.same g.L.Law.hash_of) c.start-stages.result.log t.log 0 i.first c.newest_told-slot.ensures.longer
     (subst (λ (l : Course g.row.V.Denot). chain.Stands l 0 i.first) (sym c.start-stages.ensures.log) i.begins) in record {
       seen = c.newest_told-slot.ensures.seen;

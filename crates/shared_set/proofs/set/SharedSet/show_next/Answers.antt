@@ -7,11 +7,11 @@ use Rattle.shared_set.proofs.set.SharedSet.show_next.Goals as goal
 
 pub show-requires-clause-of : goal.show-requires-clause-of
 show-requires-clause-of g c = let t = c.again-seen.result in
-    seen_of_chain g.L.Law.same g.L.Law.hash_of c.args.self.now.of c.self.inside.chain c.self.inside.slab (one_set c.self.view_is) c.self.invariant.slots t.book t.names t.log
+    seen_of_chain g.L.Law.same g.L.Law.hash_of c.args.self.now.of c.self.inside.chain c.self.inside.slab (one_set c.self.view_is) c.self.invariant.chain.slots t.book t.names t.log
     (subst (λ x. IsSeen g.L.Law.same g.L.Law.hash_of c.args.self.now.of x.book x.names x.log) (sym c.again-seen.ensures) c.requires.at.seen)
 
 pub show-requires-clause-inside : goal.show-requires-clause-inside
-show-requires-clause-inside g c = omega (arith, c.requires.inside, c.self.invariant.slots)
+show-requires-clause-inside g c = omega (arith, c.requires.inside, c.self.invariant.chain.slots)
 
 pub show-requires-clause-fits : goal.show-requires-clause-fits
 show-requires-clause-fits g c = let s = c.requires.grows.0 in record {

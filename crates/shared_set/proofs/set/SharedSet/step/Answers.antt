@@ -16,12 +16,12 @@ returns-then-next-eq-STAGES-clause-stepped g c = let k = c.args.cursor.now in
 pub look-requires-clause-inside : goal.look-requires-clause-inside
 look-requires-clause-inside g c = let k = c.args.cursor.now in
     let lt : k.slot < stages = at_inside g.L.Law.same g.L.Law.hash_of c.args.self.now.of k.slot k.stages.book k.stages.names k.stages.log k.entries.book k.entries.names k.entries.log c.requires.at in
-    omega (arith, lt, c.self.invariant.slots, c.if-next-eq-STAGES.false)
+    omega (arith, lt, c.self.invariant.chain.slots, c.if-next-eq-STAGES.false)
 
 pub returns-in-None-clause-at : goal.returns-in-None-clause-at
 returns-in-None-clause-at g c = let k = c.args.cursor.now in let new = c.look.new.seen in
     at_longer g.L.Law.same g.L.Law.hash_of c.args.self.now.of k.slot k.stages.book k.stages.names k.stages.log k.entries.book k.entries.names k.entries.log new.book new.names new.log
-    (seen_of_set g.L.Law.same g.L.Law.hash_of c.args.self.now.of c.self.inside.chain c.self.inside.slab (one_set c.self.view_is) c.self.invariant.slots new.book new.names new.log c.look.ensures.of) c.look.ensures.longer c.requires.at
+    (seen_of_set g.L.Law.same g.L.Law.hash_of c.args.self.now.of c.self.inside.chain c.self.inside.slab (one_set c.self.view_is) c.self.invariant.chain.slots new.book new.names new.log c.look.ensures.of) c.look.ensures.longer c.requires.at
 
 pub carry_over-requires : goal.carry_over-requires
 carry_over-requires g c = let k = c.args.cursor.now in let new = c.look.new.seen in let at = c.requires.at in (
@@ -34,7 +34,7 @@ carry_over-requires g c = let k = c.args.cursor.now in let new = c.look.new.seen
 pub returns-in-Some-clause-at : goal.returns-in-Some-clause-at
 returns-in-Some-clause-at g c = let k = c.args.cursor.now in let new = c.look.new.seen in let e = c.carry_over.new.entries in
     at_next g.L.Law.same g.L.Law.hash_of c.args.self.now.of k.slot k.stages.book k.stages.names k.stages.log k.entries.book k.entries.names k.entries.log (k.slot + 1) c.in-Some.stage.now new.book new.names new.log e.book e.names e.log
-    (seen_of_set g.L.Law.same g.L.Law.hash_of c.args.self.now.of c.self.inside.chain c.self.inside.slab (one_set c.self.view_is) c.self.invariant.slots new.book new.names new.log c.look.ensures.of) c.look.ensures.longer
+    (seen_of_set g.L.Law.same g.L.Law.hash_of c.args.self.now.of c.self.inside.chain c.self.inside.slab (one_set c.self.view_is) c.self.invariant.chain.slots new.book new.names new.log c.look.ensures.of) c.look.ensures.longer
     (omega arith) c.in-Some.ensures.told c.carry_over.ensures.of c.requires.at
 
 pub returns-in-None-clause-stepped : goal.returns-in-None-clause-stepped

@@ -1,0 +1,64 @@
+//! Sets whose new handles know entries from the first.
+use super::caller::{
+    Numbers, Tally, assert_has, assert_none_out, assert_same, counted, fill, set_with,
+};
+use demo_examples::beginning::begin_and_ask;
+use shared_set::Settled;
+use std::alloc::AllocError;
+use std::process::Abort;
+use testkit::refusing::{Refusing, Rule};
+
+/// How many numbers the set has at each call of `begin_with`. It grows in between.
+const COUNTS: [u64; 5] = [0, 1, 5, 300, 2000];
+
+/// Places the numbers from one to below another, and makes new handles know them.
+fn begin(rt: &impl Abort, set: &mut Numbers<'_>, from: u64, end: u64) {
+    let mut handle = set.handle();
+    let placed = Tally::of(end.wrapping_sub(from), 0);
+    assert_same(rt, fill(&mut handle, from, end, 1), placed);
+    let known = handle.tell();
+    drop(handle);
+    set.begin_with(known);
+}
+
+/// Asserts that calls of the set, and a new handle, find each number below this one, and not this one.
+fn assert_begins(rt: &impl Abort, set: &Numbers<'_>, end: u64) {
+    assert_has(rt, &mut set.handle(), end);
+    for number in 0..end {
+        assert_same(rt, set.get(&number), Some(&number));
+    }
+    assert_same(rt, (set.contains(&end), set.len()), (false, end));
+}
+
+#[test]
+fn new_handles_find_what_they_begin_with(rt: HostRuntime) {
+    let heap = counted(rt.alloc());
+    let mut set = set_with(&rt, &heap, 0);
+    let mut from = 0;
+    for end in COUNTS {
+        begin(&rt, &mut set, from, end);
+        assert_begins(&rt, &set, end);
+        from = end;
+    }
+    let account = set.account();
+    match set.settle(account) {
+        Settled::All(values) => assert_same(&rt, values.len(), 0),
+        Settled::More(values) => assert_same(&rt, values.len() as u64, from),
+    }
+    assert_none_out(&rt, &heap);
+}
+
+/// Each request is refused in turn, and then nothing is left.
+#[test]
+fn a_set_that_begins_with_a_number_has_it(rt: HostRuntime) {
+    let mut refused = 0u64;
+    for granted in 0..40u64 {
+        let heap = Refusing::new(rt.alloc(), Rule::new(0, usize::MAX, granted, 1));
+        match begin_and_ask(&heap, 7) {
+            Ok(has) => assert!(&rt; has),
+            Err(AllocError) => refused = refused.wrapping_add(1),
+        }
+        assert_none_out(&rt, &heap);
+    }
+    assert!(&rt; 3 < refused && refused < 40, "{refused}");
+}
