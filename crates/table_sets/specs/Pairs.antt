@@ -1,5 +1,5 @@
 -- Pairs, by what is the same and the hash of each part.
-use Rattle.std.specs.Prelude.{ℕ, ◌+◌, ◌%◌, ◌^◌, ◌&&◌, Bool}
+use Rattle.std.specs.Prelude.{◌≡◌, ℕ, ◌+◌, ◌%◌, ◌^◌, ◌&&◌, Bool, true}
 use Rattle.std.proofs.Common.{arith}
 use Rattle.std.proofs.lemmas.Grind.{common_steps}
 use Rattle.table_terms.specs.Laws.{IsLaw, number_hash, number_hash_small}
@@ -27,3 +27,17 @@ module _ {V W : Type 0} where
     small = λ a. number_hash_small _;
     agrees = λ a b h. grind (arith, common_steps, first.agrees a.0 b.0, second.agrees a.1 b.1);
   }
+
+module _ {I J V W : Type 0} where
+  -- each part meets its part of the key
+  abbrev pub meets_parts : (I → V → Bool) → (J → W → Bool) → I × J → V × W → Bool
+  meets_parts meets also key a = meets key.0 a.0 && also key.1 a.1
+
+  -- where each part that meets its key has the hash of the key, so has a pair
+  pub pairs_agree : {meets : I → V → Bool} {hash_of : V → ℕ} {key_hash : I → ℕ}
+      {also : J → W → Bool} {hash_also : W → ℕ} {key_also : J → ℕ}
+      → ((k : I) (v : V) → meets k v ≡ true → hash_of v ≡ key_hash k)
+      → ((k : J) (w : W) → also k w ≡ true → hash_also w ≡ key_also k)
+      → (k : I × J) (a : V × W) → meets_parts meets also k a ≡ true
+      → pair_hash hash_of hash_also a ≡ pair_hash key_hash key_also k
+  pairs_agree first second = λ k a h. grind (arith, common_steps, first k.0 a.0, second k.1 a.1)

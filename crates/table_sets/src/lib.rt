@@ -5,17 +5,21 @@
 //! are equal and what their hash is. A contract sees a set as the list of its entries, of which no two are equal.
 #![tactic(auto)]
 
+pub mod fields;
 pub mod inserted;
 mod lawful;
 pub mod laws;
 pub mod pairs;
+pub mod parts;
 mod placing;
 pub mod pointers;
 pub mod set;
 pub mod texts;
 
+pub use fields::{ByField, OfField};
 pub use inserted::{Inserted, Shown};
 pub use pairs::PairsOf;
+pub use parts::OfParts;
 pub use pointers::OfTarget;
 pub use set::HeldSet;
 pub use table_held::{AtomicValue, HeldIter, InPlace, IntoIter, Law, is_first_capacity};

@@ -92,6 +92,16 @@ impl Law<u64> for NumberLaw {
     ghost lawful = { number_lawful (λ n. n) };
 }
 
+impl Law<char> for NumberLaw {
+    ghost use Rattle.table_terms.specs.Laws.{same_by_number, hash_by_number, number_lawful};
+
+    ghost same = { same_by_number (λ n. n) };
+
+    ghost hash_of = { hash_by_number (λ n. n) };
+
+    ghost lawful = { number_lawful (λ n. n) };
+}
+
 impl Law<NonZeroU32> for NumberLaw {
     ghost use Rattle.std.specs.Int.NonZero.{non_zero_u32_get};
     ghost use Rattle.table_terms.specs.Laws.{same_by_number, hash_by_number, number_lawful};
