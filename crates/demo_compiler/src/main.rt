@@ -1,140 +1,117 @@
-//! Names and nodes of a compiler: each different name gets one number, which leads back to it, and equal nodes become one node.
+//! Names and nodes of a compiler. Two threads build an expression each: equal names have one symbol, and equal nodes are one node.
 #![tactic(auto)]
 
 ghost use Rattle.std.specs.Prelude.{◌≡◌};
-ghost use Rattle.demo_compiler.specs.Nodes.{mixed};
 
-use interner::Interner;
+use shared_interner::{Names, SharedInterner};
+use shared_set::{Handle, Inserted, MetBy, SharedSet};
 use std::alloc::{AllocError, Global};
-use std::io;
 use std::sync::Arc;
-use table_sets::{HeldSet, Law, SetLaw, Shown};
-use table_terms::law::hash_number;
+use std::{io, thread};
+use table_sets::{ByField, NumberLaw, OfField, OfParts, OfTarget};
 
-/// A symbol with its operands, which are the numbers of other nodes, or 0 for no operand.
-#[derive(Clone, Copy, Drop)]
-pub struct Shape {
-    symbol: char,
-    left: u64,
-    right: u64,
-}
+/// An operator with the numbers of its operands, or 'n' with the symbol of a name and 0.
+type Shape = (char, u64, u64);
 
-/// A shape with its number.
+/// A shape, and the expression as a text.
 #[derive(Drop)]
-pub struct Node {
+struct Node {
     shape: Shape,
-    number: u64,
+    text: String,
 }
 
-/// The equality and hash of nodes: two are equal if their shapes are, whatever their numbers.
-pub struct NodeLaw;
+impl ByField for Node {
+    type Field = Shape;
 
-impl Law<Node> for NodeLaw {
-    ghost use Rattle.table_terms.specs.Laws.{same_by, hash_by, lawful_by};
-    ghost use Rattle.demo_compiler.specs.Nodes.{same_shape, shape_hash, shape_law};
+    ghost field_of = { λ node. node.shape };
 
-    ghost same = { same_by same_shape (λ n. n.shape) };
-
-    ghost hash_of = { hash_by shape_hash (λ n. n.shape) };
-
-    ghost lawful = { lawful_by shape_law (λ n. n.shape) };
-}
-
-/// Mixes one more number into a hash.
-fn mix(before: u64, more: u64) -> u64
-    ensures { result ≡ mixed before more }
-{
-    before.wrapping_mul(31).wrapping_add(more)
-}
-
-impl SetLaw<Node> for NodeLaw {
-    fn is_same(one: &Node, other: &Node) -> bool {
-        let (one, other) = (one.shape, other.shape);
-        one.symbol == other.symbol && one.left == other.left && one.right == other.right
-    }
-
-    fn hash(node: &Node) -> u64 {
-        let Shape {
-            symbol,
-            left,
-            right,
-        } = node.shape;
-        hash_number(mix(mix(u64::from(symbol), left), right))
+    fn field(&self) -> &Shape {
+        &self.shape
     }
 }
 
-/// The nodes so far, by their shapes and by their numbers, from 1 on.
+/// The nodes, of which no two have one shape.
+type Nodes = SharedSet<Arc<Node>, OfTarget<OfField<OfParts<NumberLaw>>>>;
+
+/// A node with its number.
+type Numbered<'a> = (u64, &'a Arc<Node>);
+
+/// What one thread builds nodes by.
 #[derive(Drop)]
-struct Graph {
-    by_shape: HeldSet<Arc<Node>, NodeLaw>,
-    by_number: Vec<Arc<Node>>,
+struct Builder<'a> {
+    names: Names<'a>,
+    nodes: Handle<'a, Arc<Node>, OfTarget<OfField<OfParts<NumberLaw>>>>,
     alloc: Global,
 }
 
-impl Graph {
-    /// The number of the node of this shape: that of the one that is there, or else the next one. Err: no memory.
-    fn number_of(&mut self, shape: Shape) -> Result<u64, AllocError> {
-        self.by_number.reserve(1)?;
-        let number = self.by_number.len() as u64 + 1;
-        let node = Arc::new(self.alloc, Node { shape, number })?;
-        let shared = Arc::try_clone(&node)?;
-        match self.by_shape.insert_and_show(shared) {
-            Shown::Placed(_) => self.by_number.push_reserved(node),
-            Shown::Found(known, _) => return Ok(known.number),
-            Shown::Refused(_) => return Err(AllocError),
-        }
-        Ok(number)
-    }
-
-    /// Returns the number of the node with this symbol and these operands.
-    fn join(&mut self, symbol: char, left: u64, right: u64) -> Result<u64, AllocError> {
-        self.number_of(Shape {
-            symbol,
-            left,
-            right,
-        })
-    }
-}
-
-/// Gives numbers to names, and prints them.
-fn show_names(rt: &impl Print, alloc: Global) -> io::Result<()> {
-    let mut names: Interner = Interner::new(alloc);
-    for name in ["price", "count", "price"] {
-        match names.intern_alone(name) {
-            Ok(number) => println!(rt; "{name} is {}", number.get())?,
-            Err(_) => println!(rt; "{name}: no memory")?,
+impl<'a> Builder<'a> {
+    /// Makes a builder for a thread.
+    fn new(names: &'a SharedInterner, nodes: &'a Nodes, alloc: Global) -> Self {
+        Builder {
+            names: names.names(),
+            nodes: nodes.handle(),
+            alloc,
         }
     }
-    if let Some(number) = names.number_alone("count") {
-        println!(rt; "{} is {:?}", number.get(), names.text_alone(number))?;
-    }
-    Ok(())
-}
 
-/// Joins the nodes of an expression, and prints them.
-fn show_nodes(rt: &impl Print, alloc: Global) -> io::Result<()> {
-    let mut graph = Graph {
-        by_shape: HeldSet::new(alloc),
-        by_number: Vec::new(alloc),
-        alloc,
-    };
-    let a = graph.join('a', 0, 0)?;
-    let b = graph.join('b', 0, 0)?;
-    let sum = graph.join('+', a, b)?;
-    let again = graph.join('+', a, b)?;
-    let product = graph.join('*', sum, again)?;
-    println!(rt; "a + b is node {sum}, and again node {again}; their product is node {product}")?;
-    for node in &graph.by_number {
-        let shape = node.shape;
-        println!(rt;
-            "{}: {} {} {}",
-            node.number, shape.symbol, shape.left, shape.right
-        )?;
+    /// Returns the node of this shape. If there is none yet, a node with this text becomes it.
+    fn node(&mut self, shape: Shape, text: String) -> Result<Numbered<'a>, AllocError> {
+        if let Some(known) = self.nodes.seek(&MetBy { key: &shape }) {
+            return Ok(known);
+        }
+        let node = Arc::new(self.alloc, Node { shape, text })?;
+        match self.nodes.insert(node) {
+            Inserted::Placed(number, entry, _) => Ok((number, entry)),
+            Inserted::Found(number, entry, _) => Ok((number, entry)),
+            Inserted::Refused(_) => Err(AllocError),
+        }
     }
-    Ok(())
+
+    /// Returns the node of a name.
+    fn name(&mut self, name: &str) -> Result<Numbered<'a>, AllocError> {
+        let symbol = self.names.intern(name)?;
+        let text = String::from_str(self.alloc, name)?;
+        self.node(('n', u64::from(symbol.to_u32()), 0), text)
+    }
+
+    /// Returns the node of two nodes and the operator between them.
+    fn join(
+        &mut self,
+        left: Numbered<'a>,
+        operator: char,
+        right: Numbered<'a>,
+    ) -> Result<Numbered<'a>, AllocError> {
+        let text = format!(in self.alloc; "({} {operator} {})", left.1.text, right.1.text)?;
+        self.node((operator, left.0, right.0), text)
+    }
+
+    /// Builds `price * count`, and an expression of that and a name. Returns the numbers of both nodes.
+    fn build(&mut self, operator: char, name: &str) -> Result<(u64, u64), AllocError> {
+        let (price, count) = (self.name("price")?, self.name("count")?);
+        let product = self.join(price, '*', count)?;
+        let last = self.name(name)?;
+        let whole = self.join(product, operator, last)?;
+        Ok((product.0, whole.0))
+    }
 }
 
 fn main(rt: HostRuntime) -> io::Result<()> {
-    show_names(&rt, rt.alloc())?;
-    show_nodes(&rt, rt.alloc())
+    let alloc = rt.alloc();
+    let names = SharedInterner::new(alloc)?;
+    let nodes: Nodes = SharedSet::new(alloc)?;
+    let (here, there) = thread::join(
+        &rt,
+        || Builder::new(&names, &nodes, alloc).build('+', "tax"),
+        || Builder::new(&names, &nodes, alloc).build('-', "paid"),
+    );
+    let (here, there) = (here?, there?);
+    println!(rt; "{} names, {} nodes", names.len(), nodes.len())?;
+    println!(rt; "both threads have one product: {}", here.0 == there.0)?;
+    let mut shown = nodes.handle();
+    for number in [here.1, there.1] {
+        if let Some(node) = shown.entry(number) {
+            println!(rt; "{}", node.text)?;
+        }
+    }
+    Ok(())
 }
