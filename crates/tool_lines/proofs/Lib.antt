@@ -7,3 +7,4 @@ pub mod ReadTexts
 pub mod Taken
 mod Doubling
 mod Kept
+mod Replies

@@ -9,3 +9,5 @@ pub mod Seen
 pub mod Taken
 pub mod Fibonacci
 pub mod Memo
+pub mod Replies
+pub mod MemoArguments

@@ -2,7 +2,7 @@
 //!
 //! Each is a function over a reader and a writer. What it stores in memory has a type of its own. The program `tool_text` runs `words`
 //! or `dedup` ([`program`]). The program `tool_memo` runs [`memo_lines`], over a memo table that stores the results of a recursive
-//! function ([`memo`]).
+//! function ([`memo`]), or [`memo_threads`], over one that threads share ([`memo_shared`]).
 #![tactic(auto)]
 
 pub mod dedup;
@@ -10,6 +10,9 @@ pub mod faults;
 pub mod line_tool;
 pub mod memo;
 pub mod memo_lines;
+pub mod memo_program;
+pub mod memo_shared;
+pub mod memo_threads;
 pub mod program;
 pub mod seen;
 pub mod texts;

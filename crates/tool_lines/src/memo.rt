@@ -11,8 +11,8 @@ use table_terms::law::hash_number;
 /// An argument with the function's result. Every value of this type is right, so a table of such values holds only right results.
 #[derive(Drop)]
 pub struct Answer {
-    argument: u64,
-    answer: u64,
+    pub(crate) argument: u64,
+    pub(crate) answer: u64,
     ghost right: { answer ≡ fibonacci_word argument },
 }
 
@@ -125,7 +125,7 @@ impl<A: Allocator + Copy> Memo<A> {
 }
 
 /// Returns the Fibonacci number of the argument, computed from the two at half of it.
-fn doubled(argument: u64, low: u64, high: u64) -> u64
+pub(crate) fn doubled(argument: u64, low: u64, high: u64) -> u64
     requires two { 2 ≤ argument }
     requires low { low ≡ fibonacci_word ((argument - 1) / 2) }
     requires high { high ≡ fibonacci_word ((argument - 1) / 2 + 1) }
