@@ -4,7 +4,7 @@
     tools/pages.py [--check]
 
 It writes the parts of pages that follow from the sources:
-- docs/PROMISES.md: the signature of each call, without the bounds that the page's first table has;
+- docs/PROMISES.md: the signature of each call, without the bounds that stand above the first section;
 - docs/STATUS.md: the table of sizes;
 - docs/ARCHITECTURE.md: the tables of crates, one for each kind, the lowest layer first;
 - each block below a line that ends in 'the whole of `FILE`:'.
