@@ -5,10 +5,10 @@ use Rattle.std.specs.List.{flat_map}
 use Rattle.std.proofs.lemmas.Grind.{common_steps}
 use Rattle.table_generations.specs.declared.atomic_value.InPlace.{InPlace}
 use Rattle.table_held.proofs.Apart.{first_or_other}
-use Rattle.table_runs.specs.Calls.{given}
-use Rattle.table_runs.specs.Runs.{AreLawful}
-use Rattle.table_runs.specs.Settled.{MeetsOneClass}
-use Rattle.table_runs.specs.declared.alone.Call.TheVariants as call
+use Rattle.table_held.specs.Calls.{given}
+use Rattle.table_held.specs.Runs.{AreLawful}
+use Rattle.table_held.specs.Settled.{MeetsOneClass}
+use Rattle.table_held.specs.declared.runs.Call.TheVariants as call
 use Rattle.demo_examples.specs.Asks.{in_place, asked_of_words}
 use Rattle.demo_examples.specs.Words.{same_word, word_hash}
 use Rattle.demo_examples.specs.declared.alike.Ask.{Ask}

@@ -3,9 +3,9 @@ use Rattle.std.specs.Prelude.{◌≡◌, ℕ}
 use Rattle.std.specs.List.Sorted.{IsPermutation}
 use Rattle.table_generations.specs.declared.atomic_value.InPlace.{InPlace}
 use Rattle.table_held.specs.Shown.{Shows, entries_of}
-use Rattle.table_runs.specs.Settled.{NoneRefuses}
-use Rattle.table_runs.specs.declared.alone.Call.{Call}
-use Rattle.table_runs.specs.declared.alone.Call.TheVariants as call
+use Rattle.table_held.specs.Settled.{NoneRefuses}
+use Rattle.table_held.specs.declared.runs.Call.{Call}
+use Rattle.table_held.specs.declared.runs.Call.TheVariants as call
 use Rattle.demo_examples.specs.Words.{word_hash}
 use Rattle.demo_examples.specs.declared.alike.Ask.{Ask}
 use Rattle.demo_examples.specs.declared.alike.Ask.TheVariants as ask

@@ -24,6 +24,5 @@ pub use raw::{
 };
 pub use table_generations::atomic_value;
 pub use table_generations::atomic_value::{AtomicValue, InPlace, Law};
-pub use table_held::place;
 pub use table_held::place::Place;
-pub use table_runs::alone;
+pub use table_held::{place, runs as alone};

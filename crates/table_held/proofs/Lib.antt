@@ -15,3 +15,6 @@ pub mod Walks
 pub mod Again
 pub mod Rests
 pub mod Told
+pub mod Settled
+pub mod Runs
+pub mod Replies

@@ -7,3 +7,6 @@ pub mod Walks
 pub mod Again
 pub mod Empty
 pub mod Rests
+pub mod Calls
+pub mod Runs
+pub mod Settled

@@ -10,7 +10,7 @@ use crate::counting::asked::{hash, same};
 use std::alloc::{AllocError, Global};
 use std::sync::Arc;
 use std::sync::atomic::{AtomicU64, Ordering};
-use table_runs::alone::AloneTable;
+use table_held::runs::AloneTable;
 use table_terms::law::{Law, SetLaw, hash_number};
 
 /// A number, with the count of its drops.

@@ -10,7 +10,7 @@ pub mod told;
 use std::alloc::Global;
 use std::marker::Model;
 use table_generations::atomic_value::{AtomicValue, Law};
-use table_runs::alone::AloneTable;
+use table_held::runs::AloneTable;
 
 /// A growing list of values.
 #[derive(Drop)]

@@ -1,7 +1,6 @@
 //! The program, over its words and streams.
 use crate::bench::{check_all, run_bench};
 use crate::check::{Check, parse_check};
-use crate::rounds::drawn::run_rounds;
 use crate::set_rounds::run_set_rounds;
 use std::alloc::Global;
 use std::convert::AsStr;
@@ -12,6 +11,7 @@ use std::rt::{Clock, Env};
 use std::sync::Wait;
 use std::thread::Threads;
 use testkit_replay::run_replays;
+use testkit_rounds::drawn::run_rounds;
 use tool_streams::arguments::read_words;
 use tool_streams::messages::end_with;
 

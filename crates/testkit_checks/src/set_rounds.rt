@@ -1,8 +1,6 @@
 //! Rounds of threads on a set that threads share. Each thread inserts a list of numbers. At the end of the set each number that was handed in
 //! has come out, was found or was refused, once, no two that came out are equal, each that was found came out, and all memory is given back.
 
-use crate::rounds::drawn::{Plan, Stop};
-use crate::rounds::{Fault, Kind, Round};
 use demo_examples::accounts::{NoOutcome, Outcome, insert_lists};
 use std::alloc::{AllocError, Global};
 use std::convert::AsStr;
@@ -13,6 +11,8 @@ use std::rt::Clock;
 use std::thread::Threads;
 use std::time::Instant;
 use testkit::refusing::{Refusing, Rule};
+use testkit_rounds::drawn::{Plan, Stop};
+use testkit_rounds::{Fault, Kind, Round};
 
 /// The status of rounds without a fault.
 const WELL: u8 = 0;

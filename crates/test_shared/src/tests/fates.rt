@@ -1,8 +1,8 @@
 //! The account of a round sees what is wrong.
 use std::alloc::Global;
 use std::process::Abort;
-use testkit_checks::rounds::Fault;
-use testkit_checks::rounds::fates::{Fate, Fates};
+use testkit_rounds::Fault;
+use testkit_rounds::fates::{Fate, Fates};
 
 /// Three values: which of them came back, which are handed out at the end, and the fault.
 const ACCOUNTS: [(&[u64], &[u64], Result<(), Fault>); 7] = [

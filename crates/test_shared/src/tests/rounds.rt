@@ -4,7 +4,7 @@ use std::alloc::Global;
 use std::process::Abort;
 use std::sync::Wait;
 use std::thread::Threads;
-use testkit_checks::rounds::{Account, Kind, Round, run_round};
+use testkit_rounds::{Account, Kind, Round, run_round};
 
 /// Rounds whose closures keep a law: what the threads do, how many they are, how many values each gives, the first
 /// capacity, and how many of the values differ.

@@ -1,7 +1,7 @@
 //! What calls on tables of numbers are told, with numbers in place of values.
 
 use table_generations::atomic_value::AtomicValue;
-use table_runs::alone::Reply;
+use table_held::runs::Reply;
 
 /// What a call is told: a `Reply` with the target in place of each value.
 #[derive(Clone, Copy, Debug, PartialEq, Eq)]

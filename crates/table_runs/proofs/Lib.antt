@@ -1,3 +1,0 @@
-pub mod Settled
-pub mod Runs
-pub mod Replies

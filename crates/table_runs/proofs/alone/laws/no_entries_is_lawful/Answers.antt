@@ -1,4 +1,0 @@
-use Rattle.table_runs.proofs.alone.laws.no_entries_is_lawful.Goals as goal
-
-pub returns : goal.returns
-returns g c = g.met.B.AloneTable.no_entries_is_lawful

@@ -1,0 +1,91 @@
+//! The account of a round: what its threads were told, what the table shows, and what it hands out at the end.
+use crate::fates::{Fate, Fates};
+use crate::value::Value;
+use crate::work::{Told, Values, look};
+use crate::{Fault, Round};
+use std::alloc::Global;
+
+/// What became of the values of a round without a fault. All together they are the values that were given.
+#[derive(Clone, Copy, Debug, PartialEq, Eq)]
+pub struct Account {
+    /// Values that are entries at the end.
+    pub placed: u64,
+    /// Values that came back beside an entry.
+    pub found: u64,
+    /// Values that came back alone.
+    pub refused: u64,
+    /// Blocks that the table gave back while the threads ran: one for each exchange that was lost, and where memory was
+    /// refused those of growths that were given up.
+    pub given_back: u64,
+}
+
+/// Accounts for each value of a round that is over. It takes the table apart.
+pub(crate) fn account_for(
+    alloc: Global,
+    round: Round,
+    table: Values<'_>,
+    told: Vec<Result<Told, Fault>>,
+) -> Result<Account, Fault> {
+    let mut fates = Fates::new(alloc, round.values())?;
+    let account = settle_told(&mut fates, told)?;
+    if table.len() as u64 != account.placed {
+        return Err(Fault::Length);
+    }
+    check_found(&table, round, &fates)?;
+    let walked = walk(alloc, round, &table)?;
+    let mut classes = Fates::new(alloc, round.values())?;
+    for value in table {
+        let given = value.given;
+        fates.settle(given.id, Fate::Entry)?;
+        if round.is_lawful() && classes.settle(given.class, Fate::Entry).is_err() {
+            return Err(Fault::Equal(given.id));
+        }
+    }
+    fates.check_settled()?;
+    fates.check_same_entries(&walked)?;
+    Ok(account)
+}
+
+/// Notes which values came back, and counts what all threads together were told.
+fn settle_told(fates: &mut Fates, told: Vec<Result<Told, Fault>>) -> Result<Account, Fault> {
+    let mut account = Account {
+        placed: 0,
+        found: 0,
+        refused: 0,
+        given_back: 0,
+    };
+    for thread in told {
+        let thread = thread?;
+        fates.settle_all(thread.found.as_slice(), Fate::Found)?;
+        fates.settle_all(thread.refused.as_slice(), Fate::Refused)?;
+        account.placed = account.placed.saturating_add(thread.placed);
+        account.found = account.found.saturating_add(thread.found.len() as u64);
+        account.refused = account.refused.saturating_add(thread.refused.len() as u64);
+    }
+    Ok(account)
+}
+
+/// With lawful closures each value that did not come back alone has an equal entry, which a look-up shows.
+fn check_found(table: &Values<'_>, round: Round, fates: &Fates) -> Result<(), Fault> {
+    if !round.is_lawful() {
+        return Ok(());
+    }
+    for id in 0..round.values() {
+        let class = round.given(id).class;
+        let shown = look(table, round, class);
+        let is_equal = shown.is_some_and(|entry: &Value| entry.given.class == class);
+        if !is_equal && fates.of(id) != Some(Fate::Refused) {
+            return Err(Fault::NotFound(id));
+        }
+    }
+    Ok(())
+}
+
+/// The values that a walk shows.
+fn walk(alloc: Global, round: Round, table: &Values<'_>) -> Result<Fates, Fault> {
+    let mut walked = Fates::new(alloc, round.values())?;
+    for entry in table {
+        walked.settle(entry.given.id, Fate::Entry)?;
+    }
+    Ok(walked)
+}

@@ -1,0 +1,28 @@
+//! Why rounds end early.
+use crate::{Fault, Round};
+use std::fmt::{Display, Formatter};
+use std::{fmt, io};
+
+/// What rounds don't go on from.
+#[derive(Debug, Drop)]
+pub(crate) enum Stop {
+    /// A round had a fault.
+    Fault(Round, Fault),
+    /// There is no clock, or the output takes nothing.
+    Io(io::Error),
+}
+
+impl From<io::Error> for Stop {
+    fn from(error: io::Error) -> Stop {
+        Stop::Io(error)
+    }
+}
+
+impl Display for Stop {
+    fn fmt<W: fmt::Write>(&self, f: &mut Formatter<W>) -> fmt::Result {
+        match self {
+            Stop::Fault(round, fault) => write!(f, "{round:?}: {fault}"),
+            Stop::Io(error) => write!(f, "{error}"),
+        }
+    }
+}

@@ -1,0 +1,83 @@
+//! Rounds: threads give values to one table at once, and afterwards each value is accounted for.
+#![tactic(auto)]
+
+mod account;
+mod closures;
+pub mod drawn;
+pub mod fates;
+mod fault;
+mod round;
+mod start;
+mod value;
+mod work;
+
+pub use account::Account;
+use account::account_for;
+use closures::Whims;
+pub use fault::Fault;
+use lock_free_hashtable::raw::{LockFreeRawTable, is_first_capacity};
+pub use round::{FIRST_CAPACITIES, KINDS, Kind, Round, THREADS};
+use start::Start;
+use std::alloc::Global;
+use std::sync::Wait;
+use std::thread;
+use std::thread::Threads;
+use testkit::refusing::Refusing;
+use work::{Job, Told, Values, work};
+
+/// Runs a round, and accounts for each value, or says the first fault.
+pub fn run_round<R: Threads + Wait + Sync>(
+    rt: &R,
+    alloc: Global,
+    round: Round,
+) -> Result<Account, Fault> {
+    let heap = Refusing::new(alloc, round.rule());
+    let whims = Whims::new(round.seed);
+    let start = Start::new(round.threads);
+    let table = table_of(&heap, round.first_capacity);
+    let told = told_in_threads(
+        rt,
+        &Job {
+            table: &table,
+            whims: &whims,
+            start: &start,
+            round,
+            alloc,
+        },
+    )?;
+    let given_back = heap.given_back();
+    let account = account_for(alloc, round, table, told)?;
+    if account.refused > round.refusals().wrapping_sub(heap.refusals_left()) {
+        return Err(Fault::Refusals);
+    }
+    if heap.granted() != heap.given_back() {
+        return Err(Fault::Blocks);
+    }
+    Ok(Account {
+        given_back,
+        ..account
+    })
+}
+
+/// An empty table.
+fn table_of<'m>(heap: &'m Refusing<Global>, first_capacity: usize) -> Values<'m> {
+    if is_first_capacity(first_capacity) {
+        LockFreeRawTable::with_first_capacity(heap, first_capacity)
+    } else {
+        LockFreeRawTable::new(heap)
+    }
+}
+
+/// What the threads of the round are told.
+fn told_in_threads<R: Threads + Wait + Sync>(
+    rt: &R,
+    job: &Job<'_, '_>,
+) -> Result<Vec<Result<Told, Fault>>, Fault> {
+    let told = thread::map_indices(
+        rt,
+        job.alloc,
+        job.round.threads as usize,
+        &|thread: usize| work(rt, job, thread as u64),
+    );
+    told.map_err(Fault::from)
+}

@@ -1,0 +1,159 @@
+//! What a round is: who gives which values to which table.
+use crate::value::Given;
+use rand_core::{Rng, SeedableRng};
+use rand_xoshiro::SplitMix64;
+use std::fmt;
+use std::fmt::{Display, Formatter};
+use table_terms::law::hash_number;
+use testkit::refusing::Rule;
+
+/// Where memory is refused at random, one request in so many is, on average.
+const REFUSED_ONE_IN: u64 = 6;
+
+/// What the threads of drawn rounds do with their values.
+pub const KINDS: [Kind; 5] = [
+    Kind::Overlapping,
+    Kind::Equal,
+    Kind::Beside,
+    Kind::Careless,
+    Kind::Refused,
+];
+
+/// How many threads drawn rounds have.
+pub const THREADS: [u64; 3] = [2, 4, 8];
+
+/// The first capacities of the tables of drawn rounds.
+pub const FIRST_CAPACITIES: [usize; 4] = [16, 32, 256, 4096];
+
+/// How many values drawn rounds have at most.
+const SIZES: [u64; 7] = [1, 10, 100, 1000, 10_000, 100_000, 1_000_000];
+
+/// What the threads of a round do with their values.
+#[derive(Clone, Copy, Debug, PartialEq, Eq)]
+pub enum Kind {
+    /// Each thread shares half of its classes with the next one.
+    Overlapping,
+    /// All threads give the same classes in the same order.
+    Equal,
+    /// As `Overlapping`, and each thread looks up its own classes and those of others in between.
+    Beside,
+    /// As `Overlapping`, with closures whose answers are drawn.
+    Careless,
+    /// As `Overlapping`, with memory that is refused at random.
+    Refused,
+}
+
+impl Display for Kind {
+    fn fmt<W: fmt::Write>(&self, f: &mut Formatter<W>) -> fmt::Result {
+        match *self {
+            Kind::Overlapping => write!(f, "overlapping values"),
+            Kind::Equal => write!(f, "equal values"),
+            Kind::Beside => write!(f, "look-ups beside"),
+            Kind::Careless => write!(f, "careless closures"),
+            Kind::Refused => write!(f, "refused memory"),
+        }
+    }
+}
+
+/// A round.
+#[derive(Clone, Copy, Debug, PartialEq, Eq)]
+pub struct Round {
+    pub kind: Kind,
+    pub threads: u64,
+    /// How many values each thread gives.
+    pub each: u64,
+    /// The first capacity of the table. 16 stands in the place of what is none.
+    pub first_capacity: usize,
+    /// What is drawn is drawn by it.
+    pub seed: u64,
+}
+
+impl Round {
+    /// The round of a seed, with at most `most` values or one a thread. Small rounds come as often as large ones.
+    pub fn drawn(seed: u64, most: u64) -> Round {
+        let mut numbers = SplitMix64::seed_from_u64(seed);
+        let kind = pick(&mut numbers, KINDS.as_slice(), Kind::Overlapping);
+        let threads = pick(&mut numbers, THREADS.as_slice(), 2);
+        let first_capacity = pick(&mut numbers, FIRST_CAPACITIES.as_slice(), 16);
+        let bound = pick(&mut numbers, SIZES.as_slice(), 1).min(most);
+        let values = draw(&mut numbers, bound).saturating_add(1);
+        Round {
+            kind,
+            threads,
+            each: values.checked_div(threads).unwrap_or(0).max(1),
+            first_capacity,
+            seed,
+        }
+    }
+
+    /// How many values are given. Their ids are the numbers below.
+    pub fn values(&self) -> u64 {
+        self.threads.saturating_mul(self.each)
+    }
+
+    /// Whether the closures keep a law.
+    pub(crate) fn is_lawful(&self) -> bool {
+        self.kind != Kind::Careless
+    }
+
+    /// The value of this id.
+    pub(crate) fn given(&self, id: u64) -> Given {
+        let thread = id.checked_div(self.each).unwrap_or(0);
+        let place = id.checked_rem(self.each).unwrap_or(0);
+        let first = match self.kind {
+            Kind::Equal => 0,
+            _ => thread.wrapping_mul(self.each / 2),
+        };
+        Given {
+            class: first.wrapping_add(place),
+            id,
+        }
+    }
+
+    /// The id of the value that a thread gives in this turn. Of two threads next to each other one goes up and one down, so
+    /// that both come to what they share at the same time.
+    pub(crate) fn id_at(&self, thread: u64, turn: u64) -> u64 {
+        let goes_down = self.kind != Kind::Equal && thread % 2 == 1;
+        let place = if goes_down {
+            self.each.wrapping_sub(1).wrapping_sub(turn)
+        } else {
+            turn
+        };
+        thread.wrapping_mul(self.each).wrapping_add(place)
+    }
+
+    /// The id of some other value.
+    pub(crate) fn other_than(&self, id: u64) -> u64 {
+        let far = id.wrapping_mul(3).wrapping_add(1);
+        far.checked_rem(self.values()).unwrap_or(0)
+    }
+
+    /// The hash of a class where the closures keep a law. Four classes have the same one.
+    pub(crate) fn hash_of(&self, class: u64) -> u64 {
+        hash_number(self.seed ^ (class / 4))
+    }
+
+    /// How many requests for memory may be refused.
+    pub(crate) fn refusals(&self) -> u64 {
+        match self.kind {
+            Kind::Refused => u64::MAX,
+            _ => 0,
+        }
+    }
+
+    /// What the table's memory is like.
+    pub(crate) fn rule(&self) -> Rule {
+        Rule::new(0, usize::MAX, 0, self.refusals()).drawn(self.seed, REFUSED_ONE_IN)
+    }
+}
+
+/// A number below `bound`; 0 where that is 0.
+fn draw(numbers: &mut SplitMix64, bound: u64) -> u64 {
+    numbers.next_u64().checked_rem(bound).unwrap_or(0)
+}
+
+/// One of these.
+fn pick<X: Copy>(numbers: &mut SplitMix64, from: &[X], first: X) -> X {
+    let index = draw(numbers, from.len() as u64) as usize;
+    from.get(index).copied().unwrap_or(first)
+}
