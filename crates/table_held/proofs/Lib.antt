@@ -16,5 +16,5 @@ pub mod Again
 pub mod Rests
 pub mod Told
 pub mod Settled
-pub mod Runs
+pub mod CallRuns
 pub mod Replies

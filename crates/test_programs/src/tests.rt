@@ -1,27 +1,30 @@
-//! The program, run over streams in memory.
-mod faults;
-mod gates;
-mod jobs;
-mod machine;
+//! Tests of the program's commands, over streams in memory.
+mod lines;
 mod memory;
-mod refusals;
 mod rows;
+mod runs;
 mod schedules;
-mod seats;
 mod streams;
-mod stress;
 mod words;
+mod workers;
 
 use lock_free_hashtable::raw::Low;
+use std::alloc::Global;
 use std::fmt::Debug;
-use std::io::{Read, Write};
+use std::io::Read;
 use std::process::Abort;
 use std::str;
 use std::sync::Wait;
+use std::test::Fail;
 use std::thread::Threads;
 use testkit::refusing::{Refusing, Rule};
-use tool_commands::faults::Fault;
-use tool_commands::program::run_words;
+use tool_commands::gate::{Gates, ProgramGates};
+use tool_commands::program::run_words_under;
+
+/// What a run of the program needs, and a test of it.
+trait Host: Threads + Wait + AllocGlobal + Abort + Sync {}
+
+impl<R: Threads + Wait + AllocGlobal + Abort + Sync> Host for R {}
 
 /// What a run printed, and its status.
 #[derive(Drop)]
@@ -32,33 +35,34 @@ struct Ended {
 }
 
 impl Ended {
-    /// What was printed. The program prints ASCII alone.
+    /// Returns what was printed. The program prints ASCII only.
     fn text(&self) -> &str {
         str::from_utf8(self.output.as_slice()).unwrap_or("no text")
     }
+
+    /// Asserts what was printed, the message, and the status.
+    fn assert(&self, rt: &impl Abort, output: &str, message: &str, status: u8) {
+        assert_same(rt, self.output.as_slice(), output.as_bytes());
+        assert_same(rt, self.messages.as_slice(), message.as_bytes());
+        assert_same(rt, self.status, status);
+    }
 }
 
-/// Runs the program's words over an input, on memory of an allocator, into these writers, and answers the status.
-fn run_into<
-    R: Threads + Wait + Sync,
-    A: Low + Copy + Send + Sync,
-    I: Read + Drop,
-    O: Write,
-    M: Write,
->(rt: &R, alloc: A, words: &[&str], input: I, output: &mut O, messages: &mut M) -> u8 {
-    run_words(rt, alloc, words, input, output, messages)
+/// Asserts that both are equal.
+fn assert_same<X: PartialEq + Debug + Drop>(rt: &impl Abort, got: X, wanted: X) {
+    assert_eq!(rt; got, wanted);
 }
 
-/// Runs the program's words over an input, on memory of an allocator.
-fn run_on<R: Threads + Wait + AllocGlobal + Sync, A: Low + Copy + Send + Sync, I: Read + Drop>(
-    rt: &R,
+/// Runs the command of these words under these gates, on memory of the allocator.
+fn run_under<A: Low + Copy + Send + Sync, G: Gates, I: Read + Drop>(
+    rt: &impl Host,
     alloc: A,
+    gates: &G,
     words: &[&str],
     input: I,
 ) -> Ended {
-    let mut output = Vec::new(rt.alloc());
-    let mut messages = Vec::new(rt.alloc());
-    let status = run_into(rt, alloc, words, input, &mut output, &mut messages);
+    let (mut output, mut messages) = (Vec::new(rt.alloc()), Vec::new(rt.alloc()));
+    let status = run_words_under(rt, alloc, gates, words, input, &mut output, &mut messages);
     Ended {
         status,
         output,
@@ -66,59 +70,76 @@ fn run_on<R: Threads + Wait + AllocGlobal + Sync, A: Low + Copy + Send + Sync, I
     }
 }
 
-/// Runs the program's words over an input in memory.
-fn run<R: Threads + Wait + AllocGlobal + Sync>(rt: &R, words: &[&str], input: &[u8]) -> Ended {
-    run_on(rt, rt.alloc(), words, input)
+/// Runs the command of these words on an input in memory.
+fn run(rt: &impl Host, words: &[&str], input: &[u8]) -> Ended {
+    run_under(rt, rt.alloc(), &ProgramGates, words, input)
 }
 
-/// Runs the program's words on memory under a rule, and answers beside it how many requests the rule was still going to refuse.
-fn run_refusing<R: Threads + Wait + AllocGlobal + Sync>(
-    rt: &R,
-    rule: Rule,
-    words: &[&str],
-    input: &[u8],
-) -> (Ended, u64) {
+/// Runs the command of these words on memory under a rule.
+fn run_refusing(rt: &impl Host, rule: Rule, words: &[&str], input: &[u8]) -> Ended {
     let memory = Refusing::new(rt.alloc(), rule);
-    let ended = run_on(rt, &memory, words, input);
-    let left = memory.refusals_left();
-    (ended, left)
+    run_under(rt, &memory, &ProgramGates, words, input)
 }
 
-/// Asserts what bytes were written.
-fn assert_bytes(rt: &impl Abort, at: &str, got: &[u8], expected: &[u8]) {
-    assert_eq!(rt; got, expected, "at {at:?}");
+/// Returns the first `count` lines of a text.
+fn first_lines(alloc: Global, text: &str, count: usize) -> Result<String, Fail> {
+    let mut first = String::new(alloc);
+    for line in text.lines().take(count) {
+        writeln!(first, "{line}")?;
+    }
+    Ok(first)
 }
 
-/// Both are the same.
-fn assert_same<X: PartialEq + Debug + Drop>(rt: &impl Abort, got: X, expected: X) {
-    assert_eq!(rt; got, expected);
+/// Counts the lines that end in these bytes.
+fn line_ends(bytes: &[u8]) -> usize {
+    bytes.iter().filter(|byte| **byte == b'\n').count()
 }
 
-/// Asserts how a run ended.
-fn assert_told(rt: &impl Abort, got: Result<(), Fault>, expected: Result<(), Fault>) {
-    assert!(rt; got == expected);
+/// Lines of input, and the replies to them.
+///
+/// A script is a text of lines with `; ` between them. A line with a reply is `LINE = REPLY`. `A..B` stands for the lines `i K K` for
+/// each K from A to B - 1, and `A..B << N` for such lines of which the hashes are shifted by N bits.
+#[derive(Drop)]
+struct Script {
+    input: String,
+    replies: String,
 }
 
-/// Asserts what a run printed, and its status.
-fn assert_ended(
-    rt: &impl Abort,
-    ended: &Ended,
-    at: &str,
-    output: &str,
-    messages: &str,
-    status: u8,
-) {
-    assert_bytes(rt, at, ended.output.as_slice(), output.as_bytes());
-    assert_bytes(rt, at, ended.messages.as_slice(), messages.as_bytes());
-    assert_same(rt, u64::from(ended.status), u64::from(status));
-}
+impl Script {
+    /// Reads a script.
+    fn new(alloc: Global, text: &str) -> Result<Script, Fail> {
+        let mut script = Script {
+            input: String::new(alloc),
+            replies: String::new(alloc),
+        };
+        for part in text.split("; ") {
+            match part.split_once(" = ") {
+                Some((line, reply)) => script.push(line, Some(reply))?,
+                None => script.push(part, None)?,
+            }
+        }
+        Ok(script)
+    }
 
-/// Asserts what the words print over an input.
-fn assert_prints<R: Threads + Wait + AllocGlobal + Abort + Sync>(
-    rt: &R,
-    words: &[&str],
-    input: &str,
-    output: &str,
-) {
-    assert_ended(rt, &run(rt, words, input.as_bytes()), input, output, "", 0);
+    /// Adds a line or a range of lines, each with this reply.
+    fn push(&mut self, line: &str, reply: Option<&str>) -> Result<(), Fail> {
+        let Some((from, to)) = line.split_once("..") else {
+            writeln!(self.input, "{line}")?;
+            return self.push_reply(reply);
+        };
+        let (to, shift) = to.split_once(" << ").unwrap_or((to, "0"));
+        let shift = shift.parse::<u32>()?;
+        for k in from.parse::<u64>()?..to.parse::<u64>()? {
+            writeln!(self.input, "i {} {k}", k.wrapping_shl(shift))?;
+            self.push_reply(reply)?;
+        }
+        Ok(())
+    }
+
+    fn push_reply(&mut self, reply: Option<&str>) -> Result<(), Fail> {
+        if let Some(reply) = reply {
+            writeln!(self.replies, "{reply}")?;
+        }
+        Ok(())
+    }
 }

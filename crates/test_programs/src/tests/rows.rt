@@ -1,298 +1,112 @@
-//! Worked rows: what lines of input print.
-use super::{assert_ended, assert_prints, run};
-use std::process::Abort;
-use std::sync::Wait;
+//! Worked rows: what commands print.
+use super::{Host, Script, run};
 use std::test::Fail;
-use std::thread::Threads;
 
-/// Words and an input, and what they print.
-type Row = (&'static [&'static str], &'static str, &'static str);
-
-const ROWS: [Row; 20] = [
-    (&[], "", ""),
-    (&["calls"], "", ""),
-    (&[], "l 0 1\nn\nw\nc\nb\n", "none\n0\n[]\n0\n0\n"),
-    (
-        &["calls"],
-        "i 0 1\ni 0 1\nl 0 1\nw\n",
-        "placed\nfound\nsome 1\n[1]\n",
-    ),
-    (
-        &[],
-        "i 15 7\ni 15 9\nl 15 9\nw\n",
-        "placed\nplaced\nsome 9\n[7, 9]\n",
-    ),
-    (
-        &[],
-        "i 0 1\ni 0 2\ni 0 3\nl 0 4\nn\n",
-        "placed\nplaced\nplaced\nnone\n3\n",
-    ),
-    (
-        &[],
-        "i 0xFFFFFFFFFFFFFFFF 18446744073709551615\nl 18446744073709551615 0xffffffffffffffff\n",
-        "placed\nsome 18446744073709551615\n",
-    ),
-    (&[], "i 0 1", "placed\n"),
-    (&["calls", "32"], "i 0 1\nc\nb\n", "placed\n32\n32\n"),
-    (
-        &["calls", "00000000000000000016"],
-        "i 0 1\nc",
-        "placed\n16\n",
-    ),
-    (&["calls", "1073741824"], "c\nb\n", "0\n0\n"),
-    (
-        &["shards", "2"],
-        "i 0 1\ni 0x8000000000000000 1\nl 0x8000000000000000 1\nn\nw\nc\nb\n",
-        "placed\nplaced\nsome 1\n2\n[1, 1]\n32\n32\n",
-    ),
-    (
-        &["shards", "1"],
-        "i 0 1\ni 0x8000000000000000 1\nl 0x8000000000000000 1\nn\nw\nc\nb\n",
-        "placed\nplaced\nsome 1\n2\n[1, 1]\n16\n16\n",
-    ),
-    (
-        &["shards", "1"],
-        "l 0 1\nn\nw\nc\nb\n",
-        "none\n0\n[]\n0\n0\n",
-    ),
+/// Commands, each with a script: what it prints for these lines.
+const SCRIPTS: [&str; 28] = [
+    "tablerun: l 0 1 = none; n = 0; w = []; c = 0; b = 0",
+    "tablerun calls: i 0 1 = placed; i 0 1 = found; l 0 1 = some 1; w = [1]",
+    "tablerun: i 15 7 = placed; i 15 9 = placed; l 15 9 = some 9; w = [7, 9]",
+    "tablerun: i 0 1 = placed; i 0 2 = placed; i 0 3 = placed; l 0 4 = none; n = 3",
+    "tablerun: i 0xFFFFFFFFFFFFFFFF 18446744073709551615 = placed; \
+    l 18446744073709551615 0xffffffffffffffff = some 18446744073709551615",
+    "tablerun calls 32: i 0 1 = placed; c = 32; b = 32",
+    "tablerun calls 1073741824: c = 0; b = 0",
+    "tablerun shards 2: i 0 1 = placed; i 0x8000000000000000 1 = placed; l 0x8000000000000000 1 = some 1; n = 2; \
+    w = [1, 1]; c = 32; b = 32",
+    "tablerun shards 1: i 0 1 = placed; i 0x8000000000000000 1 = placed; l 0x8000000000000000 1 = some 1; n = 2; \
+    w = [1, 1]; c = 16; b = 16",
+    "tablerun shards 1: l 0 1 = none; n = 0; w = []; c = 0; b = 0",
     // The highest and the lowest quarter of the hashes: one shard each.
-    (
-        &["shards", "4", "32"],
-        "i 0xFFFFFFFFFFFFFFFF 2\ni 0 1\ni 0x3FFFFFFFFFFFFFFF 1\ni 0 1\nl 0 2\nn\nw\nc\nb\n",
-        "placed\nplaced\nplaced\nfound\nnone\n3\n[1, 1, 2]\n64\n64\n",
-    ),
+    "tablerun shards 4 32: i 0xFFFFFFFFFFFFFFFF 2 = placed; i 0 1 = placed; i 0x3FFFFFFFFFFFFFFF 1 = placed; \
+    i 0 1 = found; l 0 2 = none; n = 3; w = [1, 1, 2]; c = 64; b = 64",
     // Shards 0, 1, 7 and 7 again.
-    (
-        &["shards", "8"],
-        "i 0 1\ni 0x2000000000000000 1\ni 0xE000000000000000 1\ni 0xFFFFFFFFFFFFFFFF 1\nc\nb\nn\n",
-        "placed\nplaced\nplaced\nplaced\n48\n48\n4\n",
-    ),
+    "tablerun shards 8: i 0 1 = placed; i 0x2000000000000000 1 = placed; i 0xE000000000000000 1 = placed; \
+    i 0xFFFFFFFFFFFFFFFF 1 = placed; c = 48; b = 48; n = 4",
     // Shards 0, 1 and 15.
-    (
-        &["shards", "16"],
-        "i 0 1\ni 0x1000000000000000 1\ni 0xF000000000000000 1\nc\nb\nn\n",
-        "placed\nplaced\nplaced\n48\n48\n3\n",
-    ),
+    "tablerun shards 16: i 0 1 = placed; i 0x1000000000000000 1 = placed; i 0xF000000000000000 1 = placed; c = 48; \
+    b = 48; n = 3",
     // Eight entries fill half of a shard, which then grows; the other one stays.
-    (
-        &["shards", "2"],
-        "i 0x8000000000000000 9\ni 0 1\ni 0 2\ni 0 3\ni 0 4\ni 0 5\ni 0 6\ni 0 7\nc\ni 0 8\nc\nb\nn\nw\n",
-        "placed\nplaced\nplaced\nplaced\nplaced\nplaced\nplaced\nplaced\n32\nplaced\n48\n64\n9\n[1, 2, 3, 4, 5, 6, 7, 8, 9]\n",
-    ),
-    (&["seats", "4"], "i 0 1\n", "placed 1024\nfull 4\n"),
-    (
-        &["stress", "4", "1"],
-        "i 0 1\n",
-        "insert_unique 4000\ninsert_same 10000\ninsert_lookup 4000\n",
-    ),
+    "tablerun shards 2: i 0x8000000000000000 9 = placed; i 0 1 = placed; i 0 2 = placed; i 0 3 = placed; i 0 4 = placed; \
+    i 0 5 = placed; i 0 6 = placed; i 0 7 = placed; c = 32; i 0 8 = placed; c = 48; b = 64; n = 9; w = [1, 2, 3, 4, 5, 6, 7, 8, 9]",
+    // Each shard has the first capacity. There is a pair for each sixteenth of the hashes, and no shard grows.
+    "tablerun shards 1 64: 0..16 << 60 = placed; c = 64",
+    "tablerun shards 2 64: 0..16 << 60 = placed; c = 128",
+    "tablerun shards 4 64: 0..16 << 60 = placed; c = 256",
+    "tablerun shards 8 64: 0..16 << 60 = placed; c = 512",
+    "tablerun shards 16 64: 0..16 << 60 = placed; c = 1024",
+    "tablerun shards 2 128: 0..16 << 60 = placed; c = 256",
+    "tablerun shards 4 128: 0..16 << 60 = placed; c = 512",
+    "tablerun shards 4: 0..16 << 60 = placed; c = 64",
+    "tablerun shards 8: 0..16 << 60 = placed; c = 128",
+    "tablerun shards 16: 0..16 << 60 = placed; c = 256",
+    // A table grows at half of its buckets.
+    "tablerun calls 16: 0..7 = placed; c = 16; b = 16; i 7 7 = placed; c = 32; b = 48; 8..15 = placed; c = 32; b = 48; \
+    i 15 15 = placed; c = 64; b = 112; 16..31 = placed; c = 64; b = 112; i 31 31 = placed; c = 128; b = 240",
+    "tablerun calls 32: 0..15 = placed; c = 32; b = 32; i 15 15 = placed; c = 64; b = 96; 16..31 = placed; c = 64; \
+    b = 96; i 31 31 = placed; c = 128; b = 224",
+    "tablerun: 0..17 = placed; i 4 4 = found; l 16 16 = some 16; \
+    w = [0, 1, 2, 3, 4, 5, 6, 7, 8, 9, 10, 11, 12, 13, 14, 15, 16]",
+    // Each form of an event once, and a number of either form; none of them finishes a call but the last two.
+    "tablerun core: insert 0x1 18446744073709551615 0xFFFFffffFFFFffff; lookup 02 0; len 3; walk 4; share 1; own 1; \
+    free 9; load 9; read 9 y; read 9 n; put 9 y ok; put 9 y no; put 9 n ok; put 9 n no; add 9; size 9; check 9 ok; \
+    check 9 no; copy 9 00000000000000000000; show 9; b = 0; load 3 = 3 len 0; load 2 = 2 none",
 ];
 
-/// A pair for each sixteenth of the hashes, and then the buckets.
-const SPREAD: &str =
-    "i 0x0000000000000000 1\ni 0x1000000000000000 1\ni 0x2000000000000000 1\ni 0x3000000000000000 1\n\
-    i 0x4000000000000000 1\ni 0x5000000000000000 1\ni 0x6000000000000000 1\ni 0x7000000000000000 1\n\
-    i 0x8000000000000000 1\ni 0x9000000000000000 1\ni 0xA000000000000000 1\ni 0xB000000000000000 1\n\
-    i 0xC000000000000000 1\ni 0xD000000000000000 1\ni 0xE000000000000000 1\ni 0xF000000000000000 1\nc\n";
-
-/// Words of `shards`, and the buckets of so many shards of this first capacity, of which none grows.
-const CAPACITIES: [(&[&str], &str); 10] = [
-    (&["shards", "1", "64"], "64"),
-    (&["shards", "2", "64"], "128"),
-    (&["shards", "4", "64"], "256"),
-    (&["shards", "8", "64"], "512"),
-    (&["shards", "16", "64"], "1024"),
-    (&["shards", "2", "128"], "256"),
-    (&["shards", "4", "128"], "512"),
-    (&["shards", "4"], "64"),
-    (&["shards", "8"], "128"),
-    (&["shards", "16"], "256"),
+/// The same of commands that run threads, and read nothing.
+const THREADED: [&str; 6] = [
+    "tablerun seats 2: x = placed 1024; x = full 2",
+    "tablerun seats 4: x = placed 1024; x = full 4",
+    "tablerun seats 64: x = placed 1024; x = full 64",
+    "tablerun stress 4 1: x = insert_unique 4000; x = insert_same 10000; x = insert_lookup 4000",
+    "tablerun stress 2 10: x = insert_unique 2000; x = insert_same 10000; x = insert_lookup 2000",
+    "tablerun stress 64 1: x = insert_unique 64000; x = insert_same 10000; x = insert_lookup 64000",
 ];
 
-#[test]
-fn each_shard_has_the_first_capacity(rt: HostRuntime) -> Result<(), Fail> {
-    for (words, capacity) in &CAPACITIES {
-        let ended = run(&rt, words, SPREAD.as_bytes());
-        assert!(rt; ended.status == 0);
-        let told = ended.text().lines().last();
-        assert!(rt; told == Some(*capacity), "at {words:?}");
-    }
+/// Asserts what a command prints for a script that follows it.
+fn assert_row(rt: &impl Host, row: &str) -> Result<(), Fail> {
+    let (command, text) = row.split_once(": ").unwrap_or((row, ""));
+    let words: Vec<&str> = command.split(' ').skip(1).collect(rt.alloc())?;
+    let script = Script::new(rt.alloc(), text)?;
+    let ended = run(rt, words.as_slice(), script.input.as_bytes());
+    ended.assert(rt, script.replies.as_str(), "", 0);
     Ok(())
 }
 
 #[test]
-fn rows_print_their_replies(rt: HostRuntime) {
-    for (words, input, output) in &ROWS {
-        assert_prints(&rt, words, input, output);
+fn rows_print_their_replies(rt: HostRuntime) -> Result<(), Fail> {
+    for row in &SCRIPTS {
+        assert_row(&rt, row)?;
     }
+    run(&rt, &[], b"").assert(&rt, "", "", 0);
+    run(&rt, &["calls"], b"").assert(&rt, "", "", 0);
+    // The end of the input ends a line.
+    run(&rt, &[], b"i 0 1").assert(&rt, "placed\n", "", 0);
+    run(&rt, &["calls", "00000000000000000016"], b"i 0 1\nc").assert(&rt, "placed\n16\n", "", 0);
+    run(&rt, &["core"], b"lookup 2 0\nload 2").assert(&rt, "2 none\n", "", 0);
+    Ok(())
 }
-
-const USAGE: &str =
-    "usage: tablerun calls [F] | shards N [F] | core [F] | stress THREADS JOBS | seats THREADS\n";
-
-/// Words that name no command.
-const WRONG: [&[&str]; 37] = [
-    &["calls", "24"],
-    &["calls", "8"],
-    &["calls", "2147483648"],
-    &["calls", "18446744073709551616"],
-    &["calls", "000000000000000000016"],
-    &["calls", "0x10"],
-    &["calls", "+16"],
-    &["calls", ""],
-    &["calls", "16", "16"],
-    &["core", "24"],
-    &["core", "8"],
-    &["core", "2147483648"],
-    &["core", "16", "16"],
-    &[""],
-    &["call"],
-    &["CALLS"],
-    &["calls "],
-    &["seats"],
-    &["seats", "1"],
-    &["seats", "65"],
-    &["seats", "4", "4"],
-    &["stress"],
-    &["stress", "4"],
-    &["stress", "1", "1"],
-    &["stress", "65", "1"],
-    &["stress", "4", "0"],
-    &["stress", "4", "1001"],
-    &["stress", "4", "1", "1"],
-    &["shards"],
-    &["shards", "3"],
-    &["shards", "0"],
-    &["shards", "32"],
-    &["shards", "0x2"],
-    &["shards", ""],
-    &["shards", "2", "24"],
-    &["shards", "2", "16", "16"],
-    &["shards", "18446744073709551618"],
-];
 
 #[test]
-fn wrong_words_print_the_usage(rt: HostRuntime) {
-    for words in &WRONG {
-        let ended = run(&rt, words, b"i 0 1\n");
-        assert_ended(&rt, &ended, "wrong words", "", USAGE, 2);
+fn threads_print_their_replies(rt: HostRuntime) -> Result<(), Fail> {
+    for row in &THREADED {
+        assert_row(&rt, row)?;
     }
-}
-
-/// Makes the first generation of a schedule, and asks for its buckets.
-const FIRST: &str =
-    "insert 1 10 0\nshare 1\nload 1\nfree 1\nown 1\ncheck 1 ok\nshow 1\nfree 1\nb\n";
-
-/// Asserts that the tables of both commands begin with so many buckets.
-fn assert_first<R: Threads + Wait + AllocGlobal + Abort + Sync>(
-    rt: &R,
-    first: u64,
-) -> Result<(), Fail> {
-    let word = format!(in rt.alloc(); "{first}")?;
-    let placed = format!(in rt.alloc(); "placed\n{first}\n{first}\n")?;
-    assert_prints(
-        rt,
-        &["calls", word.as_str()],
-        "i 0 1\nc\nb\n",
-        placed.as_str(),
-    );
-    let buckets = format!(in rt.alloc(); "{first}\n")?;
-    assert_prints(rt, &["core", word.as_str()], FIRST, buckets.as_str());
     Ok(())
 }
 
 #[test]
 fn each_first_capacity_is_kept(rt: HostRuntime) -> Result<(), Fail> {
     for exponent in 4..=16u32 {
-        assert_first(&rt, 1 << exponent)?;
+        let first = 1u64 << exponent;
+        let row = format!(in rt.alloc();
+            "tablerun calls {first}: i 0 1 = placed; c = {first}; b = {first}"
+        )?;
+        assert_row(&rt, row.as_str())?;
+        let row = format!(in rt.alloc();
+            "tablerun core {first}: insert 1 10 0; share 1; load 1; free 1; own 1; check 1 ok; show 1; free 1; b = {first}"
+        )?;
+        assert_row(&rt, row.as_str())?;
     }
-    Ok(())
-}
-
-/// The lines `i k k` for each k of a range.
-fn insert_lines(text: &mut String, from: u64, to: u64) -> Result<(), Fail> {
-    for k in from..to {
-        writeln!(text, "i {k} {k}")?;
-    }
-    Ok(())
-}
-
-/// The reply `placed` so many times.
-fn placed_lines(text: &mut String, count: u64) -> Result<(), Fail> {
-    for _line in 0..count {
-        writeln!(text, "placed")?;
-    }
-    Ok(())
-}
-
-/// The insert by which a table grows: how many there are then; and the capacity and the buckets of all generations after the one
-/// before it, and after it.
-type Growth = (u64, [u64; 2], [u64; 2]);
-
-/// A first capacity, and the first growths from there.
-const GROWTHS: [(&str, &[Growth]); 2] = [
-    (
-        "16",
-        &[
-            (8, [16, 16], [32, 48]),
-            (16, [32, 48], [64, 112]),
-            (32, [64, 112], [128, 240]),
-        ],
-    ),
-    (
-        "32",
-        &[(16, [32, 32], [64, 96]), (32, [64, 96], [128, 224])],
-    ),
-];
-
-/// Inserts up to so many, and asks for the capacity and the buckets.
-fn push_sizes(
-    input: &mut String,
-    wanted: &mut String,
-    from: u64,
-    to: u64,
-    sizes: [u64; 2],
-) -> Result<(), Fail> {
-    insert_lines(input, from, to)?;
-    placed_lines(wanted, to.saturating_sub(from))?;
-    writeln!(input, "c\nb")?;
-    let [capacity, buckets] = sizes;
-    writeln!(wanted, "{capacity}\n{buckets}")?;
-    Ok(())
-}
-
-/// Inserts, and asks just before each growth and after it.
-fn push_growths(input: &mut String, wanted: &mut String, growths: &[Growth]) -> Result<(), Fail> {
-    let mut done = 0;
-    for (count, before, after) in growths {
-        let last = count.saturating_sub(1);
-        push_sizes(input, wanted, done, last, *before)?;
-        push_sizes(input, wanted, last, *count, *after)?;
-        done = *count;
-    }
-    Ok(())
-}
-
-#[test]
-fn a_table_grows_at_half_of_its_buckets(rt: HostRuntime) -> Result<(), Fail> {
-    for (first, growths) in &GROWTHS {
-        let mut input = String::new(rt.alloc());
-        let mut wanted = String::new(rt.alloc());
-        push_growths(&mut input, &mut wanted, growths)?;
-        assert_prints(&rt, &["calls", first], input.as_str(), wanted.as_str());
-    }
-    Ok(())
-}
-
-#[test]
-fn seventeen_pairs_and_a_repeat(rt: HostRuntime) -> Result<(), Fail> {
-    let mut input = String::new(rt.alloc());
-    insert_lines(&mut input, 0, 17)?;
-    input.push_str("i 4 4\nl 16 16\nw\n")?;
-    let mut wanted = String::new(rt.alloc());
-    placed_lines(&mut wanted, 17)?;
-    wanted.push_str(
-        "found\nsome 16\n[0, 1, 2, 3, 4, 5, 6, 7, 8, 9, 10, 11, 12, 13, 14, 15, 16]\n",
-    )?;
-    assert_prints(&rt, &[], input.as_str(), wanted.as_str());
     Ok(())
 }

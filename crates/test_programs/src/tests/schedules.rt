@@ -1,42 +1,159 @@
-//! Worked schedules: what their events print, and what the machine tells of them.
-use super::machine::{lines_of_run, lines_of_steps};
-use super::{assert_prints, assert_same};
-use std::alloc::Global;
-use std::process::Abort;
-use std::sync::Wait;
-use std::test::Fail;
-use std::thread::Threads;
-use table_terms::capacity::is_first_capacity;
-use testkit::schedules::worked::{Row, SCHEDULES, lines_of, printed_by};
+//! Schedules, taken by the program and by the machine, with ample memory and where requests are refused.
+ghost use Rattle.std.specs.Prelude.{◌<◌};
 
-/// The program's words that name this first capacity: one of those in the table.
-fn words_for(first: u64) -> &'static [&'static str] {
-    match first {
-        16 => &["core"],
-        _ => &["core", "32"],
+use super::streams::Asking;
+use super::{Ended, Host, Script, assert_same, first_lines, line_ends, run_under};
+use lock_free_hashtable::raw::Low;
+use std::alloc::{Allocator, Global};
+use std::cell::Cell;
+use std::process::Abort;
+use std::test::Fail;
+use table_core::event::Event;
+use table_core::state::{State, run, run_with};
+use table_terms::capacity::is_first_capacity;
+use testkit::refusing::{Refusing, Rule};
+use testkit::schedules::script::push_events;
+use testkit::schedules::worked::{LOST_TO_AN_EQUAL, SCHEDULES, lines_of, printed_by};
+use tool_commands::answers::Answer;
+use tool_commands::events::{ScheduleLine, parse_schedule_line};
+use tool_commands::gate::ProgramGates;
+
+/// A schedule.
+#[derive(Drop)]
+struct Schedule {
+    /// The first capacity.
+    first: u64,
+    /// The lines of its events.
+    input: String,
+    /// The lines of the calls that finish, and the number of buckets for each line `b`.
+    printed: String,
+}
+
+impl Schedule {
+    /// Returns a schedule that asks for memory at every place, over a first generation of `first` buckets.
+    ///
+    /// Two inserts of equal values race for a bucket. Others fill the first generation while its growth is refused. Two more
+    /// find it full, and each of them makes the next generation. Look-ups, a walk, an insert that is refused and a length
+    /// follow.
+    fn asking(alloc: Global, first: u64) -> Result<Schedule, Fail>
+        requires { first < 64 }
+    {
+        let (events, replies) = LOST_TO_AN_EQUAL;
+        let mut input = String::new(alloc);
+        push_events(&mut input, events)?;
+        let mut printed = format!(in alloc; "{replies}")?;
+        let mut entries = format!(in alloc; "10")?;
+        for call in 3..first + 4 {
+            let value = 9 + call;
+            let hash = call - 2;
+            if call < first + 2 {
+                let fills = format!(in alloc;
+                    "go {call} {value} {hash}; own {call}; check {call} no; free {call}"
+                )?;
+                push_events(&mut input, fills.as_str())?;
+            }
+            writeln!(printed, "{call} placed {value}")?;
+            write!(entries, ", {value}")?;
+        }
+        push_growths(&mut input, alloc, first)?;
+        write!(
+            printed,
+            "100 some 14\n101 none\n102 walk [{entries}]\n103 refused 200\n104 len {}\n{}\n",
+            first + 2,
+            7 * first
+        )?;
+        Ok(Schedule {
+            first,
+            input,
+            printed,
+        })
     }
 }
 
-/// Asserts what a schedule prints, and that the machine tells the same, event by event and in one run.
-fn assert_row<R: Threads + Wait + AllocGlobal + Abort + Sync>(
-    rt: &R,
-    row: &Row,
-) -> Result<(), Fail> {
-    let (first, ..) = *row;
-    let input = lines_of(rt.alloc(), row)?;
-    let printed = printed_by(rt.alloc(), row)?;
-    assert_prints(rt, words_for(first), input.as_str(), printed.as_str());
-    assert!(rt; is_first_capacity(first));
-    let steps = lines_of_steps(rt.alloc(), first, input.as_str())?;
-    assert_same(rt, steps.as_str(), printed.as_str());
-    let told = lines_of_run(rt.alloc(), first, input.as_str())?;
-    let replies = without_buckets(rt.alloc(), printed.as_str())?;
-    assert_same(rt, told.as_str(), replies.as_str());
+/// Adds the end of the schedule, from the two calls on that find the first generation full.
+fn push_growths(input: &mut String, alloc: Global, first: u64) -> Result<(), Fail>
+    requires { first < 64 }
+{
+    let (b, c, d) = (first + 1, first + 2, first + 3);
+    let (v, w, all) = (first + 11, first + 12, 4 * first);
+    let events = format!(in alloc;
+        "insert {c} {v} 0; share {c}; load {c}; {first} times read {c} n; free {c}; \
+        insert {d} {w} 0; share {d}; load {d}; {first} times read {d} n; free {d}; \
+        own {c}; check {c} ok; copies {c} {first}; show {c}; free {c}; \
+        own {d}; check {d} ok; copies {d} {first}; show {d}; free {d}; \
+        share {c}; load {c}; {b} times read {c} n; put {c} n ok; add {c}; free {c}; size {c}; \
+        share {d}; load {d}; {c} times read {d} n; put {d} n ok; add {d}; free {d}; size {d}; \
+        lookup 100 3; load 100; read 100 y; lookup 101 {b}; load 101; read 101 n; read 101 n; \
+        walk 102; load 102; {all} times read 102 n; \
+        insert 103 200 {c}; share 103; load 103; read 103 n; put 103 n no; free 103; len 104; load 104; size 104; b"
+    )?;
+    push_events(input, events.as_str())?;
     Ok(())
 }
 
-/// The lines of finished calls among these lines: those that hold a space.
-fn without_buckets(alloc: Global, printed: &str) -> Result<String, Fail> {
+/// How a schedule is taken, on memory that refuses some requests.
+#[derive(Clone, Copy)]
+enum Way {
+    /// By `run` or `run_with`.
+    Run,
+    /// Step by step. A refused step is taken again.
+    Steps,
+    /// By the program.
+    Command,
+    /// By the program, which is given a line at a time of `ASKING`.
+    Lines,
+}
+
+impl Way {
+    /// Takes the schedule. If a refusal ended it, returns the number of lines printed before, and else asserts that all are printed.
+    fn take<A: Low + Copy + Send + Sync>(
+        self,
+        rt: &impl Host,
+        alloc: A,
+        schedule: &Schedule,
+    ) -> Result<Option<usize>, Fail> {
+        match self {
+            Way::Run => run_events(rt, alloc, schedule),
+            Way::Steps => take_steps(rt, alloc, schedule),
+            Way::Command => run_command(rt, alloc, schedule),
+            Way::Lines => run_lines(rt, alloc),
+        }
+    }
+}
+
+/// Takes all events at once.
+fn run_events<A: Allocator + Copy>(
+    rt: &(impl AllocGlobal + Abort),
+    alloc: A,
+    schedule: &Schedule,
+) -> Result<Option<usize>, Fail> {
+    let mut events = Vec::new(rt.alloc());
+    for line in schedule.input.lines() {
+        match parse_schedule_line(line.as_bytes()) {
+            Some(ScheduleLine::Step(event)) => events.push(event)?,
+            Some(ScheduleLine::Buckets) => (),
+            None => return Err(Fail::from("no line")),
+        }
+    }
+    assert!(rt; is_first_capacity(schedule.first));
+    let replies = match schedule.first {
+        16 => run(alloc, events.as_slice()),
+        first => run_with(alloc, first, events.as_slice()),
+    };
+    let Ok(replies) = replies else {
+        return Ok(Some(0));
+    };
+    let mut lines = String::new(rt.alloc());
+    for finished in &replies {
+        writeln!(lines, "{}", Answer { finished })?;
+    }
+    let wanted = replies_among(rt.alloc(), schedule.printed.as_str())?;
+    assert_same(rt, lines.as_str(), wanted.as_str());
+    Ok(None)
+}
+
+/// Returns the lines of finished calls among these lines: those that hold a space.
+fn replies_among(alloc: Global, printed: &str) -> Result<String, Fail> {
     let mut replies = String::new(alloc);
     for line in printed.lines() {
         if line.contains(' ') {
@@ -46,10 +163,149 @@ fn without_buckets(alloc: Global, printed: &str) -> Result<String, Fail> {
     Ok(replies)
 }
 
+/// Takes the lines one by one. After each there are as many buckets as with ample memory.
+fn take_steps<A: Allocator + Copy>(
+    rt: &(impl AllocGlobal + Abort),
+    alloc: A,
+    schedule: &Schedule,
+) -> Result<Option<usize>, Fail> {
+    assert!(rt; is_first_capacity(schedule.first));
+    let mut ample = State::with_first_capacity(rt.alloc(), schedule.first);
+    let mut state = State::with_first_capacity(alloc, schedule.first);
+    let mut printed = String::new(rt.alloc());
+    let mut refused = None;
+    for line in schedule.input.lines() {
+        match parse_schedule_line(line.as_bytes()) {
+            Some(ScheduleLine::Step(event)) => {
+                ample.step(event)?;
+                if take_event(rt, &mut state, event, &mut printed)? {
+                    refused = Some(0);
+                }
+            }
+            Some(ScheduleLine::Buckets) => writeln!(printed, "{}", state.buckets())?,
+            None => return Err(Fail::from("no line")),
+        }
+        assert_same(rt, state.buckets(), ample.buckets());
+    }
+    assert_same(rt, printed.as_str(), schedule.printed.as_str());
+    Ok(refused)
+}
+
+/// Takes an event, and takes it again if it is refused. A refused step leaves as many buckets as there were. Returns true if it was
+/// refused.
+fn take_event<A: Allocator + Copy>(
+    rt: &impl Abort,
+    state: &mut State<A>,
+    event: Event,
+    printed: &mut String,
+) -> Result<bool, Fail> {
+    let buckets = state.buckets();
+    let (finished, is_refused) = match state.step(event) {
+        Ok(finished) => (finished, false),
+        Err(_) => {
+            assert_same(rt, state.buckets(), buckets);
+            (state.step(event)?, true)
+        }
+    };
+    if let Some(finished) = &finished {
+        writeln!(printed, "{}", Answer { finished })?;
+    }
+    Ok(is_refused)
+}
+
+/// Runs `core`. Before a refusal it prints some of the lines of a run with ample memory, from the first on and each of them whole.
+fn run_command<A: Low + Copy + Send + Sync>(
+    rt: &impl Host,
+    alloc: A,
+    schedule: &Schedule,
+) -> Result<Option<usize>, Fail> {
+    let word = format!(in rt.alloc(); "{}", schedule.first)?;
+    let count = if schedule.first == 16 { 1 } else { 2 };
+    let words = &["core", word.as_str()][..count];
+    let input = schedule.input.as_bytes();
+    let ended = run_under(rt, alloc, &ProgramGates, words, input);
+    let lines = line_ends(ended.output.as_slice());
+    assert_begun(rt, &ended, schedule.printed.as_str(), lines)
+}
+
+/// Asserts that a run printed all of these lines, or that a refusal ended it and it printed the first so many.
+fn assert_begun(
+    rt: &(impl AllocGlobal + Abort),
+    ended: &Ended,
+    printed: &str,
+    lines: usize,
+) -> Result<Option<usize>, Fail> {
+    if ended.status == 0 {
+        ended.assert(rt, printed, "", 0);
+        return Ok(None);
+    }
+    let begun = first_lines(rt.alloc(), printed, lines)?;
+    ended.assert(rt, begun.as_str(), "no memory\n", 1);
+    Ok(Some(lines))
+}
+
+/// A schedule that asks for memory in each way, as a script.
+const ASKING: &str =
+    "insert 1 10 0; share 1; load 1; free 1; own 1; check 1 ok; show 1; free 1; b = 16; \
+    share 1; load 1; read 1 n; put 1 n ok; add 1; free 1; size 1 = 1 placed 10; lookup 2 0; load 2; read 2 y = 2 some 10; \
+    walk 3; load 3; read 3 n; len 4; load 4";
+
+/// Runs `core` over `ASKING`, of which it is given a line at a time. Before a refusal it prints the replies to all lines before.
+fn run_lines<A: Low + Copy + Send + Sync>(rt: &impl Host, alloc: A) -> Result<Option<usize>, Fail> {
+    let script = Script::new(rt.alloc(), ASKING)?;
+    let (sent, mut seen) = (Cell::new(0), Vec::new(rt.alloc()));
+    let reader = Asking::new(script.input.as_bytes(), &sent, &mut seen);
+    let ended = run_under(rt, alloc, &ProgramGates, &["core"], reader);
+    let taken = ASKING.split("; ").take(seen.len().saturating_sub(1));
+    let lines = taken.filter(|part| part.contains(" = ")).count();
+    assert_begun(rt, &ended, script.replies.as_str(), lines)
+}
+
 #[test]
 fn worked_schedules(rt: HostRuntime) -> Result<(), Fail> {
     for row in &SCHEDULES {
-        assert_row(&rt, row)?;
+        let schedule = Schedule {
+            first: row.0,
+            input: lines_of(rt.alloc(), row)?,
+            printed: printed_by(rt.alloc(), row)?,
+        };
+        for way in [Way::Run, Way::Steps, Way::Command] {
+            assert!(rt; way.take(&rt, rt.alloc(), &schedule)?.is_none());
+        }
+    }
+    Ok(())
+}
+
+/// More requests than any schedule here makes.
+const REQUESTS: u64 = 10_000;
+
+/// Refuses each request of the schedule in turn, and those after it, `refused` in all, until one run asks for less than is granted.
+fn refuse_each(rt: &impl Host, way: Way, refused: u64, schedule: &Schedule) -> Result<(), Fail> {
+    let mut refusals = 0u64;
+    for granted in 0..REQUESTS {
+        let memory = Refusing::new(rt.alloc(), Rule::new(0, usize::MAX, granted, refused));
+        let ended = way.take(rt, &memory, schedule)?;
+        if memory.refusals_left() == refused {
+            assert!(rt; ended.is_none() && refusals > 0);
+            return Ok(());
+        }
+        // Nothing is printed before the first request.
+        assert!(rt; granted > 0 || ended == Some(0));
+        refusals = refusals.saturating_add(u64::from(ended.is_some()));
+    }
+    Err(Fail::from("no run with ample memory"))
+}
+
+#[test]
+fn each_request_of_a_schedule_is_refused_in_turn(rt: HostRuntime) -> Result<(), Fail> {
+    for schedule in [
+        Schedule::asking(rt.alloc(), 16)?,
+        Schedule::asking(rt.alloc(), 32)?,
+    ] {
+        refuse_each(&rt, Way::Run, u64::MAX, &schedule)?;
+        for way in [Way::Run, Way::Steps, Way::Command, Way::Lines] {
+            refuse_each(&rt, way, 1, &schedule)?;
+        }
     }
     Ok(())
 }

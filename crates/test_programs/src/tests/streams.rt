@@ -1,41 +1,27 @@
 //! Readers and writers that fail, and replies that are there when the next line is asked for.
-use super::{assert_bytes, assert_ended, assert_same, run_into, run_on};
+use super::{Host, assert_same, first_lines, line_ends, run_under};
+use std::alloc::Global;
 use std::cell::Cell;
 use std::io;
 use std::io::{ErrorKind, Read, Write};
-use std::process::Abort;
-use std::sync::Wait;
 use std::test::Fail;
-use std::thread::Threads;
 use testkit::streams::Failing;
+use tool_commands::gate::ProgramGates;
+use tool_commands::program::run_words;
 
 const INPUT: &str = "i 0 1\ni 0 1\nl 0 1\nn\nw\n";
 
-/// The replies to the lines that end within so many first bytes of the input.
-fn replies_to(bytes: usize) -> &'static str {
-    match bytes {
-        0..=5 => "",
-        6..=11 => "placed\n",
-        12..=17 => "placed\nfound\n",
-        18..=19 => "placed\nfound\nsome 1\n",
-        20..=21 => "placed\nfound\nsome 1\n1\n",
-        _ => "placed\nfound\nsome 1\n1\n[1]\n",
-    }
-}
+const REPLIES: &str = "placed\nfound\nsome 1\n1\n[1]\n";
 
-/// Asserts what is printed where so many reads are given and the next one fails, if it is made.
-fn assert_given<R: Threads + Wait + AllocGlobal + Abort + Sync>(
-    rt: &R,
-    at_once: usize,
-    given: usize,
-    fails: bool,
-) -> Result<(), Fail> {
+/// Asserts what is printed where `given` reads succeed and the next one fails, if it is made: the replies to the lines read.
+fn assert_given(rt: &impl Host, at_once: usize, given: usize, fails: bool) -> Result<(), Fail> {
     let reader = Failing::new(INPUT.as_bytes(), at_once, given as u64);
-    let ended = run_on(rt, rt.alloc(), &[], reader);
-    let wanted = replies_to(given.saturating_mul(at_once));
-    let at = format!(in rt.alloc(); "{given} reads of {at_once}")?;
-    let (messages, status) = if fails { ("read failed\n", 1) } else { ("", 0) };
-    assert_ended(rt, &ended, at.as_str(), wanted, messages, status);
+    let bytes = given.saturating_mul(at_once).min(INPUT.len());
+    let lines = line_ends(&INPUT.as_bytes()[..bytes]);
+    let wanted = first_lines(rt.alloc(), REPLIES, lines)?;
+    let (message, status) = if fails { ("read failed\n", 1) } else { ("", 0) };
+    let ended = run_under(rt, rt.alloc(), &ProgramGates, &[], reader);
+    ended.assert(rt, wanted.as_str(), message, status);
     Ok(())
 }
 
@@ -51,300 +37,186 @@ fn a_reader_that_fails_at_each_call(rt: HostRuntime) -> Result<(), Fail> {
     Ok(())
 }
 
-/// Asserts that all replies are printed where each read is interrupted first.
-fn assert_interrupted<R: Threads + Wait + AllocGlobal + Abort + Sync>(rt: &R, at_once: usize) {
-    let reader = Failing::new(INPUT.as_bytes(), at_once, u64::MAX).interrupted();
-    let ended = run_on(rt, rt.alloc(), &[], reader);
-    assert_ended(
-        rt,
-        &ended,
-        "an interrupted read",
-        replies_to(INPUT.len()),
-        "",
-        0,
-    );
-}
-
 #[test]
 fn an_interrupted_read_is_tried_again(rt: HostRuntime) {
     for at_once in [1, 7, 100] {
-        assert_interrupted(&rt, at_once);
+        let reader = Failing::new(INPUT.as_bytes(), at_once, u64::MAX).interrupted();
+        run_under(&rt, rt.alloc(), &ProgramGates, &[], reader).assert(&rt, REPLIES, "", 0);
     }
-}
-
-/// Asserts how a run ends whose reader fails after so many thousand bytes of one line.
-fn assert_fails_in_a_line<R: Threads + Wait + AllocGlobal + Abort + Sync>(
-    rt: &R,
-    given: u64,
-) -> Result<(), Fail> {
-    let long = vec![in rt.alloc(); b'0'; 100_000]?;
-    let reader = Failing::new(long.as_slice(), 1000, given);
-    let ended = run_on(rt, rt.alloc(), &[], reader);
-    assert_ended(rt, &ended, "a long line", "", "read failed\n", 1);
-    Ok(())
 }
 
 #[test]
 fn a_reader_that_fails_in_a_long_line(rt: HostRuntime) -> Result<(), Fail> {
+    let long = "0".repeat(rt.alloc(), 100_000)?;
     for given in [1, 2, 50] {
-        assert_fails_in_a_line(&rt, given)?;
+        let reader = Failing::new(long.as_bytes(), 1000, given);
+        run_under(&rt, rt.alloc(), &ProgramGates, &[], reader).assert(&rt, "", "read failed\n", 1);
     }
     Ok(())
 }
 
-/// A writer over memory that fails from some call on, and notes how many bytes it was given.
+/// A writer over memory, of which some calls fail. It notes how many bytes it has sent.
 #[derive(Drop)]
-struct Full<'a> {
-    kept: &'a mut Vec<u8>,
-    calls_left: u64,
-    count: &'a Cell<usize>,
+struct Writer<'a> {
+    /// The first call that fails, counted from 0, and the first after it that doesn't.
+    failing: (u64, u64),
+    /// Whether it takes one byte at a call, and sends what it took only when it is flushed.
+    keeps: bool,
+    calls: u64,
+    taken: Vec<u8>,
+    sent: &'a Cell<usize>,
 }
 
-impl<'a> Full<'a> {
-    /// A writer that fails after so many calls.
-    fn new(kept: &'a mut Vec<u8>, calls_left: u64, count: &'a Cell<usize>) -> Full<'a> {
-        Full {
-            kept,
-            calls_left,
-            count,
+impl<'a> Writer<'a> {
+    fn new(alloc: Global, failing: (u64, u64), keeps: bool, sent: &'a Cell<usize>) -> Writer<'a> {
+        Writer {
+            failing,
+            keeps,
+            calls: 0,
+            taken: Vec::new(alloc),
+            sent,
         }
     }
 }
 
-impl Write for Full<'_> {
+impl Write for Writer<'_> {
     fn write(&mut self, buf: &[u8]) -> io::Result<usize> {
-        if self.calls_left == 0 {
-            return Err(io::Error::from(ErrorKind::StorageFull));
+        let (from, to) = self.failing;
+        let call = self.calls;
+        self.calls = call.saturating_add(1);
+        if from <= call && call < to {
+            let is_full = to == u64::MAX;
+            let kind = if is_full {
+                ErrorKind::StorageFull
+            } else {
+                ErrorKind::Other
+            };
+            return Err(io::Error::from(kind));
         }
-        self.calls_left -= 1;
-        self.kept.extend_from_slice(buf)?;
-        self.count.set(self.kept.len());
-        Ok(buf.len())
+        let most = if self.keeps { 1 } else { usize::MAX };
+        let count = buf.len().min(most);
+        self.taken.extend_from_slice(&buf[..count])?;
+        if !self.keeps {
+            self.sent.set(self.taken.len());
+        }
+        Ok(count)
     }
 
     fn flush(&mut self) -> io::Result<()> {
+        self.sent.set(self.taken.len());
         Ok(())
     }
 }
 
-/// Runs `calls` with a reader and writers of the caller's, and asserts the message and the status.
-fn assert_run<R: Threads + Wait + AllocGlobal + Abort + Sync, I: Read + Drop>(
-    rt: &R,
+/// Asserts what `calls` sends to a writer, the message, and the status.
+fn assert_sent<I: Read + Drop>(
+    rt: &impl Host,
     input: I,
-    writer: &mut Full<'_>,
+    mut output: Writer<'_>,
+    sent: &str,
     message: &str,
     status: u8,
 ) {
-    let mut messages = Vec::new(rt.alloc());
-    let ended = run_into(rt, rt.alloc(), &["calls"], input, writer, &mut messages);
-    assert_bytes(rt, message, messages.as_slice(), message.as_bytes());
-    assert_same(rt, u64::from(ended), u64::from(status));
-}
-
-/// How many calls of the writer succeed, how many first bytes of the input are replied to then, and how the run ends.
-const WRITES: [(u64, usize, &str, u8); 6] = [
-    (0, 0, "write failed\n", 1),
-    (1, 6, "write failed\n", 1),
-    (2, 12, "write failed\n", 1),
-    (3, 18, "write failed\n", 1),
-    (4, 20, "write failed\n", 1),
-    (5, 22, "", 0),
-];
-
-/// Asserts what is written where so many calls of the writer succeed, and how the run ends.
-fn assert_writes<R: Threads + Wait + AllocGlobal + Abort + Sync>(
-    rt: &R,
-    given: u64,
-    replied: usize,
-    message: &str,
-    status: u8,
-) {
-    // One byte is read at a time, so each reply is written by a call of its own, before the next line is read.
-    let reader = Failing::new(INPUT.as_bytes(), 1, u64::MAX);
-    let mut output = Vec::new(rt.alloc());
-    let count = Cell::new(0);
-    let mut writer = Full::new(&mut output, given, &count);
-    assert_run(rt, reader, &mut writer, message, status);
-    let wanted = replies_to(replied);
-    assert_bytes(rt, wanted, output.as_slice(), wanted.as_bytes());
+    let (alloc, words) = (rt.alloc(), ["calls"]);
+    let mut messages = Vec::new(alloc);
+    let ended = run_words(rt, alloc, &words, input, &mut output, &mut messages);
+    assert_same(rt, output.taken.as_slice(), sent.as_bytes());
+    assert_same(rt, output.sent.get(), sent.len());
+    assert_same(rt, messages.as_slice(), message.as_bytes());
+    assert_same(rt, ended, status);
 }
 
 #[test]
-fn a_writer_that_fails_at_each_call(rt: HostRuntime) {
-    for (given, replied, message, status) in WRITES {
-        assert_writes(&rt, given, replied, message, status);
+fn a_writer_that_fails_at_each_call(rt: HostRuntime) -> Result<(), Fail> {
+    for given in 0..=5u8 {
+        // One byte is read at a time, so each reply is written by a call of its own, before the next line is read.
+        let reader = Failing::new(INPUT.as_bytes(), 1, u64::MAX);
+        let sent = Cell::new(0);
+        let output = Writer::new(rt.alloc(), (u64::from(given), u64::MAX), false, &sent);
+        let wanted = first_lines(rt.alloc(), REPLIES, usize::from(given))?;
+        let message = if given < 5 { "write failed\n" } else { "" };
+        let status = u8::from(given < 5);
+        assert_sent(&rt, reader, output, wanted.as_str(), message, status);
     }
+    Ok(())
 }
 
 #[test]
 fn the_first_failure_wins(rt: HostRuntime) {
-    // The reply before the bad line cannot be written.
-    let mut output = Vec::new(rt.alloc());
-    let count = Cell::new(0);
-    let mut writer = Full::new(&mut output, 0, &count);
-    let input = b"i 0 1\nx\n".as_slice();
-    assert_run(&rt, input, &mut writer, "write failed\n", 1);
-
-    // Nothing is written before a bad first line, so its message stands.
-    let input = b"x\n".as_slice();
-    assert_run(&rt, input, &mut writer, "bad line 1\n", 2);
-}
-
-/// A writer that fails at its first call, and takes all bytes of later ones.
-#[derive(Drop)]
-struct FailsOnce<'a> {
-    has_failed: bool,
-    taken: &'a mut Vec<u8>,
-}
-
-impl Write for FailsOnce<'_> {
-    fn write(&mut self, bytes: &[u8]) -> io::Result<usize> {
-        if !self.has_failed {
-            self.has_failed = true;
-            return Err(io::Error::from(ErrorKind::Other));
-        }
-        self.taken.extend_from_slice(bytes)?;
-        Ok(bytes.len())
+    for (input, failing, message, status) in [
+        // The reply before the bad line can't be written. Nothing is written before a bad first line, so its message stands.
+        ("i 0 1\nx\n", (0, u64::MAX), "write failed\n", 1),
+        ("x\n", (0, u64::MAX), "bad line 1\n", 2),
+        // What could not be written is not sent again.
+        ("i 0 1\nn\n", (0, 1), "write failed\n", 1),
+    ] {
+        let sent = Cell::new(0);
+        let output = Writer::new(rt.alloc(), failing, false, &sent);
+        assert_sent(&rt, input.as_bytes(), output, "", message, status);
     }
-
-    fn flush(&mut self) -> io::Result<()> {
-        Ok(())
-    }
-}
-
-#[test]
-fn what_could_not_be_written_is_not_sent_again(rt: HostRuntime) {
-    let (mut taken, mut messages) = (Vec::new(rt.alloc()), Vec::new(rt.alloc()));
-    let mut output = FailsOnce {
-        has_failed: false,
-        taken: &mut taken,
-    };
-    let input = b"i 0 1\nn\n".as_slice();
-    let status = run_into(
-        &rt,
-        rt.alloc(),
-        &["calls"],
-        input,
-        &mut output,
-        &mut messages,
-    );
-    drop(output);
-    assert!(rt; taken.is_empty());
-    assert_bytes(
-        &rt,
-        "a writer that fails once",
-        messages.as_slice(),
-        b"write failed\n",
-    );
-    assert_same(&rt, u64::from(status), 1);
-}
-
-/// Asserts the status of a run whose message is dropped.
-fn assert_dropped<R: Threads + Wait + AllocGlobal + Abort + Sync>(rt: &R, words: &[&str]) {
-    let mut output = Vec::new(rt.alloc());
-    let mut messages = Vec::new(rt.alloc());
-    let count = Cell::new(0);
-    let mut writer = Full::new(&mut messages, 0, &count);
-    let input = b"n\nx\n".as_slice();
-    let status = run_into(rt, rt.alloc(), words, input, &mut output, &mut writer);
-    assert_same(rt, u64::from(status), 2);
-    assert!(rt; messages.is_empty());
 }
 
 #[test]
 fn a_message_that_cannot_be_written_is_dropped(rt: HostRuntime) {
-    assert_dropped(&rt, &["calls", "16"]);
-    assert_dropped(&rt, &["calls", "24"]);
+    for words in [["calls", "16"], ["calls", "24"]] {
+        let sent = Cell::new(0);
+        let mut output = Vec::new(rt.alloc());
+        let mut messages = Writer::new(rt.alloc(), (0, u64::MAX), false, &sent);
+        let input = b"n\nx\n".as_slice();
+        let status = run_words(&rt, rt.alloc(), &words, input, &mut output, &mut messages);
+        assert_same(&rt, status, 2);
+        assert_same(&rt, sent.get(), 0);
+    }
 }
 
 /// A reader that gives a line at a call, and notes how many bytes were written by then.
 #[derive(Drop)]
-struct Asking<'a> {
-    lines: &'a [&'static str],
-    asked: usize,
+pub(super) struct Asking<'a> {
+    rest: &'a [u8],
     written: &'a Cell<usize>,
     seen: &'a mut Vec<usize>,
+}
+
+impl<'a> Asking<'a> {
+    /// Makes a reader of this input.
+    pub(super) fn new(
+        rest: &'a [u8],
+        written: &'a Cell<usize>,
+        seen: &'a mut Vec<usize>,
+    ) -> Asking<'a> {
+        Asking {
+            rest,
+            written,
+            seen,
+        }
+    }
 }
 
 impl Read for Asking<'_> {
     fn read(&mut self, buf: &mut [u8]) -> io::Result<usize> {
         self.seen.push(self.written.get())?;
-        let Some(line) = self.lines.get(self.asked) else {
-            return Ok(0);
+        let line = match self.rest.iter().position(|byte| *byte == b'\n') {
+            Some(end) => end.saturating_add(1),
+            None => self.rest.len(),
         };
-        self.asked = self.asked.saturating_add(1);
-        let count = line.len().min(buf.len());
-        buf[..count].copy_from_slice(&line.as_bytes()[..count]);
+        let count = line.min(buf.len()).min(self.rest.len());
+        let (now, later) = self.rest.split_at(count);
+        buf[..count].copy_from_slice(now);
+        self.rest = later;
         Ok(count)
     }
 }
 
-/// A writer that takes a byte at a call, and sends what it took when it is flushed.
-#[derive(Drop)]
-struct Keeping<'a> {
-    kept: Vec<u8>,
-    sent: &'a mut Vec<u8>,
-    count: &'a Cell<usize>,
-}
-
-impl Write for Keeping<'_> {
-    fn write(&mut self, buf: &[u8]) -> io::Result<usize> {
-        let Some(byte) = buf.first() else {
-            return Ok(0);
-        };
-        self.kept.push(*byte)?;
-        Ok(1)
-    }
-
-    fn flush(&mut self) -> io::Result<()> {
-        self.sent.extend_from_slice(self.kept.as_slice())?;
-        self.count.set(self.sent.len());
-        self.kept.clear();
-        Ok(())
-    }
-}
-
-/// Runs five lines, and looks each time that the next one is asked for how many bytes the writer has sent.
-fn assert_replies_before_reads<R: Threads + Wait + AllocGlobal + Abort + Sync, W: Write>(
-    rt: &R,
-    written: &Cell<usize>,
-    writer: &mut W,
-) {
-    let lines = ["i 0 1\n", "i 0 1\n", "l 0 1\n", "n\n", "w"];
-    let mut seen = Vec::new(rt.alloc());
-    let mut messages = Vec::new(rt.alloc());
-    let reader = Asking {
-        lines: &lines,
-        asked: 0,
-        written,
-        seen: &mut seen,
-    };
-    let status = run_into(rt, rt.alloc(), &["calls"], reader, writer, &mut messages);
-    assert_same(rt, u64::from(status), 0);
-    // 0 bytes before the first line, then those of one reply more at each call; the last part is no line before the end.
-    assert_same(rt, seen.as_slice(), [0, 7, 13, 20, 22, 22].as_slice());
-}
-
-const SENT: &[u8] = b"placed\nfound\nsome 1\n1\n[1]\n";
-
 #[test]
 fn each_reply_is_there_when_the_next_line_is_asked_for(rt: HostRuntime) {
-    let count = Cell::new(0);
-    let mut sent = Vec::new(rt.alloc());
-    assert_replies_before_reads(&rt, &count, &mut Full::new(&mut sent, u64::MAX, &count));
-    assert_bytes(&rt, "what was sent", sent.as_slice(), SENT);
-}
-
-#[test]
-fn a_writer_that_keeps_what_it_takes_is_flushed(rt: HostRuntime) {
-    let count = Cell::new(0);
-    let mut sent = Vec::new(rt.alloc());
-    let mut writer = Keeping {
-        kept: Vec::new(rt.alloc()),
-        sent: &mut sent,
-        count: &count,
-    };
-    assert_replies_before_reads(&rt, &count, &mut writer);
-    drop(writer);
-    assert_bytes(&rt, "what was sent", sent.as_slice(), SENT);
+    // A writer that keeps what it takes is flushed.
+    for keeps in [false, true] {
+        let sent = Cell::new(0);
+        let mut seen = Vec::new(rt.alloc());
+        let reader = Asking::new(b"i 0 1\ni 0 1\nl 0 1\nn\nw", &sent, &mut seen);
+        let output = Writer::new(rt.alloc(), (0, 0), keeps, &sent);
+        assert_sent(&rt, reader, output, REPLIES, "", 0);
+        // No byte before the first line, then one reply more at each call; the last part is no line before the end.
+        assert_same(&rt, seen.as_slice(), [0, 7, 13, 20, 22, 22].as_slice());
+    }
 }

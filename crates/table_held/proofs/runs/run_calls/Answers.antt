@@ -6,7 +6,7 @@ use Rattle.std.proofs.lemmas.Iterator.Adapters.{YieldsList-from_vec}
 use Rattle.std.proofs.lemmas.Iterator.Consumers.{YieldsList-end}
 use Rattle.table_held.specs.Calls.{FnReturnsAtTwo}
 use Rattle.table_held.proofs.Again.{later_reflexive, later_transitive}
-use Rattle.table_held.proofs.Runs.{keeps_more, map_same, unchanged_more, lawful_more, answers_more, answers_none}
+use Rattle.table_held.proofs.CallRuns.{keeps_more, map_same, unchanged_more, lawful_more, answers_more, answers_none}
 use Rattle.table_held.proofs.runs.run_calls.Goals as goal
 
 pub loop-call-init : goal.loop-call-init

@@ -1,6 +1,0 @@
-use Rattle.std.proofs.Crossing as global
-use Rattle.test_programs.proofs.tests.refusals.refuse_asking.Goals as goal
-
--- any thread may give a block back, since it goes back to the program's memory
-pub run_asking-is_refused-requires-frees-A-Allocator : goal.run_asking-is_refused-requires-frees-A-Allocator
-run_asking-is_refused-requires-frees-A-Allocator g c = λ κs lives. record { frees = λ heap τ p. global.frees.frees heap.now.inner τ p }
