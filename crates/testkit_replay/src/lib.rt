@@ -1,4 +1,4 @@
-//! Schedules of calls on a running table, each step beside the machine's: what the table tells is what the machine tells.
+//! Runs a schedule of calls on a running table, and compares what each step returns with what the machine of `table_core` returns.
 #![tactic(auto)]
 
 pub mod course;

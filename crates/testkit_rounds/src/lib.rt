@@ -1,4 +1,4 @@
-//! Rounds: threads give values to one table at once, and afterwards each value is accounted for.
+//! Runs rounds of threads: they give values to one table at once, and afterwards each value is accounted for.
 #![tactic(auto)]
 
 mod account;
