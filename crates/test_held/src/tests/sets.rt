@@ -1,4 +1,5 @@
 //! The sets, run.
+mod fields;
 mod held;
 mod keys;
 mod laws;

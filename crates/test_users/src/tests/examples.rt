@@ -1,6 +1,7 @@
 //! The examples, run.
 mod alike;
 mod answers;
+mod batches;
 mod lines;
 mod meetings;
 mod memory;
