@@ -59,7 +59,7 @@ pub fn hash_number(number: u64) -> u64
     lower as u64 ^ (product >> 64) as u64
 }
 
-/// The law of numbers: a number is equal only to itself, and its hash is that of `hash_number`.
+/// The law of numbers and characters: each is equal only to itself, and its hash is that of `hash_number`.
 pub struct NumberLaw;
 
 impl Law<u16> for NumberLaw {
