@@ -5,3 +5,4 @@ mod sharing;
 mod symbols;
 mod texts;
 mod threads;
+mod walks;

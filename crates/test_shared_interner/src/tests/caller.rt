@@ -38,6 +38,28 @@ pub(crate) fn text_of(alloc: Global, number: u64) -> Result<String, AllocError> 
     }
 }
 
+/// Returns the first so many texts, each by its number.
+pub(crate) fn texts_below(alloc: Global, count: u64) -> Result<Vec<String>, AllocError> {
+    let mut texts = Vec::new(alloc);
+    for number in 0..count {
+        texts.push(text_of(alloc, number)?)?;
+    }
+    Ok(texts)
+}
+
+/// Interns the texts, and returns their symbols.
+pub(crate) fn symbols_of(
+    alloc: Global,
+    interner: &Interner<'_>,
+    texts: &[String],
+) -> Result<Vec<Symbol>, AllocError> {
+    let mut symbols = Vec::new(alloc);
+    for text in texts {
+        symbols.push(interner.intern(text.as_str())?)?;
+    }
+    Ok(symbols)
+}
+
 /// Asserts that the text has this symbol, by each call, and that the symbol gives it back.
 pub(crate) fn assert_named(rt: &impl Abort, interner: &Interner<'_>, text: &str, symbol: Symbol) {
     assert_same(rt, interner.get(text), Some(symbol));
@@ -47,4 +69,18 @@ pub(crate) fn assert_named(rt: &impl Abort, interner: &Interner<'_>, text: &str,
     assert_same(rt, names.get(text), Some(symbol));
     assert_same(rt, names.intern(text).ok(), Some(symbol));
     assert_same(rt, names.text(symbol), Some(text));
+}
+
+/// Asserts that the interner has these texts, each with its symbol, and no others.
+pub(crate) fn assert_has(
+    rt: &impl Abort,
+    interner: &Interner<'_>,
+    texts: &[String],
+    symbols: &[Symbol],
+) {
+    for (text, symbol) in texts.iter().zip(symbols.iter()) {
+        assert_named(rt, interner, text.as_str(), *symbol);
+    }
+    assert_same(rt, symbols.len(), texts.len());
+    assert_same(rt, interner.len(), texts.len() as u64);
 }

@@ -1,6 +1,6 @@
 //! Interners that grow.
 use super::caller::{
-    Interner, assert_named, assert_none_out, assert_same, counted, interner_with, text_of,
+    Interner, assert_has, assert_none_out, assert_same, counted, interner_with, texts_below,
 };
 use shared_interner::Symbol;
 use std::alloc::{AllocError, Global};
@@ -15,12 +15,13 @@ fn fill(
     rt: &impl Abort,
     alloc: Global,
     interner: &Interner<'_>,
+    texts: &[String],
 ) -> Result<Vec<Symbol>, AllocError> {
     let mut names = interner.names();
     let first = names.intern("1")?;
     let mut symbols = Vec::new(alloc);
-    for number in 0..TEXTS {
-        symbols.push(names.intern(text_of(alloc, number)?.as_str())?)?;
+    for text in texts {
+        symbols.push(names.intern(text.as_str())?)?;
         assert_same(rt, names.text(first), Some("1"));
     }
     Ok(symbols)
@@ -29,17 +30,12 @@ fn fill(
 /// Each symbol gives its text back after growth, and each text has its symbol.
 #[test]
 fn symbols_give_their_texts_back_after_growth(rt: HostRuntime) -> Result<(), Fail> {
+    let texts = texts_below(rt.alloc(), TEXTS)?;
     for room in [0, TEXTS as usize] {
         let heap = counted(rt.alloc());
         let interner = interner_with(&rt, &heap, room);
-        let symbols = fill(&rt, rt.alloc(), &interner)?;
-        let mut number: u64 = 0;
-        for symbol in &symbols {
-            let text = text_of(rt.alloc(), number)?;
-            assert_named(&rt, &interner, text.as_str(), *symbol);
-            number = number.wrapping_add(1);
-        }
-        assert_same(&rt, (number, interner.len()), (TEXTS, TEXTS));
+        let symbols = fill(&rt, rt.alloc(), &interner, texts.as_slice())?;
+        assert_has(&rt, &interner, texts.as_slice(), symbols.as_slice());
         drop(interner);
         assert_none_out(&rt, &heap);
     }

@@ -1,6 +1,7 @@
 //! Memory that is refused.
 use super::caller::{
-    Heap, Interner, assert_named, assert_none_out, assert_same, counted, interner_with, text_of,
+    Heap, Interner, assert_has, assert_named, assert_none_out, assert_same, counted, interner_with,
+    symbols_of, texts_below,
 };
 use shared_interner::{SharedInterner, Symbol};
 use std::alloc::{AllocError, Global};
@@ -34,32 +35,15 @@ fn intern_at_last(rt: &impl Abort, interner: &Interner<'_>, text: &str) -> Symbo
     }
 }
 
-/// Asserts that the first so many texts are those that have symbols, each its own.
-fn assert_has(
-    rt: &impl Abort,
-    alloc: Global,
-    interner: &Interner<'_>,
-    symbols: &[Symbol],
-) -> Result<(), AllocError> {
-    let mut number: u64 = 0;
-    for symbol in symbols {
-        assert_named(rt, interner, text_of(alloc, number)?.as_str(), *symbol);
-        number = number.wrapping_add(1);
-    }
-    assert_same(rt, interner.len(), number);
-    Ok(())
-}
-
 /// A run in which so many requests are granted, and the next one is refused. Each text gets its symbol. Returns true if one was refused.
-fn run(rt: &impl Abort, alloc: Global, granted: u64) -> Result<bool, AllocError> {
+fn run(rt: &impl Abort, alloc: Global, texts: &[String], granted: u64) -> Result<bool, AllocError> {
     let heap = Refusing::new(alloc, Rule::new(0, usize::MAX, granted, 1));
     let interner = made_at_last(rt, &heap);
     let mut symbols = Vec::new(alloc);
-    for number in 0..TEXTS {
-        let text = text_of(alloc, number)?;
+    for text in texts {
         symbols.push(intern_at_last(rt, &interner, text.as_str()))?;
     }
-    assert_has(rt, alloc, &interner, symbols.as_slice())?;
+    assert_has(rt, &interner, texts, symbols.as_slice());
     let left = heap.refusals_left();
     drop(interner);
     assert_none_out(rt, &heap);
@@ -68,8 +52,9 @@ fn run(rt: &impl Abort, alloc: Global, granted: u64) -> Result<bool, AllocError>
 
 /// Returns how many requests can be granted before one is refused.
 fn run_each(rt: &impl Abort, alloc: Global) -> Result<u64, AllocError> {
+    let texts = texts_below(alloc, TEXTS)?;
     for granted in 0..200 {
-        if !run(rt, alloc, granted)? {
+        if !run(rt, alloc, texts.as_slice(), granted)? {
             return Ok(granted);
         }
     }
@@ -83,24 +68,16 @@ fn each_request_refused_in_turn(rt: HostRuntime) -> Result<(), Fail> {
     Ok(())
 }
 
-/// Interns each text, and returns the symbols.
-fn fill(alloc: Global, interner: &Interner<'_>) -> Result<Vec<Symbol>, AllocError> {
-    let mut symbols = Vec::new(alloc);
-    for number in 0..TEXTS {
-        symbols.push(interner.intern(text_of(alloc, number)?.as_str())?)?;
-    }
-    Ok(symbols)
-}
-
 /// Without memory a text that is there has its symbol, which gives it back, and a new one is refused. Nobody asks for memory for the others.
 #[test]
 fn a_known_text_needs_no_memory(rt: HostRuntime) -> Result<(), Fail> {
     let heap = counted(rt.alloc());
     let interner = interner_with(&rt, &heap, 0);
-    let symbols = fill(rt.alloc(), &interner)?;
+    let texts = texts_below(rt.alloc(), TEXTS)?;
+    let symbols = symbols_of(rt.alloc(), &interner, texts.as_slice())?;
     let granted = heap.granted();
     heap.refuse(0, u64::MAX);
-    assert_has(&rt, rt.alloc(), &interner, symbols.as_slice())?;
+    assert_has(&rt, &interner, texts.as_slice(), symbols.as_slice());
     assert_same(
         &rt,
         (heap.granted(), heap.refusals_left()),
@@ -108,7 +85,7 @@ fn a_known_text_needs_no_memory(rt: HostRuntime) -> Result<(), Fail> {
     );
     let long = "a text that is long, and that is not there";
     assert!(rt; interner.intern(long).is_err() && interner.get(long).is_none());
-    assert_has(&rt, rt.alloc(), &interner, symbols.as_slice())?;
+    assert_has(&rt, &interner, texts.as_slice(), symbols.as_slice());
     heap.refuse(0, 0);
     let symbol = interner.intern(long)?;
     assert_named(&rt, &interner, long, symbol);

@@ -1,5 +1,5 @@
 //! Interners of one owner that are shared.
-use super::caller::{Interner, assert_named, assert_none_out, assert_same, counted, text_of};
+use super::caller::{assert_has, assert_none_out, assert_same, counted, texts_below};
 use interner::Interner as Texts;
 use shared_interner::{Shared, SharedInterner, Symbol};
 use std::alloc::{AllocError, Global};
@@ -8,57 +8,76 @@ use std::process::Abort;
 use std::test::Fail;
 use testkit::refusing::{Refusing, Rule};
 
-/// How many texts there are.
-const TEXTS: u32 = 100;
+/// How many texts are copied: none, one, as many as need a hundred requests, and so many that the interner of one owner has grown.
+const COUNTS: [u32; 4] = [0, 1, 100, 10_000];
 
 /// Returns an interner of one owner that has these texts.
-fn filled(rt: &impl Abort, alloc: Global) -> Result<Texts, AllocError> {
-    let mut texts: Texts = Texts::new(alloc);
-    for number in 0..TEXTS {
-        let text = text_of(alloc, u64::from(number))?;
-        let given = texts.intern_alone(text.as_str());
-        assert_same(rt, given.map(|n: NonZeroU32| n.get()), Ok(number + 1));
+fn filled(rt: &impl Abort, alloc: Global, texts: &[String]) -> Result<Texts, AllocError> {
+    let mut filled: Texts = Texts::new(alloc);
+    let mut number: u32 = 0;
+    for text in texts {
+        number = number.wrapping_add(1);
+        let given = filled.intern_alone(text.as_str());
+        assert_same(rt, given.map(|n: NonZeroU32| n.get()), Ok(number));
     }
-    Ok(texts)
+    Ok(filled)
 }
 
-/// Asserts that each text has the symbol of its number.
-fn assert_kept(rt: &impl Abort, alloc: Global, interner: &Interner<'_>) -> Result<(), AllocError> {
-    for number in 0..TEXTS {
-        let symbol = Symbol::from_u32(number + 1).expect(rt, "a symbol");
-        let text = text_of(alloc, u64::from(number))?;
-        assert_named(rt, interner, text.as_str(), symbol);
+/// Returns the symbols of the numbers from one to this one.
+fn symbols_to(rt: &impl Abort, alloc: Global, count: u32) -> Result<Vec<Symbol>, AllocError> {
+    let mut symbols = Vec::new(alloc);
+    for number in 0..count {
+        symbols.push(Symbol::from_u32(number + 1).expect(rt, "a symbol"))?;
     }
-    assert_same(rt, interner.len(), u64::from(TEXTS));
-    Ok(())
+    Ok(symbols)
 }
 
-/// Texts keep their numbers, and a handle that hears of them knows them.
-#[test]
-fn texts_keep_their_numbers(rt: HostRuntime) -> Result<(), Fail> {
-    let heap = counted(rt.alloc());
-    let Shared { interner, known } = SharedInterner::copy_of(&heap, &filled(&rt, rt.alloc())?)?;
-    assert_kept(&rt, rt.alloc(), &interner)?;
+/// Copies an interner of one owner that has so many texts. Asserts that each keeps its number, that a handle that hears of them knows them, and
+/// that a new text gets another symbol.
+fn assert_copied(rt: &impl Abort, alloc: Global, count: u32) -> Result<(), AllocError> {
+    let texts = texts_below(alloc, u64::from(count))?;
+    let symbols = symbols_to(rt, alloc, count)?;
+    let filled = filled(rt, alloc, texts.as_slice())?;
+    let heap = counted(alloc);
+    let Shared { interner, known } = SharedInterner::copy_of(&heap, &filled)?;
+    assert_has(rt, &interner, texts.as_slice(), symbols.as_slice());
     let mut names = interner.names();
     names.hear(&known);
-    assert_same(&rt, names.get("1").map(|s: Symbol| s.to_u32()), Some(2));
-    assert_same(&rt, names.intern("a new text")?.to_u32(), TEXTS + 1);
+    if let (Some(text), Some(symbol)) = (texts.last(), symbols.last()) {
+        assert_same(rt, names.get(text.as_str()), Some(*symbol));
+    }
+    assert!(rt; count < names.intern("a new text")?.to_u32());
     drop(names);
     drop(known);
     drop(interner);
-    assert_none_out(&rt, &heap);
+    assert_none_out(rt, &heap);
     Ok(())
 }
+
+#[test]
+fn texts_keep_their_numbers(rt: HostRuntime) -> Result<(), Fail> {
+    for count in COUNTS {
+        assert_copied(&rt, rt.alloc(), count)?;
+    }
+    Ok(())
+}
+
+/// How many texts are copied where a request is refused.
+const FEW: u32 = 100;
 
 /// Each request is refused in turn, and then nothing is left.
 #[test]
 fn a_refused_copy_leaves_nothing(rt: HostRuntime) -> Result<(), Fail> {
-    let texts = filled(&rt, rt.alloc())?;
+    let texts = texts_below(rt.alloc(), u64::from(FEW))?;
+    let symbols = symbols_to(&rt, rt.alloc(), FEW)?;
+    let filled = filled(&rt, rt.alloc(), texts.as_slice())?;
     let mut refused: u64 = 0;
     for granted in 0u64..200 {
         let heap = Refusing::new(rt.alloc(), Rule::new(0, usize::MAX, granted, 1));
-        match SharedInterner::copy_of(&heap, &texts) {
-            Ok(shared) => assert_kept(&rt, rt.alloc(), &shared.interner)?,
+        match SharedInterner::copy_of(&heap, &filled) {
+            Ok(shared) => {
+                assert_has(&rt, &shared.interner, texts.as_slice(), symbols.as_slice());
+            }
             Err(_) => refused = refused.wrapping_add(1),
         }
         assert_none_out(&rt, &heap);

@@ -1,8 +1,10 @@
 //! Threads that intern the same texts.
 use super::caller::{
-    Interner, assert_named, assert_none_out, assert_same, counted, interner_with, text_of,
+    Interner, assert_has, assert_named, assert_none_out, assert_same, counted, interner_with,
+    symbols_of, texts_below,
 };
 use shared_interner::Symbol;
+use shared_interner::example::{Given, intern_by_two};
 use std::alloc::{AllocError, Global};
 use std::process::Abort;
 use std::test::Fail;
@@ -16,11 +18,10 @@ const TEXTS: u64 = 500;
 const THREADS: usize = 4;
 
 /// Interns each text. Each thread begins with another one, and two of them have no handle.
-fn intern_from(interner: &Interner<'_>, alloc: Global, thread: usize) -> Result<(), AllocError> {
+fn intern_from(interner: &Interner<'_>, texts: &[String], thread: usize) -> Result<(), AllocError> {
     let mut names = interner.names();
-    for passed in 0..TEXTS {
-        let number = (passed + thread as u64 % 8 * 125) % TEXTS;
-        let text = text_of(alloc, number)?;
+    let first = thread % THREADS * 125;
+    for text in texts.iter().skip(first).chain(texts.iter().take(first)) {
         if thread % 2 == 0 {
             names.intern(text.as_str())?;
         } else {
@@ -34,48 +35,28 @@ fn intern_from(interner: &Interner<'_>, alloc: Global, thread: usize) -> Result<
 fn symbols_by(
     interner: &Interner<'_>,
     alloc: Global,
+    texts: &[String],
     thread: usize,
 ) -> Result<Vec<Symbol>, AllocError> {
-    intern_from(interner, alloc, thread)?;
-    let mut symbols = Vec::new(alloc);
-    for number in 0..TEXTS {
-        symbols.push(interner.intern(text_of(alloc, number)?.as_str())?)?;
-    }
-    Ok(symbols)
-}
-
-/// Asserts that each text has its symbol.
-fn assert_all(
-    rt: &impl Abort,
-    alloc: Global,
-    interner: &Interner<'_>,
-    symbols: &[Symbol],
-) -> Result<(), AllocError> {
-    let mut number: u64 = 0;
-    for symbol in symbols {
-        let text = text_of(alloc, number)?;
-        assert_named(rt, interner, text.as_str(), *symbol);
-        number = number.wrapping_add(1);
-    }
-    assert_same(rt, number, TEXTS);
-    Ok(())
+    intern_from(interner, texts, thread)?;
+    symbols_of(alloc, interner, texts)
 }
 
 /// All threads have the same symbols, and there is one of each text.
 fn assert_one_symbol<R: Threads + Abort + Sync>(rt: &R, alloc: Global) -> Result<(), AllocError> {
     let heap = counted(alloc);
     let interner = interner_with(rt, &heap, 0);
+    let texts = texts_below(alloc, TEXTS)?;
     let told = thread::map_indices(
         rt,
         alloc,
         THREADS,
-        &|thread: usize| symbols_by(&interner, alloc, thread),
+        &|thread: usize| symbols_by(&interner, alloc, texts.as_slice(), thread),
     )?;
     assert_same(rt, told.len(), THREADS);
     for symbols in told {
-        assert_all(rt, alloc, &interner, symbols?.as_slice())?;
+        assert_has(rt, &interner, texts.as_slice(), symbols?.as_slice());
     }
-    assert_same(rt, interner.len(), TEXTS);
     drop(interner);
     assert_none_out(rt, &heap);
     Ok(())
@@ -87,4 +68,44 @@ fn threads_have_one_symbol_of_a_text(rt: HostRuntime) -> Result<(), Fail> {
         assert_one_symbol(&rt, rt.alloc())?;
     }
     Ok(())
+}
+
+/// The texts that two threads are given at once: one that lies in the slot of its entry, and one that doesn't.
+const GIVEN: [&str; 2] = ["a", "a text that lies in a block of its own"];
+
+/// Two threads that intern one text at once are given one symbol. A handle that hears of it knows the text.
+#[test]
+fn two_threads_are_given_one_symbol(rt: HostRuntime) -> Result<(), Fail> {
+    let heap = counted(rt.alloc());
+    let interner = interner_with(&rt, &heap, 0);
+    for text in GIVEN {
+        let (Given { symbol, known }, other) = intern_by_two(&rt, &interner, text)?;
+        assert_same(&rt, other, symbol);
+        let mut names = interner.names();
+        names.hear(&known);
+        assert_same(&rt, names.text(symbol), Some(text));
+        assert_named(&rt, &interner, text, symbol);
+    }
+    assert_same(&rt, interner.len(), GIVEN.len() as u64);
+    drop(interner);
+    assert_none_out(&rt, &heap);
+    Ok(())
+}
+
+/// Where a request of one of them is refused, nothing is left.
+#[test]
+fn two_threads_leave_nothing_where_memory_is_refused(rt: HostRuntime) {
+    let mut refused: u64 = 0;
+    for granted in 0u64..20 {
+        let heap = counted(rt.alloc());
+        let interner = interner_with(&rt, &heap, 0);
+        heap.refuse(granted, 1);
+        match intern_by_two(&rt, &interner, GIVEN[1]) {
+            Ok((given, other)) => assert_same(&rt, other, given.symbol),
+            Err(_) => refused = refused.wrapping_add(1),
+        }
+        drop(interner);
+        assert_none_out(&rt, &heap);
+    }
+    assert!(&rt; 0 < refused && refused < 20, "{refused} refused");
 }

@@ -1,0 +1,94 @@
+//! Walks over the texts.
+use super::caller::{
+    Interner, assert_none_out, assert_same, counted, interner_with, symbols_of, texts_below,
+};
+use shared_interner::Symbol;
+use std::alloc::{AllocError, Global};
+use std::process::Abort;
+use std::test::Fail;
+
+/// How many texts there are, and how many of them are known as a walk begins.
+const WALKS: [(u64, usize); 7] = [
+    (0, 0),
+    (1, 1),
+    (9, 9),
+    (300, 300),
+    (9, 1),
+    (64, 1),
+    (1000, 100),
+];
+
+/// Interns the first so many texts, and returns what a walk gives. At each step another handle is told what the walk knows, and interns one
+/// of the other texts, as long as there are any.
+fn walked<'i>(
+    rt: &impl Abort,
+    alloc: Global,
+    interner: &'i Interner<'_>,
+    texts: &[String],
+    known: usize,
+) -> Result<Vec<(Symbol, &'i str)>, AllocError> {
+    let mut names = interner.names();
+    for text in texts.iter().take(known) {
+        names.intern(text.as_str())?;
+    }
+    let mut more = texts.iter().skip(known);
+    let mut pairs = Vec::new(alloc);
+    let mut walk = names.iter();
+    while let Some((symbol, text)) = walk.next() {
+        pairs.push((symbol, text))?;
+        let mut other = interner.names();
+        other.hear(&walk.tell());
+        assert_same(rt, other.get(text), Some(symbol));
+        if let Some(text) = more.next() {
+            other.intern(text.as_str())?;
+        }
+    }
+    assert_same(rt, walk.next(), None);
+    Ok(pairs)
+}
+
+/// Asserts that the pairs are texts with their symbols, that none comes twice, and that each of the first so many texts comes.
+fn assert_once(
+    rt: &impl Abort,
+    pairs: &[(Symbol, &str)],
+    texts: &[String],
+    symbols: &[Symbol],
+    known: usize,
+) {
+    let mut met: usize = 0;
+    for (place, (text, symbol)) in texts.iter().zip(symbols.iter()).enumerate() {
+        let pair = (*symbol, text.as_str());
+        let times = pairs.iter().filter(|other| **other == pair).count();
+        assert!(rt; times == 1 || times == 0 && known <= place);
+        met = met.wrapping_add(times);
+    }
+    assert_same(rt, met, pairs.len());
+}
+
+/// Asserts that a walk gives each text once that was known as it began, and no other text twice.
+fn assert_walk(
+    rt: &impl Abort,
+    alloc: Global,
+    interner: &Interner<'_>,
+    texts: &[String],
+    known: usize,
+) -> Result<(), AllocError> {
+    let pairs = walked(rt, alloc, interner, texts, known)?;
+    let symbols = symbols_of(alloc, interner, texts)?;
+    assert_once(rt, pairs.as_slice(), texts, symbols.as_slice(), known);
+    Ok(())
+}
+
+/// A walk gives each text with its symbol, also while texts are interned and the interner grows.
+#[test]
+fn a_walk_gives_each_text_once(rt: HostRuntime) -> Result<(), Fail> {
+    for (count, known) in WALKS {
+        let texts = texts_below(rt.alloc(), count)?;
+        let heap = counted(rt.alloc());
+        let interner = interner_with(&rt, &heap, 0);
+        assert_walk(&rt, rt.alloc(), &interner, texts.as_slice(), known)?;
+        drop(interner);
+        assert_none_out(&rt, &heap);
+    }
+    Ok(())
+}
