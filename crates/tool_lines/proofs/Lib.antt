@@ -8,3 +8,4 @@ pub mod Taken
 mod Doubling
 mod Kept
 mod Replies
+mod Tools

@@ -11,3 +11,4 @@ pub mod Fibonacci
 pub mod Memo
 pub mod Replies
 pub mod MemoArguments
+pub mod Parts

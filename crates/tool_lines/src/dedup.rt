@@ -29,7 +29,7 @@ impl<A: Allocator + Copy> LineTool for Seen<'_, A> {
 }
 
 /// Writes the line with a line break.
-fn write_line<W: Write>(line: &[u8], output: &mut W) -> Result<(), Fault>
+pub(crate) fn write_line<W: Write>(line: &[u8], output: &mut W) -> Result<(), Fault>
     ensures { OnOk result (Appends (W.contents output.old) (W.contents output.new)
         (with_break line.now)) }
 {

@@ -1,8 +1,10 @@
 //! The faults that end a tool before its input does.
 ghost use Rattle.std.specs.Prelude.{◌≡◌, Some};
 ghost use Rattle.tool_lines.specs.Faults.{message_of, status_of, is_of_text};
+ghost use Rattle.tool_streams.specs.declared.faults.StreamFault.{StreamFault as StreamFaultOf};
 ghost use Rattle.tool_lines.specs.declared.faults.Fault.{Fault as FaultOf};
 
+use std::alloc::AllocError;
 use std::fmt;
 use tool_streams::faults::{RunFault, StreamFault};
 
@@ -40,6 +42,14 @@ impl From<StreamFault> for Fault {
 
     fn from(fault: StreamFault) -> Fault {
         Fault::Stream(fault)
+    }
+}
+
+impl From<AllocError> for Fault {
+    ghost from_gives = { λ _ r. r ≡ FaultOf.Stream StreamFaultOf.NoMemory };
+
+    fn from(_refused: AllocError) -> Fault {
+        Fault::Stream(StreamFault::NoMemory)
     }
 }
 

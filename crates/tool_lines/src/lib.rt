@@ -13,6 +13,7 @@ pub mod memo_lines;
 pub mod memo_program;
 pub mod memo_shared;
 pub mod memo_threads;
+pub mod parallel;
 pub mod program;
 pub mod seen;
 pub mod texts;

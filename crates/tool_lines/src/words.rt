@@ -49,7 +49,7 @@ fn count_words<A: Allocator + Copy>(
 }
 
 /// Splits the text after its first word. Returns `None` if there is no word.
-fn first_word(text: &[u8]) -> Option<(&[u8], &[u8])>
+pub(crate) fn first_word(text: &[u8]) -> Option<(&[u8], &[u8])>
     ensures word { IfSome result (λ cut. words_of text.now ≡ cut.0.now ∷ words_of cut.1.now) }
     ensures shorter { IfSome result (λ cut. length cut.1.now < length text.now) }
     ensures none { IfNone result (words_of text.now ≡ []) }

@@ -2,20 +2,19 @@
 #![tactic(auto)]
 
 use std::process::ExitCode;
-use tool_lines::program::run_program;
+use tool_lines::program::{Host, PIECE, run_program};
 use tool_lines::texts::SystemFiles;
 
 fn main(rt: HostRuntime) -> ExitCode {
     let files = SystemFiles { files: &rt };
     let mut output = rt.stdout();
     let mut messages = rt.stderr();
-    let status = run_program(
-        &rt,
-        &files,
-        rt.alloc(),
-        rt.stdin(),
-        &mut output,
-        &mut messages,
-    );
+    let host = Host {
+        rt: &rt,
+        files: &files,
+        alloc: rt.alloc(),
+        piece: PIECE,
+    };
+    let status = run_program(&rt, &host, rt.stdin(), &mut output, &mut messages);
     ExitCode::from(status)
 }

@@ -6,26 +6,30 @@ mod memory;
 mod program;
 mod streams;
 mod texts;
+mod threads;
 
 use std::alloc::{Allocator, Global};
 use std::io;
 use std::io::{ErrorKind, Read, Write};
 use std::process::Abort;
 use std::test::Fail;
-use tool_lines::program::run_over;
+use std::thread::Threads;
+use tool_lines::program::{Host, PIECE, run_over};
 use tool_lines::texts::TextFiles;
 
 /// How the program is called.
 const USAGE: &str =
-    "usage: tool_text words [FILE..] | tool_text dedup [FILE..] | tool_text --help\n";
+    "usage: tool_text words [--threads N] [FILE..] | tool_text dedup [--threads N] [FILE..] | tool_text --help\n";
 
 /// What the program says of itself.
-const HELP: &str = "usage: tool_text words [FILE..] | tool_text dedup [FILE..] | tool_text --help
+const HELP: &str =
+    "usage: tool_text words [--threads N] [FILE..] | tool_text dedup [--threads N] [FILE..] | tool_text --help
 
   words  counts the words: for each different word its number, the word and its count
   dedup  writes each different line once, in the order of first appearance
 
 Without a FILE, or where FILE is -, standard input is read. After -- each word is a FILE.
+N threads, from 1 to 64, read in large pieces, and write what one thread writes.
 ";
 
 /// What a run printed, and its status.
@@ -68,33 +72,61 @@ impl TextFiles for Shelf {
 }
 
 /// Runs the tools as these words ask, over files and an input, on memory of an allocator, and answers the status.
-fn run_into<A: Allocator + Copy, I: Read + Drop, O: Write>(
-    shelf: &Shelf,
-    alloc: A,
+fn run_into<R: Threads + Sync, A: Allocator + Copy + Send + Sync, I: Read + Drop, O: Write>(
+    host: &Host<'_, R, Shelf, A>,
     words: &[&str],
     input: I,
     output: &mut O,
     messages: &mut Vec<u8>,
 ) -> u8 {
-    run_over(shelf, alloc, words, input, output, messages)
+    run_over(host, words, input, output, messages)
+}
+
+/// What a run over the files stands on, whose pieces have as many bytes as in the program.
+fn host_of<'a, R, A>(rt: &'a R, files: &'a Shelf, alloc: A) -> Host<'a, R, Shelf, A> {
+    Host {
+        rt,
+        files,
+        alloc,
+        piece: PIECE,
+    }
 }
 
 /// Runs the tool of this name over an input, into a writer of the caller's.
-fn run_writing<I: Read + Drop, O: Write>(
+fn run_writing<R: Threads + Sync, I: Read + Drop, O: Write>(
+    rt: &R,
     heap: Global,
     tool: &str,
     input: I,
     output: &mut O,
 ) -> (u8, Vec<u8>) {
     let mut messages = Vec::new(heap);
-    let status = run_into(&EMPTY_SHELF, heap, &[tool], input, output, &mut messages);
+    let status = run_into(
+        &host_of(rt, &EMPTY_SHELF, heap),
+        &[tool],
+        input,
+        output,
+        &mut messages,
+    );
     (status, messages)
 }
 
 /// Runs the tools as these words ask, over files and an input in memory.
-fn run_files(heap: Global, shelf: &Shelf, words: &[&str], input: &[u8]) -> Ended {
+fn run_files<R: Threads + Sync>(
+    rt: &R,
+    heap: Global,
+    shelf: &Shelf,
+    words: &[&str],
+    input: &[u8],
+) -> Ended {
     let (mut output, mut messages) = (Vec::new(heap), Vec::new(heap));
-    let status = run_into(shelf, heap, words, input, &mut output, &mut messages);
+    let status = run_into(
+        &host_of(rt, shelf, heap),
+        words,
+        input,
+        &mut output,
+        &mut messages,
+    );
     Ended {
         status,
         output,
@@ -103,7 +135,8 @@ fn run_files(heap: Global, shelf: &Shelf, words: &[&str], input: &[u8]) -> Ended
 }
 
 /// Runs the tool of this name over an input, on memory of an allocator.
-fn run_on<A: Allocator + Copy, I: Read + Drop>(
+fn run_on<R: Threads + Sync, A: Allocator + Copy + Send + Sync, I: Read + Drop>(
+    rt: &R,
     heap: Global,
     tool: &str,
     alloc: A,
@@ -111,8 +144,7 @@ fn run_on<A: Allocator + Copy, I: Read + Drop>(
 ) -> Ended {
     let (mut output, mut messages) = (Vec::new(heap), Vec::new(heap));
     let status = run_into(
-        &EMPTY_SHELF,
-        alloc,
+        &host_of(rt, &EMPTY_SHELF, alloc),
         &[tool],
         input,
         &mut output,

@@ -6,6 +6,7 @@ use std::io;
 use std::io::{Read, Write};
 use std::process::Abort;
 use std::test::Fail;
+use std::thread::Threads;
 
 /// The bytes that are asked of the input at once.
 const READ: usize = 65536;
@@ -56,7 +57,7 @@ impl Write for CountedWrites<'_> {
 }
 
 /// Asserts that a tool asks at most once for each block of its input and its output, and once or twice for the ends.
-fn assert_by_blocks(rt: &impl Abort, heap: Global, tool: &str, text: &str) {
+fn assert_by_blocks(rt: &(impl Abort + Threads + Sync), heap: Global, tool: &str, text: &str) {
     let (reads, writes, written) = (Cell::new(0), Cell::new(0), Cell::new(0));
     let input = CountedReads {
         rest: text.as_bytes(),
@@ -66,7 +67,7 @@ fn assert_by_blocks(rt: &impl Abort, heap: Global, tool: &str, text: &str) {
         calls: &writes,
         bytes: &written,
     };
-    let (status, _) = run_writing(heap, tool, input, &mut output);
+    let (status, _) = run_writing(rt, heap, tool, input, &mut output);
     assert_status(rt, status, 0);
     assert!(rt; written.get() >= text.len());
     assert!(rt; reads.get() <= text.len() / READ + 3);

@@ -4,6 +4,7 @@ use std::alloc::Global;
 use std::io;
 use std::process::Abort;
 use std::test::Fail;
+use std::thread::Threads;
 use std::time::{Clock, Duration, Instant};
 
 /// `Aa` and `BB` have one hash where a hash takes 31 times what came before, and so have all words of as many of them.
@@ -43,9 +44,13 @@ fn all_words(heap: Global, parts: [&str; 2]) -> Result<String, Fail> {
 }
 
 /// How long it takes to count these words, each of which is a line of its own.
-fn time_of<R: Clock + Abort>(rt: &R, heap: Global, text: &str) -> io::Result<Duration> {
+fn time_of<R: Clock + Abort + Threads + Sync>(
+    rt: &R,
+    heap: Global,
+    text: &str,
+) -> io::Result<Duration> {
     let start = Instant::now(rt)?;
-    let ended = run_on(heap, WORDS, heap, text.as_bytes());
+    let ended = run_on(rt, heap, WORDS, heap, text.as_bytes());
     let end = Instant::now(rt)?;
     let lines = ended.output.as_slice().iter();
     let count = lines.filter(|byte| **byte == b'\n').count();
@@ -55,7 +60,11 @@ fn time_of<R: Clock + Abort>(rt: &R, heap: Global, text: &str) -> io::Result<Dur
 }
 
 /// The least time of several tries.
-fn least_time_of<R: Clock + Abort>(rt: &R, heap: Global, text: &str) -> io::Result<Duration> {
+fn least_time_of<R: Clock + Abort + Threads + Sync>(
+    rt: &R,
+    heap: Global,
+    text: &str,
+) -> io::Result<Duration> {
     let mut least = time_of(rt, heap, text)?;
     for _again in 1..TRIES {
         least = least.min(time_of(rt, heap, text)?);

@@ -2,9 +2,10 @@
 use super::{HELP, Shelf, assert_ended, run_files};
 use std::alloc::Global;
 use std::process::Abort;
+use std::thread::Threads;
 
 /// Two files without a last line break, one that is no text, and one that is empty.
-const SHELF: Shelf = Shelf {
+pub(super) const SHELF: Shelf = Shelf {
     files: &[
         ("one", b"b a\nb"),
         ("two", b"b\nc"),
@@ -16,10 +17,10 @@ const SHELF: Shelf = Shelf {
 };
 
 /// Words, what they write over the input `b d` and a line break, what they say, and the status.
-type Row = (&'static [&'static str], &'static str, &'static str, u8);
+pub(super) type Row = (&'static [&'static str], &'static str, &'static str, u8);
 
 /// A file ends its last line: the lines of the next one are others.
-const RUNS: [Row; 17] = [
+pub(super) const RUNS: [Row; 17] = [
     (&["words", "one"], "1 b 2\n2 a 1\n", "", 0),
     (&["words", "one", "two"], "1 b 3\n2 a 1\n3 c 1\n", "", 0),
     (&["dedup", "one", "two"], "b a\nb\nc\n", "", 0),
@@ -57,9 +58,9 @@ const RUNS: [Row; 17] = [
 ];
 
 /// Asserts what a run over the files writes, says and ends with.
-fn assert_runs(rt: &impl Abort, heap: Global, row: &Row) {
+fn assert_runs(rt: &(impl Abort + Threads + Sync), heap: Global, row: &Row) {
     let (words, written, said, status) = *row;
-    let ended = run_files(heap, &SHELF, words, b"b d\n");
+    let ended = run_files(rt, heap, &SHELF, words, b"b d\n");
     assert_ended(rt, &ended, written.as_bytes(), said, status);
 }
 

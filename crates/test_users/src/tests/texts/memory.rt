@@ -3,6 +3,7 @@ use super::{DEDUP, WORDS, assert_ended, assert_status, numbered_lines, run_on};
 use std::alloc::Global;
 use std::process::Abort;
 use std::test::Fail;
+use std::thread::Threads;
 use testkit::refusing::{Refusing, Rule};
 
 /// Lines and words enough for a second generation of a table.
@@ -18,9 +19,15 @@ const ENOUGH: u64 = 200;
 
 /// Runs the tool while the request after so many is refused. Says whether one was. A run that ends well has written all; one that
 /// was refused memory has written a first part, and of `words` nothing.
-fn is_refused_after(rt: &impl Abort, heap: Global, tool: &str, all: &[u8], granted: u64) -> bool {
+fn is_refused_after(
+    rt: &(impl Abort + Threads + Sync),
+    heap: Global,
+    tool: &str,
+    all: &[u8],
+    granted: u64,
+) -> bool {
     let memory = Refusing::new(heap, Rule::new(0, usize::MAX, granted, 1));
-    let ended = run_on(heap, tool, &memory, TEXT);
+    let ended = run_on(rt, heap, tool, &memory, TEXT);
     if ended.status == 0 {
         assert_ended(rt, &ended, all, "", 0);
     } else {
@@ -33,7 +40,7 @@ fn is_refused_after(rt: &impl Abort, heap: Global, tool: &str, all: &[u8], grant
 }
 
 /// How many requests a run makes, each refused in turn.
-fn requests_of(rt: &impl Abort, heap: Global, tool: &str, all: &[u8]) -> u64 {
+fn requests_of(rt: &(impl Abort + Threads + Sync), heap: Global, tool: &str, all: &[u8]) -> u64 {
     for granted in 0..ENOUGH {
         if !is_refused_after(rt, heap, tool, all, granted) {
             return granted;
@@ -50,9 +57,14 @@ const LONG: usize = 600;
 
 /// Runs `dedup` over different lines while each request after so many is refused, and says how many it has written. They are the
 /// first ones, each whole, and all of them where the run ends well.
-fn lines_before(rt: &impl Abort, heap: Global, text: &[u8], granted: u64) -> usize {
+fn lines_before(
+    rt: &(impl Abort + Threads + Sync),
+    heap: Global,
+    text: &[u8],
+    granted: u64,
+) -> usize {
     let memory = Refusing::new(heap, Rule::new(0, usize::MAX, granted, u64::MAX));
-    let ended = run_on(heap, DEDUP, &memory, text);
+    let ended = run_on(rt, heap, DEDUP, &memory, text);
     let written = ended.output.as_slice();
     assert!(rt; text.starts_with(written));
     assert!(rt; written.is_empty() || written.ends_with(b"\n"));

@@ -1,7 +1,8 @@
 //! The words that the program was called with.
-use super::{Ended, HELP, Shelf, USAGE, assert_ended};
+use super::{Ended, HELP, Shelf, USAGE, assert_ended, host_of};
 use std::alloc::{Allocator, Global};
 use std::process::Abort;
+use std::thread::Threads;
 use testkit::refusing::{Refusing, Rule};
 use testkit::streams::Called;
 use tool_lines::program::run_program;
@@ -32,9 +33,20 @@ const SHELF: Shelf = Shelf {
 };
 
 /// Runs the program that is called so, over an input.
-fn run_called<A: Allocator + Copy>(heap: Global, called: &Called<A>, input: &[u8]) -> Ended {
+fn run_called<R: Threads + Sync, A: Allocator + Copy>(
+    rt: &R,
+    heap: Global,
+    called: &Called<A>,
+    input: &[u8],
+) -> Ended {
     let (mut output, mut messages) = (Vec::new(heap), Vec::new(heap));
-    let status = run_program(called, &SHELF, heap, input, &mut output, &mut messages);
+    let status = run_program(
+        called,
+        &host_of(rt, &SHELF, heap),
+        input,
+        &mut output,
+        &mut messages,
+    );
     Ended {
         status,
         output,
@@ -43,9 +55,9 @@ fn run_called<A: Allocator + Copy>(heap: Global, called: &Called<A>, input: &[u8
 }
 
 /// Asserts what the program prints, says and ends with that is called so.
-fn assert_row(rt: &impl Abort, alloc: Global, row: &Row) {
+fn assert_row(rt: &(impl Abort + Threads + Sync), alloc: Global, row: &Row) {
     let (arguments, printed, said, status) = *row;
-    let ended = run_called(alloc, &Called { arguments, alloc }, b"in in\n");
+    let ended = run_called(rt, alloc, &Called { arguments, alloc }, b"in in\n");
     assert_ended(rt, &ended, printed.as_bytes(), said, status);
 }
 
@@ -60,13 +72,13 @@ const CALLED: &[&[u8]] = &[b"tool_text", b"words", b"file"];
 
 /// Runs a tool while one request for the memory of its words is refused, the one after so many. How often it was told so, and
 /// nothing was written; where it isn't, that memory was not needed.
-fn told_after(rt: &impl Abort, heap: Global, granted: u64) -> u64 {
+fn told_after(rt: &(impl Abort + Threads + Sync), heap: Global, granted: u64) -> u64 {
     let memory = Refusing::new(heap, Rule::new(0, usize::MAX, granted, 1));
     let called = Called {
         arguments: CALLED,
         alloc: &memory,
     };
-    let ended = run_called(heap, &called, b"");
+    let ended = run_called(rt, heap, &called, b"");
     if ended.status == 0 {
         assert_ended(rt, &ended, b"1 of 1\n", "", 0);
         return 0;

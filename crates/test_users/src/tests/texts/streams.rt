@@ -7,6 +7,7 @@ use std::io;
 use std::io::{ErrorKind, Read, Write};
 use std::process::Abort;
 use std::test::Fail;
+use std::thread::Threads;
 use testkit::streams::Failing;
 
 const INPUT: &[u8] = b"one\ntwo\none\n\nthree\ntwo";
@@ -23,9 +24,15 @@ fn deduped_of(bytes: usize) -> &'static [u8] {
 }
 
 /// Asserts what `dedup` writes where so many reads are given and the next one fails, if it is made.
-fn assert_given(rt: &impl Abort, heap: Global, at_once: usize, given: usize, fails: bool) {
+fn assert_given(
+    rt: &(impl Abort + Threads + Sync),
+    heap: Global,
+    at_once: usize,
+    given: usize,
+    fails: bool,
+) {
     let input = Failing::new(INPUT, at_once, given as u64).interrupted();
-    let ended = run_on(heap, DEDUP, heap, input);
+    let ended = run_on(rt, heap, DEDUP, heap, input);
     let wanted = deduped_of(given.saturating_mul(at_once));
     let (messages, status) = if fails {
         ("dedup: read failed\n", 1)
@@ -40,7 +47,12 @@ fn assert_given(rt: &impl Abort, heap: Global, at_once: usize, given: usize, fai
 const CALLS: [(usize, usize); 4] = [(1, 23), (2, 12), (7, 5), (100, 2)];
 
 /// A reader that fails at each of so many calls, which give so many bytes at once.
-fn fail_at_each_call(rt: &impl Abort, heap: Global, at_once: usize, calls: usize) {
+fn fail_at_each_call(
+    rt: &(impl Abort + Threads + Sync),
+    heap: Global,
+    at_once: usize,
+    calls: usize,
+) {
     for given in 0..=calls {
         assert_given(rt, heap, at_once, given, given < calls);
     }
@@ -57,7 +69,7 @@ fn a_reader_that_fails_at_each_call(rt: HostRuntime) {
 fn words_of_a_reader_that_fails_are_not_written(rt: HostRuntime) {
     for given in 0..5 {
         let input = Failing::new(INPUT, 7, given).interrupted();
-        let ended = run_on(rt.alloc(), WORDS, rt.alloc(), input);
+        let ended = run_on(&rt, rt.alloc(), WORDS, rt.alloc(), input);
         assert_ended(&rt, &ended, b"", "words: read failed\n", 1);
     }
 }
@@ -85,9 +97,15 @@ impl Write for Full {
 }
 
 /// Asserts how a tool ends whose output takes so many bytes.
-fn assert_fills(rt: &impl Abort, heap: Global, tool: &str, room: usize, message: &str) {
+fn assert_fills(
+    rt: &(impl Abort + Threads + Sync),
+    heap: Global,
+    tool: &str,
+    room: usize,
+    message: &str,
+) {
     let then = ErrorKind::StorageFull;
-    let (status, messages) = run_writing(heap, tool, INPUT, &mut Full { room, then });
+    let (status, messages) = run_writing(rt, heap, tool, INPUT, &mut Full { room, then });
     assert_bytes(rt, messages.as_slice(), message.as_bytes());
     assert_status(rt, status, if message.is_empty() { 0 } else { 1 });
 }
@@ -114,7 +132,7 @@ fn where_the_reader_has_gone_there_is_no_message(rt: HostRuntime) {
     for tool in [WORDS, DEDUP] {
         let then = ErrorKind::BrokenPipe;
         let mut output = Full { room: 3, then };
-        let (status, messages) = run_writing(rt.alloc(), tool, INPUT, &mut output);
+        let (status, messages) = run_writing(&rt, rt.alloc(), tool, INPUT, &mut output);
         assert!(rt; messages.is_empty());
         assert_status(&rt, status, 1);
     }
@@ -126,7 +144,11 @@ fn busy() -> io::Error {
 }
 
 /// Asserts what stands in a log.
-fn assert_holds<T: PartialEq + Debug>(rt: &impl Abort, log: &RefCell<Vec<T>>, wanted: &[T]) {
+fn assert_holds<T: PartialEq + Debug>(
+    rt: &(impl Abort + Threads + Sync),
+    log: &RefCell<Vec<T>>,
+    wanted: &[T],
+) {
     match log.try_borrow() {
         Ok(held) => assert_eq!(rt; held.as_slice(), wanted),
         Err(_) => assert!(rt; false),
@@ -191,7 +213,12 @@ const BY_HALVES: (&[&[u8]], &[usize]) = (
 );
 
 /// Asserts what `dedup` has written before each call of a reader that gives these pieces.
-fn assert_written_before(rt: &impl Abort, heap: Global, pieces: &[&[u8]], before: &[usize]) {
+fn assert_written_before(
+    rt: &(impl Abort + Threads + Sync),
+    heap: Global,
+    pieces: &[&[u8]],
+    before: &[usize],
+) {
     let written = RefCell::new(Vec::new(heap));
     let seen = RefCell::new(Vec::new(heap));
     let input = Watching {
@@ -200,7 +227,7 @@ fn assert_written_before(rt: &impl Abort, heap: Global, pieces: &[&[u8]], before
         seen: &seen,
     };
     let mut output = Shown { written: &written };
-    let (status, _) = run_writing(heap, DEDUP, input, &mut output);
+    let (status, _) = run_writing(rt, heap, DEDUP, input, &mut output);
     assert_status(rt, status, 0);
     assert_holds(rt, &seen, before);
     assert_holds(rt, &written, b"one\ntwo\n\nthree\n".as_slice());

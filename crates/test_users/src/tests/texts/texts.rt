@@ -2,9 +2,10 @@
 use super::{DEDUP, EMPTY_SHELF, USAGE, WORDS, assert_ended, run_files, run_on};
 use std::alloc::Global;
 use std::process::Abort;
+use std::thread::Threads;
 
 /// Texts, and what `words` writes.
-const TEXTS: [(&str, &str); 8] = [
+pub(super) const TEXTS: [(&str, &str); 8] = [
     ("", ""),
     (" \t\n\r\u{c}\n", ""),
     ("a", "1 a 1\n"),
@@ -19,7 +20,7 @@ const TEXTS: [(&str, &str); 8] = [
 ];
 
 /// Inputs that are no text, and the line that is named.
-const NO_TEXT: [(&[u8], &str); 4] = [
+pub(super) const NO_TEXT: [(&[u8], &str); 4] = [
     (b"\xff", "words: line 1 is not UTF-8\n"),
     (b"a b\nc \xc3\n", "words: line 2 is not UTF-8\n"),
     (b"\xe8\xaa\n\x9e", "words: line 1 is not UTF-8\n"),
@@ -27,7 +28,7 @@ const NO_TEXT: [(&[u8], &str); 4] = [
 ];
 
 /// Inputs, and what `dedup` writes.
-const LINES: [(&[u8], &[u8]); 8] = [
+pub(super) const LINES: [(&[u8], &[u8]); 8] = [
     (b"", b""),
     (b"\n", b"\n"),
     (b"a", b"a\n"),
@@ -39,8 +40,14 @@ const LINES: [(&[u8], &[u8]); 8] = [
 ];
 
 /// Asserts what the tool writes of an input in memory, and that it says nothing else.
-fn assert_writes(rt: &impl Abort, heap: Global, tool: &str, input: &[u8], output: &[u8]) {
-    let ended = run_on(heap, tool, heap, input);
+fn assert_writes(
+    rt: &(impl Abort + Threads + Sync),
+    heap: Global,
+    tool: &str,
+    input: &[u8],
+    output: &[u8],
+) {
+    let ended = run_on(rt, heap, tool, heap, input);
     assert_ended(rt, &ended, output, "", 0);
 }
 
@@ -61,7 +68,7 @@ fn each_different_line_is_written_once(rt: HostRuntime) {
 #[test]
 fn a_line_that_is_no_text_is_named(rt: HostRuntime) {
     for (input, message) in NO_TEXT {
-        let ended = run_on(rt.alloc(), WORDS, rt.alloc(), input);
+        let ended = run_on(&rt, rt.alloc(), WORDS, rt.alloc(), input);
         assert_ended(&rt, &ended, b"", message, 2);
     }
 }
@@ -78,8 +85,8 @@ const NO_TOOL: [&[&str]; 7] = [
 ];
 
 /// Asserts that nothing is read or written but the usage.
-fn assert_refused(rt: &impl Abort, heap: Global, words: &[&str]) {
-    let ended = run_files(heap, &EMPTY_SHELF, words, b"a");
+fn assert_refused(rt: &(impl Abort + Threads + Sync), heap: Global, words: &[&str]) {
+    let ended = run_files(rt, heap, &EMPTY_SHELF, words, b"a");
     assert_ended(rt, &ended, b"", USAGE, 2);
 }
 
