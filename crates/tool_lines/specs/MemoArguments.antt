@@ -1,6 +1,6 @@
 -- What the words after the name of `tool_memo` ask for.
-use Rattle.std.specs.Prelude.{◌≡◌, ℕ, ◌≤◌, List, [], ◌∷◌, codes}
-use Rattle.tool_streams.specs.Numbers.{Writes}
+use Rattle.std.specs.Prelude.{◌≡◌, ℕ, List, [], ◌∷◌, codes}
+use Rattle.tool_lines.specs.Tools.{IsThreadCount}
 use Rattle.tool_lines.specs.declared.memo_program.MemoRequest.{MemoRequest}
 use Rattle.tool_lines.specs.declared.memo_program.MemoRequest.TheVariants.{Lines, Batches}
 
@@ -8,14 +8,10 @@ use Rattle.tool_lines.specs.declared.memo_program.MemoRequest.TheVariants.{Lines
 abbrev pub memo_usage : List ℕ
 memo_usage = codes "usage: tool_memo [--threads N]"
 
--- as many threads as may be asked for
-abbrev pub IsThreadCount : ℕ → Type 0
-IsThreadCount n = (1 ≤ n) × (n ≤ 64)
-
 -- the words are one word alone, which is a number of threads
 abbrev pub NamesThreads : List (List ℕ) → ℕ → Type 0
 NamesThreads [] n = ⊥
-NamesThreads (word ∷ []) n = Writes 10 20 word n × IsThreadCount n
+NamesThreads (word ∷ []) n = IsThreadCount word n
 NamesThreads (word ∷ more ∷ words) n = ⊥
 
 -- no word, or `--threads` and a number of threads

@@ -1,11 +1,11 @@
 //! The program `tool_memo`, over its arguments and streams.
 ghost use Rattle.std.specs.Prelude.{◌≡◌, ◌⊎◌, ◌≤◌, ℕ, map, Some, IfSome, IfNone};
-ghost use Rattle.tool_streams.specs.Numbers.{Writes};
-ghost use Rattle.tool_lines.specs.MemoArguments.{memo_usage, AsksMemo, IsThreadCount, NamesThreads};
+ghost use Rattle.tool_lines.specs.MemoArguments.{memo_usage, AsksMemo, NamesThreads};
 ghost use Rattle.tool_lines.specs.declared.memo_program.MemoRequest.{MemoRequest as RequestOf};
 
 use crate::memo_lines::run_memo;
 use crate::memo_threads::run_memo_by;
+use crate::tool::parse_thread_count;
 use std::convert::AsStr;
 use std::fmt;
 use std::io::{Read, Write};
@@ -15,7 +15,6 @@ use table_cell::Low;
 use tool_streams::arguments::words_or_status;
 use tool_streams::faults::RunFault;
 use tool_streams::messages::end_with;
-use tool_streams::numbers::parse_decimal;
 
 /// The request that the arguments after the program's name make.
 #[derive(Clone, Copy)]
@@ -52,21 +51,6 @@ fn parse_threads<S: AsStr>(words: &[S]) -> Option<usize>
     match words {
         [word] => parse_thread_count(word.as_str().as_bytes()),
         _ => None,
-    }
-}
-
-/// Parses a number of threads, from 1 to 64.
-fn parse_thread_count(text: &[u8]) -> Option<usize>
-    ensures named { IfSome result (λ threads. Writes 10 20 text.now threads
-        × IsThreadCount threads) }
-    ensures wrong { IfNone result ((threads : ℕ)
-        → ¬ (Writes 10 20 text.now threads × IsThreadCount threads)) }
-{
-    let count = parse_decimal(text)?;
-    if 1 <= count && count <= 64 {
-        Some(count as usize)
-    } else {
-        None
     }
 }
 

@@ -108,7 +108,7 @@ fn take_count<S: AsStr>(words: &[S]) -> Option<(usize, &[S])>
 }
 
 /// Parses a number of threads: 1 to 64, in 1 to 20 decimal digits.
-fn parse_thread_count(text: &[u8]) -> Option<usize>
+pub(crate) fn parse_thread_count(text: &[u8]) -> Option<usize>
     ensures count { IfSome result (IsThreadCount text.now) }
     ensures none { IfNone result ((threads : ℕ) → ¬ IsThreadCount text.now threads) }
 {
