@@ -5,6 +5,6 @@ mod program;
 mod stop;
 mod sum;
 
-pub(crate) use plan::Plan;
+pub use plan::{End, Plan};
 pub use program::run_rounds;
-pub(crate) use stop::Stop;
+pub use stop::Stop;

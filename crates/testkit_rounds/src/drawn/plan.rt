@@ -12,7 +12,7 @@ const LARGE: u64 = 1_000_000;
 
 /// When no more rounds begin.
 #[derive(Clone, Copy, Debug, PartialEq, Eq)]
-pub(crate) enum End {
+pub enum End {
     /// After so many rounds.
     Rounds(u64),
     /// After so many minutes.
@@ -21,10 +21,10 @@ pub(crate) enum End {
 
 /// The rounds of the seeds from the first on, each with so many values at most.
 #[derive(Clone, Copy, Debug, PartialEq, Eq)]
-pub(crate) struct Plan {
-    pub(crate) end: End,
-    pub(crate) first_seed: u64,
-    pub(crate) most: u64,
+pub struct Plan {
+    pub end: End,
+    pub first_seed: u64,
+    pub most: u64,
 }
 
 impl Plan {
@@ -46,8 +46,8 @@ impl Plan {
         }
     }
 
-    /// The plan that the arguments ask for: none, the minutes, or the minutes and the first seed.
-    pub(crate) fn of_words<S: AsStr>(words: &[S]) -> Option<Plan> {
+    /// Returns the plan that the arguments ask for: none, the minutes, or the minutes and the first seed.
+    pub fn of_words<S: AsStr>(words: &[S]) -> Option<Plan> {
         match words {
             [] => Some(Plan::few()),
             [minutes] => Some(Plan::timed(parse_word(minutes)?, 0)),
@@ -58,8 +58,8 @@ impl Plan {
         }
     }
 
-    /// Whether no more rounds begin after so many rounds and minutes.
-    pub(crate) fn is_over(&self, rounds: u64, minutes: u64) -> bool {
+    /// Returns whether no more rounds begin after so many rounds and minutes.
+    pub fn is_over(&self, rounds: u64, minutes: u64) -> bool {
         match self.end {
             End::Rounds(most) => most <= rounds,
             End::Minutes(most) => most <= minutes,

@@ -5,7 +5,7 @@ use std::{fmt, io};
 
 /// What rounds don't go on from.
 #[derive(Debug, Drop)]
-pub(crate) enum Stop {
+pub enum Stop {
     /// A round had a fault.
     Fault(Round, Fault),
     /// There is no clock, or the output takes nothing.
