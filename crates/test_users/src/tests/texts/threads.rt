@@ -23,14 +23,15 @@ type Split = (&'static str, usize);
 
 /// Runs the tool over files and an input, on memory of an allocator. `words` are the arguments after the number of threads.
 fn run_split<
+    'w,
     R: Threads + AllocGlobal + Sync,
     A: Allocator + Copy + Send + Sync,
     I: Read + Drop,
     O: Write,
 >(
     host: &Host<'_, R, Shelf, A>,
-    (tool, threads): (&str, &str),
-    words: &[&str],
+    (tool, threads): (&'w str, &'w str),
+    words: &[&'w str],
     input: I,
     output: &mut O,
     messages: &mut Vec<u8>,
