@@ -172,7 +172,7 @@ impl<V, L: SetLaw<V>, A: Low + Copy> SharedSet<V, L, A> {
         self.known = Some(known.cursor);
     }
 
-    /// Returns a cursor at the newest stage of which the set has been told. It knows nothing.
+    /// Returns a cursor at the newest stage of which the set has been told. It knows what that stage began with.
     fn newest(&self) -> Cursor<V, L, A>
         ensures { IsCursor L.same L.hash_of self.now.of result }
     {

@@ -42,7 +42,7 @@ fn new_handles_find_what_they_begin_with(rt: HostRuntime) {
     }
     let account = set.account();
     match set.settle(account) {
-        Settled::All(values) => assert_same(&rt, values.len(), 0),
+        Settled::All(_) => assert!(&rt; false, "an account without receipts"),
         Settled::More(values) => assert_same(&rt, values.len() as u64, from),
     }
     assert_none_out(&rt, &heap);

@@ -89,7 +89,7 @@ impl<A: Allocator + Copy + Send + Sync> RoundLines<A> {
         );
     }
 
-    /// Writes each line of the pieces that is not equal to an earlier one. If memory is refused, no line of the pieces is written.
+    /// Writes each line of the pieces that is not equal to an earlier one. If memory is refused, lines of the first pieces may be written.
     pub fn take_round<R: Threads + Sync, W: Write>(
         &mut self,
         rt: &R,
