@@ -117,6 +117,7 @@ fn is_refused_after(rt: &(impl Abort + Threads + Sync), alloc: Global, granted: 
     if printed.status == 0 {
         assert_printed(rt, &printed, output, "", 0);
     } else {
+        assert_eq!(rt; printed.status, 1);
         assert!(rt; output.as_bytes().starts_with(printed.output.as_slice()));
         assert!(rt; printed.messages.as_slice() == "no memory\n".as_bytes());
     }

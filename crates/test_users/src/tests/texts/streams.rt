@@ -144,11 +144,7 @@ fn busy() -> io::Error {
 }
 
 /// Asserts what stands in a log.
-fn assert_holds<T: PartialEq + Debug>(
-    rt: &(impl Abort + Threads + Sync),
-    log: &RefCell<Vec<T>>,
-    wanted: &[T],
-) {
+fn assert_holds<T: PartialEq + Debug>(rt: &impl Abort, log: &RefCell<Vec<T>>, wanted: &[T]) {
     match log.try_borrow() {
         Ok(held) => assert_eq!(rt; held.as_slice(), wanted),
         Err(_) => assert!(rt; false),
