@@ -366,15 +366,27 @@ def lines_in(files):
     return sum(len(file.read_text().splitlines()) for file in files)
 
 
+def size_of(crate):
+    """How large a crate is: lines of code, of definitions and of proofs, edits and tests."""
+    code = files_below(crate, "src", ".rt")
+    edits = files_below(crate, "must-fail", ".edit") + files_below(crate, "edits", ".edit")
+    tests = sum(len(re.findall(r"^\s*#\[test\]", file.read_text(), re.M)) for file in code)
+    specs, proofs = files_below(crate, "specs", ".antt"), files_below(crate, "proofs", ".antt")
+    return lines_in(code), lines_in(specs), lines_in(proofs), len(edits), tests
+
+
 def sizes():
-    """How large each crate is."""
-    rows = ["| Crate | Code | Definitions | Proofs | Edits that must fail | Tests |", "|---|---|---|---|---|---|"]
+    """How large each library is, and all crates of each other kind."""
+    rows = ["| Crate | Code | Definitions | Proofs | Edits | Tests |", "|---|---|---|---|---|---|"]
+    others = collections.defaultdict(list)
     for crate, _ in crates():
-        code = files_below(crate, "src", ".rt")
-        edits = files_below(crate, "must-fail", ".edit") + files_below(crate, "edits", ".edit")
-        tests = sum(len(re.findall(r"^\s*#\[test\]", file.read_text(), re.M)) for file in code)
-        specs, proofs = files_below(crate, "specs", ".antt"), files_below(crate, "proofs", ".antt")
-        rows.append(f"| `{crate}` | {lines_in(code)} | {lines_in(specs)} | {lines_in(proofs)} | {len(edits)} | {tests} |")
+        size = size_of(crate)
+        if kind := "tests" if crate.startswith("test_") else "testkits" if crate.startswith("testkit") else "" if size[1] else "without definitions":
+            others[kind].append(size)
+        else:
+            rows.append(f"| `{crate}` | {' | '.join(map(str, size))} |")
+    for kind, all_of in others.items():
+        rows.append(f"| {kind} ({len(all_of)} crates) | {' | '.join(str(sum(column)) for column in zip(*all_of))} |")
     return "\n".join(rows)
 
 

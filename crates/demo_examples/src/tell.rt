@@ -40,7 +40,7 @@ pub type Numbers<A> = SharedSet<u64, NumberLaw, A>;
 /// What a thread knows of it.
 pub type KnownNumbers<A> = Known<u64, NumberLaw, A>;
 
-/// Sees to it that the numbers below `count` are in the set: so many that it grows. `None`: memory was refused.
+/// Inserts the numbers below `count`. `None`: memory was refused.
 pub fn put_below<A: Low + Copy>(mine: &mut Handle<'_, u64, NumberLaw, A>, count: u64) -> Option<()>
     ensures more { KnowsMore mine.old mine.new }
 {

@@ -280,7 +280,7 @@ impl<V, L: SetLaw<V>, A: Low + Copy> SharedSet<V, L, A> {
     }
 }
 
-/// Returns a power of two of buckets, of which so many entries fill at most half: 16, or at most four times the entries.
+/// Returns how many buckets a set for this many entries has: a power of two, at least twice as many, and at most 16 or four times as many.
 fn buckets_for(entries: usize) -> usize
     requires { entries ≤ 2 ^ 31 }
     ensures power { IsPowerOfTwo result }

@@ -34,7 +34,7 @@ pub trait Names<X> {
     ghost names: { X → List ℕ };
 }
 
-/// A start over this slab.
+/// Makes the start of a chain of `_slots` slots over this slab.
 pub(crate) fn start<X, N: Names<X>, G, F: Follows<G>>(
     _about: &X,
     _slots: u64,
@@ -47,7 +47,7 @@ pub(crate) fn start<X, N: Names<X>, G, F: Follows<G>>(
     }
 }
 
-/// The update that shows what lies under the number in the slot.
+/// Makes the update that shows the value of the number in the slot.
 pub(crate) fn offering<G, F: Follows<G>, A: Allocator>(
     _seen: &Token<G, F>,
     _slot: u64,
@@ -73,7 +73,7 @@ pub(crate) fn offering<G, F: Follows<G>, A: Allocator>(
 /// The update of a step that trades nothing.
 pub(crate) type Plainly<G, F> = Offer<Event<G>, u64, ChainRule<G, F>, Nothing>;
 
-/// The update that ends the chain before the slot.
+/// Makes the update that ends the chain before the slot.
 pub(crate) fn closing<G, F: Follows<G>>(_seen: &Token<G, F>, _slot: u64) -> Plainly<G, F>
     ensures names { result.names ≡ _seen.now.names }
     ensures ask { result.ask ≡ event _slot 0 (Some End) }
@@ -84,7 +84,7 @@ pub(crate) fn closing<G, F: Follows<G>>(_seen: &Token<G, F>, _slot: u64) -> Plai
     }
 }
 
-/// Returns the two parts of the right, where the slot was set before.
+/// Returns the two parts of the right, if the slot was set before.
 fn returned<G, A: Allocator>(
     gained: Gained<Event<G>, u64, Trade<G>>,
     _slot: u64,
@@ -107,7 +107,7 @@ fn returned<G, A: Allocator>(
     )
 }
 
-/// Returns the right, where the slot was set before.
+/// Returns the right, if the slot was set before.
 pub(crate) fn right_back<G, A: Allocator>(
     gained: Gained<Event<G>, u64, Trade<G>>,
     slot: u64,

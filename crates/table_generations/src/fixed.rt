@@ -172,7 +172,7 @@ impl<T: AtomicValue, A: Allocator + Copy> Generation<T, A> {
         Generation::with_capacity(self.row.alloc(), home, capacity)
     }
 
-    /// Probes: reads the buckets in order, from the first one of the hash on, until an empty one or an accepted entry.
+    /// Reads the buckets in order, from the first one of the hash on, until one is empty or `test` accepts its entry.
     pub fn probe<'a, F: Fn(&T::Target) -> bool>(
         &'a self,
         home: &'a Home,

@@ -44,7 +44,7 @@ impl<V, L: SetLaw<V>, A: Allocator> Model for Hints<V, L, A> {
     ghost view = { λ h. h.words.items };
 }
 
-/// Returns how many words there are for so many buckets: one for 32 numbers, as far as the buckets have room.
+/// Returns the number of words for this many buckets: one for 32 buckets, and one more.
 pub(crate) fn words_for(buckets: usize) -> usize {
     buckets / NUMBERS as usize + 1
 }
@@ -112,7 +112,7 @@ fn add<V, L: SetLaw<V>>(hint: &Bucket<V, L>, seen: &Token<V, L>, number: u64)
 }
 
 impl<V, L: SetLaw<V>, A: Allocator> Hints<V, L, A> {
-    /// Makes so many words that name no number, in a vector that has room for them.
+    /// Makes `words` words that name no number, in a vector that has room for them.
     pub(crate) fn new(
         room: Vec<Bucket<V, L>, A>,
         seen: &Token<V, L>,

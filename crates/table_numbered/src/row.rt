@@ -58,7 +58,7 @@ impl<V, L: SetLaw<V>> Begins<Token<V, L>, V> for After<L> {
     ghost due = { λ seen. due_after seen.log };
 }
 
-/// Makes the words of a row of so many buckets, in a vector that has room for them.
+/// Makes the words of a row of `buckets` buckets, in a vector that has room for them.
 fn words_by<V, L: SetLaw<V>, A: Allocator>(
     room: Vec<Bucket<V, L>, A>,
     pens: Pens,

@@ -10,11 +10,11 @@ pub trait Sought<V, L: SetLaw<V>> {
 
     ghost sought_hash: { Self → ℕ };
 
-    /// The hash of what is sought.
+    /// Returns the hash of what is sought.
     fn hash(&self) -> u64
         ensures { result ≡ sought_hash self.now };
 
-    /// Whether the entry is it.
+    /// Returns whether the test accepts the entry.
     fn is(&self, entry: &V) -> bool
         ensures { result ≡ accepts self.now entry.now };
 

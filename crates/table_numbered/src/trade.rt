@@ -43,7 +43,7 @@ pub trait Begins<X, V> {
     ghost due: { X → List (Stored (Numbered V)) };
 }
 
-/// The start of a history of so many buckets.
+/// Makes the start of a history of `_count` buckets.
 pub(crate) fn start<X, M: Begins<X, V>, V, L: Law<V>>(
     _about: &X,
     _count: u64,
@@ -56,7 +56,7 @@ pub(crate) fn start<X, M: Begins<X, V>, V, L: Law<V>>(
     }
 }
 
-/// The update that publishes what lies in the slot as what is stored in the bucket.
+/// Makes the update that publishes the value of the slot by storing it in the bucket.
 pub(crate) fn publishing<V, L: Law<V>, A: Allocator>(
     _seen: &Token<V, L>,
     _place: u64,
@@ -79,7 +79,7 @@ pub(crate) fn publishing<V, L: Law<V>, A: Allocator>(
     }
 }
 
-/// The update that stores in the bucket what the slot is known to hold.
+/// Makes the update that stores in the bucket what the slot is known to hold.
 pub(crate) fn carrying<V, L: Law<V>, A: Allocator>(
     _seen: &Token<V, L>,
     _place: u64,
@@ -99,7 +99,7 @@ pub(crate) fn carrying<V, L: Law<V>, A: Allocator>(
     }
 }
 
-/// The update that closes the bucket.
+/// Makes the update that closes the bucket.
 pub(crate) fn closing<V, L: Law<V>>(_seen: &Token<V, L>, _place: u64) -> Carrying<V, L>
     ensures names { result.names ≡ _seen.now.names }
     ensures ask { result.ask ≡ event _place (Some Closed) }
@@ -110,7 +110,7 @@ pub(crate) fn closing<V, L: Law<V>>(_seen: &Token<V, L>, _place: u64) -> Carryin
     }
 }
 
-/// The receipt, where the entry was published.
+/// Returns the receipt for an entry that was published.
 pub(crate) fn won<V>(
     gained: Gained<Event<Stored<Numbered<V>>>, u64, Trade<V>>,
     _place: u64,
@@ -129,7 +129,7 @@ pub(crate) fn won<V>(
     }
 }
 
-/// The right, where the bucket was set before.
+/// Returns the right to the slot if the bucket was set before.
 pub(crate) fn returned<V, A: Allocator>(
     gained: Gained<Event<Stored<Numbered<V>>>, u64, Trade<V>>,
     _place: u64,
@@ -154,7 +154,7 @@ pub(crate) fn returned<V, A: Allocator>(
     )
 }
 
-/// What everyone knows of the cell and of the slot of an entry, and that a number has one value.
+/// Returns what everyone may know of the cell and of the slot of an entry. States that a number has one value.
 pub(crate) fn recalled<V, L: Law<V>, A: Allocator>(
     _seen: &Token<V, L>,
     _number: u64,
@@ -174,7 +174,7 @@ pub(crate) fn recalled<V, L: Law<V>, A: Allocator>(
     )
 }
 
-/// What everyone knows of the number of an entry, and that a number has one value.
+/// Returns what everyone may know of the entry of this number. States that a number has one value.
 pub(crate) fn known_by<V, L: Law<V>, A: Allocator>(
     seen: &Token<V, L>,
     number: u64,
@@ -188,7 +188,7 @@ pub(crate) fn known_by<V, L: Law<V>, A: Allocator>(
     Standing { site, written }
 }
 
-/// What everyone knows of the number of the entry in this bucket, and that a number has one value.
+/// Returns what everyone may know of the entry of this number, which is in this bucket. States that a number has one value.
 pub(crate) fn known<V, L: Law<V>, A: Allocator>(
     seen: &Token<V, L>,
     _place: u64,

@@ -26,7 +26,7 @@ pub(crate) fn word_of_entry(mark: u64, number: u64) -> u64
     mark * HALF + (number + 2)
 }
 
-/// Returns the bucket that a probe for this mark begins at, of so many.
+/// Returns the bucket that a probe for this mark begins at, among `buckets` buckets.
 pub(crate) fn first_bucket(mark: u64, buckets: usize) -> usize
     requires mark { mark < 2 ^ 32 }
     requires some { 0 < buckets }

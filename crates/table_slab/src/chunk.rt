@@ -67,7 +67,7 @@ impl<T, A: Allocator> Chunk<T, A> {
 }
 
 impl<T, A: Allocator + Copy> Chunk<T, A> {
-    /// Asks for memory for a chunk of so many slots. A refusal leaves nothing.
+    /// Makes a chunk of `count` slots. A refused request leaves nothing.
     pub(crate) fn new(alloc: A, count: usize) -> Result<Self, AllocError>
         ensures { IfOk result (λ c. length c ≡ count) }
     {

@@ -22,7 +22,7 @@ impl<T> Receipt<T> {
     }
 }
 
-/// What everyone may know of the cell and of the slot of a number that has a receipt.
+/// Returns what everyone may know of the cell and of the slot of a number that has a receipt.
 fn shown<T, A: Allocator>(_receipt: &Receipt<T>) -> (Site<Chunk<T, A>>, Written<T>)
     ensures of { IsSlot _receipt.now.slab _receipt.now.number result.0.cell result.0.value result.1.of }
     ensures value { result.1.value ≡ _receipt.now.value }
@@ -37,7 +37,7 @@ fn shown<T, A: Allocator>(_receipt: &Receipt<T>) -> (Site<Chunk<T, A>>, Written<
     )
 }
 
-/// The receipt for the right to a number.
+/// Exchanges the right to a number for its receipt.
 fn receipt_for<T, A: Low + Copy>(
     _slab: &Slab<T, A>,
     _number: u64,

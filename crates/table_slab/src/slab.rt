@@ -256,7 +256,7 @@ impl<T, A: Low + Copy> Drop for Slab<T, A> {
     }
 }
 
-/// Returns so many cells, none of which holds a chunk.
+/// Returns `count` cells without a chunk. A refused request leaves nothing.
 fn vacant<T, A: Low + Copy>(
     alloc: A,
     home: &Home,

@@ -1,4 +1,4 @@
-//! The table held alone, run.
+//! Tests of the single-owner raw table, and of the sets over it.
 mod blocks;
 mod careless;
 mod drops;
@@ -15,8 +15,7 @@ use std::fmt::Debug;
 use std::process::Abort;
 use std::test::Fail;
 
-/// Pairs in a first generation, and what their inserts are told. (15, 9) lies beyond the last bucket, in the first free
-/// one from the front.
+/// Pairs for a first generation, and the answer to the insert of each. The probe of (15, 9) passes the last bucket and then the first.
 const INSERTS: [(Pair, Told); 5] = [
     ((0, 1), Told::Placed((0, 1))),
     ((0, 1), Told::Found((0, 1), (0, 1))),
@@ -25,7 +24,7 @@ const INSERTS: [(Pair, Told); 5] = [
     ((15, 7), Told::Found((15, 7), (15, 7))),
 ];
 
-/// Pairs, and whether they are entries after those inserts.
+/// Pairs, and whether each is an entry after those inserts.
 const LOOKUPS: [(Pair, bool); 5] = [
     ((0, 1), true),
     ((15, 9), true),
@@ -34,7 +33,7 @@ const LOOKUPS: [(Pair, bool); 5] = [
     ((1, 1), false),
 ];
 
-/// Both are the same.
+/// Asserts that `got` equals `expected`.
 fn assert_same<X: PartialEq + Debug + Drop>(rt: &impl Abort, got: X, expected: X) {
     assert_eq!(rt; got, expected);
 }

@@ -1,4 +1,4 @@
-//! Tests, by what is done with a generation.
+//! Tests of generations of numbered buckets.
 mod alone;
 mod caller;
 mod growing;

@@ -1,4 +1,4 @@
-//! That one thread's numbers are there for another, that each is told Placed once, and that no call but an insert writes.
+//! Tests of number tables: a seat finds the numbers that another seat placed, each number is placed once, and only an insert writes.
 ghost use Rattle.std.specs.Prelude.{All, IfOk};
 ghost use Rattle.seated.specs.Tables.{IsSeatOf};
 
@@ -12,12 +12,12 @@ use std::thread;
 use std::thread::Threads;
 use testkit::refusing::{Refusing, Rule};
 
-/// Both are the same.
+/// Asserts that `got` equals `expected`.
 fn assert_same<X: PartialEq + Debug + Drop>(rt: &impl Abort, got: X, expected: X) {
     assert_eq!(rt; got, expected);
 }
 
-/// The numbers below 128 for which a seat got each answer, as the bits of a word.
+/// The numbers below 128 for which a seat got each answer. Bit n of a word is set for the number n.
 #[derive(Clone, Copy, Drop, PartialEq, Eq, Debug)]
 struct Told {
     placed: u128,
@@ -31,16 +31,16 @@ const NOTHING: Told = Told {
     full: 0,
 };
 
-/// Numbers of words at which a probe wraps at once, and one past a page.
+/// Sizes of tables: small ones, in which probes soon wrap, and one of more than a page.
 const SIZES: [usize; 4] = [1, 2, 4, 8192];
 
-/// The words of a table of 16 after 3, 19, 40, 5, 21 and 1000.
+/// The words of a table of 16 buckets after the inserts of 3, 19, 40, 5, 21 and 1000.
 const HANDED_IN: [u64; 16] = [0, 0, 0, 3, 19, 5, 21, 0, 40, 1000, 0, 0, 0, 0, 0, 0];
 
-/// How often `new` asks for memory.
+/// How many requests for memory `new` makes.
 const REQUESTS: u64 = 3;
 
-/// The bits from 1 to `last`.
+/// Returns a word whose bits 1 to `last` are set.
 fn numbers_to(last: u32) -> u128 {
     (1..=last).fold(0, |bits, n| bits | bit(n))
 }
@@ -52,7 +52,7 @@ fn bit(n: u32) -> u128 {
 /// A table and its first seat.
 type First<A> = (NumberTable<A>, Seat);
 
-/// A table of so many words.
+/// Makes a table of `count` words, and returns it with its first seat. `Err` means no memory.
 fn table_of<A: Allocator + Copy>(
     rt: &impl Abort,
     alloc: A,
@@ -64,7 +64,7 @@ fn table_of<A: Allocator + Copy>(
     NumberTable::new(alloc, count)
 }
 
-/// Inserts 1 to `last`, in order.
+/// Inserts 1 to `last`, in order. Returns the seat and the answers.
 fn insert_to<A: Allocator + Copy>(table: &NumberTable<A>, mut seat: Seat, last: u32) -> (Seat, Told)
     requires { IsSeatOf table.now seat }
     ensures { IsSeatOf table.entry.now result.0 }
@@ -82,7 +82,7 @@ fn insert_to<A: Allocator + Copy>(table: &NumberTable<A>, mut seat: Seat, last: 
     (seat, told)
 }
 
-/// Inserts a number that the table has not.
+/// Inserts a number. Asserts that it is placed, and that the seat finds it afterwards and not before.
 fn insert_new(rt: &impl Abort, table: &NumberTable<Global>, seat: &mut Seat, n: u64)
     requires { IsSeatOf table.now seat.old }
     ensures { IsSeatOf table.now seat.new }
@@ -94,7 +94,7 @@ fn insert_new(rt: &impl Abort, table: &NumberTable<Global>, seat: &mut Seat, n: 
     }
 }
 
-/// Inserts numbers that the table has not, in order.
+/// Inserts numbers that aren't in the table, in order. Returns the seat.
 fn insert_each(
     rt: &impl Abort,
     table: &NumberTable<Global>,
@@ -110,7 +110,7 @@ fn insert_each(
     seat
 }
 
-/// Inserts 1 to `last`, in order, of which the table has none.
+/// Inserts 1 to `last`, in order, none of which is in the table. Returns the seat.
 fn insert_all(rt: &impl Abort, table: &NumberTable<Global>, mut seat: Seat, last: u64) -> Seat
     requires { IsSeatOf table.now seat }
     ensures { IsSeatOf table.entry.now result }
@@ -121,7 +121,7 @@ fn insert_all(rt: &impl Abort, table: &NumberTable<Global>, mut seat: Seat, last
     seat
 }
 
-/// The table is full, of other numbers.
+/// Asserts that the table is full and doesn't have this number.
 fn assert_full(rt: &impl Abort, table: &NumberTable<Global>, seat: &mut Seat, n: u64)
     requires { IsSeatOf table.now seat.old }
     ensures { IsSeatOf table.now seat.new }
@@ -132,7 +132,7 @@ fn assert_full(rt: &impl Abort, table: &NumberTable<Global>, seat: &mut Seat, n:
     }
 }
 
-/// So many words, of which each holds its bucket's number and the first, to which a probe for the last number comes, that.
+/// Asserts that there are `count` words and that each holds the number of its bucket. The first holds `count`, whose first bucket it is.
 fn assert_filled(rt: &impl Abort, words: &[u64], count: u64) {
     assert_same(rt, words.len() as u64, count);
     for (word, bucket) in words.iter().zip(0u64..) {
@@ -140,7 +140,7 @@ fn assert_filled(rt: &impl Abort, words: &[u64], count: u64) {
     }
 }
 
-/// The numbers up to `last` that the seat finds.
+/// Returns the numbers up to `last` that the seat finds, as the bits of a word.
 fn found_to(table: &NumberTable<Global>, seat: &mut Seat, last: u32) -> u128
     requires { IsSeatOf table.now seat.old }
     ensures { IsSeatOf table.now seat.new }
@@ -156,7 +156,7 @@ fn found_to(table: &NumberTable<Global>, seat: &mut Seat, last: u32) -> u128
     found
 }
 
-/// The seat and a new one.
+/// Returns the seat and a new one.
 fn two_of<A: Allocator + Copy>(table: &NumberTable<A>, seat: Seat) -> (Seat, Seat)
     requires { IsSeatOf table.now seat }
     ensures { IsSeatOf table.now result.0 × IsSeatOf table.now result.1 }
@@ -167,7 +167,7 @@ fn two_of<A: Allocator + Copy>(table: &NumberTable<A>, seat: Seat) -> (Seat, Sea
     seats
 }
 
-/// A seat for each of so many threads.
+/// Splits the seat into `threads` seats. `Err` means no memory.
 fn seats_for(
     alloc: Global,
     table: &NumberTable<Global>,
@@ -188,7 +188,7 @@ fn seats_for(
     Ok(seats)
 }
 
-/// Each seat inserts 1 to `last`, in a thread of its own, and is dropped.
+/// Inserts 1 to `last` by each seat, in a thread of its own, and drops the seats. Returns the answers of each. `Err` means no memory.
 fn insert_in_threads<R: Threads + Sync>(
     rt: &R,
     table: &NumberTable<Global>,
@@ -206,7 +206,7 @@ fn insert_in_threads<R: Threads + Sync>(
     )
 }
 
-/// Each number was placed for one of the seats, and found by all others.
+/// Asserts that each number up to `last` was placed by one of the seats and found by all others.
 fn assert_placed_once(rt: &impl Abort, all: &[Told], last: u32) {
     let mut placed = 0;
     for told in all {

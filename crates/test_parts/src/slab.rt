@@ -1,4 +1,4 @@
-//! Tests, by who holds the slots.
+//! Tests of slots and slabs.
 mod alone;
 mod counting;
 mod numbers;

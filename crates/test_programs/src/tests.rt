@@ -21,7 +21,7 @@ use testkit::refusing::{Refusing, Rule};
 use tool_commands::gate::{Gates, ProgramGates};
 use tool_commands::program::run_words_under;
 
-/// What a run of the program needs, and a test of it.
+/// What a run of the program and a test of it need from the runtime.
 trait Host: Threads + Wait + AllocGlobal + Abort + Sync {}
 
 impl<R: Threads + Wait + AllocGlobal + Abort + Sync> Host for R {}
@@ -48,12 +48,12 @@ impl Ended {
     }
 }
 
-/// Asserts that both are equal.
+/// Asserts that `got` equals `wanted`.
 fn assert_same<X: PartialEq + Debug + Drop>(rt: &impl Abort, got: X, wanted: X) {
     assert_eq!(rt; got, wanted);
 }
 
-/// Runs the command of these words under these gates, on memory of the allocator.
+/// Runs the command with these words under these gates. Its memory comes from `alloc`.
 fn run_under<A: Low + Copy + Send + Sync, G: Gates, I: Read + Drop>(
     rt: &impl Host,
     alloc: A,
@@ -70,18 +70,18 @@ fn run_under<A: Low + Copy + Send + Sync, G: Gates, I: Read + Drop>(
     }
 }
 
-/// Runs the command of these words on an input in memory.
+/// Runs the command with these words over the input.
 fn run(rt: &impl Host, words: &[&str], input: &[u8]) -> Ended {
     run_under(rt, rt.alloc(), &ProgramGates, words, input)
 }
 
-/// Runs the command of these words on memory under a rule.
+/// Runs the command with these words over the input, on memory that refuses requests by this rule.
 fn run_refusing(rt: &impl Host, rule: Rule, words: &[&str], input: &[u8]) -> Ended {
     let memory = Refusing::new(rt.alloc(), rule);
     run_under(rt, &memory, &ProgramGates, words, input)
 }
 
-/// Returns the first `count` lines of a text.
+/// Returns the first `count` lines of a text. `Err` means no memory.
 fn first_lines(alloc: Global, text: &str, count: usize) -> Result<String, Fail> {
     let mut first = String::new(alloc);
     for line in text.lines().take(count) {
@@ -90,15 +90,15 @@ fn first_lines(alloc: Global, text: &str, count: usize) -> Result<String, Fail> 
     Ok(first)
 }
 
-/// Counts the lines that end in these bytes.
+/// Returns how many lines end in these bytes.
 fn line_ends(bytes: &[u8]) -> usize {
     bytes.iter().filter(|byte| **byte == b'\n').count()
 }
 
 /// Lines of input, and the replies to them.
 ///
-/// A script is a text of lines with `; ` between them. A line with a reply is `LINE = REPLY`. `A..B` stands for the lines `i K K` for
-/// each K from A to B - 1, and `A..B << N` for such lines of which the hashes are shifted by N bits.
+/// A script is a text of lines with `; ` between them. A line with a reply is `LINE = REPLY`. `A..B` means the lines `i K K` for each K
+/// from A to B - 1, and `A..B << N` means such lines whose hashes are shifted left by N bits.
 #[derive(Drop)]
 struct Script {
     input: String,
@@ -106,7 +106,7 @@ struct Script {
 }
 
 impl Script {
-    /// Reads a script.
+    /// Parses a script. `Err` means that a number can't be parsed, or that memory was refused.
     fn new(alloc: Global, text: &str) -> Result<Script, Fail> {
         let mut script = Script {
             input: String::new(alloc),
@@ -121,7 +121,7 @@ impl Script {
         Ok(script)
     }
 
-    /// Adds a line or a range of lines, each with this reply.
+    /// Adds a line or a range of lines, each with this reply. `Err` means that a number can't be parsed, or that memory was refused.
     fn push(&mut self, line: &str, reply: Option<&str>) -> Result<(), Fail> {
         let Some((from, to)) = line.split_once("..") else {
             writeln!(self.input, "{line}")?;

@@ -1,4 +1,4 @@
-//! The machine of all schedules, and calls that go step by step, run.
+//! Tests of the machine of all schedules, and of stepped and whole calls.
 mod cuts;
 mod decisions;
 mod drawn;

@@ -1,4 +1,4 @@
-//! Tests of the tables over shards: held alone, beside the raw one, by lists of calls and by walks, and shared by threads.
+//! Tests of the tables over shards, single-owner and shared: lists of calls, iterators, refused memory and drops.
 #![tactic(auto)]
 
 #[cfg(test)]

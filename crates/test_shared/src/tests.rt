@@ -1,4 +1,4 @@
-//! The table that threads share, run.
+//! Tests of the raw table that threads share.
 mod alone;
 mod careless;
 mod countings;

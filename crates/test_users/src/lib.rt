@@ -1,4 +1,4 @@
-//! Tests of what stands on the tables: the interner, the tools over text, and the examples.
+//! Tests of the interner, the tools over text, and the examples.
 #![tactic(auto)]
 
 #[cfg(test)]

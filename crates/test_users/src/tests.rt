@@ -1,4 +1,4 @@
-//! What stands on the tables, run.
+//! Tests of the examples, of the interner and of the tools over text.
 mod examples;
 mod names;
 mod texts;
@@ -6,7 +6,7 @@ mod texts;
 use std::fmt::Debug;
 use std::process::Abort;
 
-/// Asserts that what a test got is what it expected.
+/// Asserts that `got` equals `expected`.
 fn assert_same<X: PartialEq + Debug + Drop>(rt: &impl Abort, got: X, expected: X) {
     assert_eq!(rt; got, expected);
 }

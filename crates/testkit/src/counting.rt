@@ -1,4 +1,4 @@
-//! What tests put into tables: values that count how often they are dropped, and numbers.
+//! What tests put into tables: values with numbers, which can count their drops.
 ghost use Rattle.std.specs.Prelude.{◌≡◌};
 
 pub mod asked;
@@ -13,14 +13,14 @@ use std::sync::atomic::{AtomicU64, Ordering};
 use table_held::runs::AloneTable;
 use table_terms::law::{Law, SetLaw, hash_number};
 
-/// A number, with the count of its drops.
+/// A value with a number, whose drop is counted.
 pub struct Counting {
     pub number: u64,
     drops: Arc<AtomicU64>,
 }
 
 impl Counting {
-    /// A value of this number, whose drop is counted here.
+    /// Makes a value with this number, whose drop is counted in `drops`.
     pub fn new(number: u64, drops: Arc<AtomicU64>) -> Counting
         ensures { result.number ≡ number }
     {
@@ -28,7 +28,7 @@ impl Counting {
     }
 }
 
-/// How often each of the first numbers was dropped.
+/// A count of drops for each number below a bound.
 #[derive(Drop)]
 pub struct Drops {
     each: Vec<Arc<AtomicU64>>,
@@ -36,7 +36,7 @@ pub struct Drops {
 }
 
 impl Drops {
-    /// So many numbers, of which none was dropped.
+    /// Makes a count, which is 0, for each number below `numbers`. `Err`: memory was refused.
     pub fn new(alloc: Global, numbers: u64) -> Result<Drops, AllocError> {
         let mut each = Vec::new(alloc);
         for _number in 0..numbers {
@@ -45,7 +45,7 @@ impl Drops {
         Ok(Drops { each, alloc })
     }
 
-    /// A value of this number, whose drop is counted, if the number is one of those.
+    /// Makes a value with this number, whose drop is counted if the number has a count. `Err`: memory was refused.
     pub fn value(&self, number: u64) -> Result<Counting, AllocError> {
         let drops = match self.each.get(number as usize) {
             Some(drops) => drops.clone()?,
@@ -54,12 +54,12 @@ impl Drops {
         Ok(Counting::new(number, drops))
     }
 
-    /// The same in a box.
+    /// Makes the value that `value` makes, in a box. `Err`: memory was refused.
     pub fn counting(&self, number: u64) -> Result<Box<Counting>, AllocError> {
         Ok(Box::new(self.alloc, self.value(number)?)?)
     }
 
-    /// Places the first so many numbers in a table that one owner holds alone. A value that isn't placed is dropped.
+    /// Inserts a boxed value of each number below `numbers`. A value that isn't placed is dropped. `Err`: memory for a value was refused.
     pub fn place_in<B: AloneTable<Box<Counting>, CountingLaw>>(
         &self,
         table: &mut B,
@@ -72,7 +72,7 @@ impl Drops {
         Ok(())
     }
 
-    /// How many of the numbers were dropped so often.
+    /// Returns how many of the numbers were dropped exactly `times` times.
     pub fn dropped(&self, times: u64) -> u64 {
         let mut count = 0u64;
         for drops in self.each.as_slice() {
@@ -83,12 +83,12 @@ impl Drops {
         count
     }
 
-    /// How many of the numbers were never dropped, and how many once.
+    /// Returns how many of the numbers were never dropped, and how many were dropped once.
     pub fn never_and_once(&self) -> (u64, u64) {
         (self.dropped(0), self.dropped(1))
     }
 
-    /// Those counts while both are there, then without the first, and in the end without either.
+    /// Drops `first` and then `last`. Returns the counts of `never_and_once` before, between and after these drops.
     pub fn as_dropped<F: Drop, L: Drop>(&self, first: F, last: L) -> [(u64, u64); 3] {
         let with_both = self.never_and_once();
         drop(first);
@@ -98,7 +98,7 @@ impl Drops {
     }
 }
 
-/// A count of drops.
+/// Makes a count of drops, which is 0. `Err`: memory was refused.
 fn counter(alloc: Global) -> Result<Arc<AtomicU64>, AllocError> {
     Ok(Arc::new(alloc, AtomicU64::new(0))?)
 }
@@ -110,7 +110,7 @@ impl Drop for Counting {
     }
 }
 
-/// Counting values are the same if their numbers are.
+/// The law of counting values: two are equal if their numbers are.
 pub struct CountingLaw {}
 
 impl Law<Counting> for CountingLaw {

@@ -1,10 +1,10 @@
 //! What tests share: an allocator that refuses, values that count their drops, a table that is a plain list, schedules, and streams.
 //!
-//! - [`refusing`] has the allocator, which also lets requests wait for one another, and counts blocks.
-//! - [`counting`] has what tests put into tables, and what they ask of them.
+//! - [`refusing`] has the allocator. It also makes requests wait for one another, and counts blocks.
+//! - [`counting`] has the values that tests insert into tables, and counts of the outcomes.
 //! - [`plain_list`] has a table that is scanned from its front: slow, and plainly right.
-//! - [`schedules`] has schedules for tests of the machine, and to measure it by.
-//! - [`streams`] has what tests call a program with: words, and a reader that fails.
+//! - [`schedules`] has schedules for tests and measurements of the machine.
+//! - [`streams`] has arguments for programs, and a reader that fails.
 #![tactic(auto)]
 
 pub mod counting;

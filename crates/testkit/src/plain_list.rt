@@ -1,5 +1,5 @@
-//! A table that is a plain list, scanned from its front: slow, and plainly right. Lists of calls run on it as they do on
-//! the hash tables. Module `told` says what they are told.
+//! A table that is a plain list, scanned from its front: slow, and plainly right. Tests run the same lists of calls on it and on the hash
+//! tables. Module [`told`] has what the calls return.
 ghost use Rattle.std.specs.Prelude.{◌≡◌, [], IfSome, IfNone};
 ghost use Rattle.std.specs.Fn.{FnReturnsAt, FnReturnsAtPair};
 ghost use Rattle.table_held.specs.Shown.{FindsOne};
@@ -27,7 +27,7 @@ impl<T: AtomicValue> Model for PlainList<T> {
 }
 
 impl<T: AtomicValue> PlainList<T> {
-    /// The empty list.
+    /// Makes an empty list.
     pub fn new(alloc: Global) -> Self
         ensures { result ≡ [] }
     {
@@ -36,14 +36,15 @@ impl<T: AtomicValue> PlainList<T> {
         }
     }
 
-    /// The values, in the order in which they came.
+    /// Returns the values, in the order in which they were inserted.
     pub fn values(&self) -> &[T]
         ensures { result.now ≡ self.now }
     {
         self.values.as_slice()
     }
 
-    /// Appends the value, unless one is accepted as equal; and its index, or that of the equal one.
+    /// Appends the value, and returns its index. If `eq` accepts an entry as equal, returns the index of the first such entry, and the
+    /// value. `Err` is the value: memory was refused.
     fn insert<E: Fn(&T::Target, &T::Target) -> bool>(
         &mut self,
         value: T,
@@ -64,7 +65,7 @@ impl<T: AtomicValue> PlainList<T> {
     }
 }
 
-/// The target of the first of these values that the test accepts.
+/// Returns the target of the first value that the test accepts.
 fn find<'a, T: AtomicValue, F: Fn(&T::Target) -> bool>(
     values: &'a [T],
     test: &F,
@@ -83,7 +84,7 @@ fn find<'a, T: AtomicValue, F: Fn(&T::Target) -> bool>(
     None
 }
 
-/// The index of the first of these values that `eq` accepts as equal to the key, which is handed in first.
+/// Returns the index of the first value that `eq` accepts as equal to the key. The key is the first argument of `eq`.
 fn find_same<T: AtomicValue, E: Fn(&T::Target, &T::Target) -> bool>(
     values: &[T],
     key: &T::Target,

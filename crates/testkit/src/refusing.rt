@@ -1,5 +1,5 @@
-//! An allocator for tests, which refuses the requests that a rule names, lets some of them wait for one another, and counts the
-//! blocks that it grants and gets back.
+//! An allocator for tests. It refuses the requests for memory that a rule names, makes some requests wait for one another, and counts the
+//! blocks that it grants and those that are freed.
 ghost use Rattle.std.specs.Prelude.{◌≡◌, ◌↔◌, IsTrue};
 ghost use Rattle.testkit.specs.Rules.{least_counted, most_counted, Counts, memory_of, rule_of};
 
@@ -15,7 +15,7 @@ use std::alloc::{AllocError, Allocator};
 use std::sync::atomic::{AtomicU64, Ordering};
 use table_cell::Low;
 
-/// Which requests are refused. Requests of other sizes pass and are not counted.
+/// Which requests for memory are refused. A rule counts the requests of `least` to `most` bytes. All others are granted.
 pub struct Rule {
     least: usize,
     most: usize,
@@ -29,8 +29,8 @@ pub struct Rule {
 }
 
 impl Rule {
-    /// Of the requests of `least` to `most` bytes, the first `passing` are granted, the next `refused` are refused, and
-    /// all later ones are granted.
+    /// Makes a rule by which the first `passing` requests of `least` to `most` bytes are granted, the next `refused` are refused, and all
+    /// later ones are granted.
     pub fn new(least: usize, most: usize, passing: u64, refused: u64) -> Rule
         ensures least { least_counted result ≡ least }
         ensures most { most_counted result ≡ most }
@@ -48,8 +48,7 @@ impl Rule {
         }
     }
 
-    /// The same rule, by which a request that would be refused is granted unless a lot falls on it: one in `one_in`, drawn
-    /// from the seed.
+    /// Makes the rule refuse only one in `one_in` of the requests that it would refuse. The seed decides which.
     pub fn drawn(mut self, seed: u64, one_in: u64) -> Rule
         ensures least { least_counted result ≡ least_counted self }
         ensures most { most_counted result ≡ most_counted self }
@@ -58,8 +57,8 @@ impl Rule {
         self
     }
 
-    /// The same rule, by which the first counted requests that are granted wait in so many pairs: the first of a pair is
-    /// answered once the second has come, or once it was looked for so often.
+    /// Makes the first `2 * pairs` counted requests that are granted meet in pairs. The first request of a pair waits until the second one
+    /// comes, or until it has looked `looks` times.
     pub fn paired(mut self, pairs: u64, looks: u64) -> Rule
         ensures least { least_counted result ≡ least_counted self }
         ensures most { most_counted result ≡ most_counted self }
@@ -68,7 +67,7 @@ impl Rule {
         self
     }
 
-    /// The same rule, by which a thread looks for its turn `looks` times.
+    /// Makes a thread look at most `looks` times for its turn.
     pub fn in_turns(mut self, looks: u64) -> Rule
         ensures least { least_counted result ≡ least_counted self }
         ensures most { most_counted result ≡ most_counted self }
@@ -77,14 +76,15 @@ impl Rule {
         self
     }
 
-    /// Whether requests of this size are counted.
+    /// Returns whether requests of this size are counted.
     fn counts(&self, size: usize) -> bool
         ensures { IsTrue result ↔ Counts self.now size }
     {
         self.least <= size && size <= self.most
     }
 
-    /// Whether a request of this size is refused. One that isn't is told as granted, once the other of its pair has come.
+    /// Returns whether a request of this size is refused. A counted request that isn't refused may wait here for its turn, and for the
+    /// other one of its pair.
     fn refuses(&self, size: usize) -> bool {
         let counts = self.counts(size);
         if counts && !take_one(&self.passing) && self.lot.falls() && take_one(&self.refused) {
@@ -104,7 +104,7 @@ fn add_one(count: &AtomicU64) {
     count.fetch_add(1, Ordering::SeqCst);
 }
 
-/// Takes one from the count, unless it is 0. Of threads that ask at once, no two take the same one.
+/// Subtracts one from the count in one atomic step, unless it is 0. Returns whether it did.
 fn take_one(count: &AtomicU64) -> bool {
     count
         .fetch_update(Ordering::SeqCst, Ordering::SeqCst, |left: u64| {
@@ -113,14 +113,14 @@ fn take_one(count: &AtomicU64) -> bool {
         .is_ok()
 }
 
-/// Memory of another allocator, less what the rule refuses.
+/// An allocator that passes requests on to another one, unless the rule refuses them.
 pub struct Refusing<B: Allocator> {
     inner: B,
     rule: Rule,
 }
 
 impl<B: Allocator> Refusing<B> {
-    /// The memory of `inner`, under the rule.
+    /// Makes an allocator that passes requests on to `inner`, unless the rule refuses them.
     pub fn new(inner: B, rule: Rule) -> Refusing<B>
         ensures memory { memory_of result ≡ inner }
         ensures rule { rule_of result ≡ rule }
@@ -128,19 +128,18 @@ impl<B: Allocator> Refusing<B> {
         Refusing { inner, rule }
     }
 
-    /// From now on, of the requests that are counted, the first `passing` are granted, the next `refused` are refused, and
-    /// all later ones are granted.
+    /// Resets the counts: the first `passing` of the next counted requests are granted, `refused` more are refused, and later ones granted.
     pub fn refuse(&self, passing: u64, refused: u64) {
         self.rule.passing.store(passing, Ordering::SeqCst);
         self.rule.refused.store(refused, Ordering::SeqCst);
     }
 
-    /// How many requests the rule is still going to refuse.
+    /// Returns how many more requests the rule can refuse.
     pub fn refusals_left(&self) -> u64 {
         self.rule.refused.load(Ordering::SeqCst)
     }
 
-    /// How many requests were to meet another one and went on alone.
+    /// Returns how many requests went on without the other one of their pair.
     pub fn went_alone(&self) -> u64 {
         self.rule.pairs.alone()
     }
@@ -150,29 +149,29 @@ impl<B: Allocator> Refusing<B> {
         &self.rule.turns
     }
 
-    /// How many requests were passed on to the memory below: so many blocks were granted, where that refused none.
+    /// Returns how many requests were passed on to the allocator below. It is the number of granted blocks if that one refused none.
     pub fn granted(&self) -> u64 {
         self.rule.granted.load(Ordering::SeqCst)
     }
 
-    /// How many blocks were given back.
+    /// Returns how many blocks were freed.
     pub fn given_back(&self) -> u64 {
         self.rule.given_back.load(Ordering::SeqCst)
     }
 
-    /// Whether the rule refuses a request of this size.
+    /// Returns whether the rule refuses a request of this size.
     fn refuses(&self, size: usize) -> bool {
         self.rule.refuses(size)
     }
 
-    /// The memory that a request which isn't refused is asked of.
+    /// Returns the allocator to which requests are passed on.
     fn memory(&self) -> &B
         ensures { result.now ≡ memory_of self.now }
     {
         &self.inner
     }
 
-    /// The memory that takes a block back, which is counted.
+    /// Counts a freed block, and returns the allocator to which it is passed on.
     fn memory_of_returned(&self) -> &B
         ensures { result.now ≡ memory_of self.now }
     {

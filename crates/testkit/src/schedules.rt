@@ -1,5 +1,5 @@
-//! Schedules for tests of the machine: a long one to test and to measure it by, and worked ones, which `test_programs` takes by
-//! the program and by the machine, and `test_replays` on a table beside the machine.
+//! Schedules for tests of the machine. `load` makes a long one, which tests run and measurements time. `worked` has short ones:
+//! `test_programs` runs them by the program and by the machine, and `test_replays` on a table and on the machine.
 pub mod load;
 pub mod script;
 pub mod worked;

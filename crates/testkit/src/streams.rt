@@ -1,11 +1,11 @@
-//! What tests call a program with: words, and a reader that fails.
+//! Arguments with which tests run a program, and a reader that fails.
 use std::alloc::Allocator;
 use std::env::FillError;
 use std::io;
 use std::io::{ErrorKind, Read};
 use std::rt::Env;
 
-/// An environment whose arguments are these, the program's name first, and the memory that they are put into.
+/// An environment with these arguments, the program's name first, and with the allocator for reading them.
 #[derive(Clone, Copy)]
 pub struct Called<A> {
     pub arguments: &'static [&'static [u8]],
@@ -42,19 +42,19 @@ impl<A: Allocator + Copy> Alloc for Called<A> {
     }
 }
 
-/// A reader over memory that gives so many bytes at a call, and fails at a later call.
+/// A reader over memory that gives at most `at_once` bytes at a call, and fails after `calls_left` calls.
 #[derive(Drop)]
 pub struct Failing<'a> {
     rest: &'a [u8],
     at_once: usize,
     calls_left: u64,
-    /// Whether a call is interrupted before each that gives bytes or fails.
+    /// Whether there is an interruption before each call that gives bytes or fails.
     interrupts: bool,
     is_interrupted: bool,
 }
 
 impl<'a> Failing<'a> {
-    /// A reader that gives so many bytes at each of so many calls.
+    /// Makes a reader that gives at most `at_once` bytes at each of `calls_left` calls, and then fails.
     pub fn new(rest: &'a [u8], at_once: usize, calls_left: u64) -> Failing<'a> {
         Failing {
             rest,
@@ -65,7 +65,7 @@ impl<'a> Failing<'a> {
         }
     }
 
-    /// The same reader, but each of those calls, and the one that fails, is interrupted once before.
+    /// Makes each of those calls, and the one that fails, return one interruption first.
     pub fn interrupted(self) -> Failing<'a> {
         Failing {
             interrupts: true,

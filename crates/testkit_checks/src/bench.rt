@@ -1,5 +1,5 @@
-//! Which measurement is asked for. Each line printed is the name, the measurement and nanoseconds of wall time an operation
-//! (`g_rss`: resident bytes an entry).
+//! Runs measurements by their names. Each printed line has the name, the measurement and the nanoseconds of wall time per operation
+//! (`g_rss`, `t_rss`, `rss_1e8`: resident bytes per entry).
 use crate::measures::handles::SharedSetKeys;
 use crate::measures::held::{check_held, measure_held};
 use crate::measures::interning::{check_texts, measure_texts};
@@ -41,7 +41,7 @@ const RECORDS: &str = "records-shared-set";
 
 const TEXTS: &str = "texts-shared-interner";
 
-/// Each workload once, counted and not timed.
+/// Runs a workload of each measurement once, without a clock, and prints counts. `Err`: memory was refused, or the output failed.
 pub fn check_all<R: Print + Threads + Wait + Sync + AllocGlobal>(rt: &R) -> io::Result<()> {
     check_held::<NumberSet<Box<u64>>, R>(rt, HELD)?;
     check_held::<NumberSet<InPlace<u64>>, R>(rt, HELD_IN_PLACE)?;
@@ -58,8 +58,8 @@ pub fn check_all<R: Print + Threads + Wait + Sync + AllocGlobal>(rt: &R) -> io::
     check_interner(rt)
 }
 
-/// Runs the measurement that the words name: `list` prints the names; no word at all checks each workload without a clock; other
-/// words print the usage, and are an Err.
+/// Runs the measurement that the words name. `list` prints the names. Without words it runs `check_all`. Other words print the usage.
+/// `Err`: the words name no measurement, or a measurement failed.
 pub fn run_bench<R: Print + Eprint + Clock + Files + Threads + Wait + Sync + AllocGlobal, S: AsStr>(
     rt: &R,
     words: &[S],
@@ -81,7 +81,7 @@ pub fn run_bench<R: Print + Eprint + Clock + Files + Threads + Wait + Sync + All
     }
 }
 
-/// Runs a group of measurements of what has this name.
+/// Runs a group of the measurements with this name. `Err`: the name or the group is unknown, or a measurement failed.
 fn measure<R: Print + Eprint + Clock + Files + Threads + Wait + Sync + AllocGlobal>(
     rt: &R,
     name: &str,
@@ -101,8 +101,7 @@ fn measure<R: Print + Eprint + Clock + Files + Threads + Wait + Sync + AllocGlob
     }
 }
 
-/// Runs a group of measurements of the set of this name that threads share: those of several threads with so many, or with one
-/// to four in turn.
+/// Runs `measure_shared` with the type of set that has this name. `Err`: the name is unknown, or that call failed.
 fn measure_threads<R: Print + Eprint + Clock + Files + Threads + Wait + Sync + AllocGlobal>(
     rt: &R,
     name: &str,

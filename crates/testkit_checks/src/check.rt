@@ -1,21 +1,21 @@
-//! Which check is asked for.
+//! The check that the program's words name.
 ghost use Rattle.std.specs.Prelude.{ℕ, List, map, IfSome, IfNone};
 ghost use Rattle.testkit_checks.specs.Checks.{NamesCheck};
 ghost use Rattle.testkit_checks.specs.declared.check.Check.{Check as CheckOf};
 
 use std::convert::AsStr;
 
-/// A check.
+/// A check of `tool_checks`.
 #[derive(Clone, Copy)]
 pub enum Check {
-    /// A few schedules, a few rounds, and each measurement without a clock.
+    /// A few schedules, a few rounds, and workloads of the measurements, without a clock.
     All,
     Replays,
     Stress,
     Bench,
 }
 
-/// Reads the words after the program's name: the check, and the words that are left for it. `None` is for words that name no check.
+/// Parses the words after the program's name. Returns the check and the words that are left for it. `None`: the words name no check.
 pub fn parse_check<S: AsStr>(words: &[S]) -> Option<(Check, &[S])>
     ensures named { IfSome result (λ named. NamesCheck (map S.text words.now) named.0
         (map S.text named.1.now)) }

@@ -1,7 +1,7 @@
-//! What a developer runs on the tables by `tool_checks`: `replays` draws schedules, `stress` draws rounds of threads, `bench` measures.
+//! What a developer runs on the tables by `tool_checks`: `replays` compares schedules, `stress` runs rounds of threads, `bench` measures.
 //!
-//! - [`set_rounds`] runs rounds, in which threads give values to one set, and accounts for each value.
-//! - [`measures`] has what is measured, each workload also counted without a clock, and [`bench`] the names of it.
+//! - [`set_rounds`] runs rounds in which threads insert values into one set, and accounts for each value.
+//! - [`measures`] has the measurements, whose workloads can also be counted without a clock. [`bench`] has their names.
 #![tactic(auto)]
 
 pub mod bench;

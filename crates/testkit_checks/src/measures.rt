@@ -1,4 +1,4 @@
-//! What is measured: the tables, the interner and the machine of all schedules, each workload also counted without a clock.
+//! Measurements of the tables, the interners and the machine of all schedules. Workloads can also be counted without a clock.
 pub mod handles;
 pub mod held;
 pub mod interning;

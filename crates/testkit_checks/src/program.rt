@@ -1,4 +1,4 @@
-//! The program, over its words and streams.
+//! The program, over its arguments and streams.
 use crate::bench::{check_all, run_bench};
 use crate::check::{Check, parse_check};
 use crate::set_rounds::run_set_rounds;
@@ -18,12 +18,12 @@ use tool_streams::messages::end_with;
 /// The status of checks without a fault.
 const WELL: u8 = 0;
 
-/// The status of a check with a fault, or of words that name none.
+/// The status of a check with a fault, or of words that name no check.
 const BAD: u8 = 1;
 
 const USAGE: &str = "usage: tool_checks [replays .. | stress [set] .. | bench ..]";
 
-/// Runs the check that the words of the environment name, and answers the status. The first fault goes to `messages`.
+/// Runs the check that the program's arguments name, and returns the status. Writes the first fault of a check to `messages`.
 pub fn run_program<
     R: Print + Eprint + Clock + Files + Threads + Wait + Sync + Env + AllocGlobal,
     O: Write,
@@ -40,13 +40,13 @@ pub fn run_program<
     }
 }
 
-/// Says how the program is called.
+/// Writes the usage to `messages`, and returns the status.
 fn refuse<M: Write>(messages: &mut M) -> u8 {
     let _ = writeln!(messages, "{USAGE}");
     BAD
 }
 
-/// Runs the check with these words for it.
+/// Runs the check with these words for it, and returns the status.
 fn run_check<
     R: Print + Eprint + Clock + Files + Threads + Wait + Sync + AllocGlobal,
     S: AsStr,
@@ -68,7 +68,7 @@ fn run_check<
     }
 }
 
-/// Runs rounds on a set if the first word asks for that, and else on a raw table.
+/// Runs rounds on a set if the first word is `set`, and else on a raw table. Returns the status.
 fn run_stress<R: Threads + Wait + Sync + Clock, S: AsStr, O: Write, M: Write>(
     rt: &R,
     alloc: Global,
@@ -84,7 +84,7 @@ fn run_stress<R: Threads + Wait + Sync + Clock, S: AsStr, O: Write, M: Write>(
     }
 }
 
-/// The status of measurements that ended so.
+/// Returns the status of measurements with this result. Writes an error to `messages`.
 fn status_of<M: Write>(ended: io::Result<()>, messages: &mut M) -> u8 {
     match ended {
         Ok(()) => WELL,

@@ -1,5 +1,5 @@
-//! Rounds of threads on a set that threads share. Each thread inserts a list of numbers. At the end of the set each number that was handed in
-//! has come out, was found or was refused, once, no two that came out are equal, each that was found came out, and all memory is given back.
+//! Rounds of threads on a shared set. Each thread inserts a list of numbers. At the end each inserted number has come out of the set, was
+//! found or was refused, once. No two numbers that came out are equal, each number that was found came out, and all memory was freed.
 
 use demo_examples::accounts::{NoOutcome, Outcome, insert_lists};
 use std::alloc::{AllocError, Global};
@@ -17,13 +17,13 @@ use testkit_rounds::{Fault, Kind, Round};
 /// The status of rounds without a fault.
 const WELL: u8 = 0;
 
-/// The status of a round with a fault, or of words that are no numbers.
+/// The status of a round with a fault, of a failed clock or output, or of words that name no plan.
 const BAD: u8 = 1;
 
 /// The seconds of a minute.
 const MINUTE: u64 = 60;
 
-/// Where memory is refused, one request in so many is, on average.
+/// One request in this number is refused, on average, if memory is refused.
 const REFUSED_ONE_IN: u64 = 6;
 
 /// How many numbers came out, were found and were refused.
@@ -34,19 +34,19 @@ struct Counts {
     refused: u64,
 }
 
-/// No number.
+/// The counts of no number.
 const NONE: Counts = Counts {
     out: 0,
     found: 0,
     refused: 0,
 };
 
-/// What rounds without a fault came to.
+/// The sum of the counts of rounds without a fault.
 #[derive(Clone, Copy)]
 struct Sum {
     rounds: u64,
     counts: Counts,
-    /// Rounds in which there was no memory for the set itself or for a list.
+    /// Rounds in which memory for the set itself or for a list was refused.
     unmade: u64,
 }
 
@@ -60,8 +60,8 @@ impl Display for Sum {
     }
 }
 
-/// Runs the rounds that the words ask for, and returns the status. The words are for how many minutes, and the seed of the first round; without
-/// them a few small rounds run. The first fault goes to `messages`, with its round.
+/// Runs the rounds that the words ask for, and returns the status. The words are the number of minutes and the seed of the first round.
+/// Without words a few small rounds run. Writes the first fault to `messages`, with its round.
 pub fn run_set_rounds<R: Threads + Clock + Sync, S: AsStr, O: Write, M: Write>(
     rt: &R,
     alloc: Global,
@@ -85,7 +85,7 @@ pub fn run_set_rounds<R: Threads + Clock + Sync, S: AsStr, O: Write, M: Write>(
     }
 }
 
-/// Runs the rounds of a plan, and says at the end how many there were.
+/// Runs the rounds of a plan, and writes their number at the end. `Err`: a round had a fault, or the clock or the output failed.
 fn run_plan<R: Threads + Clock + Sync, O: Write>(
     rt: &R,
     alloc: Global,
@@ -101,7 +101,7 @@ fn run_plan<R: Threads + Clock + Sync, O: Write>(
     Ok(())
 }
 
-/// Runs the rounds of a plan, and writes every minute what they came to.
+/// Runs the rounds of a plan, writes their sum every minute, and returns it. `Err`: a round had a fault, or the clock or the output failed.
 fn run_each<R: Threads + Clock + Sync, O: Write>(
     rt: &R,
     alloc: Global,
@@ -133,7 +133,7 @@ fn run_each<R: Threads + Clock + Sync, O: Write>(
     Ok(sum)
 }
 
-/// Adds a round: what became of its numbers, or nothing if there was no memory for the set.
+/// Adds a round and its counts. There are none if memory for the set or for a list was refused.
 fn with(sum: Sum, outcome: Option<Counts>) -> Sum {
     let Counts {
         out,
@@ -151,7 +151,7 @@ fn with(sum: Sum, outcome: Option<Counts>) -> Sum {
     }
 }
 
-/// Runs a round, and accounts for each number.
+/// Runs a round, and accounts for each number. `None`: memory for the set or for a list was refused. `Err` is the first fault.
 fn run_round<R: Threads + Sync>(
     rt: &R,
     alloc: Global,
@@ -171,7 +171,7 @@ fn run_round<R: Threads + Sync>(
     Ok(came)
 }
 
-/// Which requests for the set's memory are refused.
+/// Returns the rule by which requests for the set's memory are refused.
 fn rule_of(round: Round) -> Rule {
     let refused = match round.kind {
         Kind::Refused => u64::MAX,
@@ -188,7 +188,7 @@ fn first_of(round: Round, thread: u64) -> u64 {
     }
 }
 
-/// Returns a list for each thread. Two lists beside each other share half of their numbers, or all lists are the same.
+/// Returns a list for each thread. Neighbouring lists share half of their numbers, or all lists are the same. `Err`: memory was refused.
 fn lists_of(alloc: Global, round: Round) -> Result<Vec<Vec<u64>>, AllocError> {
     let mut lists = Vec::new(alloc);
     for thread in 0..round.threads {
@@ -198,7 +198,7 @@ fn lists_of(alloc: Global, round: Round) -> Result<Vec<Vec<u64>>, AllocError> {
     Ok(lists)
 }
 
-/// Returns how often each number was handed in.
+/// Returns how often each number is inserted. `Err`: memory was refused.
 fn count_each(alloc: Global, round: Round, lists: &[Vec<u64>]) -> Result<Vec<u64>, AllocError> {
     let mut counts = Vec::new(alloc);
     counts.resize(round.values() as usize, 0)?;
@@ -217,7 +217,7 @@ fn count_list(counts: &mut [u64], list: &[u64]) {
     }
 }
 
-/// Accounts for each number that was handed in.
+/// Compares the outcome with the counts of the inserted numbers. `Err` is the first fault.
 fn account_for(alloc: Global, left: &mut [u64], outcome: &Outcome<u64>) -> Result<Counts, Fault> {
     let mut not_out = Vec::new(alloc);
     not_out.resize(left.len(), 1)?;
@@ -242,12 +242,12 @@ fn account_for(alloc: Global, left: &mut [u64], outcome: &Outcome<u64>) -> Resul
     }
 }
 
-/// Returns true if something is left of the number.
+/// Returns whether the number has a count above 0.
 fn is_left(left: &[u64], number: u64) -> bool {
     left.get(number as usize).is_some_and(|count| *count > 0)
 }
 
-/// Takes each number from what is left of it. `Err`: nothing is left of this number.
+/// Subtracts one from the count of each of these numbers. `Err` is the first one that has no count above 0.
 fn take_each(left: &mut [u64], numbers: &[u64]) -> Result<(), u64> {
     for number in numbers {
         match left.get_mut(*number as usize) {

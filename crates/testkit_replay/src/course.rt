@@ -1,4 +1,4 @@
-//! What is run on a table beside the machine.
+//! Courses: what a replay runs on a table and on the machine.
 ghost use Rattle.table_terms.specs.Capacities.{IsFirstCapacity};
 
 use crate::events::{answers_of, takes};
@@ -12,30 +12,31 @@ use std::alloc::Global;
 use table_core::call::Phase;
 use table_core::event::Event;
 
-/// What a replay runs, from a table without a generation on.
+/// What a replay runs. The table starts without a generation.
 #[derive(Clone, Copy)]
 pub enum Course<'c> {
-    /// A schedule that is drawn: see `Drawn`.
+    /// A schedule that is drawn from the seed: see `Drawn`.
     Drawn {
         refuses: bool,
     },
-    /// Inserts of values of these hashes, and then two calls that cut into each other: see `Cut`.
+    /// An insert for each of these hashes, and then two calls that interrupt each other: see `Cut`.
     Cut {
         hashes: &'c [u64],
         asks: (Ask, Ask),
         steps: (u64, u64),
         most: u64,
     },
-    /// These events one after the other. Where there is none, the numbers of buckets are compared. Of a call that is named here
-    /// the class of its value, or of what it looks for, is this one; else it is the number of its value, or 0.
+    /// These events in order. At a `None` the numbers of buckets are compared. `classes` names calls by their numbers, and gives each the
+    /// class of its value, or of what it looks for. If it doesn't name an insert, the number of the value is its class; if it doesn't name
+    /// a look-up, the class is 0.
     Events {
         events: &'c [Option<Event>],
         classes: &'c [(u64, u64)],
     },
 }
 
-/// Runs a course on a table and on the machine, whose first generations have `first` buckets. Closures answer in this manner, and
-/// what is drawn comes from the seed.
+/// Runs a course on a table and on the machine. The first generations of both have `first` buckets. Closures answer in this manner, and
+/// random numbers come from the seed. `Err`: the first fault.
 pub fn run_course(
     alloc: Global,
     first: u64,
@@ -71,17 +72,17 @@ pub fn run_course(
     }
 }
 
-/// Events one after the other, by calls of these classes.
+/// The schedule of given events, by calls of these classes.
 #[derive(Drop)]
 struct Events<'c> {
     left: &'c [Option<Event>],
     classes: &'c [(u64, u64)],
-    /// The event of this turn.
+    /// The event of this turn, or `None` if the turn compares buckets.
     event: Option<Event>,
 }
 
 impl Events<'_> {
-    /// The class that is given to a call.
+    /// Returns the class that is given to a call, or `None`.
     fn class_of(&self, call: u64) -> Option<u64> {
         for (named, class) in self.classes {
             if *named == call {
@@ -91,7 +92,8 @@ impl Events<'_> {
         None
     }
 
-    /// One event of a schedule. A call that it begins is of its class: if none is given, of that of its value's number, or of 0.
+    /// Follows one event of the schedule. If no class is given to a call that begins, its class is the number of its value, or 0 for a
+    /// look-up. `Err`: a fault.
     fn follow(&mut self, replay: &mut Replay<'_, '_>, event: Event) -> Result<Turn, Fault> {
         match event {
             Event::Insert { call, value, hash } => {
@@ -116,7 +118,7 @@ impl Events<'_> {
     }
 }
 
-/// One event of a call that has begun.
+/// Follows an event of a call that has begun. If the call isn't on the table, only the machine takes the event. `Err`: a fault.
 fn follow_step(replay: &mut Replay<'_, '_>, event: Event) -> Result<Turn, Fault> {
     let Some(index) = replay.place_of(event.call()) else {
         replay.take(event)?;

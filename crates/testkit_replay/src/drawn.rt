@@ -1,4 +1,4 @@
-//! Schedules that are drawn, each from its seed.
+//! Random schedules, each drawn from its seed.
 use crate::course::{Course, run_course};
 use crate::fault::Fault;
 use crate::script::Manner;
@@ -7,7 +7,8 @@ use std::alloc::Global;
 /// The capacity of the first generation.
 const FIRST: u64 = 16;
 
-/// Runs the schedule of a seed. One half of the seeds has careless closures, and one half is refused memory.
+/// Runs the schedule of a seed. Half of the seeds have careless closures, and half have requests for memory refused. `Err`: the first
+/// fault.
 pub fn run_seed(alloc: Global, seed: u64) -> Result<(), Fault> {
     let manner = if seed % 2 == 0 {
         Manner::Lawful
@@ -18,7 +19,7 @@ pub fn run_seed(alloc: Global, seed: u64) -> Result<(), Fault> {
     run_course(alloc, FIRST, manner, seed, Course::Drawn { refuses })
 }
 
-/// Runs the schedules of so many seeds from this one on: the first of them whose schedule has a fault, and that.
+/// Runs the schedules of `seeds` seeds from `first_seed` on. Returns the first seed whose schedule has a fault, with that fault.
 pub fn first_fault(alloc: Global, first_seed: u64, seeds: u64) -> Option<(u64, Fault)> {
     for index in 0..seeds {
         let seed = first_seed.wrapping_add(index);

@@ -1,9 +1,9 @@
-//! Which event a call takes in its phase.
+//! The events that calls take in their phases.
 use crate::script::Script;
 use table_core::call::Phase;
 use table_core::event::Event;
 
-/// What the closures and the memory of an event answer.
+/// The answers of the closures and of the memory during an event.
 #[derive(Clone, Copy)]
 pub struct Answers {
     pub accepted: bool,
@@ -11,7 +11,7 @@ pub struct Answers {
     pub granted: bool,
 }
 
-/// The answers that an event names. What it doesn't name is no, 0 and granted.
+/// Returns the answers that an event names. The others are no, 0 and granted.
 pub fn answers_of(event: Event) -> Answers {
     let none = Answers {
         accepted: false,
@@ -35,7 +35,7 @@ pub fn answers_of(event: Event) -> Answers {
     }
 }
 
-/// Whether an insert or a look-up in this phase can take the event, if the lock is free for it.
+/// Returns whether an insert or a look-up in this phase can take the event if the lock is free for it.
 pub fn takes(phase: Phase, event: Event) -> bool {
     match event {
         Event::Share { .. } => phase == Phase::WantShared,
@@ -52,7 +52,7 @@ pub fn takes(phase: Phase, event: Event) -> bool {
     }
 }
 
-/// Whether an insert in this phase releases its lock.
+/// Returns whether an insert in this phase releases its lock.
 fn releases(phase: Phase) -> bool {
     matches!(
         phase,
@@ -64,8 +64,8 @@ fn releases(phase: Phase) -> bool {
     )
 }
 
-/// The event that a call has taken which went from the one phase to the other, with what its closures answered. None after
-/// its end.
+/// Returns the event of a step, by the phases of its call before and after it, with the last answers of the closures. Returns `None` if the
+/// call had ended before the step.
 pub fn event_taken(
     call: u64,
     before: Phase,

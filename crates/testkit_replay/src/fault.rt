@@ -1,42 +1,45 @@
-//! Why a replay ends early.
+//! Faults: the reasons for which a replay ends early.
 use crate::item::Said;
 
-/// What a replay met that it doesn't go on from.
+/// The reason for which a replay ends early.
 #[derive(Clone, Copy, Debug)]
 pub enum Fault {
-    /// The replay itself was refused memory.
+    /// A request of the replay itself for memory was refused.
     NoMemory,
-    /// This call was told something else by the table than by the machine.
+    /// The replies of the table and of the machine to this call differ. `None` means that the call hasn't ended.
     Told {
         call: u64,
         table: Option<Said>,
         machine: Option<Said>,
     },
-    /// This call stands elsewhere in the table than in the machine: in another phase, at another bucket, or still blocked.
+    /// The states of this call in the table and in the machine differ: it is in another phase or at another bucket, or only one of them
+    /// blocks it.
     Stands {
         call: u64,
     },
-    /// This call took a step that its event doesn't name.
+    /// This call didn't take the step that the schedule names.
     Step {
         call: u64,
     },
-    /// A closure of this call was asked about another entry, more often, or less often, than by its steps.
+    /// The closures of this call were called with other entries than its steps name, or more or less often.
     Asked {
         call: u64,
     },
-    /// Not all calls ended.
+    /// A call didn't end within the steps that it has, a mark is missing, or growths copied fewer entries than were rehearsed.
     Unfinished,
-    /// The table counts more or fewer entries than the machine, shows them in another order, or has other buckets.
+    /// The lengths of the table and of the machine differ.
     Length,
+    /// The walks of the table and of the machine differ, or the one of the machine doesn't end.
     Walk,
+    /// The table and the machine have different numbers of buckets.
     Buckets,
-    /// A look at the table from inside a closure showed something else.
+    /// The table has another length, other buckets or other entries than were noted for this moment.
     Sight,
-    /// Of two calls that were to meet one went on without the other.
+    /// A thread that had to wait for another one went on without it.
     Alone,
 }
 
-/// What the replay itself asked of memory.
+/// Returns the result of a request of the replay itself for memory. `Err`: it was refused.
 pub(crate) fn granted<T, E: Drop>(asked: Result<T, E>) -> Result<T, Fault> {
     match asked {
         Ok(there) => Ok(there),

@@ -1,4 +1,4 @@
-//! The values of schedules, and what calls on a table of them are told.
+//! The values of schedules, and the replies of calls on a table of such values.
 use table_core::reply::Reply;
 
 /// A value of a schedule. Values of one class are equal.
@@ -9,23 +9,23 @@ pub struct Item {
     pub hash: u64,
 }
 
-/// What an insert or a look-up is told, by the numbers of the values.
+/// The reply of an insert or a look-up. It names values by their numbers.
 #[derive(Clone, Copy, Debug, PartialEq)]
 pub enum Said {
-    /// Its value is an entry now.
+    /// The value of the insert is now an entry.
     Placed(u64),
-    /// The first is an entry, and the second came back.
+    /// An entry was accepted as equal (the first number), and the value of the insert was returned (the second).
     Found(u64, u64),
-    /// It came back alone.
+    /// The insert failed, and its value was returned.
     Refused(u64),
-    /// This entry is shown.
+    /// The look-up returned this entry.
     Shown(u64),
-    /// No entry is shown.
+    /// The look-up returned `None`.
     Absent,
 }
 
 impl Said {
-    /// What a reply of the machine tells an insert or a look-up.
+    /// Converts a reply of the machine. Returns `None` for the reply of a length or a walk.
     pub fn of_reply(reply: &Reply) -> Option<Said> {
         match reply {
             Reply::Placed(value) => Some(Said::Placed(*value)),
@@ -37,7 +37,7 @@ impl Said {
         }
     }
 
-    /// What the reply of an insert tells.
+    /// Converts the result of an insert into the table.
     pub fn of_insert(reply: &Result<(&Item, Option<Box<Item>>), Box<Item>>) -> Said {
         match reply {
             Ok((entry, None)) => Said::Placed(entry.number),
@@ -46,7 +46,7 @@ impl Said {
         }
     }
 
-    /// What the reply of a look-up tells.
+    /// Converts the result of a look-up in the table.
     pub fn of_lookup(reply: Option<&Item>) -> Said {
         match reply {
             Some(entry) => Said::Shown(entry.number),

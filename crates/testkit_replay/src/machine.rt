@@ -1,4 +1,4 @@
-//! What the machine tells of a schedule.
+//! The machine beside a running table.
 ghost use Rattle.table_terms.specs.Capacities.{IsFirstCapacity};
 
 use crate::fault::{Fault, granted};
@@ -9,22 +9,22 @@ use table_core::event::Event;
 use table_core::reply::{Finished, Reply};
 use table_core::state::State;
 
-/// The number of a call that a replay begins by itself: far from those of a schedule.
+/// The replay's own calls of the machine have numbers above this one, far from those of a schedule.
 const OWN_CALLS: u64 = 1 << 32;
 
-/// How many reads a walk takes at most.
+/// The maximum number of reads of a walk.
 const READS: u64 = 1 << 12;
 
-/// The machine of all schedules, on memory that is granted.
+/// The machine of all schedules. No rule refuses its requests for memory.
 #[derive(Drop)]
 pub struct Machine {
     state: State,
-    /// How many calls the replay has begun by itself.
+    /// The number of the replay's own calls that have begun.
     begun: u64,
 }
 
 impl Machine {
-    /// No generation and no call. The first generation will have `first` buckets.
+    /// Makes a machine without generations and calls. Its first generation will have `first` buckets.
     pub fn new(alloc: Global, first: u64) -> Machine
         requires { IsFirstCapacity first }
     {
@@ -34,28 +34,28 @@ impl Machine {
         }
     }
 
-    /// Takes one event: the call that finishes by it.
+    /// Takes one event, and returns the call that finishes by it, if one does. `Err`: no memory.
     pub fn take(&mut self, event: Event) -> Result<Option<Finished>, Fault> {
         granted(self.state.step(event))
     }
 
-    /// Where the call of this number stands, if it has begun.
+    /// Returns the state of the call with this number, if it has begun.
     pub fn state_of(&self, call: u64) -> Option<CallState> {
         self.state.state_of(call)
     }
 
-    /// How many buckets all generations have.
+    /// Returns the number of buckets of all generations together.
     pub fn buckets(&self) -> u64 {
         self.state.buckets()
     }
 
-    /// The number of a call of its own.
+    /// Returns a new number for one of the replay's own calls.
     fn own_call(&mut self) -> u64 {
         self.begun = self.begun.wrapping_add(1);
         OWN_CALLS.wrapping_add(self.begun)
     }
 
-    /// How many entries it counts now, by a call of its own.
+    /// Returns the number of entries, by one of the replay's own calls. Returns `None` if that call doesn't end. `Err`: no memory.
     pub fn length(&mut self) -> Result<Option<u64>, Fault> {
         let call = self.own_call();
         self.take(Event::Len { call })?;
@@ -64,7 +64,8 @@ impl Machine {
         Ok(length_of(&loaded).or(length_of(&sized)))
     }
 
-    /// Its entries in the order of their buckets, by a call of its own.
+    /// Reads the entries in the order of their buckets, by one of the replay's own calls. Returns `None` if that call doesn't end. `Err`:
+    /// no memory.
     pub fn walk(&mut self) -> Result<Option<Finished>, Fault> {
         let call = self.own_call();
         self.take(Event::Walk { call })?;
@@ -82,7 +83,7 @@ impl Machine {
     }
 }
 
-/// The length that a call was told.
+/// Returns the length that a finished call replied with. Returns `None` for other calls.
 fn length_of(finished: &Option<Finished>) -> Option<u64> {
     match finished {
         Some(
@@ -95,7 +96,7 @@ fn length_of(finished: &Option<Finished>) -> Option<u64> {
     }
 }
 
-/// What this call was told, as an insert or a look-up.
+/// Returns the reply of this call if it has finished and is an insert or a look-up.
 pub fn said_to(call: u64, finished: &Option<Finished>) -> Option<Said> {
     match finished {
         Some(finished) if finished.call == call => Said::of_reply(&finished.reply),

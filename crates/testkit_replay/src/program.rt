@@ -1,4 +1,4 @@
-//! Replays as many drawn schedules as are asked for.
+//! Replays random schedules, as many as the arguments ask for.
 use crate::drawn::first_fault;
 use crate::whole_calls::interleaved;
 use std::alloc::Global;
@@ -7,18 +7,18 @@ use std::io::Write;
 use std::sync::Wait;
 use std::thread::Threads;
 
-/// How many schedules run where no number is given.
+/// The number of seeds if the arguments name none.
 const FEW: u64 = 20;
 
 /// The status of a run without a fault.
 const WELL: u8 = 0;
 
-/// The status of a schedule with a fault, or of arguments that are spelled otherwise.
+/// The status of a run that has a fault or wrong arguments, or whose output fails.
 const BAD: u8 = 1;
 
-/// Replays the schedules that the words ask for, and returns the status. The words are how many seeds there are, and the first seed;
-/// without them a few run, from seed 0 on. Each seed has a schedule of stepped calls, and one of whole calls on two threads. The first
-/// fault goes to `messages`, with its seed.
+/// Replays the schedules of some seeds, and returns the status. `words` are the number of seeds and the first seed; by default 20 seeds
+/// run, from 0 on. Each seed has a schedule of stepped calls, and one of whole calls on two threads. The first fault is written to
+/// `messages`, with its seed.
 pub fn run_replays<R: Threads + Wait + Sync, S: AsStr, O: Write, M: Write>(
     rt: &R,
     alloc: Global,
@@ -36,7 +36,7 @@ pub fn run_replays<R: Threads + Wait + Sync, S: AsStr, O: Write, M: Write>(
     replay_seeds(rt, alloc, seeds, first_seed, output, messages)
 }
 
-/// Reads how many schedules there are, and the seed of the first.
+/// Parses the number of seeds and the first seed. Returns `None` for other words.
 fn parse_words<S: AsStr>(words: &[S]) -> Option<(u64, u64)> {
     match words {
         [] => Some((FEW, 0)),
@@ -46,12 +46,12 @@ fn parse_words<S: AsStr>(words: &[S]) -> Option<(u64, u64)> {
     }
 }
 
-/// Reads a number.
+/// Parses a word as a number. Returns `None` if it isn't one.
 fn parse_word<S: AsStr>(word: &S) -> Option<u64> {
     word.as_str().parse::<u64>().ok()
 }
 
-/// Replays the schedules of so many seeds from this one on, and returns the status.
+/// Replays the schedules of `seeds` seeds from `first_seed` on, and returns the status.
 fn replay_seeds<R: Threads + Wait + Sync, O: Write, M: Write>(
     rt: &R,
     alloc: Global,

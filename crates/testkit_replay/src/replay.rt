@@ -1,4 +1,4 @@
-//! What a schedule does on a table and on the machine: what the table tells is what the machine tells.
+//! Runs a schedule on a table and on the machine, and compares what they do.
 ghost use Rattle.std.specs.Prelude.{◌≡◌};
 ghost use Rattle.table_terms.specs.Capacities.{IsFirstCapacity};
 
@@ -16,19 +16,19 @@ use table_core::reply::{Finished, Reply};
 use table_shared::LockFreeRawTable;
 use testkit::refusing::{Refusing, Rule};
 
-/// A table without a generation, whose first one will have `first` buckets.
+/// Makes a table without a generation. Its first generation will have `first` buckets.
 pub(crate) fn new_table(memory: &Refusing<Global>, first: u64) -> Table<'_>
     requires { IsFirstCapacity first }
 {
     LockFreeRawTable::with_first_capacity(memory, first as usize)
 }
 
-/// Each request for memory may be refused.
+/// Returns a rule under which any request for memory can be refused.
 pub(crate) fn any_request() -> Rule {
     Rule::new(0, usize::MAX, 0, 0)
 }
 
-/// Runs a schedule on a table whose memory has this rule, and on the machine.
+/// Runs a schedule on a table whose memory has this rule, and on the machine. `Err`: the first fault.
 pub(crate) fn run_schedule<S: Schedule>(
     alloc: Global,
     first: u64,
@@ -51,7 +51,7 @@ pub(crate) fn run_schedule<S: Schedule>(
     calls.run(&mut replay, schedule)
 }
 
-/// A table, the memory that it asks, and the capacity of its first generation.
+/// A table, its memory, and the capacity of its first generation.
 #[derive(Clone, Copy)]
 pub(crate) struct Ground<'a, 'm> {
     pub(crate) alloc: Global,
@@ -61,7 +61,7 @@ pub(crate) struct Ground<'a, 'm> {
 }
 
 impl<'a, 'm> Ground<'a, 'm> {
-    /// This table in this memory.
+    /// Makes a ground. `memory` is the allocator of `table`.
     pub(crate) fn new(
         alloc: Global,
         first: u64,
@@ -79,23 +79,23 @@ impl<'a, 'm> Ground<'a, 'm> {
     }
 }
 
-/// What a table is to do next.
+/// What the table does in the next turn of a schedule.
 #[derive(Drop)]
 pub enum Turn {
     /// An insert of this value begins.
     Insert(Box<Item>),
     /// A look-up of this hash begins.
     Lookup(u64),
-    /// The call at this place takes a step.
+    /// The call at this index takes a step.
     Step(usize),
-    /// Nothing, in this turn.
+    /// The table does nothing in this turn.
     Nothing,
-    /// Nothing any more.
+    /// The schedule has ended.
     End,
 }
 
-/// A call of a schedule as far as it has come: its number, the number of an insert's value, the class of that or of what it looks
-/// for, where it stands, and what it was told at its end.
+/// A call of a schedule: its number, the number of its value if it is an insert, the class of that value or of what it looks for, its
+/// state, and its reply once it has ended.
 #[derive(Clone, Copy)]
 struct Call {
     number: u64,
@@ -105,24 +105,25 @@ struct Call {
     said: Option<Said>,
 }
 
-/// A schedule as far as it has come, beside the machine.
+/// A schedule that is running on a table and on the machine. A call of the table has an index: its place among those that have begun.
 #[derive(Drop)]
 pub struct Replay<'a, 'm> {
     pub(crate) ground: Ground<'a, 'm>,
     pub(crate) script: &'a Script,
     machine: Machine,
     calls: Vec<Call>,
-    /// The numbers of the calls that have begun.
+    /// The numbers of all calls that have begun, with the lengths and walks that only the machine runs.
     numbers: Vec<u64>,
-    /// How many calls haven't ended.
+    /// The number of calls that haven't ended.
     going: u64,
-    /// The place of the call that takes a step, and how many requests were to be refused before it.
+    /// The index of the call that takes a step.
     stepping: usize,
+    /// How many requests were still to be refused before that step.
     refusals: u64,
 }
 
 impl<'a, 'm> Replay<'a, 'm> {
-    /// No call yet, on a table without a generation.
+    /// Makes a replay without calls, on a table without a generation.
     fn new(ground: Ground<'a, 'm>, script: &'a Script) -> Self
         requires { IsFirstCapacity ground.first }
     {
@@ -138,12 +139,12 @@ impl<'a, 'm> Replay<'a, 'm> {
         }
     }
 
-    /// How many calls have begun on the table.
+    /// Returns how many calls have begun on the table.
     pub(crate) fn begun(&self) -> usize {
         self.calls.len()
     }
 
-    /// Begins the next call, which has the number of its place.
+    /// Begins the next call. Its number is its index. `Err`: no memory.
     pub(crate) fn begin(&mut self, ask: Ask) -> Result<Turn, Fault> {
         let number = self.calls.len() as u64;
         match ask {
@@ -159,7 +160,7 @@ impl<'a, 'm> Replay<'a, 'm> {
         }
     }
 
-    /// Begins an insert. On the table it is left out if its number or its value was used.
+    /// Begins an insert. The table skips it if its number or its value was used before. `Err`: no memory.
     pub(crate) fn insert(&mut self, number: u64, item: Item) -> Result<Turn, Fault> {
         let (value, hash) = (item.number, item.hash);
         self.machine.take(Event::Insert {
@@ -178,7 +179,7 @@ impl<'a, 'm> Replay<'a, 'm> {
         self.add(call, Turn::Insert(value))
     }
 
-    /// Begins a look-up of a class. On the table it is left out if its number was used.
+    /// Begins a look-up of a class. The table skips it if its number was used before. `Err`: no memory.
     pub(crate) fn lookup(&mut self, number: u64, class: u64, hash: u64) -> Result<Turn, Fault> {
         self.machine.take(Event::Lookup { call: number, hash })?;
         let call = Call {
@@ -191,7 +192,8 @@ impl<'a, 'm> Replay<'a, 'm> {
         self.add(call, Turn::Lookup(hash))
     }
 
-    /// Adds a call, which begins by this turn, unless its number or its value was used.
+    /// Adds a call, and returns the turn by which it begins. If its number or its value was used before, adds nothing and returns
+    /// `Turn::Nothing`. `Err`: no memory.
     fn add(&mut self, call: Call, turn: Turn) -> Result<Turn, Fault> {
         if self.is_used(&call) {
             return Ok(Turn::Nothing);
@@ -202,7 +204,7 @@ impl<'a, 'm> Replay<'a, 'm> {
         Ok(turn)
     }
 
-    /// Whether a call has the number of this one, or an insert its value.
+    /// Returns whether another call has the number of this one, or another insert its value.
     fn is_used(&self, call: &Call) -> bool {
         for other in &self.calls {
             if call.value.is_some() && other.value == call.value {
@@ -212,14 +214,14 @@ impl<'a, 'm> Replay<'a, 'm> {
         self.numbers.contains(&call.number)
     }
 
-    /// Begins a length or a walk, on the machine alone.
+    /// Begins a length or a walk, on the machine only. `Err`: no memory.
     pub(crate) fn begin_whole(&mut self, event: Event) -> Result<Turn, Fault> {
         self.machine.take(event)?;
         granted(self.numbers.push(event.call()))?;
         Ok(Turn::Nothing)
     }
 
-    /// The place of the call of this number.
+    /// Returns the index of the call with this number, if the table has it.
     pub(crate) fn place_of(&self, number: u64) -> Option<usize> {
         for (index, call) in self.calls.iter().enumerate() {
             if call.number == number {
@@ -229,7 +231,7 @@ impl<'a, 'm> Replay<'a, 'm> {
         None
     }
 
-    /// The phase of the call at this place.
+    /// Returns the phase of the call at this index. Returns `Done` if there is none.
     pub(crate) fn phase_at(&self, index: usize) -> Phase {
         match self.calls.get(index) {
             Some(call) => call.state.phase,
@@ -237,13 +239,13 @@ impl<'a, 'm> Replay<'a, 'm> {
         }
     }
 
-    /// Whether all calls have ended.
+    /// Returns whether all calls have ended.
     pub(crate) fn all_ended(&self) -> bool {
         self.going == 0
     }
 
-    /// The next turn is a step of the call at this place, in which its closures are told to answer this. Of its memory what
-    /// stands to be refused is.
+    /// Returns a turn in which the call at this index takes a step. With `Manner::Told` its closures give these answers. Refusals that are
+    /// left from before apply to its requests for memory.
     pub(crate) fn step(&mut self, index: usize, accepted: bool, hash: u64) -> Turn {
         let class = match self.calls.get(index) {
             Some(call) => call.class,
@@ -255,15 +257,17 @@ impl<'a, 'm> Replay<'a, 'm> {
         Turn::Step(index)
     }
 
-    /// The next turn is a step of the call at this place. Of its requests for memory the first few are granted, and so many of the
-    /// next are refused.
+    /// Returns a turn in which the call at this index takes a step. Its first `passing` requests for memory are granted, and the next
+    /// `refused` ones are refused.
     pub(crate) fn step_refused(&mut self, index: usize, passing: u64, refused: u64) -> Turn {
         self.ground.memory.refuse(passing, refused);
-        // Where no closure is asked, the machine is told of a yes: it would take it from an entry that is to be asked about.
+        // If the table calls no closure, the event says yes. If the machine has to ask about an entry there, it accepts it and differs from
+        // the table.
         self.step(index, true, 0)
     }
 
-    /// After a step: on the machine the event that it was.
+    /// Gives the machine the event of the step that the table has taken, and compares the reply, the state and the length. `Err`: they
+    /// differ, or no memory.
     pub(crate) fn follow(&mut self, stepped: Stepped) -> Result<(), Fault> {
         let granted = self.ground.memory.refusals_left() == self.refusals;
         let Some(call) = self.calls.get(self.stepping) else {
@@ -279,7 +283,7 @@ impl<'a, 'm> Replay<'a, 'm> {
         }
     }
 
-    /// After a step: on the machine this event.
+    /// Gives the machine this event, which the table has taken, and compares the reply and the state. `Err`: they differ, or no memory.
     pub(crate) fn follow_by(&mut self, event: Event, stepped: Stepped) -> Result<(), Fault> {
         self.note(stepped);
         let finished = self.take(event)?;
@@ -288,7 +292,8 @@ impl<'a, 'm> Replay<'a, 'm> {
         self.compare_state(call, stepped.state)
     }
 
-    /// An event that the call at this place can't take on the table.
+    /// Checks that the machine doesn't take an event that the call at this index can't take on the table. `Err`: it takes the event, or no
+    /// memory.
     pub(crate) fn follow_blocked(&mut self, index: usize, event: Event) -> Result<Turn, Fault> {
         if let Some(call) = self.calls.get(index) {
             let blocked = Stepped {
@@ -301,14 +306,15 @@ impl<'a, 'm> Replay<'a, 'm> {
         Ok(Turn::Nothing)
     }
 
-    /// On the machine this event. A length or a walk that it ends is that of the table.
+    /// Gives the machine this event, and returns the call that finishes by it. Compares the reply of a length or a walk with the table.
+    /// `Err`: they differ, or no memory.
     pub(crate) fn take(&mut self, event: Event) -> Result<Option<Finished>, Fault> {
         let finished = self.machine.take(event)?;
         compare_whole(self.ground.table, &finished)?;
         Ok(finished)
     }
 
-    /// Notes what the step came to that was taken last.
+    /// Records the result of the last step in its call.
     fn note(&mut self, stepped: Stepped) {
         if let Some(call) = self.calls.get_mut(self.stepping) {
             call.state = stepped.state;
@@ -319,7 +325,7 @@ impl<'a, 'm> Replay<'a, 'm> {
         }
     }
 
-    /// The call of this number stands in the machine as in the table.
+    /// Checks that the call with this number has this state in the machine. `Err`: it has another one.
     fn compare_state(&self, call: u64, state: CallState) -> Result<(), Fault> {
         if self.machine.state_of(call) == Some(state) {
             return Ok(());
@@ -327,7 +333,7 @@ impl<'a, 'm> Replay<'a, 'm> {
         Err(Fault::Stands { call })
     }
 
-    /// The call of this place and number was told this at its end.
+    /// Checks that the call of this number, which is also its index, ended with this reply. `Err`: it didn't.
     pub(crate) fn compare_end(&self, call: u64, said: Said) -> Result<(), Fault> {
         let machine = match self.calls.get(call as usize) {
             Some(call) => call.said,
@@ -336,14 +342,16 @@ impl<'a, 'm> Replay<'a, 'm> {
         same_told(call, Some(said), machine)
     }
 
-    /// The schedule is over: the table and the machine count as many entries, show them in one order, and have as many buckets.
+    /// Ends the schedule, and compares the length, the entries and the buckets of the table and of the machine. `Err`: they differ, or no
+    /// memory.
     pub(crate) fn end(&mut self) -> Result<Turn, Fault> {
         self.compare_walk()?;
         self.compare_buckets()?;
         Ok(Turn::End)
     }
 
-    /// The table and the machine count as many entries, and show them in one order.
+    /// Checks that the table and the machine have the same length, and the same entries in the same order. `Err`: they differ, or no
+    /// memory.
     pub(crate) fn compare_walk(&mut self) -> Result<(), Fault> {
         self.compare_length()?;
         let walked = self.machine.walk()?;
@@ -353,7 +361,7 @@ impl<'a, 'm> Replay<'a, 'm> {
         compare_whole(self.ground.table, &walked)
     }
 
-    /// The table and the machine count as many entries now.
+    /// Checks that the table and the machine have the same length now. `Err`: they differ, or no memory.
     fn compare_length(&mut self) -> Result<(), Fault> {
         if self.machine.length()? == Some(self.ground.table.len() as u64) {
             return Ok(());
@@ -361,7 +369,7 @@ impl<'a, 'm> Replay<'a, 'm> {
         Err(Fault::Length)
     }
 
-    /// The table and the machine have as many buckets.
+    /// Checks that the table and the machine have the same number of buckets. `Err`: they differ.
     pub(crate) fn compare_buckets(&self) -> Result<(), Fault> {
         if self.machine.buckets() == buckets(self.ground.table, self.ground.first) {
             return Ok(());
@@ -370,7 +378,7 @@ impl<'a, 'm> Replay<'a, 'm> {
     }
 }
 
-/// How many buckets all generations of a table have: each has twice as many as the one before.
+/// Returns the number of buckets of all generations of a table. Each generation has twice as many as the one before.
 pub(crate) fn buckets(table: &Table<'_>, first: u64) -> u64 {
     match table.current(&mut table.note()) {
         Some(current) => (current.generation.capacity() as u64)
@@ -380,7 +388,7 @@ pub(crate) fn buckets(table: &Table<'_>, first: u64) -> u64 {
     }
 }
 
-/// The call was told the same by the table and by the machine.
+/// Checks that the call has the same reply from the table and from the machine, or none from both. `Err`: the replies differ.
 fn compare(call: u64, took: Took, finished: &Option<Finished>) -> Result<(), Fault> {
     let table = match took {
         Took::Told(said) => Some(said),
@@ -389,7 +397,7 @@ fn compare(call: u64, took: Took, finished: &Option<Finished>) -> Result<(), Fau
     same_told(call, table, said_to(call, finished))
 }
 
-/// What the call was told is the same.
+/// Checks that the two replies to the call are the same. `Err`: they differ.
 fn same_told(call: u64, table: Option<Said>, machine: Option<Said>) -> Result<(), Fault> {
     if table == machine {
         return Ok(());
@@ -401,7 +409,7 @@ fn same_told(call: u64, table: Option<Said>, machine: Option<Said>) -> Result<()
     })
 }
 
-/// A length or a walk of the machine is that of the table.
+/// Checks that a length or a walk has the same reply from the machine as from the table. `Err`: the replies differ.
 fn compare_whole(table: &Table<'_>, finished: &Option<Finished>) -> Result<(), Fault> {
     let Some(finished) = finished else {
         return Ok(());
@@ -413,7 +421,7 @@ fn compare_whole(table: &Table<'_>, finished: &Option<Finished>) -> Result<(), F
     }
 }
 
-/// Whether a walk over the table shows these entries in this order.
+/// Returns whether a walk over the table returns these entries in this order.
 fn shows(table: &Table<'_>, entries: &[u64]) -> bool {
     let mut left = entries.iter();
     for entry in table.iter() {

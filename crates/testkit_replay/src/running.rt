@@ -9,37 +9,37 @@ use table_core::call::CallState;
 use table_shared::{InsertCall, LockFreeRawTable, LookupCall, Progress};
 use testkit::refusing::Refusing;
 
-/// A table of the values of a schedule, whose memory can be refused.
+/// A table of the values of a schedule. Its requests for memory can be refused.
 pub type Table<'m> = LockFreeRawTable<Box<Item>, &'m Refusing<Global>>;
 
-/// What a step came to.
+/// The result of a step.
 #[derive(Clone, Copy, PartialEq)]
 pub enum Took {
-    /// A step was taken, and there are more.
+    /// The call took a step, and hasn't ended.
     Moved,
-    /// None was taken.
+    /// The call took no step: others hold the lock that it needs, or it had ended.
     Blocked,
-    /// The last one was taken, and the call was told this.
+    /// The call took its last step, and has this reply.
     Told(Said),
 }
 
-/// What a step came to, and where the call stands then.
+/// The result of a step, and the state of the call after it.
 #[derive(Clone, Copy)]
 pub struct Stepped {
     pub took: Took,
     pub state: CallState,
 }
 
-/// What a table is to do, one turn after the other.
+/// A schedule. It says turn by turn what the table does.
 pub trait Schedule {
-    /// The next turn.
+    /// Returns the next turn. `Err`: a fault, which ends the replay.
     fn next(&mut self, replay: &mut Replay<'_, '_>) -> Result<Turn, Fault>;
 
-    /// Hears what the step came to that was the last turn.
+    /// Takes the result of the step that was the last turn. `Err`: the result isn't the expected one.
     fn hear(&mut self, replay: &mut Replay<'_, '_>, stepped: Stepped) -> Result<(), Fault>;
 }
 
-/// A call that goes step by step.
+/// A call that runs one step at a time.
 pub enum Steps<'a, 'm, E: Fn(&Item, &Item) -> bool, H: Fn(&Item) -> u64, F: Fn(&Item) -> bool> {
     Insert(InsertCall<'a, Box<Item>, &'m Refusing<Global>, E, H>),
     Lookup(LookupCall<'a, Box<Item>, &'m Refusing<Global>, F>),
@@ -52,7 +52,7 @@ impl<'a, 'm, E: Fn(&Item, &Item) -> bool, H: Fn(&Item) -> u64, F: Fn(&Item) -> b
     H,
     F,
 > {
-    /// One step.
+    /// Takes one step, and returns its result.
     fn advance(&mut self) -> Stepped
         requires may_go { MayGo E.IsAlwaysCallable H.IsAlwaysCallable F.IsAlwaysCallable E.Fn
             self.old }
@@ -88,7 +88,7 @@ impl<E: Fn(&Item, &Item) -> bool, H: Fn(&Item) -> u64, F: Fn(&Item) -> bool> Dro
     }
 }
 
-/// What a step of an insert came to.
+/// Converts the result of a step of an insert.
 fn took_insert(progress: &Progress<Result<(&Item, Option<Box<Item>>), Box<Item>>>) -> Took {
     match progress {
         Progress::Moved => Took::Moved,
@@ -97,7 +97,7 @@ fn took_insert(progress: &Progress<Result<(&Item, Option<Box<Item>>), Box<Item>>
     }
 }
 
-/// What a step of a look-up came to.
+/// Converts the result of a step of a look-up.
 fn took_lookup(progress: Progress<Option<&Item>>) -> Took {
     match progress {
         Progress::Moved => Took::Moved,
@@ -106,7 +106,7 @@ fn took_lookup(progress: Progress<Option<&Item>>) -> Took {
     }
 }
 
-/// The calls of a schedule, in the order in which they began, and the closures that they ask.
+/// The calls of a schedule, in the order in which they began, and the closures that they call.
 pub struct Calls<
     'a,
     'm,
@@ -128,7 +128,7 @@ impl<
     H: Fn(&Item) -> u64 + Copy,
     F: Fn(&Item) -> bool + Copy,
 > Calls<'a, 'm, E, H, F> {
-    /// No call yet.
+    /// Makes an empty list of calls. Its calls will run on this table with these closures.
     pub fn new(alloc: Global, table: &'a Table<'m>, eq: E, hash_fn: H, test: F) -> Self
         requires eq_callable { E.IsAlwaysCallable eq }
         requires hash_callable { H.IsAlwaysCallable hash_fn }
@@ -145,7 +145,7 @@ impl<
         }
     }
 
-    /// Takes the turns of a schedule to its end.
+    /// Runs the turns of a schedule to its end. `Err`: the first fault.
     pub fn run<S: Schedule>(
         &mut self,
         replay: &mut Replay<'_, '_>,
@@ -166,7 +166,7 @@ impl<
         Err(Fault::Unfinished)
     }
 
-    /// Begins an insert.
+    /// Begins an insert of this value. `Err`: no memory.
     fn insert(&mut self, value: Box<Item>) -> Result<(), Fault>
         requires ready { IsReady E.IsAlwaysCallable H.IsAlwaysCallable F.IsAlwaysCallable E.Fn
             self.old }
@@ -181,7 +181,7 @@ impl<
         }
     }
 
-    /// Begins a look-up of a hash.
+    /// Begins a look-up of a hash. `Err`: no memory.
     fn lookup(&mut self, hash: u64) -> Result<(), Fault>
         requires ready { IsReady E.IsAlwaysCallable H.IsAlwaysCallable F.IsAlwaysCallable E.Fn
             self.old }
@@ -195,7 +195,7 @@ impl<
         }
     }
 
-    /// One step of the call at this place.
+    /// Takes one step of the call at this index. `Err`: there is no such call.
     fn advance(&mut self, index: usize) -> Result<Stepped, Fault>
         requires ready { IsReady E.IsAlwaysCallable H.IsAlwaysCallable F.IsAlwaysCallable E.Fn
             self.old }

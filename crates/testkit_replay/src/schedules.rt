@@ -1,16 +1,16 @@
-//! Schedules that drive calls: some are drawn, and in some two calls cut into each other.
+//! Schedules of calls: random ones, and schedules in which two calls interrupt each other.
 use crate::fault::Fault;
 use crate::replay::{Replay, Turn};
 use crate::running::{Schedule, Stepped, Took};
 use crate::script::Script;
 
-/// How many steps one insert into a table takes at most, if no other call runs.
+/// The number of steps within which a call, or the last calls of a schedule, must end.
 const STEPS: u64 = 1000;
 
-/// How many classes there are to draw from.
+/// The number of classes from which calls are drawn.
 const CLASSES: u64 = 60;
 
-/// What a call asks.
+/// The kind of a call, with a class and a hash.
 #[derive(Clone, Copy, PartialEq)]
 pub enum Ask {
     /// An insert of a value of this class and this hash.
@@ -19,13 +19,13 @@ pub enum Ask {
     Lookup(u64, u64),
 }
 
-/// A class that is drawn, and its hash. Some classes share a bucket, and some of those the eight bits.
+/// Draws a class, and returns it with its hash. Different classes can have the same hash, or only the same first bucket and mark.
 pub(crate) fn draw_class(script: &Script) -> (u64, u64) {
     let class = script.draw(CLASSES);
     (class, (class % 24) | ((class & 3) << 32))
 }
 
-/// A look-up of a class that is drawn, or an insert: two of three, or all where no look-up is asked for.
+/// Draws a call. One in three is a look-up, or none if `lookups` is false.
 fn draw_ask(script: &Script, lookups: bool) -> Ask {
     let (class, hash) = draw_class(script);
     if lookups && script.draw(3) == 0 {
@@ -35,16 +35,16 @@ fn draw_ask(script: &Script, lookups: bool) -> Ask {
     }
 }
 
-/// Which steps are taken before the next call begins.
+/// Which calls take steps, and how long.
 #[derive(Clone, Copy)]
 enum Goal {
-    /// Those of the call at a place, as long as it moves.
+    /// One call takes steps as long as it moves.
     Stop,
-    /// Those of all calls in turn, from a place on, each until it is blocked or ends.
+    /// All calls take steps in turn, each until it is blocked or ends.
     AllEnd,
 }
 
-/// Steps on the way to a goal: at which call it is, and how many are left at most.
+/// A series of steps: its goal, the index of the call that takes the next one, and the maximum number of steps left.
 #[derive(Clone, Copy)]
 pub(crate) struct Way {
     goal: Goal,
@@ -53,7 +53,7 @@ pub(crate) struct Way {
 }
 
 impl Way {
-    /// All calls go to their ends, from this place on, by up to so many steps.
+    /// Makes a way on which all calls run to their ends, from the call at this index on, in at most `left` steps.
     fn to_ends(index: usize, left: u64) -> Way {
         Way {
             goal: Goal::AllEnd,
@@ -62,7 +62,7 @@ impl Way {
         }
     }
 
-    /// Whether there are more steps.
+    /// Returns whether there are more steps. `Err`: no step is left, and a call hasn't ended.
     fn goes_on(&self, replay: &Replay<'_, '_>) -> Result<bool, Fault> {
         match self.goal {
             Goal::Stop => Ok(self.left != 0),
@@ -72,7 +72,8 @@ impl Way {
         }
     }
 
-    /// Hears what its step came to, where so many calls have begun.
+    /// Takes the result of a step. After a blocked step or the last one of a call, a `Stop` is over, and an `AllEnd` goes on with the next
+    /// of the `begun` calls.
     fn hear(&mut self, took: Took, begun: usize) {
         self.left = self.left.saturating_sub(1);
         if took == Took::Moved {
@@ -88,20 +89,20 @@ impl Way {
     }
 }
 
-/// No steps.
+/// A way without steps.
 const ARRIVED: Way = Way {
     goal: Goal::Stop,
     index: 0,
     left: 0,
 };
 
-/// Which calls begin, and on which ways they go.
+/// A plot: it decides which calls begin, and on which ways they take steps.
 pub(crate) trait Plot {
-    /// The next turn where no step is left. With it the calls may set out on a way.
+    /// Returns the next turn, once the last way has no step left. It can set a new way, which starts after this turn. `Err`: a fault.
     fn advance(&mut self, replay: &mut Replay<'_, '_>, way: &mut Way) -> Result<Turn, Fault>;
 }
 
-/// The schedule of a plot, in which each way is gone before the next turn.
+/// The schedule of a plot. It takes all steps of a way before it asks the plot for the next turn.
 #[derive(Drop)]
 pub(crate) struct Plotted<P: Plot> {
     plot: P,
@@ -109,7 +110,7 @@ pub(crate) struct Plotted<P: Plot> {
 }
 
 impl<P: Plot> Plotted<P> {
-    /// No step yet.
+    /// Makes the schedule of this plot.
     pub(crate) fn new(plot: P) -> Plotted<P> {
         Plotted { plot, way: ARRIVED }
     }
@@ -130,33 +131,33 @@ impl<P: Plot> Schedule for Plotted<P> {
     }
 }
 
-/// How far a schedule has come that is drawn.
+/// The stage of a random schedule.
 #[derive(Clone, Copy)]
 enum Stage {
-    /// So many more values are inserted, one after the other.
+    /// The number of values that are still to be inserted, one after the other.
     Fill(u64),
-    /// So many more calls begin.
+    /// The number of calls that are still to begin.
     Begin(u64),
-    /// So many more steps are drawn.
+    /// The number of random steps that are still to be taken.
     Wander(u64),
-    /// All calls go to their ends.
+    /// All calls run to their ends.
     Finish,
     Over,
 }
 
-/// A schedule that is drawn: two to five calls on a table of up to 40 entries, step by step in an order that is drawn, and then to
-/// their ends. Where memory is refused, that comes in one of four steps.
+/// A random schedule. Two to five calls on a table of up to 40 entries take steps in random order, and then run to their ends. If
+/// `refuses`, a request for memory may be refused in one of four random steps.
 #[derive(Drop)]
 pub(crate) struct Drawn<'s> {
     script: &'s Script,
     refuses: bool,
     stage: Stage,
-    /// The place of the first call of those that go step by step.
+    /// The index of the first call that takes random steps.
     first: usize,
 }
 
 impl<'s> Drawn<'s> {
-    /// The schedule of this script.
+    /// Makes the schedule that is drawn from this script.
     pub(crate) fn new(script: &'s Script, refuses: bool) -> Drawn<'s> {
         Drawn {
             script,
@@ -166,7 +167,7 @@ impl<'s> Drawn<'s> {
         }
     }
 
-    /// A step of one of the last calls, which is drawn.
+    /// Draws one of the last calls, and returns the turn in which it takes a step.
     fn wander(&self, replay: &mut Replay<'_, '_>) -> Turn {
         let calls = replay.begun().saturating_sub(self.first) as u64;
         let index = self.first.saturating_add(self.script.draw(calls) as usize);
@@ -217,15 +218,16 @@ impl Plot for Drawn<'_> {
     }
 }
 
-/// Inserts of values of these hashes, each of the class of its place, and then two calls: so many steps of the first, then so many
-/// of the second, and then each in turn until it is blocked or ends, up to so many steps in all.
+/// A schedule of an insert for each of these hashes, and then two calls. The class of an insert is its index. The first call takes up to
+/// `steps.0` steps, and then the second up to `steps.1`. After that the calls run to their ends, each in turn until it is blocked or ends.
+/// The two calls take at most `most` steps.
 #[derive(Drop)]
 pub(crate) struct Cut<'c> {
     hashes: &'c [u64],
     asks: (Ask, Ask),
     steps: (u64, u64),
     most: u64,
-    /// How many of its ways the two calls have set out on.
+    /// The number of ways that have begun after the inserts.
     part: u64,
 }
 
@@ -245,7 +247,7 @@ impl<'c> Cut<'c> {
         }
     }
 
-    /// The next way of the two calls. None: they were on the last one.
+    /// Returns the next way of the two calls, or `None` after the last one.
     fn next_way(&mut self) -> Option<Way> {
         let first = self.hashes.len();
         let (ahead, second_ahead) = self.steps;

@@ -1,4 +1,4 @@
-//! What the closures of calls answer.
+//! The answers of the closures that calls run.
 use crate::item::Item;
 use std::cell::Cell;
 use table_terms::law::hash_number;
@@ -6,11 +6,11 @@ use table_terms::law::hash_number;
 /// How closures answer.
 #[derive(Clone, Copy)]
 pub enum Manner {
-    /// As they were told before the step.
+    /// By the answers that were set before the step.
     Told,
     /// By the classes and the hashes of the values.
     Lawful,
-    /// By numbers drawn one after the other, whatever they are asked.
+    /// At random, whatever the value and the entry are.
     Careless,
 }
 
@@ -23,12 +23,12 @@ pub struct Script {
     /// The class that a look-up looks for.
     sought: Cell<u64>,
     drawn: Cell<u64>,
-    /// The entry of which a closure was asked.
+    /// The entry with which a closure was called last, unless it was taken.
     met: Cell<Option<u64>>,
 }
 
 impl Script {
-    /// Closures that answer in this manner. A seed gives the same numbers again.
+    /// Makes a script whose closures answer in this manner. Equal seeds draw equal numbers.
     pub fn new(manner: Manner, seed: u64) -> Script {
         Script {
             manner,
@@ -40,21 +40,21 @@ impl Script {
         }
     }
 
-    /// Before a step: what a closure is to answer where it is told, and the class that is looked for.
+    /// Sets the answers of the next step for closures in the manner `Told`, and the class that a look-up looks for.
     pub fn begin(&self, accepted: bool, hash: u64, sought: u64) {
         self.accepted.set(accepted);
         self.hash.set(hash);
         self.sought.set(sought);
     }
 
-    /// A number below `bound`, or 0 where that is 0.
+    /// Draws a number below `bound`. Returns 0 if `bound` is 0.
     pub fn draw(&self, bound: u64) -> u64 {
         let drawn = hash_number(self.drawn.get().wrapping_add(1));
         self.drawn.set(drawn ^ (drawn >> 29));
         (drawn >> 11).checked_rem(bound).unwrap_or(0)
     }
 
-    /// The answer of a closure that is asked whether a value of the class is an entry's equal.
+    /// Returns whether a closure accepts an entry as equal to a value of this class.
     pub fn says(&self, class: u64, entry: &Item) -> bool {
         let accepted = match self.manner {
             Manner::Told => self.accepted.get(),
@@ -66,12 +66,12 @@ impl Script {
         accepted
     }
 
-    /// The answer of a closure that is asked whether an entry is looked for.
+    /// Returns whether a closure accepts an entry as what a look-up looks for.
     pub fn seeks(&self, entry: &Item) -> bool {
         self.says(self.sought.get(), entry)
     }
 
-    /// The answer of a closure that is asked for the hash of an entry.
+    /// Returns the hash that a closure gives for an entry.
     pub fn rehashes(&self, entry: &Item) -> u64 {
         let hash = match self.manner {
             Manner::Told => self.hash.get(),
@@ -83,17 +83,17 @@ impl Script {
         hash
     }
 
-    /// The entry of which a closure was asked since the last time.
+    /// Returns the entry with which a closure was called last, if one was called since the last `take_met`.
     pub fn take_met(&self) -> Option<u64> {
         self.met.replace(None)
     }
 
-    /// What was answered last of an entry, or was to be.
+    /// Returns whether a closure accepted the last entry. If none was called since `begin`, returns the answer that was set there.
     pub fn accepted(&self) -> bool {
         self.accepted.get()
     }
 
-    /// The hash that was answered last, or was to be.
+    /// Returns the last hash that a closure gave. If none was called since `begin`, returns the hash that was set there.
     pub fn hash(&self) -> u64 {
         self.hash.get()
     }

@@ -1,7 +1,7 @@
-//! Whole inserts and look-ups on a running table, cut where they ask a closure. Inside the closure other whole calls run.
+//! Whole inserts and look-ups on a running table, with other whole calls inside their closures.
 //!
-//! What happens is noted in its order, and then followed step by step on a table beside the machine: each closure has to be
-//! asked about the same entry at the same step, and each call told the same.
+//! A trace notes in order what happens. It is then repeated step by step on another table and on the machine. Each closure must be called
+//! with the same entry at the same step, and each call must have the same reply.
 ghost use Rattle.table_terms.specs.Capacities.{IsFirstCapacity};
 
 pub mod interleaved;
@@ -23,30 +23,31 @@ use std::alloc::Global;
 use std::sync::Wait;
 use testkit::refusing::{Refusing, Rule};
 
-/// Of a call's requests for memory, how many are granted first, and how many of the next are refused.
+/// How many of a call's requests for memory are granted first, and how many of the next are refused.
 pub type Refusals = (u64, u64);
 
-/// A whole call that doesn't run inside of another one, and what is refused to it.
+/// A whole call that doesn't run inside another one (a top call), and its refusals.
 pub type Top = (Ask, Refusals);
 
 /// Whole calls, one after the other.
 #[derive(Clone, Copy)]
 pub struct Tops<'c> {
-    /// So many inserts come first. Each has the number of its call for its class and its hash, and nothing is refused to it.
+    /// The number of inserts that come first. The class and the hash of each are the number of its call. None of their requests is refused.
     pub filled: u64,
     pub then: &'c [Top],
 }
 
-/// What runs on a table without a generation.
+/// The calls that run on a table. It starts without a generation.
 #[derive(Clone, Copy)]
 pub enum Plan<'c> {
-    /// So many calls that are drawn, and calls inside of their closures that are drawn.
+    /// `tops` random calls, with random calls inside their closures. If `refuses`, some requests for memory are refused.
     Drawn { tops: u64, refuses: bool },
-    /// These calls. Inside of the first closure that the last of them asks, others run.
+    /// These calls. The calls of `inside` run inside the first closure that the last of them calls.
     Worked { tops: Tops<'c>, inside: &'c [Ask] },
 }
 
-/// Runs whole calls, and compares what they do with the machine. What each call is told, in the order in which they end.
+/// Runs the whole calls of a plan, and repeats them on the machine. Returns the number and the reply of each call, in the order in which
+/// the calls end. `Err`: the first fault.
 pub fn run_whole<R: Wait>(
     rt: &R,
     alloc: Global,
@@ -65,7 +66,7 @@ pub fn run_whole<R: Wait>(
     told_in(alloc, marks.as_slice())
 }
 
-/// Follows what happened on a table beside the machine, whose memory has the same rule.
+/// Repeats a trace on a table whose memory has this rule, and on the machine. `Err`: the first fault.
 fn follow(alloc: Global, first: u64, rule: Rule, marks: &[Mark]) -> Result<(), Fault>
     requires { IsFirstCapacity first }
 {
@@ -73,7 +74,7 @@ fn follow(alloc: Global, first: u64, rule: Rule, marks: &[Mark]) -> Result<(), F
     run_schedule(alloc, first, rule, &script, &mut Retrace::new(marks))
 }
 
-/// What the calls were told, in the order in which they ended.
+/// Returns the replies of the calls, in the order in which they ended. `Err`: no memory.
 fn told_in(alloc: Global, marks: &[Mark]) -> Result<Vec<(u64, Said)>, Fault> {
     let mut told = Vec::new(alloc);
     for mark in marks {

@@ -1,25 +1,24 @@
-//! The account of a round: what its threads were told, what the table shows, and what it hands out at the end.
+//! The account of a round: the outcomes of its inserts, the entries of the table, and the values that the table returns at the end.
 use crate::fates::{Fate, Fates};
 use crate::value::Value;
 use crate::work::{Told, Values, look};
 use crate::{Fault, Round};
 use std::alloc::Global;
 
-/// What became of the values of a round without a fault. All together they are the values that were given.
+/// How many values of a round without a fault had which fate. Each value that a thread inserted has one fate.
 #[derive(Clone, Copy, Debug, PartialEq, Eq)]
 pub struct Account {
     /// Values that are entries at the end.
     pub placed: u64,
-    /// Values that came back beside an entry.
+    /// Values that were returned with an entry.
     pub found: u64,
-    /// Values that came back alone.
+    /// Values that were returned without an entry.
     pub refused: u64,
-    /// Blocks that the table gave back while the threads ran: one for each exchange that was lost, and where memory was
-    /// refused those of growths that were given up.
+    /// Blocks that the table freed while the threads ran: one for each lost exchange, and those of growths that were refused memory.
     pub given_back: u64,
 }
 
-/// Accounts for each value of a round that is over. It takes the table apart.
+/// Accounts for each value of a round whose threads have ended. Takes the table apart. `Err` is the first fault.
 pub(crate) fn account_for(
     alloc: Global,
     round: Round,
@@ -46,7 +45,7 @@ pub(crate) fn account_for(
     Ok(account)
 }
 
-/// Notes which values came back, and counts what all threads together were told.
+/// Notes which values were returned, and counts the outcomes of all threads. `Err`: a thread had a fault, or a value has two fates.
 fn settle_told(fates: &mut Fates, told: Vec<Result<Told, Fault>>) -> Result<Account, Fault> {
     let mut account = Account {
         placed: 0,
@@ -65,7 +64,8 @@ fn settle_told(fates: &mut Fates, told: Vec<Result<Told, Fault>>) -> Result<Acco
     Ok(account)
 }
 
-/// With lawful closures each value that did not come back alone has an equal entry, which a look-up shows.
+/// Checks that a look-up finds an equal entry of each value that wasn't refused, if the closures are lawful. `Err` names the first value
+/// without one.
 fn check_found(table: &Values<'_>, round: Round, fates: &Fates) -> Result<(), Fault> {
     if !round.is_lawful() {
         return Ok(());
@@ -81,7 +81,7 @@ fn check_found(table: &Values<'_>, round: Round, fates: &Fates) -> Result<(), Fa
     Ok(())
 }
 
-/// The values that a walk shows.
+/// Returns the values that a walk yields. `Err`: a value came twice or was never inserted, or memory was refused.
 fn walk(alloc: Global, round: Round, table: &Values<'_>) -> Result<Fates, Fault> {
     let mut walked = Fates::new(alloc, round.values())?;
     for entry in table {

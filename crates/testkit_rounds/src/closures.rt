@@ -4,13 +4,13 @@ use rand_core::{Rng, SeedableRng};
 use rand_xoshiro::SplitMix64;
 use std::sync::atomic::{AtomicU64, Ordering};
 
-/// Hashes that lie in a few buckets, of four kinds by their eight bits.
+/// A mask of hashes with at most 256 first buckets and with four marks.
 const NARROW: u64 = 0x3_0000_00FF;
 
-/// Hashes that lie in all buckets, of four kinds by their eight bits.
+/// A mask of hashes with any first bucket and with four marks.
 const WIDE: u64 = 0x3_FFFF_FFFF;
 
-/// Answers that are drawn, by a seed, by what is asked about, and by how many were given before.
+/// Closures with drawn results. A result depends on a seed, on the arguments and on the number of results before.
 #[derive(Drop)]
 pub(crate) struct Whims {
     seed: u64,
@@ -18,6 +18,7 @@ pub(crate) struct Whims {
 }
 
 impl Whims {
+    /// Makes closures whose results are drawn by this seed.
     pub(crate) fn new(seed: u64) -> Whims {
         Whims {
             seed,
@@ -31,12 +32,12 @@ impl Whims {
         SplitMix64::seed_from_u64(seed).next_u64()
     }
 
-    /// Whether they are equal now: a yes in four.
+    /// Draws whether the new value is equal to the entry: true for one draw in four on average.
     pub(crate) fn agree(&self, new: &Given, entry: &Given) -> bool {
         self.draw(new.id ^ entry.id.rotate_left(16)) % 4 == 0
     }
 
-    /// A hash for now.
+    /// Draws a hash of the value. The next draw can have another result.
     pub(crate) fn hash(&self, given: &Given) -> u64 {
         let mask = if self.seed % 2 == 0 { NARROW } else { WIDE };
         self.draw(given.id) & mask

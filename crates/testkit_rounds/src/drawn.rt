@@ -1,4 +1,4 @@
-//! Drawn rounds of threads, one after the other until their time is over.
+//! Runs drawn rounds of threads, one after the other, until their time is over.
 
 mod plan;
 mod program;

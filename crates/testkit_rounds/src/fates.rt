@@ -1,4 +1,4 @@
-//! What became of each value.
+//! The fate of each value.
 ghost use Rattle.std.specs.Prelude.{◌≡◌, ◌≢◌, ◌↔◌, All, IfOk, IsOk, OnErr, OnOk, Some, replicate, slice_get, slice_set};
 ghost use Rattle.testkit_rounds.specs.declared.fates.Fate.TheVariants.{Open};
 
@@ -6,19 +6,20 @@ use crate::Fault;
 use std::alloc::{AllocError, Global};
 use std::marker::Model;
 
-/// What became of a value.
+/// The fate of a value.
 #[derive(Clone, Copy, Debug, PartialEq, Eq)]
 pub enum Fate {
+    /// Nothing is known of it yet.
     Open,
-    /// It came back beside an entry.
+    /// It was returned with an entry.
     Found,
-    /// It came back alone.
+    /// It was returned without an entry.
     Refused,
     /// It is an entry.
     Entry,
 }
 
-/// What became of each value, by its number.
+/// The fate of each value, by its number.
 #[derive(Drop)]
 pub struct Fates {
     each: Vec<Fate>,
@@ -34,7 +35,7 @@ impl Model for Fates {
 }
 
 impl Fates {
-    /// So many values, of which nothing is known.
+    /// Makes fates for this number of values, each of which is open. `Err`: memory was refused.
     pub fn new(alloc: Global, values: u64) -> Result<Fates, AllocError>
         ensures { IfOk result (λ f. f ≡ replicate values Open) }
     {
@@ -43,15 +44,14 @@ impl Fates {
         })
     }
 
-    /// What became of the value.
+    /// Returns the fate of the value. `None`: no value has this number.
     pub fn of(&self, number: u64) -> Option<Fate>
         ensures { result ≡ slice_get self.now number }
     {
         self.each.get(number as usize).copied()
     }
 
-    /// Notes what became of the value: of each something becomes once. A number that is none, or whose value has a fate, is a
-    /// fault, and nothing is noted.
+    /// Sets the fate of a value whose fate is open. `Err`: the value has a fate, or no value has this number. Then nothing changes.
     pub fn settle(&mut self, number: u64, fate: Fate) -> Result<(), Fault>
         ensures ok { OnOk result ((slice_get self.old number ≡ Some Open)
             × (self.new ≡ slice_set self.old number fate)) }
@@ -68,7 +68,7 @@ impl Fates {
         }
     }
 
-    /// Notes the same of each of these values.
+    /// Sets this fate for each of these values. `Err` is the first fault, and the values before it keep their new fate.
     pub fn settle_all(&mut self, numbers: &[u64], fate: Fate) -> Result<(), Fault> {
         for number in numbers {
             self.settle(*number, fate)?;
@@ -76,7 +76,7 @@ impl Fates {
         Ok(())
     }
 
-    /// Something became of each value.
+    /// Checks that no fate is open. `Err` names the first value whose fate is.
     pub fn check_settled(&self) -> Result<(), Fault>
         ensures { IsOk result ↔ All (λ fate. fate ≢ Open) self.now }
     {
@@ -86,7 +86,7 @@ impl Fates {
         }
     }
 
-    /// The same values are entries in both.
+    /// Checks that the same values are entries in both. `Err` names the first value that is an entry in only one of them.
     pub fn check_same_entries(&self, other: &Fates) -> Result<(), Fault> {
         for (number, fate) in (0u64..).zip(self.each.as_slice()) {
             let there = other.of(number) == Some(Fate::Entry);

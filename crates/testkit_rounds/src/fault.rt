@@ -1,34 +1,34 @@
-//! What can be wrong about a table.
+//! Faults that a round can find in a table.
 use std::alloc::AllocError;
 use std::fmt;
 use std::fmt::{Display, Formatter};
 
-/// What was found wrong, with the id of the value.
+/// A fault, with the id of the value.
 #[derive(Clone, Copy, Debug, PartialEq, Eq)]
 pub enum Fault {
-    /// The memory of the round itself ran out: nothing is known of the table.
+    /// Memory for the round itself was refused: nothing is known of the table.
     NoMemory,
-    /// The insert of the value was told what it must not be told.
+    /// The insert of the value had an outcome that it can't have.
     Answer(u64),
-    /// The value is gone.
+    /// The value was neither returned nor is an entry.
     Lost(u64),
-    /// The value is there twice.
+    /// The value has two fates, or a walk yielded it twice.
     Doubled(u64),
-    /// Two entries are equal, of which this is one.
+    /// Another entry is equal to this one.
     Equal(u64),
-    /// The value was never given.
+    /// The value came without being inserted, or more often than it was inserted.
     Unknown(u64),
-    /// A look-up for an equal entry showed none, or another value.
+    /// No equal entry of the value was found, or another one than before.
     NotFound(u64),
-    /// A target reads another than it did, or lies elsewhere.
+    /// A target has changed or moved.
     Moved(u64),
-    /// The walk and what the table handed out are not the same.
+    /// The walk and the table at its end differ in this value.
     Walk(u64),
-    /// The length is not the number of the values that were told to be placed.
+    /// The number of entries isn't that of the placed values.
     Length,
     /// More inserts than requests for memory were refused.
     Refusals,
-    /// Not every block came back.
+    /// Some block wasn't freed.
     Blocks,
 }
 

@@ -25,7 +25,7 @@ use std::thread::Threads;
 use testkit::refusing::Refusing;
 use work::{Job, Told, Values, work};
 
-/// Runs a round, and accounts for each value, or says the first fault.
+/// Runs a round, and accounts for each value. `Err` is the first fault.
 pub fn run_round<R: Threads + Wait + Sync>(
     rt: &R,
     alloc: Global,
@@ -59,7 +59,7 @@ pub fn run_round<R: Threads + Wait + Sync>(
     })
 }
 
-/// An empty table.
+/// Makes an empty table. If `first_capacity` isn't a first capacity, the table has the usual one.
 fn table_of<'m>(heap: &'m Refusing<Global>, first_capacity: usize) -> Values<'m> {
     if is_first_capacity(first_capacity) {
         LockFreeRawTable::with_first_capacity(heap, first_capacity)
@@ -68,7 +68,7 @@ fn table_of<'m>(heap: &'m Refusing<Global>, first_capacity: usize) -> Values<'m>
     }
 }
 
-/// What the threads of the round are told.
+/// Runs the threads of the round, and returns the outcomes of each thread. `Err`: memory for the threads was refused.
 fn told_in_threads<R: Threads + Wait + Sync>(
     rt: &R,
     job: &Job<'_, '_>,

@@ -1,4 +1,4 @@
-//! What a round is: who gives which values to which table.
+//! A round: the threads, the values that they insert, and the table.
 use crate::value::Given;
 use rand_core::{Rng, SeedableRng};
 use rand_xoshiro::SplitMix64;
@@ -7,10 +7,10 @@ use std::fmt::{Display, Formatter};
 use table_terms::law::hash_number;
 use testkit::refusing::Rule;
 
-/// Where memory is refused at random, one request in so many is, on average.
+/// One request in this number is refused, on average, if memory is refused at random.
 const REFUSED_ONE_IN: u64 = 6;
 
-/// What the threads of drawn rounds do with their values.
+/// The kinds of drawn rounds.
 pub const KINDS: [Kind; 5] = [
     Kind::Overlapping,
     Kind::Equal,
@@ -19,23 +19,23 @@ pub const KINDS: [Kind; 5] = [
     Kind::Refused,
 ];
 
-/// How many threads drawn rounds have.
+/// The numbers of threads of drawn rounds.
 pub const THREADS: [u64; 3] = [2, 4, 8];
 
 /// The first capacities of the tables of drawn rounds.
 pub const FIRST_CAPACITIES: [usize; 4] = [16, 32, 256, 4096];
 
-/// How many values drawn rounds have at most.
+/// A drawn round draws one of these bounds, and then its number of values up to that bound.
 const SIZES: [u64; 7] = [1, 10, 100, 1000, 10_000, 100_000, 1_000_000];
 
-/// What the threads of a round do with their values.
+/// Which values the threads of a round insert, and how.
 #[derive(Clone, Copy, Debug, PartialEq, Eq)]
 pub enum Kind {
     /// Each thread shares half of its classes with the next one.
     Overlapping,
-    /// All threads give the same classes in the same order.
+    /// All threads insert the same classes in the same order.
     Equal,
-    /// As `Overlapping`, and each thread looks up its own classes and those of others in between.
+    /// As `Overlapping`, and each thread also looks up its own classes and those of others.
     Beside,
     /// As `Overlapping`, with closures whose answers are drawn.
     Careless,
@@ -55,21 +55,21 @@ impl Display for Kind {
     }
 }
 
-/// A round.
+/// A round of threads that insert values into one table.
 #[derive(Clone, Copy, Debug, PartialEq, Eq)]
 pub struct Round {
     pub kind: Kind,
     pub threads: u64,
-    /// How many values each thread gives.
+    /// How many values each thread inserts.
     pub each: u64,
-    /// The first capacity of the table. 16 stands in the place of what is none.
+    /// The first capacity of the table. 16 is used if this isn't a first capacity.
     pub first_capacity: usize,
-    /// What is drawn is drawn by it.
+    /// The seed of all draws.
     pub seed: u64,
 }
 
 impl Round {
-    /// The round of a seed, with at most `most` values or one a thread. Small rounds come as often as large ones.
+    /// Draws the round of a seed, with at most `most` values or one for each thread. Small rounds are as likely as large ones.
     pub fn drawn(seed: u64, most: u64) -> Round {
         let mut numbers = SplitMix64::seed_from_u64(seed);
         let kind = pick(&mut numbers, KINDS.as_slice(), Kind::Overlapping);
@@ -86,17 +86,17 @@ impl Round {
         }
     }
 
-    /// How many values are given. Their ids are the numbers below.
+    /// Returns how many values the threads insert. Their ids are the numbers below this one.
     pub fn values(&self) -> u64 {
         self.threads.saturating_mul(self.each)
     }
 
-    /// Whether the closures keep a law.
+    /// Returns whether the closures keep a law.
     pub(crate) fn is_lawful(&self) -> bool {
         self.kind != Kind::Careless
     }
 
-    /// The value of this id.
+    /// Returns the class and the id of the value with this id.
     pub(crate) fn given(&self, id: u64) -> Given {
         let thread = id.checked_div(self.each).unwrap_or(0);
         let place = id.checked_rem(self.each).unwrap_or(0);
@@ -110,8 +110,8 @@ impl Round {
         }
     }
 
-    /// The id of the value that a thread gives in this turn. Of two threads next to each other one goes up and one down, so
-    /// that both come to what they share at the same time.
+    /// Returns the id of the value that a thread inserts in this turn. Every second thread goes through its values backwards, so that
+    /// neighbours come to the classes that they share at the same time.
     pub(crate) fn id_at(&self, thread: u64, turn: u64) -> u64 {
         let goes_down = self.kind != Kind::Equal && thread % 2 == 1;
         let place = if goes_down {
@@ -122,18 +122,18 @@ impl Round {
         thread.wrapping_mul(self.each).wrapping_add(place)
     }
 
-    /// The id of some other value.
+    /// Returns the id of another value. If the number of values is odd, one value gets its own id.
     pub(crate) fn other_than(&self, id: u64) -> u64 {
         let far = id.wrapping_mul(3).wrapping_add(1);
         far.checked_rem(self.values()).unwrap_or(0)
     }
 
-    /// The hash of a class where the closures keep a law. Four classes have the same one.
+    /// Returns the hash of a class for lawful closures. Four classes have the same hash.
     pub(crate) fn hash_of(&self, class: u64) -> u64 {
         hash_number(self.seed ^ (class / 4))
     }
 
-    /// How many requests for memory may be refused.
+    /// Returns how many requests for memory may be refused.
     pub(crate) fn refusals(&self) -> u64 {
         match self.kind {
             Kind::Refused => u64::MAX,
@@ -141,18 +141,18 @@ impl Round {
         }
     }
 
-    /// What the table's memory is like.
+    /// Returns the rule by which requests for the table's memory are refused.
     pub(crate) fn rule(&self) -> Rule {
         Rule::new(0, usize::MAX, 0, self.refusals()).drawn(self.seed, REFUSED_ONE_IN)
     }
 }
 
-/// A number below `bound`; 0 where that is 0.
+/// Draws a number below `bound`, or 0 if `bound` is 0.
 fn draw(numbers: &mut SplitMix64, bound: u64) -> u64 {
     numbers.next_u64().checked_rem(bound).unwrap_or(0)
 }
 
-/// One of these.
+/// Draws one of `from`. Returns `first` if there is none.
 fn pick<X: Copy>(numbers: &mut SplitMix64, from: &[X], first: X) -> X {
     let index = draw(numbers, from.len() as u64) as usize;
     from.get(index).copied().unwrap_or(first)

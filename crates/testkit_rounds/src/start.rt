@@ -1,11 +1,11 @@
-//! Threads that begin at once.
+//! The common start of threads.
 use std::hint;
 use std::sync::atomic::{AtomicU64, Ordering};
 
 /// How often a thread looks for the others before it begins without them.
 const LOOKS: u64 = 1 << 22;
 
-/// So many threads begin at once, where they run at once.
+/// A start at which threads wait for one another.
 #[derive(Drop)]
 pub(crate) struct Start {
     threads: u64,
@@ -13,7 +13,7 @@ pub(crate) struct Start {
 }
 
 impl Start {
-    /// A start of so many threads, of which none has come.
+    /// Makes a start for this number of threads, none of which has come.
     pub(crate) fn new(threads: u64) -> Start {
         Start {
             threads,
@@ -21,7 +21,7 @@ impl Start {
         }
     }
 
-    /// One more thread has come. It waits until all have, or until it looked for them often enough.
+    /// Notes that one more thread has come. Waits until all have come, or until it has looked `LOOKS` times.
     pub(crate) fn wait(&self) {
         self.come.fetch_add(1, Ordering::SeqCst);
         for _look in 0..LOOKS {

@@ -1,4 +1,4 @@
-//! What one thread of a round does.
+//! The work of one thread of a round.
 use crate::closures::Whims;
 use crate::start::Start;
 use crate::value::{Given, Value};
@@ -11,7 +11,7 @@ use testkit::refusing::Refusing;
 /// The table of a round.
 pub(crate) type Values<'m> = LockFreeRawTable<Box<Value>, &'m Refusing<Global>>;
 
-/// How an insert ends.
+/// What an insert returns.
 type Answer<'a> = Result<(&'a Value, Option<Box<Value>>), Box<Value>>;
 
 /// What the threads of a round share.
@@ -24,26 +24,26 @@ pub(crate) struct Job<'a, 'm> {
     pub alloc: Global,
 }
 
-/// What one thread was told.
+/// The outcomes of one thread's inserts.
 #[derive(Drop)]
 pub(crate) struct Told {
     /// How many of its values were placed.
     pub placed: u64,
-    /// The ids of those that came back beside an entry.
+    /// The ids of the values that were returned with an entry.
     pub found: Vec<u64>,
-    /// The ids of those that came back alone.
+    /// The ids of the values that were returned without an entry.
     pub refused: Vec<u64>,
 }
 
-/// A target that was shown, and what it read.
+/// A target that an insert returned, and what it contained then.
 #[derive(Clone, Copy)]
 struct Kept<'a> {
     target: &'a Value,
     read: Given,
 }
 
-/// A thread gives its values, one after the other, once the others have come. The first target that it is shown is kept to
-/// the end.
+/// Waits for the other threads, and inserts the thread's values one after the other. Keeps the first target that an insert returns, and
+/// checks it at the end. `Err` is the first fault.
 pub(crate) fn work<R: Wait>(rt: &R, job: &Job<'_, '_>, thread: u64) -> Result<Told, Fault> {
     let mut told = Told {
         placed: 0,
@@ -65,7 +65,7 @@ pub(crate) fn work<R: Wait>(rt: &R, job: &Job<'_, '_>, thread: u64) -> Result<To
     Ok(told)
 }
 
-/// Inserts the value, by the closures of the round.
+/// Inserts the value with the closures of the round.
 fn insert<'a, R: Wait>(rt: &R, job: &Job<'a, '_>, value: Box<Value>) -> Answer<'a> {
     let (table, whims, round) = (job.table, job.whims, job.round);
     if round.is_lawful() {
@@ -88,7 +88,7 @@ fn insert<'a, R: Wait>(rt: &R, job: &Job<'a, '_>, value: Box<Value>) -> Answer<'
     )
 }
 
-/// What the answer shows.
+/// Returns the target that the insert returned, if it returned one.
 fn shown_by<'a>(answer: &Answer<'a>) -> Option<Kept<'a>> {
     match answer {
         Ok((target, _)) => Some(Kept {
@@ -99,8 +99,8 @@ fn shown_by<'a>(answer: &Answer<'a>) -> Option<Kept<'a>> {
     }
 }
 
-/// Notes what the insert of the value was told. Only where memory is refused may it come back alone, never beside itself, and
-/// with lawful closures only beside an equal entry.
+/// Notes the outcome of an insert. `Err`: the outcome is wrong. A value may be returned without an entry only if memory is refused. An
+/// entry that it is returned with must be another value, and an equal one if the closures are lawful.
 fn note(told: &mut Told, round: Round, given: Given, answer: Answer<'_>) -> Result<(), Fault> {
     match answer {
         Ok((target, None)) if target.given == given => told.placed = told.placed.saturating_add(1),
@@ -116,30 +116,31 @@ fn note(told: &mut Told, round: Round, given: Given, answer: Answer<'_>) -> Resu
     Ok(())
 }
 
-/// Whether the value may come back beside this entry.
+/// Returns whether the value may be returned with this entry.
 fn may_stand_beside(round: Round, given: Given, entry: Given) -> bool {
     entry.id != given.id && (entry.class == given.class || !round.is_lawful())
 }
 
-/// Notes one id more.
+/// Appends an id. `Err`: memory was refused.
 fn keep(ids: &mut Vec<u64>, id: u64) -> Result<(), AllocError> {
     ids.push(id)?;
     Ok(())
 }
 
-/// The entry of a class that a look-up shows.
+/// Returns the entry of a class that a look-up finds.
 pub(crate) fn look<'a>(table: &'a Values<'_>, round: Round, class: u64) -> Option<&'a Value> {
     table.lookup(round.hash_of(class), |entry: &Value| {
         entry.given.class == class
     })
 }
 
-/// The id of the entry of a class that a look-up shows.
+/// Returns the id of the entry of a class that a look-up finds.
 fn id_of(job: &Job<'_, '_>, class: u64) -> Option<u64> {
     Some(look(job.table, job.round, class)?.given.id)
 }
 
-/// Where look-ups go beside: the value that was given has an equal entry, and one that is found of another thread's stays.
+/// Looks up two classes in a round of kind `Beside`. `Err`: the class of the value that was just inserted has no entry, or another class
+/// had an entry and now has another one or none.
 fn look_beside(job: &Job<'_, '_>, given: Given) -> Result<(), Fault> {
     if job.round.kind != Kind::Beside {
         return Ok(());
@@ -155,7 +156,7 @@ fn look_beside(job: &Job<'_, '_>, given: Given) -> Result<(), Fault> {
     Ok(())
 }
 
-/// The target that was kept reads the same. With lawful closures a look-up shows that very one, and no copy.
+/// Checks that the kept target is unchanged and, with lawful closures, that a look-up finds it, not a copy. `Err`: it has changed or moved.
 fn check_kept(job: &Job<'_, '_>, thread: u64, kept: Kept<'_>) -> Result<(), Fault> {
     kept.target.mark(thread);
     let shown = look(job.table, job.round, kept.read.class);

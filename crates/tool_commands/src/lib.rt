@@ -1,4 +1,4 @@
-//! The commands of the program, over its arguments and streams, and the texts that they read and write.
+//! The commands of `tablerun`, over its arguments and streams: calls on tables of pairs, events of the machine, and jobs of threads.
 //!
 //! - [`program`] runs the command that the arguments name ([`arguments`]).
 //! - [`calls`], [`pairs`], [`shards`] and [`stores`] run calls on tables. [`spelling`] reads them, and [`replies`] and [`answers`] write

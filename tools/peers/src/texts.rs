@@ -1,4 +1,4 @@
-//! Interners that threads share, by the workloads of `tool_checks bench texts-shared-set`, and one that a user would write: std's map and a
+//! Interners that threads share, by the workloads of `tool_checks bench texts-shared-interner`, and one that a user would write: std's map and a
 //! list, behind a lock.
 
 use crate::keys::{hash_number, spread, turn_of, COUNT};

@@ -1,4 +1,4 @@
-//! The measurements of `tool_checks bench texts-shared-set`, on the atoms of string_cache.
+//! The measurements of `tool_checks bench texts-shared-interner`, on the atoms of string_cache.
 //!
 //!     peers_atoms list | peers_atoms texts-string-cache txt|txt4|words
 //!

@@ -34,8 +34,8 @@ impl<T: AtomicValue, A: Allocator + Copy> Model for IntoIter<T, A> {
 }
 
 impl<T: AtomicValue, A: Allocator + Copy> IntoIter<T, A> {
-    /// The values that buckets of these generations own: of the current one, of those in the vector, and of those in
-    /// blocks. It takes no memory.
+    /// Returns an iterator over the values that buckets of these generations own: first the current one, then those in the vector, then
+    /// those in blocks. Allocates nothing.
     pub fn of_generations(
         closed: Closed,
         current: Generation<T, A>,

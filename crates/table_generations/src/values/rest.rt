@@ -30,7 +30,7 @@ impl<T: AtomicValue, A: Allocator + Copy> Model for Rest<T, A> {
 impl<T: AtomicValue, A: Allocator + Copy> Rest<T, A> {
     ghost use Rattle.table_generations.specs.Values.{with_later};
 
-    /// The generations of the vector, and then those in blocks. It takes no memory.
+    /// Returns the list of the generations of the vector, and then of those in blocks. Allocates nothing.
     pub fn new(earlier: Vec<Generation<T, A>, A>, later: Vec<Box<Generation<T, A>, A>, A>) -> Self
         ensures { result ≡ with_later earlier.items later.items }
     {
@@ -40,7 +40,7 @@ impl<T: AtomicValue, A: Allocator + Copy> Rest<T, A> {
         }
     }
 
-    /// The next generation.
+    /// Removes the first generation that is left, and returns it. `None` means that none is left.
     pub fn next_generation(&mut self) -> Option<Generation<T, A>>
         ensures { YieldsFirst (λ rest. rest) self.old result self.new }
     {

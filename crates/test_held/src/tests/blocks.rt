@@ -1,4 +1,4 @@
-//! Each block that a table asks for is given back once.
+//! Tests that a table frees each block that it requests, once.
 use super::assert_same;
 use super::pairs::{End, Pair, Pairs};
 use std::alloc::{AllocError, Global};
@@ -7,15 +7,14 @@ use std::test::Fail;
 use table_held::raw::IntoIter;
 use testkit::refusing::{Refusing, Rule};
 
-/// Entries of a table, and the blocks that it holds at least: one for each entry, and two for each
-/// generation.
+/// The number of entries of a table, and how many blocks it holds at least: one for each entry, and two for each generation.
 const TABLES: [(u64, u64); 6] = [(0, 0), (1, 3), (7, 9), (8, 12), (20, 26), (40, 48)];
 
-/// Entries of a table, and how many of them are taken out of it before the rest is dropped.
+/// The number of entries of a table, and how many of them are taken out before the rest is dropped.
 const TAKEN: [(u64, u64); 6] = [(0, 0), (5, 0), (5, 2), (20, 10), (20, 19), (20, 20)];
 
-/// The one request that is refused: the sizes of those that are counted, and how many of them pass before. The block of
-/// an entry takes fewer than 32 bytes, and all else more.
+/// The request that is refused: the least and the greatest size that is counted, and how many such requests pass before. A request for the
+/// block of an entry is smaller than 32 bytes, and every other request is not.
 const REFUSED: [(usize, usize, u64); 9] = [
     (32, usize::MAX, 0),
     (32, usize::MAX, 1),
@@ -28,13 +27,13 @@ const REFUSED: [(usize, usize, u64); 9] = [
     (0, 31, 19),
 ];
 
-/// A table in memory that counts its blocks.
+/// A table of pairs over an allocator that counts blocks.
 type Counted<'a> = Pairs<&'a Refusing<Global>>;
 
-/// What such a table hands out.
+/// The owning iterator of such a table.
 type Values<'a> = IntoIter<Box<Pair>, &'a Refusing<Global>>;
 
-/// A table that has the first numbers as its entries.
+/// Makes a table with the pairs `(number, number)` of the numbers below `entries`. `Err`: no memory for a pair.
 fn table_of<'a>(
     rt: &impl Abort,
     heap: &'a Refusing<Global>,
@@ -48,12 +47,12 @@ fn table_of<'a>(
     Ok(pairs)
 }
 
-/// A heap that refuses nothing.
+/// Makes a heap that refuses nothing.
 fn ample(alloc: Global) -> Refusing<Global> {
     Refusing::new(alloc, Rule::new(0, 0, 0, 0))
 }
 
-/// So many blocks were granted, and so many given back.
+/// Asserts how many blocks the heap has granted, and how many of them were freed.
 fn assert_blocks(rt: &impl Abort, heap: &Refusing<Global>, granted: u64, given_back: u64) {
     assert_same(
         rt,
@@ -62,14 +61,14 @@ fn assert_blocks(rt: &impl Abort, heap: &Refusing<Global>, granted: u64, given_b
     );
 }
 
-/// What is dropped here holds at least so many blocks, and gives back all.
+/// Drops the owner, and asserts that the heap had at least `least` blocks in use before and has none after.
 fn assert_gives_back<T: Drop>(rt: &impl Abort, heap: &Refusing<Global>, owner: T, least: u64) {
     assert!(rt; heap.granted().saturating_sub(heap.given_back()) >= least);
     drop(owner);
     assert_same(rt, heap.given_back(), heap.granted());
 }
 
-/// So many values are taken out, each with a block.
+/// Takes `taken` values out, and asserts that at least one block is freed for each.
 fn take(rt: &impl Abort, heap: &Refusing<Global>, values: &mut Values<'_>, taken: u64) {
     let before = heap.given_back();
     for _value in 0..taken {
@@ -78,7 +77,7 @@ fn take(rt: &impl Abort, heap: &Refusing<Global>, values: &mut Values<'_>, taken
     assert!(rt; heap.given_back().saturating_sub(before) >= taken);
 }
 
-/// So many values are taken out of a table of so many entries, each with a block, and the rest is dropped.
+/// Takes `taken` of the `entries` values out, drops the rest, and asserts that each block is freed. `Err`: no memory for a pair.
 fn assert_taken(rt: &impl Abort, alloc: Global, entries: u64, taken: u64) -> Result<(), Fail> {
     let heap = ample(alloc);
     let mut values = table_of(rt, &heap, alloc, entries)?.table.into_iter();
@@ -88,7 +87,7 @@ fn assert_taken(rt: &impl Abort, alloc: Global, entries: u64, taken: u64) -> Res
     Ok(())
 }
 
-/// Twenty inserts, of which one meets the refusal, and the end of their table.
+/// Inserts 20 pairs while one request is refused, and asserts that the end of the table frees each block. `Err`: no memory for a pair.
 fn assert_refused_once(rt: &impl Abort, alloc: Global, rule: Rule) -> Result<(), AllocError> {
     let heap = Refusing::new(alloc, rule);
     let mut pairs = Pairs::of(&heap, alloc);
@@ -100,7 +99,7 @@ fn assert_refused_once(rt: &impl Abort, alloc: Global, rule: Rule) -> Result<(),
     Ok(())
 }
 
-/// A table of so many entries holds at least so many blocks, and gives back all at its end.
+/// Asserts that a table of `entries` entries holds at least `blocks` blocks, and that its end frees all. `Err`: no memory for a pair.
 fn assert_end_of(rt: &impl Abort, alloc: Global, entries: u64, blocks: u64) -> Result<(), Fail> {
     let heap = ample(alloc);
     let table = table_of(rt, &heap, alloc, entries)?;
@@ -132,7 +131,7 @@ fn a_request_refused(rt: HostRuntime) -> Result<(), Fail> {
     Ok(())
 }
 
-/// A first generation without an entry: its marks and its words were granted, and the block of its entry refused.
+/// Checks a table with a first generation and no entry: marks and words were granted, and the block of the entry was refused.
 #[test]
 fn a_generation_without_entries(rt: HostRuntime) -> Result<(), Fail> {
     let heap = Refusing::new(rt.alloc(), Rule::new(0, 31, 0, 1));

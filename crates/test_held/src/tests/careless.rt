@@ -1,4 +1,4 @@
-//! Closures that keep no law: no value is lost, and none is kept twice.
+//! Tests with unlawful closures: no value is lost, and none is stored twice.
 use super::assert_same;
 use super::pairs::{Closures, End, Equality, Hashing, Pair, Pairs, Told, told_of};
 use std::alloc::{AllocError, Global};
@@ -6,33 +6,33 @@ use std::ops::Range;
 use std::process::Abort;
 use std::test::Fail;
 
-/// Inserts that are made one after the other: what each is told, and how often `eq` is asked.
+/// Pairs that are inserted in this order, the answer to each insert, and how often it calls `eq`.
 const INSERT_ASKS: [(Pair, Told, u64); 3] = [
     ((0, 1), Told::Placed((0, 1)), 0),
     ((1 << 32, 2), Told::Placed((1 << 32, 2)), 0),
     ((0, 1), Told::Found((0, 1), (0, 1)), 1),
 ];
 
-/// Pairs that are looked up then: whether each is shown, and how often the test is asked.
+/// Pairs that are looked up after those inserts, whether each is found, and how often the look-up calls its test.
 const LOOKUP_ASKS: [(Pair, bool, u64); 3] = [
     ((0, 1), true, 1),
     ((1 << 32, 2), true, 1),
     ((2 << 32, 3), false, 0),
 ];
 
-/// What inserts are told where each pair is accepted as equal to the first entry.
+/// Pairs, and the answer to the insert of each if `eq` accepts every entry as equal.
 const ALWAYS: [(Pair, Told); 3] = [
     ((0, 1), Told::Placed((0, 1))),
     ((0, 2), Told::Found((0, 1), (0, 2))),
     ((0, 3), Told::Found((0, 1), (0, 3))),
 ];
 
-/// Closures of which `hash_fn` alone keeps no law.
+/// Makes closures of which only `hash_fn` is unlawful.
 fn hashing(hashing: Hashing) -> Closures {
     Closures::new(Equality::Lawful, hashing)
 }
 
-/// A table in which the pair of each number and itself was placed, under that number as its hash.
+/// Makes a table in which the pair `(number, number)` of each number was placed under the hash `number`. `Err`: no memory.
 fn filled(
     rt: &impl Abort,
     closures: &Closures,
@@ -47,7 +47,7 @@ fn filled(
     Ok(pairs)
 }
 
-/// The bit of a number, if there is one.
+/// Returns the word in which the bit of this number is set, or 0 if the number is above 63.
 fn bit_of(number: u64) -> u64 {
     match u32::try_from(number) {
         Ok(place) => 1u64.checked_shl(place).unwrap_or(0),
@@ -55,7 +55,7 @@ fn bit_of(number: u64) -> u64 {
     }
 }
 
-/// The second parts of the pairs that a table hands out are the numbers of these bits, each once.
+/// Asserts that the second parts of the entries are the numbers whose bits are set in `expected`, each once.
 fn assert_numbers(rt: &impl Abort, pairs: Pairs, expected: u64) {
     let (mut count, mut bits) = (0u32, 0u64);
     for pair in pairs.table {
@@ -123,7 +123,7 @@ fn growth_keeps_the_bits_of_the_hash_given(rt: HostRuntime) -> Result<(), Fail> 
     Ok(())
 }
 
-/// The look-up shows the pair, or nothing, and asks its test so often.
+/// Asserts whether a look-up finds the pair, and how often it calls its test.
 fn assert_lookup_asks(rt: &impl Abort, pairs: &Pairs, pair: Pair, is_shown: bool, asks: u64) {
     let closures = Closures::lawful();
     let shown = pairs.lookup_by(&closures, pair.0, pair);

@@ -1,4 +1,4 @@
-//! Each value is dropped once.
+//! Tests that each value is dropped once.
 use super::assert_same;
 use std::alloc::{AllocError, Global};
 use std::process::Abort;
@@ -10,7 +10,7 @@ use testkit::counting::{Counting, CountingLaw, Drops};
 
 type Countings = HeldRawTable<Box<Counting>>;
 
-/// Inserts the value, whose target has this number. Whether it was placed; one that wasn't is dropped.
+/// Inserts the value, whose target has this number, and returns whether it was placed. A value that wasn't placed is dropped.
 fn places<V: AtomicValue<Target = Counting>>(
     table: &mut HeldRawTable<V>,
     number: u64,
@@ -25,7 +25,7 @@ fn places<V: AtomicValue<Target = Counting>>(
     matches!(&told, Ok((_, None)))
 }
 
-/// A table of so many values that count their drops there, with this capacity then.
+/// Makes a table of the first `numbers` numbers, whose drops `drops` counts, and asserts its capacity. `Err`: no memory.
 fn table_of(
     rt: &impl Abort,
     alloc: Global,
@@ -41,7 +41,7 @@ fn table_of(
     Ok(table)
 }
 
-/// The first two of so many values are kept from an iterator that is dropped then, and so is the rest; they go last.
+/// Takes two values from an owning iterator, drops it and then those, and asserts which values each step drops. `Err`: no memory.
 fn assert_rest_dropped(
     rt: &impl Abort,
     alloc: Global,
@@ -72,7 +72,7 @@ fn values_in_the_block_are_dropped_once(rt: HostRuntime) -> Result<(), Fail> {
     for number in 0..40 {
         assert!(rt; places(&mut table, number, InPlace(drops.value(number)?)));
     }
-    // an equal value comes back
+    // an equal value is returned
     let again = Drops::new(rt.alloc(), 8)?;
     assert!(rt; !places(&mut table, 7, InPlace(again.value(7)?)));
     assert_same(&rt, again.never_and_once(), (7, 1));

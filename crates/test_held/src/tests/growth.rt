@@ -1,12 +1,11 @@
-//! When growth comes if memory is ample, and how often it asks for hashes.
+//! Tests of when a table grows if no memory is refused, and of how often growth calls `hash_fn`.
 use super::assert_same;
 use super::pairs::{Closures, End, Pairs, told_of};
 use std::alloc::AllocError;
 use std::process::Abort;
 use std::test::Fail;
 
-/// From so many entries to so many: the buckets of the current generation and of all together, where each growth was
-/// granted.
+/// The first and the last number of entries with these numbers of buckets: of the current generation, and of all generations together.
 const SIZES: [(u64, u64, usize, usize); 4] = [
     (1, 7, 16, 16),
     (8, 15, 32, 48),
@@ -26,7 +25,7 @@ fn capacities_and_buckets(rt: HostRuntime) -> Result<(), Fail> {
     Ok(())
 }
 
-/// The insert of the pair of the number and itself ends so, and asks `hash_fn` so often.
+/// Asserts that the insert of the pair `(number, number)` ends as `end`, and calls `hash_fn` `asks` times. `Err`: no memory for the pair.
 fn assert_asks(
     rt: &impl Abort,
     pairs: &mut Pairs,
@@ -46,7 +45,7 @@ fn assert_asks(
     Ok(())
 }
 
-/// Growth asks for the hash of each entry once, and nothing else asks: not an insert that is told Found either.
+/// Checks that growth calls `hash_fn` once for each entry, and that an insert without growth never calls it.
 #[test]
 fn each_entry_is_hashed_once_a_growth(rt: HostRuntime) -> Result<(), Fail> {
     let mut pairs = Pairs::new(rt.alloc());

@@ -1,4 +1,4 @@
-//! Memory that is refused: what is told, what the table keeps, and when growth comes after all.
+//! Tests of refused memory: the answers, what the table keeps, and which later insert grows it.
 use super::assert_same;
 use super::pairs::{End, Pairs};
 use std::alloc::{AllocError, Allocator, Global};
@@ -7,34 +7,33 @@ use std::process::Abort;
 use std::test::Fail;
 use testkit::refusing::{Refusing, Rule};
 
-/// A block of an entry takes fewer bytes, and all else that a table asks for more.
+/// A request for the block of an entry is smaller than this, and no other request of a table is.
 const BLOCK: usize = 32;
 
-/// A rule over what growth asks for: twice for a generation, for its marks and for its words, and before that for room to
-/// keep the one before.
+/// Makes a rule for the requests of growth: the marks and the words of a generation, and before them room to keep the earlier one.
 fn growth(passing: u64, refused: u64) -> Rule {
     Rule::new(BLOCK, usize::MAX, passing, refused)
 }
 
-/// A rule over the blocks of entries.
+/// Makes a rule for the requests for blocks of entries.
 fn blocks(passing: u64, refused: u64) -> Rule {
     Rule::new(0, BLOCK - 1, passing, refused)
 }
 
-/// What is done with a table whose memory is refused, and what must hold of it.
+/// A step of a test: inserts into a table whose memory is refused, or an assertion about it.
 #[derive(Clone, Copy)]
 enum Step {
-    /// The numbers from the first to before the second are placed, and the capacity is this after each.
+    /// Places the numbers from the first up to the second, exclusive, and asserts this capacity after each.
     Places(u64, u64, usize),
-    /// The insert of the number ends so.
+    /// Inserts the number, and asserts how the insert ends.
     Ends(u64, End),
-    /// There are so many entries, in a current generation of so many buckets, and no request is going to be refused.
+    /// Asserts the number of entries and of buckets of the current generation, and that no refusals are left.
     Has(usize, usize),
-    /// The numbers from the first to before the second are entries, or aren't.
+    /// Asserts whether the numbers from the first up to the second, exclusive, are entries.
     Shows(u64, u64, bool),
 }
 
-/// What growth is granted and refused, and the steps then.
+/// How many requests of growth are granted, how many are refused then, and the steps.
 type Course = (u64, u64, &'static [Step]);
 
 const COURSES: [Course; 5] = [
@@ -52,7 +51,7 @@ const NO_FIRST_GENERATION: &[Step] = &[
     Step::Has(1, 16),
 ];
 
-/// Growth is wanted by the eighth to the sixteenth insert, the seventeenth and a found value, once each.
+/// The eighth to the sixteenth insert, the seventeenth, and the one that finds its value each try to grow the table once.
 const NO_SECOND_GENERATION: &[Step] = &[
     Step::Places(0, 16, 16),
     Step::Ends(16, End::Refused),
@@ -63,7 +62,7 @@ const NO_SECOND_GENERATION: &[Step] = &[
     Step::Has(17, 64),
 ];
 
-/// Growth is wanted by the sixteenth to the thirty-second insert and by the next, once each.
+/// The sixteenth to the thirty-second insert and the next one each try to grow the table once.
 const NO_THIRD_GENERATION: &[Step] = &[
     Step::Places(0, 7, 16),
     Step::Places(7, 32, 32),
@@ -81,7 +80,7 @@ const AFTER_A_FOUND_VALUE: &[Step] = &[
     Step::Has(8, 32),
 ];
 
-/// Growth would be granted at the refused block, and is not asked for: it comes after the next value.
+/// An insert whose block is refused ends before it tries to grow the table. The next insert grows it.
 const NO_BLOCK: &[Step] = &[
     Step::Places(0, 8, 16),
     Step::Ends(8, End::Refused),
@@ -93,7 +92,7 @@ const NO_BLOCK: &[Step] = &[
     Step::Has(9, 32),
 ];
 
-/// The pairs of these numbers and themselves are entries, or aren't.
+/// Asserts whether the pairs `(number, number)` of these numbers are entries.
 fn assert_all_shown<A: Allocator + Copy>(
     rt: &impl Abort,
     pairs: &Pairs<A>,
@@ -105,7 +104,7 @@ fn assert_all_shown<A: Allocator + Copy>(
     }
 }
 
-/// Takes the step.
+/// Takes the step. `Err`: no memory for a pair.
 fn take<A: Allocator>(
     rt: &impl Abort,
     heap: &Refusing<A>,
@@ -124,7 +123,7 @@ fn take<A: Allocator>(
     Ok(())
 }
 
-/// Takes the steps with a new table of this memory.
+/// Takes the steps on a new table over this heap. `Err`: no memory for a pair.
 fn take_all<A: Allocator>(
     rt: &impl Abort,
     heap: &Refusing<A>,

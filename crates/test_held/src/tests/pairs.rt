@@ -1,4 +1,4 @@
-//! Calls on tables of pairs, whose first part is the hash.
+//! Calls on tables of pairs. The first part of a pair is its hash.
 use super::assert_same;
 use std::alloc::{AllocError, Allocator, Global};
 use std::cell::Cell;
@@ -7,10 +7,10 @@ use std::process::Abort;
 use table_held::raw::HeldRawTable;
 use table_terms::law::PairLaw;
 
-/// A number that is the hash where a law is kept, and another one.
+/// Two numbers. The first is the hash of the pair if the closures are lawful.
 pub type Pair = (u64, u64);
 
-/// How an insert ended: with the entry that is shown and the pair that comes back.
+/// The answer to an insert: the entry that it refers to, if any, and the pair that it returns, if any.
 #[derive(Clone, Copy, PartialEq)]
 pub enum Told {
     Placed(Pair),
@@ -18,7 +18,7 @@ pub enum Told {
     Refused(Pair),
 }
 
-/// How an insert ended.
+/// How an insert ends.
 #[derive(Clone, Copy)]
 pub enum End {
     Placed,
@@ -26,7 +26,7 @@ pub enum End {
     Refused,
 }
 
-/// Which pairs are told equal.
+/// Which pairs `eq` accepts as equal.
 #[derive(Clone, Copy)]
 pub enum Equality {
     Lawful,
@@ -34,16 +34,16 @@ pub enum Equality {
     Always,
 }
 
-/// Which hash a pair is told to have.
+/// Which hash `hash_fn` returns for a pair.
 #[derive(Clone, Copy)]
 pub enum Hashing {
     Lawful,
     Fixed(u64),
-    /// How often it was asked for.
+    /// The number of calls of `hash_fn` so far.
     Anew,
 }
 
-/// The closures of calls: what they answer, and how often each was asked.
+/// The closures of a call: what they return, and how often each was called.
 #[derive(Drop)]
 pub struct Closures {
     equality: Equality,
@@ -71,12 +71,12 @@ impl Closures {
         Closures::new(Equality::Lawful, Hashing::Lawful)
     }
 
-    /// How often `eq` or a test was asked.
+    /// Returns how often `eq` or the test of a look-up was called.
     pub fn eq_asks(&self) -> u64 {
         self.eq_asks.get()
     }
 
-    /// How often `hash_fn` was asked.
+    /// Returns how often `hash_fn` was called.
     pub fn hash_asks(&self) -> u64 {
         self.hash_asks.get()
     }
@@ -100,7 +100,7 @@ impl Closures {
     }
 }
 
-/// What an insert of the pair of the number and itself is told that ends so.
+/// Returns the answer to an insert of the pair `(number, number)` that ends as `end`.
 pub fn told_of(number: u64, end: End) -> Told {
     let pair = (number, number);
     match end {
@@ -110,7 +110,7 @@ pub fn told_of(number: u64, end: End) -> Told {
     }
 }
 
-/// A table of pairs, and where the blocks of its pairs are asked for.
+/// A table of boxed pairs, and the allocator of the boxes.
 #[derive(Drop)]
 pub struct Pairs<A: Allocator + Copy = Global> {
     pub table: HeldRawTable<Box<Pair>, A>,
@@ -118,14 +118,14 @@ pub struct Pairs<A: Allocator + Copy = Global> {
 }
 
 impl Pairs<Global> {
-    /// The table without entries, of ample memory.
+    /// Makes an empty table over the global allocator.
     pub fn new(alloc: Global) -> Self {
         Pairs::of(alloc, alloc)
     }
 }
 
 impl<A: Allocator + Copy> Pairs<A> {
-    /// The table without entries, of this memory.
+    /// Makes an empty table that requests its memory from `memory`.
     pub fn of(memory: A, alloc: Global) -> Self {
         Pairs {
             table: HeldRawTable::new(memory),
@@ -133,7 +133,7 @@ impl<A: Allocator + Copy> Pairs<A> {
         }
     }
 
-    /// Inserts a pair under a hash of the caller's. An Err is the memory of the pair itself.
+    /// Inserts the pair under the hash `given`, and returns the answer. `Err`: no memory for the box of the pair.
     pub fn insert_by(
         &mut self,
         closures: &Closures,
@@ -155,19 +155,19 @@ impl<A: Allocator + Copy> Pairs<A> {
         )
     }
 
-    /// Inserts a pair, with lawful closures. An Err is the memory of the pair itself.
+    /// Inserts the pair under its own hash with lawful closures, and returns the answer. `Err`: no memory for the box of the pair.
     pub fn insert(&mut self, pair: Pair) -> Result<Told, AllocError> {
         self.insert_by(&Closures::lawful(), pair.0, pair)
     }
 
-    /// Looks a pair up under a hash of the caller's.
+    /// Returns the entry that a look-up of the pair under the hash `given` finds.
     pub fn lookup_by(&self, closures: &Closures, given: u64, pair: Pair) -> Option<Pair> {
         self.table
             .lookup_alone::<PairLaw, _>(given, |entry: &Pair| closures.eq(entry, &pair))
             .copied()
     }
 
-    /// The insert of the pair, under a hash of the caller's, is told so.
+    /// Asserts that the insert of the pair under the hash `given` has the expected answer. `Err`: no memory for the box of the pair.
     pub fn assert_told_by(
         &mut self,
         rt: &impl Abort,
@@ -181,7 +181,7 @@ impl<A: Allocator + Copy> Pairs<A> {
         Ok(())
     }
 
-    /// The insert of the pair is told so.
+    /// Asserts that the insert of the pair with lawful closures has the expected answer. `Err`: no memory for the box of the pair.
     pub fn assert_told(
         &mut self,
         rt: &impl Abort,
@@ -191,12 +191,12 @@ impl<A: Allocator + Copy> Pairs<A> {
         self.assert_told_by(rt, &Closures::lawful(), pair.0, pair, expected)
     }
 
-    /// The insert of the pair of the number and itself ends so, and shows or gives back that pair.
+    /// Asserts that the insert of the pair `(number, number)` ends as `end`, with this pair in its answer. `Err`: no memory for the box.
     pub fn assert_end(&mut self, rt: &impl Abort, number: u64, end: End) -> Result<(), AllocError> {
         self.assert_told(rt, (number, number), told_of(number, end))
     }
 
-    /// The pairs of these numbers and themselves are placed, each as the next one, and the capacity is this after each.
+    /// Places the pair of each number, and asserts `number + 1` entries and this capacity after it. `Err`: no memory for a box.
     pub fn assert_placed(
         &mut self,
         rt: &impl Abort,
@@ -210,19 +210,19 @@ impl<A: Allocator + Copy> Pairs<A> {
         Ok(())
     }
 
-    /// So many entries, in a current generation of so many buckets.
+    /// Asserts how many entries the table has, and how many buckets its current generation has.
     pub fn assert_size(&self, rt: &impl Abort, entries: usize, capacity: usize) {
         let size = (self.table.len_alone(), self.table.capacity_alone());
         assert_same(rt, size, (entries, capacity));
     }
 
-    /// The look-up of the pair, under a hash of the caller's, shows this.
+    /// Asserts what a look-up of the pair under the hash `given` finds.
     pub fn assert_shown_at(&self, rt: &impl Abort, given: u64, pair: Pair, expected: Option<Pair>) {
         let shown = self.lookup_by(&Closures::lawful(), given, pair);
         assert!(rt; shown == expected, "{} at {given}", pair.1);
     }
 
-    /// The look-up of the pair shows it, or nothing.
+    /// Asserts that a look-up finds the pair if `is_entry`, and nothing if not.
     pub fn assert_shown(&self, rt: &impl Abort, pair: Pair, is_entry: bool) {
         let expected = if is_entry { Some(pair) } else { None };
         self.assert_shown_at(rt, pair.0, pair, expected);

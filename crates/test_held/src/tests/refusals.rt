@@ -1,17 +1,17 @@
-//! The allocator of these tests: which requests it refuses, and that a grant comes from the memory below.
+//! Tests of the allocator `Refusing`: which requests it refuses, and that it passes the others on to the allocator below.
 use std::alloc::{AllocError, Allocator};
 use std::process::Abort;
 use std::test::Fail;
 use testkit::refusing::{Refusing, Rule};
 
-/// Whether a request of so many bytes is granted. The block is given back.
+/// Returns whether the allocator grants a request of `bytes` bytes. The block is freed again.
 fn grants<A: Allocator + Copy>(alloc: A, bytes: usize) -> bool {
     let block: Result<Vec<u8, A>, AllocError> = Vec::with_capacity(alloc, bytes);
     block.is_ok()
 }
 
-/// Of the requests of 8 to 16 bytes, how many pass and how many are refused then; and requests of so many bytes, one after the
-/// other: whether each is granted. Those of other sizes pass and are not counted.
+/// How many requests of 8 to 16 bytes a rule lets pass, and how many it refuses then. Then requests in order: the size of each, and whether
+/// it is granted. Requests of other sizes are granted and not counted.
 const REQUESTS: [(u64, u64, &[(usize, bool)]); 2] = [
     (
         2,
@@ -43,7 +43,7 @@ const REQUESTS: [(u64, u64, &[(usize, bool)]); 2] = [
     ),
 ];
 
-/// The requests of so many bytes, one after the other, are answered so: whether each is granted.
+/// Makes the requests in order, and asserts of each whether it is granted.
 fn assert_grants<A: Allocator + Copy>(rt: &impl Abort, alloc: A, requests: &[(usize, bool)]) {
     for (bytes, is_granted) in requests {
         assert!(rt;

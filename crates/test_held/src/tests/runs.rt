@@ -1,4 +1,4 @@
-//! Generated runs, held against the plain list reply by reply.
+//! Generated runs of calls, in which each answer is compared with that of a plain list.
 use super::assert_same;
 use super::pairs::{Pair, Pairs, Told};
 use rand_core::{Rng, SeedableRng};
@@ -12,37 +12,37 @@ use table_terms::law::PairLaw;
 use testkit::plain_list::PlainList;
 use testkit::refusing::{Refusing, Rule};
 
-/// The plain list of pairs that a table stands for.
+/// A plain list of pairs.
 type PairList = PlainList<InPlace<Pair>>;
 
-/// Hashes some of which share a bucket or their eight bits.
+/// Hashes. Some have the same first bucket, and some have the same bits 32 to 39, which an entry keeps.
 const HASHES: [u64; 7] = [0, 1, 15, 16, 1 << 32, 1 << 40, u64::MAX];
 
-/// The numbers of a run that is refused memory.
+/// How many different numbers a run with refused memory inserts.
 const NUMBERS: u64 = 40;
 
-/// A number below `bound`; 0 where that is 0.
+/// Draws a number below `bound`. Returns 0 if `bound` is 0.
 fn draw(numbers: &mut SplitMix64, bound: u64) -> u64 {
     numbers.next_u64().checked_rem(bound).unwrap_or(0)
 }
 
-/// A pair of one of a few hashes.
+/// Draws a pair whose hash is one of `HASHES`.
 fn draw_pair(numbers: &mut SplitMix64) -> Pair {
     let index = draw(numbers, 7) as usize;
     (HASHES.get(index).copied().unwrap_or(0), draw(numbers, 12))
 }
 
-/// Equal pairs.
+/// Returns whether the pairs are equal.
 fn same(a: &Pair, b: &Pair) -> bool {
     a == b
 }
 
-/// The hash of a pair.
+/// Returns the hash of a pair.
 fn hash(pair: &Pair) -> u64 {
     pair.0
 }
 
-/// What an insert by the place form is told.
+/// Inserts the value by `place_alone`, and returns the answer.
 fn place<T: AtomicValue<Target = Pair>, B: AloneTable<T, PairLaw>>(
     table: &mut B,
     value: T,
@@ -59,7 +59,7 @@ fn place<T: AtomicValue<Target = Pair>, B: AloneTable<T, PairLaw>>(
     }
 }
 
-/// The pair that a look-up in the list shows.
+/// Returns the pair that a look-up in the list finds.
 fn listed(list: &PairList, pair: Pair) -> Option<Pair> {
     AloneTable::<InPlace<Pair>, PairLaw>::lookup_alone(
         list,
@@ -68,8 +68,8 @@ fn listed(list: &PairList, pair: Pair) -> Option<Pair> {
     ).copied()
 }
 
-/// Whether the list tells the same of a pair that the table was handed: it may refuse where a request was refused and no
-/// entry is equal.
+/// Inserts the pair into the list too, unless the table refused it, and returns whether the table's answer `told` is right. The table may
+/// refuse the pair if a request was refused and the list has no equal pair.
 fn agrees(list: &mut PairList, pair: Pair, told: Told, refused: bool) -> bool {
     match told {
         Told::Refused(back) => refused && back == pair && listed(list, pair).is_none(),
@@ -77,12 +77,12 @@ fn agrees(list: &mut PairList, pair: Pair, told: Told, refused: bool) -> bool {
     }
 }
 
-/// Two walks have the same pairs in the same order.
+/// Asserts that two iterators yielded the same pairs in the same order.
 fn assert_same_pairs(rt: &impl Abort, one: &[Pair], other: &[Pair]) {
     assert!(rt; one == other);
 }
 
-/// A table and the list that it stands for.
+/// A table, and the list that it is compared with.
 #[derive(Drop)]
 struct Both<A: Allocator + Copy> {
     pairs: Pairs<A>,
@@ -99,7 +99,7 @@ impl<A: Allocator + Copy> Both<A> {
         }
     }
 
-    /// Inserts the pair into both. `refusals` is how many requests the table's heap is still going to refuse.
+    /// Inserts the pair into both, and asserts that the answers agree and the table has grown if it must. `Err`: no memory.
     fn insert(&mut self, rt: &impl Abort, heap: &Refusing<Global>, pair: Pair) -> Result<(), Fail> {
         let before = heap.refusals_left();
         let capacity = self.pairs.table.capacity_alone();
@@ -110,7 +110,7 @@ impl<A: Allocator + Copy> Both<A> {
         Ok(())
     }
 
-    /// Where no request was refused, a generation of which half was set has grown.
+    /// Asserts that the table has grown beyond `capacity` if at least half of that many buckets are set and no request was refused.
     fn assert_grown(&self, rt: &impl Abort, capacity: usize, refused: bool) {
         let wanted = 2 * (self.length() as u128) >= capacity as u128;
         assert!(rt; refused || !wanted || self.pairs.table.capacity_alone() > capacity);
@@ -121,7 +121,7 @@ impl<A: Allocator + Copy> Both<A> {
             .assert_shown_at(rt, pair.0, pair, listed(&self.list, pair));
     }
 
-    /// How many entries the list has.
+    /// Returns how many entries the list has.
     fn length(&self) -> usize {
         self.list.values().len()
     }
@@ -146,7 +146,7 @@ impl<A: Allocator + Copy> Both<A> {
         Ok(())
     }
 
-    /// Inserts the pair until it is an entry, so many times at most.
+    /// Inserts the pair until it is an entry, `tries` times at most, and asserts that it is one then. `Err`: no memory.
     fn insert_at_last(
         &mut self,
         rt: &impl Abort,
@@ -165,7 +165,7 @@ impl<A: Allocator + Copy> Both<A> {
     }
 }
 
-/// The pairs of a table, in the order of its walk.
+/// Returns the pairs of a table, in the order of its iterator. `Err`: no memory.
 fn walk<A: Allocator + Copy>(pairs: &Pairs<A>, alloc: Global) -> Result<Vec<Pair>, AllocError> {
     let mut walked = Vec::new(alloc);
     for pair in &pairs.table {
@@ -174,7 +174,7 @@ fn walk<A: Allocator + Copy>(pairs: &Pairs<A>, alloc: Global) -> Result<Vec<Pair
     Ok(walked)
 }
 
-/// So many calls that a seed draws.
+/// Makes `calls` calls that the seed draws, and asserts that the table and the list agree. `Err`: no memory.
 fn run_drawn(rt: &impl Abort, alloc: Global, seed: u64, calls: u64) -> Result<(), Fail> {
     let heap = Refusing::new(alloc, Rule::new(0, 0, 0, 0));
     let mut numbers = SplitMix64::seed_from_u64(seed);
@@ -197,8 +197,8 @@ fn generated_runs_answer_as_the_list(rt: HostRuntime) -> Result<(), Fail> {
     Ok(())
 }
 
-/// A run of inserts in which so many requests are granted, and so many after them refused. What was refused is tried
-/// again until memory is ample. Whether all were refused that were going to be.
+/// Makes a run of inserts in which the first `granted` requests are granted and the next `refused` are refused, and then inserts what is
+/// missing until it is an entry. Returns whether all of those were refused. `Err`: no memory for the test itself.
 fn run_refused(rt: &impl Abort, alloc: Global, granted: u64, refused: u64) -> Result<bool, Fail> {
     let heap = Refusing::new(alloc, Rule::new(0, usize::MAX, granted, refused));
     let mut both = Both::new(&heap, alloc);
@@ -215,7 +215,8 @@ fn run_refused(rt: &impl Abort, alloc: Global, granted: u64, refused: u64) -> Re
     Ok(heap.refusals_left() == 0)
 }
 
-/// How many requests can be granted before so many that follow each other are refused, in a run that asks for fewer than 1000.
+/// Makes a run for each number of granted requests from 0 on. Returns the first number for which fewer than `refused` requests were
+/// refused, or 1000 if there is none below. `Err`: no memory for the test itself.
 fn run_each(rt: &impl Abort, alloc: Global, refused: u64) -> Result<u64, Fail> {
     for granted in 0..1000 {
         if !run_refused(rt, alloc, granted, refused)? {
@@ -225,7 +226,7 @@ fn run_each(rt: &impl Abort, alloc: Global, refused: u64) -> Result<u64, Fail> {
     Ok(1000)
 }
 
-/// Each of the forty entries has a block of its own, and one request made its generation at least.
+/// Checks that each request of a run can be refused. There are more than 40: a block of each of the 40 entries, and a generation.
 #[test]
 fn each_request_of_memory_refused_in_turn(rt: HostRuntime) -> Result<(), Fail> {
     for refused in [1, 2, 8, 30] {
@@ -235,7 +236,7 @@ fn each_request_of_memory_refused_in_turn(rt: HostRuntime) -> Result<(), Fail> {
     Ok(())
 }
 
-/// The entries, the buckets of the current generation, and those of all.
+/// Returns the number of entries, of buckets of the current generation, and of buckets of all generations.
 fn sizes(pairs: &Pairs) -> [usize; 3] {
     let table = &pairs.table;
     [
@@ -245,7 +246,7 @@ fn sizes(pairs: &Pairs) -> [usize; 3] {
     ]
 }
 
-/// Two tables have the same entries in the same order, and the same buckets.
+/// Asserts that the tables have the same entries in the same order, and equally many buckets. `Err`: no memory.
 fn assert_alike(
     rt: &impl Abort,
     alloc: Global,
@@ -261,7 +262,7 @@ fn assert_alike(
     Ok(())
 }
 
-/// Both forms of insert tell the same of the pair, and leave the same table.
+/// Inserts the pair into two tables, by `insert_alone` and by `place_alone`, and asserts equal answers and tables. `Err`: no memory.
 fn assert_inserts_alike(
     rt: &impl Abort,
     alloc: Global,
@@ -274,7 +275,7 @@ fn assert_inserts_alike(
     assert_alike(rt, alloc, shown, placed)
 }
 
-/// The table shows each of the pairs.
+/// Asserts that a look-up finds each of the pairs.
 fn assert_all_shown(rt: &impl Abort, table: &Pairs, pairs: &[Pair]) {
     for pair in pairs {
         table.assert_shown(rt, *pair, true);

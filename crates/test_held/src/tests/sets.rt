@@ -1,4 +1,4 @@
-//! The sets, run.
+//! Tests of the single-owner sets.
 mod fields;
 mod held;
 mod keys;
@@ -14,13 +14,13 @@ use std::process::Abort;
 use table_sets::{AtomicValue, HeldSet, Inserted, NumberLaw, SetLaw, Shown, TextLaw};
 use testkit::counting::numbers::Told;
 
-/// Boxed texts.
+/// A set of boxed texts.
 type Texts<A> = HeldSet<Box<String<A>, A>, TextLaw, A>;
 
-/// Boxed numbers.
+/// A set of boxed numbers.
 type Numbers<A> = HeldSet<Box<u64>, NumberLaw, A>;
 
-/// What an insert is told.
+/// Inserts the value, and returns the answer.
 fn told_of<T: AtomicValue, L: SetLaw<T::Target>, A: Allocator + Copy>(
     set: &mut HeldSet<T, L, A>,
     value: T,
@@ -32,7 +32,7 @@ fn told_of<T: AtomicValue, L: SetLaw<T::Target>, A: Allocator + Copy>(
     }
 }
 
-/// An insert is told so.
+/// Asserts that the insert of the value has the expected answer.
 fn assert_told<T: AtomicValue, L: SetLaw<T::Target>, A: Allocator + Copy>(
     rt: &impl Abort,
     set: &mut HeldSet<T, L, A>,
@@ -42,7 +42,7 @@ fn assert_told<T: AtomicValue, L: SetLaw<T::Target>, A: Allocator + Copy>(
     assert!(rt; told_of(set, value) == expected);
 }
 
-/// The first insert of a value places it, and the next one finds it.
+/// Asserts that the insert of the first value places it, and that the next insert finds it.
 fn assert_placed_once<T: AtomicValue, L: SetLaw<T::Target>, A: Allocator + Copy>(
     rt: &impl Abort,
     set: &mut HeldSet<T, L, A>,
@@ -53,7 +53,7 @@ fn assert_placed_once<T: AtomicValue, L: SetLaw<T::Target>, A: Allocator + Copy>
     assert_told(rt, set, again, Told::Found);
 }
 
-/// What the insert of a boxed number is told.
+/// Inserts the number in a box, and returns the answer. `Err`: no memory for the box.
 fn insert_box<A: Allocator + Copy>(
     set: &mut Numbers<A>,
     alloc: Global,
@@ -62,7 +62,7 @@ fn insert_box<A: Allocator + Copy>(
     Ok(told_of(set, Box::new(alloc, number)?))
 }
 
-/// What an insert of the number is told that shows its entry.
+/// Returns the answer of `insert_and_show` for this number: `Wrong` if it has an entry or a value with another number.
 fn told_by<T: AtomicValue<Target = u64>>(shown: Shown<&u64, T>, number: u64) -> Told {
     match shown {
         Shown::Placed(entry) if *entry == number => Told::Placed,
@@ -72,12 +72,12 @@ fn told_by<T: AtomicValue<Target = u64>>(shown: Shown<&u64, T>, number: u64) -> 
     }
 }
 
-/// Both are the same.
+/// Asserts that `got` equals `expected`.
 fn assert_same<X: PartialEq + Debug + Drop>(rt: &impl Abort, got: X, expected: X) {
     assert_eq!(rt; got, expected);
 }
 
-/// The sum of the numbers that a walk shows.
+/// Returns the sum of the numbers that an iterator by reference yields.
 fn sum_shown<'a, I: Iterator<Item = &'a u64> + Drop>(walk: I) -> u64
     requires can { I.can_next walk }
     requires ends { IsFinite (I.remaining walk) }
@@ -89,7 +89,7 @@ fn sum_shown<'a, I: Iterator<Item = &'a u64> + Drop>(walk: I) -> u64
     sum
 }
 
-/// The sum of the numbers of the values that a set hands out.
+/// Returns the sum of the numbers of the values that an owning iterator yields.
 fn sum_handed<T: AtomicValue<Target = u64>, I: Iterator<Item = T> + Drop>(values: I) -> u64
     requires can { I.can_next values }
     requires ends { IsFinite (I.remaining values) }
@@ -101,17 +101,17 @@ fn sum_handed<T: AtomicValue<Target = u64>, I: Iterator<Item = T> + Drop>(values
     sum
 }
 
-/// The numbers from 1 to 20 have the sum 210, by each way of walking over them.
+/// Asserts that each sum is 210, which is the sum of the numbers from 1 to 20.
 fn assert_sums(rt: &impl Abort, sums: [u64; 3]) {
     assert_same(rt, sums, [210; 3]);
 }
 
-/// A boxed text.
+/// Makes a boxed text. `Err`: no memory.
 fn boxed_text<A: Allocator + Copy>(alloc: A, text: &str) -> Result<Box<String<A>, A>, AllocError> {
     Ok(Box::new(alloc, String::from_str(alloc, text)?)?)
 }
 
-/// The set has the numbers below this one, and no other.
+/// Asserts that the entries of the set are the numbers below `end`.
 fn assert_numbers<A: Allocator + Copy>(rt: &impl Abort, set: &Numbers<A>, end: u64) {
     assert_same(rt, set.len() as u64, end);
     for number in 0..end {

@@ -1,4 +1,4 @@
-//! The kinds of values that a table holds.
+//! Tests of the kinds of values that a table can hold.
 use super::assert_same;
 use std::num::{NonZeroU32, NonZeroU64};
 use std::ops::Range;
@@ -9,7 +9,7 @@ use table_held::raw::{HeldRawTable, is_first_capacity};
 use table_held::{AtomicValue, InPlace};
 use table_terms::law::{Law, NumberLaw, hash_number};
 
-/// The number that a target is known by.
+/// A target that has a number.
 trait Number {
     fn number(&self) -> u64;
 }
@@ -38,12 +38,12 @@ impl Number for NonZeroU64 {
     }
 }
 
-/// The target of the value, known by its bounds alone, has this number.
+/// Asserts that `deref`, called through the trait `AtomicValue`, returns a target with this number.
 fn assert_target<T: Number, V: AtomicValue<Target = T>>(rt: &impl Abort, value: &V, number: u64) {
     assert_same(rt, value.deref().number(), number);
 }
 
-/// The insert of a value shows its number, and places it or not.
+/// Inserts the value, and asserts that the insert returns an entry with its number, and whether it places the value.
 fn assert_told<L: Law<T>, T: Number, V: AtomicValue<Target = T>>(
     rt: &impl Abort,
     table: &mut HeldRawTable<V>,
@@ -65,7 +65,7 @@ fn assert_told<L: Law<T>, T: Number, V: AtomicValue<Target = T>>(
     }
 }
 
-/// The look-up of the number shows it.
+/// Asserts that a look-up finds the number.
 fn assert_shown<L: Law<T>, T: Number, V: AtomicValue<Target = T>>(
     rt: &impl Abort,
     table: &HeldRawTable<V>,
@@ -77,7 +77,7 @@ fn assert_shown<L: Law<T>, T: Number, V: AtomicValue<Target = T>>(
     }
 }
 
-/// The look-up of each of the numbers shows it.
+/// Asserts that a look-up finds each of the numbers.
 fn assert_all_shown<L: Law<T>, T: Number, V: AtomicValue<Target = T>>(
     rt: &impl Abort,
     table: &HeldRawTable<V>,
@@ -88,7 +88,7 @@ fn assert_all_shown<L: Law<T>, T: Number, V: AtomicValue<Target = T>>(
     }
 }
 
-/// How many values a table of numbers below 64 hands out, and their bits.
+/// Returns how many values the owning iterator yields, and a word in which the bit of each value is set. The values are below 64.
 fn bits_of(table: HeldRawTable<Arc<u16>>) -> (u64, u64) {
     let (mut values, mut bits) = (0u64, 0u64);
     for value in table {

@@ -1,4 +1,4 @@
-//! A bucket held alone, one that names its entry, and the end of their life.
+//! A bucket with a single owner, a bucket that names its entry, and the end of both.
 ghost use Rattle.std.specs.Prelude.{◌≡◌};
 ghost use Rattle.table_cell.specs.Contents.{Lies};
 
@@ -20,7 +20,7 @@ impl Drop for Counting {
     }
 }
 
-/// What is seen of a bucket: its bits, whether it owns, and the value.
+/// What a bucket shows: that it is vacant, owns its block or names it, and with the block its hash bits and value.
 #[derive(PartialEq, Eq, Debug, Clone, Copy, Drop)]
 enum Seen {
     Vacant,
@@ -42,8 +42,8 @@ fn look_at(home: &Home, bucket: &Bucket<u64, Global>) -> Seen
     }
 }
 
-/// What one bucket shows before and after each of two values, what a second shows that names its entry, and what each
-/// hands out at the end.
+/// Offers two values to a bucket, and names its entry in a second bucket. Returns what the first shows before and after, what the second
+/// shows, and the values that the second and then the first return at the end.
 fn life(alloc: Global) -> ([Seen; 3], [Option<u64>; 2]) {
     let home = Home::new();
     let mut first = Bucket::new(&alloc, &home);
@@ -76,7 +76,7 @@ fn a_named_bucket_shows_the_entry_and_owns_nothing(rt: HostRuntime) {
     assert_eq!(rt; taken, [None, Some(5)]);
 }
 
-/// Places a value, names its entry twice, and drops the buckets that name it.
+/// Places a value, names its entry twice, and drops the buckets that name it. Returns the value that the bucket returns at the end.
 fn named_and_given_up(alloc: Global, value: Counting) -> Option<Counting> {
     let home = Home::new();
     let mut bucket = Bucket::new(&alloc, &home);

@@ -1,10 +1,10 @@
-//! A word that is set again and again.
+//! A `Latest`, which names one word after another.
 ghost use Rattle.std.specs.Prelude.{◌≡◌, true, None};
 
 use std::alloc::Global;
 use table_cell::{Closed, Entry, Home, Latest, LooseBlock, Word};
 
-/// A word that holds this number, if memory is there for it.
+/// Returns a word that holds this number, or an unset word if memory is refused.
 fn word_of(alloc: Global, home: &Home, number: u64) -> Word<Entry<u64>, Global>
     ensures home { result.home ≡ home.now.id }
     ensures unset { (result.value ≡ None) × (result.owning ≡ true) }
@@ -25,7 +25,7 @@ fn word_of(alloc: Global, home: &Home, number: u64) -> Word<Entry<u64>, Global>
     word
 }
 
-/// The number that is shown now.
+/// Returns the number of the word that `latest` names. `None` means that it names no word.
 fn number_of(home: &Home, latest: &Latest<Entry<u64>, Global>) -> Option<u64>
     requires { latest.now.home ≡ home.now.id }
 {
@@ -33,7 +33,7 @@ fn number_of(home: &Home, latest: &Latest<Entry<u64>, Global>) -> Option<u64>
     Some(latest.name(&mut note)?.get(home).value)
 }
 
-/// Shows the word, if it is set, and what is shown then.
+/// Makes `latest` name the word, if that is set. Returns the number that `latest` then names. `None` means that the word isn't set.
 fn shown_of(
     home: &Home,
     latest: &Latest<Entry<u64>, Global>,
@@ -51,7 +51,7 @@ fn shown_of(
     Some(name.get(home).value)
 }
 
-/// Ends the word, and frees its block.
+/// Ends the word, and frees its block if it has one.
 fn end(word: Word<Entry<u64>, Global>, closed: &Closed, alloc: Global)
     requires { (word.home ≡ closed.now.id) × (word.value ≡ None) × (word.owning ≡ true) }
 {
@@ -61,7 +61,7 @@ fn end(word: Word<Entry<u64>, Global>, closed: &Closed, alloc: Global)
     }
 }
 
-/// What is shown before the first word, then of 1, 2 and 1 again, and after a word that isn't set.
+/// Returns the number that `latest` names at first, after each of the words 1, 2 and 1 again, and after a word that isn't set.
 fn life(alloc: Global) -> [Option<u64>; 5] {
     let home = Home::new();
     let latest = Latest::new(&alloc, &home);

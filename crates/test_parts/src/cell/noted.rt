@@ -12,7 +12,7 @@ struct Looks<'a> {
     second: Option<&'a Entry<u64>>,
 }
 
-/// Two looks with one note: an entry that the first shows is shown by the second.
+/// Looks at the bucket twice with one note. The second look shows each entry that the first shows.
 fn look_twice<'a>(home: &'a Home, bucket: &'a Bucket<u64, Global>) -> Looks<'a>
     requires home { bucket.now.home ≡ home.now.id }
     requires vacant { bucket.now.content ≡ vacant }
@@ -25,7 +25,7 @@ fn look_twice<'a>(home: &'a Home, bucket: &'a Bucket<u64, Global>) -> Looks<'a>
     }
 }
 
-/// An exchange and a look with one note: an entry that either was placed or came first is shown by the look.
+/// Offers a value to the bucket, and looks at it with the same note. The look shows the entry that was placed or that came first.
 fn place_and_look<'a>(
     home: &'a Home,
     bucket: &'a Bucket<u64, Global>,
@@ -53,7 +53,8 @@ fn values(looks: Looks) -> [Option<u64>; 2] {
     [value(looks.first), value(looks.second)]
 }
 
-/// What is seen of a bucket before and after two exchanges, and by each of them, and the value that is handed out.
+/// Returns what two looks show before two exchanges, what each exchange and a look after it show, what two looks show at last, and the
+/// value that the bucket returns at the end.
 fn life(alloc: Global) -> ([[Option<u64>; 2]; 4], Option<u64>) {
     let home = Home::new();
     let bucket = Bucket::new(&alloc, &home);

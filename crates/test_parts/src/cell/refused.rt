@@ -1,5 +1,5 @@
-//! Buckets whose blocks are refused. A block is asked for before the bucket is looked at: so a set bucket answers a refused
-//! request by NoMemory.
+//! Buckets whose requests for a block are refused. A call requests the block before it looks at the bucket. So a refused request returns
+//! `NoMemory` even if the bucket is set.
 ghost use Rattle.std.specs.Prelude.{◌≡◌};
 ghost use Rattle.table_cell.specs.Contents.{Lies};
 
@@ -8,7 +8,7 @@ use std::process::Abort;
 use table_cell::{Bucket, Home, Low, Missed, Refusal};
 use testkit::refusing::{Refusing, Rule};
 
-/// How a value fared: what came back of it.
+/// What became of a value: it was placed, or it was returned.
 #[derive(PartialEq, Eq, Debug, Clone, Copy, Drop)]
 enum Fared {
     Placed,
@@ -16,13 +16,13 @@ enum Fared {
     NoMemory(u64),
 }
 
-/// Where the first request is granted and the second refused, how three values fare, and which one ends in the bucket.
+/// What becomes of three values if the first request is granted and the second refused, and the value that the bucket returns at the end.
 const SECOND_REFUSED: ([Fared; 3], Option<u64>) = (
     [Fared::Placed, Fared::NoMemory(6), Fared::Taken(7)],
     Some(5),
 );
 
-/// The same where the first request is refused.
+/// What becomes of three values if the first request is refused, and the value that the bucket returns at the end.
 const FIRST_REFUSED: ([Fared; 3], Option<u64>) = (
     [Fared::NoMemory(5), Fared::Placed, Fared::Taken(7)],
     Some(6),
@@ -36,7 +36,7 @@ fn fared_alone(answer: Result<(), Refusal<u64>>) -> Fared {
     }
 }
 
-/// Three values offered to one bucket held alone.
+/// Offers three values to a bucket with a single owner. Returns what became of each, and the value that the bucket returns at the end.
 fn alone<A: Allocator + Copy>(alloc: A) -> ([Fared; 3], Option<u64>) {
     let home = Home::new();
     let mut bucket = Bucket::new(&alloc, &home);
@@ -60,7 +60,7 @@ fn place<A: Low + Copy>(home: &Home, bucket: &Bucket<u64, A>, alloc: A, value: u
     }
 }
 
-/// Three values offered to one bucket through `&`.
+/// Offers three values to a bucket through `&`. Returns what became of each, and the value that the bucket returns at the end.
 fn shared<A: Low + Copy>(alloc: A) -> ([Fared; 3], Option<u64>) {
     let home = Home::new();
     let bucket = Bucket::new(&alloc, &home);
@@ -72,7 +72,8 @@ fn shared<A: Low + Copy>(alloc: A) -> ([Fared; 3], Option<u64>) {
     ([first, second, third], bucket.take(&closed, alloc, note))
 }
 
-/// A value for a bucket held alone, and then two that are offered to it through `&`.
+/// Offers one value to a bucket with a single owner, and then two through `&`. Returns what became of each, and the value that the bucket
+/// returns at the end.
 fn shared_after_alone<A: Low + Copy>(alloc: A) -> ([Fared; 3], Option<u64>) {
     let home = Home::new();
     let mut bucket = Bucket::new(&alloc, &home);
@@ -84,12 +85,13 @@ fn shared_after_alone<A: Low + Copy>(alloc: A) -> ([Fared; 3], Option<u64>) {
     ([first, second, third], bucket.take(&closed, alloc, note))
 }
 
-/// An allocator that grants the first requests for the block of an entry of a number, and refuses the next one.
+/// Returns memory that grants the first `passing` requests of 16 bytes, the size of an entry of a number, and refuses the next one.
 fn refusing_after<B: Allocator>(inner: B, passing: u64) -> Refusing<B> {
     Refusing::new(inner, Rule::new(16, 16, passing, 1))
 }
 
-/// Where so many requests are granted before one is refused, the values fare so, whoever offers them.
+/// Asserts what becomes of three values if the first `passing` requests are granted and the next one is refused. It is the same for each
+/// way to offer them.
 fn assert_fares(
     rt: &impl Abort,
     memory: Global,

@@ -4,7 +4,8 @@ ghost use Rattle.std.specs.Prelude.{◌≡◌};
 use std::alloc::Global;
 use table_cell::{Entry, Home, LooseBlock, Word};
 
-/// The number that a settled word shows, and the one that it then hands out. It was set to the number given, if one is.
+/// Sets a word to the number, if one is given, and settles it. Returns the number that the word then shows, and the number of the block
+/// that it returns at the end.
 fn settle(alloc: Global, number: Option<u64>) -> [Option<u64>; 2] {
     let home = Home::new();
     let word = Word::new(&alloc, &home);

@@ -32,7 +32,7 @@ struct One {
     ghost lies: { Lies home.id alloc bucket },
 }
 
-/// How a thread's value fared, and the number that the bucket then shows.
+/// What became of a thread's value, and the number that the bucket then shows.
 #[derive(PartialEq, Eq, Debug, Clone, Copy, Drop)]
 enum Fared {
     Placed(u64),
@@ -89,7 +89,7 @@ impl One {
     }
 }
 
-/// Whether one of two placed its number and the other was shown it.
+/// Returns whether one of two threads placed its number and the other found that number.
 fn agree(first: Fared, second: Fared, shown: Option<u64>) -> bool {
     match (first, second) {
         (Fared::Placed(x), Fared::Taken(y)) => x == 1 && y == 1 && shown == Some(1),
@@ -98,7 +98,8 @@ fn agree(first: Fared, second: Fared, shown: Option<u64>) -> bool {
     }
 }
 
-/// A round: two threads place, and the bucket ends.
+/// Runs a round: two threads offer a value each to one bucket, which then ends. Returns whether one value was placed, both threads saw it,
+/// and each value was dropped once. `Err` means no memory.
 fn round(rt: &impl Threads, alloc: Global, drops: &Arc<AtomicU64>) -> Result<bool, Fail> {
     let (mine, yours) = (drops.clone()?, drops.clone()?);
     let one = One::new(alloc);

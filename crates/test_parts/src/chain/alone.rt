@@ -1,4 +1,4 @@
-//! One thread: shown one behind another, full, refused, and the end.
+//! One thread appends values to a chain: until it is full, while memory is refused, and to its end.
 ghost use Rattle.test_parts.specs.Known.{Knows};
 
 use super::counting::{Fared, Numbers, Seen, assert_same, made, push};
@@ -10,7 +10,7 @@ use std::test::Fail;
 use table_cell::Low;
 use testkit::refusing::{Refusing, Rule};
 
-/// How three numbers fare that are shown one behind another.
+/// Appends the numbers 1, 2 and 3 to the chain. Returns what became of each. `Err` means no memory.
 fn pushed<A: Low + Copy>(
     chain: &Numbers<A>,
     seen: &mut Seen,
@@ -26,7 +26,8 @@ fn pushed<A: Low + Copy>(
     Ok((first, second, third))
 }
 
-/// How a fourth number fares, and the values that come out then, each the last digit behind those before it.
+/// Appends the number 4, and ends the chain. Returns what became of the number, and the values of the chain as the digits of one number.
+/// `Err` means no memory.
 fn ended<A: Low + Copy>(
     chain: Numbers<A>,
     seen: &mut Seen,
@@ -96,7 +97,7 @@ fn what_is_dropped_half_way_drops_the_rest(rt: HostRuntime) -> Result<(), Fail> 
     Ok(())
 }
 
-/// Whether a chain was made, where of the requests for it the first `passing` are granted and the next is refused.
+/// Returns whether a chain is made if the first `passing` requests for it are granted and the next one is refused.
 fn made_with(alloc: Global, passing: u64, drops: Arc<AtomicU64>) -> bool {
     let heap = Refusing::new(alloc, Rule::new(0, usize::MAX, passing, 1));
     made(&heap, drops).is_some()

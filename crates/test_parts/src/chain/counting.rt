@@ -1,4 +1,4 @@
-//! Chains of numbers that count how many of them were dropped.
+//! Chains of numbers that count their drops.
 ghost use Rattle.std.specs.Prelude.{◌≡◌, ◌<◌, IfSome};
 ghost use Rattle.table_chain.specs.History.{Stands};
 ghost use Rattle.test_parts.specs.Known.{Knows};
@@ -24,7 +24,7 @@ impl Drop for Counting {
     }
 }
 
-/// Anything may stand behind anything.
+/// The rule of a chain in which any value may follow any other.
 pub struct Any;
 
 impl<G> Follows<G> for Any {
@@ -37,7 +37,7 @@ pub type Numbers<A> = Chain<Counting, Any, A>;
 
 pub type Seen = Token<Counting, Any>;
 
-/// How a value fared, by the number that its slot then shows.
+/// What became of a value. `Shown` has the number that the slot shows. `Other` has that number, and then the number that was returned.
 #[derive(PartialEq, Eq, Debug, Clone, Copy, Drop)]
 pub enum Fared {
     Shown(u64),
@@ -47,7 +47,7 @@ pub enum Fared {
 }
 
 impl Fared {
-    /// How it ended.
+    /// Returns what became of a value, by the result of `show`.
     pub fn of(showing: Showing<'_, Counting>) -> Fared {
         match showing {
             Showing::Shown(value) => Fared::Shown(value.number),
@@ -57,12 +57,12 @@ impl Fared {
     }
 }
 
-/// Both are the same.
+/// Asserts that `got` equals `expected`.
 pub fn assert_same<X: PartialEq + Debug + Drop>(rt: &impl Abort, got: X, expected: X) {
     assert_eq!(rt; got, expected);
 }
 
-/// A chain of four slots that begins with the number 7.
+/// Makes a chain of four slots that begins with the number 7. `None` means that memory was refused.
 pub fn made<A: Low + Copy>(alloc: A, drops: Arc<AtomicU64>) -> Option<Numbers<A>>
     ensures slots { IfSome result (λ c. c.slots ≡ 4) }
     ensures first { IfSome result (λ c. (g : _) × Stands c.start 0 g) }
@@ -70,7 +70,7 @@ pub fn made<A: Low + Copy>(alloc: A, drops: Arc<AtomicU64>) -> Option<Numbers<A>
     Chain::new(alloc, 4, Counting { number: 7, drops }).ok()
 }
 
-/// Shows the number in the second slot.
+/// Offers the number to the second slot by `show`. Returns what became of it.
 pub fn show<A: Low + Copy>(chain: &Numbers<A>, number: u64, drops: Arc<AtomicU64>) -> Fared
     requires slots { 1 < chain.now.slots }
     requires first { (g : _) × Stands chain.now.start 0 g }
@@ -79,7 +79,7 @@ pub fn show<A: Low + Copy>(chain: &Numbers<A>, number: u64, drops: Arc<AtomicU64
     Fared::of(chain.show(&mut seen, 1, Counting { number, drops }))
 }
 
-/// Shows the number behind the newest.
+/// Offers the number to the slot after the newest value. Returns what became of it, or `Full` if there is no such slot.
 pub fn push<A: Low + Copy>(
     chain: &Numbers<A>,
     seen: &mut Seen,

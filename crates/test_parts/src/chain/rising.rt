@@ -1,4 +1,4 @@
-//! A chain of numbers of which each is greater than the one before: a walk along it, one load a step.
+//! A chain in which each number is greater than the one before it, and a walk along it that makes one load a step.
 ghost use Rattle.std.specs.Prelude.{◌≡◌, ◌<◌, suc, IfSome, IfOk};
 ghost use mathlib.Core.List.{IsPrefix};
 ghost use Rattle.table_chain.specs.History.{Stands};
@@ -24,7 +24,7 @@ type Rising = Chain<u64, Rises, Global>;
 
 type Seen = Token<u64, Rises>;
 
-/// Returns the number in the slot after one whose number is known, if it has one. It is greater.
+/// Returns the number in the slot after `slot`, whose number is `here`. It is greater than `here`. `None` means that this slot was empty.
 fn climb<'a>(
     chain: &'a Rising,
     seen: &mut Seen,
@@ -50,7 +50,7 @@ fn climb<'a>(
     }
 }
 
-/// Shows a greater number in the slot after one whose number is known. Answers whether the slot has it then.
+/// Offers a greater number to the slot after `slot`, whose number is `here`. Returns whether the slot then has this number.
 fn rise(chain: &Rising, seen: &mut Seen, slot: usize, next: usize, here: u64, number: u64) -> bool
     requires sees { Sees chain.now seen.old.book seen.old.names seen.old.log }
     requires next { next ≡ suc slot }
@@ -64,7 +64,7 @@ fn rise(chain: &Rising, seen: &mut Seen, slot: usize, next: usize, here: u64, nu
     }
 }
 
-/// Makes a chain of three slots that begins with 3.
+/// Makes a chain of three slots that begins with 3. `Err` means no memory.
 fn made(alloc: Global) -> Result<Rising, Fail>
     ensures slots { IfOk result (λ c. c.slots ≡ 3) }
     ensures first { IfOk result (λ c. Stands c.start 0 3) }

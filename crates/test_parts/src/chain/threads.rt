@@ -8,7 +8,8 @@ use std::test::Fail;
 use std::thread;
 use std::thread::Threads;
 
-/// A round: two threads show a number in the second slot. One of them does, and the other is shown that number and gets its own back.
+/// Runs a round: two threads offer a number each to the second slot. Returns whether one of them placed its number, the other saw that
+/// number and got its own back, and the chain has two values. `Err` means no memory.
 fn race(rt: &impl Threads, alloc: Global, drops: &Arc<AtomicU64>) -> Result<bool, Fail> {
     let chain = made(alloc, drops.clone()?).ok_or("a chain")?;
     let (mine, yours) = (drops.clone()?, drops.clone()?);

@@ -1,11 +1,11 @@
-//! One thread, one generation: empty, with entries, full.
+//! One thread and one generation, which is empty, has entries, or is full.
 use super::caller::{By, Numbers, Row, Told, made};
 use std::alloc::{AllocError, Global};
 use std::process::Abort;
 use std::test::Fail;
 use table_slab::Slab;
 
-/// Asserts that the calls of a new generation of so many buckets end as they should.
+/// Asserts how the calls of the rows end in a new generation of `buckets` buckets. `Err` means no memory.
 fn assert_calls(
     rt: &impl Abort,
     alloc: Global,
@@ -22,7 +22,8 @@ fn assert_calls(
     Ok(())
 }
 
-/// A value that is found comes back, and the slot that came back takes the next one. Numbers 4 to 6 have one mark.
+/// Calls of a generation of eight buckets. An insert that finds its value returns the slot, which the next value takes. Numbers 4 to 7 have
+/// one mark.
 const EIGHT: [Row; 15] = [
     (By::Judge, 0, Told::Vacant),
     (By::Judge, u64::MAX, Told::Vacant),
@@ -47,7 +48,7 @@ fn a_value_is_placed_once_and_found(rt: HostRuntime) -> Result<(), Fail> {
     Ok(())
 }
 
-/// The value that finds no bucket comes back, and so does one that is there.
+/// Calls of a generation of two buckets. An insert returns a value that finds no empty bucket, or that is found.
 const TWO: [Row; 6] = [
     (By::Put, 1, Told::Placed(0)),
     (By::Put, 2, Told::Placed(1)),

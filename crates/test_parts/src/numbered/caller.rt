@@ -1,4 +1,4 @@
-//! One generation of numbers, its slab, and the calls of them.
+//! A generation of numbers with its slab, and the calls that the rows of tests name.
 ghost use Rattle.std.specs.Prelude.{◌≡◌, IfOk, IfSome, None};
 ghost use Rattle.table_slab.specs.Held.{IsRightTo};
 ghost use Rattle.table_numbered.specs.Words.{IsNumber};
@@ -16,11 +16,11 @@ use table_slab::{Right, Run, Slab};
 pub(crate) enum By {
     /// Places the number in a slot of its own.
     Put,
-    /// Places the number. If it comes back, the number after it is placed in the slot that came back.
+    /// Places the number. If it is returned, places the number after it in the slot that was returned.
     PutOrNext,
     /// Probes for the number.
     Judge,
-    /// Seeks the number, and reads it once more by the number of its slot.
+    /// Looks the number up, and reads the entry once more by the number of its slot.
     Show,
     /// Asks whether an entry has this number.
     Has,
@@ -43,12 +43,12 @@ pub(crate) enum Told {
 /// A call, its number, and how it should end.
 pub(crate) type Row = (By, u64, Told);
 
-/// Asserts that both are equal.
+/// Asserts that `got` equals `expected`.
 pub(crate) fn assert_same<X: PartialEq + Debug + Drop>(rt: &impl Abort, got: X, expected: X) {
     assert_eq!(rt; got, expected);
 }
 
-/// Makes a generation of so many buckets, of which there are 1, 2, 4 or 8.
+/// Makes a generation of `buckets` buckets. `Err` means that memory was refused, or that `buckets` isn't 1, 2, 4 or 8.
 pub(crate) fn made<A: Low + Copy>(
     alloc: A,
     slab: &Slab<u64, A>,
@@ -72,7 +72,7 @@ pub(crate) struct Numbers<'a, A: Low + Copy> {
 }
 
 impl<'a, A: Low + Copy> Numbers<'a, A> {
-    /// Returns a slot that is empty, and the right to it. `None` means that memory was refused.
+    /// Returns the number of an empty slot, and the right to it. `None` means that memory was refused.
     fn slot(&self) -> Option<(u64, Right<u64, A>)>
         ensures number { IfSome result (λ r. IsNumber r.0) }
         ensures right { IfSome result (λ r. IsRightTo self.now.slab.now r.0 r.1) }
@@ -82,7 +82,7 @@ impl<'a, A: Low + Copy> Numbers<'a, A> {
         self.slab.number(&mut run, 1).ok()
     }
 
-    /// Places the number in the slot. The right comes back unless the number was placed.
+    /// Places the number in the slot. Returns the right too, unless the number was placed.
     fn put_at(&self, slot: u64, right: Right<u64, A>, number: u64) -> (Told, Option<Right<u64, A>>)
         requires number { IsNumber slot }
         requires right { IsRightTo self.now.slab.now slot right }
@@ -106,7 +106,7 @@ impl<'a, A: Low + Copy> Numbers<'a, A> {
         }
     }
 
-    /// Places the number. If it comes back, the number after it is placed in the slot that came back.
+    /// Places the number. If it is returned, places the number after it in the slot that was returned.
     fn put_or_next(&self, number: u64) -> Told {
         let Some((slot, right)) = self.slot() else {
             return Told::NoSlot;
@@ -128,7 +128,7 @@ impl<'a, A: Low + Copy> Numbers<'a, A> {
         }
     }
 
-    /// Seeks the number, and reads it once more by the number of its slot.
+    /// Looks the number up, and reads the entry once more by the number of its slot.
     fn show(&self, number: u64) -> Told {
         let mut seen = self.set.start();
         let sought = SameAs { target: &number };

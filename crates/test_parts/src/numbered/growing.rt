@@ -1,4 +1,4 @@
-//! The next generation: what is carried, and the old one, which is closed.
+//! Growth: the next generation carries the entries, and the old one is closed.
 ghost use Rattle.std.specs.Prelude.{◌≡◌, IfOk};
 
 use super::caller::{By, Numbers, Row, Told, assert_same, made};
@@ -10,8 +10,8 @@ use table_cell::Low;
 use table_numbered::{Generation, Refused};
 use table_slab::Slab;
 
-/// Slots have the numbers from 0 on, in the order in which they are taken. The first question for one finds no hint, and the others do,
-/// also for a number that is placed after it.
+/// Slots are numbered from 0 on, in the order in which they are taken. The first call of `has_number` finds no hint. Later calls find one,
+/// also for a number that is placed after the first call.
 const BEFORE: [Row; 9] = [
     (By::Put, 4, Told::Placed(0)),
     (By::Put, 5, Told::Placed(1)),
@@ -40,7 +40,7 @@ const NEXT: [Row; 12] = [
     (By::Put, 5, Told::Found(1)),
 ];
 
-/// The old generation shows its entries, and takes no other.
+/// The old generation finds its entries, and takes no new one.
 const CLOSED: [Row; 4] = [
     (By::Judge, 5, Told::Found(1)),
     (By::Judge, 6, Told::Spent),
@@ -48,7 +48,7 @@ const CLOSED: [Row; 4] = [
     (By::Show, 6, Told::Missed),
 ];
 
-/// Returns the next generation.
+/// Grows the generation, and returns the next one. `Err` means that memory was refused, or that there would be too many buckets.
 pub(crate) fn grown<A: Low + Copy>(
     set: &Generation<u64, Fours, A>,
     alloc: A,
@@ -73,7 +73,8 @@ fn tally(set: &Generation<u64, Fours, Global>, slab: Slab<u64, Global>) -> [u64;
     counts
 }
 
-/// Asserts that the next generation carries each entry, that the old one is closed, and that each value is returned once at the end.
+/// Asserts that the next generation carries each entry, that the old one is closed, and that each value is returned once at the end. `Err`
+/// means no memory.
 fn assert_carries(rt: &impl Abort, alloc: Global) -> Result<(), AllocError> {
     let slab = Slab::new(alloc, 1)?;
     let set = made(alloc, &slab, 4)?;

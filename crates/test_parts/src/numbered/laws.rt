@@ -1,8 +1,8 @@
-//! The law that numbers are placed under.
+//! The law of the numbers, which says which are equal and what their hashes are.
 use table_terms::law::{Law, SetLaw, hash_number};
 
-/// A number is equal only to itself. Four numbers in a row, from a multiple of 4 on, have one hash: so they have one mark, and a probe
-/// for each begins at the same bucket.
+/// A number is equal only to itself. The four numbers from a multiple of 4 on have one hash: so they have one mark, and their probes begin
+/// at the same bucket.
 pub(crate) struct Fours;
 
 impl Law<u64> for Fours {

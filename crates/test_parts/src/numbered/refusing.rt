@@ -1,4 +1,4 @@
-//! Memory that is refused.
+//! A slab and a generation whose requests for memory are refused.
 use super::caller::{Numbers, Told, assert_same, made};
 use super::growing::grown;
 use std::alloc::Global;
@@ -6,8 +6,8 @@ use std::process::Abort;
 use table_slab::Slab;
 use testkit::refusing::{Refusing, Rule};
 
-/// Places 1 in a generation of two buckets, which then grows. Returns how a probe for it ends in the next generation. If memory for that
-/// one is refused, returns how it ends to place 2 in the old one. `None` means that memory was refused before.
+/// Places 1 in a generation of two buckets, and grows it. Returns how a probe for 1 ends in the next generation. If the growth is refused,
+/// places 2 in the old generation, and returns how that ends. `None` means that memory was refused before.
 fn story(heap: &Refusing<Global>) -> Option<Told> {
     let slab = Slab::new(heap, 1).ok()?;
     let set = made(heap, &slab, 2).ok()?;
@@ -28,9 +28,9 @@ fn story(heap: &Refusing<Global>) -> Option<Told> {
     Some(new.judge(1))
 }
 
-/// How many requests are granted before one is refused, and how the story ends. A slab asks for its cells and for what its end needs, a
-/// generation for its words and for those of hints, a first number for its chunk and for the chunk's box, and growth for words and for
-/// those of hints: that is all.
+/// How many requests are granted before one is refused, and what `story` then returns. A slab makes two requests, for its cells and for
+/// what its end needs. A generation makes two, for its words and for the words of its hints. A first number makes two, for its chunk and
+/// for the chunk's box. A growth makes two, for words and for the words of hints.
 const ENDS: [(u64, Option<Told>); 9] = [
     (0, None),
     (1, None),
@@ -43,7 +43,7 @@ const ENDS: [(u64, Option<Told>); 9] = [
     (8, Some(Told::Found(0))),
 ];
 
-/// A refused growth closes nothing.
+/// Checks that each of eight requests can be refused in turn, that a refused growth closes nothing, and that all memory is freed.
 #[test]
 fn each_of_eight_requests_is_refused_in_turn(rt: HostRuntime) {
     let heap = Refusing::new(rt.alloc(), Rule::new(0, usize::MAX, 0, 0));

@@ -8,10 +8,10 @@ use std::sync::atomic::Ordering::SeqCst;
 use std::test::Fail;
 use table_slab::{Rooms, Slots, Written};
 
-/// What a test saw of a slot's values: of the one that was taken back, and what shows the one that stays.
+/// The number of the value that was taken back, and the `Written` of the value that stays in the slot.
 type Seen<'d> = (u64, Written<Counting<'d>>);
 
-/// A value is written and taken back, and another is written for good.
+/// Writes a value and takes it back, and then writes another one for good.
 fn write_twice<'d>(
     slots: &Slots<Counting<'d>, Global>,
     rooms: Rooms<Counting<'d>>,

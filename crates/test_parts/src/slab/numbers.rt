@@ -5,7 +5,7 @@ use std::alloc::Global;
 use std::test::Fail;
 use table_slab::{Refused, Run, Slab};
 
-/// Takes so many numbers, one at a time.
+/// Takes `count` numbers, one at a time, or fewer if memory is refused.
 pub(crate) fn numbers(slab: &Slab<u64, Global>, alloc: Global, count: usize) -> Vec<u64> {
     let mut run = Run::new();
     let mut found = Vec::new(alloc);
@@ -20,7 +20,7 @@ pub(crate) fn numbers(slab: &Slab<u64, Global>, alloc: Global, count: usize) -> 
     found
 }
 
-/// Writes a value at a number, for good, and returns what is read there.
+/// Writes the value at a new number, for good. Returns the number, and what is read there. `None` means that memory was refused.
 fn write_and_read(
     slab: &Slab<u64, Global>,
     run: &mut Run<u64, Global>,
@@ -34,7 +34,7 @@ fn write_and_read(
     Some((number, *slab.get(number, &standing)))
 }
 
-/// Writes a value at a number, and takes it back.
+/// Writes the value at a new number, and takes it back. `None` means that memory was refused.
 fn write_and_take_back(slab: &Slab<u64, Global>, value: u64) -> Option<u64> {
     let mut run = Run::new();
     let (number, right) = slab.number(&mut run, 3).ok()?;
@@ -42,7 +42,7 @@ fn write_and_take_back(slab: &Slab<u64, Global>, value: u64) -> Option<u64> {
     Some(value)
 }
 
-/// Writes a value at a number, for good, and takes it out of the slab that ends.
+/// Writes the value at a new number, for good, ends the slab, and takes the value out. `None` means that memory was refused.
 fn write_and_end(slab: Slab<u64, Global>, value: u64) -> Option<u64> {
     let mut run = Run::new();
     let (number, right) = slab.number(&mut run, 3).ok()?;
@@ -51,14 +51,15 @@ fn write_and_end(slab: Slab<u64, Global>, value: u64) -> Option<u64> {
     Some(ending.take_out(number, &standing))
 }
 
-/// Takes the next number of a slab, and with it up to `2 ^ 31 - 2` numbers that follow it in its chunk.
+/// Takes the next number of a slab, and with it up to `2 ^ 31 - 2` numbers that follow it in its chunk. `Err` means that memory was refused
+/// or that no number is left.
 fn next_with_others(slab: &Slab<(), Global>) -> Result<u64, Refused> {
     let mut run = Run::new();
     let (number, _right) = slab.number(&mut run, (1 << 31) - 1)?;
     Ok(number)
 }
 
-/// Returns the first number of the last chunk, if each of the chunks before it has a number.
+/// Takes all numbers of each chunk, and returns the first number of the last chunk. `None` means that memory was refused.
 fn last_first(slab: &Slab<(), Global>) -> Option<u64> {
     let mut last = None;
     for _chunk in 0..32u32 {
@@ -67,7 +68,8 @@ fn last_first(slab: &Slab<(), Global>) -> Option<u64> {
     last
 }
 
-/// Takes a number of a run and returns the others to the slab. Then it takes a number of another run.
+/// Takes a number of a run, and gives the others back to the slab. Then takes a number of another run. Returns both numbers. `None` means
+/// that memory was refused.
 fn give_back_and_take(slab: &Slab<u64, Global>) -> Option<(u64, u64)> {
     let mut run = Run::new();
     let (first, _right) = slab.number(&mut run, 4).ok()?;

@@ -3,7 +3,7 @@ use std::alloc::Global;
 use table_slab::Slots;
 use testkit::refusing::{Refusing, Rule};
 
-/// Whether memory for so many numbers is granted.
+/// Returns whether memory for `count` numbers is granted.
 fn is_granted(memory: &Refusing<Global>, count: usize) -> bool {
     match Slots::<u64, &Refusing<Global>>::new(memory, count) {
         Ok((_slots, _rooms)) => true,

@@ -3,7 +3,7 @@ use std::alloc::Global;
 use table_slab::{Run, Slab};
 use testkit::refusing::{Refusing, Rule};
 
-/// Takes the first number of a slab.
+/// Takes the first number of a new slab. `None` means that memory was refused.
 fn first_number(memory: &Refusing<Global>) -> Option<u64> {
     let slab = Slab::<u64, &Refusing<Global>>::new(memory, 2).ok()?;
     let mut run = Run::new();

@@ -5,10 +5,10 @@ use std::test::Fail;
 use std::thread::{Threads, join};
 use table_slab::{Run, Slab};
 
-/// How many numbers a thread takes one by one: so many that two threads meet at the counter.
+/// How many numbers a thread takes one by one: enough for two threads to meet at the counter.
 const MANY: usize = 20_000;
 
-/// Whether these are the numbers from 0 on, each once, in any order.
+/// Returns whether these are the numbers from 0 on, each once, in any order.
 fn are_all(taken: [Vec<u64>; 2]) -> bool {
     let [mut all, others] = taken;
     if all.extend_from_slice(&others).is_err() || all.sort().is_err() {
@@ -24,7 +24,7 @@ fn are_all(taken: [Vec<u64>; 2]) -> bool {
     true
 }
 
-/// Takes a number of each of `count` runs, and returns the rest of each run to the slab.
+/// Takes a number of each of `count` runs, and gives the rest of each run back to the slab. Returns the numbers.
 fn one_of_each_run(slab: &Slab<u64, Global>, alloc: Global, count: usize) -> Vec<u64> {
     let mut found = Vec::new(alloc);
     for _taken in 0..count {
@@ -40,7 +40,7 @@ fn one_of_each_run(slab: &Slab<u64, Global>, alloc: Global, count: usize) -> Vec
     found
 }
 
-/// Whether no number stands twice among these.
+/// Returns whether these numbers are all different.
 fn are_distinct(taken: [Vec<u64>; 2]) -> bool {
     let [mut all, others] = taken;
     if all.extend_from_slice(&others).is_err() || all.sort().is_err() {

@@ -45,7 +45,7 @@ fn write<'a>(
     }
 }
 
-/// Looks for the number, and returns it once it is there.
+/// Looks for the number, and returns it once it is there. `None` means that it isn't there after `LOOKS` looks.
 fn look(place: &OnceLock<Shown<'_>>) -> Option<u64> {
     for _look in 0..LOOKS {
         if let Some(shown) = place.get() {

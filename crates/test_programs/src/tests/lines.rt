@@ -1,4 +1,4 @@
-//! Bad lines, long ones, and inputs that are cut.
+//! Bad lines, long lines, and inputs that are cut off.
 use super::{first_lines, line_ends, run};
 use std::test::Fail;
 use tool_streams::blocks::BLOCK;
@@ -10,7 +10,7 @@ const BAD_CALLS: &str =
     i 000000000000000000000 1|i 0x10000000000000000 1|i 0x00000000000000001 1|l|l 0|l 0 1 |l 0 18446744073709551616|n | n|nn|\
     n 1|w |c 0|b\0|x|b x|insert 1 1 1";
 
-/// Lines that spell no event.
+/// Lines that `core` doesn't know, with `|` between them.
 const BAD_EVENTS: &str =
     "| |bb|b | b|B|b 1|i 0 1|n|insert|insert |insert 1|insert 1 2|insert 1 2 |insert 1 2 3 |insert 1 2 3 4|\
     insert  1 2 3|insert 1  2 3|insert 1 2  3| insert 1 2 3|insert 1 2 3\r|insert\t1 2 3|insert 1 2 -3|\
@@ -45,7 +45,7 @@ fn every_byte_as_a_line(rt: HostRuntime) {
     }
 }
 
-/// Lines of which no proper beginning is a line, but for the empty one at the end of the input.
+/// Lines of which no beginning is a good line. If the input is cut after a line break, no further line follows.
 const LINES: &str = "i 5 1\nl 5 1\nw\ni 6 2\nn\nc\nl 6 1";
 
 const REPLIES: &str = "placed\nsome 1\n[1]\nplaced\n2\n16\nnone\n";
@@ -69,13 +69,13 @@ fn an_input_cut_at_every_byte(rt: HostRuntime) -> Result<(), Fail> {
     Ok(())
 }
 
-/// How a long line begins, what goes on, how often, and how the input ends.
+/// How a long line begins, the part that is repeated, how often, and how the input ends.
 const LONG: [(&str, &str, usize, &str); 7] = [
     ("i 0 ", "0", 1 << 20, "1\nl 0 1\n"),
     ("i 0 ", "0", 1 << 20, ""),
     ("i 0 ", " ", 1 << 20, "1\nl 0 1\n"),
     ("i 0 ", "i", 1 << 20, ""),
-    // An end that is spelled well.
+    // The end of the long line would be a good line by itself.
     ("", "x", BLOCK, "n\nl 0 1\n"),
     ("", "x", 2 * BLOCK, "n\nl 0 1\n"),
     ("", "x", 3 * BLOCK, "n\nl 0 1\n"),
@@ -93,7 +93,7 @@ fn a_long_line_is_bad(rt: HostRuntime) -> Result<(), Fail> {
 
 #[test]
 fn lines_across_blocks(rt: HostRuntime) -> Result<(), Fail> {
-    // Lines of 43 bytes, so that most ends of blocks lie within one.
+    // Each line has 43 bytes and a line break, so most blocks end within a line.
     let mut input = String::new(rt.alloc());
     for k in 0..2000u64 {
         writeln!(input, "i {k:020} {k:020}")?;
@@ -105,12 +105,12 @@ fn lines_across_blocks(rt: HostRuntime) -> Result<(), Fail> {
     Ok(())
 }
 
-/// The longest line that is spelled well.
+/// The longest line that `core` knows.
 const LONGEST: &str = "insert 18446744073709551615 18446744073709551615 18446744073709551615\n";
 
 #[test]
 fn the_longest_lines_across_blocks(rt: HostRuntime) -> Result<(), Fail> {
-    // 69 bytes each without its line break. All but the first begin no call, since the number is used.
+    // Each line has 69 bytes and a line break. Only the first one begins a call, since its number is in use afterwards.
     let mut input = LONGEST.repeat(rt.alloc(), 1000)?;
     input.push_str("b\n")?;
     run(&rt, &["core"], input.as_bytes()).assert(&rt, "0\n", "", 0);

@@ -1,9 +1,9 @@
-//! Requests for memory that are refused.
+//! Commands whose requests for memory are refused.
 use super::{Host, Script, run_refusing};
 use std::test::Fail;
 use testkit::refusing::Rule;
 
-/// Asserts what `calls` prints for a script under the rule of these numbers.
+/// Asserts what `calls` prints for a script under the rule of these numbers. `Err` means no memory.
 fn assert_refusing(
     rt: &impl Host,
     rule: (usize, usize, u64, u64),
@@ -18,7 +18,7 @@ fn assert_refusing(
     Ok(())
 }
 
-/// Requests of so many bytes or more are for generations: the words of the first take as many.
+/// Requests of this many bytes or more are for generations. The words of the first generation take 128 bytes.
 const GENERATION: usize = 128;
 
 #[test]
@@ -39,7 +39,7 @@ fn generations_are_refused(rt: HostRuntime) -> Result<(), Fail> {
 
 #[test]
 fn the_first_block_is_refused(rt: HostRuntime) -> Result<(), Fail> {
-    // A pair takes 16 bytes; its block takes more, since the allocator's handle lies in it.
+    // A pair takes 16 bytes. Its block takes more, since the allocator's handle lies in it.
     let block = "i 0 1 = refused; n = 0; c = 16; b = 16; i 0 1 = placed";
     assert_refusing(&rt, (17, 31, 0, 1), block, "")?;
     let pair = "i 0 1 = refused; n = 0; c = 0; i 0 1 = placed";
@@ -48,13 +48,13 @@ fn the_first_block_is_refused(rt: HostRuntime) -> Result<(), Fail> {
 
 #[test]
 fn a_walk_without_memory(rt: HostRuntime) -> Result<(), Fail> {
-    // The two numbers of the walk are the third request for 16 bytes.
+    // The third request for 16 bytes is for the two numbers of the walk.
     let walk = "i 0 7 = placed; i 0 9 = placed; w; n";
     assert_refusing(&rt, (16, 16, 2, 1), walk, "no memory\n")
 }
 
-/// Refuses one request of a run: inserts of 17 pairs and of the fifth again, all of them once more, and the length. Returns true if an
-/// insert was refused at first. Then the next insert of its pair places it.
+/// Refuses one request of a run. The run inserts 17 pairs and the fifth again, then all of these once more, and asks for the length.
+/// Asserts that the next insert of a refused pair places it. Returns whether an insert was refused. `Err` means no memory.
 fn refuse_one(rt: &impl Host, first: &str, granted: u64) -> Result<bool, Fail> {
     let lines = Script::new(rt.alloc(), "0..17; i 4 4; 0..17; i 4 4; n")?;
     let rule = Rule::new(0, usize::MAX, granted, 1);
@@ -89,7 +89,8 @@ fn each_request_is_refused_in_turn(rt: HostRuntime) -> Result<(), Fail> {
             let is_refused = refuse_one(&rt, first, granted)?;
             refusals = refusals.saturating_add(u64::from(is_refused));
         }
-        // Each of the 17 for its pair and for its block, and the first for its generation's marks and words.
+        // Each of the 17 pairs makes two requests, for the pair and for its block. The first also makes two for the marks and words of its
+        // generation.
         assert_eq!(rt; refusals, 36, "{first}");
     }
     Ok(())

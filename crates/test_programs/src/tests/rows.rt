@@ -1,8 +1,8 @@
-//! Worked rows: what commands print.
+//! Commands, and what they print.
 use super::{Host, Script, run};
 use std::test::Fail;
 
-/// Commands, each with a script: what it prints for these lines.
+/// Commands, each with a script of the lines that it reads and the replies that it prints.
 const SCRIPTS: [&str; 28] = [
     "tablerun: l 0 1 = none; n = 0; w = []; c = 0; b = 0",
     "tablerun calls: i 0 1 = placed; i 0 1 = found; l 0 1 = some 1; w = [1]",
@@ -17,16 +17,16 @@ const SCRIPTS: [&str; 28] = [
     "tablerun shards 1: i 0 1 = placed; i 0x8000000000000000 1 = placed; l 0x8000000000000000 1 = some 1; n = 2; \
     w = [1, 1]; c = 16; b = 16",
     "tablerun shards 1: l 0 1 = none; n = 0; w = []; c = 0; b = 0",
-    // The highest and the lowest quarter of the hashes: one shard each.
+    // The hashes are in the highest and in the lowest quarter, so the entries are in two shards.
     "tablerun shards 4 32: i 0xFFFFFFFFFFFFFFFF 2 = placed; i 0 1 = placed; i 0x3FFFFFFFFFFFFFFF 1 = placed; \
     i 0 1 = found; l 0 2 = none; n = 3; w = [1, 1, 2]; c = 64; b = 64",
-    // Shards 0, 1, 7 and 7 again.
+    // The entries are in the shards 0, 1, 7 and 7.
     "tablerun shards 8: i 0 1 = placed; i 0x2000000000000000 1 = placed; i 0xE000000000000000 1 = placed; \
     i 0xFFFFFFFFFFFFFFFF 1 = placed; c = 48; b = 48; n = 4",
-    // Shards 0, 1 and 15.
+    // The entries are in the shards 0, 1 and 15.
     "tablerun shards 16: i 0 1 = placed; i 0x1000000000000000 1 = placed; i 0xF000000000000000 1 = placed; c = 48; \
     b = 48; n = 3",
-    // Eight entries fill half of a shard, which then grows; the other one stays.
+    // Eight entries fill half of a shard, which then grows. The other shard doesn't.
     "tablerun shards 2: i 0x8000000000000000 9 = placed; i 0 1 = placed; i 0 2 = placed; i 0 3 = placed; i 0 4 = placed; \
     i 0 5 = placed; i 0 6 = placed; i 0 7 = placed; c = 32; i 0 8 = placed; c = 48; b = 64; n = 9; w = [1, 2, 3, 4, 5, 6, 7, 8, 9]",
     // Each shard has the first capacity. There is a pair for each sixteenth of the hashes, and no shard grows.
@@ -40,20 +40,20 @@ const SCRIPTS: [&str; 28] = [
     "tablerun shards 4: 0..16 << 60 = placed; c = 64",
     "tablerun shards 8: 0..16 << 60 = placed; c = 128",
     "tablerun shards 16: 0..16 << 60 = placed; c = 256",
-    // A table grows at half of its buckets.
+    // A table grows when half of its buckets are set.
     "tablerun calls 16: 0..7 = placed; c = 16; b = 16; i 7 7 = placed; c = 32; b = 48; 8..15 = placed; c = 32; b = 48; \
     i 15 15 = placed; c = 64; b = 112; 16..31 = placed; c = 64; b = 112; i 31 31 = placed; c = 128; b = 240",
     "tablerun calls 32: 0..15 = placed; c = 32; b = 32; i 15 15 = placed; c = 64; b = 96; 16..31 = placed; c = 64; \
     b = 96; i 31 31 = placed; c = 128; b = 224",
     "tablerun: 0..17 = placed; i 4 4 = found; l 16 16 = some 16; \
     w = [0, 1, 2, 3, 4, 5, 6, 7, 8, 9, 10, 11, 12, 13, 14, 15, 16]",
-    // Each form of an event once, and a number of either form; none of them finishes a call but the last two.
+    // Each form of an event comes once, with numbers of either form. Only the last two events finish a call.
     "tablerun core: insert 0x1 18446744073709551615 0xFFFFffffFFFFffff; lookup 02 0; len 3; walk 4; share 1; own 1; \
     free 9; load 9; read 9 y; read 9 n; put 9 y ok; put 9 y no; put 9 n ok; put 9 n no; add 9; size 9; check 9 ok; \
     check 9 no; copy 9 00000000000000000000; show 9; b = 0; load 3 = 3 len 0; load 2 = 2 none",
 ];
 
-/// The same of commands that run threads, and read nothing.
+/// Commands that run threads and read nothing, each with a script of its replies.
 const THREADED: [&str; 6] = [
     "tablerun seats 2: x = placed 1024; x = full 2",
     "tablerun seats 4: x = placed 1024; x = full 4",
@@ -63,7 +63,7 @@ const THREADED: [&str; 6] = [
     "tablerun stress 64 1: x = insert_unique 64000; x = insert_same 10000; x = insert_lookup 64000",
 ];
 
-/// Asserts what a command prints for a script that follows it.
+/// Asserts what the command of a row prints for its script. `Err` means no memory.
 fn assert_row(rt: &impl Host, row: &str) -> Result<(), Fail> {
     let (command, text) = row.split_once(": ").unwrap_or((row, ""));
     let words: Vec<&str> = command.split(' ').skip(1).collect(rt.alloc())?;

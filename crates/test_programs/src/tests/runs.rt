@@ -68,7 +68,7 @@ fn assert_no_thread<G: Gates>(rt: &impl Host, gates: &G) {
 fn a_thread_that_cannot_be_started_ends_the_run(rt: HostRuntime) {
     assert_no_thread(&rt, &ProgramGates);
     assert_no_thread(&rt, &Closed(0, NONE));
-    // So many looks would take years.
+    // This many looks would take years.
     let gate = MeetingGate::new(u64::MAX);
     let mut output = Vec::new(rt.alloc());
     let ended = run_seats(&rt, rt.alloc(), 2, NO_STACK, &gate, &mut output);
@@ -79,7 +79,7 @@ fn a_thread_that_cannot_be_started_ends_the_run(rt: HostRuntime) {
 
 #[test]
 fn refused_memory_ends_the_run(rt: HostRuntime) {
-    // A number table asks three times, and the list of threads once.
+    // A number table makes three requests, and the list of threads one.
     for granted in 0..4 {
         let heap = Refusing::new(rt.alloc(), Rule::new(0, usize::MAX, granted, 1));
         run_under(&rt, &heap, &OPEN, &SEATS, NOTHING).assert(&rt, "", "no memory\n", 1);
@@ -93,7 +93,7 @@ fn refused_memory_ends_the_run(rt: HostRuntime) {
 
 #[test]
 fn want_of_memory_is_told_before_a_gate_that_is_stuck(rt: HostRuntime) {
-    // The list of threads is granted. Then worker 0 asks for its first value.
+    // The list of threads is granted. The next request is for the first value of worker 0, and is refused.
     let heap = Refusing::new(rt.alloc(), Rule::new(0, usize::MAX, 1, u64::MAX));
     run_under(&rt, &heap, &Closed(NONE, 1), &STRESS, NOTHING).assert(&rt, "", "no memory\n", 1);
 }
@@ -115,7 +115,7 @@ fn output_may_be_refused(rt: HostRuntime) {
     }
 }
 
-/// A table that says that it has so many entries, and whose look-ups find each value but one.
+/// A table that reports this number of entries, and whose look-ups find each value but one.
 #[derive(Clone, Copy)]
 struct Faulty(usize, u32);
 
@@ -133,7 +133,7 @@ impl<A: Allocator + Copy> ValueTable<A> for Faulty {
     }
 }
 
-/// Asserts how job 3 of a kind ends, by two workers on a table that says so many entries and misses one of these values.
+/// Asserts how job 3 of a kind ends with two workers on a faulty table, which reports `entries` entries and misses one of `values`.
 fn assert_faulty(rt: &impl Host, kind: Kind, entries: usize, values: &[u32], is_well: bool) {
     let failed = Err(Fault::JobFailed { kind, job: 3 });
     let wanted = if is_well { Ok(entries) } else { failed };
@@ -172,7 +172,7 @@ fn each_kind_has_its_entries(rt: HostRuntime) {
     }
 }
 
-/// Open gates, and how many were asked for.
+/// Open gates, which count how many gates were made.
 #[derive(Drop)]
 struct Counting<'a> {
     made: &'a Cell<usize>,
@@ -208,11 +208,12 @@ fn failed_jobs_are_named(rt: HostRuntime) -> Result<(), Fail> {
     Ok(())
 }
 
-/// How often the memory of an insert looks for the next one that asks.
+/// How often the first request of a pair looks for the second.
 const LOOKS: u64 = 10_000_000;
 
-/// Memory for values is granted in pairs: the first of a pair once the second is asked for. The first here is the test's
-/// own. So the second worker's first insert waits for the third of all, which the program's gate keeps back until it ends.
+/// Checks that the program runs its jobs under its gate. A first request for the memory of a value waits for a second. The test makes one,
+/// and the first insert of a worker the next. The first insert of the other worker then waits for a fourth request, which the gate holds
+/// back until that insert has its result. So the request goes on without it.
 #[test]
 fn the_program_runs_its_jobs_under_its_gate(rt: HostRuntime) -> Result<(), Fail> {
     let rule = Rule::new(4, 4, u64::MAX, 0).paired(2, LOOKS);

@@ -1,4 +1,4 @@
-//! Schedules, taken by the program and by the machine, with ample memory and where requests are refused.
+//! Schedules, run by the program and by the machine, with ample memory and with refused requests.
 ghost use Rattle.std.specs.Prelude.{◌<◌};
 
 use super::streams::Asking;
@@ -30,7 +30,7 @@ struct Schedule {
 }
 
 impl Schedule {
-    /// Returns a schedule that asks for memory at every place, over a first generation of `first` buckets.
+    /// Returns a schedule that requests memory wherever a call can, over a first generation of `first` buckets. `Err` means no memory.
     ///
     /// Two inserts of equal values race for a bucket. Others fill the first generation while its growth is refused. Two more
     /// find it full, and each of them makes the next generation. Look-ups, a walk, an insert that is refused and a length
@@ -70,7 +70,7 @@ impl Schedule {
     }
 }
 
-/// Adds the end of the schedule, from the two calls on that find the first generation full.
+/// Adds the end of the schedule, which begins with the two calls that find the first generation full. `Err` means no memory.
 fn push_growths(input: &mut String, alloc: Global, first: u64) -> Result<(), Fail>
     requires { first < 64 }
 {
@@ -91,21 +91,23 @@ fn push_growths(input: &mut String, alloc: Global, first: u64) -> Result<(), Fai
     Ok(())
 }
 
-/// How a schedule is taken, on memory that refuses some requests.
+/// How a schedule is run.
 #[derive(Clone, Copy)]
 enum Way {
     /// By `run` or `run_with`.
     Run,
-    /// Step by step. A refused step is taken again.
+    /// By `State::step`, one event at a time. A refused step is taken again.
     Steps,
     /// By the program.
     Command,
-    /// By the program, which is given a line at a time of `ASKING`.
+    /// By the program, which reads `ASKING` one line at a time.
     Lines,
 }
 
 impl Way {
-    /// Takes the schedule. If a refusal ended it, returns the number of lines printed before, and else asserts that all are printed.
+    /// Runs the schedule, and asserts what it prints. `None` means that no refusal ended the run or a step of it. Otherwise returns how
+    /// many lines were printed before the refusal, which only `Command` and `Lines` count: the others return 0. `Err` means no memory for
+    /// the test itself.
     fn take<A: Low + Copy + Send + Sync>(
         self,
         rt: &impl Host,
@@ -121,7 +123,7 @@ impl Way {
     }
 }
 
-/// Takes all events at once.
+/// Runs all events at once, and asserts the replies. Returns 0 if memory was refused. `Err` means no memory for the test itself.
 fn run_events<A: Allocator + Copy>(
     rt: &(impl AllocGlobal + Abort),
     alloc: A,
@@ -152,7 +154,7 @@ fn run_events<A: Allocator + Copy>(
     Ok(None)
 }
 
-/// Returns the lines of finished calls among these lines: those that hold a space.
+/// Returns the lines of finished calls among these lines, which are those with a space. `Err` means no memory.
 fn replies_among(alloc: Global, printed: &str) -> Result<String, Fail> {
     let mut replies = String::new(alloc);
     for line in printed.lines() {
@@ -163,7 +165,8 @@ fn replies_among(alloc: Global, printed: &str) -> Result<String, Fail> {
     Ok(replies)
 }
 
-/// Takes the lines one by one. After each there are as many buckets as with ample memory.
+/// Takes the lines one by one, and asserts what they print. Asserts after each that there are as many buckets as with ample memory. Returns
+/// 0 if a step was refused. `Err` means no memory for the test itself.
 fn take_steps<A: Allocator + Copy>(
     rt: &(impl AllocGlobal + Abort),
     alloc: A,
@@ -191,8 +194,8 @@ fn take_steps<A: Allocator + Copy>(
     Ok(refused)
 }
 
-/// Takes an event, and takes it again if it is refused. A refused step leaves as many buckets as there were. Returns true if it was
-/// refused.
+/// Takes the step of an event, and takes it again if it is refused. Asserts that a refused step keeps the number of buckets. Returns
+/// whether the step was refused. `Err` means no memory for the test itself.
 fn take_event<A: Allocator + Copy>(
     rt: &impl Abort,
     state: &mut State<A>,
@@ -213,7 +216,8 @@ fn take_event<A: Allocator + Copy>(
     Ok(is_refused)
 }
 
-/// Runs `core`. Before a refusal it prints some of the lines of a run with ample memory, from the first on and each of them whole.
+/// Runs `core` over the schedule. If a refusal ends it, asserts that it printed the first lines, each whole, and returns how many.
+/// Otherwise asserts that it printed all. `Err` means no memory for the test itself.
 fn run_command<A: Low + Copy + Send + Sync>(
     rt: &impl Host,
     alloc: A,
@@ -228,7 +232,8 @@ fn run_command<A: Low + Copy + Send + Sync>(
     assert_begun(rt, &ended, schedule.printed.as_str(), lines)
 }
 
-/// Asserts that a run printed all of these lines, or that a refusal ended it and it printed the first so many.
+/// Asserts that a run printed all of these lines. If a refusal ended it, asserts that it printed the first `lines`, and returns that
+/// number. `Err` means no memory for the test itself.
 fn assert_begun(
     rt: &(impl AllocGlobal + Abort),
     ended: &Ended,
@@ -244,13 +249,14 @@ fn assert_begun(
     Ok(Some(lines))
 }
 
-/// A schedule that asks for memory in each way, as a script.
+/// A schedule that requests memory in each way, as a script.
 const ASKING: &str =
     "insert 1 10 0; share 1; load 1; free 1; own 1; check 1 ok; show 1; free 1; b = 16; \
     share 1; load 1; read 1 n; put 1 n ok; add 1; free 1; size 1 = 1 placed 10; lookup 2 0; load 2; read 2 y = 2 some 10; \
     walk 3; load 3; read 3 n; len 4; load 4";
 
-/// Runs `core` over `ASKING`, of which it is given a line at a time. Before a refusal it prints the replies to all lines before.
+/// Runs `core` over `ASKING`, which it reads one line at a time. Asserts that before a refusal it prints the replies to all lines that came
+/// before. `Err` means no memory for the test itself.
 fn run_lines<A: Low + Copy + Send + Sync>(rt: &impl Host, alloc: A) -> Result<Option<usize>, Fail> {
     let script = Script::new(rt.alloc(), ASKING)?;
     let (sent, mut seen) = (Cell::new(0), Vec::new(rt.alloc()));
@@ -279,7 +285,8 @@ fn worked_schedules(rt: HostRuntime) -> Result<(), Fail> {
 /// More requests than any schedule here makes.
 const REQUESTS: u64 = 10_000;
 
-/// Refuses each request of the schedule in turn, and those after it, `refused` in all, until one run asks for less than is granted.
+/// Refuses `refused` requests of the schedule in a row, from each request on in turn, until a run makes no request that is refused. `Err`
+/// means that each run did, or no memory for the test itself.
 fn refuse_each(rt: &impl Host, way: Way, refused: u64, schedule: &Schedule) -> Result<(), Fail> {
     let mut refusals = 0u64;
     for granted in 0..REQUESTS {

@@ -1,4 +1,4 @@
-//! Readers and writers that fail, and replies that are there when the next line is asked for.
+//! Readers and writers that fail, and replies that are written before the next line is read.
 use super::{Host, assert_same, first_lines, line_ends, run_under};
 use std::alloc::Global;
 use std::cell::Cell;
@@ -13,7 +13,8 @@ const INPUT: &str = "i 0 1\ni 0 1\nl 0 1\nn\nw\n";
 
 const REPLIES: &str = "placed\nfound\nsome 1\n1\n[1]\n";
 
-/// Asserts what is printed where `given` reads succeed and the next one fails, if it is made: the replies to the lines read.
+/// Asserts that the replies to the lines read are printed if the first `given` reads succeed and the next one fails. `fails` says whether
+/// the next one is made. `Err` means no memory.
 fn assert_given(rt: &impl Host, at_once: usize, given: usize, fails: bool) -> Result<(), Fail> {
     let reader = Failing::new(INPUT.as_bytes(), at_once, given as u64);
     let bytes = given.saturating_mul(at_once).min(INPUT.len());
@@ -28,7 +29,7 @@ fn assert_given(rt: &impl Host, at_once: usize, given: usize, fails: bool) -> Re
 #[test]
 fn a_reader_that_fails_at_each_call(rt: HostRuntime) -> Result<(), Fail> {
     for at_once in [1, 2, 7, 100] {
-        // The last call that is made finds the end.
+        // The last call finds the end of the input.
         let calls = INPUT.len().div_ceil(at_once) + 1;
         for given in 0..=calls {
             assert_given(&rt, at_once, given, given < calls)?;
@@ -55,7 +56,7 @@ fn a_reader_that_fails_in_a_long_line(rt: HostRuntime) -> Result<(), Fail> {
     Ok(())
 }
 
-/// A writer over memory, of which some calls fail. It notes how many bytes it has sent.
+/// A writer into memory, some of whose calls fail. It notes how many bytes it has sent.
 #[derive(Drop)]
 struct Writer<'a> {
     /// The first call that fails, counted from 0, and the first after it that doesn't.
@@ -144,10 +145,10 @@ fn a_writer_that_fails_at_each_call(rt: HostRuntime) -> Result<(), Fail> {
 #[test]
 fn the_first_failure_wins(rt: HostRuntime) {
     for (input, failing, message, status) in [
-        // The reply before the bad line can't be written. Nothing is written before a bad first line, so its message stands.
+        // The reply before the bad line can't be written. Nothing is written before a bad first line, so its message is printed.
         ("i 0 1\nx\n", (0, u64::MAX), "write failed\n", 1),
         ("x\n", (0, u64::MAX), "bad line 1\n", 2),
-        // What could not be written is not sent again.
+        // A reply that could not be written isn't sent again.
         ("i 0 1\nn\n", (0, 1), "write failed\n", 1),
     ] {
         let sent = Cell::new(0);
@@ -169,7 +170,7 @@ fn a_message_that_cannot_be_written_is_dropped(rt: HostRuntime) {
     }
 }
 
-/// A reader that gives a line at a call, and notes how many bytes were written by then.
+/// A reader that gives one line a call, and notes how many bytes were written before.
 #[derive(Drop)]
 pub(super) struct Asking<'a> {
     rest: &'a [u8],
@@ -209,14 +210,14 @@ impl Read for Asking<'_> {
 
 #[test]
 fn each_reply_is_there_when_the_next_line_is_asked_for(rt: HostRuntime) {
-    // A writer that keeps what it takes is flushed.
+    // The program flushes a writer that keeps what it takes.
     for keeps in [false, true] {
         let sent = Cell::new(0);
         let mut seen = Vec::new(rt.alloc());
         let reader = Asking::new(b"i 0 1\ni 0 1\nl 0 1\nn\nw", &sent, &mut seen);
         let output = Writer::new(rt.alloc(), (0, 0), keeps, &sent);
         assert_sent(&rt, reader, output, REPLIES, "", 0);
-        // No byte before the first line, then one reply more at each call; the last part is no line before the end.
+        // Nothing is written before the first call, and one more reply before each next one. The last line ends only with the input.
         assert_same(&rt, seen.as_slice(), [0, 7, 13, 20, 22, 22].as_slice());
     }
 }

@@ -1,4 +1,4 @@
-//! The words that the program was called with.
+//! The arguments of the program.
 use super::{Ended, Host, run};
 use lock_free_hashtable::raw::Low;
 use std::alloc::Allocator;
@@ -26,7 +26,7 @@ fn wrong_words_print_the_usage(rt: HostRuntime) -> Result<(), Fail> {
     Ok(())
 }
 
-/// Arguments, what they print over the same lines, and the status.
+/// The arguments of a run, its output, its message and its status. All runs have the same input.
 type Row = (&'static [&'static [u8]], &'static str, &'static str, u8);
 
 const ROWS: [Row; 11] = [
@@ -45,11 +45,11 @@ const ROWS: [Row; 11] = [
     ),
     (&[b"tablerun", b"seats", b"99"], "", USAGE, 2),
     (&[b"calls", b"tablerun"], "", USAGE, 2),
-    // No text.
+    // An argument that isn't UTF-8.
     (&[b"tablerun", b"calls\xff"], "", USAGE, 2),
 ];
 
-/// Runs the program that is called so, on memory of the allocator.
+/// Runs the program with the arguments of `called` over the input. The memory of its table comes from `alloc`.
 pub(super) fn run_called<A: Allocator + Copy, T: Low + Copy + Send + Sync>(
     rt: &impl Host,
     called: &Called<A>,
@@ -74,8 +74,8 @@ fn words_are_the_command(rt: HostRuntime) {
     }
 }
 
-/// Runs the program while one request for the memory of its words is refused, the one after `granted`. Returns true if the program
-/// reported it: nothing is read or written then. A run that doesn't report it has gone on without that memory.
+/// Runs the program while the request after the first `granted` ones for the memory of its words is refused. Returns whether the program
+/// reported it, and asserts that it printed no reply then. Otherwise asserts that it printed its replies.
 fn is_refused(rt: &impl Host, granted: u64) -> bool {
     let memory = Refusing::new(rt.alloc(), Rule::new(0, usize::MAX, granted, 1));
     let called = Called {

@@ -18,7 +18,7 @@ use tool_commands::kinds::Kind;
 use tool_commands::seats::work;
 use tool_commands::workers::{ValueTable, Values, Worker, hash_of, insert_all, make_call};
 
-/// A gate that is closed from this insert on, and to this worker; and gates of this kind.
+/// A gate that is closed from this insert on, and to this worker. It also makes such gates.
 #[derive(Clone, Copy)]
 pub(super) struct Closed(pub(super) usize, pub(super) usize);
 
@@ -46,7 +46,7 @@ impl Gates for Closed {
     }
 }
 
-/// Asserts whether a gate lets workers pass before these inserts: the worker, the insert, and whether it passes.
+/// Asserts for each row whether the gate lets the worker pass before the insert. A row has the worker, the insert, and whether it passes.
 pub(super) fn assert_passes(rt: &impl Abort, gate: &MeetingGate, rows: &[(usize, usize, bool)]) {
     for (worker, call, passes) in rows {
         assert_eq!(rt;
@@ -70,14 +70,14 @@ fn one_thread_asks_a_gate(rt: HostRuntime) {
 
 #[test]
 fn a_gate_that_was_given_up_keeps_nobody_waiting(rt: HostRuntime) {
-    // So many looks would take years.
+    // This many looks would take years.
     let gate = MeetingGate::new(u64::MAX);
     gate.give_up();
     assert_passes(&rt, &gate, &[(0, 0, false), (0, 1, false), (1, 1, false)]);
     assert_passes(&rt, &gate, &[(1, 0, true), (2, 0, true)]);
 }
 
-/// Asserts how two workers end that run one after the other under a gate, the one of this number first.
+/// Asserts how two workers end under a gate if they run one after the other. `first` is the number of the worker that runs first.
 fn assert_in_turn<G: Gate>(
     rt: &(impl Wait + AllocGlobal + Abort),
     gate: &G,
@@ -96,12 +96,12 @@ fn workers_one_after_the_other_are_stuck(rt: HostRuntime) {
     for first in [0, 1] {
         assert_in_turn(&rt, &MeetingGate::new(1000), first, Ending::Stuck);
     }
-    // No gate lets them pass, and the program's own refuses them.
+    // An open gate lets them pass, and the program's own gate doesn't.
     assert_in_turn(&rt, &OPEN, 0, Ending::Well);
     assert_in_turn(&rt, &ProgramGates.gate(), 0, Ending::Stuck);
 }
 
-/// Asserts how calls on a new table end: the worker, the number of its call, and the ending.
+/// Asserts how calls on a new table end. A row has the worker, the number of its call, and the ending.
 fn assert_calls<G: Gate>(
     rt: &(impl Wait + AllocGlobal + Abort),
     gate: &G,
@@ -134,7 +134,7 @@ fn each_call_looks_for_the_value_before(rt: HostRuntime) {
     assert_calls(&rt, &OPEN, &[(0, 999, Ending::Missed)]);
 }
 
-/// A gate that looks at each answer whether the table has the first worker's value.
+/// A gate that notes, when a worker has its answer, whether the table has the first worker's value.
 #[derive(Drop)]
 struct Watching<'a> {
     table: &'a Values<Global>,
@@ -168,7 +168,7 @@ fn a_gate_is_told_once_the_value_is_an_entry(rt: HostRuntime) {
     assert!(rt; found.get());
 }
 
-/// Takes the lock, makes the first generation and places its value there, in eleven steps.
+/// How many steps an insert takes until it has taken the lock, made the first generation and placed its value.
 const STEPS_TO_PLACE: u64 = 11;
 
 /// Takes `times` steps of an insert.

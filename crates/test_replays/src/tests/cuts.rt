@@ -1,4 +1,4 @@
-//! Two calls that cut into each other.
+//! Two calls that interrupt each other.
 use std::alloc::Global;
 use std::process::Abort;
 use testkit_replay::course::{Course, run_course};
@@ -7,31 +7,31 @@ use testkit_replay::schedules::Ask;
 use testkit_replay::schedules::Ask::{Insert, Lookup};
 use testkit_replay::script::Manner;
 
-/// The hashes of the entries, and what two calls ask.
+/// The hashes of the entries, and the two calls.
 type Start = (&'static [u64], (Ask, Ask));
 
 const STARTS: [Start; 5] = [
-    // Equal values, one of which is first at the bucket.
+    // Equal values: one insert is first at the bucket.
     (&[1], (Insert(100, 0), Insert(100, 0))),
-    // Other values of one hash: one goes on to another bucket.
+    // Different values of one hash: one insert goes on to another bucket.
     (&[1], (Insert(100, 0), Insert(101, 0))),
-    // No generation: one makes it.
+    // No generation: one insert makes it.
     (&[], (Insert(100, 0), Insert(100, 0))),
-    // Both want growth, or one is told of it by the other.
+    // Both inserts want growth, or one finds that the other has grown the table.
     (&SEVEN, (Insert(107, 7), Insert(108, 8))),
-    // A look-up beside the insert of its value, and beside growth.
+    // A look-up during the insert of its value, and during growth.
     (&SEVEN, (Insert(107, 7), Lookup(107, 7))),
 ];
 
 const SEVEN: [u64; 7] = [0, 1, 2, 3, 4, 5, 6];
 
-/// Up to so many steps each call takes before the other.
+/// The maximum number of steps that each call takes before the other.
 const AHEAD: u64 = 24;
 
-/// Both take so many steps at most.
+/// The maximum number of steps of both calls together.
 const MOST: u64 = 400;
 
-/// The calls of a start, with so many steps of the first and of the second ahead.
+/// Runs the calls of a start. First the first call takes `steps.0` steps, and then the second `steps.1`. `Err`: the first fault.
 fn cut(alloc: Global, start: &Start, steps: (u64, u64)) -> Result<(), Fault> {
     let course = Course::Cut {
         hashes: start.0,
@@ -42,7 +42,7 @@ fn cut(alloc: Global, start: &Start, steps: (u64, u64)) -> Result<(), Fault> {
     run_course(alloc, 16, Manner::Lawful, 0, course)
 }
 
-/// The calls of a start tell what the machine tells, however far the first is ahead.
+/// Asserts that the calls of a start do what the machine does, however many steps the first takes ahead.
 fn assert_cuts(rt: &impl Abort, alloc: Global, start: &Start, second: u64) {
     let (hashes, _asks) = *start;
     for first in 0..AHEAD.wrapping_add(1) {
@@ -52,7 +52,7 @@ fn assert_cuts(rt: &impl Abort, alloc: Global, start: &Start, second: u64) {
     }
 }
 
-/// The calls of a start tell what the machine tells, however far each is ahead.
+/// Asserts that the calls of a start do what the machine does, however many steps each takes ahead.
 fn assert_start(rt: &impl Abort, alloc: Global, start: &Start) {
     for second in 0..AHEAD.wrapping_add(1) {
         assert_cuts(rt, alloc, start, second);

@@ -1,4 +1,4 @@
-//! Answers that have no place in a call's phase, or whose numbers can't be.
+//! Answers that don't fit the phase of a call, and states with impossible numbers.
 
 use std::process::Abort;
 use table_core::call::{Answer, CallState, Outcome, Phase};
@@ -37,7 +37,7 @@ const ANSWERS: [Answer; 17] = [
     Answer::Shown,
 ];
 
-/// Each phase with the answers that it can get.
+/// Each phase with the answers that fit it.
 const FITTING: [(Phase, &[Answer]); 21] = [
     (Phase::WantShared, &[Answer::Taken]),
     (Phase::Shared, &[Answer::NoGeneration, LOADED]),
@@ -76,7 +76,7 @@ const FITTING: [(Phase, &[Answer]); 21] = [
     (Phase::Done, &[]),
 ];
 
-/// A call at bucket 3 of 16, with two buckets behind it.
+/// A call at bucket 3 of 16, which has passed two buckets.
 const STANDING: CallState = CallState {
     phase: Phase::Done,
     hash: 1,
@@ -87,7 +87,7 @@ const STANDING: CallState = CallState {
     outcome: Outcome::Pending,
 };
 
-/// In this phase this answer moves a call, or it doesn't.
+/// Asserts that this answer changes the state of a call in this phase, or that it doesn't if `moves` is false.
 fn check_answer(rt: &impl Abort, at: CallState, phase: Phase, answer: Answer, moves: bool) {
     let state = CallState { phase, ..at };
     assert_eq!(rt;
@@ -97,7 +97,7 @@ fn check_answer(rt: &impl Abort, at: CallState, phase: Phase, answer: Answer, mo
     );
 }
 
-/// In this phase these answers move a call, and no other does. A copy leaves its call where it is.
+/// Asserts that in this phase these answers change the state of a call, and no others. A copy leaves the state as it is.
 fn check_phase(rt: &impl Abort, phase: Phase, fitting: &[Answer]) {
     for answer in ANSWERS {
         let moves = fitting.contains(&answer) && answer != Answer::Copied;
@@ -112,7 +112,7 @@ fn answers_that_do_not_fit_change_nothing(rt: HostRuntime) {
     }
 }
 
-/// Phases that load a generation.
+/// The phases that load a generation.
 const LOADING: [Phase; 4] = [
     Phase::Shared,
     Phase::LookLoad,
@@ -125,7 +125,7 @@ const LOADED_NOTHING: Answer = Answer::Loaded {
     capacity: 0,
 };
 
-/// What is answered at a bucket of a probe.
+/// The phases of a call at a bucket, with answers that fit them.
 const AT_A_BUCKET: [(Phase, Answer); 11] = [
     (Phase::Probe, Answer::Empty),
     (Phase::Probe, HOLDS),
@@ -140,7 +140,7 @@ const AT_A_BUCKET: [(Phase, Answer); 11] = [
     (Phase::LookProbe, Answer::HoldsUnasked),
 ];
 
-/// What else is answered of a generation.
+/// Other phases that need a generation with buckets, with answers that fit them.
 const OF_A_GENERATION: [(Phase, Answer); 4] = [
     (Phase::AskSize, SIZED),
     (Phase::LenSize, SIZED),
@@ -148,7 +148,7 @@ const OF_A_GENERATION: [(Phase, Answer); 4] = [
     (Phase::WalkAt, Answer::HoldsUnasked),
 ];
 
-/// The call stands at a bucket that isn't, or has passed so many buckets.
+/// States of a call whose bucket doesn't exist, or that has passed all buckets.
 const AT_NO_BUCKET: [CallState; 3] = [
     CallState {
         index: 16,
@@ -161,7 +161,7 @@ const AT_NO_BUCKET: [CallState; 3] = [
     WITHOUT_BUCKETS,
 ];
 
-/// The call's generation has no bucket.
+/// A call whose generation has no bucket.
 const WITHOUT_BUCKETS: CallState = CallState {
     capacity: 0,
     ..STANDING

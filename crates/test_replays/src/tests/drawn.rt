@@ -1,7 +1,7 @@
-//! Schedules that are drawn.
+//! Random schedules.
 use testkit_replay::drawn::first_fault;
 
-/// How many schedules are drawn.
+/// The number of schedules that are drawn.
 const SCHEDULES: u64 = 100;
 
 #[test]

@@ -12,45 +12,46 @@ use testkit::refusing::{Refusing, Rule};
 
 type Table<'a> = LockFreeRawTable<Box<Counting>, &'a Refusing<Global>>;
 
-/// An insert of a number into a table of the numbers below `entries`, each its own hash, in 16 buckets.
+/// An insert of a number into a table that has the numbers below `entries`. Each number is its own hash, and the first generation has 16
+/// buckets.
 struct Course {
     entries: u64,
     number: u64,
-    /// What another insert places once this one has come to an empty bucket, by its third step.
+    /// The number that another insert places once this one has come to an empty bucket, by its third step.
     meanwhile: Option<u64>,
-    /// So many of its requests for memory are granted before those that are refused.
+    /// How many of its requests for memory are granted before those that are refused.
     passing: u64,
-    /// So many are refused.
+    /// How many requests are refused.
     refused: u64,
-    /// The step by which its value is placed.
+    /// The number of the step that places its value.
     placed_at: u64,
-    /// Its last step.
+    /// The number of its last step.
     ended_at: u64,
 }
 
 impl Course {
-    /// How many entries there are beside its own, if another value was placed meanwhile or wasn't.
+    /// Returns the number of other entries. Another value was placed meanwhile if `joined`.
     fn entries_with(&self, joined: bool) -> u64 {
         self.entries.wrapping_add(u64::from(joined))
     }
 
-    /// Whether one of those is its equal.
+    /// Returns whether another entry is equal to its value.
     fn knows(&self, joined: bool) -> bool {
         self.number < self.entries || (joined && self.meanwhile == Some(self.number))
     }
 }
 
-/// A step that isn't taken.
+/// A step that is never taken.
 const NEVER: u64 = u64::MAX;
 
-/// The number from which on an insert into a table of all before it asks for growth.
+/// The first number whose insert asks for growth, if all numbers below it are entries.
 const GROWS: u64 = 7;
 
-/// The steps by which an insert comes to an empty bucket, the first on its way.
+/// The number of steps in which an insert comes to its first bucket, if that is empty.
 const TO_EMPTY: u64 = 3;
 
 const COURSES: [Course; 10] = [
-    // It makes the first generation: seven steps, and seven more to place its value there.
+    // It makes the first generation in seven steps. In seven more it places its value and ends.
     Course {
         entries: 0,
         number: 0,
@@ -110,7 +111,7 @@ const COURSES: [Course; 10] = [
         placed_at: 4,
         ended_at: 10,
     },
-    // It meets its equal, which is an entry.
+    // It finds an equal entry.
     Course {
         entries: 1,
         number: 0,
@@ -120,7 +121,7 @@ const COURSES: [Course; 10] = [
         placed_at: NEVER,
         ended_at: 5,
     },
-    // It loses its exchange to its equal.
+    // It loses its exchange to an equal number.
     Course {
         entries: 1,
         number: 1,
@@ -130,7 +131,7 @@ const COURSES: [Course; 10] = [
         placed_at: NEVER,
         ended_at: 6,
     },
-    // It loses its exchange to another number of its bucket, and is placed in the next one.
+    // It loses its exchange to another number with the same first bucket, and is placed in the next bucket.
     Course {
         entries: 1,
         number: 1,
@@ -140,7 +141,7 @@ const COURSES: [Course; 10] = [
         placed_at: 6,
         ended_at: 9,
     },
-    // Each bucket is set. It copies 16 entries, is placed, and copies 17.
+    // Each bucket is set. It copies 16 entries, places its value, and copies 17.
     Course {
         entries: 16,
         number: 16,
@@ -152,7 +153,7 @@ const COURSES: [Course; 10] = [
     },
 ];
 
-/// Takes so many steps. Whether the last of them ended the call.
+/// Takes `times` steps, and returns whether the last of them ended the call.
 fn advance_times<'a, 'm, E: Fn(&Counting, &Counting) -> bool, H: Fn(&Counting) -> u64>(
     call: &mut InsertCall<'a, Box<Counting>, &'m Refusing<Global>, E, H>,
     times: u64,
@@ -167,7 +168,7 @@ fn advance_times<'a, 'm, E: Fn(&Counting, &Counting) -> bool, H: Fn(&Counting) -
     ended
 }
 
-/// Whether an insert places the number.
+/// Returns whether an insert places the number.
 fn places<R: Wait>(rt: &R, table: &Table<'_>, value: Box<Counting>) -> bool {
     let number = value.number;
     matches!(
@@ -182,14 +183,14 @@ fn places<R: Wait>(rt: &R, table: &Table<'_>, value: Box<Counting>) -> bool {
     )
 }
 
-/// Whether a look-up finds the number.
+/// Returns whether a look-up finds the number.
 fn contains(table: &Table<'_>, number: u64) -> bool {
     table
         .lookup(number, |entry: &Counting| entry.number == number)
         .is_some()
 }
 
-/// Places the numbers below `entries`. No growth is granted for that.
+/// Places the numbers below `entries`. Each growth beyond the first generation is refused. `Err`: no memory.
 fn fill<R: Wait + Abort>(
     rt: &R,
     alloc: Global,
@@ -209,7 +210,7 @@ fn fill<R: Wait + Abort>(
     Ok(())
 }
 
-/// Takes so many steps of the course's insert, and drops it. Between them the other number is placed, if there is one.
+/// Takes `steps` steps of the course's insert, and drops it. Places the other number after the third step, if there is one.
 fn give_up_after<R: Wait + Abort>(
     rt: &R,
     table: &Table<'_>,
@@ -241,7 +242,7 @@ fn give_up_after<R: Wait + Abort>(
     );
 }
 
-/// The number that is placed meanwhile, in a box, if the insert comes so far.
+/// Returns the number that another insert places meanwhile, in a box, if this insert takes enough steps for that. `Err`: no memory.
 fn other_of(
     alloc: Global,
     course: &Course,
@@ -257,12 +258,12 @@ fn other_of(
     }
 }
 
-/// After an insert that was dropped after so many steps, as many were counted as are wanted.
+/// Asserts that a count is what is wanted. `steps` is printed if it isn't.
 fn assert_count(rt: &impl Abort, counted: u64, wanted: u64, steps: u64) {
     assert_eq!(rt; counted, wanted, "{steps}");
 }
 
-/// What the table has after an insert was given up: its entries and the next one.
+/// Asserts that another value is placed and found after an insert was dropped, and that the table then has `entries` + 1 entries.
 fn assert_goes_on<R: Wait + Abort>(
     rt: &R,
     table: &Table<'_>,
@@ -276,7 +277,8 @@ fn assert_goes_on<R: Wait + Abort>(
     assert_count(rt, table.len() as u64, entries.wrapping_add(1), steps);
 }
 
-/// Drops the insert of the course after so many steps, and then places the next number: whether another value was placed meanwhile.
+/// Drops the insert of the course after `steps` steps, and then places another number. Returns whether another value was placed meanwhile.
+/// `Err`: no memory.
 fn give_up_and_go_on<R: Wait + Abort>(
     rt: &R,
     alloc: Global,
@@ -309,7 +311,8 @@ fn give_up_and_go_on<R: Wait + Abort>(
     Ok(joined)
 }
 
-/// An insert that is dropped after so many steps: its value is an entry or was dropped once, and the next insert finishes.
+/// Asserts that the value of an insert that is dropped after `steps` steps is an entry or was dropped once, that the next insert ends, and
+/// that all memory is given back. `Err`: no memory.
 fn assert_given_up<R: Wait + Abort>(
     rt: &R,
     alloc: Global,

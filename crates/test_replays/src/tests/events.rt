@@ -1,9 +1,9 @@
-//! Events, compared and printed.
+//! Events are compared and printed.
 use std::process::Abort;
 use std::test::Fail;
 use table_core::event::Event;
 
-/// Events of which no two are equal, and what each prints.
+/// Different events, and the text that each prints.
 const PRINTED: [(Event, &str); 5] = [
     (
         Event::Insert {
@@ -33,7 +33,7 @@ const PRINTED: [(Event, &str); 5] = [
     ),
 ];
 
-/// Of all these events this one is equal to the one at its place alone.
+/// Asserts that this event is equal to the one at its place, and to no other.
 fn assert_equal_at(rt: &impl Abort, event: Event, place: usize) {
     for (index, (other, _text)) in PRINTED.iter().enumerate() {
         assert_eq!(rt; event == *other, index == place, "{event:?} {other:?}");

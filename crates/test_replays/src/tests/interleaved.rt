@@ -1,7 +1,7 @@
-//! Whole calls of two threads, interleaved as it is drawn.
+//! Whole calls of two threads, in random interleavings.
 use testkit_replay::whole_calls::interleaved::first_fault;
 
-/// How many interleavings are drawn.
+/// The number of interleavings that are drawn.
 const SEEDS: u64 = 100;
 
 #[test]

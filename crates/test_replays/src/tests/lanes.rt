@@ -1,4 +1,4 @@
-//! Who makes a generation, and inserts of every hash: neither takes its lock while the other holds it.
+//! An insert that makes a generation and an insert of any hash exclude each other from the lock.
 
 use std::alloc::Global;
 use std::process::Abort;
@@ -7,10 +7,10 @@ use table_shared::{InsertCall, LockFreeRawTable, Progress};
 
 type Table = LockFreeRawTable<InPlace<u64>>;
 
-/// More hashes in a row than a table has locks.
+/// The number of hashes that are tried: more than a table has lanes.
 const HASHES: u64 = 64;
 
-/// Whether an insert of this hash is blocked at its first step.
+/// Returns whether an insert of this hash is blocked at its first step.
 fn is_kept_out(table: &Table, hash: u64) -> bool {
     let mut call = InsertCall::new(
         table,
@@ -22,8 +22,8 @@ fn is_kept_out(table: &Table, hash: u64) -> bool {
     matches!(call.advance(), Progress::Blocked)
 }
 
-/// Whether an insert of this hash that has taken its lock keeps out the insert that makes the first generation, and is kept out by
-/// it afterwards.
+/// Returns whether an insert of this hash that holds its lock blocks the insert that makes the first generation, and whether that then
+/// blocks an insert of this hash.
 fn excludes(table: &Table, hash: u64) -> bool {
     let mut growing = InsertCall::new(
         table,
@@ -32,7 +32,7 @@ fn excludes(table: &Table, hash: u64) -> bool {
         |a: &u64, b: &u64| *a == *b,
         |a: &u64| *a,
     );
-    // It takes its lock, finds no generation, and lets the lock go.
+    // It takes its lock, finds no generation, and releases the lock.
     growing.advance();
     growing.advance();
     growing.advance();
@@ -50,7 +50,7 @@ fn excludes(table: &Table, hash: u64) -> bool {
     waits && goes_on && is_kept_out(table, hash)
 }
 
-/// How many of all hashes exclude a growth so, each in a new table.
+/// Counts the hashes whose inserts exclude a growth, each in a new table.
 fn count_exclusive(alloc: Global) -> u64 {
     let mut exclusive: u64 = 0;
     for hash in 0..HASHES {

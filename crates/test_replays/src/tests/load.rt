@@ -1,4 +1,4 @@
-//! The long schedule runs.
+//! Schedules of a million events.
 
 use std::alloc::Global;
 use std::process::Abort;
@@ -8,10 +8,11 @@ use table_core::reply::{Finished, Reply};
 use table_core::state::{State, run};
 use testkit::schedules::load::{Hashes, INSERTS, LOOKUPS, load_events};
 
-/// Each insert of a load places its number and each look-up finds it, in turn; then there are so many buckets.
+/// Checks that each insert of a load places its number, that each look-up finds its number, and how many buckets there are at the end.
+/// `Err`: no memory.
 fn check_load(rt: &impl Abort, alloc: Global, hashes: Hashes) -> Result<(), Fail> {
     let events = load_events(alloc, hashes)?;
-    // 8 an insert, 7 for the first generation, 4 for each of 14 more, which copy 8 + 16 + .. + 65,536, and 3 a look-up
+    // 8 events per insert and 3 per look-up, 7 for the first generation, and 4 for each of 14 more, which copy 8 + 16 + .. + 65,536 entries
     assert_eq!(rt; events.len(), 1_006_127);
     let replies = run(alloc, events.as_slice())?;
     assert_eq!(rt; replies.len() as u64, INSERTS + LOOKUPS);
@@ -23,13 +24,13 @@ fn check_load(rt: &impl Abort, alloc: Global, hashes: Hashes) -> Result<(), Fail
     Ok(())
 }
 
-/// The call of a turn is told what becomes of its number.
+/// Checks that the call of this turn has its reply.
 fn check_reply(rt: &impl Abort, turn: u64, finished: &Finished) {
     assert_eq!(rt; finished.call, turn);
     assert_eq!(rt; turn_of(&finished.reply), Some(turn));
 }
 
-/// The turn of the call that is told this.
+/// Returns the turn of the call that has this reply, or `None` if no call of a load has it.
 fn turn_of(reply: &Reply) -> Option<u64> {
     match reply {
         Reply::Placed(value) => Some(*value),
@@ -38,7 +39,7 @@ fn turn_of(reply: &Reply) -> Option<u64> {
     }
 }
 
-/// How many buckets all generations have after these events.
+/// Returns the number of buckets of all generations after these events. `Err`: no memory.
 fn buckets_after(alloc: Global, events: &[Event]) -> Result<u64, Fail> {
     let mut state = State::new(alloc);
     for event in events {

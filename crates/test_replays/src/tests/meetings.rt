@@ -15,54 +15,54 @@ use testkit_replay::whole_calls::{Top, Tops};
 /// How often each row is run.
 const ROUNDS: u64 = 20;
 
-/// An insert whose block is refused: the table has its first generation then.
+/// An insert whose block is refused. It leaves a table with its first generation.
 const OPENING: Tops<'static> = Tops {
     filled: 0,
     then: &[(Insert(3, 3), REFUSED)],
 };
 
-/// Seven entries: with one more the table grows.
+/// Seven entries. With one more the table grows.
 const SEVEN: Tops<'static> = Tops {
     filled: 7,
     then: &[],
 };
 
-/// What calls are told, in the order in which they end.
+/// The replies of calls, in the order in which the calls end.
 type Told = &'static [(u64, Said)];
 
-/// What all calls are told of which the last two insert different values: if the first wins, and if the second does.
+/// The replies of all calls if the last two insert different values: when the first of these wins, and when the second does.
 const BOTH_PLACED: (Told, Told) = (
     &[(0, Refused(0)), (1, Placed(1)), (2, Placed(2))],
     &[(0, Refused(0)), (2, Placed(2)), (1, Placed(1))],
 );
 
-/// The same of equal values: the loser's comes back beside the winner's.
+/// The replies of all calls if the last two insert equal values. The loser's value is returned with the winner's entry.
 const ONE_FOUND: (Told, Told) = (
     &[(0, Refused(0)), (1, Placed(1)), (2, Found(1, 2))],
     &[(0, Refused(0)), (2, Placed(2)), (1, Found(2, 1))],
 );
 
-/// Two inserts at one empty bucket of a table without entries, and what all calls are told.
+/// Two inserts at one empty bucket of a table without entries, and the replies of all calls.
 const AT_ONE_BUCKET: [((Ask, Ask), (Told, Told)); 4] = [
-    // Another value of the same hash: who loses goes on to the next bucket.
+    // Different values of one hash: the loser goes on to the next bucket.
     ((Insert(1, 0), Insert(2, 0)), BOTH_PLACED),
     ((Insert(1, 0), Insert(1, 0)), ONE_FOUND),
-    // One of other bits, and of the same first bucket: nobody is asked about it, also where it would be equal.
+    // Different marks, and the same first bucket: no closure is called, even if the values are equal.
     ((Insert(1, 0), Insert(2, 1 << 32)), BOTH_PLACED),
     ((Insert(1, 0), Insert(1, 1 << 32)), BOTH_PLACED),
 ];
 
-/// Inserts that begin while a growth copies, and what they are told.
+/// Inserts that begin while a growth copies, and their replies.
 const AT_THE_LOCK: [(Ask, Said); 3] = [
-    // Its first bucket is the 17th of 32, which is empty, and the first of 16, where an entry is.
+    // Its first bucket is the 17th of 32, which is empty. Of 16 it would be the first, which is set.
     (Insert(8, 16), Placed(8)),
-    // It asks about each entry that was copied.
+    // It calls its closure with each entry that was copied.
     (Insert(8, 0), Placed(8)),
-    // Its equal was copied.
+    // An equal entry was copied.
     (Insert(3, 3), Found(3, 8)),
 ];
 
-/// Two inserts lose an exchange to one another, as the machine does.
+/// Asserts that one of two inserts loses the exchange of an empty bucket to the other, as in the machine.
 fn assert_at_one_bucket<R: Abort + Threads + Wait + Sync>(
     rt: &R,
     alloc: Global,
@@ -86,7 +86,7 @@ fn an_exchange_that_is_lost(rt: HostRuntime) {
     }
 }
 
-/// An insert that begins while a growth copies goes on in the new generation, as the machine does.
+/// Asserts that an insert that begins while a growth copies goes on in the new generation, as in the machine.
 fn assert_at_the_lock<R: Abort + Threads + Wait + Sync>(
     rt: &R,
     alloc: Global,

@@ -1,4 +1,4 @@
-//! Whole inserts and look-ups, cut where they ask a closure.
+//! Whole inserts and look-ups, with other calls inside their closures.
 use std::alloc::Global;
 use std::process::Abort;
 use std::sync::Wait;
@@ -11,10 +11,10 @@ use testkit_replay::schedules::Ask::{Insert, Lookup};
 use testkit_replay::script::Manner;
 use testkit_replay::whole_calls::{Plan, Refusals, Top, Tops, run_whole};
 
-/// How many seeds there are for each first capacity.
+/// The number of seeds for each first capacity.
 const SEEDS: u64 = 200;
 
-/// How many calls run one after the other.
+/// The number of calls that run one after the other.
 const TOPS: u64 = 40;
 
 /// No request is refused.
@@ -23,43 +23,44 @@ const GRANTED: Refusals = (0, 0);
 /// The first request is refused.
 pub(crate) const REFUSED: Refusals = (0, 1);
 
-/// The block of a value is granted, and its growth is refused.
+/// The block of a value is granted, and the growth after it is refused.
 const GROWTH_REFUSED: Refusals = (1, 1);
 
-/// How many values are inserted first, the calls after those, those that run inside the first closure that the last of them asks,
-/// and what each call is told after the first inserts, in the order in which they end. The first generation has 16 buckets.
+/// The number of values that are inserted first, the calls after those, the calls inside the first closure that the last of them calls, and
+/// the replies after the first inserts, in the order in which the calls end. The first generation has 16 buckets.
 type Row = (u64, &'static [Top], &'static [Ask], &'static [(u64, Said)]);
 
 const ROWS: [Row; 6] = [
-    // The equal of a value is placed while its insert asks about another entry.
+    // An equal value is placed while the insert calls its closure with another entry.
     (
         1,
         &[(Insert(1, 0), GRANTED)],
         &[Insert(1, 0)],
         &[(2, Placed(2)), (1, Found(2, 1))],
     ),
-    // Another value of its hash is placed meanwhile: it goes on to the next bucket.
+    // Another value of the same hash is placed meanwhile: the insert goes on to the next bucket.
     (
         1,
         &[(Insert(1, 0), GRANTED)],
         &[Insert(2, 0), Lookup(1, 0), Lookup(2, 0)],
         &[(2, Placed(2)), (3, Absent), (4, Shown(2)), (1, Placed(1))],
     ),
-    // The table grows while a look-up is under way, and its value comes into the new generation alone.
+    // The table grows during a look-up, and the value that it looks for is placed only in the new generation.
     (
         7,
         &[(Lookup(8, 0), GRANTED)],
         &[Insert(7, 7), Insert(8, 0), Lookup(8, 0)],
         &[(8, Placed(8)), (9, Placed(9)), (10, Shown(9)), (7, Absent)],
     ),
-    // Look-ups while a growth copies: the value that it was asked for is there.
+    // Look-ups while a growth copies: one finds the value whose insert grows the table.
     (
         7,
         &[(Insert(7, 7), GRANTED)],
         &[Lookup(7, 7), Lookup(0, 0), Lookup(9, 9)],
         &[(8, Shown(7)), (9, Shown(0)), (10, Absent), (7, Placed(7))],
     ),
-    // Growth is refused, and comes with an insert that finds its value. A look-up inside it shows what was placed.
+    // A growth is refused. The next insert finds an equal entry, and still grows the table. A look-up in its closure finds the value that
+    // was placed.
     (
         7,
         &[(Insert(7, 7), GROWTH_REFUSED), (Insert(0, 0), GRANTED)],
@@ -86,7 +87,7 @@ const ROWS: [Row; 6] = [
     ),
 ];
 
-/// Calls were told that so many values were placed first, and then this.
+/// Asserts that the first `filled` calls placed their values, and that the others have the expected replies.
 pub(crate) fn assert_told(
     rt: &impl Abort,
     run: Result<Vec<(u64, Said)>, Fault>,
@@ -103,7 +104,7 @@ pub(crate) fn assert_told(
     assert_eq!(rt; then, expected);
 }
 
-/// The calls of a row are told what it says, and the machine tells the same.
+/// Asserts that the calls of a row have its replies, and that the machine gives the same.
 fn assert_row<R: Abort + Wait>(rt: &R, alloc: Global, row: &Row) {
     let (filled, then, inside, expected) = *row;
     let plan = Plan::Worked {
@@ -122,7 +123,7 @@ fn whole_calls_that_are_worked(rt: HostRuntime) {
     }
 }
 
-/// The calls of a seed do what the machine does. One half of the seeds has careless closures, and one half is refused memory.
+/// Asserts that the calls of a seed do what the machine does. Half of the seeds have careless closures, and half have requests refused.
 fn assert_seed<R: Abort + Wait>(rt: &R, alloc: Global, first: u64, seed: u64) {
     let manner = if seed % 2 == 0 {
         Manner::Lawful

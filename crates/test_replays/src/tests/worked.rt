@@ -1,4 +1,4 @@
-//! The worked schedules, on a table beside the machine.
+//! The worked schedules, on a table and on the machine.
 ghost use Rattle.table_terms.specs.Capacities.{IsFirstCapacity};
 
 use std::alloc::Global;
@@ -11,7 +11,7 @@ use testkit_replay::course::{Course, run_course};
 use testkit_replay::script::Manner;
 use tool_commands::events::{ScheduleLine, parse_schedule_line};
 
-/// The events of these lines, and none for `b`.
+/// Parses these lines into events. A line `b` becomes `None`. `Err`: a line is no event, or no memory.
 fn events_of(alloc: Global, lines: &str) -> Result<Vec<Option<Event>>, Fail> {
     let mut events = Vec::new(alloc);
     for line in lines.lines() {
@@ -24,7 +24,7 @@ fn events_of(alloc: Global, lines: &str) -> Result<Vec<Option<Event>>, Fail> {
     Ok(events)
 }
 
-/// Of each worked schedule the calls whose value is equal to another one, or that look for one, with its class: that is the
+/// For each worked schedule, the calls whose value is equal to another one, or that look for such a value, with its class. A class is the
 /// number of the first of its values. All other values are different.
 const CLASSES: [&[(u64, u64)]; 21] = [
     &[(2, 10)],
@@ -33,7 +33,7 @@ const CLASSES: [&[(u64, u64)]; 21] = [
     &[],
     &[],
     &[(20, 18), (21, 18)],
-    // It looks for what it would find under another hash: nobody asks.
+    // It looks for an equal value under another hash: no closure is called.
     &[(2, 10)],
     &[],
     &[(2, 10)],
@@ -51,7 +51,8 @@ const CLASSES: [&[(u64, u64)]; 21] = [
     &[],
 ];
 
-/// A worked schedule tells the same on a table and on the machine, with closures that answer in this manner.
+/// Asserts that a worked schedule does the same on a table as on the machine, with closures that answer in this manner. `Err`: a line is no
+/// event, or no memory.
 fn assert_followed(
     rt: &impl Abort,
     alloc: Global,

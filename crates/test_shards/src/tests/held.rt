@@ -1,4 +1,4 @@
-//! Tables held alone, run.
+//! Tests of single-owner tables over shards.
 mod drops;
 mod makers;
 mod millions;

@@ -1,4 +1,4 @@
-//! The table over shards that threads share, run.
+//! Tests of the table over shards that threads share.
 mod made;
 mod numbers;
 mod refusals;

@@ -1,4 +1,4 @@
-//! One thread on a shared table.
+//! Tests of a shared table that only one thread uses.
 use super::numbers::{Boxed, Inserts, Numbers, Told, assert_same};
 use std::alloc::Global;
 use std::sync::Wait;
@@ -6,7 +6,7 @@ use testkit::counting::asked::Lawful;
 use testkit::counting::numbers::{fill, seen, those_below};
 use testkit::counting::tally::Tally;
 
-/// More than seven growths' worth.
+/// How many numbers are inserted. The table grows eight times.
 const NUMBERS: u64 = 2000;
 
 #[test]
@@ -15,7 +15,7 @@ fn a_table_without_entries(rt: HostRuntime) {
     assert_same(&rt, seen(&table, 0), those_below(0));
 }
 
-/// Inserts the numbers, each of which no look-up may find before: what the inserts are told.
+/// Inserts the numbers, and returns the tally of the answers. A number that a look-up finds before its insert counts as `Wrong`.
 fn fill_anew<R: Wait>(rt: &R, table: &Boxed<Global>) -> Tally {
     let mut tally = Tally::NONE;
     for number in 0..NUMBERS {

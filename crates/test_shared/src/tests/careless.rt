@@ -1,4 +1,4 @@
-//! Closures that keep no law, in rows whose end is known.
+//! Tests of threads with unlawful closures, for which the number of entries in the end is known.
 use super::numbers::{assert_same, handed, insert_at};
 use lock_free_hashtable::raw::LockFreeRawTable;
 use std::alloc::{AllocError, Global};
@@ -11,27 +11,27 @@ use testkit::counting::asked::Asked;
 use testkit::counting::numbers::Told;
 use testkit::counting::tally::{Tally, Work, at_once};
 
-/// How many numbers each thread gives.
+/// How many numbers each thread inserts.
 const NUMBERS: u64 = 40;
 
 /// How many threads there are.
 const THREADS: u64 = 4;
 
-/// How many numbers all threads give.
+/// How many numbers all threads insert together.
 const ALL: u64 = THREADS * NUMBERS;
 
-/// What breaks the law.
+/// How the closures break the law.
 #[derive(Clone, Copy)]
 enum Kind {
-    /// All numbers agree, and their hash is 0.
+    /// `eq` accepts every entry, and each number has the hash 0.
     AlwaysMet,
-    /// No numbers agree, and there are four hashes.
+    /// `eq` accepts no entry, and there are four hashes.
     NeverMet,
-    /// The hash of an entry is another one at each call.
+    /// `hash_fn` returns another hash at each call.
     Anew,
 }
 
-/// A caller without a law, and how often it was asked for a hash that is another one at each call.
+/// Unlawful closures, and how often `hash_fn` was called under `Kind::Anew`.
 #[derive(Drop)]
 struct Careless {
     kind: Kind,
@@ -39,7 +39,7 @@ struct Careless {
 }
 
 impl Careless {
-    /// The hash under which the number is inserted.
+    /// Returns the hash under which the number is inserted.
     fn given(&self, number: u64) -> u64 {
         match self.kind {
             Kind::AlwaysMet => 0,
@@ -66,7 +66,7 @@ impl Asked for Careless {
     }
 }
 
-/// Threads that insert numbers into a table.
+/// The work of threads that insert numbers into a table.
 #[derive(Drop)]
 struct Giving<'a> {
     table: &'a LockFreeRawTable<Box<u64>>,
@@ -75,7 +75,7 @@ struct Giving<'a> {
 }
 
 impl<'a> Giving<'a> {
-    /// What the insert of the number is told.
+    /// Inserts the number, and returns the answer.
     fn give<R: Wait>(&self, rt: &R, number: u64) -> Told {
         match Box::new(self.alloc, number) {
             Ok(value) => insert_at(
@@ -101,7 +101,7 @@ impl<'a> Work for Giving<'a> {
     }
 }
 
-/// How many of these numbers are given ones, each counted once.
+/// Returns how many different numbers below `ALL` are among these.
 fn count_given(mut numbers: Vec<u64>) -> u64 {
     numbers.sort_unstable();
     let (mut given, mut least) = (0u64, 0u64);
@@ -112,7 +112,7 @@ fn count_given(mut numbers: Vec<u64>) -> u64 {
     given
 }
 
-/// The table counts so many entries, and hands out as many of the numbers, each once.
+/// Asserts that the table has `placed` entries, and that the owning iterator yields as many inserted numbers, each once. `Err`: no memory.
 fn assert_handed<R: Abort>(
     rt: &R,
     table: LockFreeRawTable<Box<u64>>,
@@ -129,8 +129,8 @@ fn assert_handed<R: Abort>(
     Ok(())
 }
 
-/// Threads insert all numbers at once. So many are placed, all others come back, and what the table hands out are as many of the
-/// numbers, each once. How often a hash was asked for that is another one at each call.
+/// Inserts all numbers by threads at once. Asserts that `placed` of them are placed, that the others are returned, and that the table then
+/// has `placed` of the numbers, each once. Returns how often `hash_fn` was called under `Kind::Anew`. `Err`: no memory.
 fn assert_kept<R: Abort + Threads + Wait + Sync>(
     rt: &R,
     alloc: Global,

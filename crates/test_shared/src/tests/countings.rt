@@ -1,4 +1,4 @@
-//! Counting values in a shared table whose memory keeps a rule. Four numbers in a row are equal.
+//! A shared table of values that count their drops, over an allocator that refuses some requests. The numbers 4n to 4n + 3 are equal.
 use super::numbers::{Told, insert_at};
 use lock_free_hashtable::raw::{LockFreeRawTable, is_first_capacity};
 use std::alloc::Global;
@@ -9,16 +9,16 @@ use testkit::counting::{Counting, Drops};
 use testkit::refusing::handover::MOST_LOOKS;
 use testkit::refusing::{Refusing, Rule};
 
-/// How many bytes the block of an entry has. No other request is that small in a table of `CAPACITY` buckets.
+/// The size in bytes of the block of an entry. No other request of a table with `CAPACITY` buckets is that small.
 const BLOCK: usize = 16;
 
-/// A first capacity at which a round needs no growth.
+/// A first capacity at which the inserts in pairs need no growth.
 const CAPACITY: usize = 1024;
 
-/// A shared table of boxed counting values.
+/// A shared table of boxed values that count their drops.
 pub(crate) type Countings<'m> = LockFreeRawTable<Box<Counting>, &'m Refusing<Global>>;
 
-/// A table, and the drops of its values.
+/// A table, and how often each of its values was dropped.
 #[derive(Drop)]
 pub(crate) struct Counted<'m> {
     pub table: Countings<'m>,
@@ -26,7 +26,7 @@ pub(crate) struct Counted<'m> {
 }
 
 impl<'m> Counted<'m> {
-    /// What an insert of the number is told, under this hash.
+    /// Inserts the number under this hash, and returns the answer.
     pub(crate) fn insert<R: Wait>(&self, rt: &R, hash: u64, number: u64) -> Told {
         match self.drops.counting(number) {
             Ok(value) => insert_at(rt, &self.table, hash, value, &Lawful::InFours),
@@ -35,7 +35,7 @@ impl<'m> Counted<'m> {
     }
 }
 
-/// Memory of which the first block of an entry is refused, and the next ones are granted in so many pairs.
+/// Makes a heap that refuses the first block of an entry, and grants the next ones in `pairs` pairs, whose requests wait for each other.
 pub(crate) fn paired(alloc: Global, pairs: u64) -> Refusing<Global> {
     Refusing::new(
         alloc,
@@ -43,7 +43,7 @@ pub(crate) fn paired(alloc: Global, pairs: u64) -> Refusing<Global> {
     )
 }
 
-/// A table that has its first generation and no entry: the block of this value was refused.
+/// Makes a table with a first generation and no entry, since the block of this value is refused.
 pub(crate) fn opened<'m, R: Abort + Wait>(
     rt: &R,
     heap: &'m Refusing<Global>,

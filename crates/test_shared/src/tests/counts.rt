@@ -1,4 +1,4 @@
-//! What the count of a table says while threads insert, and what they are told where a generation is full.
+//! Tests of the length of a table while threads insert, and of the answers to inserts if a generation is full.
 use super::numbers::{Boxed, Inserts, Numbers, Told, assert_same, assert_told, walk_length};
 use std::alloc::Global;
 use std::process::Abort;
@@ -13,18 +13,18 @@ use testkit::counting::tally::{Tally, Work, at_once};
 use testkit::refusing::handover::{MOST_LOOKS, QUIET_LOOKS, look_for};
 use testkit::refusing::{Refusing, Rule};
 
-/// How many bytes the block of an entry has; all else that a table asks for is more.
+/// The size in bytes of the block of an entry. Every other request of a table is larger.
 const BLOCK: usize = 16;
 
-/// How many numbers two threads insert in a round, and how many rounds there are.
+/// How many numbers a table has after a round of two threads, and how many rounds there are.
 const NUMBERS: u64 = 260;
 
 const ROUNDS: u64 = 20;
 
-/// Memory of which growth asks one allocator, and entries ask another one above it.
+/// An allocator with a rule for the blocks of entries, over an allocator with a rule for growth.
 type Memory<'m> = Refusing<&'m Refusing<Global>>;
 
-/// The numbers below 17, the first of them twice.
+/// Pairs of the numbers below 17. The first pair is 0 and 0.
 const PAIRS: [(u64, u64); 9] = [
     (0, 0),
     (1, 2),
@@ -37,8 +37,8 @@ const PAIRS: [(u64, u64); 9] = [
     (15, 16),
 ];
 
-/// Numbers that two threads insert at once, pair after pair; how many requests for growth are refused before; how many
-/// numbers are placed; and the buckets in the end.
+/// Pairs of numbers, each of which two threads insert at once, and the equality and hash of the numbers. The first `refused` requests of
+/// growth are refused. In the end `placed` numbers are placed, and the current generation has `buckets` buckets.
 struct Meeting {
     lawful: Lawful,
     pairs: &'static [(u64, u64)],
@@ -47,7 +47,7 @@ struct Meeting {
     buckets: u64,
 }
 
-/// Of the last pair one takes the last bucket, and the other one grows the table.
+/// One number of the last pair takes the last vacant bucket, and the insert of the other grows the table.
 const AT_THE_LAST_BUCKET: Meeting = Meeting {
     lawful: Lawful::ByFives,
     pairs: &PAIRS,
@@ -56,7 +56,7 @@ const AT_THE_LAST_BUCKET: Meeting = Meeting {
     buckets: 64,
 };
 
-/// The same, but that bucket ends the way of both: who loses it has been at every bucket.
+/// The same, but both probes reach the last vacant bucket at their end, so the loser has met every bucket.
 const AT_THE_END_OF_THE_WAY: Meeting = Meeting {
     lawful: Lawful::FromTheFirst,
     pairs: &PAIRS,
@@ -65,7 +65,7 @@ const AT_THE_END_OF_THE_WAY: Meeting = Meeting {
     buckets: 64,
 };
 
-/// Of the last pair one finds the other one's number, and both ask for growth: one of them is refused.
+/// One insert of the last pair finds the other's number. Both then try to grow the table, and one of them is refused.
 const FOUND_BY_THE_LOSER: Meeting = Meeting {
     lawful: Lawful::ByFives,
     pairs: &[(0, 0), (1, 2), (3, 4), (5, 6), (7, 8), (9, 9)],
@@ -74,12 +74,12 @@ const FOUND_BY_THE_LOSER: Meeting = Meeting {
     buckets: 32,
 };
 
-/// So many entries are counted and walked, in a current generation of so many buckets.
+/// Asserts that the table reports and an iterator yields `entries` entries, and that the current generation has `buckets` buckets.
 fn assert_size<R: Abort, A: Low + Copy>(rt: &R, table: &Boxed<A>, entries: u64, buckets: u64) {
     assert_same(rt, table.size(), [entries, entries, buckets]);
 }
 
-/// Both numbers of each pair are offered at once: what all inserts are told.
+/// Inserts the numbers of each pair by two threads at once, and returns the tally of all answers.
 fn offer_all<R: Threads + Wait + Sync>(
     rt: &R,
     table: &Boxed<&Memory<'_>>,
@@ -94,7 +94,7 @@ fn offer_all<R: Threads + Wait + Sync>(
     tally
 }
 
-/// The numbers are offered to a table that has its first generation and no entry: the block of its first value was refused.
+/// Asserts that the meeting ends as it says, on a table with a first generation and no entry. The block of its first value is refused.
 fn assert_meets<R: Abort + Threads + Wait + Sync>(rt: &R, alloc: Global, meeting: &Meeting) {
     let pairs = meeting.pairs.len() as u64;
     let growth = Refusing::new(alloc, Rule::new(BLOCK + 1, usize::MAX, 0, 0));
@@ -134,12 +134,12 @@ fn growth_comes_after_what_a_loser_found(rt: HostRuntime) {
     }
 }
 
-/// Memory that grants all for now, of which only what is more than the block of an entry is counted.
+/// Makes a heap that refuses nothing at first, and counts only requests that are larger than the block of an entry.
 fn memory_of_growth(alloc: Global) -> Refusing<Global> {
     Refusing::new(alloc, Rule::new(BLOCK + 1, usize::MAX, 0, 0))
 }
 
-/// A table whose first generation is full, and whose growth is refused from the second number on.
+/// Makes a table whose first generation is full, since growth is refused from the second number on.
 fn full<'m, R: Abort + Wait>(
     rt: &R,
     heap: &'m Refusing<Global>,
@@ -174,7 +174,7 @@ fn a_full_generation_grows_for_a_new_number(rt: HostRuntime) {
     assert_size(&rt, &table, 17, 64);
 }
 
-/// Two threads, of which one waits for the memory of its entry while the other one looks.
+/// A table, and a sign that one thread has begun. That thread waits for the memory of its entry while another one reads the size.
 #[derive(Drop)]
 struct Looked<'m> {
     table: Boxed<&'m Refusing<Global>>,
@@ -182,7 +182,7 @@ struct Looked<'m> {
 }
 
 impl<'m> Looked<'m> {
-    /// How often a look counted what no later walk showed.
+    /// Reads the size again and again, and returns how often the length was above that of a later iterator.
     fn look(&self) -> u64 {
         let mut miscounts = 0u64;
         for _look in 0..QUIET_LOOKS {
@@ -222,17 +222,17 @@ fn an_entry_is_counted_once_it_is_there(rt: HostRuntime) {
     assert_same(&rt, seen(&looked.table, 2), those_below(2));
 }
 
-/// A table into which two threads insert the same numbers while a third one watches, and what is seen meanwhile.
+/// A table into which two threads insert the same numbers while a third one watches, and what they see meanwhile.
 #[derive(Drop)]
 struct Watched {
     table: Boxed<Global>,
-    /// How often the count wasn't that of the entries, under a lock held alone.
+    /// How often the length wasn't the number of entries while the lock was held exclusively.
     miscounts: AtomicU64,
-    /// How many threads have inserted all that they have.
+    /// How many threads have inserted all their numbers.
     done: AtomicU64,
 }
 
-/// While a growth copies, the count of the table has to be that of its entries.
+/// Growth calls `hash` while it copies. The length must be the number of entries then.
 impl Asked for Watched {
     fn hash(&self, number: u64) -> u64 {
         if self.table.table.len() as u64 != walk_length(&self.table.table) {
@@ -243,7 +243,7 @@ impl Asked for Watched {
 }
 
 impl Watched {
-    /// Inserts every number from 1 on, and then says that it is done.
+    /// Inserts the numbers from 1 up to `NUMBERS`, exclusive, then adds one to `done`, and returns the tally of the answers.
     fn fill<R: Wait>(&self, rt: &R) -> Tally {
         let mut tally = Tally::NONE;
         for number in 1..NUMBERS {
@@ -253,7 +253,7 @@ impl Watched {
         tally
     }
 
-    /// Looks until both are done: how often the count was above that of a later walk, or the number 0 was missed.
+    /// Looks until both threads are done. Returns how often the length was above that of a later iterator, or a look-up missed 0.
     fn watch(&self) -> u64 {
         let mut missed = 0u64;
         for _look in 0..MOST_LOOKS {
@@ -281,7 +281,7 @@ impl Work for Watched {
     }
 }
 
-/// Two threads insert the same numbers through several growths, and a third one watches.
+/// Inserts the same numbers by two threads over several growths while a third thread watches, and asserts that no length was wrong.
 fn assert_counts<R: Abort + Threads + Wait + Sync>(rt: &R, alloc: Global) {
     let watched = Watched {
         table: Boxed::new(alloc, alloc, Lawful::Spread),

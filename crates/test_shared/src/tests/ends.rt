@@ -1,4 +1,4 @@
-//! Each value is dropped once: those that came back, those that are taken out at the end, and the rest.
+//! Tests that each value is dropped once, whether it is returned, taken out or left. A class is the equal numbers 4n to 4n + 3.
 use super::countings::{Counted, opened, paired};
 use super::numbers::assert_same;
 use lock_free_hashtable::raw::LockFreeRawTable;
@@ -12,16 +12,16 @@ use testkit::counting::asked::{Asked, Lawful};
 use testkit::counting::tally::{Tally, Work, at_once};
 use testkit::refusing::{Refusing, Rule};
 
-/// How many classes two threads insert at once, each losing its exchange or winning it.
+/// How many classes two threads insert at once. In each class one thread's exchange succeeds, and the other's fails.
 const LOST: u64 = 60;
 
-/// How many classes there are in the end, over some growth.
+/// How many classes have an entry in the end, after some growth.
 const CLASSES: u64 = 3000;
 
 /// How many values are taken out before the rest is dropped.
 const TAKEN: [u64; 5] = [0, 1, 2, 1500, 3000];
 
-/// Threads that insert each its own number of these classes, from one on up to another.
+/// The work of threads that each insert their own number of each class from `from` up to `to`, exclusive.
 #[derive(Drop)]
 struct Filling<'a, 'm> {
     counted: &'a Counted<'m>,
@@ -41,7 +41,7 @@ impl<'a, 'm> Work for Filling<'a, 'm> {
     }
 }
 
-/// So many threads insert their numbers of the classes: what they are told.
+/// Inserts the numbers of these classes by `threads` threads at once, and returns the tally of the answers.
 fn fill_at_once<R: Threads + Wait + Sync>(
     rt: &R,
     alloc: Global,
@@ -53,8 +53,8 @@ fn fill_at_once<R: Threads + Wait + Sync>(
     at_once(rt, alloc, threads, &Filling { counted, from, to })
 }
 
-/// So many values of a table that has one of each class are taken out, and the rest is dropped; those go last. `gone` values
-/// came back before. In the end the memory has each block back.
+/// Takes `taken` values out of a table with one entry of each class, drops the rest, and then drops those. Asserts how many values were
+/// dropped before and after each step, which were `gone` at first, and that each block is freed. `Err`: no memory.
 fn assert_ends(
     rt: &impl Abort,
     alloc: Global,
@@ -93,7 +93,7 @@ fn assert_ends(
     Ok(())
 }
 
-/// Four threads insert equal values over growth.
+/// Inserts equal values by four threads while the table grows, and asserts that each value is dropped once. `Err`: no memory.
 fn assert_grown<R: Abort + Threads + Wait + Sync>(
     rt: &R,
     alloc: Global,
@@ -109,8 +109,8 @@ fn assert_grown<R: Abort + Threads + Wait + Sync>(
     assert_ends(rt, alloc, &heap, counted, taken, 3 * CLASSES)
 }
 
-/// Two threads insert equal values, and each exchange of the one meets one of the other; then one thread goes on, over
-/// growth.
+/// Inserts equal values by two threads, so that each exchange of one meets one of the other, and then more by one thread while the table
+/// grows. Asserts that each value is dropped once. `Err`: no memory.
 fn assert_lost<R: Abort + Threads + Wait + Sync>(
     rt: &R,
     alloc: Global,

@@ -1,10 +1,10 @@
-//! The account of a round sees what is wrong.
+//! Tests that the account of a round reports what is wrong.
 use std::alloc::Global;
 use std::process::Abort;
 use testkit_rounds::Fault;
 use testkit_rounds::fates::{Fate, Fates};
 
-/// Three values: which of them came back, which are handed out at the end, and the fault.
+/// Accounts of three values: which of them were returned, which are entries in the end, and the result.
 const ACCOUNTS: [(&[u64], &[u64], Result<(), Fault>); 7] = [
     (&[], &[2, 0, 1], Ok(())),
     (&[1], &[2, 0], Ok(())),
@@ -15,7 +15,7 @@ const ACCOUNTS: [(&[u64], &[u64], Result<(), Fault>); 7] = [
     (&[0, 1], &[3], Err(Fault::Unknown(3))),
 ];
 
-/// The account of these values.
+/// Accounts for three values, of which some were returned and some are entries. `Err`: the first fault.
 fn account(alloc: Global, back: &[u64], entries: &[u64]) -> Result<(), Fault> {
     let mut fates = Fates::new(alloc, 3)?;
     fates.settle_all(back, Fate::Found)?;
@@ -23,7 +23,7 @@ fn account(alloc: Global, back: &[u64], entries: &[u64]) -> Result<(), Fault> {
     fates.check_settled()
 }
 
-/// An account tells this.
+/// Asserts that the result of an account is the expected one.
 fn assert_told(rt: &impl Abort, told: Result<(), Fault>, expected: Result<(), Fault>) {
     assert_eq!(rt; told, expected);
 }
@@ -35,14 +35,14 @@ fn each_value_is_accounted_for(rt: HostRuntime) {
     }
 }
 
-/// Values that a walk shows, those that are handed out, and the fault.
+/// The values that an iterator by reference yields, those that the owning iterator yields, and the result of the comparison.
 const WALKS: [(&[u64], &[u64], Result<(), Fault>); 3] = [
     (&[0, 2], &[2, 0], Ok(())),
     (&[0], &[2, 0], Err(Fault::Walk(2))),
     (&[0, 1, 2], &[2, 0], Err(Fault::Walk(1))),
 ];
 
-/// Compares a walk with what is handed out.
+/// Compares the values of an iterator by reference with those of the owning iterator. `Err`: the first fault.
 fn compare(alloc: Global, walked: &[u64], handed: &[u64]) -> Result<(), Fault> {
     let mut shown = Fates::new(alloc, 3)?;
     shown.settle_all(walked, Fate::Entry)?;

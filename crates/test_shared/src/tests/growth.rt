@@ -1,4 +1,4 @@
-//! When a table grows, what its one count of entries says in each generation, and what is kept of an entry over growth.
+//! Tests of when a table grows, of its length in each generation, and of references that are kept over growth.
 ghost use Rattle.table_terms.specs.Capacities.{IsFirstCapacity};
 
 use super::numbers::{Boxed, Inserts, Told, assert_same, insert_and_show, shown};
@@ -17,7 +17,7 @@ use testkit::counting::tally::Tally;
 /// How many numbers are placed one by one.
 const PLACED: u64 = 256;
 
-/// The first capacity of a table, and its entries before it is shared and after that.
+/// The first capacity of a table, its number of entries when it becomes shared, and its number of entries in the end.
 const SHARED: [(usize, u64, u64); 8] = [
     (16, 0, 100),
     (16, 1, 100),
@@ -29,11 +29,10 @@ const SHARED: [(usize, u64, u64); 8] = [
     (1024, 3, 3000),
 ];
 
-/// How many targets are kept.
+/// How many references to targets are kept.
 const KEPT: u64 = 3000;
 
-/// The buckets of a current generation with so many entries, where each growth was granted: the least power of two, from 16 on,
-/// of which fewer than half are set.
+/// Returns the capacity for this number of entries if no growth was refused: the least power of two from 16 on that is less than half set.
 fn buckets_for(entries: u64) -> u64 {
     let buckets = entries
         .wrapping_mul(2)
@@ -42,8 +41,7 @@ fn buckets_for(entries: u64) -> u64 {
     buckets.unwrap_or(0).max(16)
 }
 
-/// The number is placed, and then the count of the table is that of the entries that its current generation shows, in as many
-/// buckets as it must have.
+/// Inserts the number, and asserts that it is placed, and that the length, the number of entries and the capacity are right.
 fn assert_placed<R: Abort + Wait>(rt: &R, table: &Boxed<Global>, number: u64) {
     let placed = table.insert(rt, number) == Told::Placed;
     let [counted, shown, buckets] = table.size();
@@ -63,7 +61,7 @@ fn one_count_serves_every_generation(rt: HostRuntime) {
     }
 }
 
-/// A table held alone into which the numbers below were placed.
+/// Makes a single-owner table of the numbers below `numbers`. `Err`: no memory.
 fn held(
     alloc: Global,
     first_capacity: usize,
@@ -79,8 +77,8 @@ fn held(
     Ok(table)
 }
 
-/// A table held alone with so many entries is shared, and two threads fill it on: it then has what a table has that was
-/// held alone for as many.
+/// Shares a single-owner table of `before` entries, and inserts the numbers below `after` by two threads. Asserts that it then has the
+/// entries and the capacity of a single-owner table of these numbers. `Err`: no memory.
 fn assert_filled_on<R: Abort + Threads + Wait + Sync>(
     rt: &R,
     alloc: Global,
@@ -122,7 +120,7 @@ fn a_table_held_alone_is_filled_on(rt: HostRuntime) -> Result<(), Fail> {
     Ok(())
 }
 
-/// A number that is known from a copy of it by its mark.
+/// A number with a mark that tells it from a copy.
 #[derive(Drop)]
 struct Marked {
     number: u64,
@@ -138,7 +136,7 @@ impl Numbered for Marked {
 /// A shared table of numbers with marks.
 type Marks = LockFreeRawTable<Box<Marked>>;
 
-/// Places the number, and gives the target that is shown.
+/// Inserts the number. Returns the entry, or `None` if it was not placed. `Err`: no memory.
 fn place<'a, R: Wait>(
     rt: &R,
     table: &'a Marks,
@@ -153,7 +151,7 @@ fn place<'a, R: Wait>(
     }
 }
 
-/// The target that was kept reads the same, and a mark that is left on it is seen by a look-up.
+/// Sets the mark of a kept target, and asserts that the target still has its number and that a look-up finds the mark.
 fn assert_kept(rt: &impl Abort, table: &Marks, number: u64, kept: &Marked) {
     let left = number.wrapping_add(1);
     kept.mark.store(left, Ordering::SeqCst);
@@ -164,7 +162,7 @@ fn assert_kept(rt: &impl Abort, table: &Marks, number: u64, kept: &Marked) {
     assert_same(rt, [kept.number, mark], [number, left]);
 }
 
-/// The targets that are shown where the numbers are placed.
+/// Inserts the numbers, and returns the entries of those that are placed. `Err`: no memory.
 fn place_all<'a, R: Wait>(
     rt: &R,
     table: &'a Marks,

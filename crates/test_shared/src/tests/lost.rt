@@ -1,5 +1,4 @@
-//! Exchanges that are lost for sure: two threads ask for the block of an entry, each for the same empty bucket, and neither is
-//! answered before the other has asked.
+//! Tests of exchanges that surely fail: two threads request blocks for one empty bucket, and no request is granted before both are made.
 use super::countings::{Counted, opened, paired};
 use super::numbers::{assert_same, walk_length};
 use std::alloc::{AllocError, Global};
@@ -13,19 +12,19 @@ use testkit::counting::tally::{Tally, Work, at_once};
 /// The hash of the first of two values, whose number is 0.
 const HASH: u64 = 5;
 
-/// The number and the hash of the second; how many of the two are placed, and how many blocks are asked for.
+/// The number and the hash of the second value, how many of the two are placed, and how many blocks are requested.
 const MEETINGS: [(u64, u64, u64, u64); 5] = [
-    // An equal one.
+    // An equal value.
     (1, HASH, 1, 2),
-    // Another one of the same hash, and of the same first bucket.
+    // A different value with the same hash, and one with the same first bucket.
     (4, HASH, 2, 3),
     (4, HASH + 1024, 2, 3),
-    // The eight bits are others, and nobody asks whether it is equal.
+    // A different value and an equal one whose eight bits differ, so that `eq` isn't called.
     (4, HASH + (1 << 32), 2, 3),
     (1, HASH + (1 << 32), 2, 3),
 ];
 
-/// Two values that are offered at once: the number 0, and one of this number and hash.
+/// Two values that two threads insert at once: the number 0, and one with this number and hash.
 #[derive(Drop)]
 struct Offer<'a, 'm> {
     counted: &'a Counted<'m>,
@@ -43,7 +42,7 @@ impl<'a, 'm> Work for Offer<'a, 'm> {
     }
 }
 
-/// The number 0 and another one are offered to one empty bucket.
+/// Inserts 0 and another number at one empty bucket at once, and asserts that the meeting ends as it says. `Err`: no memory.
 fn assert_met<R: Abort + Threads + Wait + Sync>(
     rt: &R,
     alloc: Global,

@@ -1,4 +1,4 @@
-//! Values in tables that threads share, told apart by their numbers.
+//! Calls on tables that threads share, whose values have numbers.
 use lock_free_hashtable::AtomicValue;
 use lock_free_hashtable::raw::{LockFreeRawTable, Low};
 use std::alloc::{AllocError, Allocator, Global};
@@ -9,7 +9,7 @@ use testkit::counting::asked::{Asked, Lawful, Numbered};
 use testkit::counting::made::Made;
 pub(crate) use testkit::counting::numbers::{Inserts, Numbers, Told};
 
-/// What an insert of the value under this hash is told, and the target that it shows.
+/// Inserts the value under this hash. Returns the answer, and the entry that the insert returns.
 pub(crate) fn insert_and_show<'a, R: Wait, T: AtomicValue, A: Low + Copy, L: Asked>(
     rt: &R,
     table: &'a LockFreeRawTable<T, A>,
@@ -40,7 +40,7 @@ where
     }
 }
 
-/// What an insert of the value under this hash is told.
+/// Inserts the value under this hash, and returns the answer.
 pub(crate) fn insert_at<R: Wait, T: AtomicValue, A: Low + Copy, L: Asked>(
     rt: &R,
     table: &LockFreeRawTable<T, A>,
@@ -55,7 +55,7 @@ where
     told
 }
 
-/// The target of this number that a look-up under this hash shows.
+/// Returns the target with this number that a look-up under this hash finds.
 pub(crate) fn shown<T: AtomicValue, A: Allocator + Copy>(
     table: &LockFreeRawTable<T, A>,
     hash: u64,
@@ -75,16 +75,16 @@ pub(crate) struct Shared<T: AtomicValue, A: Allocator + Copy = Global> {
     alloc: Global,
 }
 
-/// A shared table of numbers in boxes.
+/// A shared table of boxed numbers.
 pub(crate) type Boxed<A> = Shared<Box<u64>, A>;
 
 impl<T: AtomicValue, A: Allocator + Copy> Shared<T, A> {
-    /// The table without entries, of this memory.
+    /// Makes an empty table that requests its memory from `memory`.
     pub(crate) fn new(memory: A, alloc: Global, lawful: Lawful) -> Self {
         Shared::of(LockFreeRawTable::new(memory), alloc, lawful)
     }
 
-    /// This table.
+    /// Wraps the table.
     pub(crate) fn of(table: LockFreeRawTable<T, A>, alloc: Global, lawful: Lawful) -> Self {
         Shared {
             table,
@@ -93,7 +93,7 @@ impl<T: AtomicValue, A: Allocator + Copy> Shared<T, A> {
         }
     }
 
-    /// How many entries are counted, how many a walk shows, and the buckets of the current generation.
+    /// Returns the length, the number of entries that an iterator yields, and the number of buckets of the current generation.
     pub(crate) fn size(&self) -> [u64; 3] {
         let buckets = match self.table.current(&mut self.table.note()) {
             Some(current) => current.generation.capacity(),
@@ -107,7 +107,7 @@ impl<T: AtomicValue, A: Allocator + Copy> Shared<T, A> {
     }
 }
 
-/// How many entries a walk shows.
+/// Returns how many entries an iterator yields.
 pub(crate) fn walk_length<T: AtomicValue, A: Allocator + Copy>(
     table: &LockFreeRawTable<T, A>,
 ) -> u64 {
@@ -118,7 +118,7 @@ impl<T: Made, A: Low + Copy> Shared<T, A>
 where
     T::Target: Numbered,
 {
-    /// What an insert of the number is told, where the table is given these answers.
+    /// Inserts the number with the closures of `asked`, and returns the answer.
     pub(crate) fn insert_asking<R: Wait, L: Asked>(&self, rt: &R, number: u64, asked: &L) -> Told {
         match T::made(self.alloc, number) {
             Some(value) => insert_at(rt, &self.table, self.lawful.hash(number), value, asked),
@@ -160,7 +160,7 @@ where
     }
 }
 
-/// The numbers of the values that the table hands out.
+/// Returns the numbers of the values that the owning iterator yields. `Err`: no memory.
 pub(crate) fn handed<T: AtomicValue, A: Allocator + Copy>(
     table: LockFreeRawTable<T, A>,
     alloc: Global,
@@ -175,12 +175,12 @@ where
     Ok(numbers)
 }
 
-/// Both are the same.
+/// Asserts that `seen` equals `expected`.
 pub(crate) fn assert_same<X: PartialEq + Debug + Drop>(rt: &impl Abort, seen: X, expected: X) {
     assert_eq!(rt; seen, expected);
 }
 
-/// Inserts the number, which is told so.
+/// Inserts the number, and asserts that the answer is `told`.
 pub(crate) fn assert_told<R: Abort + Wait, T: Inserts>(rt: &R, table: &T, number: u64, told: Told) {
     assert_eq!(rt; table.insert(rt, number), told, "{number}");
 }

@@ -1,4 +1,4 @@
-//! Threads that insert at once.
+//! Tests of threads that insert at once.
 use super::numbers::{Boxed, assert_same};
 use std::alloc::Global;
 use std::process::Abort;
@@ -8,7 +8,7 @@ use testkit::counting::asked::Lawful;
 use testkit::counting::numbers::{fill_at_once, seen, those_below};
 use testkit::counting::tally::Tally;
 
-/// How many numbers there are where a table grows.
+/// How many numbers are inserted while a table grows.
 const NUMBERS: u64 = 6000;
 
 #[test]
@@ -22,8 +22,7 @@ fn equal_values_at_once(rt: HostRuntime) {
     assert_same(&rt, seen(&table, 300), those_below(300));
 }
 
-/// Each thread inserts the numbers from a first one of its own on. All of them are placed once, and found by the other threads:
-/// so often.
+/// Inserts each part by a thread of its own. Asserts that each number is placed once, and that `found` inserts find their number.
 fn assert_filled<R: Abort + Threads + Wait + Sync>(
     rt: &R,
     alloc: Global,

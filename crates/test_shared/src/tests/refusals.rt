@@ -1,4 +1,4 @@
-//! Each request for memory refused in turn.
+//! A test in which each request for memory of a shared table is refused in turn.
 use super::numbers::{Boxed, assert_same};
 use std::alloc::Global;
 use std::sync::Wait;
@@ -6,15 +6,15 @@ use testkit::counting::asked::Lawful;
 use testkit::counting::numbers::{refused_in_turn, refused_inserts};
 use testkit::refusing::{Refusing, Rule};
 
-/// How many numbers are inserted: a growth from 16 buckets to 32 lies among them.
+/// How many numbers are inserted. The table grows from 16 buckets to 32, and then to 64.
 const NUMBERS: u64 = 17;
 
-/// The requests whose refusal an insert is told: one block a number, and for the first generation its marks, its words, its block,
-/// the words for the later ones, the room to take those out, and the block of both. A later growth that is refused changes
-/// no answer, since the number was placed.
+/// How many requests make an insert fail if they are refused: the block of each number, and six for the first generation. The six are its
+/// marks, its words, its own block, the words for later generations, the room to take those generations out, and the block of these words
+/// and this room. A refused growth changes no answer, since the number was placed before.
 const TOLD: u64 = NUMBERS + 6;
 
-/// How many of the inserts were refused, where one request after `passing` many is refused.
+/// Inserts the numbers while the request after `passing` ones is refused. Returns how many are refused, or `None` after a wrong answer.
 fn refused<R: Wait + AllocGlobal>(rt: &R, passing: u64) -> Option<u64> {
     let memory = Refusing::new(rt.alloc(), Rule::new(0, usize::MAX, passing, 1));
     let table: Boxed<&Refusing<Global>> = Boxed::new(&memory, rt.alloc(), Lawful::Spread);

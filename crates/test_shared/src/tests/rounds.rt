@@ -1,4 +1,4 @@
-//! Threads that give values at once: none is lost or there twice.
+//! Tests of threads that insert values at once: no value is lost, and none is stored twice.
 use super::numbers::assert_same;
 use std::alloc::Global;
 use std::process::Abort;
@@ -6,8 +6,7 @@ use std::sync::Wait;
 use std::thread::Threads;
 use testkit_rounds::{Account, Kind, Round, run_round};
 
-/// Rounds whose closures keep a law: what the threads do, how many they are, how many values each gives, the first
-/// capacity, and how many of the values differ.
+/// Rounds with lawful closures: the kind, the threads, the values of each, the first capacity, and the number of different values.
 const LAWFUL: [(Kind, u64, u64, usize, u64); 9] = [
     (Kind::Overlapping, 2, 6000, 16, 9000),
     (Kind::Overlapping, 4, 3000, 128, 7500),
@@ -20,8 +19,7 @@ const LAWFUL: [(Kind, u64, u64, usize, u64); 9] = [
     (Kind::Beside, 8, 1000, 64, 4500),
 ];
 
-/// Rounds of four threads whose closures keep none, or whose memory is refused at random: which, how many values each gives,
-/// the first capacity, and the seed.
+/// Rounds of four threads with unlawful closures or refused memory: the kind, the values of each thread, the first capacity, and the seed.
 const OF_FOUR: [(Kind, u64, usize, u64); 11] = [
     (Kind::Careless, 2000, 16, 1),
     (Kind::Careless, 2000, 32, 3),
@@ -36,13 +34,13 @@ const OF_FOUR: [(Kind, u64, usize, u64); 11] = [
     (Kind::Refused, 100, 16, 5),
 ];
 
-/// How many values became one thing.
+/// Returns how many values were placed, found or refused.
 fn values_of(account: Account) -> u64 {
     let back = account.found.wrapping_add(account.refused);
     account.placed.wrapping_add(back)
 }
 
-/// Runs the round: no fault is found, and each value became one thing.
+/// Runs the round and returns its account. Asserts that it has no fault, and that it counts each value as placed, found or refused.
 fn assert_round<R: Abort + Threads + Wait + Sync>(rt: &R, alloc: Global, round: Round) -> Account {
     match run_round(rt, alloc, round) {
         Ok(account) if values_of(account) == round.values() => account,
@@ -78,8 +76,7 @@ fn one_thread_loses_no_exchange(rt: HostRuntime) {
     assert_same(&rt, [account.placed, account.given_back], [3000, 0]);
 }
 
-/// Values were placed; and in rounds whose closures keep no law some were found and none was refused, in others some were
-/// refused.
+/// Checks that each round places values, that rounds with unlawful closures find some and refuse none, and that the others refuse some.
 #[test]
 fn closures_that_lie_and_memory_refused_at_random(rt: HostRuntime) {
     for (kind, each, first_capacity, seed) in OF_FOUR {
@@ -105,7 +102,7 @@ fn closures_that_lie_and_memory_refused_at_random(rt: HostRuntime) {
     }
 }
 
-/// How many rounds are drawn, and how many values the largest has.
+/// How many rounds are drawn, and how many values a round has at most.
 const DRAWN: (u64, u64) = (60, 4000);
 
 #[test]

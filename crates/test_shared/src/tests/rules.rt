@@ -1,4 +1,4 @@
-//! The allocator of these tests: requests that are refused by lot, that are refused from now on, and that wait for one another.
+//! Tests of the allocator `Refusing`: requests that it refuses at random or after a call of `refuse`, and requests that wait in pairs.
 use super::numbers::assert_same;
 use std::alloc::{AllocError, Allocator, Global};
 use std::sync::atomic::{AtomicU64, Ordering};
@@ -6,10 +6,10 @@ use std::thread;
 use testkit::refusing::handover::MOST_LOOKS;
 use testkit::refusing::{Refusing, Rule};
 
-/// How many requests a lot is asked about.
+/// How many requests are made under a rule that refuses at random.
 const REQUESTS: u64 = 6000;
 
-/// Seeds, one request in how many is drawn, and how many are refused at least and at most.
+/// The seed and the `one_in` of a rule that refuses at random, and how many requests are refused at least and at most.
 const LOTS: [(u64, u64, u64, u64); 5] = [
     (1, 0, 6000, 6000),
     (1, 1, 6000, 6000),
@@ -18,16 +18,16 @@ const LOTS: [(u64, u64, u64, u64); 5] = [
     (3, 100, 30, 90),
 ];
 
-/// How many requests meet another one.
+/// How many pairs of requests wait for each other at most.
 const PAIRS: u64 = 200;
 
-/// Whether a request of so many bytes is granted. The block is given back.
+/// Returns whether the allocator grants a request of `bytes` bytes. The block is freed again.
 fn grants<A: Allocator + Copy>(alloc: A, bytes: usize) -> bool {
     let block: Result<Vec<u8, A>, AllocError> = Vec::with_capacity(alloc, bytes);
     block.is_ok()
 }
 
-/// How many of so many requests are refused.
+/// Makes `requests` requests, and returns how many of them are refused.
 fn count_refused(heap: &Refusing<Global>, requests: u64) -> u64 {
     let mut refused = 0u64;
     for _request in 0..requests {
@@ -38,7 +38,7 @@ fn count_refused(heap: &Refusing<Global>, requests: u64) -> u64 {
     refused
 }
 
-/// Of so many requests the rule refuses as many as it may, and grants the others.
+/// Checks that the number of requests refused at random is within its bounds, and that the others are granted.
 #[test]
 fn so_many_are_refused_by_lot(rt: HostRuntime) {
     for (seed, one_in, least, most) in LOTS {
@@ -74,7 +74,7 @@ fn a_lot_refuses_no_more_than_the_rule(rt: HostRuntime) {
     );
 }
 
-/// From now on so many requests pass and so many are refused: requests of 8 bytes, one after the other, are answered so.
+/// The arguments of a call of `refuse`, and whether each of the next requests of 8 bytes is granted.
 const ANSWERS: [(u64, u64, &[bool]); 4] = [
     (0, 0, &[true, true]),
     (1, 2, &[true, false, false, true]),
@@ -82,7 +82,7 @@ const ANSWERS: [(u64, u64, &[bool]); 4] = [
     (0, 0, &[true, true]),
 ];
 
-/// How many requests of 8 bytes are answered so.
+/// Makes requests of 8 bytes. Returns how many of them are granted or refused as `answers` says.
 fn count_answered(heap: &Refusing<Global>, answers: &[bool]) -> u64 {
     let mut answered = 0u64;
     for granted in answers {
@@ -105,7 +105,7 @@ fn requests_are_refused_from_now_on(rt: HostRuntime) {
     }
 }
 
-/// A thread asks in turn, and says so before. Whether each answer came once the other had said so as often.
+/// Makes requests, and stores the number of each in `said` before. Returns whether each was granted after `other` had this number too.
 fn asks_in_pairs(heap: &Refusing<Global>, said: &AtomicU64, other: &AtomicU64) -> bool {
     for asked in 1..PAIRS {
         said.store(asked, Ordering::SeqCst);

@@ -1,4 +1,4 @@
-//! A table held alone that is shared: what it shows, what is set through `&` beside that, and that each value is dropped once.
+//! Tests of a single-owner table that becomes shared: its entries, buckets that are set through `&` later, and the drops of its values.
 use super::numbers::assert_same;
 use lock_free_hashtable::raw::{HeldRawTable, LockFreeRawTable, Share};
 use std::alloc::{AllocError, Global};
@@ -18,17 +18,17 @@ type Held<'a> = HeldRawTable<Box<Counting>, Memory<'a>>;
 
 type Shared<'a> = LockFreeRawTable<Box<Counting>, Memory<'a>>;
 
-/// Entries of a table held alone, and how many values are set through `&` once it is shared.
+/// The number of entries of a single-owner table, and how many values are set through `&` after it became shared.
 const TABLES: [(u64, u64); 6] = [(0, 0), (1, 0), (1, 1), (7, 9), (20, 0), (40, 24)];
 
-/// A table held alone into which the first numbers were placed.
+/// Makes a single-owner table of the first `entries` numbers. `Err`: no memory.
 fn held<'a>(heap: Memory<'a>, entries: u64, drops: &Drops) -> Result<Held<'a>, AllocError> {
     let mut table = HeldRawTable::new(heap);
     drops.place_in(&mut table, entries)?;
     Ok(table)
 }
 
-/// Sets the first vacant bucket of the current generation to the value. Whether there was one.
+/// Sets the first vacant bucket of the current generation to the value. Returns whether there was one and it was set.
 fn sets(table: &Shared<'_>, value: Box<Counting>) -> bool {
     let Some(current) = table.current(&mut table.note()) else {
         return false;
@@ -49,7 +49,7 @@ fn sets(table: &Shared<'_>, value: Box<Counting>) -> bool {
     false
 }
 
-/// Sets buckets through `&` to the numbers from one on up to another: how many were set.
+/// Sets buckets through `&` to the numbers from `from` up to `to`, exclusive. Returns how many were set. `Err`: no memory.
 fn set_more(table: &Shared<'_>, from: u64, to: u64, drops: &Drops) -> Result<u64, AllocError> {
     let mut set = 0u64;
     for number in from..to {
@@ -59,7 +59,7 @@ fn set_more(table: &Shared<'_>, from: u64, to: u64, drops: &Drops) -> Result<u64
     Ok(set)
 }
 
-/// The numbers that a walk shows.
+/// Returns the numbers that an iterator by reference yields. `Err`: no memory.
 fn walked(table: &Shared<'_>, alloc: Global) -> Result<Vec<u64>, AllocError> {
     let mut seen = Vec::new(alloc);
     for entry in table {
@@ -68,13 +68,13 @@ fn walked(table: &Shared<'_>, alloc: Global) -> Result<Vec<u64>, AllocError> {
     Ok(seen)
 }
 
-/// These are the first numbers, each once.
+/// Asserts that these are the first `numbers` numbers, each once.
 fn assert_first(rt: &impl Abort, seen: Vec<u64>, numbers: u64) {
     let (length, first) = count_first(seen);
     assert_same(rt, [length, first], [numbers, numbers]);
 }
 
-/// What a table hands out, and nothing after its end: how many values it said, and their numbers.
+/// Returns the length of the owning iterator, whether it stays at its end, and the numbers that it yields. `Err`: no memory.
 fn handed_to_the_end(
     table: Shared<'_>,
     alloc: Global,
@@ -88,7 +88,7 @@ fn handed_to_the_end(
     Ok((length, values.next().is_none(), seen))
 }
 
-/// The table hands out each of the first numbers once, or is dropped.
+/// Asserts that the owning iterator yields the first `numbers` numbers, or drops the table unless `is_handed`. `Err`: no memory.
 fn assert_ended(
     rt: &impl Abort,
     table: Shared<'_>,
@@ -104,8 +104,8 @@ fn assert_ended(
     Ok(())
 }
 
-/// A table of so many entries is shared, and so many values more are set. None is lost, and no memory is asked for but for
-/// the values set.
+/// Shares a table of `entries` entries, sets `more` values through `&`, and ends the table. Asserts that each value is an entry and is
+/// dropped once, and that only the set values request memory. `Err`: no memory.
 fn assert_shared(
     rt: &impl Abort,
     alloc: Global,
@@ -145,7 +145,7 @@ fn a_shared_table_shows_and_hands_out_each_value_once(rt: HostRuntime) -> Result
     Ok(())
 }
 
-/// Whether the new table has no generation, and neither shows nor hands out anything.
+/// Returns whether the table has no generation, and neither kind of iterator yields anything.
 fn has_nothing(table: LockFreeRawTable<Box<u64>>) -> bool {
     let has_none = table.is_empty() && table.current(&mut table.note()).is_none();
     let shows_none = table.iter().next().is_none();

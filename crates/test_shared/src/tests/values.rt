@@ -1,4 +1,4 @@
-//! Values of other kinds in a table that threads share, and many of them.
+//! Tests of other kinds of values in a table that threads share, and of a million values.
 use super::numbers::{Boxed, Inserts, Numbers, Shared, Told, assert_same, handed};
 use lock_free_hashtable::InPlace;
 use std::alloc::{AllocError, Global};
@@ -11,7 +11,7 @@ use testkit::counting::made::Made;
 use testkit::counting::numbers::{count_first, fill, seen, those_below};
 use testkit::counting::tally::{Tally, Work, at_once};
 
-/// The numbers below `count`, as values of this kind: each is placed and found, the walk shows them, and the table hands them out.
+/// Inserts the numbers below `count` as values of this kind, and asserts that look-ups and iterators find each. `Err`: no memory.
 fn assert_holds<R: Abort + Wait, T: Made>(
     rt: &R,
     alloc: Global,
@@ -46,7 +46,7 @@ fn a_million_numbers(rt: HostRuntime) -> Result<(), Fail> {
     Ok(())
 }
 
-/// Threads that insert each its own number, or look for those of all.
+/// The work of two threads: each inserts its own number, or looks up the numbers of both.
 #[derive(Drop)]
 struct Joined<'a> {
     table: &'a Boxed<Global>,

@@ -1,4 +1,4 @@
-//! An insert that waits for the lock while another thread grows the table.
+//! A test of an insert that waits for the lock while another thread grows the table.
 use super::numbers::{Boxed, Inserts, assert_same};
 use std::alloc::Global;
 use std::process::Abort;
@@ -10,20 +10,20 @@ use testkit::counting::numbers::{Told, fill, seen, those_below};
 use testkit::counting::tally::{Tally, Work, at_once};
 use testkit::refusing::handover::Handover;
 
-/// The first number by which a table grows that has all below it.
+/// The number whose insert grows a table that has all numbers below it.
 const GROWS: u64 = 7;
 
-/// How often the tables are grown so.
+/// How many tables are grown.
 const ROUNDS: u64 = 20;
 
-/// A table, and what the two threads say: that one copies, and that the other one is about to insert.
+/// A table, and the signs of two threads: that one copies entries, and that the other is about to insert.
 #[derive(Drop)]
 struct Growing {
     table: Boxed<Global>,
     signs: Handover,
 }
 
-/// The growth is told the hash of a number once the other thread has had the time to come to the lock.
+/// Growth gets a hash only after the other thread has had the time to come to the lock.
 impl Asked for Growing {
     fn hash(&self, number: u64) -> u64 {
         self.signs.hand_over();
@@ -32,7 +32,7 @@ impl Asked for Growing {
 }
 
 impl Growing {
-    /// Inserts the next number while the other thread copies.
+    /// Inserts the next number while the other thread copies entries, and returns the answer.
     fn insert_meanwhile<R: Wait>(&self, rt: &R) -> Told {
         self.signs.take_over();
         self.table.insert(rt, GROWS.wrapping_add(1))
@@ -49,7 +49,7 @@ impl Work for Growing {
     }
 }
 
-/// A table is grown by one thread, and another one inserts meanwhile: both numbers are entries afterwards.
+/// Grows a table by one thread while another one inserts, and asserts that both numbers are entries afterwards.
 fn assert_waits<R: Abort + Threads + Wait + Sync>(rt: &R, alloc: Global) {
     let growing = Growing {
         table: Boxed::new(alloc, alloc, Lawful::Spread),

@@ -1,4 +1,4 @@
-//! Interners in memory that counts, and numbered texts.
+//! Interners on memory that counts its blocks, and numbered texts.
 use shared_interner::{SharedInterner, Symbol};
 use std::alloc::{AllocError, Global};
 use std::fmt::Debug;
@@ -9,27 +9,27 @@ pub(crate) type Heap = Refusing<Global>;
 
 pub(crate) type Interner<'h> = SharedInterner<&'h Heap>;
 
-/// Asserts that both are equal.
+/// Asserts that `got` equals `expected`.
 pub(crate) fn assert_same<X: PartialEq + Debug + Drop>(rt: &impl Abort, got: X, expected: X) {
     assert_eq!(rt; got, expected);
 }
 
-/// Returns memory that grants all that is asked of it, and counts.
+/// Returns memory that grants each request and counts its blocks.
 pub(crate) fn counted(alloc: Global) -> Heap {
     Refusing::new(alloc, Rule::new(0, usize::MAX, 0, 0))
 }
 
-/// Makes an empty interner that has room for so many texts.
+/// Makes an empty interner with room for `room` texts.
 pub(crate) fn interner_with<'h>(rt: &impl Abort, heap: &'h Heap, room: usize) -> Interner<'h> {
     SharedInterner::with_capacity(heap, room).expect(rt, "an interner")
 }
 
-/// Asserts that each block that was granted was given back.
+/// Asserts that each granted block was freed.
 pub(crate) fn assert_none_out(rt: &impl Abort, heap: &Heap) {
     assert_same(rt, heap.given_back(), heap.granted());
 }
 
-/// Returns the text of this number. Every third text is long.
+/// Returns the text of this number. Every third text is long. `Err` means no memory.
 pub(crate) fn text_of(alloc: Global, number: u64) -> Result<String, AllocError> {
     if number % 3 == 0 {
         format!(in alloc; "a text that lies in a block of its own, {number}")
@@ -38,7 +38,7 @@ pub(crate) fn text_of(alloc: Global, number: u64) -> Result<String, AllocError> 
     }
 }
 
-/// Returns the first so many texts, each by its number.
+/// Returns the texts of the numbers below `count`. `Err` means no memory.
 pub(crate) fn texts_below(alloc: Global, count: u64) -> Result<Vec<String>, AllocError> {
     let mut texts = Vec::new(alloc);
     for number in 0..count {
@@ -47,7 +47,7 @@ pub(crate) fn texts_below(alloc: Global, count: u64) -> Result<Vec<String>, Allo
     Ok(texts)
 }
 
-/// Interns the texts, and returns their symbols.
+/// Interns the texts, and returns their symbols. `Err` means no memory.
 pub(crate) fn symbols_of(
     alloc: Global,
     interner: &Interner<'_>,
@@ -60,7 +60,7 @@ pub(crate) fn symbols_of(
     Ok(symbols)
 }
 
-/// Asserts that the text has this symbol, by each call, and that the symbol gives it back.
+/// Asserts that each call returns this symbol for the text, and this text for the symbol.
 pub(crate) fn assert_named(rt: &impl Abort, interner: &Interner<'_>, text: &str, symbol: Symbol) {
     assert_same(rt, interner.get(text), Some(symbol));
     assert_same(rt, interner.intern(text).ok(), Some(symbol));

@@ -10,7 +10,7 @@ use std::test::Fail;
 /// How many texts there are.
 const TEXTS: u64 = 10_000;
 
-/// Interns each text by one handle, and returns the symbols. The first symbol gives its text back all along.
+/// Interns each text by one handle, and returns the symbols. Asserts that the first symbol keeps its text. `Err` means no memory.
 fn fill(
     rt: &impl Abort,
     alloc: Global,
@@ -27,7 +27,7 @@ fn fill(
     Ok(symbols)
 }
 
-/// Each symbol gives its text back after growth, and each text has its symbol.
+/// Checks that each symbol has its text after growth, and each text its symbol.
 #[test]
 fn symbols_give_their_texts_back_after_growth(rt: HostRuntime) -> Result<(), Fail> {
     let texts = texts_below(rt.alloc(), TEXTS)?;
@@ -42,7 +42,7 @@ fn symbols_give_their_texts_back_after_growth(rt: HostRuntime) -> Result<(), Fai
     Ok(())
 }
 
-/// A handle that is told what another knows finds its texts.
+/// Checks that a handle that hears what another one knows finds its texts.
 #[test]
 fn a_handle_hears_of_texts(rt: HostRuntime) -> Result<(), Fail> {
     let heap = counted(rt.alloc());

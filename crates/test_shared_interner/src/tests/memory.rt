@@ -1,4 +1,4 @@
-//! Memory that is refused.
+//! Interners whose requests for memory are refused.
 use super::caller::{
     Heap, Interner, assert_has, assert_named, assert_none_out, assert_same, counted, interner_with,
     symbols_of, texts_below,
@@ -12,7 +12,7 @@ use testkit::refusing::{Refusing, Rule};
 /// How many texts a run interns.
 const TEXTS: u64 = 60;
 
-/// Makes an interner, tried again if a request is refused.
+/// Makes an interner, and tries again if a request is refused. Asserts that a refused try leaves no memory allocated.
 fn made_at_last<'h>(rt: &impl Abort, heap: &'h Heap) -> Interner<'h> {
     match SharedInterner::new(heap) {
         Ok(interner) => interner,
@@ -23,7 +23,7 @@ fn made_at_last<'h>(rt: &impl Abort, heap: &'h Heap) -> Interner<'h> {
     }
 }
 
-/// Interns the text, tried again if a request is refused. Then the text is not there, and the number of texts is what it was.
+/// Interns the text, and tries again if a request is refused. Asserts that a refused call adds no text.
 fn intern_at_last(rt: &impl Abort, interner: &Interner<'_>, text: &str) -> Symbol {
     let before = interner.len();
     match interner.intern(text) {
@@ -35,7 +35,8 @@ fn intern_at_last(rt: &impl Abort, interner: &Interner<'_>, text: &str) -> Symbo
     }
 }
 
-/// A run in which so many requests are granted, and the next one is refused. Each text gets its symbol. Returns true if one was refused.
+/// Interns the texts while the request after the first `granted` ones is refused. Asserts that each text has its symbol at last. Returns
+/// whether a request was refused. `Err` means no memory.
 fn run(rt: &impl Abort, alloc: Global, texts: &[String], granted: u64) -> Result<bool, AllocError> {
     let heap = Refusing::new(alloc, Rule::new(0, usize::MAX, granted, 1));
     let interner = made_at_last(rt, &heap);
@@ -50,7 +51,7 @@ fn run(rt: &impl Abort, alloc: Global, texts: &[String], granted: u64) -> Result
     Ok(left == 0)
 }
 
-/// Returns how many requests can be granted before one is refused.
+/// Refuses each request of a run in turn. Returns how many requests a run makes, at most 200. `Err` means no memory.
 fn run_each(rt: &impl Abort, alloc: Global) -> Result<u64, AllocError> {
     let texts = texts_below(alloc, TEXTS)?;
     for granted in 0..200 {
@@ -68,7 +69,7 @@ fn each_request_refused_in_turn(rt: HostRuntime) -> Result<(), Fail> {
     Ok(())
 }
 
-/// Without memory a text that is there has its symbol, which gives it back, and a new one is refused. Nobody asks for memory for the others.
+/// Checks that calls on known texts make no request for memory, and that a new text is refused without memory.
 #[test]
 fn a_known_text_needs_no_memory(rt: HostRuntime) -> Result<(), Fail> {
     let heap = counted(rt.alloc());

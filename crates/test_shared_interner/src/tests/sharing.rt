@@ -1,4 +1,4 @@
-//! Interners of one owner that are shared.
+//! Single-owner interners that are copied into shared ones.
 use super::caller::{assert_has, assert_none_out, assert_same, counted, texts_below};
 use interner::Interner as Texts;
 use shared_interner::{Shared, SharedInterner, Symbol};
@@ -8,10 +8,10 @@ use std::process::Abort;
 use std::test::Fail;
 use testkit::refusing::{Refusing, Rule};
 
-/// How many texts are copied: none, one, as many as need a hundred requests, and so many that the interner of one owner has grown.
+/// How many texts are copied. With 10,000 texts the single-owner interner has grown.
 const COUNTS: [u32; 4] = [0, 1, 100, 10_000];
 
-/// Returns an interner of one owner that has these texts.
+/// Makes a single-owner interner of these texts. `Err` means no memory.
 fn filled(rt: &impl Abort, alloc: Global, texts: &[String]) -> Result<Texts, AllocError> {
     let mut filled: Texts = Texts::new(alloc);
     let mut number: u32 = 0;
@@ -23,7 +23,7 @@ fn filled(rt: &impl Abort, alloc: Global, texts: &[String]) -> Result<Texts, All
     Ok(filled)
 }
 
-/// Returns the symbols of the numbers from one to this one.
+/// Returns the symbols of the numbers 1 to `count`. `Err` means no memory.
 fn symbols_to(rt: &impl Abort, alloc: Global, count: u32) -> Result<Vec<Symbol>, AllocError> {
     let mut symbols = Vec::new(alloc);
     for number in 0..count {
@@ -32,8 +32,8 @@ fn symbols_to(rt: &impl Abort, alloc: Global, count: u32) -> Result<Vec<Symbol>,
     Ok(symbols)
 }
 
-/// Copies an interner of one owner that has so many texts. Asserts that each keeps its number, that a handle that hears of them knows them, and
-/// that a new text gets another symbol.
+/// Copies a single-owner interner of `count` texts. Asserts that each text keeps its number, that a handle that hears of the texts knows
+/// them, and that a new text gets a new symbol. `Err` means no memory.
 fn assert_copied(rt: &impl Abort, alloc: Global, count: u32) -> Result<(), AllocError> {
     let texts = texts_below(alloc, u64::from(count))?;
     let symbols = symbols_to(rt, alloc, count)?;
@@ -62,10 +62,10 @@ fn texts_keep_their_numbers(rt: HostRuntime) -> Result<(), Fail> {
     Ok(())
 }
 
-/// How many texts are copied where a request is refused.
+/// How many texts are copied while a request is refused.
 const FEW: u32 = 100;
 
-/// Each request is refused in turn, and then nothing is left.
+/// Checks that a copy leaves no memory allocated, with each request refused in turn.
 #[test]
 fn a_refused_copy_leaves_nothing(rt: HostRuntime) -> Result<(), Fail> {
     let texts = texts_below(rt.alloc(), u64::from(FEW))?;

@@ -5,7 +5,7 @@ use std::mem::size_of;
 use std::process::Abort;
 use std::test::Fail;
 
-/// Numbers of symbols that nobody was given.
+/// Numbers of symbols that no text has.
 const NONE: [u32; 4] = [1000, 1 << 20, u32::MAX - 1, u32::MAX];
 
 #[test]
@@ -21,7 +21,7 @@ fn symbols_are_numbers_above_zero(rt: HostRuntime) {
     assert_same(&rt, size_of::<Text>(), 24);
 }
 
-/// Asserts that no text has a symbol of these numbers, by each call.
+/// Asserts that each call returns no text for the symbols of these numbers.
 fn assert_none(rt: &impl Abort, interner: &SharedInterner) {
     let mut names = interner.names();
     for number in NONE {
@@ -31,7 +31,7 @@ fn assert_none(rt: &impl Abort, interner: &SharedInterner) {
     }
 }
 
-/// A symbol that nobody was given has no text, before the first text and after it.
+/// Checks that an unknown symbol has no text, before the first text is interned and after it.
 #[test]
 fn unknown_symbols_have_no_text(rt: HostRuntime) -> Result<(), Fail> {
     let interner = SharedInterner::new(rt.alloc())?;
@@ -41,7 +41,7 @@ fn unknown_symbols_have_no_text(rt: HostRuntime) -> Result<(), Fail> {
     Ok(())
 }
 
-/// A symbol that was sent as a number is the same symbol.
+/// Checks that a symbol can be made again from its number, and that it has the same text.
 #[test]
 fn a_symbol_comes_back_from_its_number(rt: HostRuntime) -> Result<(), Fail> {
     let interner = SharedInterner::new(rt.alloc())?;

@@ -42,7 +42,7 @@ const TEXTS: [&str; 32] = [
     "\u{1f600}\u{1f600}\u{1f600}\u{1f600}\u{1f600}\u{1f600}",
 ];
 
-/// Interns each text, which is new, and returns the symbols.
+/// Interns each text, asserts that it is new, and returns the symbols. `Err` means no memory.
 fn intern_each(
     rt: &impl Abort,
     alloc: Global,
@@ -56,7 +56,7 @@ fn intern_each(
     Ok(symbols)
 }
 
-/// Each symbol gives its text back, so no two texts have one symbol.
+/// Checks that each symbol has its text, so that no two texts have the same symbol.
 #[test]
 fn each_text_has_a_symbol_that_gives_it_back(rt: HostRuntime) -> Result<(), Fail> {
     let heap = counted(rt.alloc());
@@ -73,7 +73,7 @@ fn each_text_has_a_symbol_that_gives_it_back(rt: HostRuntime) -> Result<(), Fail
     Ok(())
 }
 
-/// Interns the text, and shows what its symbol gives back.
+/// Interns the text, and returns the text of its symbol. `None` means that memory was refused.
 fn shown<'s>(names: &mut Names<'s>, text: &str) -> Option<&'s str> {
     match names.intern(text) {
         Ok(symbol) => Some(names.known_text(symbol)),
@@ -81,7 +81,7 @@ fn shown<'s>(names: &mut Names<'s>, text: &str) -> Option<&'s str> {
     }
 }
 
-/// A symbol that a handle knows gives its text back without a test.
+/// Checks that `known_text` returns the text of a symbol that the handle knows.
 #[test]
 fn known_symbols_give_their_texts_back(rt: HostRuntime) -> Result<(), Fail> {
     let interner = SharedInterner::new(rt.alloc())?;
@@ -96,7 +96,7 @@ fn known_symbols_give_their_texts_back(rt: HostRuntime) -> Result<(), Fail> {
 /// How many bytes a long text has.
 const LONG: usize = 100_000;
 
-/// A text of a hundred thousand bytes is a text like others.
+/// Checks that a text of a hundred thousand bytes has a symbol.
 #[test]
 fn a_long_text_has_a_symbol(rt: HostRuntime) -> Result<(), Fail> {
     let interner = SharedInterner::new(rt.alloc())?;

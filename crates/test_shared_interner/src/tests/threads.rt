@@ -17,7 +17,7 @@ const TEXTS: u64 = 500;
 /// How many threads there are.
 const THREADS: usize = 4;
 
-/// Interns each text. Each thread begins with another one, and two of them have no handle.
+/// Interns each text. Each thread begins with another text, and two of the threads intern without a handle. `Err` means no memory.
 fn intern_from(interner: &Interner<'_>, texts: &[String], thread: usize) -> Result<(), AllocError> {
     let mut names = interner.names();
     let first = thread % THREADS * 125;
@@ -31,7 +31,7 @@ fn intern_from(interner: &Interner<'_>, texts: &[String], thread: usize) -> Resu
     Ok(())
 }
 
-/// Interns each text, and then returns the symbols in the order of the texts.
+/// Interns each text, and then returns the symbols in the order of the texts. `Err` means no memory.
 fn symbols_by(
     interner: &Interner<'_>,
     alloc: Global,
@@ -42,7 +42,7 @@ fn symbols_by(
     symbols_of(alloc, interner, texts)
 }
 
-/// All threads have the same symbols, and there is one of each text.
+/// Lets threads intern the same texts. Asserts that all threads get the same symbols, one for each text. `Err` means no memory.
 fn assert_one_symbol<R: Threads + Abort + Sync>(rt: &R, alloc: Global) -> Result<(), AllocError> {
     let heap = counted(alloc);
     let interner = interner_with(rt, &heap, 0);
@@ -70,10 +70,10 @@ fn threads_have_one_symbol_of_a_text(rt: HostRuntime) -> Result<(), Fail> {
     Ok(())
 }
 
-/// The texts that two threads are given at once: one that lies in the slot of its entry, and one that doesn't.
+/// The texts that two threads intern at once. The first lies in the slot of its entry, and the second in a block of its own.
 const GIVEN: [&str; 2] = ["a", "a text that lies in a block of its own"];
 
-/// Two threads that intern one text at once are given one symbol. A handle that hears of it knows the text.
+/// Checks that two threads that intern one text at once get one symbol, and that a handle that hears of it knows the text.
 #[test]
 fn two_threads_are_given_one_symbol(rt: HostRuntime) -> Result<(), Fail> {
     let heap = counted(rt.alloc());
@@ -92,7 +92,7 @@ fn two_threads_are_given_one_symbol(rt: HostRuntime) -> Result<(), Fail> {
     Ok(())
 }
 
-/// Where a request of one of them is refused, nothing is left.
+/// Checks that no memory stays allocated if a request of one of two threads is refused.
 #[test]
 fn two_threads_leave_nothing_where_memory_is_refused(rt: HostRuntime) {
     let mut refused: u64 = 0;

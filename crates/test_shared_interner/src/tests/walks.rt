@@ -7,7 +7,7 @@ use std::alloc::{AllocError, Global};
 use std::process::Abort;
 use std::test::Fail;
 
-/// How many texts there are, and how many of them are known as a walk begins.
+/// How many texts there are, and how many of them are known when a walk begins.
 const WALKS: [(u64, usize); 7] = [
     (0, 0),
     (1, 1),
@@ -18,8 +18,8 @@ const WALKS: [(u64, usize); 7] = [
     (1000, 100),
 ];
 
-/// Interns the first so many texts, and returns what a walk gives. At each step another handle is told what the walk knows, and interns one
-/// of the other texts, as long as there are any.
+/// Interns the first `known` texts, and returns what a walk returns. At each step another handle hears what the walk knows, and interns one
+/// of the other texts, if any is left. `Err` means no memory.
 fn walked<'i>(
     rt: &impl Abort,
     alloc: Global,
@@ -47,7 +47,7 @@ fn walked<'i>(
     Ok(pairs)
 }
 
-/// Asserts that the pairs are texts with their symbols, that none comes twice, and that each of the first so many texts comes.
+/// Asserts that each pair is a text with its symbol, that no pair comes twice, and that each of the first `known` texts comes.
 fn assert_once(
     rt: &impl Abort,
     pairs: &[(Symbol, &str)],
@@ -65,7 +65,7 @@ fn assert_once(
     assert_same(rt, met, pairs.len());
 }
 
-/// Asserts that a walk gives each text once that was known as it began, and no other text twice.
+/// Asserts that a walk returns each text once that was known when it began, and no other text twice. `Err` means no memory.
 fn assert_walk(
     rt: &impl Abort,
     alloc: Global,
@@ -79,7 +79,7 @@ fn assert_walk(
     Ok(())
 }
 
-/// A walk gives each text with its symbol, also while texts are interned and the interner grows.
+/// Checks that a walk returns each text with its symbol, also while texts are interned and the interner grows.
 #[test]
 fn a_walk_gives_each_text_once(rt: HostRuntime) -> Result<(), Fail> {
     for (count, known) in WALKS {

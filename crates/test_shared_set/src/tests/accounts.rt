@@ -1,4 +1,4 @@
-//! Accounts of what was placed.
+//! Accounts of the values that were placed.
 ghost use Rattle.std.specs.Prelude.{◌≡◌, IfSome, length};
 
 use super::caller::{Heap, Numbering, Numbers, assert_none_out, assert_same, counted, set_with};
@@ -16,18 +16,19 @@ type Numbered<'h> = Account<u64, NumberLaw, &'h Heap>;
 /// How many threads insert a list each.
 const LISTS: u64 = 3;
 
-/// How many numbers a list has. Lists beside each other share half of theirs.
+/// How many numbers a list has. Each list shares half of its numbers with the next one.
 const EACH: u64 = 100;
 
-/// How many different numbers the lists have, and how many are in two lists.
+/// How many different numbers the lists have.
 const DIFFERENT: u64 = 200;
 
+/// How many numbers are in two lists.
 const TWICE: u64 = 100;
 
-/// Runs grant fewer requests than this before all are refused.
+/// A run grants fewer requests than this, and refuses all later ones.
 const GRANTED: u64 = 60;
 
-/// Inserts a number, and adds its receipt to the account. Returns true if it was placed.
+/// Inserts the number, and adds its receipt to the account. Returns whether it was placed.
 fn place<'h>(handle: &mut Numbering<'_, 'h>, account: &mut Numbered<'h>, number: u64) -> bool
     requires of { handle.old.of ≡ account.old.of }
     ensures of { (handle.new.of ≡ handle.old.of) × (account.new.of ≡ account.old.of) }
@@ -41,7 +42,7 @@ fn place<'h>(handle: &mut Numbering<'_, 'h>, account: &mut Numbered<'h>, number:
     }
 }
 
-/// Places three numbers. Returns the account of them.
+/// Places the numbers 7, 8 and 9. Returns the account of them.
 fn account_of_three<'h>(rt: &impl Abort, set: &Numbers<'h>) -> Numbered<'h>
     ensures { result.of ≡ set.now.of }
 {
@@ -73,7 +74,7 @@ fn assert_shows<'h>(rt: &impl Abort, set: &Numbers<'h>, account: &Numbered<'h>)
     assert_same(rt, found, (true, true, true));
 }
 
-/// Cuts the account, puts the parts together the other way round, and returns it.
+/// Splits the account, and joins its parts in the other order. `None` means that the account is empty.
 fn turned<'h>(rt: &impl Abort, set: &Numbers<'h>, account: Numbered<'h>) -> Option<Numbered<'h>>
     requires { account.of ≡ set.now.of }
     ensures { IfSome result (λ a. a.of ≡ set.now.of) }
@@ -106,7 +107,7 @@ fn accounts_are_cut_and_put_together(rt: HostRuntime) {
     assert_none_out(&rt, &heap);
 }
 
-/// Ends the set. Returns true if the values of the account came out and no others, and how many came out.
+/// Ends the set by `settle`. Returns whether it returned only the values of the account, and how many values it returned.
 fn ended<'h>(set: Numbers<'h>, account: Numbered<'h>) -> (bool, usize)
     requires { account.of ≡ set.of }
 {
@@ -126,7 +127,7 @@ fn a_set_ends_with_what_its_account_has(rt: HostRuntime) {
     assert_none_out(&rt, &heap);
 }
 
-/// Returns the lists.
+/// Returns the lists of numbers that threads insert. `Err` means no memory.
 fn lists(heap: Global) -> Result<Vec<Vec<u64>>, AllocError> {
     let mut all = Vec::new(heap);
     for list in 0..LISTS {
@@ -136,10 +137,10 @@ fn lists(heap: Global) -> Result<Vec<Vec<u64>>, AllocError> {
     Ok(all)
 }
 
-/// How many numbers came out, were found and were refused.
+/// How many numbers were returned at the end, were found, and were refused.
 type Counts = (u64, u64, u64);
 
-/// Returns how many numbers came out, were found and were refused.
+/// Returns how many numbers were returned at the end, were found, and were refused.
 fn counts_of(outcome: &Outcome<u64>) -> Counts {
     (
         outcome.out.len() as u64,
@@ -148,8 +149,8 @@ fn counts_of(outcome: &Outcome<u64>) -> Counts {
     )
 }
 
-/// Lets threads insert the lists into a set of which so many requests are granted. Returns what became of the numbers, or `None` if there was
-/// no memory for the set itself.
+/// Lets threads insert the lists into a set on memory that grants the first `granted` requests and refuses all others. Returns the counts
+/// of the numbers. `None` means that memory for the set itself was refused.
 fn run<R: Threads + Wait + Abort + Sync>(rt: &R, alloc: Global, granted: u64) -> Option<Counts> {
     let heap = counted(alloc);
     heap.refuse(granted, u64::MAX);
@@ -163,7 +164,7 @@ fn run<R: Threads + Wait + Abort + Sync>(rt: &R, alloc: Global, granted: u64) ->
     counts
 }
 
-/// Asserts that each number is counted once, and that no more came out or were found than the lists have.
+/// Asserts that each number of the lists is counted once, and that no more were returned or found than the lists have.
 fn assert_counted(rt: &impl Abort, counts: Counts) {
     let (out, found, refused) = counts;
     let all = out.saturating_add(found).saturating_add(refused);

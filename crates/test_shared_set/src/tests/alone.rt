@@ -1,12 +1,12 @@
-//! One thread.
+//! Sets that one thread calls.
 use super::caller::{
     Numbering, Numbers, Tally, Told, assert_none_out, assert_same, counted, fill, insert, set_with,
     told_of,
 };
 use std::process::Abort;
 
-/// For how many entries a set has room at first, how many numbers are placed, and how far they lie apart: the low 40 bits of the
-/// multiples of 2^40 are 0.
+/// The room of a set at first, how many numbers are placed, and the step from one number to the next. The low 40 bits of multiples of 2^40
+/// are 0.
 const SETS: [(usize, u64, u64); 8] = [
     (0, 20_000, 1),
     (0, 1, 1),
@@ -18,12 +18,12 @@ const SETS: [(usize, u64, u64); 8] = [
     (0, 10_000, 1 << 40),
 ];
 
-/// The most requests that twenty thousand entries may cost. Each doubling of the slots and of the buckets costs some, and an
-/// entry costs none.
+/// Twenty thousand entries make fewer requests for memory than this. Each doubling of the slots and of the buckets makes some, and an entry
+/// makes none.
 const FEW: u64 = 100;
 
-/// Inserts so many multiples of the step, and asserts that each insert is told this, and that those that are found are there before. One
-/// handle numbers the entries of a set from 0 on.
+/// Inserts the first `count` multiples of the step. Asserts that each insert ends as expected, that a look-up before it agrees, and that
+/// the entries are numbered from 0 on.
 fn insert_each(
     rt: &impl Abort,
     handle: &mut Numbering<'_, '_>,
@@ -38,7 +38,7 @@ fn insert_each(
     }
 }
 
-/// A handle that has met no growth finds the entries too.
+/// Checks that each number is found while the set grows, also by a handle that was made before the growth.
 #[test]
 fn each_number_is_found_over_growth(rt: HostRuntime) {
     for (room, count, step) in SETS {
@@ -59,13 +59,13 @@ fn each_number_is_found_over_growth(rt: HostRuntime) {
     }
 }
 
-/// Inserts a number by the set itself.
+/// Inserts a number by the set itself. Returns how the insert ended, with the entry's number.
 fn insert_by(set: &Numbers<'_>, value: u64) -> (Told, Option<u64>) {
     told_of(set.insert(value), value)
 }
 
-/// Places multiples of 7 by the set itself. Each call has a handle of its own, which takes the next number. An insert answers with the number
-/// that a handle finds.
+/// Places the first `count` multiples of 7 by the set itself. Asserts that the entries are numbered from 0 on, and that calls of the set
+/// and of a new handle find them.
 fn place_by_the_set(rt: &impl Abort, set: &Numbers<'_>, count: u64) {
     for index in 0..count {
         let value = index.wrapping_mul(7);
@@ -78,7 +78,7 @@ fn place_by_the_set(rt: &impl Abort, set: &Numbers<'_>, count: u64) {
     }
 }
 
-/// The length is asked for in each generation, and the set grows on.
+/// Checks the calls of a set without a handle, over several growths.
 #[test]
 fn a_set_is_called_without_a_handle(rt: HostRuntime) {
     let heap = counted(rt.alloc());
@@ -91,11 +91,11 @@ fn a_set_is_called_without_a_handle(rt: HostRuntime) {
     assert_none_out(&rt, &heap);
 }
 
-/// The numbers that a second handle takes after a first one placed four values and ended. The first one left 4, 5 and 6 of a run of four. Who
-/// wants fewer takes new numbers, and the second handle wants one, two and then four.
+/// The numbers that a second handle takes after the first placed four values and was dropped. The first left 4, 5 and 6 of a run of four.
+/// The second asks for one number, then two, then four: only the third request is large enough to get the three that were left.
 const NEXT: [u64; 8] = [7, 8, 9, 4, 5, 6, 10, 11];
 
-/// Asserts that new values, from this one on, have these numbers.
+/// Inserts new values, from `from` on, and asserts that they get these numbers.
 fn assert_takes(rt: &impl Abort, handle: &mut Numbering<'_, '_>, from: u64, numbers: &[u64]) {
     for (index, number) in numbers.iter().enumerate() {
         let value = from.wrapping_add(index as u64);
@@ -112,7 +112,8 @@ fn numbers_that_a_handle_leaves_are_used(rt: HostRuntime) {
     assert_same(&rt, set.len(), 12);
 }
 
-/// How many values are counted once so many were placed by one handle: the first, then 2, 4, 8, 16, 32 and 64 at a time.
+/// How many values one handle placed, and the length of the set then. A handle counts its first value at once, and the next ones in groups
+/// of 2, 4, 8, 16, 32 and 64.
 const COUNTED: [(u64, u64); 8] = [
     (0, 0),
     (1, 1),

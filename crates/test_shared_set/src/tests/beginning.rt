@@ -1,4 +1,4 @@
-//! Sets whose new handles know entries from the first.
+//! Sets whose new handles know entries from their beginning.
 use super::caller::{
     Numbers, Tally, assert_has, assert_none_out, assert_same, counted, fill, set_with,
 };
@@ -11,7 +11,7 @@ use testkit::refusing::{Refusing, Rule};
 /// How many numbers the set has at each call of `begin_with`. It grows in between.
 const COUNTS: [u64; 5] = [0, 1, 5, 300, 2000];
 
-/// Places the numbers from one to below another, and makes new handles know them.
+/// Places the numbers from `from` to below `end`, and makes new handles know them by `begin_with`.
 fn begin(rt: &impl Abort, set: &mut Numbers<'_>, from: u64, end: u64) {
     let mut handle = set.handle();
     let placed = Tally::of(end.wrapping_sub(from), 0);
@@ -21,7 +21,7 @@ fn begin(rt: &impl Abort, set: &mut Numbers<'_>, from: u64, end: u64) {
     set.begin_with(known);
 }
 
-/// Asserts that calls of the set, and a new handle, find each number below this one, and not this one.
+/// Asserts that the set and a new handle find each number below `end`, and not `end`.
 fn assert_begins(rt: &impl Abort, set: &Numbers<'_>, end: u64) {
     assert_has(rt, &mut set.handle(), end);
     for number in 0..end {
@@ -48,7 +48,7 @@ fn new_handles_find_what_they_begin_with(rt: HostRuntime) {
     assert_none_out(&rt, &heap);
 }
 
-/// Each request is refused in turn, and then nothing is left.
+/// Checks that a set that begins with a number has it, and that a refused request leaves no memory allocated.
 #[test]
 fn a_set_that_begins_with_a_number_has_it(rt: HostRuntime) {
     let mut refused = 0u64;

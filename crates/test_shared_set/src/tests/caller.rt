@@ -1,4 +1,4 @@
-//! Sets of numbers in memory that counts.
+//! Sets of numbers, on memory that counts its blocks.
 ghost use Rattle.std.specs.Prelude.{◌≡◌};
 
 use shared_set::{Handle, Inserted, SharedSet};
@@ -18,22 +18,22 @@ pub(crate) type Numbers<'h> = SharedSet<u64, NumberLaw, &'h Heap>;
 /// A handle of such a set.
 pub(crate) type Numbering<'s, 'h> = Handle<'s, u64, NumberLaw, &'h Heap>;
 
-/// Asserts that both are equal.
+/// Asserts that `got` equals `expected`.
 pub(crate) fn assert_same<X: PartialEq + Debug + Drop>(rt: &impl Abort, got: X, expected: X) {
     assert_eq!(rt; got, expected);
 }
 
-/// Returns memory that grants all that is asked of it, and counts.
+/// Returns memory that grants each request and counts its blocks.
 pub(crate) fn counted(alloc: Global) -> Heap {
     Refusing::new(alloc, Rule::new(0, usize::MAX, 0, 0))
 }
 
-/// Makes an empty set that has room for so many entries.
+/// Makes an empty set with room for `room` entries.
 pub(crate) fn set_with<'h>(rt: &impl Abort, heap: &'h Heap, room: usize) -> Numbers<'h> {
     SharedSet::with_capacity(heap, room).expect(rt, "a set")
 }
 
-/// Asserts that each block that was granted was given back.
+/// Asserts that each granted block was freed.
 pub(crate) fn assert_none_out(rt: &impl Abort, heap: &Heap) {
     assert_same(rt, heap.given_back(), heap.granted());
 }
@@ -50,7 +50,7 @@ pub(crate) fn told_of(ended: Inserted<'_, u64>, value: u64) -> (Told, Option<u64
     }
 }
 
-/// Inserts a number.
+/// Inserts a number. Returns how the insert ended, with the entry's number.
 pub(crate) fn insert(handle: &mut Numbering<'_, '_>, value: u64) -> (Told, Option<u64>)
     ensures { handle.new.of ≡ handle.old.of }
 {
@@ -58,7 +58,7 @@ pub(crate) fn insert(handle: &mut Numbering<'_, '_>, value: u64) -> (Told, Optio
     told_of(ended, value)
 }
 
-/// Inserts a number, at most so often, until it isn't refused. Then it looks for it.
+/// Inserts a number until it isn't refused, at most `tries` times, and then looks it up. Returns how the insert ended.
 fn place(handle: &mut Numbering<'_, '_>, value: u64, tries: u32) -> Told
     ensures { handle.new.of ≡ handle.old.of }
 {
@@ -72,7 +72,7 @@ fn place(handle: &mut Numbering<'_, '_>, value: u64, tries: u32) -> Told
     Told::Refused
 }
 
-/// Inserts the numbers from one to below another, each at most so often. Returns how many were placed and how many were found.
+/// Inserts the numbers from `from` to below `end`, each at most `tries` times. Returns how many were placed and how many were found.
 pub(crate) fn fill(handle: &mut Numbering<'_, '_>, from: u64, end: u64, tries: u32) -> Tally
     ensures { handle.new.of ≡ handle.old.of }
 {
@@ -83,7 +83,7 @@ pub(crate) fn fill(handle: &mut Numbering<'_, '_>, from: u64, end: u64, tries: u
     tally
 }
 
-/// Returns the first number from one to below another that isn't found. Returns the other if each is found.
+/// Returns the first number from `from` to below `end` that isn't found, or `end` if each is found.
 pub(crate) fn first_missed(handle: &mut Numbering<'_, '_>, from: u64, end: u64) -> u64 {
     for value in from..end {
         if handle.get(&value) != Some(&value) {
@@ -93,13 +93,13 @@ pub(crate) fn first_missed(handle: &mut Numbering<'_, '_>, from: u64, end: u64) 
     end
 }
 
-/// Asserts that the handle finds each number below this one, and not this one.
+/// Asserts that the handle finds each number below `end`, and not `end`.
 pub(crate) fn assert_has(rt: &impl Abort, handle: &mut Numbering<'_, '_>, end: u64) {
     assert_same(rt, first_missed(handle, 0, end), end);
     assert_same(rt, handle.get(&end), None);
 }
 
-/// Asserts that each value below this one has a number, and is shown by it. So no two have one number.
+/// Asserts that each value below `end` has a number, by which it is found. So no two values have the same number.
 pub(crate) fn assert_numbered(rt: &impl Abort, handle: &mut Numbering<'_, '_>, end: u64) {
     for value in 0..end {
         match handle.find(&value) {

@@ -1,4 +1,4 @@
-//! Values that count their drops: each is dropped once, by the set at its end or by whom it is returned to.
+//! Values that count their drops. Each is dropped once, by the set or by the caller to which it is returned.
 use super::caller::{Heap, Tally, Told, assert_none_out, assert_same};
 use shared_set::{Handle, Inserted, SharedSet};
 use std::alloc::AllocError;
@@ -10,8 +10,8 @@ use testkit::refusing::{Refusing, Rule};
 /// How many numbers there are.
 const NUMBERS: u64 = 300;
 
-/// For how many entries there is room at first, how many requests are refused at most, that each is drawn as one of so many, and how many
-/// values of the ended set are taken out. The others are dropped with what is left of it.
+/// The room of a set at first, how many requests are refused at most, `n` if one request of `n` is drawn to be refused, and how many values
+/// of the ended set are taken out. The others are dropped with the rest of the set.
 const SETS: [(usize, u64, u64, u64); 4] = [
     (0, 0, 1, 0),
     (200, 0, 1, 1),
@@ -22,7 +22,7 @@ const SETS: [(usize, u64, u64, u64); 4] = [
 /// A set of counting values.
 type Counts<'h> = SharedSet<Counting, CountingLaw, &'h Heap>;
 
-/// Inserts the value, which may be refused some times. One that is returned is dropped here.
+/// Inserts the value, and tries again if it is refused. Drops a value that is returned. Returns how the insert ended.
 fn insert(handle: &mut Handle<'_, Counting, CountingLaw, &Heap>, value: Counting) -> Told {
     let mut value = value;
     for _tried in 0..1000u32 {
@@ -38,7 +38,7 @@ fn insert(handle: &mut Handle<'_, Counting, CountingLaw, &Heap>, value: Counting
     Told::Refused
 }
 
-/// Inserts a value of each number. Returns how many were placed, and how many were found and returned.
+/// Inserts a value of each number. Returns how many were placed, and how many were found and returned. `Err` means no memory.
 fn insert_all(set: &Counts<'_>, values: &Drops) -> Result<Tally, AllocError> {
     let mut handle = set.handle();
     let mut tally = Tally::NONE;
@@ -48,7 +48,7 @@ fn insert_all(set: &Counts<'_>, values: &Drops) -> Result<Tally, AllocError> {
     Ok(tally)
 }
 
-/// Ends the set, takes so many values out, and drops what is left.
+/// Ends the set, takes `taken` values out, and drops the rest. Asserts that each value is dropped once.
 fn end(rt: &impl Abort, set: Counts<'_>, values: &Drops, taken: u64) {
     let mut ended = set.into_iter();
     for dropped in 0..taken {

@@ -13,7 +13,7 @@ type Ended<'h> = IntoValues<u64, NumberLaw, &'h Heap>;
 /// How many values a set has when it ends.
 const COUNTS: [usize; 6] = [0, 1, 7, 8, 9, 1000];
 
-/// Takes so many values, which are all. The number of those that are left is exact.
+/// Takes all `count` values of an ended set. Asserts that the number of values that are left is exact. `Err` means no memory.
 fn take_all(
     rt: &impl Abort,
     alloc: Global,
@@ -32,8 +32,8 @@ fn take_all(
     Ok(values)
 }
 
-/// Ends a set of so many values. The end asks for no memory, so it returns each value once also while all memory is refused. What handles
-/// knew is among them.
+/// Ends a set of `count` values while all memory is refused. Asserts that the end makes no request and returns each value once. The values
+/// that handles knew are among them. `Err` means no memory.
 fn assert_ends(rt: &impl Abort, alloc: Global, count: usize) -> Result<(), AllocError> {
     let heap = counted(alloc);
     let set = set_with(rt, &heap, 0);

@@ -1,4 +1,4 @@
-//! Texts, which are also looked up by keys of another type.
+//! Sets of texts, which are also looked up by keys of another type.
 use super::caller::{Told, assert_same};
 use shared_set::{Handle, Inserted, SharedSet};
 use std::alloc::{AllocError, Global};
@@ -15,7 +15,7 @@ const OTHERS: [&str; 5] = ["", "a", "300", "00", "1 "];
 /// A handle of a set of texts.
 type Texting<'s> = Handle<'s, String, TextLaw>;
 
-/// Returns true if the text is found by its letters.
+/// Returns whether the text is found by its letters.
 fn has(handle: &mut Texting<'_>, letters: &str) -> bool {
     match handle.get_by_key(&letters) {
         Some(entry) => entry.as_str() == letters,
@@ -34,8 +34,8 @@ fn told_of(ended: &Inserted<'_, String>, letters: &str) -> Told {
     }
 }
 
-/// Inserts the decimals of each number, and asserts that each insert is told this. They are found from then on, and not before they are
-/// placed.
+/// Inserts the decimal digits of each number. Asserts that each insert ends as expected, and that the text is found afterwards, but before
+/// only if it was in the set. `Err` means no memory.
 fn insert_each(
     rt: &impl Abort,
     alloc: Global,

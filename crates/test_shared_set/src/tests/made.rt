@@ -31,7 +31,7 @@ impl KeyLaw<Short, u64> for NumberLaw {
     }
 }
 
-/// Returns how a call ended that was to get this value or to insert it, with the entry's number.
+/// Returns how a call that gets or inserts this value ended, with the entry's number.
 fn ended(told: GotOrInserted<'_, u64>, value: u64) -> (Told, Option<u64>) {
     match told {
         GotOrInserted::Got(number, entry) if *entry == value => (Told::Found, Some(number)),
@@ -40,7 +40,8 @@ fn ended(told: GotOrInserted<'_, u64>, value: u64) -> (Told, Option<u64>) {
     }
 }
 
-/// Gets the entry that meets the key, or inserts this value. Returns how it ended, and whether the value was made.
+/// Gets the entry that meets the key, or inserts this value. Returns how the call ended, the entry's number, and whether the value was
+/// made.
 pub(crate) fn get_or_insert(
     handle: &mut Numbering<'_, '_>,
     key: u32,
@@ -56,17 +57,17 @@ pub(crate) fn get_or_insert(
     (told, number, made)
 }
 
-/// Gets the entry that is the same as the value, or inserts it. Returns how it ended, with the entry's number.
+/// Gets the entry that is the same as the value, or inserts the value. Returns how the call ended, with the entry's number.
 pub(crate) fn seek_or_insert(handle: &mut Numbering<'_, '_>, value: u64) -> (Told, Option<u64>) {
     let told = handle.seek_or_insert_with(&SameAs { target: &value }, || value);
     ended(told, value)
 }
 
-/// How many keys are looked for first.
+/// How many keys are placed first.
 const MANY: u64 = 1000;
 
-/// Keys, values to insert if no entry meets them, how it ends, by which number, and whether the value is made. A value that doesn't meet
-/// its key is inserted too.
+/// Keys, the values to insert if no entry meets them, how the call ends, the number of the entry, and whether the value is made. A value
+/// that doesn't meet its key is inserted too.
 const CASES: [(u32, u64, Told, u64, bool); 7] = [
     (0, 0, Told::Found, 0, false),
     (999, 7, Told::Found, 999, false),
@@ -77,7 +78,7 @@ const CASES: [(u32, u64, Told, u64, bool); 7] = [
     (1000, 1002, Told::Found, 1001, false),
 ];
 
-/// Places the first numbers, each as its own key.
+/// Places the numbers below `MANY`, each by itself as its key.
 fn place_all(rt: &impl Abort, handle: &mut Numbering<'_, '_>) {
     for key in 0..MANY as u32 {
         let number = Some(u64::from(key));
@@ -105,7 +106,8 @@ fn a_value_is_made_only_if_no_entry_meets_the_key(rt: HostRuntime) {
     assert_none_out(&rt, &heap);
 }
 
-/// The same value is sought again while memory is refused, and then found.
+/// Checks inserts with the value itself as the key. The first is refused with its memory, the second places the value, and the third finds
+/// it without memory.
 #[test]
 fn a_target_may_be_the_key(rt: HostRuntime) {
     let heap = counted(rt.alloc());

@@ -1,4 +1,4 @@
-//! Memory that is refused.
+//! Sets whose requests for memory are refused.
 use super::caller::{
     Heap, Numbering, Numbers, Tally, Told, assert_has, assert_none_out, assert_same, counted, fill,
     insert, set_with, told_of,
@@ -21,7 +21,7 @@ enum By {
     Sought,
 }
 
-/// Makes a set that has room for so many entries. For none it is a new one.
+/// Makes a set with room for `room` entries, by `new` if that is 0. `None` means that memory was refused.
 fn made<'h>(heap: &'h Heap, room: usize) -> Option<Numbers<'h>> {
     if room == 0 {
         return SharedSet::new(heap).ok();
@@ -29,7 +29,8 @@ fn made<'h>(heap: &'h Heap, room: usize) -> Option<Numbers<'h>> {
     SharedSet::with_capacity(heap, room).ok()
 }
 
-/// Makes a set that has room for so many entries, tried once more than so many requests are refused.
+/// Makes a set with room for `room` entries, and tries again at most `refused` times. Asserts that a refused try leaves no memory
+/// allocated. `None` means that the last try was refused.
 fn made_at_last<'h>(
     rt: &impl Abort,
     heap: &'h Heap,
@@ -58,7 +59,7 @@ fn insert_by(by: By, set: &Numbers<'_>, handle: &mut Numbering<'_, '_>, value: u
     }
 }
 
-/// Places the number, tried once more than so many requests are refused. A refused insert leaves the numbers below this one.
+/// Places the number, and tries again at most `refused` times. Asserts that a refused insert keeps the numbers below this one.
 fn place_at_last(
     rt: &impl Abort,
     by: By,
@@ -78,8 +79,8 @@ fn place_at_last(
     assert_same(rt, insert_by(by, set, handle, value), Told::Placed);
 }
 
-/// A run in which so many requests are granted, and so many after them refused. Each number is placed, as often as it takes, and found
-/// then. Returns true if all were refused that were to be.
+/// Places the numbers on memory that refuses `refused` requests after the first `granted` ones. Asserts that each number is placed after
+/// some tries, and then found. Returns whether all those requests were refused.
 fn run(rt: &impl Abort, (room, refused, by): Run, alloc: Global, granted: u64) -> bool {
     let heap = Refusing::new(alloc, Rule::new(0, usize::MAX, granted, refused));
     let set = made_at_last(rt, &heap, room, refused).expect(rt, "a set");
@@ -97,7 +98,8 @@ fn run(rt: &impl Abort, (room, refused, by): Run, alloc: Global, granted: u64) -
     left == 0
 }
 
-/// Returns how many requests can be granted before so many that follow each other are refused, in a run that asks for fewer than 200.
+/// Makes runs with 0, 1, 2 and more granted requests. Returns the first of these numbers with which not all refusals took place, at most
+/// 200.
 fn run_each(rt: &impl Abort, alloc: Global, as_told: Run) -> u64 {
     for granted in 0..200 {
         if !run(rt, as_told, alloc, granted) {
@@ -107,7 +109,7 @@ fn run_each(rt: &impl Abort, alloc: Global, as_told: Run) -> u64 {
     200
 }
 
-/// For how many entries there is room at first, how many requests that follow each other are refused, and the call that inserts.
+/// The room of a set at first, how many requests in a row are refused, and the call that inserts.
 type Run = (usize, u64, By);
 
 const RUNS: [Run; 12] = [
@@ -133,14 +135,14 @@ fn each_request_refused_in_turn(rt: HostRuntime) {
     }
 }
 
-/// Returns memory that refuses, once it is told to, what the growth of a set of so many buckets asks for: twice as many words of eight
-/// bytes.
+/// Returns memory that refuses the growth of a set of `buckets` buckets, once `refuse` is called. The growth requests twice as many words
+/// of eight bytes.
 fn without_growth(alloc: Global, buckets: usize) -> Heap {
     let least = buckets.saturating_mul(16);
     Refusing::new(alloc, Rule::new(least, usize::MAX, 0, 0))
 }
 
-/// For how many entries a set has room at first, and how many fill half of one of its generations, the first or a later one.
+/// The room of a set at first, and how many entries fill half of one of its generations, the first or a later one.
 const HALVES: [(usize, usize); 7] = [
     (16, 16),
     (128, 128),
@@ -151,7 +153,7 @@ const HALVES: [(usize, usize); 7] = [
     (20, 1 << 10),
 ];
 
-/// No generation grows until half of it is filled. Then the next insert asks for the growth.
+/// Checks that a generation requests no growth until half of it is filled, and that the next insert requests it.
 #[test]
 fn a_generation_grows_once_half_of_it_is_filled(rt: HostRuntime) {
     for (room, half) in HALVES {
@@ -170,10 +172,10 @@ fn a_generation_grows_once_half_of_it_is_filled(rt: HostRuntime) {
     }
 }
 
-/// For how many entries a set has room at first: twice as many fill it.
+/// The room of a set at first, and how many entries fill it: twice as many.
 const FILLED: [(usize, u64); 3] = [(16, 32), (128, 256), (1024, 2048)];
 
-/// From the half of its buckets on, a set asks for its growth sixteen times before it is full, and then at each insert.
+/// Checks that a set whose growth is refused requests it sixteen times while its second half is filled, and then at each insert.
 #[test]
 fn a_refused_growth_is_asked_for_now_and_then(rt: HostRuntime) {
     for (room, full) in FILLED {
@@ -191,7 +193,7 @@ fn a_refused_growth_is_asked_for_now_and_then(rt: HostRuntime) {
     }
 }
 
-/// Returns a set of 32 buckets that are all filled, since no growth was granted.
+/// Returns a set of 32 buckets, all of which are filled, since its growth was refused.
 pub(crate) fn full_set<'h>(rt: &impl Abort, heap: &'h Heap) -> Numbers<'h> {
     let set = set_with(rt, heap, 16);
     heap.refuse(0, u64::MAX);
@@ -200,7 +202,7 @@ pub(crate) fn full_set<'h>(rt: &impl Abort, heap: &'h Heap) -> Numbers<'h> {
     set
 }
 
-/// While no growth is granted, each bucket of a set is filled. Then a new value is returned, and each entry is found.
+/// Checks that a set whose growth is refused fills each bucket, and that it then returns new values and finds each entry.
 #[test]
 fn a_set_that_cannot_grow_is_filled(rt: HostRuntime) {
     let heap = without_growth(rt.alloc(), 32);
@@ -215,7 +217,7 @@ fn a_set_that_cannot_grow_is_filled(rt: HostRuntime) {
     assert_has(&rt, &mut handle, 33);
 }
 
-/// Without memory an entry is found, by a look-up and by an insert. Neither asks for any.
+/// Checks that a look-up or an insert that finds an entry makes no request for memory.
 #[test]
 fn what_is_found_needs_no_memory(rt: HostRuntime) {
     let heap = counted(rt.alloc());
@@ -229,14 +231,14 @@ fn what_is_found_needs_no_memory(rt: HostRuntime) {
     assert_same(&rt, heap.refusals_left(), u64::MAX);
 }
 
-/// For how many entries a set is to have room, and how many refusals are left then of the most: a set of 2^31 asks for memory.
+/// The room that a set is to have, and how many refusals are left afterwards. Only a set with room for 2^31 entries requests memory.
 const TOO_MANY: [(usize, u64); 3] = [
     (1 << 31, u64::MAX - 1),
     ((1 << 31) + 1, u64::MAX),
     (usize::MAX, u64::MAX),
 ];
 
-/// A set may have room for as many entries as half of its most buckets hold, which are 2^32, and for no more.
+/// Checks that room for more than 2^31 entries, half of the greatest number of buckets, is refused without a request for memory.
 #[test]
 fn too_many_entries_are_refused(rt: HostRuntime) {
     let heap = Refusing::new(rt.alloc(), Rule::new(1 << 30, usize::MAX, 0, u64::MAX));

@@ -8,7 +8,7 @@ use std::process::Abort;
 /// How many values are inserted.
 const MANY: u64 = 1000;
 
-/// Inserts a new value by the first handle. Both handles then show it by its number.
+/// Inserts a new value by the first handle. Asserts that both handles then return it by its number.
 fn assert_shown(
     rt: &impl Abort,
     mine: &mut Numbering<'_, '_>,
@@ -36,14 +36,15 @@ fn fill_by_two(rt: &impl Abort, one: &mut Numbering<'_, '_>, other: &mut Numberi
 /// Numbers that no entry has.
 const NONE: [u64; 6] = [MANY + 200, MANY + 201, 1 << 20, 1 << 31, 1 << 32, u64::MAX];
 
-/// Asserts that no entry is shown by a number that nobody has.
+/// Asserts that a handle returns no entry for a number that no entry has.
 fn assert_no_other(rt: &impl Abort, handle: &mut Numbering<'_, '_>) {
     for number in NONE {
         assert_same(rt, handle.entry(number), None);
     }
 }
 
-/// The first question comes before the first insert and others come between the inserts, or each comes after the last growth.
+/// Checks that each entry is found by its number, whether the first look-up by number comes before the first insert or after the last
+/// growth.
 #[test]
 fn each_entry_is_found_by_its_number(rt: HostRuntime) {
     for early in [true, false] {

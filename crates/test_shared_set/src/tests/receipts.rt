@@ -1,10 +1,10 @@
-//! Receipts of what was placed.
+//! Receipts of values that were placed.
 ghost use Rattle.std.specs.Prelude.{◌≡◌, ◌≢◌, IfSome};
 
 use super::caller::{Numbering, Numbers, assert_none_out, assert_same, counted};
 use shared_set::{Inserted, Receipt, SharedSet};
 
-/// Places a value. `None`: it wasn't placed.
+/// Places a value, and returns its number and its receipt. `None` means that it wasn't placed.
 fn place(handle: &mut Numbering<'_, '_>, value: u64) -> Option<(u64, Receipt<u64>)>
     ensures same { handle.new.of ≡ handle.old.of }
     ensures set { IfSome result (λ p. p.1.slab ≡ handle.old.of.slab) }
@@ -17,7 +17,7 @@ fn place(handle: &mut Numbering<'_, '_>, value: u64) -> Option<(u64, Receipt<u64
     }
 }
 
-/// Places two values, and returns their numbers, which are two, and the entries of their receipts.
+/// Places two values. Returns their numbers, which differ, and the entries of their receipts. `None` means that one wasn't placed.
 fn two_receipts(set: &Numbers<'_>, a: u64, b: u64) -> Option<(u64, u64, u64, u64)>
     ensures numbers { IfSome result (λ r. r.0 ≢ r.1) }
     ensures entries { IfSome result (λ r. (r.2 ≡ a) × (r.3 ≡ b)) }

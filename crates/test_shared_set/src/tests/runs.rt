@@ -1,4 +1,4 @@
-//! Drawn runs, held against a plain list call by call.
+//! Drawn runs, whose calls are compared with those of a plain list.
 ghost use Rattle.std.specs.Prelude.{◌≡◌};
 
 use super::caller::{
@@ -17,15 +17,16 @@ const CALLS: u64 = 800;
 /// Numbers are drawn below this one.
 const BOUND: u64 = 400;
 
-/// For how many entries there is room at first, and how many requests are refused at most, each drawn as one of four.
+/// The room of a set at first, and how many requests are refused at most. One request of four is drawn to be refused.
 const RUNS: [(usize, u64); 4] = [(0, 0), (100, 0), (0, u64::MAX), (100, u64::MAX)];
 
-/// Draws a number below `bound`; 0 if that is 0.
+/// Draws a number below `bound`, or 0 if `bound` is 0.
 fn draw(numbers: &mut SplitMix64, bound: u64) -> u64 {
     numbers.next_u64().checked_rem(bound).unwrap_or(0)
 }
 
-/// Inserts the number into both. It may be refused where a request was, and no entry is the same.
+/// Inserts the number into the set and into the list. Asserts that it is refused only if a request was refused and no entry is equal. `Err`
+/// means no memory.
 fn insert_into_both(
     rt: &impl Abort,
     heap: &Heap,
@@ -47,14 +48,14 @@ fn insert_into_both(
     Ok(())
 }
 
-/// Asserts that the handle finds the number where the list has it.
+/// Asserts that the handle finds the number if and only if the list has it.
 fn assert_agrees(rt: &impl Abort, handle: &mut Numbering<'_, '_>, list: &Vec<u64>, number: u64)
     ensures { handle.new.of ≡ handle.old.of }
 {
     assert_same(rt, handle.contains(&number), list.contains(&number));
 }
 
-/// Makes a call of the first handle, which may learn what the other one knows.
+/// Draws a call of the first handle, and makes it. By one of the calls the handle learns what the other one knows. `Err` means no memory.
 fn call<'s, 'h>(
     rt: &impl Abort,
     heap: &Heap,
@@ -75,7 +76,7 @@ fn call<'s, 'h>(
     Ok(())
 }
 
-/// Makes calls of two handles, which begin when the set is empty.
+/// Makes drawn calls of two handles, which are made while the set is empty. Asserts that they agree with a list. `Err` means no memory.
 fn run(
     rt: &impl Abort,
     alloc: Global,

@@ -1,4 +1,4 @@
-//! A set of one owner becomes one that threads share.
+//! A single-owner set that becomes one that threads share.
 use super::caller::{Heap, assert_none_out, assert_same, counted};
 use shared_set::{Handle, Inserted, Partly, Share, Shared, SharedSet, Unshared};
 use std::alloc::{AllocError, Global};
@@ -10,22 +10,22 @@ use testkit::counting::{Counting, CountingLaw, Drops};
 /// How many values the sets have.
 const COUNTS: [u64; 6] = [0, 1, 2, 16, 17, 1000];
 
-/// A set of one owner, of boxes whose drops are counted.
+/// A single-owner set of boxes whose drops are counted.
 type Held<'h> = HeldSet<Box<Counting>, CountingLaw, &'h Heap>;
 
 /// The set that threads share.
 type Boxes<'h> = SharedSet<Box<Counting>, OfTarget<CountingLaw>, &'h Heap>;
 
-/// A handle of it.
+/// A handle of the shared set.
 type Boxing<'s, 'h> = Handle<'s, Box<Counting>, OfTarget<CountingLaw>, &'h Heap>;
 
-/// Such a set, with what is known of it.
+/// A shared set, with what is known of its entries.
 type SharedBoxes<'h> = Shared<Box<Counting>, OfTarget<CountingLaw>, &'h Heap>;
 
 /// What is left of a set that could not be shared.
 type Left<'h> = Unshared<Box<Counting>, CountingLaw, OfTarget<CountingLaw>, &'h Heap>;
 
-/// Returns a set of one owner that has the numbers below this one.
+/// Makes a single-owner set of the numbers below `count`. `Err` means no memory.
 fn held<'h>(heap: &'h Heap, values: &Drops, count: u64) -> Result<Held<'h>, AllocError> {
     let mut set: Held<'h> = HeldSet::new(heap);
     for number in 0..count {
@@ -37,13 +37,13 @@ fn held<'h>(heap: &'h Heap, values: &Drops, count: u64) -> Result<Held<'h>, Allo
     Ok(set)
 }
 
-/// Returns true if the handle finds the number.
+/// Returns whether the handle finds the number. `Err` means no memory.
 fn has(handle: &mut Boxing<'_, '_>, probes: &Drops, number: u64) -> Result<bool, AllocError> {
     let probe = probes.counting(number)?;
     Ok(handle.contains(&probe))
 }
 
-/// Asserts that a handle finds each number below this one, and not this one.
+/// Asserts that a handle finds each number below `count`, and not `count`. `Err` means no memory.
 fn assert_finds(
     rt: &impl Abort,
     alloc: Global,
@@ -59,7 +59,7 @@ fn assert_finds(
     Ok(())
 }
 
-/// Inserts what was left by a handle of the set, and returns the set.
+/// Inserts the values that were left into the shared set, by a handle. Returns the set.
 fn insert_left<'h>(
     rt: &impl Abort,
     partly: Partly<Box<Counting>, OfTarget<CountingLaw>, &'h Heap>,
@@ -79,7 +79,7 @@ fn insert_left<'h>(
     set
 }
 
-/// Asserts that what was left has each value once, and shares it now that memory is granted.
+/// Asserts that what was left has `count` values, and shares it now that memory is granted. Returns the shared set.
 fn share_left<'h>(rt: &impl Abort, heap: &'h Heap, left: Left<'h>, count: u64) -> Boxes<'h> {
     match left {
         Unshared::Held(held) => {
@@ -95,7 +95,7 @@ fn share_left<'h>(rt: &impl Abort, heap: &'h Heap, left: Left<'h>, count: u64) -
     }
 }
 
-/// Returns the shared set. What was left is shared now.
+/// Returns the shared set. If the sharing was refused, shares now what was left.
 fn set_of<'h>(
     rt: &impl Abort,
     heap: &'h Heap,
@@ -111,8 +111,8 @@ fn set_of<'h>(
     }
 }
 
-/// Shares a set of so many values while so many requests are granted and the one after them is refused. Then each value is there once.
-/// Returns true if no request was refused.
+/// Shares a set of `count` values while the request after the first `granted` ones is refused. Asserts that the shared set then has each
+/// value once. Returns whether no request was refused. `Err` means no memory.
 fn share(rt: &impl Abort, alloc: Global, count: u64, granted: u64) -> Result<bool, AllocError> {
     let values = Drops::new(alloc, count)?;
     let heap = counted(alloc);
@@ -155,7 +155,7 @@ fn a_refused_value_is_returned_with_the_rest(rt: HostRuntime) -> Result<(), Fail
     Ok(())
 }
 
-/// What is left is dropped, each value once.
+/// Checks that each value is dropped once if what is left of a set is dropped.
 #[test]
 fn what_is_left_may_be_dropped(rt: HostRuntime) -> Result<(), Fail> {
     for granted in 0..20 {
@@ -173,7 +173,7 @@ fn what_is_left_may_be_dropped(rt: HostRuntime) -> Result<(), Fail> {
 /// How many values a set begins with before it grows.
 const FIRST: u64 = 17;
 
-/// New handles find what the set began with in each later generation.
+/// Checks that new handles find the values that the set began with in each later generation.
 #[test]
 fn new_handles_find_each_value_after_growth(rt: HostRuntime) -> Result<(), Fail> {
     let values = Drops::new(rt.alloc(), NUMBERS)?;

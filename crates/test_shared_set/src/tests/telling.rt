@@ -1,4 +1,4 @@
-//! What threads tell each other of a set while both run.
+//! Threads that send each other what they know of a set while both run.
 ghost use Rattle.std.specs.Prelude.{◌≡◌};
 
 use super::caller::{
@@ -16,10 +16,10 @@ use testkit::counting::tally::{Work, at_once};
 /// How many messages a thread sends.
 const MESSAGES: u64 = 64;
 
-/// How many numbers it places before each.
+/// How many numbers a thread places before each message.
 const NUMBERS: u64 = 20;
 
-/// How often the other thread looks for each.
+/// How often the other thread looks for each message.
 const LOOKS: u32 = 1_000_000;
 
 /// What is known of a set, as one thread sends it to another.
@@ -30,10 +30,10 @@ struct Message<'s, 'h> {
     ghost of: { known.of ≡ set.now.of },
 }
 
-/// Where a message lies.
+/// The place for a message.
 type Place<'s, 'h> = OnceLock<Message<'s, 'h>>;
 
-/// Places the numbers of this message, and returns it. Returns None if one isn't placed.
+/// Places the numbers of message `at`, and returns the message. `None` means that a number wasn't placed.
 fn message_of<'s, 'h>(set: &'s Numbers<'h>, at: u64) -> Option<Message<'s, 'h>> {
     let mut handle = set.handle();
     let first = at.wrapping_mul(NUMBERS);
@@ -58,7 +58,7 @@ fn send<'s, 'h>(set: &'s Numbers<'h>, places: &[Place<'s, 'h>]) -> u64 {
     sent
 }
 
-/// Returns true if one that hears the message finds the numbers of it.
+/// Returns whether a handle that hears the message finds its numbers.
 fn finds(message: &Message<'_, '_>, at: u64) -> bool {
     let mut handle = message.set.handle();
     handle.hear(&message.known.again());
@@ -67,7 +67,7 @@ fn finds(message: &Message<'_, '_>, at: u64) -> bool {
     first_missed(&mut handle, first, end) == end
 }
 
-/// Waits for the message. Returns None if it doesn't come.
+/// Waits for the message. `None` means that it didn't come.
 fn wait<'p, 's, 'h>(room: &'p Place<'s, 'h>) -> Option<&'p Message<'s, 'h>> {
     for _look in 0..LOOKS {
         if let Some(message) = room.get() {
@@ -78,7 +78,7 @@ fn wait<'p, 's, 'h>(room: &'p Place<'s, 'h>) -> Option<&'p Message<'s, 'h>> {
     None
 }
 
-/// Hears each message. Returns how many came whose numbers are found.
+/// Waits for each message and hears it. Returns how many messages came and had all their numbers found.
 fn hear(places: &[Place<'_, '_>]) -> u64 {
     let mut found = 0u64;
     for (at, room) in places.iter().enumerate() {
@@ -109,7 +109,7 @@ impl Work for Talk<'_, '_, '_> {
     }
 }
 
-/// Returns places for the messages.
+/// Returns the places for the messages. `Err` means no memory.
 fn places_for<'s, 'h>(alloc: Global) -> Result<Vec<Place<'s, 'h>>, AllocError> {
     let mut places: Vec<Place<'s, 'h>> = Vec::new(alloc);
     for _message in 0..MESSAGES {
@@ -118,7 +118,7 @@ fn places_for<'s, 'h>(alloc: Global) -> Result<Vec<Place<'s, 'h>>, AllocError> {
     Ok(places)
 }
 
-/// Two threads talk. Returns how many messages were sent, and how many came whose numbers are found.
+/// Lets two threads talk. Returns how many messages were sent, and how many came and had all their numbers found. `Err` means no memory.
 fn let_talk<'s, 'h, R: Threads + Wait + Sync>(
     rt: &R,
     alloc: Global,

@@ -1,4 +1,4 @@
-//! Threads share a set over growth: each number is placed by one of them, and each finds what it placed or met.
+//! Threads that share a set while it grows. Each number is placed by one of them, and each thread finds what it inserted.
 use super::caller::{
     Numbers, Tally, Told, assert_has, assert_none_out, assert_numbered, assert_same, counted, fill,
     set_with,
@@ -11,12 +11,12 @@ use std::thread::Threads;
 use testkit::counting::tally::{Work, at_once};
 use testkit::refusing::{Refusing, Rule};
 
-/// Threads that insert numbers into a set, each those from one to below another. A thread that has none asks for entries by their numbers.
+/// Threads that insert numbers into a set, each the numbers of its part. A thread without a part looks up entries by their numbers.
 #[derive(Drop)]
 struct Filling<'p, 'h> {
     set: &'p Numbers<'h>,
     parts: &'p [(u64, u64)],
-    /// How often each insert is tried.
+    /// How often each insert is tried at most.
     tries: u32,
 }
 
@@ -29,10 +29,11 @@ impl Work for Filling<'_, '_> {
     }
 }
 
-/// How many values are inserted while another thread asks. One handle inserts them, so that each has itself as its number.
+/// How many values are inserted while another thread looks up entries. One handle inserts them, so the number of each is the value itself.
 const ASKED: u64 = 300;
 
-/// Asks for each number, and for some that nobody has, three times. An entry that is shown is the one of its number.
+/// Looks up each number, and three that no entry has, three times. The tally counts a wrong answer if an entry of another number is
+/// returned.
 fn ask(set: &Numbers<'_>) -> Tally {
     for asked in 0..3 * (ASKED + 3) {
         let number = asked % (ASKED + 3);
@@ -45,7 +46,7 @@ fn ask(set: &Numbers<'_>) -> Tally {
     Tally::NONE
 }
 
-/// One thread inserts while another asks.
+/// Checks that a look-up by number returns only the entry of that number while another thread inserts.
 #[test]
 fn entries_are_shown_while_a_thread_inserts(rt: HostRuntime) {
     for _round in 0..20 {
@@ -65,8 +66,8 @@ fn entries_are_shown_while_a_thread_inserts(rt: HostRuntime) {
     }
 }
 
-/// For how many entries there is room at first, from which number on each thread inserts, how many numbers are placed, how many are found
-/// by two threads and by four, and how many requests are refused at most, each drawn as one of three.
+/// The room of a set at first, the number from which each thread inserts, how many numbers are placed, how many are found by two threads
+/// and by four, and how many requests are refused at most. One request of three is drawn to be refused.
 const SETS: [(usize, [u64; 4], u64, [u64; 2], u64); 5] = [
     (0, [0, 0, 0, 0], 600, [600, 1800], 0),
     (0, [0, 50, 100, 150], 600, [550, 1500], 0),
@@ -75,7 +76,7 @@ const SETS: [(usize, [u64; 4], u64, [u64; 2], u64); 5] = [
     (100, [0, 0, 0, 0], 300, [300, 900], u64::MAX),
 ];
 
-/// Two threads fill a set, and then four fill another one: each number is placed by one of them.
+/// Lets two threads fill a set, and then four fill another one. Asserts that each number is placed by one of them.
 fn assert_fills<R: Threads + Wait + Abort + Sync>(
     rt: &R,
     alloc: Global,
@@ -113,7 +114,7 @@ fn threads_insert_over_growth(rt: HostRuntime) {
     }
 }
 
-/// Two threads insert one number. One of them places it, and the other finds it.
+/// Lets two threads insert one number. Asserts that one of them places it, and the other finds it.
 fn assert_placed_once<R: Threads + Wait + Abort + Sync>(
     rt: &R,
     alloc: Global,
@@ -129,8 +130,8 @@ fn assert_placed_once<R: Threads + Wait + Abort + Sync>(
     assert_same(rt, at_once(rt, alloc, 2, &filling), Tally::of(1, 1));
 }
 
-/// Both threads have probed and have a chunk for their slot, of 32 values of eight bytes, before either offers its value; or one has
-/// waited long.
+/// Checks that one of two threads places a number. Both have probed and have a chunk for their slot, of 32 values of eight bytes, before
+/// either offers its value, unless one has waited too long.
 #[test]
 fn one_of_two_threads_places_a_number(rt: HostRuntime) {
     let rule = Rule::new(256, 256, 0, 0).paired(u64::MAX, 10_000);
@@ -145,7 +146,7 @@ fn one_of_two_threads_places_a_number(rt: HostRuntime) {
     }
 }
 
-/// Two threads insert the same numbers into one set, while it grows.
+/// Checks that one of two threads places each number while the set grows.
 #[test]
 fn one_of_two_threads_places_each_number(rt: HostRuntime) {
     let heap = counted(rt.alloc());
@@ -158,7 +159,7 @@ fn one_of_two_threads_places_each_number(rt: HostRuntime) {
     assert_none_out(&rt, &heap);
 }
 
-/// Two threads find a set full. One of them shows the next generation, and the numbers of both are placed there.
+/// Checks that two threads that find a set full grow it, and that the next generation then has the numbers of both.
 #[test]
 fn two_threads_grow_a_full_set(rt: HostRuntime) {
     for _round in 0..200 {

@@ -9,7 +9,7 @@ use std::process::Abort;
 use std::test::Fail;
 use testkit::counting::numbers::count_first;
 
-/// How many values a walk is over, and how many there are once it has begun: none more, or eight times as many.
+/// How many values a set has when a walk begins, and how many it has later: the same number, or eight times as many.
 const WALKS: [(u64, u64); 11] = [
     (0, 0),
     (1, 1),
@@ -24,8 +24,8 @@ const WALKS: [(u64, u64); 11] = [
     (1000, 8000),
 ];
 
-/// Walks over a set that holds the values below `first`, and inserts those from it to `many` meanwhile. Asserts that each value has its own
-/// number, and returns the values.
+/// Walks over a set of the values below `first`, and inserts those from `first` to `many` meanwhile. Asserts that each value has its own
+/// number. Returns the values. `Err` means no memory.
 fn walked(
     rt: &impl Abort,
     alloc: Global,
@@ -53,7 +53,7 @@ fn walked(
     Ok(values)
 }
 
-/// Asserts that each value below this one is there once, and no other one twice.
+/// Asserts that each value below `first` is there once, and no other value twice.
 fn assert_once(rt: &impl Abort, mut values: Vec<u64>, first: u64) {
     let all = values.len();
     values.sort_unstable();
@@ -62,7 +62,7 @@ fn assert_once(rt: &impl Abort, mut values: Vec<u64>, first: u64) {
     assert!(rt; first <= count_first(values).1);
 }
 
-/// Returns the values of a walk.
+/// Returns the values of a walk. `Err` means no memory.
 fn values_of(alloc: Global, handle: &mut Numbering<'_, '_>) -> Result<Vec<u64>, AllocError> {
     let mut values = Vec::new(alloc);
     for (_number, entry) in handle.iter() {
@@ -71,7 +71,7 @@ fn values_of(alloc: Global, handle: &mut Numbering<'_, '_>) -> Result<Vec<u64>, 
     Ok(values)
 }
 
-/// A handle that met no growth walks over the newest generation.
+/// Checks that a handle that was made before the growth walks over the newest generation.
 #[test]
 fn a_walk_is_over_the_newest_generation(rt: HostRuntime) -> Result<(), Fail> {
     let heap = counted(rt.alloc());

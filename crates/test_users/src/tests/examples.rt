@@ -1,4 +1,4 @@
-//! The examples, run.
+//! Tests of the examples in `demo_examples`, and of the memo table in `tool_lines`.
 mod alike;
 mod answers;
 mod batches;
@@ -13,7 +13,7 @@ use super::assert_same;
 use std::alloc::Allocator;
 use tool_lines::memo::Memo;
 
-/// The Fibonacci number of the argument by plain addition, modulo 2^64.
+/// Returns the Fibonacci number of the argument modulo 2^64, computed by additions.
 fn slow_fibonacci(argument: u64) -> u64 {
     let mut low = 0u64;
     let mut high = 1u64;
@@ -25,7 +25,7 @@ fn slow_fibonacci(argument: u64) -> u64 {
     low
 }
 
-/// What the memo answers, or None where memory was refused.
+/// Asks the memo for the Fibonacci number of the argument. `None` means that memory was refused.
 fn ask<A: Allocator + Copy>(memo: &mut Memo<A>, argument: u64) -> Option<u64> {
     memo.fibonacci(argument).ok()
 }

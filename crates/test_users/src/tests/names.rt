@@ -1,4 +1,4 @@
-//! The interner, run.
+//! Tests of the interner.
 mod memory;
 mod order;
 mod seats;
@@ -10,7 +10,7 @@ use std::alloc::Allocator;
 use std::num::NonZeroU32;
 use std::process::Abort;
 
-/// The number of the text, interned, or 0 where memory was refused. None is refused for want of numbers.
+/// Interns the text and returns its number, or 0 if memory was refused. Asserts that the interner has numbers left.
 fn intern<A: Allocator + Copy>(rt: &impl Abort, interner: &mut Interner<A>, text: &str) -> u32 {
     match interner.intern_alone(text) {
         Ok(number) => number.get(),
@@ -21,13 +21,13 @@ fn intern<A: Allocator + Copy>(rt: &impl Abort, interner: &mut Interner<A>, text
     }
 }
 
-/// The text of the number, or None where the number is 0 or is not given.
+/// Returns the text of the number. `None` means that the number is 0, or that no text has it.
 fn text_of<A: Allocator + Copy>(interner: &Interner<A>, number: u32) -> Option<&str> {
     let number = NonZeroU32::new(number)?;
     interner.text_alone(number)
 }
 
-/// The text has the number, both ways.
+/// Asserts that the text has the number, and the number the text. The number 0 means that the text isn't interned.
 fn assert_named<A: Allocator + Copy>(
     rt: &impl Abort,
     interner: &Interner<A>,

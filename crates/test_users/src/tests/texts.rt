@@ -1,4 +1,4 @@
-//! The tools, run over streams in memory.
+//! Tests of the tools over text, with streams in memory.
 mod blocks;
 mod colliding;
 mod files;
@@ -17,11 +17,11 @@ use std::thread::Threads;
 use tool_lines::program::{Host, PIECE, run_over};
 use tool_lines::texts::TextFiles;
 
-/// How the program is called.
+/// The usage message of the program.
 const USAGE: &str =
     "usage: tool_text words [--threads N] [FILE..] | tool_text dedup [--threads N] [FILE..] | tool_text --help\n";
 
-/// What the program says of itself.
+/// The help text of the program.
 const HELP: &str =
     "usage: tool_text words [--threads N] [FILE..] | tool_text dedup [--threads N] [FILE..] | tool_text --help
 
@@ -52,7 +52,7 @@ struct Shelf {
     files: &'static [(&'static str, &'static [u8])],
 }
 
-/// No file at all.
+/// A shelf without files.
 const EMPTY_SHELF: Shelf = Shelf { files: &[] };
 
 impl TextFiles for Shelf {
@@ -71,7 +71,7 @@ impl TextFiles for Shelf {
     }
 }
 
-/// Runs the tools as these words ask, over files and an input, on memory of an allocator, and answers the status.
+/// Runs the program of this host with these arguments over the input. Returns the status.
 fn run_into<R: Threads + Sync, A: Allocator + Copy + Send + Sync, I: Read + Drop, O: Write>(
     host: &Host<'_, R, Shelf, A>,
     words: &[&str],
@@ -82,7 +82,7 @@ fn run_into<R: Threads + Sync, A: Allocator + Copy + Send + Sync, I: Read + Drop
     run_over(host, words, input, output, messages)
 }
 
-/// What a run over the files stands on, whose pieces have as many bytes as in the program.
+/// Returns a host with these files and this memory. Its pieces are as long as those of the program.
 fn host_of<'a, R, A>(rt: &'a R, files: &'a Shelf, alloc: A) -> Host<'a, R, Shelf, A> {
     Host {
         rt,
@@ -92,7 +92,7 @@ fn host_of<'a, R, A>(rt: &'a R, files: &'a Shelf, alloc: A) -> Host<'a, R, Shelf
     }
 }
 
-/// Runs the tool of this name over an input, into a writer of the caller's.
+/// Runs the tool of this name over the input, and writes to `output`. Returns the status and the messages.
 fn run_writing<R: Threads + Sync, I: Read + Drop, O: Write>(
     rt: &R,
     heap: Global,
@@ -111,7 +111,7 @@ fn run_writing<R: Threads + Sync, I: Read + Drop, O: Write>(
     (status, messages)
 }
 
-/// Runs the tools as these words ask, over files and an input in memory.
+/// Runs the program with these arguments over the files and the input. Returns what it printed, and its status.
 fn run_files<R: Threads + Sync>(
     rt: &R,
     heap: Global,
@@ -134,7 +134,7 @@ fn run_files<R: Threads + Sync>(
     }
 }
 
-/// Runs the tool of this name over an input, on memory of an allocator.
+/// Runs the tool of this name over the input. Its memory comes from `alloc`. Returns what it printed, and its status.
 fn run_on<R: Threads + Sync, A: Allocator + Copy + Send + Sync, I: Read + Drop>(
     rt: &R,
     heap: Global,
@@ -157,7 +157,7 @@ fn run_on<R: Threads + Sync, A: Allocator + Copy + Send + Sync, I: Read + Drop>(
     }
 }
 
-/// So many different lines, a number on each, and hyphens up to so many bytes.
+/// Returns `count` different lines. Each is a number, padded with hyphens to `bytes` bytes. `Err` means no memory.
 fn numbered_lines(heap: Global, count: u64, bytes: usize) -> Result<String, Fail> {
     let mut text = String::new(heap);
     for n in 0..count {
@@ -167,7 +167,7 @@ fn numbered_lines(heap: Global, count: u64, bytes: usize) -> Result<String, Fail
     Ok(text)
 }
 
-/// Asserts what bytes were written.
+/// Asserts that these bytes were written.
 fn assert_bytes(rt: &impl Abort, got: &[u8], expected: &[u8]) {
     assert_eq!(rt; got, expected);
 }
@@ -179,7 +179,7 @@ fn assert_ended(rt: &impl Abort, ended: &Ended, output: &[u8], messages: &str, s
     assert_status(rt, ended.status, status);
 }
 
-/// Asserts with what status a run ended.
+/// Asserts the status of a run.
 fn assert_status(rt: &impl Abort, got: u8, expected: u8) {
     assert_eq!(rt; got, expected);
 }

@@ -1,11 +1,11 @@
-//! Values that are told apart by a number, and what a table is answered that asks about them.
+//! Values that are compared and hashed by a number, and answers of the closures that compare and hash them.
 use crate::counting::Counting;
 use std::num::NonZeroU32;
 use table_terms::law::hash_number;
 
-/// What a value leads to that a test puts into a table.
+/// A target with a number. Tests put values with such targets into tables.
 pub trait Numbered {
-    /// The number by which it is told from others.
+    /// Returns the number by which the target is compared and hashed.
     fn number(&self) -> u64;
 }
 
@@ -21,7 +21,7 @@ impl Numbered for u16 {
     }
 }
 
-/// The first of them has number 0.
+/// The value 1 has number 0.
 impl Numbered for NonZeroU32 {
     fn number(&self) -> u64 {
         u64::from(self.get()).wrapping_sub(1)
@@ -34,40 +34,40 @@ impl Numbered for Counting {
     }
 }
 
-/// Equal numbers.
+/// Returns whether the new target and the entry have the same number.
 pub fn same<N: Numbered>(new: &N, entry: &N) -> bool {
     new.number() == entry.number()
 }
 
-/// The hash of the number.
+/// Returns the hash of the entry's number.
 pub fn hash<N: Numbered>(entry: &N) -> u64 {
     hash_number(entry.number())
 }
 
-/// What the closures of a caller answer, by the numbers of what they are asked about.
+/// The results of a caller's closures, by the numbers of the targets.
 pub trait Asked {
-    /// Whether the new one is equal to the entry: each number to itself alone, where no other answer is given.
+    /// Returns whether the new target is equal to the entry. By default each number is equal only to itself.
     fn agrees(&self, new: u64, entry: u64) -> bool {
         new == entry
     }
 
-    /// The hash.
+    /// Returns the hash of the target with this number.
     fn hash(&self, number: u64) -> u64;
 }
 
-/// Answers that keep a law.
+/// Closures whose results keep a law.
 #[derive(Clone, Copy)]
 pub enum Lawful {
-    /// Each number is equal to itself alone, and its hash is spread.
+    /// Each number is equal only to itself. Its hash is its `hash_number`.
     Spread,
-    /// Each number is equal to itself alone, and its hash is five times the number: of sixteen numbers in a row no two begin at one of
-    /// sixteen buckets.
+    /// Each number is equal only to itself. Its hash is five times the number: in a generation of sixteen buckets, sixteen numbers in a row
+    /// have different first buckets.
     ByFives,
-    /// Of four numbers in a row each is equal to the others.
+    /// Numbers are equal if their quotients by 4 are. The hash is the `hash_number` of the quotient.
     InFours,
-    /// Each number is equal to itself alone, and all have this hash.
+    /// Each number is equal only to itself. All numbers have this hash.
     At(u64),
-    /// Each number is equal to itself alone, and the hash of those below 15 is the number; of all others it is 0.
+    /// Each number is equal only to itself. A number below 15 is its own hash. All others have the hash 0.
     FromTheFirst,
 }
 

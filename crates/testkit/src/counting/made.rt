@@ -4,9 +4,9 @@ use std::num::NonZeroU32;
 use std::sync::Arc;
 use table_generations::atomic_value::{AtomicValue, InPlace};
 
-/// Values that are made of a number.
+/// A value that can be made of a number.
 pub trait Made: AtomicValue {
-    /// The value of this number; None where there is no memory for it, or no such value.
+    /// Makes the value of this number. `None`: memory was refused, or no value has this number.
     fn made(alloc: Global, number: u64) -> Option<Self>;
 }
 

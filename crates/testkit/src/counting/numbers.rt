@@ -1,4 +1,4 @@
-//! Tables of numbers that threads share.
+//! Tables of numbers that threads share, and checks of what inserts return and what the tables contain.
 use crate::counting::asked::Numbered;
 use crate::counting::tally::{Tally, Work, at_once};
 use std::alloc::{AllocError, Global};
@@ -7,20 +7,20 @@ use std::sync::Wait;
 use std::thread::Threads;
 use table_generations::atomic_value::AtomicValue;
 
-/// What an insert is told.
+/// The outcome of an insert.
 #[derive(Clone, Copy, Debug, PartialEq, Eq)]
 pub enum Told {
-    /// It is an entry now.
+    /// The number was inserted.
     Placed,
-    /// It was one before, and its value came back.
+    /// The number was an entry before, and the value was returned.
     Found,
-    /// It came back, and isn't an entry.
+    /// The value was returned without an entry: memory was refused.
     Refused,
-    /// Another value was shown, or came back, or there was no memory for the value.
+    /// The returned entry or value has another number, or there was no memory for the value.
     Wrong,
 }
 
-/// What an insert of this number tells, by the entry that it shows and the value that comes back.
+/// Returns the outcome of an insert of this number, from the entry and the value that the insert returned.
 pub fn told_by<T: AtomicValue>(answer: Result<(&T::Target, Option<T>), T>, number: u64) -> Told
 where
     T::Target: Numbered,
@@ -34,25 +34,25 @@ where
     }
 }
 
-/// A table that threads insert numbers into.
+/// A table into which threads insert numbers.
 pub trait Inserts {
-    /// What an insert of the number is told.
+    /// Inserts the number, and returns the outcome.
     fn insert<R: Wait>(&self, rt: &R, number: u64) -> Told;
 }
 
-/// A table that shows its numbers too.
+/// A table whose numbers can also be read.
 pub trait Numbers: Inserts {
-    /// Whether a look-up shows the number.
+    /// Returns whether a look-up finds the number.
     fn contains(&self, number: u64) -> bool;
 
-    /// How many entries it counts, and whether it says that it is empty.
+    /// Returns the length of the table, and whether it says that it is empty.
     fn length(&self) -> (u64, bool);
 
-    /// The numbers that a walk shows.
+    /// Returns the numbers that a walk yields. `Err`: memory was refused.
     fn walked(&self) -> Result<Vec<u64>, AllocError>;
 }
 
-/// What inserts of the numbers are told, one after the other.
+/// Inserts the numbers one after the other, and counts the outcomes.
 pub fn fill<R: Wait, T: Inserts>(rt: &R, table: &T, numbers: Range<u64>) -> Tally {
     let mut tally = Tally::NONE;
     for number in numbers {
@@ -61,7 +61,7 @@ pub fn fill<R: Wait, T: Inserts>(rt: &R, table: &T, numbers: Range<u64>) -> Tall
     tally
 }
 
-/// Threads that fill a table, each with the numbers from one on up to another.
+/// The work of threads that fill a table. Each thread inserts the numbers `from..to` of its part.
 #[derive(Drop)]
 struct Filling<'a, T> {
     table: &'a T,
@@ -77,7 +77,7 @@ impl<'a, T: Inserts> Work for Filling<'a, T> {
     }
 }
 
-/// A thread for each part inserts its numbers, from one on up to another: what all are told together.
+/// Runs a thread for each part, which inserts the numbers `from..to` of the part. Returns the counts of all outcomes.
 pub fn fill_at_once<R: Threads + Wait + Sync, T: Inserts + Sync>(
     rt: &R,
     table: &T,
@@ -87,13 +87,13 @@ pub fn fill_at_once<R: Threads + Wait + Sync, T: Inserts + Sync>(
     at_once(rt, alloc, parts.len(), &Filling { table, parts })
 }
 
-/// What `seen` sees where the entries are the numbers below `count`, each once.
+/// Returns what `seen` returns if the entries are the numbers below `count`, each once.
 pub fn those_below(count: u64) -> [u64; 5] {
     [count, count, u64::from(count == 0), count, count]
 }
 
-/// The first number that no look-up finds, of those up to `count`, the table's length, whether it says that it is empty, how many
-/// numbers a walk shows, and how many of the first numbers are among them.
+/// Returns five numbers: the result of `first_missed`, the length, 1 or 0 for whether the table says that it is empty, and the two results
+/// of `count_first` for the numbers of a walk. Each is `u64::MAX` if the walk is refused memory.
 pub fn seen<T: Numbers>(table: &T, count: u64) -> [u64; 5] {
     let Ok(walked) = table.walked() else {
         return [u64::MAX; 5];
@@ -109,12 +109,12 @@ pub fn seen<T: Numbers>(table: &T, count: u64) -> [u64; 5] {
     ]
 }
 
-/// Whether the entries are the numbers below `count`, each once.
+/// Returns whether the entries are the numbers below `count`, each once.
 fn has_below<T: Numbers>(table: &T, count: u64) -> bool {
     seen(table, count) == those_below(count)
 }
 
-/// The first number that no look-up finds, of those up to `count`.
+/// Returns the least number that no look-up finds, or `count + 1` if all up to `count` are found.
 fn first_missed<T: Numbers>(table: &T, count: u64) -> u64 {
     let beyond = count.wrapping_add(1);
     for number in 0..beyond {
@@ -125,8 +125,7 @@ fn first_missed<T: Numbers>(table: &T, count: u64) -> u64 {
     beyond
 }
 
-/// How many numbers these are, and how many of the first numbers are among them: as many, where these are the first numbers, each
-/// once.
+/// Returns how many numbers there are, and the least one that is missing. The two are equal if the numbers are 0, 1, 2, .., each once.
 pub fn count_first(mut numbers: Vec<u64>) -> (u64, u64) {
     numbers.sort_unstable();
     let mut first = 0u64;
@@ -138,9 +137,9 @@ pub fn count_first(mut numbers: Vec<u64>) -> (u64, u64) {
     (numbers.len() as u64, first)
 }
 
-/// Inserts the numbers below `count`, each again if it was refused, and then the fifth once more: how many were refused. None: a
-/// first try was told something else than Placed, a second one wasn't told Placed, the last insert wasn't told Found, or after
-/// a refusal or in the end the entries weren't those that were told Placed.
+/// Inserts the numbers below `count`, each again if it was refused, and then 4 once more. Returns how many were refused. `None`: a first
+/// insert was neither Placed nor Refused, a second one wasn't Placed, the last one wasn't Found, or after a refusal or at the end the
+/// entries weren't the numbers that were placed.
 pub fn refused_inserts<R: Wait, T: Numbers>(rt: &R, table: &T, count: u64) -> Option<u64> {
     let mut refused = 0u64;
     for number in 0..count {
@@ -150,7 +149,7 @@ pub fn refused_inserts<R: Wait, T: Numbers>(rt: &R, table: &T, count: u64) -> Op
     if is_right { Some(refused) } else { None }
 }
 
-/// Inserts the number, which isn't there and is placed by the second try at the latest: how often it was refused before.
+/// Inserts the number, and once more if it was refused. Returns how often it was refused. `None`: an outcome or the entries were wrong.
 fn refused_before<R: Wait, T: Numbers>(rt: &R, table: &T, number: u64) -> Option<u64> {
     match table.insert(rt, number) {
         Told::Placed => Some(0),
@@ -160,8 +159,8 @@ fn refused_before<R: Wait, T: Numbers>(rt: &R, table: &T, number: u64) -> Option
     }
 }
 
-/// How many refusals so many runs tell of together, of which each lets one request more pass than the one before; None where a
-/// run tells of none. `refused` makes the run in which so many requests pass.
+/// Runs `refused` for each number below `runs`, which is how many requests are granted before one is refused. Returns the sum of what the
+/// runs return. `None`: a run returned `None`.
 pub fn refused_in_turn<R: Wait, F: Fn(&R, u64) -> Option<u64>>(
     rt: &R,
     runs: u64,

@@ -1,16 +1,16 @@
-//! What inserts are told, counted, and threads that are told so at once.
+//! Counts of the outcomes of inserts, and threads that insert at once.
 use crate::counting::numbers::Told;
 use std::alloc::Global;
 use std::sync::Wait;
 use std::thread;
 use std::thread::Threads;
 
-/// How many inserts were told what.
+/// How many inserts had which outcome.
 #[derive(Clone, Copy, Debug, PartialEq, Eq)]
 pub struct Tally {
     pub placed: u64,
     pub found: u64,
-    /// Those that were told anything else, and what else went wrong.
+    /// How many inserts had another outcome, and how many other faults there were.
     pub other: u64,
 }
 
@@ -21,7 +21,7 @@ impl Tally {
         other: 0,
     };
 
-    /// So many that were told Placed, so many Found, and none anything else.
+    /// Returns the tally of these counts, with no other outcome.
     pub fn of(placed: u64, found: u64) -> Tally {
         Tally {
             placed,
@@ -30,7 +30,7 @@ impl Tally {
         }
     }
 
-    /// With one insert more.
+    /// Adds one outcome.
     pub fn with(mut self, told: Told) -> Tally {
         let count = match told {
             Told::Placed => &mut self.placed,
@@ -41,7 +41,7 @@ impl Tally {
         self
     }
 
-    /// With those of another thread.
+    /// Adds the counts of another thread.
     pub fn and(self, more: Tally) -> Tally {
         Tally {
             placed: self.placed.wrapping_add(more.placed),
@@ -51,13 +51,13 @@ impl Tally {
     }
 }
 
-/// What threads do that run at once.
+/// The work of threads that run at once.
 pub trait Work {
-    /// What this thread's inserts are told.
+    /// Does the work of this thread, and returns the outcomes of its inserts.
     fn work<R: Wait>(&self, rt: &R, thread: u64) -> Tally;
 }
 
-/// So many threads do the work at once: what they are told together.
+/// Runs threads that do the work at once, and returns the outcomes of all. If memory for the threads is refused, it is one Wrong outcome.
 pub fn at_once<R: Threads + Wait + Sync, W: Work + Sync>(
     rt: &R,
     alloc: Global,
@@ -76,7 +76,7 @@ pub fn at_once<R: Threads + Wait + Sync, W: Work + Sync>(
     }
 }
 
-/// What all of these threads are told.
+/// Adds the counts of all threads.
 fn sum(tallies: &[Tally]) -> Tally {
     let mut sum = Tally::NONE;
     for tally in tallies {

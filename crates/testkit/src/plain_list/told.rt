@@ -1,9 +1,9 @@
-//! What calls on tables of numbers are told, with numbers in place of values.
+//! What calls on tables of numbers return, with numbers in place of values.
 
 use table_generations::atomic_value::AtomicValue;
 use table_held::runs::Reply;
 
-/// What a call is told: a `Reply` with the target in place of each value.
+/// What a call returns: a `Reply` with the target in place of each value.
 #[derive(Clone, Copy, Debug, PartialEq, Eq)]
 pub enum Told {
     Placed(u64),
@@ -14,7 +14,7 @@ pub enum Told {
     Len(usize),
 }
 
-/// What this reply tells.
+/// Returns this reply with the target in place of each value.
 pub fn told_by<T: AtomicValue<Target = u64>>(reply: &Reply<T>) -> Told {
     match reply {
         Reply::Placed(shown) => Told::Placed(*shown),

@@ -1,13 +1,13 @@
-//! Two threads of which each goes on once the other has come to a certain place.
+//! A handover between two threads, each of which waits until the other one has come to a certain place.
 use std::sync::atomic::{AtomicU64, Ordering};
 
-/// How often a thread looks for another one before it goes on alone.
+/// How often a thread looks for another one before it goes on without it.
 pub const MOST_LOOKS: u64 = 1 << 27;
 
-/// How often a thread looks in vain, so that another one comes to a lock meanwhile.
+/// How many more looks give another thread the time to come to a lock.
 pub const QUIET_LOOKS: u64 = 20_000;
 
-/// Looks until the sign is 1, or until it was looked for `MOST_LOOKS` times.
+/// Looks at the sign until it is 1, at most `MOST_LOOKS` times.
 pub fn look_for(sign: &AtomicU64) {
     for _look in 0..MOST_LOOKS {
         if sign.load(Ordering::SeqCst) == 1 {
@@ -16,7 +16,7 @@ pub fn look_for(sign: &AtomicU64) {
     }
 }
 
-/// What two threads tell one another: that a call of the first has come to a place inside, and that a call of the second begins.
+/// Two signs between two threads: that a call of the first one is inside (a closure, say), and that a call of the second one begins.
 #[derive(Drop)]
 pub struct Handover {
     inside: AtomicU64,
@@ -24,7 +24,7 @@ pub struct Handover {
 }
 
 impl Handover {
-    /// Makes a handover of which neither thread has told anything.
+    /// Makes a handover in which neither sign is set.
     pub fn new() -> Handover {
         Handover {
             inside: AtomicU64::new(0),
@@ -32,7 +32,7 @@ impl Handover {
         }
     }
 
-    /// Tells that the call of the first thread is inside, and waits until that of the second begins and has had the time to come to a lock.
+    /// Signals that the first thread's call is inside. Waits until the second thread's call begins and has had time to come to a lock.
     /// Later calls return at once.
     pub fn hand_over(&self) {
         if self.inside.swap(1, Ordering::SeqCst) == 0 {
@@ -43,7 +43,7 @@ impl Handover {
         }
     }
 
-    /// Waits until the call of the first thread is inside, and tells that the call of the second begins.
+    /// Waits until the first thread's call is inside, and signals that the second thread's call begins.
     pub fn take_over(&self) {
         look_for(&self.inside);
         self.begins.store(1, Ordering::SeqCst);

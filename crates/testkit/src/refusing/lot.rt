@@ -1,7 +1,7 @@
-//! Which of the requests that may be refused are.
+//! A lottery of the requests for memory that may be refused.
 use std::sync::atomic::{AtomicU64, Ordering};
 
-/// One request in so many is drawn, by a seed and by how many were asked about before.
+/// A lottery that draws one request in `one_in`. A draw depends on the seed and on the number of draws before it.
 #[derive(Drop)]
 pub(crate) struct Lot {
     seed: u64,
@@ -10,7 +10,7 @@ pub(crate) struct Lot {
 }
 
 impl Lot {
-    /// Each request is drawn with a chance of one in `one_in`; for 0 and 1 each is.
+    /// Makes a lottery that draws each request with a chance of one in `one_in`. If `one_in` is 0 or 1, each request is drawn.
     pub(crate) fn new(seed: u64, one_in: u64) -> Lot {
         Lot {
             seed,
@@ -19,7 +19,7 @@ impl Lot {
         }
     }
 
-    /// Whether the next request is drawn.
+    /// Returns whether the next request is drawn.
     pub(crate) fn falls(&self) -> bool {
         let number = self.asked.fetch_add(1, Ordering::SeqCst);
         let drawn = spread(spread(self.seed).wrapping_add(number));
@@ -27,7 +27,7 @@ impl Lot {
     }
 }
 
-/// A number that looks drawn, for each number another one (splitmix64).
+/// Returns a number that looks drawn. Different numbers have different results (splitmix64).
 fn spread(number: u64) -> u64 {
     let z = number.wrapping_mul(0x9E37_79B9_7F4A_7C15);
     let z = (z ^ (z >> 30)).wrapping_mul(0xBF58_476D_1CE4_E5B9);

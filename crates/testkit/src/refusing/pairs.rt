@@ -1,8 +1,8 @@
-//! Requests that wait for one another.
+//! Requests for memory that wait for one another.
 use std::hint;
 use std::sync::atomic::{AtomicU64, Ordering};
 
-/// The first requests come in pairs: neither of a pair is answered before the other has come.
+/// Pairs of the first requests: neither request of a pair is granted before the other one has come.
 #[derive(Drop)]
 pub(crate) struct Pairs {
     pairs: u64,
@@ -12,7 +12,7 @@ pub(crate) struct Pairs {
 }
 
 impl Pairs {
-    /// So many pairs, of which the first request looks for the second so often before it goes on alone.
+    /// Makes `pairs` pairs. The first request of a pair looks at most `looks` times for the second one before it goes on alone.
     pub(crate) fn new(pairs: u64, looks: u64) -> Pairs {
         Pairs {
             pairs,
@@ -22,7 +22,7 @@ impl Pairs {
         }
     }
 
-    /// Waits for the other request of the pair, if this one is of a pair.
+    /// Waits for the second request of a pair, if this is the first one.
     pub(crate) fn meet(&self) {
         let turn = self.come.fetch_add(1, Ordering::SeqCst);
         if turn / 2 < self.pairs && turn % 2 == 0 && !self.comes(turn) {
@@ -30,7 +30,7 @@ impl Pairs {
         }
     }
 
-    /// Whether a request comes after the one of this turn, before it was looked for too often.
+    /// Returns whether a request comes after the one of this turn, within `looks` looks.
     fn comes(&self, turn: u64) -> bool {
         for _look in 0..self.looks {
             if self.come.load(Ordering::SeqCst).wrapping_sub(turn) > 1 {
@@ -41,7 +41,7 @@ impl Pairs {
         false
     }
 
-    /// How many requests went on alone.
+    /// Returns how many requests went on alone.
     pub(crate) fn alone(&self) -> u64 {
         self.alone.load(Ordering::SeqCst)
     }

@@ -4,20 +4,20 @@ use std::sync::atomic::{AtomicU64, Ordering};
 use std::thread;
 use std::time::Duration;
 
-/// No request waits for this turn.
+/// The value of `resumes` if no request is to be held.
 const NONE: u64 = u64::MAX;
 
-/// How many milliseconds a thread sleeps at most before it looks again.
+/// The most milliseconds that a thread sleeps before it looks again.
 const SLEEP: u64 = 5;
 
-/// How many looks of a request, which can't sleep, stand for one of a thread that can.
+/// How many looks of a held request take the place of one look of a thread. A thread sleeps between two looks, and a request can't.
 const YIELDS: u64 = 1 << 10;
 
-/// A turn that no schedule comes to. Once it has begun nobody waits.
+/// A turn after those of all schedules. Once it has begun, no thread waits.
 const ENDED: u64 = 1 << 62;
 
-/// Turns with numbers from 0 on. A thread waits for its own, and begins the next one. A request for memory can wait too, inside a
-/// call on a table: it begins the next turn, and is granted in a later one.
+/// Turns with numbers from 0 on. A thread waits for its turn, and then begins the next one. A request for memory inside a call on a table
+/// can wait too: it begins the next turn, and is granted in a later one.
 #[derive(Drop)]
 pub struct Turns {
     now: AtomicU64,
@@ -28,7 +28,7 @@ pub struct Turns {
 }
 
 impl Turns {
-    /// Turn 0 has begun. A thread waits for a turn until it has looked `looks` times.
+    /// Makes turns of which turn 0 has begun. A thread looks at most `looks` times for a turn.
     pub(crate) fn new(looks: u64) -> Turns {
         Turns {
             now: AtomicU64::new(0),
@@ -49,7 +49,7 @@ impl Turns {
         turn <= self.now.load(Ordering::SeqCst)
     }
 
-    /// Waits until this turn has begun. A thread that has looked too often counts the turn as missed, and ends all waiting.
+    /// Waits until this turn has begun. After `looks` looks it counts the turn as missed, and ends all waiting.
     pub fn wait_for<R: Wait>(&self, rt: &R, turn: u64) {
         for _look in 0..self.looks {
             let seen = self.now.load(Ordering::SeqCst);
@@ -69,7 +69,7 @@ impl Turns {
         self.end();
     }
 
-    /// Lets every thread go on: from now on nobody waits.
+    /// Ends all waiting, now and later: every turn has begun.
     pub fn end(&self) {
         self.now.store(ENDED, Ordering::SeqCst);
         self.now.wake_all();
@@ -85,7 +85,7 @@ impl Turns {
         self.missed.load(Ordering::SeqCst)
     }
 
-    /// Lets the next counted request begin a turn, and grants it once turn `resumes` has begun.
+    /// Makes the next counted request begin a turn, and wait until turn `resumes` has begun.
     pub fn hold_next(&self, resumes: u64) {
         self.resumes.store(resumes, Ordering::SeqCst);
     }
@@ -95,7 +95,7 @@ impl Turns {
         self.resumes.load(Ordering::SeqCst) != NONE
     }
 
-    /// Holds a request, if the next one is to be held.
+    /// Makes this request begin a turn and wait, if `hold_next` was called for it.
     pub(crate) fn hold(&self) {
         let resumes = self.resumes.swap(NONE, Ordering::SeqCst);
         if resumes == NONE {

@@ -2,24 +2,24 @@
 use std::alloc::{AllocError, Allocator};
 use table_core::event::Event;
 
-/// The numbers 0, 1, 2, .. that are inserted.
+/// How many numbers are inserted: 0, 1, 2, ..
 pub const INSERTS: u64 = 100_000;
 
-/// The last of them, which are looked up afterwards. All were placed after the last growth.
+/// How many of the last numbers are looked up afterwards. All of these were placed after the last growth.
 pub const LOOKUPS: u64 = 25_000;
 
-/// The hashes that a load gives.
+/// The hashes of a load.
 #[derive(Clone, Copy)]
 pub enum Hashes {
     /// Each number is its own hash.
     Own,
-    /// Each insert has a hash of its own in the upper half of its generation. All copies have the hash 0, so that each
-    /// goes behind the others, and they stay in the lower half.
+    /// Each insert has its own hash, in the upper half of its generation. Each copy has the hash 0, so that it probes past all earlier
+    /// copies, and the copies stay in the lower half.
     OneForCopies,
 }
 
-/// The events of a load: each number is inserted in turn and finds its bucket empty, growth comes whenever half of the buckets
-/// are set, and then the last numbers are looked up. A call's number is its turn.
+/// Returns the events of a load. Each number is inserted in turn, into an empty bucket. The table grows whenever half of its buckets are
+/// set. Then the last numbers are looked up. Calls are numbered in this order, from 0 on. `Err`: memory was refused.
 pub fn load_events<A: Allocator + Copy>(
     alloc: A,
     hashes: Hashes,
@@ -38,7 +38,7 @@ pub fn load_events<A: Allocator + Copy>(
     Ok(load.events)
 }
 
-/// A load so far, and the capacity of the current generation after it, or of the first one.
+/// The events of a load so far, and the capacity of its current generation, or of the first one.
 #[derive(Drop)]
 struct Load<A: Allocator + Copy> {
     events: Vec<Event, A>,
@@ -47,7 +47,7 @@ struct Load<A: Allocator + Copy> {
 }
 
 impl<A: Allocator + Copy> Load<A> {
-    /// The hash of a number at its insert, and after it up to the next growth.
+    /// Returns the hash of a number, from its insert until the next growth.
     fn hash_of(&self, value: u64) -> u64 {
         match self.hashes {
             Hashes::Own => value,
@@ -55,7 +55,7 @@ impl<A: Allocator + Copy> Load<A> {
         }
     }
 
-    /// The hash of a copy in its turn.
+    /// Returns the hash with which a growth copies the entry of this turn.
     fn copy_hash(&self, turn: u64) -> u64 {
         match self.hashes {
             Hashes::Own => turn,
@@ -63,7 +63,7 @@ impl<A: Allocator + Copy> Load<A> {
         }
     }
 
-    /// A call inserts a number after all lower ones.
+    /// Adds the events of the insert of a number, after all lower ones. `Err`: memory was refused.
     fn insert(&mut self, value: u64) -> Result<(), AllocError> {
         let call = value;
         let hash = self.hash_of(value);
@@ -79,7 +79,7 @@ impl<A: Allocator + Copy> Load<A> {
         Ok(())
     }
 
-    /// A call that has placed the last of so many entries makes the next generation.
+    /// Adds the events of a growth, by the call that has placed the last of these entries. `Err`: memory was refused.
     fn grow(&mut self, call: u64, entries: u64) -> Result<(), AllocError> {
         self.capacity = self.capacity.wrapping_mul(2);
         self.events.push(Event::Own { call })?;
@@ -96,7 +96,7 @@ impl<A: Allocator + Copy> Load<A> {
         Ok(())
     }
 
-    /// A call looks a number up.
+    /// Adds the events of a look-up of a number. `Err`: memory was refused.
     fn look(&mut self, call: u64, value: u64) -> Result<(), AllocError> {
         let hash = self.hash_of(value);
         self.events.push(Event::Lookup { call, hash })?;
@@ -109,7 +109,7 @@ impl<A: Allocator + Copy> Load<A> {
     }
 }
 
-/// What an insert does that finds no generation and makes the first one.
+/// Returns the events of an insert that finds no generation and makes the first one.
 fn first_generation(call: u64) -> [Event; 7] {
     [
         Event::Share { call },
@@ -125,7 +125,7 @@ fn first_generation(call: u64) -> [Event; 7] {
     ]
 }
 
-/// What an insert does that places its value in the bucket of its hash, which is empty, up to the size that it asks for.
+/// Returns the events of an insert that places its value in the first bucket of its hash, which is empty. The last one reads the size.
 fn placement(call: u64) -> [Event; 7] {
     [
         Event::Share { call },

@@ -1,8 +1,8 @@
 //! Events of schedules, as lines of the program.
 //!
-//! Events have `; ` between them. `first C V H` stands for a call that finds no generation, makes the first one and loads
-//! it, `go C V H` for one that places its value in an empty bucket, `copies C N` for N entries copied with the hashes from
-//! 0 on, and `N times EVENT` for one event again and again.
+//! Events are separated by `; `. `first C V H` is an insert that finds no generation, makes the first one and loads it. `go C V H` is an
+//! insert that places its value in an empty bucket. `copies C N` is N copies of entries, with the hashes from 0 on. `N times EVENT` is the
+//! same event N times.
 use std::alloc::AllocError;
 use std::num::ParseIntError;
 
@@ -12,11 +12,11 @@ const FIRST: &str = "share C; load C; free C; own C; check C ok; show C; free C;
 /// The steps of a call that places its value in an empty bucket.
 const GO: &str = "share C; load C; read C n; put C n ok; add C; free C; size C";
 
-/// Why a schedule has no lines.
+/// Why the lines of a schedule can't be written.
 #[derive(Clone, Copy, Debug)]
 pub enum NoLines {
     NoMemory,
-    /// A number is missing.
+    /// A number is missing, or is spelled wrong.
     NoNumber,
 }
 
@@ -32,7 +32,7 @@ impl From<ParseIntError> for NoLines {
     }
 }
 
-/// The lines of some events.
+/// Appends the lines of these events. `Err`: memory was refused, or a number is missing or wrong.
 pub fn push_events(input: &mut String, events: &str) -> Result<(), NoLines> {
     for event in events.split("; ") {
         match event.split_once(' ') {
@@ -45,7 +45,7 @@ pub fn push_events(input: &mut String, events: &str) -> Result<(), NoLines> {
     Ok(())
 }
 
-/// The lines of the insert of these numbers, and of the steps of its call, C.
+/// Appends the line of an insert with these numbers, and those of its call's steps, with the call's number in place of C.
 fn push_insert(input: &mut String, numbers: &str, steps: &str) -> Result<(), NoLines> {
     let (call, _) = numbers.split_once(' ').ok_or(NoLines::NoNumber)?;
     writeln!(input, "insert {numbers}")?;
@@ -56,7 +56,7 @@ fn push_insert(input: &mut String, numbers: &str, steps: &str) -> Result<(), NoL
     Ok(())
 }
 
-/// The lines of so many copies, with the hashes from 0 on.
+/// Appends the lines of copies with the hashes from 0 on. `numbers` has the call's number and how many copies there are.
 fn push_copies(input: &mut String, numbers: &str) -> Result<(), NoLines> {
     let (call, count) = numbers.split_once(' ').ok_or(NoLines::NoNumber)?;
     for hash in 0..count.parse::<u64>()? {
@@ -65,7 +65,7 @@ fn push_copies(input: &mut String, numbers: &str) -> Result<(), NoLines> {
     Ok(())
 }
 
-/// The line of an event, once or as often as it says.
+/// Appends the line of an event, once or as often as the event says.
 fn push_times(input: &mut String, event: &str) -> Result<(), NoLines> {
     let (count, event) = event.split_once(" times ").unwrap_or(("1", event));
     for _time in 0..count.parse::<u64>()? {

@@ -1,11 +1,11 @@
-//! Worked schedules, with what they print. [`crate::schedules::script`] says how their events are spelled.
+//! Short schedules, with what they print. [`crate::schedules::script`] defines how their events are spelled.
 use crate::schedules::script::{NoLines, push_events};
 use std::alloc::{AllocError, Global};
 
-/// Events, and what they print: a line for each call that finishes, and for each line `b` how many buckets there are.
+/// Events, and what they print: a line for each call that finishes, and for each line `b` the number of buckets.
 pub type Part = (&'static str, &'static str);
 
-/// The first capacity, the parts that a schedule begins with, the events that follow, and what those print.
+/// A schedule: the first capacity, the parts that it begins with, the events that follow, and what those print.
 pub type Row = (u64, &'static [Part], &'static str, &'static str);
 
 /// Call 2 loses the exchange of an empty bucket to an equal value.
@@ -15,19 +15,19 @@ pub const LOST_TO_AN_EQUAL: Part = (
     "1 placed 10\n2 found 10 back 11\n",
 );
 
-/// One value.
+/// One value is placed, in the first generation.
 const ONE: Part = (
     "first 1 10 0; read 1 n; put 1 n ok; add 1; free 1; size 1",
     "1 placed 10\n",
 );
 
-/// Six more, none of which wants growth.
+/// Six more values are placed, and no call wants growth.
 const SIX: Part = (
     "go 2 11 1; go 3 12 2; go 4 13 3; go 5 14 4; go 6 15 5; go 7 16 6",
     "2 placed 11\n3 placed 12\n4 placed 13\n5 placed 14\n6 placed 15\n7 placed 16\n",
 );
 
-/// Nine more, each of which is refused the growth that it wants, and two calls that find all 16 buckets set.
+/// Nine more values are placed, and each of their calls is refused the growth that it wants. Two calls then find all 16 buckets set.
 const TWO_AT_A_FULL_GENERATION: Part = (
     "go 8 17 7; own 8; check 8 no; free 8; \
     go 9 18 8; own 9; check 9 no; free 9; go 10 19 9; own 10; check 10 no; free 10; \
@@ -46,10 +46,10 @@ const GROWTH_TO_32: Part = ("own 17; check 17 ok; copies 17 16; show 17; free 17
 /// Seven values in 16 buckets.
 const SEVEN: &[Part] = &[ONE, SIX];
 
-/// Sixteen values in 16 buckets, and two calls that want more.
+/// Sixteen values in 16 buckets, and two calls that want growth.
 const FULL: &[Part] = &[ONE, SIX, TWO_AT_A_FULL_GENERATION];
 
-/// The same, with 32 buckets that one of the two calls made.
+/// The parts of `FULL`, and a growth to 32 buckets by one of the two calls.
 const GROWN: &[Part] = &[ONE, SIX, TWO_AT_A_FULL_GENERATION, GROWTH_TO_32];
 
 /// An insert of hash 31, whose first bucket is the last of 16 and of 32.
@@ -58,16 +58,16 @@ const AT_THE_LAST_BUCKET: Part = (
     "1 placed 10\n",
 );
 
-/// One more, which goes on from bucket 0.
+/// A second insert of hash 31, whose probe goes on at bucket 0.
 const PAST_THE_LAST_BUCKET: Part = (
     "insert 2 11 31; share 2; load 2; 2 times read 2 n; put 2 n ok; add 2; free 2; size 2",
     "2 placed 11\n",
 );
 
-/// A walk meets the second one first.
+/// A walk, which reads the second value first.
 const WALK_OF_TWO: Part = ("walk 20; load 20; 16 times read 20 n", "20 walk [11, 10]\n");
 
-/// Six more, the last of which wants growth.
+/// Six more inserts of hash 31, the last of which wants growth.
 const SIX_BEHIND_THEM: Part = (
     "insert 3 12 31; share 3; load 3; 3 times read 3 n; put 3 n ok; add 3; free 3; size 3; \
     insert 4 13 31; share 4; load 4; 4 times read 4 n; put 4 n ok; add 4; free 4; size 4; \
@@ -78,12 +78,12 @@ const SIX_BEHIND_THEM: Part = (
     "3 placed 12\n4 placed 13\n5 placed 14\n6 placed 15\n7 placed 16\n",
 );
 
-/// Worked schedules.
+/// The schedules that tests run.
 pub const SCHEDULES: [Row; 21] = [
     // An exchange that is lost to an equal value.
     (16, &[LOST_TO_AN_EQUAL], "b", "16\n"),
     (32, &[LOST_TO_AN_EQUAL], "b", "32\n"),
-    // A call number that was used begins nothing.
+    // An event that begins a call with a used number changes nothing.
     (
         16,
         &[LOST_TO_AN_EQUAL],
@@ -99,7 +99,7 @@ pub const SCHEDULES: [Row; 21] = [
         read 2 n; put 2 n ok; add 1; add 2; free 1; free 2; size 1; size 2; b",
         "1 placed 10\n2 placed 11\n16\n",
     ),
-    // A length beside an entry that isn't counted yet.
+    // A length, read before an entry is counted.
     (
         16,
         &[],
@@ -114,7 +114,7 @@ pub const SCHEDULES: [Row; 21] = [
         go 9 18 8; read 20 n; lookup 21 8; load 21; read 21 y; b",
         "8 placed 17\n9 placed 18\n20 none\n21 some 18\n48\n",
     ),
-    // The same bucket with other bits of the hash.
+    // A hash with the same first bucket, and with another mark.
     (
         16,
         &[ONE],
@@ -128,14 +128,14 @@ pub const SCHEDULES: [Row; 21] = [
         "walk 3; load 3; 16 times read 3 n; b",
         "3 walk [10]\n16\n",
     ),
-    // A walk of seven.
+    // A walk over seven entries.
     (
         16,
         SEVEN,
         "walk 20; load 20; 16 times read 20 y",
         "20 walk [10, 11, 12, 13, 14, 15, 16]\n",
     ),
-    // No lock is taken alone while another call holds it shared.
+    // No call takes the lock exclusively while another one holds it shared.
     (
         16,
         &[],
@@ -144,14 +144,14 @@ pub const SCHEDULES: [Row; 21] = [
         free 1; size 1; b",
         "1 placed 10\n16\n",
     ),
-    // The first generation is refused.
+    // Memory for the first generation is refused.
     (
         16,
         &[],
         "b; insert 1 10 0; share 1; load 1; free 1; own 1; check 1 no; free 1; len 2; load 2; b",
         "0\n1 refused 10\n2 len 0\n0\n",
     ),
-    // Two growers at eight entries.
+    // Two calls want growth at eight entries: one grows the table, and the other one finds it grown.
     (
         16,
         &[ONE],
@@ -162,7 +162,7 @@ pub const SCHEDULES: [Row; 21] = [
         own 8; check 8 ok; free 8; b",
         "2 placed 11\n3 placed 12\n4 placed 13\n5 placed 14\n6 placed 15\n7 placed 16\n8 placed 17\n48\n",
     ),
-    // Two growers at a full generation: the second doubles again at once.
+    // Two calls grow a full generation: the second one doubles the capacity again at once.
     (
         16,
         GROWN,
@@ -171,7 +171,7 @@ pub const SCHEDULES: [Row; 21] = [
         share 18; load 18; 18 times read 18 n; put 18 n ok; add 18; free 18; size 18; b",
         "112\n17 placed 26\n18 placed 27\n112\n",
     ),
-    // A growth that fails beside a newer generation starts over in it.
+    // A call whose growth is refused while there is a newer generation starts again in that one.
     (
         16,
         GROWN,
@@ -179,7 +179,7 @@ pub const SCHEDULES: [Row; 21] = [
         free 18; size 18; own 18; check 18 no; free 18; b",
         "18 placed 27\n48\n",
     ),
-    // A look-up and a walk of a full generation end at their sixteenth reads, behind the length.
+    // A look-up and a walk of a full generation end at their sixteenth reads, after a call that returns the length.
     (
         16,
         FULL,
@@ -188,7 +188,7 @@ pub const SCHEDULES: [Row; 21] = [
         "21 len 16\n19 none\n\
         20 walk [10, 11, 12, 13, 14, 15, 16, 17, 18, 19, 20, 21, 22, 23, 24, 25]\n16\n",
     ),
-    // Inserts, copies and a look-up go on from bucket 0; 10, in the last bucket, is copied last.
+    // Inserts, copies and a look-up go on at bucket 0. The value 10, in the last bucket, is copied last.
     (
         16,
         &[
@@ -202,7 +202,7 @@ pub const SCHEDULES: [Row; 21] = [
         walk 22; load 22; 32 times read 22 n; b",
         "8 placed 17\n21 some 10\n22 walk [12, 13, 14, 15, 16, 17, 10, 11]\n48\n",
     ),
-    // A value number that was used begins nothing, and leaves the call number free.
+    // An insert of a used value number changes nothing, and its call number can still be used.
     (
         16,
         &[],
@@ -221,7 +221,7 @@ pub const SCHEDULES: [Row; 21] = [
         "load 1; show 2; copy 2 0; read 3 y; free 4; b",
         "0\n",
     ),
-    // A call that has finished takes nothing more.
+    // A call that has finished takes no more events.
     (
         16,
         &[],
@@ -230,7 +230,7 @@ pub const SCHEDULES: [Row; 21] = [
     ),
 ];
 
-/// The lines of a schedule.
+/// Returns the lines of a schedule. `Err`: memory was refused, or a number is missing or wrong.
 pub fn lines_of(alloc: Global, row: &Row) -> Result<String, NoLines> {
     let (_first, begin, rest, _printed) = *row;
     let mut lines = String::new(alloc);
@@ -241,7 +241,7 @@ pub fn lines_of(alloc: Global, row: &Row) -> Result<String, NoLines> {
     Ok(lines)
 }
 
-/// What it prints.
+/// Returns what a schedule prints. `Err`: memory was refused.
 pub fn printed_by(alloc: Global, row: &Row) -> Result<String, AllocError> {
     let (_first, begin, _rest, last) = *row;
     let mut all = String::new(alloc);

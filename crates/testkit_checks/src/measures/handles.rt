@@ -1,4 +1,4 @@
-//! The set that threads share by handles, as a set of numbers.
+//! `SharedSet` as a set of numbers.
 
 use crate::measures::numbers::{Empty, KeySet};
 use crate::measures::shared::SharedKeys;
@@ -8,7 +8,7 @@ use std::alloc::{AllocError, Global};
 use std::sync::Wait;
 use table_terms::law::NumberLaw;
 
-/// The numbers in a `SharedSet`.
+/// A `SharedSet` of numbers.
 pub type SharedSetKeys = SharedSet<u64, NumberLaw>;
 
 impl Empty for SharedSetKeys {

@@ -10,7 +10,7 @@ use std::marker::PhantomData;
 use std::rt::{Clock, Files};
 use std::time::Instant;
 
-/// A power of two: its multiples pile up under a hash whose low bits depend on the low bits of a key alone.
+/// A power of two. Its multiples collide under a hash whose low bits depend only on the low bits of a key.
 const STEP: u64 = 1 << 16;
 
 /// A row of keys: 0, 1, 2, .. times a step.
@@ -31,7 +31,7 @@ impl Row {
         }
     }
 
-    /// Returns what its inserts are named.
+    /// Returns the name of the measurement of inserts.
     fn inserts(self) -> &'static str {
         match self {
             Row::InOrder => "seq_ins1",
@@ -39,7 +39,7 @@ impl Row {
         }
     }
 
-    /// Returns what its hits are named.
+    /// Returns the name of the measurement of hits.
     fn hits(self) -> &'static str {
         match self {
             Row::InOrder => "seq_hit1",
@@ -48,7 +48,7 @@ impl Row {
     }
 }
 
-/// Runs a group of measurements of a set that one owner holds alone. A group that is not known is refused.
+/// Runs a group of measurements of a single-owner set. `Err`: the group is unknown, or a measurement failed.
 pub fn measure_held<S: KeySet + Empty + Drop, R: Print + Eprint + Clock + Files + AllocGlobal>(
     rt: &R,
     report: &Report<'_>,
@@ -65,7 +65,7 @@ pub fn measure_held<S: KeySet + Empty + Drop, R: Print + Eprint + Clock + Files 
     }
 }
 
-/// Runs a group of measurements of rows of keys, or of other numbers of keys than a million. A group that is not known is refused.
+/// Runs a group of measurements of rows of keys, or of fewer or more keys than a million. `Err`: an unknown group, or a failed measurement.
 pub(crate) fn measure_rows<S: Sets, R: Print + Eprint + Clock>(
     rt: &R,
     report: &Report<'_>,
@@ -80,7 +80,7 @@ pub(crate) fn measure_rows<S: Sets, R: Print + Eprint + Clock>(
     sets.with_empty(&InRow { rt, report, row })?
 }
 
-/// Measures spread keys.
+/// The task that measures spread keys.
 #[derive(Drop)]
 pub(crate) struct Spread<'a, R> {
     pub(crate) rt: &'a R,
@@ -95,7 +95,7 @@ impl<'a, R: Print + Clock + Files + AllocGlobal> Task for Spread<'a, R> {
     }
 }
 
-/// Measures a row of keys.
+/// The task that measures a row of keys.
 #[derive(Drop)]
 struct InRow<'a, R> {
     rt: &'a R,
@@ -111,7 +111,7 @@ impl<'a, R: Print + Clock> Task for InRow<'a, R> {
     }
 }
 
-/// Spread keys in an empty set: inserts, resident bytes, hits and misses.
+/// Measures spread keys in an empty set: inserts, resident bytes, hits and misses. `Err`: a wrong count or an I/O error.
 fn measure_one<R: Print + Clock + Files + AllocGlobal, S: KeySet>(
     rt: &R,
     report: &Report<'_>,
@@ -134,7 +134,7 @@ fn measure_one<R: Print + Clock + Files + AllocGlobal, S: KeySet>(
     report.time(rt, "c_miss1", start, found, 0, COUNT)
 }
 
-/// Measures a row of keys in an empty set: inserts and hits.
+/// Measures a row of keys in an empty set: inserts and hits. `Err`: a wrong count or an I/O error.
 fn measure_row<R: Print + Clock, S: KeySet>(
     rt: &R,
     report: &Report<'_>,
@@ -152,7 +152,7 @@ fn measure_row<R: Print + Clock, S: KeySet>(
     report.time(rt, row.hits(), start, found, COUNT, COUNT)
 }
 
-/// Each workload once on a set that one owner holds alone, counted and not timed.
+/// Runs each workload once on a single-owner set, without a clock, and prints counts. `Err`: memory was refused, or the output failed.
 pub fn check_held<S: KeySet + Empty + Drop, R: Print + AllocGlobal>(
     rt: &R,
     name: &str,
@@ -168,14 +168,14 @@ pub fn check_held<S: KeySet + Empty + Drop, R: Print + AllocGlobal>(
     println!(rt; "{name} in steps of {STEP}: {placed} placed, {hits} hits")
 }
 
-/// How many of the spread keys were placed in an empty set, how many of them are entries then, and how many absent ones.
+/// Inserts the spread keys into an empty set. Returns how many were placed, how many are entries then, and how many absent keys are.
 pub(crate) fn count_once<S: KeySet>(set: &mut S) -> (u64, u64, u64) {
     let placed = insert_spread(set, 0, COUNT);
     let hits = count_spread(set, 0, 0);
     (placed, hits, count_spread(set, 0, ABSENT))
 }
 
-/// How many of so many spread keys, from this one on, were placed.
+/// Inserts `count` spread keys, from the index `from` on. Returns how many were placed.
 pub(crate) fn insert_spread<S: KeySet>(set: &mut S, from: u64, count: u64) -> u64 {
     let mut placed = 0u64;
     for index in 0..count {
@@ -185,13 +185,13 @@ pub(crate) fn insert_spread<S: KeySet>(set: &mut S, from: u64, count: u64) -> u6
     placed
 }
 
-/// Counts the keys of a row that were placed in an empty set, and those that are entries then.
+/// Inserts a row of keys into an empty set. Returns how many were placed, and how many are entries then.
 fn count_in_row<S: KeySet>(set: &mut S, step: u64) -> (u64, u64) {
     let placed = insert_row(set, step);
     (placed, count_row(set, step))
 }
 
-/// Inserts the keys 0, 1, 2, .. times the step, and counts those that were placed.
+/// Inserts the keys 0, 1, 2, .. times the step. Returns how many were placed.
 fn insert_row<S: KeySet>(set: &mut S, step: u64) -> u64 {
     let mut placed = 0u64;
     for index in 0..COUNT {
@@ -200,7 +200,7 @@ fn insert_row<S: KeySet>(set: &mut S, step: u64) -> u64 {
     placed
 }
 
-/// How many of the spread keys, so much further on and taken in another order from its turn `start` on, are entries.
+/// Looks up spread keys in the order of `turn`, from position `start` on, with `further` added to each index. Returns how many are entries.
 pub(crate) fn count_spread<S: KeySet>(set: &mut S, start: u64, further: u64) -> u64 {
     let mut found = 0u64;
     for index in 0..COUNT {
@@ -210,7 +210,7 @@ pub(crate) fn count_spread<S: KeySet>(set: &mut S, start: u64, further: u64) -> 
     found
 }
 
-/// Counts the keys 0, 1, 2, .. times the step, taken in another order, that are entries.
+/// Looks up the keys 0, 1, 2, .. times the step, in the order of `turn`. Returns how many are entries.
 fn count_row<S: KeySet>(set: &mut S, step: u64) -> u64 {
     let mut found = 0u64;
     for index in 0..COUNT {

@@ -1,4 +1,4 @@
-//! Measurements of texts that threads name: a million different texts, and words that come again and again.
+//! Measurements of interners that threads share: a million different texts, and words that come again and again.
 
 use crate::measures::memory::{print_bytes, resident_bytes};
 use crate::measures::naming::{Naming, SharedTexts, TextTask};
@@ -20,18 +20,18 @@ const WORDS: u64 = 50_000;
 /// What threads do with texts.
 #[derive(Clone, Copy)]
 enum Job {
-    /// Each names a part of the texts, which are new.
+    /// Each thread interns a part of the texts, which are new.
     New,
-    /// Each names all texts, which are known, in an order that begins elsewhere for each.
+    /// Each thread interns all texts, which are known. Each begins at another text.
     Known,
-    /// Each asks whether all numbers are those of the texts, in that order.
+    /// Each thread checks that each number has its text, in the order of `Known`.
     Back,
-    /// Each names a million words, of which 50,000 are different. A word is new where it comes first.
+    /// Each thread interns a million words, of which 50,000 are different. A word is new the first time.
     Words,
 }
 
 impl Job {
-    /// Returns the name of the measurement of so many threads.
+    /// Returns the name of the measurement with this number of threads. `Err`: memory was refused.
     fn name(self, alloc: Global, threads: u64) -> Result<String, AllocError> {
         let name = match self {
             Job::New => "t_new",
@@ -42,7 +42,7 @@ impl Job {
         format!(in alloc; "{name}{threads}")
     }
 
-    /// Returns how many calls so many threads make, each of which names a text.
+    /// Returns how many calls this number of threads makes. Each call must succeed.
     fn wanted(self, threads: u64) -> u64 {
         match self {
             Job::New => part_for(threads).wrapping_mul(threads),
@@ -51,19 +51,19 @@ impl Job {
     }
 }
 
-/// The texts, and what is known of them.
+/// The texts of a measurement, and their numbers.
 #[derive(Drop)]
 struct Lists {
     /// Different texts.
     texts: Vec<String>,
-    /// The same texts, in the order in which they are looked up.
+    /// The same texts, in the order of look-ups.
     turned: Vec<String>,
-    /// The numbers of these.
+    /// The numbers of the texts in `turned`.
     numbers: Vec<u64>,
 }
 
 impl Lists {
-    /// A million names. No number is known.
+    /// Makes a million names, whose numbers aren't known yet. `Err`: memory was refused.
     fn of_names(alloc: Global) -> Result<Lists, AllocError> {
         Ok(Lists {
             texts: texts_of(alloc, "name", COUNT)?,
@@ -72,7 +72,7 @@ impl Lists {
         })
     }
 
-    /// The words.
+    /// Makes the different words. `Err`: memory was refused.
     fn of_words(alloc: Global) -> Result<Lists, AllocError> {
         Ok(Lists {
             texts: texts_of(alloc, "word", WORDS)?,
@@ -82,7 +82,7 @@ impl Lists {
     }
 }
 
-/// So many texts: the beginning with 0, 1, 2, ..
+/// Makes `count` texts: the beginning, followed by 0, 1, 2, .. `Err`: memory was refused.
 fn texts_of(alloc: Global, beginning: &str, count: u64) -> Result<Vec<String>, AllocError> {
     let mut texts = Vec::new(alloc);
     for index in 0..count {
@@ -91,7 +91,7 @@ fn texts_of(alloc: Global, beginning: &str, count: u64) -> Result<Vec<String>, A
     Ok(texts)
 }
 
-/// The names, in the order in which they are looked up.
+/// Makes the names, in the order of look-ups. `Err`: memory was refused.
 fn turned_texts(alloc: Global) -> Result<Vec<String>, AllocError> {
     let mut texts = Vec::new(alloc);
     for index in 0..COUNT {
@@ -101,7 +101,7 @@ fn turned_texts(alloc: Global) -> Result<Vec<String>, AllocError> {
     Ok(texts)
 }
 
-/// Runs a group of measurements of an interner that threads share. A group that is not known is refused.
+/// Runs a group of measurements of a shared interner. `Err`: the group is unknown, or a measurement failed.
 pub fn measure_texts<
     S: SharedTexts + Empty + Sync + Drop,
     R: Print + Eprint + Clock + Files + Threads + Sync + AllocGlobal,
@@ -118,8 +118,8 @@ pub fn measure_texts<
     }
 }
 
-/// Names by so many threads: new ones, bytes an entry beside its text, known ones, and texts of numbers. All numbers are asked for once
-/// before that is timed.
+/// Measures names with this number of threads: interning new ones, bytes per entry without its text, interning known ones, and checking the
+/// texts of numbers. Checks all numbers once before that is timed. `Err`: a wrong count or an I/O error.
 fn measure_names<
     S: SharedTexts + Empty + Sync + Drop,
     R: Print + Clock + Files + Threads + Sync + AllocGlobal,
@@ -141,7 +141,7 @@ fn measure_names<
     time_job(rt, report, &set, &lists, Job::Back, threads)
 }
 
-/// Words by so many threads, in a new interner.
+/// Measures words with this number of threads, in a new interner. `Err`: a wrong count or an I/O error.
 fn measure_words<
     S: SharedTexts + Empty + Sync + Drop,
     R: Print + Clock + Threads + Sync + AllocGlobal,
@@ -151,7 +151,7 @@ fn measure_words<
     expect(set.count(), WORDS)
 }
 
-/// The time of the job of so many threads.
+/// Times the job with this number of threads, and prints the result. `Err`: a wrong count or an I/O error.
 fn time_job<S: SharedTexts + Sync, R: Print + Clock + Threads + Sync + AllocGlobal>(
     rt: &R,
     report: &Report<'_>,
@@ -167,7 +167,7 @@ fn time_job<S: SharedTexts + Sync, R: Print + Clock + Threads + Sync + AllocGlob
     report.time(rt, name.as_str(), start, done, wanted, wanted)
 }
 
-/// How many calls of so many threads name the text that they should.
+/// Does the job with this number of threads. Returns how many calls succeeded. `Err`: memory for the threads was refused.
 fn count_job<S: SharedTexts + Sync, R: Threads + Sync>(
     rt: &R,
     alloc: Global,
@@ -194,7 +194,7 @@ fn count_job<S: SharedTexts + Sync, R: Threads + Sync>(
     Ok(total(counts.as_slice()))
 }
 
-/// The part of a job that one thread does: it begins with the text of this index, and names so many if they are new.
+/// The part of a job that one thread does. It begins at index `from`. If the texts are new, it interns `count` of them.
 #[derive(Clone, Copy)]
 struct Part<'a> {
     job: Job,
@@ -203,7 +203,7 @@ struct Part<'a> {
     count: u64,
 }
 
-/// How many of its calls name the text that they should.
+/// The answer is how many calls succeeded.
 impl<'a> TextTask for Part<'a> {
     type Answer = u64;
 
@@ -218,7 +218,7 @@ impl<'a> TextTask for Part<'a> {
     }
 }
 
-/// How many of so many texts, from this one on, get a number.
+/// Interns `count` texts, from index `from` on. Returns how many got a number.
 fn count_new<N: Naming>(naming: &mut N, texts: &[String], from: u64, count: u64) -> u64 {
     let mut named = 0u64;
     for index in 0..count {
@@ -228,7 +228,7 @@ fn count_new<N: Naming>(naming: &mut N, texts: &[String], from: u64, count: u64)
     named
 }
 
-/// How many of a million words, drawn from this draw on, get a number.
+/// Interns a million drawn words, from draw `from` on. Returns how many got a number.
 fn count_words<N: Naming>(naming: &mut N, texts: &[String], from: u64) -> u64 {
     let mut named = 0u64;
     for index in 0..COUNT {
@@ -238,7 +238,7 @@ fn count_words<N: Naming>(naming: &mut N, texts: &[String], from: u64) -> u64 {
     named
 }
 
-/// Whether the text of this index gets a number.
+/// Interns the text of this index. Returns whether it got a number.
 fn is_named<N: Naming>(naming: &mut N, texts: &[String], index: u64) -> bool {
     match texts.get(index as usize) {
         Some(text) => naming.number_of(text.as_str()).is_some(),
@@ -246,7 +246,7 @@ fn is_named<N: Naming>(naming: &mut N, texts: &[String], index: u64) -> bool {
     }
 }
 
-/// How many of the known texts, from this one on, get the number that they have.
+/// Interns all known texts, from index `from` on. Returns how many got their listed number.
 fn count_known<N: Naming>(naming: &mut N, lists: &Lists, from: u64) -> u64 {
     let mut known = 0u64;
     for index in 0..COUNT {
@@ -256,7 +256,7 @@ fn count_known<N: Naming>(naming: &mut N, lists: &Lists, from: u64) -> u64 {
     known
 }
 
-/// Whether the text of this index gets the number that it has.
+/// Interns the known text of this index. Returns whether it got its listed number.
 fn is_known<N: Naming>(naming: &mut N, lists: &Lists, index: u64) -> bool {
     let at = index as usize;
     match (lists.turned.get(at), lists.numbers.get(at)) {
@@ -268,7 +268,7 @@ fn is_known<N: Naming>(naming: &mut N, lists: &Lists, index: u64) -> bool {
     }
 }
 
-/// How many of the numbers, from this one on, are those of their texts.
+/// Checks all listed numbers, from index `from` on. Returns how many have their text.
 fn count_back<N: Naming>(naming: &mut N, lists: &Lists, from: u64) -> u64 {
     let mut back = 0u64;
     for index in 0..COUNT {
@@ -278,7 +278,7 @@ fn count_back<N: Naming>(naming: &mut N, lists: &Lists, from: u64) -> u64 {
     back
 }
 
-/// Whether the number of this index is that of its text.
+/// Returns whether the listed number of this index has its text.
 fn is_back<N: Naming>(naming: &mut N, lists: &Lists, index: u64) -> bool {
     let at = index as usize;
     match (lists.turned.get(at), lists.numbers.get(at)) {
@@ -287,7 +287,7 @@ fn is_back<N: Naming>(naming: &mut N, lists: &Lists, index: u64) -> bool {
     }
 }
 
-/// Lists the numbers of texts.
+/// The task that lists the numbers of texts.
 #[derive(Drop)]
 struct Listed<'a> {
     alloc: Global,
@@ -309,7 +309,7 @@ impl<'a> TextTask for Listed<'a> {
     }
 }
 
-/// The numbers of these texts.
+/// Interns these texts, and returns their numbers. `Err`: memory was refused.
 fn list_numbers<S: SharedTexts>(
     alloc: Global,
     set: &S,
@@ -318,7 +318,7 @@ fn list_numbers<S: SharedTexts>(
     set.by_thread(&Listed { alloc, texts })
 }
 
-/// Each job once by four threads, counted and not timed.
+/// Does each job once by four threads, without a clock, and prints counts. `Err`: memory was refused, or the output failed.
 pub fn check_texts<S: SharedTexts + Empty + Sync + Drop, R: Print + Threads + Sync + AllocGlobal>(
     rt: &R,
     name: &str,

@@ -1,4 +1,4 @@
-//! How much memory a set takes.
+//! The memory that a set takes.
 
 use crate::measures::report::Report;
 use std::num::nearest_u64_to_f64;
@@ -8,7 +8,7 @@ use std::{fs, io};
 /// The bytes of a page of memory.
 const PAGE: u64 = 4096;
 
-/// The resident bytes of this process, as Linux counts them.
+/// Returns the resident bytes of this process, as Linux counts them. `Err`: the file of these counts can't be read.
 pub(crate) fn resident_bytes<R: Files + AllocGlobal>(rt: &R) -> io::Result<u64> {
     let text = fs::read_to_string(rt, "/proc/self/statm")?;
     let pages = match text.split_whitespace().nth(1) {
@@ -18,7 +18,7 @@ pub(crate) fn resident_bytes<R: Files + AllocGlobal>(rt: &R) -> io::Result<u64> 
     Ok(pages.saturating_mul(PAGE))
 }
 
-/// Prints by how many bytes an entry this process has grown beyond `before` bytes.
+/// Prints by how many bytes per entry this process has grown since it had `before` bytes. `Err`: an I/O error.
 pub(crate) fn print_bytes<R: Print + Files + AllocGlobal>(
     rt: &R,
     report: &Report<'_>,

@@ -4,30 +4,30 @@ use crate::measures::numbers::Empty;
 use shared_interner::{Names, SharedInterner, Symbol};
 use std::alloc::{AllocError, Global};
 
-/// What one thread names texts by.
+/// An interner, as one thread calls it.
 pub trait Naming {
-    /// Returns the number of the text, which is added if it is new. `None`: memory was refused.
+    /// Interns the text, and returns its number. `None`: memory was refused.
     fn number_of(&mut self, text: &str) -> Option<u64>;
 
-    /// Returns true if the number is that of this text.
+    /// Returns whether the number is that of this text.
     fn is_text(&mut self, number: u64, text: &str) -> bool;
 }
 
-/// Something that one thread does with an interner.
+/// A task that one thread does with an interner.
 pub trait TextTask {
-    /// What it comes to.
+    /// The result of the task.
     type Answer;
 
-    /// Does it by this naming.
+    /// Does the task with an interner.
     fn run<N: Naming>(&self, naming: &mut N) -> Self::Answer;
 }
 
 /// An interner that threads share.
 pub trait SharedTexts {
-    /// Does the task by what a thread names texts by.
+    /// Does the task with this interner, as one thread calls it.
     fn by_thread<T: TextTask>(&self, task: &T) -> T::Answer;
 
-    /// Returns how many texts it has.
+    /// Returns how many texts the interner has.
     fn count(&self) -> u64;
 }
 

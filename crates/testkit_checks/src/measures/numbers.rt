@@ -1,4 +1,4 @@
-//! Sets of numbers that one owner holds alone, the raw table as one of them, and the keys of the measurements.
+//! Single-owner sets of numbers, the raw table as such a set, and the keys of measurements.
 ghost use Rattle.std.specs.Prelude.{◌≡◌, ◌<◌};
 ghost use Rattle.testkit_checks.specs.Numbers.{index_of_turn};
 
@@ -7,16 +7,16 @@ use lock_free_hashtable::raw::HeldRawTable;
 use std::alloc::{AllocError, Global};
 use table_terms::law::{NumberLaw, hash_number};
 
-/// The keys of one measurement.
+/// The number of keys of a measurement.
 pub const COUNT: u64 = 1_000_000;
 
 /// The index that is looked up first.
 pub const START: u64 = 12_345;
 
-/// How far on the next one is, each time, modulo `COUNT`.
+/// The distance from one looked-up index to the next one, modulo the number of keys.
 pub const STRIDE: u64 = 618_033;
 
-/// How far on the keys lie that are absent.
+/// The distance from the indices of the keys to those of absent keys.
 pub(crate) const ABSENT: u64 = 1 << 40;
 
 /// Spreads 0, 1, 2, .. over all of `u64`, one to one (splitmix64).
@@ -27,7 +27,7 @@ pub fn spread(index: u64) -> u64 {
     z ^ (z >> 31)
 }
 
-/// The order of look-ups: a fixed permutation of 0 to `COUNT - 1`.
+/// Returns the index that is looked up at this position. The order is a fixed permutation of 0 to `COUNT - 1`.
 pub fn turn(index: u64) -> u64
     requires { index < COUNT }
     ensures below { result < COUNT }
@@ -36,29 +36,29 @@ pub fn turn(index: u64) -> u64
     (index * STRIDE + START) % COUNT
 }
 
-/// The sum of what threads counted.
+/// Adds the counts of threads.
 pub fn total(counts: &[u64]) -> u64 {
     counts.iter().fold(0, |sum, &count| sum.wrapping_add(count))
 }
 
 /// A set that begins empty.
 pub trait Empty {
-    /// The empty set. Err: memory was refused.
+    /// Makes an empty set. `Err`: memory was refused.
     fn empty(alloc: Global) -> Result<Self, AllocError>;
 }
 
-/// A set of numbers, as one thread works with it.
+/// A set of numbers, as one thread calls it.
 pub trait KeySet {
-    /// Whether the number was placed: it is new, and memory was there.
+    /// Inserts the number. Returns whether it was placed: it is new, and memory was granted.
     fn insert(&mut self, number: u64) -> bool;
 
-    /// Whether the number is an entry.
+    /// Returns whether the number is an entry.
     fn contains(&mut self, number: u64) -> bool;
 }
 
-/// A number as a table keeps it.
+/// A value of a table whose target is a number.
 pub trait NumberValue: AtomicValue<Target = u64> {
-    /// The value whose target is this number. Err: memory was refused.
+    /// Makes the value of this number. `Err`: memory was refused.
     fn of(alloc: Global, number: u64) -> Result<Self, AllocError>;
 }
 
@@ -74,25 +74,25 @@ impl NumberValue for InPlace<u64> {
     }
 }
 
-/// A table of numbers, of which each is kept as a value of its own.
+/// A table of numbers.
 pub trait NumberTable {
-    /// What a number is kept as.
+    /// The type of the values.
     type Value: NumberValue;
 
-    /// The empty table.
+    /// Makes an empty table.
     fn empty(alloc: Global) -> Self;
 
-    /// Whether the number is an entry.
+    /// Returns whether the number is an entry.
     fn has(&self, number: u64) -> bool;
 }
 
-/// A table of numbers that one owner holds alone.
+/// A single-owner table of numbers.
 pub trait HeldTable: NumberTable {
-    /// Whether this value of the number was placed: the number is new, and memory was there.
+    /// Inserts this value of the number. Returns whether it was placed: the number is new, and memory was granted.
     fn place(&mut self, number: u64, value: Self::Value) -> bool;
 }
 
-/// The set of the numbers in a table, and the memory for their values.
+/// A table as a set of numbers, and the allocator of its values.
 #[derive(Drop)]
 pub struct Numbers<T> {
     pub(crate) table: T,
@@ -119,17 +119,17 @@ impl<T: HeldTable> KeySet for Numbers<T> {
     }
 }
 
-/// Whether two numbers are equal, as a table asks.
+/// Returns whether two numbers are equal. Tables call it as `eq`.
 pub(crate) fn is_same(new: &u64, entry: &u64) -> bool {
     *new == *entry
 }
 
-/// The hash of a number, as a table asks for it.
+/// Returns the hash of a number. Tables call it as `hash_fn`.
 pub(crate) fn hash_of(entry: &u64) -> u64 {
     hash_number(*entry)
 }
 
-/// The numbers in a raw table, kept as `V`.
+/// A raw table as a set of numbers, stored as `V`.
 pub type NumberSet<V> = Numbers<HeldRawTable<V>>;
 
 impl<V: NumberValue> NumberTable for HeldRawTable<V> {

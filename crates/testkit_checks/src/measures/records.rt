@@ -1,4 +1,4 @@
-//! Records of three numbers in the set that threads share by handles. The first number is the key, and the other two follow from it.
+//! A `SharedSet` of records of three numbers. The first number is the key, and the other two follow from it.
 
 use crate::measures::numbers::{Empty, KeySet};
 use crate::measures::shared::SharedKeys;
@@ -27,7 +27,7 @@ impl Record {
         }
     }
 
-    /// Returns true if its other numbers are those of this key.
+    /// Returns whether the other numbers follow from this key.
     fn is_of(&self, key: u64) -> bool {
         self.next == key.wrapping_add(1) && self.inverse == key ^ u64::MAX
     }
@@ -56,7 +56,7 @@ impl SetLaw<Record> for RecordLaw {
     }
 }
 
-/// The records in a `SharedSet`.
+/// A `SharedSet` of records.
 pub type SharedSetRecords = SharedSet<Record, RecordLaw>;
 
 impl Empty for SharedSetRecords {

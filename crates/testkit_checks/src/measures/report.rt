@@ -1,4 +1,4 @@
-//! How a measurement is printed.
+//! The printing of a measurement.
 ghost use Rattle.std.specs.Prelude.{◌≡◌, OnOk};
 
 use std::io;
@@ -6,18 +6,18 @@ use std::num::nearest_u64_to_f64;
 use std::rt::Clock;
 use std::time::Instant;
 
-/// Says how the program is called, and fails.
+/// Prints the usage as a message, and returns `Err`.
 pub fn refuse_words(rt: &impl Eprint) -> io::Result<()> {
     eprintln!(rt;
         "usage: tool_checks bench [list | held|held-in-place|held-set|held-shards one|seq|step|1e4|1e5|1e7|1e8 | \
         shared|shared-in-place|shared-set|shared-shards|records-shared-set one|seq|step|1e4|1e5|1e7|1e8 | \
         shared|shared-in-place|shared-set|shared-shards|records-shared-set same|ins|hit [THREADS] | \
-        texts-shared-set txt|txt4|words | seats one|seq|same|ins | core one | interner 1e4|1e5|1e6]"
+        texts-shared-interner txt|txt4|words | seats one|seq|same|ins | core one | interner 1e4|1e5|1e6]"
     )?;
     Err(io::Error::from(io::ErrorKind::InvalidInput))
 }
 
-/// Returns an error if this is not the count that is wanted.
+/// Compares a count with the one that is wanted. `Err`: they differ.
 pub(crate) fn expect(count: u64, wanted: u64) -> io::Result<()>
     ensures { OnOk result (count ≡ wanted) }
 {
@@ -27,14 +27,14 @@ pub(crate) fn expect(count: u64, wanted: u64) -> io::Result<()>
     Ok(())
 }
 
-/// Who reports a measurement.
+/// The name under which measurements are printed.
 #[derive(Clone, Copy)]
 pub struct Report<'a> {
     pub name: &'a str,
 }
 
 impl Report<'_> {
-    /// Prints what one of so many operations took. A count that is wrong is reported in place of the time.
+    /// Prints the time of one operation since `start`. `Err`: the count `done` isn't `wanted` (then nothing is printed), or an I/O error.
     pub fn time(
         &self,
         rt: &(impl Print + Clock),

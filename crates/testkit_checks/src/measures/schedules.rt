@@ -8,7 +8,7 @@ use table_core::event::Event;
 use table_core::state::{NoMemory, State};
 use testkit::schedules::load::{Hashes, INSERTS, LOOKUPS, load_events};
 
-/// Runs the group `one`: the time of an event, each number its own hash. Another group is refused.
+/// Measures the time per event, if the group is `one`. Each number is its own hash. `Err`: another group, a wrong count or an I/O error.
 pub fn measure_schedules<R: Print + Eprint + Clock + AllocGlobal>(
     rt: &R,
     report: &Report<'_>,
@@ -25,7 +25,7 @@ pub fn measure_schedules<R: Print + Eprint + Clock + AllocGlobal>(
     report.time(rt, "event", start, replies, INSERTS + LOOKUPS, operations)
 }
 
-/// The schedule once, counted and not timed.
+/// Runs the schedule once, without a clock, and prints counts. `Err`: memory was refused, or the output failed.
 pub fn check_schedules<R: Print + AllocGlobal>(rt: &R) -> io::Result<()> {
     let events = load_events(rt.alloc(), Hashes::Own)?;
     let mut state = State::new(rt.alloc());
@@ -35,7 +35,7 @@ pub fn check_schedules<R: Print + AllocGlobal>(rt: &R) -> io::Result<()> {
     println!(rt; "core: {taken} events, {replies} replies, {buckets} buckets")
 }
 
-/// How many calls end by these events.
+/// Runs these events. Returns how many calls they finish. `Err`: memory was refused.
 fn take_all(state: &mut State, events: &[Event]) -> io::Result<u64> {
     let mut replies = 0u64;
     for event in events {

@@ -14,10 +14,10 @@ use std::thread::Threads;
 use std::time::Instant;
 use std::{io, thread};
 
-/// The table is about half full in the end.
+/// The number of words of the table, about half of which are set at the end.
 const WORDS: usize = 1 << 21;
 
-/// Runs a group of measurements. A group that is not known is refused.
+/// Runs a group of measurements of the number table. `Err`: the group is unknown, or a measurement failed.
 pub fn measure_seats<R: Print + Eprint + Clock + Threads + Sync + AllocGlobal>(
     rt: &R,
     report: &Report<'_>,
@@ -40,7 +40,7 @@ pub fn measure_seats<R: Print + Eprint + Clock + Threads + Sync + AllocGlobal>(
     }
 }
 
-/// Spread keys in one thread, and then hits in four.
+/// Measures inserts, hits and misses of spread keys in one thread, and then hits in four. `Err`: a wrong count or an I/O error.
 fn measure_one<R: Print + Clock + Threads + Sync + AllocGlobal>(
     rt: &R,
     report: &Report<'_>,
@@ -58,7 +58,7 @@ fn measure_one<R: Print + Clock + Threads + Sync + AllocGlobal>(
     measure_work(rt, report, table, seat, Work::Hits)
 }
 
-/// Inserts and hits of these keys in one thread, under these names.
+/// Measures inserts and hits of these keys in one thread, under these names. `Err`: a wrong count or an I/O error.
 fn time_keys<R: Print + Clock, K: Fn(u64) -> u64>(
     rt: &R,
     report: &Report<'_>,
@@ -81,7 +81,7 @@ fn time_keys<R: Print + Clock, K: Fn(u64) -> u64>(
     report.time(rt, hits, start, found, COUNT, COUNT)
 }
 
-/// The time of the work of four threads.
+/// Measures the work of four threads. `Err`: a wrong count or an I/O error.
 fn measure_work<R: Print + Clock + Threads + Sync + AllocGlobal>(
     rt: &R,
     report: &Report<'_>,
@@ -106,7 +106,7 @@ fn measure_work<R: Print + Clock + Threads + Sync + AllocGlobal>(
     report.time(rt, name.as_str(), start, done, wanted, operations)
 }
 
-/// How many keys one thread places or finds.
+/// Does the work of one thread. Returns how many keys it places or finds.
 fn count_part(table: &NumberTable<Global>, part: Part, work: Work) -> u64
     requires { (part.worker < 4) × IsSeatOf table.now part.seat }
 {
@@ -119,7 +119,7 @@ fn count_part(table: &NumberTable<Global>, part: Part, work: Work) -> u64
     }
 }
 
-/// Each workload once, counted and not timed.
+/// Runs the workloads of one thread once, without a clock, and prints counts. `Err`: memory was refused, or the output failed.
 pub fn check_seats<R: Print + Threads + Sync + AllocGlobal>(rt: &R) -> io::Result<()> {
     let (table, mut seat) = NumberTable::new(rt.alloc(), WORDS)?;
     let placed = insert_keys(&table, &mut seat, 0, COUNT, &spread);
@@ -128,14 +128,14 @@ pub fn check_seats<R: Print + Threads + Sync + AllocGlobal>(rt: &R) -> io::Resul
     println!(rt; "seats spread: {placed} placed, {hits} hits, {found} of the absent found")
 }
 
-/// What one of the threads works with.
+/// The number of one of the threads, and its seat.
 #[derive(Drop)]
 struct Part {
     worker: u64,
     seat: Seat,
 }
 
-/// A part for each thread.
+/// Splits the seat into one for each thread. `Err`: memory was refused.
 fn parts_for(
     alloc: Global,
     table: &NumberTable<Global>,
@@ -158,7 +158,7 @@ fn parts_for(
     Ok(parts)
 }
 
-/// How many of so many keys, from the one of this index on, were placed.
+/// Inserts `count` keys, from index `from` on. Returns how many were placed.
 fn insert_keys<K: Fn(u64) -> u64>(
     table: &NumberTable<Global>,
     seat: &mut Seat,
@@ -182,7 +182,7 @@ fn insert_keys<K: Fn(u64) -> u64>(
     placed
 }
 
-/// How many of the same keys were placed, in all rounds.
+/// Inserts the same keys in each round. Returns how many were placed.
 fn insert_same(table: &NumberTable<Global>, seat: &mut Seat) -> u64
     requires { IsSeatOf table.now seat.old }
     ensures seat { IsSeatOf table.now seat.new }
@@ -195,12 +195,12 @@ fn insert_same(table: &NumberTable<Global>, seat: &mut Seat) -> u64
     placed
 }
 
-/// A key that was not inserted, of this index.
+/// Returns the absent key of this index.
 fn absent(index: u64) -> u64 {
     spread(index.wrapping_add(ABSENT))
 }
 
-/// How many of these keys are found in an order that begins at `start`.
+/// Looks up these keys, in an order that begins at index `start`. Returns how many were found.
 fn count_keys<K: Fn(u64) -> u64>(
     table: &NumberTable<Global>,
     seat: &mut Seat,
@@ -219,7 +219,7 @@ fn count_keys<K: Fn(u64) -> u64>(
     found
 }
 
-/// Whether the key was placed. 0 is no key.
+/// Inserts the key. Returns whether it was placed. 0 is no key.
 fn insert_key(table: &NumberTable<Global>, seat: &mut Seat, key: u64) -> bool
     requires { IsSeatOf table.now seat.old }
     ensures seat { IsSeatOf table.now seat.new }
@@ -232,7 +232,7 @@ fn insert_key(table: &NumberTable<Global>, seat: &mut Seat, key: u64) -> bool
     }
 }
 
-/// Whether the key is in the table. 0 is no key.
+/// Returns whether the key is in the table. 0 is no key.
 fn contains_key(table: &NumberTable<Global>, seat: &mut Seat, key: u64) -> bool
     requires { IsSeatOf table.now seat.old }
     ensures seat { IsSeatOf table.now seat.new }

@@ -1,10 +1,10 @@
-//! The set that one owner holds and whose law is in its type, as a table of numbers.
+//! `HeldSet` as a table of numbers.
 
 use crate::measures::numbers::{HeldTable, NumberTable, NumberValue, Numbers};
 use std::alloc::Global;
 use table_sets::{HeldSet, Inserted, NumberLaw};
 
-/// The numbers in a `HeldSet`, kept as `V`.
+/// A `HeldSet` as a set of numbers, stored as `V`.
 pub type HeldSetKeys<V> = Numbers<HeldSet<V, NumberLaw>>;
 
 impl<V: NumberValue> NumberTable for HeldSet<V, NumberLaw> {

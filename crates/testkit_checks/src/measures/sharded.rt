@@ -1,4 +1,4 @@
-//! Tables over sixteen shards as sets of numbers: one that is held alone, and one that threads share.
+//! Tables over sixteen shards as sets of numbers: a single-owner one, and one that threads share.
 
 use crate::measures::numbers::{HeldTable, NumberTable, NumberValue, Numbers, hash_of, is_same};
 use crate::measures::shared::SharedTable;
@@ -7,10 +7,10 @@ use std::alloc::Global;
 use std::sync::Wait;
 use table_terms::law::{NumberLaw, hash_number};
 
-/// How many shards there are.
+/// The number of shards.
 const SHARDS: usize = 16;
 
-/// The numbers in a table over shards that one owner holds alone, kept as `V`.
+/// A single-owner table over shards as a set of numbers, stored as `V`.
 pub type HeldShards<V> = Numbers<HeldShardedTable<V, SHARDS>>;
 
 impl<V: NumberValue> NumberTable for HeldShardedTable<V, SHARDS> {
@@ -38,7 +38,7 @@ impl<V: NumberValue> HeldTable for HeldShardedTable<V, SHARDS> {
     }
 }
 
-/// The numbers in a table over shards that threads share, kept as `V`.
+/// A shared table over shards as a set of numbers, stored as `V`.
 pub type SharedShards<V> = Numbers<ShardedLockFreeRawTable<V, SHARDS>>;
 
 impl<V: NumberValue + Send + Sync> NumberTable for ShardedLockFreeRawTable<V, SHARDS> {

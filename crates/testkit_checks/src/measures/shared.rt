@@ -1,4 +1,4 @@
-//! Measurements of the table that threads share, with one thread to four.
+//! Measurements of sets that threads share, with one thread to four.
 
 use crate::measures::held::{Spread, count_once, count_spread, insert_spread, measure_rows};
 use crate::measures::numbers::{
@@ -20,17 +20,17 @@ use table_terms::law::hash_number;
 
 /// A set of numbers that threads share.
 pub trait SharedKeys {
-    /// Does the task by what a thread calls the set with.
+    /// Does the task with this set, as one thread calls it.
     fn by_thread<R: Wait, T: Task>(&self, rt: &R, task: &T) -> T::Answer;
 }
 
 /// A table of numbers that threads share.
 pub trait SharedTable: NumberTable {
-    /// Whether this value of the number was placed: the number is new, and memory was there.
+    /// Inserts this value of the number. Returns whether it was placed: the number is new, and memory was granted.
     fn place<R: Wait>(&self, rt: &R, number: u64, value: Self::Value) -> bool;
 }
 
-/// A table that threads share, as one of them works with it.
+/// A shared table as a set of numbers, as one thread calls it.
 #[derive(Drop)]
 struct ByThread<'a, T, R> {
     keys: &'a Numbers<T>,
@@ -54,7 +54,7 @@ impl<T: SharedTable> SharedKeys for Numbers<T> {
     }
 }
 
-/// Sets of the type `S`, which threads share.
+/// Shared sets of the type `S`.
 #[derive(Drop)]
 struct SharedSets<'a, S, R> {
     rt: &'a R,
@@ -68,7 +68,7 @@ impl<'a, S: SharedKeys + Empty + Drop, R: Wait + AllocGlobal> Sets for SharedSet
     }
 }
 
-/// The numbers in a raw table that threads share, kept as `V`.
+/// A shared raw table as a set of numbers, stored as `V`.
 pub type SharedNumbers<V> = Numbers<LockFreeRawTable<V>>;
 
 impl<V: NumberValue + Send + Sync> NumberTable for LockFreeRawTable<V> {
@@ -91,8 +91,8 @@ impl<V: NumberValue + Send + Sync> SharedTable for LockFreeRawTable<V> {
     }
 }
 
-/// Runs a group of measurements of a set that threads share: those of several threads with so many, or with one to four in
-/// turn. A group that is not known is refused, and so is another number of threads, or any with a group of one thread.
+/// Runs a group of measurements of a shared set. The groups `same`, `ins` and `hit` run with `threads` threads, or with one to four in
+/// turn. `Err`: the group is unknown, `threads` isn't one to four or the group takes no threads, or a measurement failed.
 pub fn measure_shared<
     S: SharedKeys + Empty + Sync + Drop,
     R: Print + Eprint + Clock + Files + Threads + Wait + Sync + AllocGlobal,
@@ -121,7 +121,7 @@ pub fn measure_shared<
     }
 }
 
-/// The work with so many threads, or with one to four in turn, each time in a new set.
+/// Measures the work with `threads` threads or with one to four in turn, each in a new set. `Err`: a wrong word or count, or an I/O error.
 pub(crate) fn measure_work<
     R: Print + Eprint + Clock + Threads + Wait + Sync + AllocGlobal,
     S: SharedKeys + Empty + Sync + Drop,
@@ -140,7 +140,7 @@ pub(crate) fn measure_work<
     }
 }
 
-/// The work with so many threads, in a new set.
+/// Measures the work with `threads` threads, in a new set. Before hits one thread inserts all keys. `Err`: a wrong count or an I/O error.
 fn measure_team<
     R: Print + Clock + Threads + Wait + Sync + AllocGlobal,
     S: SharedKeys + Empty + Sync + Drop,
@@ -152,7 +152,7 @@ fn measure_team<
     time_work(rt, report, &set, work, threads)
 }
 
-/// The time of the work of so many threads.
+/// Times the work with this number of threads, and prints the result. `Err`: a wrong count or an I/O error.
 fn time_work<R: Print + Clock + Threads + Wait + Sync + AllocGlobal, S: SharedKeys + Sync>(
     rt: &R,
     report: &Report<'_>,
@@ -167,7 +167,7 @@ fn time_work<R: Print + Clock + Threads + Wait + Sync + AllocGlobal, S: SharedKe
     report.time(rt, name.as_str(), start, done, wanted, operations)
 }
 
-/// How many keys so many threads place or find.
+/// Does the work with this number of threads. Returns how many keys they place or find. `Err`: memory for the threads was refused.
 pub(crate) fn count_work<R: Threads + Wait + Sync, S: SharedKeys + Sync>(
     rt: &R,
     alloc: Global,
@@ -188,7 +188,7 @@ pub(crate) fn count_work<R: Threads + Wait + Sync, S: SharedKeys + Sync>(
     Ok(total(counts.as_slice()))
 }
 
-/// The part of the work that one thread does: it has so many keys, from this one on.
+/// The part of the work that one thread does. It begins at index `from`, and has `keys` keys if the work is `Inserts`.
 #[derive(Clone, Copy)]
 struct Part {
     work: Work,
@@ -197,7 +197,7 @@ struct Part {
 }
 
 impl Part {
-    /// The inserts of all keys.
+    /// The inserts of all keys by one thread.
     const ALL: Part = Part {
         work: Work::Inserts,
         keys: COUNT,
@@ -205,7 +205,7 @@ impl Part {
     };
 }
 
-/// How many keys the thread places or finds.
+/// The answer is how many keys the thread places or finds.
 impl Task for Part {
     type Answer = u64;
 
@@ -218,7 +218,7 @@ impl Task for Part {
     }
 }
 
-/// Counts spread keys once, in an empty set.
+/// The task that counts spread keys once, in an empty set.
 #[derive(Drop)]
 struct Once {}
 
@@ -230,7 +230,7 @@ impl Task for Once {
     }
 }
 
-/// Each workload once on a set that threads share, counted and not timed.
+/// Runs workloads of one thread and of four on a shared set, without a clock, and prints counts. `Err`: refused memory or an I/O error.
 pub fn check_shared<
     S: SharedKeys + Empty + Sync + Drop,
     R: Print + Threads + Wait + Sync + AllocGlobal,
@@ -246,7 +246,7 @@ pub fn check_shared<
     println!(rt; "{name} by four: {placed} placed")
 }
 
-/// How many of the same keys were placed, in all rounds.
+/// Inserts the same keys in each round. Returns how many were placed.
 fn insert_same<S: KeySet>(set: &mut S) -> u64 {
     let mut placed = 0u64;
     for _round in 0..ROUNDS {

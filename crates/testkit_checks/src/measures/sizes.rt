@@ -1,4 +1,4 @@
-//! Measurements of a set by one thread with fewer keys than a million, and with more.
+//! Measurements of a set by one thread, with fewer keys than a million, and with more.
 
 use crate::measures::held::insert_spread;
 use crate::measures::memory::{print_bytes, resident_bytes};
@@ -10,7 +10,7 @@ use std::io;
 use std::rt::{Clock, Files};
 use std::time::Instant;
 
-/// How many keys a table has, how many rounds there are, and the names of what is measured.
+/// The number of keys of a table, the number of rounds, and the names of the measurements.
 type Size = (u64, u64, [&'static str; 3]);
 
 const SIZE_1E4: Size = (10_000, 100, ["ins_1e4", "hit_1e4", "miss_1e4"]);
@@ -19,10 +19,10 @@ const SIZE_1E5: Size = (100_000, 10, ["ins_1e5", "hit_1e5", "miss_1e5"]);
 
 const SIZE_1E7: Size = (10_000_000, 1, ["ins_1e7", "hit_1e7", "miss_1e7"]);
 
-/// The keys of the largest table, which is made once.
+/// The number of keys of the largest table, which is made once.
 const LARGEST: u64 = 100_000_000;
 
-/// Runs a group of measurements: so many keys. A group that is not known is refused.
+/// Runs the group of measurements for a number of keys, such as `1e4`. `Err`: the group is unknown, or a measurement failed.
 pub(crate) fn measure_sizes<S: Sets, R: Print + Eprint + Clock>(
     rt: &R,
     report: &Report<'_>,
@@ -37,8 +37,8 @@ pub(crate) fn measure_sizes<S: Sets, R: Print + Eprint + Clock>(
     }
 }
 
-/// Spread keys, so many a table: inserts into so many tables, each of which is dropped, then hits and misses of one table, over
-/// all its keys as often.
+/// Measures inserts of spread keys into a new table each round, and then hits and misses in one table, over all its keys each round. `Err`:
+/// a wrong count or an I/O error.
 fn measure_size<S: Sets, R: Print + Clock>(
     rt: &R,
     report: &Report<'_>,
@@ -55,7 +55,7 @@ fn measure_size<S: Sets, R: Print + Clock>(
     sets.with_empty(&Looks { rt, report, size })?
 }
 
-/// Inserts so many spread keys.
+/// The task that inserts `keys` spread keys.
 #[derive(Drop)]
 struct Fill {
     keys: u64,
@@ -69,7 +69,7 @@ impl Task for Fill {
     }
 }
 
-/// How many keys were placed, of so many in each of so many tables, which are made and dropped one after the other.
+/// Fills a new table with `keys` keys in each round, and drops it. Returns how many keys were placed. `Err`: memory was refused.
 fn fill_tables<S: Sets>(sets: &S, keys: u64, rounds: u64) -> Result<u64, AllocError> {
     let mut placed: u64 = 0;
     for _round in 0..rounds {
@@ -78,7 +78,7 @@ fn fill_tables<S: Sets>(sets: &S, keys: u64, rounds: u64) -> Result<u64, AllocEr
     Ok(placed)
 }
 
-/// Measures hits and misses of so many spread keys.
+/// The task that measures hits and misses of spread keys.
 #[derive(Drop)]
 struct Looks<'a, R> {
     rt: &'a R,
@@ -106,7 +106,7 @@ impl<'a, R: Print + Clock> Task for Looks<'a, R> {
     }
 }
 
-/// How many look-ups of keys so much further on found an entry, in so many rounds over as many keys.
+/// Looks up all keys in each round, with `further` added to each index. Returns how many look-ups found an entry.
 fn look_rounds<S: KeySet>(set: &mut S, keys: u64, rounds: u64, further: u64) -> u64 {
     let mut found: u64 = 0;
     for _round in 0..rounds {
@@ -115,7 +115,7 @@ fn look_rounds<S: KeySet>(set: &mut S, keys: u64, rounds: u64, further: u64) -> 
     found
 }
 
-/// How many look-ups of keys so much further on found an entry. They come in an order that jumps.
+/// Looks up all keys in an order that jumps, with `further` added to each index. Returns how many look-ups found an entry.
 fn look_all<S: KeySet>(set: &mut S, keys: u64, further: u64) -> u64 {
     let mut found: u64 = 0;
     for index in 0..keys {
@@ -125,7 +125,7 @@ fn look_all<S: KeySet>(set: &mut S, keys: u64, further: u64) -> u64 {
     found
 }
 
-/// Measures a hundred million spread keys.
+/// The task that measures a hundred million spread keys.
 #[derive(Drop)]
 pub(crate) struct Largest<'a, R> {
     pub(crate) rt: &'a R,
@@ -140,7 +140,7 @@ impl<'a, R: Print + Clock + Files + AllocGlobal> Task for Largest<'a, R> {
     }
 }
 
-/// A hundred million spread keys in an empty set: inserts, resident bytes, hits and misses.
+/// Measures a hundred million spread keys in an empty set: inserts, resident bytes, hits and misses. `Err`: a wrong count or an I/O error.
 fn measure_largest<R: Print + Clock + Files + AllocGlobal, S: KeySet>(
     rt: &R,
     report: &Report<'_>,

@@ -1,25 +1,25 @@
-//! What one thread does with a set of numbers.
+//! Tasks that one thread does with a set of numbers.
 
 use crate::measures::numbers::{Empty, KeySet};
 use std::alloc::{AllocError, Global};
 use std::marker::PhantomData;
 
-/// Something that one thread does with a set of numbers.
+/// A task that one thread does with a set of numbers.
 pub trait Task {
-    /// What it comes to.
+    /// The result of the task.
     type Answer;
 
-    /// Does it with this set.
+    /// Does the task with this set.
     fn run<K: KeySet>(&self, keys: &mut K) -> Self::Answer;
 }
 
-/// A kind of set, of which each task gets an empty one.
+/// A type of sets. Each task gets an empty one.
 pub(crate) trait Sets {
-    /// Does the task with an empty set, and drops the set. Err: memory was refused.
+    /// Does the task with an empty set, and drops the set. `Err`: memory was refused.
     fn with_empty<T: Task>(&self, task: &T) -> Result<T::Answer, AllocError>;
 }
 
-/// Sets of the type `S`, which one owner holds.
+/// Single-owner sets of the type `S`.
 #[derive(Drop)]
 pub(crate) struct HeldSets<S> {
     pub(crate) alloc: Global,

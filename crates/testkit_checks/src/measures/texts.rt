@@ -1,4 +1,4 @@
-//! Measurements of the interner: numbers of new texts, numbers of known texts, and texts of numbers.
+//! Measurements of the single-owner interner: numbers of new texts, numbers of known texts, and texts of numbers.
 
 use crate::measures::report::{Report, refuse_words};
 use interner::Interner;
@@ -8,10 +8,10 @@ use std::num::NonZeroU32;
 use std::rt::Clock;
 use std::time::Instant;
 
-/// The calls of each measurement. They go over the texts again and again.
+/// How many calls each measurement makes. They go over the texts again and again.
 const CALLS: u64 = 1_000_000;
 
-/// How many texts there are, how many rounds over all of them, and the names of what is measured.
+/// The number of texts, the number of rounds over all of them, and the names of the measurements.
 type Size = (u32, u64, [&'static str; 3]);
 
 const SIZE_1E4: Size = (10_000, 100, ["new_1e4", "known_1e4", "back_1e4"]);
@@ -20,7 +20,7 @@ const SIZE_1E5: Size = (100_000, 10, ["new_1e5", "known_1e5", "back_1e5"]);
 
 const SIZE_1E6: Size = (1_000_000, 1, ["new_1e6", "known_1e6", "back_1e6"]);
 
-/// Runs a group of measurements: so many texts. A group that is not known is refused.
+/// Runs the group of measurements for a number of texts, such as `1e4`. `Err`: the group is unknown, or a measurement failed.
 pub fn measure_interner<R: Print + Eprint + Clock + AllocGlobal>(
     rt: &R,
     report: &Report<'_>,
@@ -34,7 +34,7 @@ pub fn measure_interner<R: Print + Eprint + Clock + AllocGlobal>(
     }
 }
 
-/// New texts, in an interner of their own in each round; known texts; and numbers.
+/// Measures interning new texts, each round in a new interner, then known ones, and reading texts. `Err`: a wrong count or an I/O error.
 fn measure_texts<R: Print + Clock + AllocGlobal>(
     rt: &R,
     report: &Report<'_>,
@@ -58,7 +58,7 @@ fn measure_texts<R: Print + Clock + AllocGlobal>(
     report.time(rt, back, start, shown, CALLS, CALLS)
 }
 
-/// Ten thousand texts, counted and not timed.
+/// Interns ten thousand texts twice, reads them by their numbers, and prints the counts. `Err`: memory was refused, or the output failed.
 pub fn check_interner<R: Print + AllocGlobal>(rt: &R) -> io::Result<()> {
     let texts = texts_of(rt.alloc(), 10_000)?;
     let mut interner = Interner::new(rt.alloc());
@@ -68,7 +68,7 @@ pub fn check_interner<R: Print + AllocGlobal>(rt: &R) -> io::Result<()> {
     println!(rt; "interner: {new} new, {known} known, {back} back")
 }
 
-/// The texts name0, name1, ..
+/// Makes the texts name0, name1, .. `Err`: memory was refused.
 fn texts_of(alloc: Global, count: u32) -> Result<Vec<String>, AllocError> {
     let mut texts = Vec::new(alloc);
     for index in 0..count {
@@ -77,7 +77,7 @@ fn texts_of(alloc: Global, count: u32) -> Result<Vec<String>, AllocError> {
     Ok(texts)
 }
 
-/// How many of the texts are given the number of their place.
+/// Interns the texts. Returns how many of them get the number of their place, from 1 on.
 fn intern_all(interner: &mut Interner<Global>, texts: &[String]) -> u64 {
     let mut given = 0u64;
     let mut place = 0u64;
@@ -88,7 +88,7 @@ fn intern_all(interner: &mut Interner<Global>, texts: &[String]) -> u64 {
     given
 }
 
-/// Whether the text is given this number.
+/// Interns the text. Returns whether it gets this number.
 fn intern_as(interner: &mut Interner<Global>, text: &str, place: u64) -> bool {
     match interner.intern_alone(text) {
         Ok(number) => u64::from(number.get()) == place,
@@ -96,7 +96,7 @@ fn intern_as(interner: &mut Interner<Global>, text: &str, place: u64) -> bool {
     }
 }
 
-/// How many of the texts are given the number of their place, in a new interner each round.
+/// Interns the texts in a new interner each round. Returns how often a text gets the number of its place.
 fn count_new(alloc: Global, texts: &[String], rounds: u64) -> u64 {
     let mut given = 0u64;
     for _round in 0..rounds {
@@ -106,7 +106,7 @@ fn count_new(alloc: Global, texts: &[String], rounds: u64) -> u64 {
     given
 }
 
-/// How many of the known texts are given the number of their place, in all rounds.
+/// Interns the known texts in each round. Returns how often a text gets the number of its place.
 fn count_known(interner: &mut Interner<Global>, texts: &[String], rounds: u64) -> u64 {
     let mut given = 0u64;
     for _round in 0..rounds {
@@ -115,7 +115,7 @@ fn count_known(interner: &mut Interner<Global>, texts: &[String], rounds: u64) -
     given
 }
 
-/// How many of the numbers up to this one name a text that begins with n, as all do.
+/// Reads the texts of the numbers up to `count`. Returns how many begin with n, as all texts do.
 fn texts_back(interner: &Interner<Global>, count: u32) -> u64 {
     let mut shown = 0u64;
     for index in 1..=count {
@@ -124,7 +124,7 @@ fn texts_back(interner: &Interner<Global>, count: u32) -> u64 {
     shown
 }
 
-/// Whether this number names a text that begins with n.
+/// Returns whether the text of this number begins with n.
 fn begins_with_n(interner: &Interner<Global>, index: u32) -> bool {
     match NonZeroU32::new(index) {
         Some(number) => match interner.text_alone(number) {
@@ -135,7 +135,7 @@ fn begins_with_n(interner: &Interner<Global>, index: u32) -> bool {
     }
 }
 
-/// How many of these numbers name a text, in all rounds.
+/// Reads the texts of the numbers up to `count` in each round. Returns how often a text begins with n.
 fn count_back(interner: &Interner<Global>, count: u32, rounds: u64) -> u64 {
     let mut shown = 0u64;
     for _round in 0..rounds {

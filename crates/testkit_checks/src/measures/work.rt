@@ -1,29 +1,29 @@
-//! What several threads do at once.
+//! The work that several threads do at once.
 use crate::measures::numbers::COUNT;
 use std::alloc::{AllocError, Global};
 
 /// How often each thread inserts the same keys.
 pub(crate) const ROUNDS: u64 = 25;
 
-/// Those keys.
+/// How many keys each thread inserts again and again.
 pub(crate) const SAME: u64 = 10_000;
 
-/// The most threads that are measured.
+/// The largest number of threads that is measured.
 pub(crate) const MOST: u64 = 4;
 
-/// What several threads do at once.
+/// The work that several threads do at once.
 #[derive(Clone, Copy)]
 pub(crate) enum Work {
-    /// Each inserts the same keys, again and again.
+    /// Each thread inserts the same keys, again and again.
     Same,
-    /// Each inserts a part of the keys.
+    /// Each thread inserts its own part of the keys.
     Inserts,
-    /// Each looks all keys up, in an order that begins elsewhere for each.
+    /// Each thread looks up all keys. Each begins at another key.
     Hits,
 }
 
 impl Work {
-    /// Returns the name of the measurement of so many threads.
+    /// Returns the name of the measurement with this number of threads. `Err`: memory was refused.
     pub(crate) fn name(self, alloc: Global, threads: u64) -> Result<String, AllocError> {
         let name = match self {
             Work::Same => "d_same",
@@ -33,7 +33,7 @@ impl Work {
         format!(in alloc; "{name}{threads}")
     }
 
-    /// Returns how many keys so many threads place or find, and by how many calls.
+    /// Returns how many keys this number of threads places or finds, and by how many calls.
     pub(crate) fn wanted(self, threads: u64) -> (u64, u64) {
         let all = match self {
             Work::Same => return (SAME, (ROUNDS * SAME).wrapping_mul(threads)),
@@ -44,7 +44,7 @@ impl Work {
     }
 }
 
-/// Returns how many keys each of so many threads begins after the one before it.
+/// Returns the number of keys in each thread's part, which is also how far apart the threads begin.
 pub(crate) fn part_for(threads: u64) -> u64 {
     COUNT.checked_div(threads).unwrap_or(COUNT)
 }

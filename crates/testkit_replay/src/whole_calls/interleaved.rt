@@ -1,6 +1,7 @@
-//! Whole calls of two threads on one table, interleaved as an interleaving says.
+//! Whole calls of two threads on one table, in the order of an interleaving.
 //!
-//! Each thread compares what its calls are asked, what they are told, and what the table shows at its stops with what was rehearsed.
+//! Each thread compares its calls with the rehearsal: the entries with which closures are called, the replies, and what the table shows at
+//! its stops.
 ghost use Rattle.table_terms.specs.Capacities.{IsFirstCapacity};
 
 use crate::fault::{Fault, granted};
@@ -22,31 +23,31 @@ use testkit::refusing::{Refusing, Rule};
 /// The capacity of the first generation.
 const FIRST: u64 = 16;
 
-/// How many calls each thread makes.
+/// The number of calls that each thread makes.
 const CALLS: u64 = 20;
 
-/// How often a thread looks for its turn: for twenty seconds at most, if no turn begins.
+/// The number of times that a thread checks whether its turn has begun. That takes at most twenty seconds if no turn begins.
 const LOOKS: u64 = 4000;
 
-/// How often the watcher looks for what a call does before it waits.
+/// How often the watcher checks whether the table shows what a call does before it waits.
 const SIGHTS: u64 = 1 << 20;
 
 /// How often the watcher yields after that, so that the call comes to its lock.
 const QUIET_YIELDS: u64 = 50;
 
-/// One of the threads: the interleaving, the place of its next stop, and its first fault.
+/// A thread that takes part in an interleaving, with the place where the search for its next stop begins, and its first fault.
 struct Player<'p, 'm, R: Wait> {
     rt: &'p R,
     ground: Ground<'p, 'm>,
     plan: &'p Interleaving,
-    /// How many of the entries were asked for that growths copy while both threads run.
+    /// The number of entries that growths have copied while both threads ran.
     copied: &'p AtomicU64,
     actor: Actor,
     place: Cell<usize>,
     fault: Cell<Option<Fault>>,
 }
 
-/// What is wrong where a call has come to this mark in place of the one that was rehearsed.
+/// Returns the fault of a call that has come to this mark instead of the rehearsed one.
 fn difference(call: u64, rehearsed: Option<Mark>, mark: Mark) -> Fault {
     match (rehearsed, mark) {
         (Some(Mark::Told(_, machine)), Mark::Told(_, table)) => Fault::Told {
@@ -59,7 +60,7 @@ fn difference(call: u64, rehearsed: Option<Mark>, mark: Mark) -> Fault {
 }
 
 impl<R: Wait> Player<'_, '_, R> {
-    /// The stop of this thread at this place or after it, and its place.
+    /// Returns the first stop of this thread at this place or after it, with its place.
     fn stop_from(&self, place: usize) -> Option<(usize, Stop)> {
         for (index, stop) in self.plan.stops.iter().enumerate() {
             if place <= index && stop.actor == self.actor {
@@ -69,20 +70,20 @@ impl<R: Wait> Player<'_, '_, R> {
         None
     }
 
-    /// The next stop.
+    /// Returns the next stop of this thread.
     fn peek(&self) -> Option<Stop> {
         let (_index, stop) = self.stop_from(self.place.get())?;
         Some(stop)
     }
 
-    /// The next stop, which the thread has come to.
+    /// Returns the next stop of this thread, and moves past it.
     fn take(&self) -> Option<Stop> {
         let (index, stop) = self.stop_from(self.place.get())?;
         self.place.set(index.saturating_add(1));
         Some(stop)
     }
 
-    /// Notes a fault. From then on nobody waits, and both threads go to their ends.
+    /// Records a fault, if it is the first. From then on no thread waits, and both threads run to their ends.
     fn fail(&self, fault: Fault) {
         if self.fault.get().is_none() && !self.turns_have_ended() {
             self.fault.set(Some(fault));
@@ -90,12 +91,12 @@ impl<R: Wait> Player<'_, '_, R> {
         self.ground.memory.turns().end();
     }
 
-    /// Whether a thread has met a fault.
+    /// Returns whether all waiting was ended, by a fault or a missed turn.
     fn turns_have_ended(&self) -> bool {
         self.ground.memory.turns().has_ended()
     }
 
-    /// What the table shows now.
+    /// Returns what the table shows now.
     fn sight(&self) -> Sight {
         Sight::of(self.ground.table, self.ground.first)
     }
@@ -107,7 +108,7 @@ impl<R: Wait> Player<'_, '_, R> {
         }
     }
 
-    /// The thread has come to this mark of a call, which has to be its next stop. It waits there, if the turn ends.
+    /// Takes the next stop, which must have this mark, and compares what the table shows there. Waits if the stop says so.
     fn arrive(&self, call: u64, mark: Mark) {
         if self.turns_have_ended() {
             return;
@@ -121,7 +122,7 @@ impl<R: Wait> Player<'_, '_, R> {
         }
     }
 
-    /// The table shows what it has to show at this stop, and each request that was to be held was made.
+    /// Checks that the table shows what was rehearsed for this stop, and that the request that was to be held was made.
     fn compare(&self, stop: Stop) {
         if let Some(sight) = stop.sight {
             if sight != self.sight() {
@@ -133,7 +134,8 @@ impl<R: Wait> Player<'_, '_, R> {
         }
     }
 
-    /// Goes on from this stop. If the next one is a request for a block, that is held.
+    /// Leaves this stop, and ends the turn or waits if the stop says so. If the next stop is a request for a block, that request will be
+    /// held.
     fn leave(&self, stop: Stop) {
         if stop.then != Then::GoesOn {
             self.ground.memory.turns().pass();
@@ -152,14 +154,14 @@ impl<R: Wait> Player<'_, '_, R> {
         }
     }
 
-    /// What a call is told that asks whether an entry is of its class.
+    /// Returns whether an entry is of this class. The thread first makes its stop there.
     fn says(&self, call: u64, class: u64, entry: &Item) -> bool {
         let accepted = class == entry.class;
         self.arrive(call, Mark::Asked(call, entry.number, accepted));
         accepted
     }
 
-    /// What an insert is told that asks for the hash of an entry.
+    /// Returns the hash of an entry. The thread first makes its stop there, or compares the copy if it has no such stop.
     fn rehashes(&self, call: u64, entry: &Item) -> u64 {
         match self.peek() {
             Some(stop) if matches!(stop.mark, Mark::Hashed(_, _, _)) => {
@@ -170,7 +172,7 @@ impl<R: Wait> Player<'_, '_, R> {
         entry.hash
     }
 
-    /// The growth of a call asks for the hash of an entry while both threads run.
+    /// Compares an entry that a growth copies with the rehearsal, while both threads run.
     fn copy(&self, call: u64, entry: &Item) {
         if self.turns_have_ended() {
             return;
@@ -186,7 +188,7 @@ impl<R: Wait> Player<'_, '_, R> {
         }
     }
 
-    /// A whole call: what it is told.
+    /// Runs a whole call, and returns its reply. `Err`: no memory for its value.
     fn call(&self, call: u64, ask: Ask) -> Result<Said, Fault> {
         match ask {
             Ask::Insert(class, hash) => {
@@ -212,7 +214,7 @@ impl<R: Wait> Player<'_, '_, R> {
         }
     }
 
-    /// The call of this stop, from its beginning to its end.
+    /// Runs the call that begins at this stop to its end.
     fn play(&self, stop: Stop) {
         let Mark::Began(ask) = stop.mark else {
             return;
@@ -224,7 +226,7 @@ impl<R: Wait> Player<'_, '_, R> {
         }
     }
 
-    /// Looks until the table shows what the call does before it waits, and begins the next turn a little later.
+    /// Waits until the table shows what the blocked call does before it waits, and begins the next turn a little later.
     fn watch(&self, stop: Stop) {
         self.wait(Some(stop.turn));
         for _look in 0..SIGHTS {
@@ -240,7 +242,7 @@ impl<R: Wait> Player<'_, '_, R> {
         self.ground.memory.turns().pass();
     }
 
-    /// All of its stops: its first fault.
+    /// Makes all stops of this thread, and returns its first fault.
     fn run(&self) -> Option<Fault> {
         if self.actor != Actor::Watcher {
             self.wait(self.peek().map(|stop| stop.turn));
@@ -274,7 +276,7 @@ impl<R: Wait> Drop for Player<'_, '_, R> {
     }
 }
 
-/// Runs the part of one thread: its first fault.
+/// Runs the part of one thread, and returns its first fault.
 fn play_as<R: Wait>(
     rt: &R,
     ground: Ground<'_, '_>,
@@ -294,7 +296,7 @@ fn play_as<R: Wait>(
     player.run()
 }
 
-/// Runs an interleaving on a table: the first fault of a thread.
+/// Runs an interleaving on a table. `Err`: the fault of a thread, a missed turn, or fewer copied entries than were rehearsed.
 fn run_plan<R: Threads + Wait + Sync>(
     rt: &R,
     ground: Ground<'_, '_>,
@@ -325,7 +327,7 @@ fn run_plan<R: Threads + Wait + Sync>(
 }
 
 /// Draws an interleaving, rehearses it beside the machine, and runs it by whole calls on a table whose first generation has `first`
-/// buckets.
+/// buckets. `Err`: the first fault.
 fn run_drawn<R: Threads + Wait + Sync>(
     rt: &R,
     alloc: Global,
@@ -343,8 +345,8 @@ fn run_drawn<R: Threads + Wait + Sync>(
     run_plan(rt, Ground::new(alloc, first, &memory, &table), &plan)
 }
 
-/// Runs the interleaving of a seed by whole calls of two threads. Fails where a call is asked or told something else than its steps
-/// are beside the machine, or where the table shows something else.
+/// Runs the interleaving of a seed by whole calls of two threads. `Err`: a closure is called with another entry than in the rehearsal, or a
+/// reply or what the table shows is different.
 pub fn run_interleaved<R: Threads + Wait + Sync>(
     rt: &R,
     alloc: Global,
@@ -353,7 +355,7 @@ pub fn run_interleaved<R: Threads + Wait + Sync>(
     run_drawn(rt, alloc, FIRST, seed)
 }
 
-/// Runs the interleavings of so many seeds from this one on: the first of them that has a fault, and that.
+/// Runs the interleavings of `seeds` seeds from `first_seed` on. Returns the first seed whose interleaving has a fault, with that fault.
 pub fn first_fault<R: Threads + Wait + Sync>(
     rt: &R,
     alloc: Global,

@@ -1,8 +1,8 @@
 //! Interleavings of the whole calls of two threads, each drawn from its seed.
 //!
-//! An interleaving is rehearsed by stepped calls beside the machine. It says where each call stops: where a closure is asked, and
-//! where the block of a value is requested. At some stops the turn ends, and another thread goes on. Where a call is blocked, both
-//! threads go on at once until both calls have ended.
+//! An interleaving is rehearsed by stepped calls beside the machine. It lists the stops of each call, such as calls of a closure and
+//! requests for the block of a value. A turn ends at some stops, and then a thread is drawn that goes on. If a call is blocked, both
+//! threads run at once until both calls have ended.
 use crate::fault::{Fault, granted};
 use crate::item::Said;
 use crate::replay::{Replay, Turn};
@@ -13,10 +13,10 @@ use crate::whole_calls::trace::{Mark, Sight};
 use std::alloc::Global;
 use table_core::call::Phase;
 
-/// How many classes there are to draw from.
+/// The number of classes from which calls are drawn.
 const CLASSES: u64 = 30;
 
-/// Who stops: one of two threads, or the one that watches how a call comes to a lock.
+/// A thread that stops: one of the two that call the table, or the watcher, which sees a call come to a lock.
 #[derive(Clone, Copy, PartialEq, Debug)]
 pub(crate) enum Actor {
     First,
@@ -25,7 +25,7 @@ pub(crate) enum Actor {
 }
 
 impl Actor {
-    /// The other thread that calls the table.
+    /// Returns the other thread that calls the table.
     fn other(self) -> Actor {
         if self == Actor::First {
             Actor::Second
@@ -35,7 +35,7 @@ impl Actor {
     }
 }
 
-/// Where a thread stops, in which turn, and what the table shows then if no other thread runs.
+/// A stop of a thread: its turn, its mark, and what the table shows then if no other thread runs.
 #[derive(Clone, Copy)]
 pub(crate) struct Stop {
     pub(crate) actor: Actor,
@@ -52,15 +52,15 @@ pub(crate) struct Stop {
 /// What a thread does after a stop.
 #[derive(Clone, Copy, PartialEq)]
 pub(crate) enum Then {
-    /// It goes on.
+    /// The thread goes on.
     GoesOn,
-    /// It ends the turn, and waits until it goes on in a later one.
+    /// The thread ends the turn, and waits until it goes on in a later one.
     Hands,
-    /// It ends the turn and goes on to a lock, for which it has to wait.
+    /// The thread ends the turn and goes on to a lock, for which it has to wait.
     Enters,
 }
 
-/// An entry for whose hash a growth asks while both threads run, the hash that it is told, and what the table shows.
+/// An entry that a growth copies while both threads run, its hash, and what the table shows then.
 #[derive(Clone, Copy, PartialEq)]
 pub(crate) struct Copied {
     pub(crate) entry: u64,
@@ -68,15 +68,15 @@ pub(crate) struct Copied {
     pub(crate) sight: Sight,
 }
 
-/// The stops of two threads in their order, and what growths ask while both threads run.
+/// The stops of all threads in order, and the entries that growths copy while both threads run.
 #[derive(Drop)]
 pub(crate) struct Interleaving {
     pub(crate) stops: Vec<Stop>,
     pub(crate) copied: Vec<Copied>,
 }
 
-/// The calls of one thread: how many are still to begin, the place of the one that goes on, and whether that one doesn't stop at its
-/// next request for a block.
+/// The calls of one thread: how many are still to begin, the index of the one that has begun and not ended, and whether that one passes its
+/// next request for a block without a stop.
 #[derive(Clone, Copy)]
 struct Part {
     left: u64,
@@ -85,33 +85,33 @@ struct Part {
 }
 
 impl Part {
-    /// Whether there is a call that goes on, or one that is to begin.
+    /// Returns whether a call hasn't ended, or one is still to begin.
     fn goes_on(self) -> bool {
         self.call.is_some() || self.left != 0
     }
 }
 
-/// An interleaving that is drawn, as far as it is rehearsed.
+/// A random interleaving while it is rehearsed.
 #[derive(Drop)]
 pub(crate) struct Rehearsal<'s> {
     script: &'s Script,
     first: Part,
     second: Part,
-    /// Which thread goes on, unless all calls have ended.
+    /// The thread whose call takes the next step. `None` means that all calls have ended.
     running: Option<Actor>,
-    /// Whether both threads go on at once.
+    /// Whether both threads run at once.
     both: bool,
     turn: u64,
     /// The class and the hash that were drawn last.
     drawn: (u64, u64),
-    /// The phase before the step.
+    /// The phase of the call before its step.
     before: Phase,
     stops: Vec<Stop>,
     copied: Vec<Copied>,
 }
 
 impl<'s> Rehearsal<'s> {
-    /// Each thread makes `calls` calls, which are drawn from the script.
+    /// Makes a rehearsal in which each thread makes `calls` calls, which are drawn from the script.
     pub(crate) fn new(alloc: Global, script: &'s Script, calls: u64) -> Rehearsal<'s> {
         let part = Part {
             left: calls,
@@ -132,7 +132,7 @@ impl<'s> Rehearsal<'s> {
         }
     }
 
-    /// Returns what was rehearsed.
+    /// Returns the interleaving that was rehearsed.
     pub(crate) fn into_interleaving(self) -> Interleaving {
         let Rehearsal {
             script: _,
@@ -149,7 +149,7 @@ impl<'s> Rehearsal<'s> {
         Interleaving { stops, copied }
     }
 
-    /// The calls of this thread.
+    /// Returns the calls of this thread.
     fn part(&self, actor: Actor) -> Part {
         if actor == Actor::First {
             self.first
@@ -158,7 +158,7 @@ impl<'s> Rehearsal<'s> {
         }
     }
 
-    /// The same, to be changed.
+    /// Returns the calls of this thread, to be changed.
     fn part_mut(&mut self, actor: Actor) -> &mut Part {
         if actor == Actor::First {
             &mut self.first
@@ -167,8 +167,8 @@ impl<'s> Rehearsal<'s> {
         }
     }
 
-    /// Draws a call: three of four are inserts. One of three asks for the class that was drawn last. Many classes share a first bucket,
-    /// and some of those the eight bits.
+    /// Draws a call. Three of four are inserts, and one of three has the class that was drawn last. Classes with the same first bucket have
+    /// the same hash.
     fn draw_ask(&mut self) -> Ask {
         if self.script.draw(3) != 0 {
             let class = self.script.draw(CLASSES);
@@ -182,7 +182,7 @@ impl<'s> Rehearsal<'s> {
         }
     }
 
-    /// Adds a stop of this thread, or of the watcher.
+    /// Adds a stop of this thread, or of the watcher. `Err`: no memory.
     fn stop(
         &mut self,
         actor: Actor,
@@ -207,7 +207,7 @@ impl<'s> Rehearsal<'s> {
         )
     }
 
-    /// The last stop of this thread, if it is of this turn: there the thread goes on to a lock, and the turn ends.
+    /// Ends the turn at the last stop, if that is a stop of this thread in this turn. The thread goes on from there to a lock.
     fn enter(&mut self, actor: Actor) {
         let turn = self.turn;
         if let Some(stop) = self.stops.last_mut() {
@@ -218,7 +218,7 @@ impl<'s> Rehearsal<'s> {
         }
     }
 
-    /// In this turn a thread goes on from its last stop, or none does.
+    /// Lets this thread go on from its last stop in this turn. `None` lets no thread go on.
     fn resume(&mut self, actor: Option<Actor>) {
         self.running = actor;
         let turn = self.turn;
@@ -230,7 +230,7 @@ impl<'s> Rehearsal<'s> {
         }
     }
 
-    /// Ends the turn. Who goes on is drawn.
+    /// Ends the turn, and draws which thread goes on.
     fn end_turn(&mut self) {
         self.turn = self.turn.wrapping_add(1);
         let drawn = if self.script.draw(2) == 0 {
@@ -248,7 +248,7 @@ impl<'s> Rehearsal<'s> {
         self.resume(next);
     }
 
-    /// The next call of this thread begins.
+    /// Begins the next call of this thread. `Err`: no memory.
     fn begin(&mut self, replay: &mut Replay<'_, '_>, actor: Actor) -> Result<Turn, Fault> {
         let ask = self.draw_ask();
         let place = replay.begun();
@@ -263,13 +263,13 @@ impl<'s> Rehearsal<'s> {
             Some(sight),
             Then::GoesOn,
         )?;
-        // The first generation is requested before the block.
+        // Without a generation the call first requests one, and then doesn't stop at the request for its block.
         let table = &replay.ground.table;
         self.part_mut(actor).passes_request = table.current(&mut table.note()).is_none();
         replay.begin(ask)
     }
 
-    /// What a closure of the call was asked about this entry in the last step.
+    /// Returns the mark of the closure that the call ran on this entry in its last step.
     fn question(&self, call: u64, entry: u64) -> Mark {
         if self.before == Phase::Building {
             Mark::Hashed(call, entry, self.script.hash())
@@ -278,7 +278,8 @@ impl<'s> Rehearsal<'s> {
         }
     }
 
-    /// After a step in which the call of this thread met an entry, or none, while the other thread waits.
+    /// Adds the stops of a step that the call of this thread took while the other thread waits. A closure was called with the entry `met`,
+    /// if there is one. `Err`: no memory.
     fn hear_one(
         &mut self,
         actor: Actor,
@@ -315,7 +316,7 @@ impl<'s> Rehearsal<'s> {
         Ok(())
     }
 
-    /// Adds the stop where a closure was asked about this entry, if one was.
+    /// Adds the stop at a closure that was called with this entry, if one was. `Err`: no memory.
     fn answer(
         &mut self,
         actor: Actor,
@@ -332,7 +333,7 @@ impl<'s> Rehearsal<'s> {
         }
     }
 
-    /// The turn ends at the last stop.
+    /// Ends the turn at the last stop.
     fn hand(&mut self) {
         if let Some(stop) = self.stops.last_mut() {
             stop.then = Then::Hands;
@@ -340,7 +341,7 @@ impl<'s> Rehearsal<'s> {
         self.end_turn();
     }
 
-    /// The call of this thread has ended.
+    /// Ends the call of this thread, and adds the stop at its reply. `Err`: no memory.
     fn end_call(
         &mut self,
         actor: Actor,
@@ -352,12 +353,14 @@ impl<'s> Rehearsal<'s> {
         self.stop(actor, call, Mark::Told(call, said), sight, Then::Hands)
     }
 
-    /// Whether the call of this thread stops where it requests a block: one of two do, once between two closures.
+    /// Returns whether the call of this thread stops at its request for a block. One of two does, but none whose last stop was such a
+    /// request.
     fn draws_request(&self, actor: Actor) -> bool {
         !self.part(actor).passes_request && self.script.draw(2) == 0
     }
 
-    /// After a step in which the call of this thread met an entry, or none, while both threads go on.
+    /// Adds the stops and the copied entries of a step that the call of this thread took while both threads run. A closure was called with
+    /// the entry `met`, if there is one. `Err`: the call was blocked, or no memory.
     fn hear_both(
         &mut self,
         actor: Actor,
@@ -387,7 +390,7 @@ impl<'s> Rehearsal<'s> {
         }
     }
 
-    /// The call of this thread has ended while both went on. The other one's goes on, if it hasn't ended too.
+    /// Lets the other thread's call go on after that of this thread has ended while both ran. If that has ended too, begins a new turn.
     fn go_on_after(&mut self, actor: Actor) {
         if self.part(actor.other()).call.is_some() {
             self.running = Some(actor.other());

@@ -1,8 +1,8 @@
-//! Two whole calls at once, each on a thread of its own: two inserts lose an exchange to one another, or the second call waits
-//! for the lock while the first one's growth copies.
+//! Two whole calls at once, each on its own thread. Either both are inserts, and one loses its exchange to the other, or the second call
+//! waits for the lock while the growth of the first copies.
 //!
-//! Each thread notes what its own call does. Which of two inserts lost is seen by the order of their values in the table, so
-//! that what happened is known, and is followed beside the machine.
+//! Each thread notes what its own call does. The order of the two values in the table shows which insert lost. The two traces then become
+//! one, which is repeated on the machine.
 ghost use Rattle.table_terms.specs.Capacities.{IsFirstCapacity};
 
 use crate::fault::{Fault, granted};
@@ -20,21 +20,21 @@ use std::thread::Threads;
 use testkit::refusing::handover::{Handover, MOST_LOOKS};
 use testkit::refusing::{Refusing, Rule};
 
-/// How many bytes the block of an entry has. No request for a generation is that small.
+/// The size in bytes of an entry's block. No request for a generation is that small.
 pub(crate) const BLOCK: usize = 16;
 
-/// Where two calls meet.
+/// The place where two calls meet.
 #[derive(Clone, Copy, PartialEq)]
 pub enum Meeting {
-    /// Two inserts at one empty bucket, the first on the way of both. Neither is granted its block before the other has asked
-    /// for one. So both have seen the bucket empty, and one of them loses the exchange.
+    /// The first empty bucket of two inserts. Neither is granted its block before the other has requested one. So both have read the bucket
+    /// as empty, and one of them loses the exchange.
     Bucket,
-    /// At the lock: the second call begins while the growth of the first asks for hashes.
+    /// The lock. The second call begins while the growth of the first asks for hashes.
     Lock,
 }
 
 impl Meeting {
-    /// Which requests for memory can be refused, or meet another one.
+    /// Returns the rule of the memory. It names the requests that can be refused, or wait for another one.
     fn rule(self) -> Rule {
         match self {
             Meeting::Bucket => Rule::new(BLOCK, BLOCK, 0, 0),
@@ -42,7 +42,7 @@ impl Meeting {
         }
     }
 
-    /// How many requests meet another one, in pairs.
+    /// Returns the number of pairs of requests that wait for each other.
     fn pairs(self) -> u64 {
         match self {
             Meeting::Bucket => 1,
@@ -52,7 +52,7 @@ impl Meeting {
 }
 
 impl Inside for Handover {
-    /// Hands over where a growth first asks for a hash.
+    /// Hands over when a growth first calls the hash closure.
     fn run<R: Wait>(&self, _whole: &Whole<'_, '_, '_, R>, lock: Lock) {
         if lock == Lock::Alone {
             self.hand_over();
@@ -60,7 +60,7 @@ impl Inside for Handover {
     }
 }
 
-/// A table, and what two threads tell one another that call it.
+/// A table, and the signs that the two threads that call it give each other.
 #[derive(Clone, Copy)]
 struct Place<'w, 'm> {
     ground: Ground<'w, 'm>,
@@ -68,7 +68,8 @@ struct Place<'w, 'm> {
 }
 
 impl<'w, 'm> Place<'w, 'm> {
-    /// The second call, of this number, which takes over if the two meet at the lock: what it does.
+    /// Runs the second call, which has this number, and returns its marks. If the two calls meet at the lock, it first waits for the growth
+    /// of the first. `Err`: a fault.
     fn run_second<R: Wait>(
         &self,
         rt: &R,
@@ -82,7 +83,8 @@ impl<'w, 'm> Place<'w, 'm> {
         run_alone(rt, self.ground, number, ask, self.signs)
     }
 
-    /// Two calls at once, of these numbers: what each does. Fails where one request went on without the other.
+    /// Runs two calls with these numbers at once, and returns the marks of each. `Err`: a fault, or a request that went on without the
+    /// other.
     fn run_both<R: Threads + Wait + Sync>(
         &self,
         rt: &R,
@@ -101,7 +103,8 @@ impl<'w, 'm> Place<'w, 'm> {
         Ok((one?, other?))
     }
 
-    /// These calls one after the other, and then the two at once: what they do, in an order in which they may have done it.
+    /// Runs these calls one after the other, and then the two at once. Returns their marks in an order in which they may have happened.
+    /// `Err`: a fault.
     fn run_all<R: Threads + Wait + Sync>(
         &self,
         rt: &R,
@@ -127,7 +130,7 @@ impl<'w, 'm> Place<'w, 'm> {
         Ok(marks)
     }
 
-    /// Whether the value of the one call lies before that of the other.
+    /// Returns whether a walk meets the value of call `one` before that of call `other`, or neither.
     fn is_before(&self, one: u64, other: u64) -> bool {
         for entry in self.ground.table.iter() {
             if entry.number == one || entry.number == other {
@@ -138,8 +141,8 @@ impl<'w, 'm> Place<'w, 'm> {
     }
 }
 
-/// Runs these calls one after the other, and then the two at once: what each call is told, in an order in which they may have
-/// ended. Fails where that isn't what they do beside the machine, or where the two didn't meet.
+/// Runs these calls one after the other, and then the two at once. Returns the number and the reply of each call, in an order in which the
+/// calls may have ended. `Err`: the machine does something else, or the two didn't meet.
 pub fn run_meeting<R: Threads + Wait + Sync>(
     rt: &R,
     alloc: Global,
@@ -162,7 +165,8 @@ pub fn run_meeting<R: Threads + Wait + Sync>(
     told_in(alloc, marks.as_slice())
 }
 
-/// Adds what two inserts did that met at an empty bucket: both come to it, the one offers its value, and then the other.
+/// Adds the marks of two inserts that met at an empty bucket. Both come to it, then the winner goes on to its end, and then the loser.
+/// `Err`: no memory.
 fn weave_at_bucket(
     marks: &mut Vec<Mark>,
     numbers: (u64, u64),
@@ -183,8 +187,8 @@ fn weave_at_bucket(
     add_all(marks, loser)
 }
 
-/// Adds what two calls did of which the second, of this number, began where the first one's growth asked for its first hash: it
-/// waits there, and goes on once the first has ended.
+/// Adds the marks of two calls that met at the lock. The second, which has this number, begins when the growth of the first asks for its
+/// first hash. It waits there, and goes on once the first has ended. `Err`: no memory.
 fn weave_at_lock(
     marks: &mut Vec<Mark>,
     second: u64,
@@ -203,7 +207,7 @@ fn weave_at_lock(
     add_all(marks, after)
 }
 
-/// That a call began, and what it did then.
+/// Splits the marks of a call into its beginning and the rest. `Err`: there are none.
 fn split_began(marks: &[Mark]) -> Result<(Mark, &[Mark]), Fault> {
     match marks.split_first() {
         Some((began, after)) => Ok((*began, after)),
@@ -211,7 +215,7 @@ fn split_began(marks: &[Mark]) -> Result<(Mark, &[Mark]), Fault> {
     }
 }
 
-/// Adds these marks.
+/// Adds these marks. `Err`: no memory.
 fn add_all(marks: &mut Vec<Mark>, more: &[Mark]) -> Result<(), Fault> {
     for mark in more {
         granted(marks.push(*mark))?;

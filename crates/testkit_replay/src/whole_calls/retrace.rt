@@ -1,18 +1,18 @@
-//! What whole calls did, step by step on a table beside the machine.
+//! The schedule that repeats a trace of whole calls step by step.
 use crate::fault::Fault;
 use crate::replay::{Replay, Turn};
 use crate::running::{Schedule, Stepped, Took};
 use crate::whole_calls::trace::{Mark, Sight};
 use table_core::call::Phase;
 
-/// How many steps a call takes at most from one closure to the next.
+/// The maximum number of steps that a call takes from one mark to the next.
 const STEPS: u64 = 1000;
 
-/// What happened, in its order.
+/// A schedule of marks: those that are left, in order.
 #[derive(Drop)]
 pub(crate) struct Retrace<'t> {
     left: &'t [Mark],
-    /// How many more steps its first mark takes at most.
+    /// The number of steps that are left for the first mark.
     steps: u64,
 }
 
@@ -24,7 +24,7 @@ impl<'t> Retrace<'t> {
         }
     }
 
-    /// The first mark has come to its end.
+    /// Removes the first mark, which was reached.
     fn pass(&mut self) {
         if let Some((_mark, left)) = self.left.split_first() {
             self.left = left;
@@ -32,7 +32,7 @@ impl<'t> Retrace<'t> {
         self.steps = STEPS;
     }
 
-    /// The next turn by this mark: one step of its call, or what comes at its end.
+    /// Returns the next turn for this mark: a step of its call until the mark is reached, and then what the mark asks for. `Err`: a fault.
     fn follow(&mut self, replay: &mut Replay<'_, '_>, mark: Mark) -> Result<Turn, Fault> {
         match mark {
             Mark::Asked(call, _, accepted) => self.step(replay, call, accepted, 0),
@@ -51,7 +51,7 @@ impl<'t> Retrace<'t> {
         }
     }
 
-    /// A step of this call, whose closures are told to answer this.
+    /// Returns a turn in which this call takes a step. Its closures give these answers. `Err`: too many steps were taken.
     fn step(
         &mut self,
         replay: &mut Replay<'_, '_>,
@@ -67,7 +67,7 @@ impl<'t> Retrace<'t> {
     }
 }
 
-/// What comes at the end of this mark.
+/// Does what a mark asks for once it is reached: begins a call, sets refusals, or compares. `Err`: a difference, or no memory.
 fn end(replay: &mut Replay<'_, '_>, mark: Mark) -> Result<Turn, Fault> {
     match mark {
         Mark::Began(ask) => return replay.begin(ask),
@@ -79,7 +79,7 @@ fn end(replay: &mut Replay<'_, '_>, mark: Mark) -> Result<Turn, Fault> {
     Ok(Turn::Nothing)
 }
 
-/// The table and the machine show this now.
+/// Checks that the table shows this, and that the machine agrees with it. `Err`: there is a difference, or no memory.
 fn compare_sight(replay: &mut Replay<'_, '_>, sight: Sight) -> Result<(), Fault> {
     if sight != Sight::of(replay.ground.table, replay.ground.first) {
         return Err(Fault::Sight);
@@ -87,7 +87,8 @@ fn compare_sight(replay: &mut Replay<'_, '_>, sight: Sight) -> Result<(), Fault>
     replay.compare_walk()
 }
 
-/// Whether a mark has come to its end by a step that came to this, in which a closure was asked about the entry that was met.
+/// Returns whether a mark was reached by a step with this result. A closure was called with the entry `met`, if there is one. `Err`: the
+/// step doesn't lead to the mark.
 fn is_reached(mark: Mark, took: Took, met: Option<u64>) -> Result<bool, Fault> {
     match mark {
         Mark::Asked(call, entry, _) => meets(call, entry, took, met),
@@ -99,7 +100,7 @@ fn is_reached(mark: Mark, took: Took, met: Option<u64>) -> Result<bool, Fault> {
     }
 }
 
-/// Whether a closure of the call was asked, which has to be about this entry. Else the call has to move.
+/// Returns whether a closure was called with this entry. `Err`: it was called with another one, or the call ended or was blocked first.
 fn meets(call: u64, entry: u64, took: Took, met: Option<u64>) -> Result<bool, Fault> {
     match met {
         Some(met) if met == entry => Ok(true),
@@ -108,7 +109,7 @@ fn meets(call: u64, entry: u64, took: Took, met: Option<u64>) -> Result<bool, Fa
     }
 }
 
-/// The call goes on, and no closure of it was asked.
+/// Checks that the call goes on and called no closure. Returns false, since `follow` passes such a mark by the phase. `Err`: it isn't so.
 fn goes_on(call: u64, goes: bool, met: Option<u64>) -> Result<bool, Fault> {
     if goes && met.is_none() {
         Ok(false)
@@ -117,7 +118,7 @@ fn goes_on(call: u64, goes: bool, met: Option<u64>) -> Result<bool, Fault> {
     }
 }
 
-/// The call can't take its step, since another one has the lock.
+/// Checks that the call was blocked, since another one holds the lock. Returns true. `Err`: it took a step.
 fn waits(call: u64, took: Took) -> Result<bool, Fault> {
     if took == Took::Blocked {
         Ok(true)

@@ -1,4 +1,4 @@
-//! What happens while whole calls run, in its order.
+//! Traces: what happens while whole calls run, in order.
 use crate::fault::Fault;
 use crate::item::Said;
 use crate::running::Table;
@@ -6,7 +6,7 @@ use crate::schedules::Ask;
 use std::alloc::Global;
 use std::cell::{Cell, RefCell};
 
-/// What a table shows: its count, its buckets, and a number that is made of its entries in their order.
+/// What a table shows: its length, its number of buckets, and a number that is made of its entries in order.
 #[derive(Clone, Copy, PartialEq)]
 pub struct Sight {
     length: u64,
@@ -15,7 +15,7 @@ pub struct Sight {
 }
 
 impl Sight {
-    /// What the table shows now, whose first generation has so many buckets.
+    /// Returns what the table shows now. Its first generation has `first` buckets.
     pub fn of(table: &Table<'_>, first: u64) -> Sight {
         let mut entries = 0u64;
         for entry in table.iter() {
@@ -32,38 +32,38 @@ impl Sight {
     }
 }
 
-/// Something that happens. A call has the number of its place among those that have begun.
+/// Something that happens. The number of a call is its place among those that have begun.
 #[derive(Clone, Copy, PartialEq)]
 pub enum Mark {
-    /// Of the requests for memory from now on, so many are granted and the next are refused.
+    /// From now on, as many requests for memory as the first number says are granted, and then as many as the second says are refused.
     Refuses(u64, u64),
     /// The next call begins.
     Began(Ask),
-    /// A call asks whether the entry of this number is its equal, and is told so.
+    /// A call runs a closure on the entry with this number. The closure says whether it accepts the entry.
     Asked(u64, u64, bool),
-    /// A call asks for the hash of an entry, and is told it.
+    /// A call runs a closure on the entry with this number. The closure returns this hash.
     Hashed(u64, u64, u64),
-    /// A call has come to an empty bucket, and is about to offer its value there.
+    /// A call has come to an empty bucket, and will next try to set it to its value.
     AtEmpty(u64),
     /// A call waits for the lock.
     Waits(u64),
-    /// A look at the table.
+    /// The table showed this.
     Saw(Sight),
-    /// A call is told this.
+    /// A call ended with this reply.
     Told(u64, Said),
 }
 
-/// What has happened.
+/// A record of what has happened.
 #[derive(Drop)]
 pub struct Trace {
     marks: RefCell<Vec<Mark>>,
     begun: Cell<u64>,
-    /// What was refused to the trace, or to a call inside a closure.
+    /// The last fault of the trace itself, or of a call inside a closure.
     fault: Cell<Option<Fault>>,
 }
 
 impl Trace {
-    /// Nothing yet, where so many calls have begun elsewhere.
+    /// Makes an empty trace. `begun` calls have begun before it.
     pub fn new(alloc: Global, begun: u64) -> Trace {
         Trace {
             marks: RefCell::new(Vec::new(alloc)),
@@ -72,7 +72,7 @@ impl Trace {
         }
     }
 
-    /// This happens next.
+    /// Adds a mark. If there is no memory, the trace has a fault.
     pub fn note(&self, mark: Mark) {
         let noted = match self.marks.try_borrow_mut() {
             Ok(mut marks) => marks.push(mark).is_ok(),
@@ -83,7 +83,7 @@ impl Trace {
         }
     }
 
-    /// A call begins: its number.
+    /// Adds the mark of a call that begins, and returns its number.
     pub fn begin(&self, ask: Ask) -> u64 {
         self.note(Mark::Began(ask));
         let call = self.begun.get();
@@ -91,14 +91,14 @@ impl Trace {
         call
     }
 
-    /// A call inside a closure ended so.
+    /// Records the fault of a call inside a closure, if it has one.
     pub fn keep(&self, ended: Result<(), Fault>) {
         if let Err(fault) = ended {
             self.fault.set(Some(fault));
         }
     }
 
-    /// All that has happened, unless some of it was refused.
+    /// Returns all marks. `Err`: the trace has a fault.
     pub fn into_marks(self) -> Result<Vec<Mark>, Fault> {
         let Trace {
             marks,

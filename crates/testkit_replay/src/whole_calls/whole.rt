@@ -10,8 +10,8 @@ use crate::whole_calls::{Plan, Refusals, Top, Tops};
 use std::cell::Cell;
 use std::sync::Wait;
 
-/// A table, what its closures answer, what notes the calls on it, and the calls that run inside the first closure that is asked
-/// once they are due. Without those, some that are drawn run inside of closures.
+/// A table, the script of its closures, and the trace of its calls. The calls of `inside` run once, inside the first closure that is called
+/// after they are `due`. If there is no `inside`, random calls can run inside closures.
 #[derive(Drop)]
 pub(crate) struct Scene<'w, 'n, 'm> {
     pub(crate) ground: Ground<'w, 'm>,
@@ -21,21 +21,21 @@ pub(crate) struct Scene<'w, 'n, 'm> {
     due: Cell<bool>,
 }
 
-/// Which lock is held where a closure is asked.
+/// The lock that is held while a closure is called.
 #[derive(Clone, Copy, PartialEq)]
 pub(crate) enum Lock {
-    /// None, by look-ups alone.
+    /// No lock: only look-ups are running.
     Free,
-    /// That of an insert, which is shared.
+    /// The shared lock of an insert.
     Shared,
-    /// That of an insert inside of another one.
+    /// The shared locks of an insert and of another one inside it.
     SharedTwice,
-    /// That of a growth.
+    /// The exclusive lock of a growth.
     Alone,
 }
 
 impl Lock {
-    /// The lock that is held inside an insert that asks for an equal.
+    /// Returns the lock that is held while an insert under this lock calls its equality closure.
     fn inside_insert(self) -> Lock {
         match self {
             Lock::Free => Lock::Shared,
@@ -46,7 +46,7 @@ impl Lock {
 }
 
 impl<'w, 'n, 'm> Scene<'w, 'n, 'm> {
-    /// No call yet.
+    /// Makes a scene in which no call has begun.
     fn new(
         ground: Ground<'w, 'm>,
         script: &'n Script,
@@ -62,29 +62,29 @@ impl<'w, 'n, 'm> Scene<'w, 'n, 'm> {
         }
     }
 
-    /// What a call is told that asks whether an entry is of its class.
+    /// Returns whether an entry is accepted as one of a call's class, and notes the answer.
     fn says(&self, number: u64, class: u64, entry: &Item) -> bool {
         let accepted = self.script.says(class, entry);
         self.trace.note(Mark::Asked(number, entry.number, accepted));
         accepted
     }
 
-    /// What an insert is told that asks for the hash of an entry.
+    /// Returns the hash that a growth is given for an entry, and notes it.
     fn rehashes(&self, number: u64, entry: &Item) -> u64 {
         let told = self.script.rehashes(entry);
         self.trace.note(Mark::Hashed(number, entry.number, told));
         told
     }
 
-    /// A call inside a closure ended so. Looks at the table.
+    /// Records the result of a call that has ended, and notes what the table shows.
     fn look_after(&self, ended: Result<(), Fault>) {
         self.trace.keep(ended);
         let sight = Sight::of(self.ground.table, self.ground.first);
         self.trace.note(Mark::Saw(sight));
     }
 
-    /// Whether an insert that is begun now would end, while this lock is held: it would wait for ever for the lock of its own
-    /// growth, or one around it would.
+    /// Returns whether an insert may begin while this lock is held. It may not if it could have to wait for a lock that its own thread
+    /// holds, since it would never end.
     fn may_insert(&self, lock: Lock) -> bool {
         match lock {
             Lock::Free => true,
@@ -93,7 +93,7 @@ impl<'w, 'n, 'm> Scene<'w, 'n, 'm> {
         }
     }
 
-    /// A call that is drawn: two of three insert, where an insert may run.
+    /// Draws a call. Two of three are inserts, if an insert may run under this lock.
     fn ask_drawn(&self, lock: Lock) -> Ask {
         let (class, hash) = draw_class(self.script);
         if self.script.draw(3) == 0 || !self.may_insert(lock) {
@@ -103,7 +103,7 @@ impl<'w, 'n, 'm> Scene<'w, 'n, 'm> {
         }
     }
 
-    /// A call that is drawn, and what is refused to it.
+    /// Draws a call and its refusals.
     fn draw_top(&self, refuses: bool) -> Top {
         let refused = if refuses && self.script.draw(3) == 0 {
             self.script.draw(3)
@@ -114,7 +114,7 @@ impl<'w, 'n, 'm> Scene<'w, 'n, 'm> {
         (ask, (self.script.draw(4), refused))
     }
 
-    /// This is refused to the next call.
+    /// Sets and notes the refusals of the next call.
     fn refuse(&self, refusals: Refusals) {
         let (passing, refused) = refusals;
         self.ground.memory.refuse(passing, refused);
@@ -122,7 +122,7 @@ impl<'w, 'n, 'm> Scene<'w, 'n, 'm> {
     }
 }
 
-/// Whether a table stays its generation with one more entry, and another one after it.
+/// Returns whether less than half of the buckets are set after one more insert, so that it doesn't grow the table.
 fn has_room(table: &Table<'_>) -> bool {
     match table.current(&mut table.note()) {
         Some(current) => table.len().saturating_add(1) < current.generation.capacity() / 2,
@@ -130,7 +130,7 @@ fn has_room(table: &Table<'_>) -> bool {
     }
 }
 
-/// Whole calls on a table.
+/// A scene whose whole calls run, and the runtime by which they wait.
 pub(crate) struct Whole<'w, 'n, 'm, R: Wait> {
     pub(crate) rt: &'w R,
     pub(crate) scene: Scene<'w, 'n, 'm>,
@@ -147,18 +147,18 @@ impl<R: Wait> Drop for Whole<'_, '_, '_, R> {
 
 /// What runs inside the closures of a whole call.
 pub(crate) trait Inside {
-    /// Runs, while this lock is held.
+    /// Runs inside a closure of a whole call, while this lock is held.
     fn run<R: Wait>(&self, whole: &Whole<'_, '_, '_, R>, lock: Lock);
 }
 
-/// Nothing.
+/// Nothing runs inside closures.
 struct Nothing;
 
 impl Inside for Nothing {
     fn run<R: Wait>(&self, _whole: &Whole<'_, '_, '_, R>, _lock: Lock) {}
 }
 
-/// One call of four that are drawn. Nothing runs inside it.
+/// In one of four closures a random call runs. Nothing runs inside its closures.
 struct Deeper;
 
 impl Inside for Deeper {
@@ -170,7 +170,7 @@ impl Inside for Deeper {
     }
 }
 
-/// Those that cut into a call that no other call runs around.
+/// The calls of the scene run in the first closure after they are due. If it has none, a random call runs in one of four closures.
 struct Cutting;
 
 impl Inside for Cutting {
@@ -187,7 +187,7 @@ impl Inside for Cutting {
 }
 
 impl<'w, 'n, 'm, R: Wait> Whole<'w, 'n, 'm, R> {
-    /// A whole call, inside whose closures something runs with the lock that is held.
+    /// Runs a whole call while `lock` is held. `inside` runs in its closures. `Err`: no memory for its value.
     pub(crate) fn call<I: Inside>(&self, ask: Ask, lock: Lock, inside: &I) -> Result<(), Fault> {
         let number = self.scene.trace.begin(ask);
         let said = match ask {
@@ -206,7 +206,7 @@ impl<'w, 'n, 'm, R: Wait> Whole<'w, 'n, 'm, R> {
         Ok(())
     }
 
-    /// A whole insert, inside whose questions for an equal this lock is held.
+    /// Runs a whole insert, and returns its reply. While it calls its equality closure, `lock` is held. `Err`: no memory for its value.
     fn insert<I: Inside>(&self, item: Item, lock: Lock, inside: &I) -> Result<Said, Fault> {
         let value = granted(Box::new(self.scene.ground.alloc, item))?;
         let reply = self.scene.ground.table.insert(
@@ -227,7 +227,7 @@ impl<'w, 'n, 'm, R: Wait> Whole<'w, 'n, 'm, R> {
         Ok(Said::of_insert(&reply))
     }
 
-    /// A whole look-up.
+    /// Runs a whole look-up while `lock` is held, and returns its reply.
     fn lookup<I: Inside>(
         &self,
         number: u64,
@@ -244,14 +244,14 @@ impl<'w, 'n, 'm, R: Wait> Whole<'w, 'n, 'm, R> {
         Said::of_lookup(shown)
     }
 
-    /// These calls, one after the other.
+    /// Runs these calls one after the other. Nothing runs inside their closures.
     fn run_once(&self, asks: &[Ask], lock: Lock) {
         for ask in asks {
             self.scene.look_after(self.call(*ask, lock, &Nothing));
         }
     }
 
-    /// A call that no other call runs around.
+    /// Runs a top call, and notes what the table shows then. `Err`: no memory for its value.
     fn run_top(&self, top: Top) -> Result<(), Fault> {
         let (ask, refusals) = top;
         self.scene.refuse(refusals);
@@ -260,7 +260,7 @@ impl<'w, 'n, 'm, R: Wait> Whole<'w, 'n, 'm, R> {
         Ok(())
     }
 
-    /// All calls of the plan.
+    /// Runs all calls of the plan. `Err`: no memory for a value.
     fn run(&self, plan: Plan<'_>) -> Result<(), Fault> {
         match plan {
             Plan::Drawn { tops, refuses } => {
@@ -273,7 +273,7 @@ impl<'w, 'n, 'm, R: Wait> Whole<'w, 'n, 'm, R> {
         }
     }
 
-    /// These calls. With the last of them those are due that run inside a closure.
+    /// Runs these calls. The calls of the scene are due in the last of them. `Err`: no memory for a value.
     fn run_worked(&self, tops: Tops<'_>) -> Result<(), Fault> {
         for number in 0..tops.filled {
             self.run_top((Ask::Insert(number, number), (0, 0)))?;
@@ -288,7 +288,7 @@ impl<'w, 'n, 'm, R: Wait> Whole<'w, 'n, 'm, R> {
     }
 }
 
-/// All calls of a plan on a table: what they do.
+/// Runs all calls of a plan on a table, and returns their marks. `Err`: a fault of a call or of the trace.
 pub(crate) fn run_plan<R: Wait>(
     rt: &R,
     ground: Ground<'_, '_>,
@@ -309,7 +309,7 @@ pub(crate) fn run_plan<R: Wait>(
     trace.into_marks()
 }
 
-/// The call of this number on a table: what it does.
+/// Runs the call with this number on a table, and returns its marks. `Err`: a fault of the call or of the trace.
 pub(crate) fn run_alone<R: Wait, I: Inside>(
     rt: &R,
     ground: Ground<'_, '_>,

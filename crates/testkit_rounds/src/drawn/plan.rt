@@ -1,25 +1,25 @@
-//! Which rounds are run.
+//! The plan of which rounds run.
 use std::convert::AsStr;
 
-/// How many rounds run where no time is given.
+/// How many rounds run if no time is given.
 const FEW: u64 = 20;
 
-/// How many values these have at most.
+/// The most values of a round if no time is given.
 const SMALL: u64 = 10_000;
 
-/// How many values the others have at most.
+/// The most values of a round if a time is given.
 const LARGE: u64 = 1_000_000;
 
 /// When no more rounds begin.
 #[derive(Clone, Copy, Debug, PartialEq, Eq)]
 pub enum End {
-    /// After so many rounds.
+    /// After this number of rounds.
     Rounds(u64),
-    /// After so many minutes.
+    /// After this number of minutes.
     Minutes(u64),
 }
 
-/// The rounds of the seeds from the first on, each with so many values at most.
+/// The rounds of the seeds from the first one on, each with `most` values at most.
 #[derive(Clone, Copy, Debug, PartialEq, Eq)]
 pub struct Plan {
     pub end: End,
@@ -28,7 +28,7 @@ pub struct Plan {
 }
 
 impl Plan {
-    /// A few small rounds.
+    /// Returns the plan of a few small rounds.
     fn few() -> Plan {
         Plan {
             end: End::Rounds(FEW),
@@ -37,7 +37,7 @@ impl Plan {
         }
     }
 
-    /// Rounds for so many minutes.
+    /// Returns the plan of large rounds for this number of minutes.
     fn timed(minutes: u64, first_seed: u64) -> Plan {
         Plan {
             end: End::Minutes(minutes),
@@ -46,7 +46,7 @@ impl Plan {
         }
     }
 
-    /// Returns the plan that the arguments ask for: none, the minutes, or the minutes and the first seed.
+    /// Returns the plan that the arguments ask for: none, the minutes, or the minutes and the first seed. `None`: they are anything else.
     pub fn of_words<S: AsStr>(words: &[S]) -> Option<Plan> {
         match words {
             [] => Some(Plan::few()),
@@ -58,7 +58,7 @@ impl Plan {
         }
     }
 
-    /// Returns whether no more rounds begin after so many rounds and minutes.
+    /// Returns whether no more rounds begin after this number of rounds and of minutes.
     pub fn is_over(&self, rounds: u64, minutes: u64) -> bool {
         match self.end {
             End::Rounds(most) => most <= rounds,
@@ -67,7 +67,7 @@ impl Plan {
     }
 }
 
-/// Reads a number.
+/// Parses a number. `None`: the word isn't one.
 fn parse_word<S: AsStr>(word: &S) -> Option<u64> {
     word.as_str().parse::<u64>().ok()
 }

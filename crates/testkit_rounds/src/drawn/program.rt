@@ -14,14 +14,14 @@ use std::time::Instant;
 /// The status of rounds without a fault.
 const WELL: u8 = 0;
 
-/// The status of a round with a fault, or of arguments that are spelled otherwise.
+/// The status of a round with a fault, of a failed clock or output, or of arguments that name no plan.
 const BAD: u8 = 1;
 
 /// The seconds of a minute.
 const MINUTE: u64 = 60;
 
-/// Runs the rounds that the words ask for, and answers the status. They are for how many minutes, and the seed of the first
-/// round; without them a few small rounds run. The first fault goes to `messages`, with its round.
+/// Runs the rounds that the words ask for, and returns the status. The words are the number of minutes and the seed of the first round.
+/// Without words a few small rounds run. Writes the first fault to `messages`, with its round.
 pub fn run_rounds<R: Threads + Wait + Sync + Clock, S: AsStr, O: Write, M: Write>(
     rt: &R,
     alloc: Global,
@@ -42,7 +42,7 @@ pub fn run_rounds<R: Threads + Wait + Sync + Clock, S: AsStr, O: Write, M: Write
     }
 }
 
-/// Runs the rounds of a plan, and says at the end how many there were.
+/// Runs the rounds of a plan, and writes their number at the end. `Err`: a round had a fault, or the clock or the output failed.
 fn run_plan<R: Threads + Wait + Sync + Clock, O: Write>(
     rt: &R,
     alloc: Global,
@@ -54,7 +54,7 @@ fn run_plan<R: Threads + Wait + Sync + Clock, O: Write>(
     Ok(())
 }
 
-/// Runs the rounds of a plan, and says every minute what they came to: how many there were.
+/// Runs the rounds of a plan, and writes their sum every minute. Returns how many there were. `Err`: a fault, or a failed clock or output.
 fn count_rounds<R: Threads + Wait + Sync + Clock, O: Write>(
     rt: &R,
     alloc: Global,

@@ -3,12 +3,12 @@ use crate::{Fault, Round};
 use std::fmt::{Display, Formatter};
 use std::{fmt, io};
 
-/// What rounds don't go on from.
+/// The reason to end rounds early.
 #[derive(Debug, Drop)]
 pub enum Stop {
     /// A round had a fault.
     Fault(Round, Fault),
-    /// There is no clock, or the output takes nothing.
+    /// The clock or the output failed.
     Io(io::Error),
 }
 

@@ -1,13 +1,13 @@
-//! What rounds came to.
+//! The sum of the accounts of rounds.
 use crate::{Account, Round};
 use std::fmt;
 use std::fmt::{Display, Formatter};
 
-/// What rounds without a fault came to, all together.
+/// The sum of the accounts of rounds without a fault.
 #[derive(Clone, Copy)]
 pub(crate) struct Sum {
     pub(crate) rounds: u64,
-    /// How many values the largest round had.
+    /// The number of values of the largest round.
     largest: u64,
     placed: u64,
     found: u64,
@@ -16,7 +16,7 @@ pub(crate) struct Sum {
 }
 
 impl Sum {
-    /// Of no round.
+    /// Returns the sum of no rounds.
     pub(crate) fn none() -> Sum {
         Sum {
             rounds: 0,
@@ -28,7 +28,7 @@ impl Sum {
         }
     }
 
-    /// With one round more.
+    /// Adds a round and its account.
     pub(crate) fn with(self, round: Round, account: Account) -> Sum {
         Sum {
             rounds: self.rounds.saturating_add(1),

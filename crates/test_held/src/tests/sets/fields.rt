@@ -1,4 +1,4 @@
-//! Structs by one field. The hashes were computed by another program, from the definitions.
+//! Tests of sets of structs that are compared by one field. Another program computed the expected hashes from the definitions.
 ghost use Rattle.std.specs.Prelude.{◌≡◌};
 
 use super::assert_same;
@@ -8,7 +8,7 @@ use table_sets::{
     ByField, HeldSet, Inserted, KeyLaw, NumberLaw, OfField, OfParts, PairsOf, SetLaw, TextLaw,
 };
 
-/// A word, and the line where it was seen.
+/// A word, and the number of a line that has it.
 #[derive(Drop)]
 struct Word {
     text: String,
@@ -25,7 +25,7 @@ impl ByField for Word {
     }
 }
 
-/// A node, and its height.
+/// The shape of a node, and its height.
 #[derive(Drop)]
 struct Node {
     shape: (char, u32, u64),
@@ -42,13 +42,13 @@ impl ByField for Node {
     }
 }
 
-/// The law of nodes.
+/// The law of nodes: two nodes are equal if their shapes are.
 type NodeLaw = OfField<OfParts<NumberLaw>>;
 
-/// The nodes of a set.
+/// A set of boxed nodes.
 type Nodes = HeldSet<Box<Node>, NodeLaw>;
 
-/// Inserts a node, and returns the height of the node that comes back, or 0.
+/// Inserts a node. Returns the height of the node that the set returns, or 0 if the node was placed. `Err`: no memory.
 fn insert(nodes: &mut Nodes, alloc: Global, node: Node) -> Result<u32, AllocError> {
     match nodes.insert(Box::new(alloc, node)?) {
         Inserted::Placed => Ok(0),
@@ -57,7 +57,7 @@ fn insert(nodes: &mut Nodes, alloc: Global, node: Node) -> Result<u32, AllocErro
     }
 }
 
-/// Two nodes of one shape are equal, whatever their heights, and the shape finds the one that is there.
+/// Checks that two nodes of one shape are equal, whatever their heights, and that a look-up by the shape finds the entry.
 #[test]
 fn nodes_by_their_shapes(rt: HostRuntime) -> Result<(), Fail> {
     let shape = ('+', 1, 2);
@@ -81,7 +81,7 @@ fn nodes_by_their_shapes(rt: HostRuntime) -> Result<(), Fail> {
     Ok(())
 }
 
-/// A struct has the hash of its field, and so has a key.
+/// Checks that a struct and a key both have the hash of the field.
 #[test]
 fn hashes_of_nodes(rt: HostRuntime) {
     let shape = ('+', 1, 2);
@@ -92,7 +92,7 @@ fn hashes_of_nodes(rt: HostRuntime) {
     assert!(rt; NodeLaw::is_met(&shape, &node) && !NodeLaw::is_met(&('+', 1, 1), &node));
 }
 
-/// A struct with a text is found by a `&str`.
+/// Checks that a look-up by a `&str` finds a struct with that text.
 #[test]
 fn words_by_their_texts(rt: HostRuntime) -> Result<(), Fail> {
     let alloc = rt.alloc();
@@ -137,7 +137,7 @@ fn characters(rt: HostRuntime) {
     assert!(rt; NumberLaw::is_same(&'a', &'a') && !NumberLaw::is_same(&'a', &'b'));
 }
 
-/// A pair of a text and a number is found by a `&str` and the number.
+/// Checks that a look-up by a `&str` and a number finds the pair of that text and number.
 #[test]
 fn pairs_by_keys(rt: HostRuntime) -> Result<(), Fail> {
     let alloc = rt.alloc();

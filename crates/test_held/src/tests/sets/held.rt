@@ -1,4 +1,4 @@
-//! The set that one owner holds alone.
+//! Tests of `HeldSet`, the single-owner set.
 use super::{
     Numbers, assert_numbers, assert_placed_once, assert_same, assert_sums, assert_told, insert_box,
     sum_handed, sum_shown, told_by,
@@ -11,7 +11,7 @@ use std::test::Fail;
 use table_sets::{HeldSet, InPlace, Inserted, NumberLaw};
 use testkit::counting::numbers::Told;
 
-/// Numbers in place.
+/// A set of numbers in place.
 type InPlaces = HeldSet<InPlace<u64>, NumberLaw>;
 
 #[test]
@@ -23,7 +23,7 @@ fn no_entries(rt: HostRuntime) {
     assert_same(&rt, set.into_iter().count() as u64, 0);
 }
 
-/// Inserts the numbers, boxed: each insert is told so.
+/// Inserts the numbers in boxes, and asserts that each insert has the expected answer. `Err`: no memory for a box.
 fn insert_all(
     rt: &impl Abort,
     set: &mut Numbers<Global>,
@@ -37,7 +37,7 @@ fn insert_all(
     Ok(())
 }
 
-/// Five growths from 16 buckets, and each number is found after them.
+/// Checks that each number is found after six growths from 16 buckets on.
 #[test]
 fn boxed_numbers(rt: HostRuntime) -> Result<(), Fail> {
     let mut set: Numbers<Global> = HeldSet::new(rt.alloc());
@@ -47,7 +47,7 @@ fn boxed_numbers(rt: HostRuntime) -> Result<(), Fail> {
     Ok(())
 }
 
-/// What comes back is the value handed in, not the entry.
+/// Checks that an insert that finds an equal entry returns its value.
 #[test]
 fn the_value_comes_back(rt: HostRuntime) {
     let mut set: InPlaces = HeldSet::new(rt.alloc());
@@ -60,7 +60,7 @@ fn the_value_comes_back(rt: HostRuntime) {
     assert_same(&rt, set.len() as u64, 1);
 }
 
-/// Asserts how many buckets the set has once it has its first entry.
+/// Asserts how many buckets the set has after its first insert.
 fn assert_first_buckets(rt: &impl Abort, mut set: InPlaces, buckets: u64) {
     assert_told(rt, &mut set, InPlace(7), Told::Placed);
     assert_same(rt, set.into_table().capacity_alone() as u64, buckets);

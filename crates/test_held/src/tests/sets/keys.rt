@@ -1,17 +1,17 @@
-//! Pairs and texts, and look-ups by a key.
+//! Tests of sets of pairs and of texts, and of look-ups by a key.
 use super::{Texts, assert_placed_once, assert_same, boxed_text};
 use std::alloc::{Allocator, Global};
 use std::process::Abort;
 use std::test::Fail;
 use table_sets::{HeldSet, InPlace, NumberLaw, PairsOf};
 
-/// Pairs of numbers in place.
+/// A set of pairs of numbers in place.
 type Pairs = HeldSet<InPlace<(u64, u32)>, PairsOf<NumberLaw, NumberLaw>>;
 
-/// Pairs that are all different; some have one part in common.
+/// Different pairs, some of which have one part in common.
 const PAIRS: [(u64, u32); 5] = [(1, 2), (2, 1), (1, 1), (2, 2), (0, 0)];
 
-/// Texts that are all different.
+/// Different texts.
 const TEXTS: [&str; 6] = ["", "a", "b", "ab", "ba", "aa"];
 
 #[test]
@@ -25,7 +25,7 @@ fn pairs_by_both_parts(rt: HostRuntime) {
     assert!(rt; set.get(&(0, 1)).is_none());
 }
 
-/// The text that a look-up by a `&str` shows is that text.
+/// Asserts that a look-up by a `&str` finds an equal text.
 fn assert_text<A: Allocator + Copy>(rt: &impl Abort, set: &Texts<A>, text: &str) {
     match set.get_by_key(&text) {
         Some(shown) => assert!(rt; shown.as_str() == text),

@@ -1,4 +1,4 @@
-//! What the ready-made laws answer. The hashes were computed by another program, from the definitions.
+//! Tests of the ready-made laws. Another program computed the expected hashes from the definitions.
 use super::assert_same;
 use std::alloc::Global;
 use std::sync::Arc;
@@ -51,7 +51,7 @@ fn pairs(rt: HostRuntime) {
     assert!(rt; Law::hash(&(3u64, 4u32)) != Law::hash(&(4u64, 3u32)));
 }
 
-/// A key has the hash of each text that meets it.
+/// Checks which texts match a key, which texts are equal, and that a text has the hash of its bytes.
 #[test]
 fn keys(rt: HostRuntime) -> Result<(), Fail> {
     let text: String<Global> = String::from_str(rt.alloc(), "ab")?;
@@ -62,7 +62,7 @@ fn keys(rt: HostRuntime) -> Result<(), Fail> {
     Ok(())
 }
 
-/// Two pointers are equal if the numbers that they lead to are.
+/// Checks that pointers are equal if the numbers that they point to are, and have the hash of the number.
 #[test]
 fn pointers(rt: HostRuntime) -> Result<(), Fail> {
     type Law = OfTarget<NumberLaw>;
@@ -75,7 +75,7 @@ fn pointers(rt: HostRuntime) -> Result<(), Fail> {
     Ok(())
 }
 
-/// A set of texts behind two pointers is searched by a key of the texts.
+/// Checks that a look-up by a `&str` finds a text that lies behind two pointers.
 #[test]
 fn pointers_by_keys(rt: HostRuntime) -> Result<(), Fail> {
     let mut set: HeldSet<Box<Arc<String<Global>>>, OfTarget<TextLaw>> = HeldSet::new(rt.alloc());
@@ -88,7 +88,7 @@ fn pointers_by_keys(rt: HostRuntime) -> Result<(), Fail> {
     Ok(())
 }
 
-/// A law does nothing: to call it is to know what it says.
+/// Calls the function that states a law of sets. It does nothing when it runs: only its contract says something.
 #[test]
 fn laws_of_sets() {
     inserted_is_found_again::<InPlace<u64>, NumberLaw>();

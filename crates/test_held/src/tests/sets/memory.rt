@@ -1,4 +1,4 @@
-//! Each request for memory refused in turn.
+//! Tests of sets in which each request for memory is refused in turn.
 use super::{Numbers, assert_numbers, assert_same, insert_box};
 use std::alloc::{AllocError, Global};
 use std::process::Abort;
@@ -7,15 +7,15 @@ use table_sets::{HeldSet, Shown};
 use testkit::counting::numbers::{Told, refused_in_turn};
 use testkit::refusing::{Refusing, Rule};
 
-/// How many numbers are inserted: a growth from 16 buckets to 32 lies among them.
+/// How many numbers are inserted. The set grows from 16 buckets to 32, and then to 64.
 const NUMBERS: u64 = 17;
 
-/// The requests whose refusal an insert is told: one block a number, and the marks and the words of the first generation. A
-/// later growth that is refused changes no answer, since the number was placed.
+/// How many requests make an insert fail if they are refused: the block of each number, and the marks and the words of the first
+/// generation. A refused growth changes no answer, since the number was placed before.
 const TOLD: u64 = NUMBERS + 2;
 
-/// Inserts the numbers, each again after a refusal, where one request after `passing` many is refused: how many inserts
-/// were refused.
+/// Inserts the numbers while the request after the first `passing` ones is refused, and each again after a refusal. Returns how many
+/// inserts were refused. `Err`: no memory for a box of a number.
 fn refused_inserts(rt: &impl Abort, alloc: Global, passing: u64) -> Result<u64, AllocError> {
     let memory = Refusing::new(alloc, Rule::new(0, usize::MAX, passing, 1));
     let mut set: Numbers<&Refusing<Global>> = HeldSet::new(&memory);
@@ -38,7 +38,7 @@ fn each_request_refused_in_turn(rt: HostRuntime) {
     assert_same(&rt, refused_in_turn(&rt, 40, refused), Some(TOLD));
 }
 
-/// A value that is refused comes back, by the insert that shows its entry too; one that is found needs no memory.
+/// Checks that `insert_and_show` returns a refused value too, and that an insert that finds its value needs no memory.
 #[test]
 fn no_memory_at_all(rt: HostRuntime) -> Result<(), Fail> {
     let memory = Refusing::new(rt.alloc(), Rule::new(0, usize::MAX, 0, u64::MAX));

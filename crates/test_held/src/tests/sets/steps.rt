@@ -1,17 +1,17 @@
-//! Numbers in steps of a power of two, which a hash that multiplies alone piles up.
+//! Tests with multiples of a power of two. A hash that only multiplies would put them all into a few buckets.
 use super::assert_same;
 use std::alloc::{AllocError, Global};
 use std::process::Abort;
 use std::test::Fail;
 use table_sets::{HeldSet, InPlace, Inserted, NumberLaw, SetLaw};
 
-/// The steps: of the multiples of the last one the low 40 bits are 0.
+/// The steps. The multiples of the last one have 0 as their low 40 bits.
 const STEPS: [u64; 4] = [1, 1 << 8, 1 << 16, 1 << 40];
 
-/// How many multiples there are, from 0 on.
+/// How many multiples of a step are inserted, from 0 on.
 const COUNT: u64 = 20_000;
 
-/// Inserts the multiples of the step into an empty set, and counts those that are placed, and those that are found then.
+/// Inserts the multiples of the step into an empty set. Returns how many of them are placed, and how many a look-up then finds.
 fn fill_held(alloc: Global, step: u64) -> (u64, u64) {
     let mut set: HeldSet<InPlace<u64>, NumberLaw> = HeldSet::new(alloc);
     let (mut placed, mut found) = (0u64, 0u64);
@@ -32,16 +32,16 @@ fn held(rt: HostRuntime) {
     }
 }
 
-/// The first of the fifteen bits that choose a bucket: the lowest, those with the mark, and the highest.
+/// The lowest of fifteen bits of a hash that choose a bucket: the low bits, bits 32 to 46, and the high bits.
 const PLACES: [u32; 3] = [0, 32, 49];
 
-/// So many buckets do fifteen bits choose from.
+/// How many buckets fifteen bits can choose.
 const BUCKETS: usize = 1 << 15;
 
-/// The most hashes that one bucket gets. Of 20,000 drawn ones it gets 6 to 8.
+/// How many hashes may choose one bucket. Among 20,000 random hashes the most that choose one bucket are 6 to 8.
 const MOST: u8 = 8;
 
-/// Counts the hashes of the multiples of the step that each bucket gets, and says the largest count.
+/// Returns how many multiples of the step choose the fullest bucket by the fifteen bits from `place` on. `Err`: no memory.
 fn most_of_a_bucket(alloc: Global, step: u64, place: u32) -> Result<u8, AllocError> {
     let mut counts: Vec<u8> = Vec::new(alloc);
     counts.resize(BUCKETS, 0)?;
@@ -59,7 +59,7 @@ fn most_of_a_bucket(alloc: Global, step: u64, place: u32) -> Result<u8, AllocErr
     )
 }
 
-/// No place of the step's hashes chooses one bucket too often.
+/// Asserts that at each of `PLACES` at most `MOST` multiples of the step choose one bucket. `Err`: no memory.
 fn assert_spread(rt: &impl Abort, alloc: Global, step: u64) -> Result<(), AllocError> {
     for place in PLACES {
         assert!(rt; most_of_a_bucket(alloc, step, place)? <= MOST);

@@ -1,4 +1,4 @@
-//! Each value over eight shards is dropped once.
+//! Tests that each value of a table over eight shards is dropped once.
 use super::makers::eight_shards;
 use crate::tests::assert_same;
 use lock_free_hashtable::sharded::HeldShardedTable;
@@ -9,7 +9,7 @@ use testkit::counting::{Counting, Drops};
 
 type Countings = HeldShardedTable<Box<Counting>, 8>;
 
-/// A table into which the first so many numbers were placed, whose drops are counted there.
+/// Makes a table of the first `numbers` numbers, whose drops `drops` counts. `Err`: no memory.
 fn filled(
     rt: &impl Abort,
     alloc: Global,

@@ -1,10 +1,10 @@
-//! New tables over each number of shards.
+//! Functions that make new single-owner tables, one for each number of shards.
 use lock_free_hashtable::AtomicValue;
 use lock_free_hashtable::sharded::HeldShardedTable;
 use std::alloc::Global;
 use testkit::refusing::Refusing;
 
-/// Two shards of boxed numbers, whose memory this heap grants or refuses.
+/// Makes a table of boxed numbers over two shards, which requests its memory from this heap.
 pub fn two_shards_of(heap: &Refusing<Global>) -> HeldShardedTable<Box<u64>, 2, &Refusing<Global>> {
     HeldShardedTable::new(heap)
 }

@@ -1,4 +1,4 @@
-//! A million numbers over sixteen shards.
+//! A test of a million numbers over sixteen shards.
 use super::makers::sixteen_shards;
 use super::numbers::{Numbers, count_shown, fill};
 use super::walks::count_steps;

@@ -1,14 +1,14 @@
-//! Numbers in a table over shards that one owner holds alone, each equal to itself alone.
+//! Calls on single-owner tables of numbers over shards. Each number is equal only to itself.
 use lock_free_hashtable::sharded::HeldShardedTable;
 use std::alloc::{Allocator, Global};
 use table_terms::law::{NumberLaw, hash_number};
 use testkit::counting::asked::{hash, same};
 use testkit::counting::numbers::{Told, told_by};
 
-/// A table of boxed numbers over so many shards.
+/// A table of boxed numbers over `SHARDS` shards.
 pub type Numbers<const SHARDS: usize, A> = HeldShardedTable<Box<u64>, SHARDS, A>;
 
-/// What `place_alone` tells of the number.
+/// Inserts the number by `place_alone`, and returns the answer.
 pub fn insert<const SHARDS: usize, A: Allocator + Copy>(
     table: &mut Numbers<SHARDS, A>,
     alloc: Global,
@@ -25,7 +25,7 @@ pub fn insert<const SHARDS: usize, A: Allocator + Copy>(
     }
 }
 
-/// What `insert_alone` tells of the number, which shows it.
+/// Inserts the number by `insert_alone`, and returns the answer.
 pub fn show<const SHARDS: usize, A: Allocator + Copy>(
     table: &mut Numbers<SHARDS, A>,
     alloc: Global,
@@ -40,7 +40,7 @@ pub fn show<const SHARDS: usize, A: Allocator + Copy>(
     }
 }
 
-/// Inserts the numbers below `count`: how many were placed.
+/// Inserts the numbers below `count`, and returns how many were placed.
 pub fn fill<const SHARDS: usize>(
     table: &mut Numbers<SHARDS, Global>,
     alloc: Global,
@@ -53,7 +53,7 @@ pub fn fill<const SHARDS: usize>(
     placed
 }
 
-/// The number that a look-up shows.
+/// Returns the number that a look-up finds.
 pub fn shown<const SHARDS: usize, A: Allocator + Copy>(
     table: &Numbers<SHARDS, A>,
     number: u64,
@@ -64,7 +64,7 @@ pub fn shown<const SHARDS: usize, A: Allocator + Copy>(
         .copied()
 }
 
-/// How many of the numbers below `count` a look-up shows.
+/// Returns how many of the numbers below `count` a look-up finds.
 pub fn count_shown<const SHARDS: usize, A: Allocator + Copy>(
     table: &Numbers<SHARDS, A>,
     count: u64,
@@ -76,7 +76,7 @@ pub fn count_shown<const SHARDS: usize, A: Allocator + Copy>(
     found
 }
 
-/// A look-up shows each of the numbers below `count`, and the table has no more.
+/// Returns whether the entries of the table are the numbers below `count`.
 pub fn holds<const SHARDS: usize, A: Allocator + Copy>(
     table: &Numbers<SHARDS, A>,
     count: u64,

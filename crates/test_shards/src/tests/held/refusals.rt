@@ -1,4 +1,4 @@
-//! Memory that is refused to tables over shards, and to lists of calls.
+//! Tests of refused memory, for tables over shards and for lists of calls.
 use super::makers::two_shards_of;
 use super::numbers::{Numbers, holds, insert, show};
 use super::runs::{Step, calls, list_tells, run_numbers, told_by_all};
@@ -11,10 +11,10 @@ use testkit::counting::numbers::{Told, refused_in_turn};
 use testkit::plain_list::told::Told as Reply;
 use testkit::refusing::{Refusing, Rule};
 
-/// How many runs are made, of which each lets one request more pass than the one before.
+/// How many runs are made. Each grants one request more than the run before, and refuses the next one.
 const RUNS: u64 = 100;
 
-/// A request was refused in more than seventeen of the runs, and not in all.
+/// Asserts that a request was refused in more than 17 of the runs, and not in all.
 fn assert_requests(rt: &impl Abort, refused: Option<u64>) {
     let refused = refused.unwrap_or(0);
     assert!(rt;
@@ -23,16 +23,16 @@ fn assert_requests(rt: &impl Abort, refused: Option<u64>) {
     );
 }
 
-/// How a number is inserted.
+/// The call by which a number is inserted.
 #[derive(Clone, Copy)]
 enum Form {
-    /// By `place_alone`.
+    /// A call of `place_alone`.
     Places,
-    /// By `insert_alone`, which shows it.
+    /// A call of `insert_alone`, which returns the entry.
     Shows,
 }
 
-/// What an insert of the number is told.
+/// Inserts the number by a call of this form, and returns the answer.
 fn insert_by(
     form: Form,
     table: &mut Numbers<2, &Refusing<Global>>,
@@ -45,8 +45,7 @@ fn insert_by(
     }
 }
 
-/// Inserts the number, which is placed by the second try at the latest. A number that is refused comes back, and the others
-/// stay.
+/// Inserts the number, and once more if it is refused. Returns whether it was placed and the entries were right after each try.
 fn is_placed(
     form: Form,
     table: &mut Numbers<2, &Refusing<Global>>,
@@ -60,8 +59,8 @@ fn is_placed(
     told == Told::Placed && holds(table, number.wrapping_add(1))
 }
 
-/// Seventeen numbers and the fifth of them again, where the request after so many is refused. Each is placed, and the fifth is
-/// found. Whether a request was refused.
+/// Inserts 17 numbers and then the fifth again, while the request after the first `passing` ones is refused. Asserts that each is placed,
+/// and that the fifth is found then. Returns whether a request was refused.
 fn assert_all_placed(rt: &impl Abort, alloc: Global, form: Form, passing: u64) -> bool {
     let heap = Refusing::new(alloc, Rule::new(0, usize::MAX, passing, 1));
     let mut table = two_shards_of(&heap);
@@ -85,7 +84,7 @@ fn each_request_of_two_shards_refused(rt: HostRuntime) {
 
 const STEPS: [Step; 4] = [Step::Insert(1), Step::Insert(1), Step::Lookup(1), Step::Len];
 
-/// The room for the replies is refused: the calls come back, and the table has no entry.
+/// Checks that `run_calls` returns the calls and leaves the table empty if the memory for the replies is refused.
 #[test]
 fn no_room_for_replies(rt: HostRuntime) -> Result<(), Fail> {
     let heap = Refusing::new(rt.alloc(), Rule::new(0, usize::MAX, 1, 1));
@@ -99,7 +98,7 @@ fn no_room_for_replies(rt: HostRuntime) -> Result<(), Fail> {
     Ok(())
 }
 
-/// Seventeen numbers, and the fifth of them again.
+/// Returns the inserts of 17 numbers, and of the fifth of them again. `Err`: no memory.
 fn inserts(alloc: Global) -> Result<Vec<Step>, AllocError> {
     let mut steps = Vec::new(alloc);
     for number in 0..17u64 {
@@ -109,12 +108,12 @@ fn inserts(alloc: Global) -> Result<Vec<Step>, AllocError> {
     Ok(steps)
 }
 
-/// Whether the step is an insert whose value came back alone.
+/// Returns whether the step is an insert whose value was refused and returned.
 fn is_refused(step: Step, told: Reply) -> bool {
     matches!((step, told), (Step::Insert(number), Reply::Refused(back)) if number == back)
 }
 
-/// What was told is what a list tells, but where an insert was refused: how many numbers the list then has.
+/// Asserts that the answers are those of a list without the refused inserts. Returns the length of the list then. `Err`: no memory.
 fn assert_told_or_refused(
     rt: &impl Abort,
     alloc: Global,
@@ -130,8 +129,8 @@ fn assert_told_or_refused(
     Ok(list.len())
 }
 
-/// Makes the inserts by one list of calls, where the request after so many is refused. All calls come back where the room for the
-/// replies was refused.
+/// Makes the inserts by one list of calls while the request after the first `passing` ones is refused, and asserts that the answers are
+/// right. If the memory for the replies is refused, it asserts that all calls are returned. `Err`: no memory for the test itself.
 fn assert_run(
     rt: &impl Abort,
     alloc: Global,
@@ -153,8 +152,8 @@ fn assert_run(
     Ok(())
 }
 
-/// Makes the inserts where the request after so many is refused, and then once more with ample memory. Whether a request was
-/// refused.
+/// Makes the inserts while the request after the first `passing` ones is refused, and then again without refusals. Asserts that all 17
+/// numbers are entries then, and returns whether a request was refused. `Err`: no memory for the test itself.
 fn assert_run_refused(rt: &impl Abort, alloc: Global, passing: u64) -> Result<bool, AllocError> {
     let heap = Refusing::new(alloc, Rule::new(0, usize::MAX, 0, 0));
     let mut table = two_shards_of(&heap);

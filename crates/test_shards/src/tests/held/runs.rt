@@ -1,4 +1,4 @@
-//! Lists of calls on every kind of table, compared reply by reply.
+//! Lists of calls on every kind of single-owner table, in which each reply is compared with that of a list.
 use super::makers::{eight_shards, four_shards, one_shard, sixteen_shards, two_shards};
 use lock_free_hashtable::alone::{AloneTable, Call, Reply, run_calls};
 use lock_free_hashtable::raw::HeldRawTable;
@@ -11,7 +11,7 @@ use table_terms::law::{NumberLaw, hash_number};
 use testkit::plain_list::PlainList;
 use testkit::plain_list::told::{Told, told_by};
 
-/// A call with numbers.
+/// A call on a table of numbers.
 #[derive(Clone, Copy)]
 pub enum Step {
     Insert(u64),
@@ -19,7 +19,7 @@ pub enum Step {
     Len,
 }
 
-/// The calls of these steps, each with the hash of its number.
+/// Returns the calls of these steps, each with the hash of its number. `Err`: no memory.
 pub fn calls<A: Allocator + Copy>(
     alloc: A,
     boxes: Global,
@@ -43,7 +43,7 @@ pub fn calls<A: Allocator + Copy>(
     Ok(calls)
 }
 
-/// What these replies tell.
+/// Returns the replies with numbers in place of values. `Err`: no memory.
 pub fn told_by_all(alloc: Global, replies: &[Reply<Box<u64>>]) -> Result<Vec<Told>, AllocError> {
     let mut told = Vec::with_capacity(alloc, replies.len())?;
     for reply in replies {
@@ -52,7 +52,7 @@ pub fn told_by_all(alloc: Global, replies: &[Reply<Box<u64>>]) -> Result<Vec<Tol
     Ok(told)
 }
 
-/// Makes the calls, under the law of numbers.
+/// Makes the calls under the law of numbers, and returns the replies. `Err`: the calls, if the memory for the replies was refused.
 pub fn run_numbers<B: AloneTable<Box<u64>, NumberLaw>, A: Allocator + Copy>(
     alloc: A,
     table: &mut B,
@@ -68,7 +68,7 @@ pub fn run_numbers<B: AloneTable<Box<u64>, NumberLaw>, A: Allocator + Copy>(
     )
 }
 
-/// What the steps are told by this table.
+/// Takes the steps on this table, and returns the answers. `Err`: no memory.
 fn run<B: AloneTable<Box<u64>, NumberLaw>>(
     alloc: Global,
     table: &mut B,
@@ -80,7 +80,7 @@ fn run<B: AloneTable<Box<u64>, NumberLaw>>(
     }
 }
 
-/// Whether this table tells the steps this.
+/// Takes the steps on this table, and returns whether it gives the expected answers.
 fn tells<B: AloneTable<Box<u64>, NumberLaw>>(
     alloc: Global,
     table: &mut B,
@@ -93,14 +93,14 @@ fn tells<B: AloneTable<Box<u64>, NumberLaw>>(
     }
 }
 
-/// New tables of every kind tell the steps this: the plain list, the raw table, and those over shards.
+/// Asserts that a new table of each kind gives the expected answers: the plain list, the raw table, and tables over shards.
 fn assert_told(rt: &impl Abort, alloc: Global, steps: &[Step], expected: &[Told]) {
     assert!(rt; tells(alloc, &mut PlainList::new(alloc), steps, expected));
     assert!(rt; tells(alloc, &mut HeldRawTable::new(alloc), steps, expected));
     assert!(rt; tells_over_shards(alloc, steps, expected));
 }
 
-/// New tables over one shard, two, four, eight and sixteen tell the steps this.
+/// Returns whether new tables over one, two, four, eight and sixteen shards all give the expected answers.
 fn tells_over_shards(alloc: Global, steps: &[Step], expected: &[Told]) -> bool {
     tells(alloc, &mut one_shard(alloc), steps, expected)
         && tells(alloc, &mut two_shards(alloc), steps, expected)
@@ -134,7 +134,7 @@ fn calls_are_told_what_a_list_tells(rt: HostRuntime) {
     assert_told(&rt, rt.alloc(), STEPS.as_slice(), TOLD.as_slice());
 }
 
-/// What a list of numbers tells of the step, and the list after.
+/// Takes the step on a list of numbers, and returns the answer. `Err`: no memory.
 pub fn list_tells(list: &mut Vec<u64>, step: Step) -> Result<Told, AllocError> {
     match step {
         Step::Insert(number) => {
@@ -155,7 +155,7 @@ pub fn list_tells(list: &mut Vec<u64>, step: Step) -> Result<Told, AllocError> {
     }
 }
 
-/// A step on one of 300 numbers.
+/// Draws a step with one of 300 numbers.
 fn draw(numbers: &mut SplitMix64) -> Step {
     let number = numbers.next_u64().checked_rem(300).unwrap_or(0);
     match numbers.next_u64().checked_rem(4).unwrap_or(0) {

@@ -1,8 +1,8 @@
-//! The shard of a hash.
+//! A test of `shard_of`, which returns the shard of a hash.
 use lock_free_hashtable::sharded::HeldShardedTable;
 use std::process::Abort;
 
-/// A hash, and its shard where there is one shard, two, eight and sixteen.
+/// Hashes, and the shard of each if there are one, two, eight or sixteen shards.
 const SHARDS_OF: [(u64, [usize; 4]); 6] = [
     (0, [0, 0, 0, 0]),
     (0x7FFF_FFFF_FFFF_FFFF, [0, 0, 3, 7]),

@@ -1,4 +1,4 @@
-//! What an insert into shards shows at once, and what it leaves, beside `place_alone` of the same numbers.
+//! Tests of `insert_alone` over shards: the entry that it returns, and the table that it leaves, compared with `place_alone`.
 use super::makers::{eight_shards, one_shard, two_shards};
 use super::numbers::{Numbers, holds, insert, show};
 use super::walks::walked;
@@ -10,7 +10,7 @@ use table_terms::law::NumberLaw;
 use testkit::counting::asked::hash;
 use testkit::counting::numbers::Told;
 
-/// The tables have the same entries in the same order, and as many buckets.
+/// Returns whether the tables have the same entries in the same order, and equally many buckets. `Err`: no memory.
 fn are_alike<const SHARDS: usize>(
     shows: &Numbers<SHARDS, Global>,
     places: &Numbers<SHARDS, Global>,
@@ -25,7 +25,7 @@ fn are_alike<const SHARDS: usize>(
     )
 }
 
-/// The number is told so, and after that the tables are alike.
+/// Inserts the number by `insert_alone`, and asserts that the answer is `told` and the tables are alike after it. `Err`: no memory.
 fn assert_told<const SHARDS: usize>(
     rt: &impl Abort,
     shows: &mut Numbers<SHARDS, Global>,
@@ -39,8 +39,8 @@ fn assert_told<const SHARDS: usize>(
     Ok(())
 }
 
-/// The first so many numbers are each shown when they are placed and when they are found, and after each insert the table is as
-/// `place_alone` leaves the other. Look-ups find them all.
+/// Inserts each number below `numbers` twice by `insert_alone`. Asserts that it is placed and then found, that the table is always like one
+/// that `place_alone` fills, and that look-ups find all numbers in the end. `Err`: no memory.
 fn assert_shows_as_placed<const SHARDS: usize>(
     rt: &impl Abort,
     mut shows: Numbers<SHARDS, Global>,
@@ -65,10 +65,10 @@ fn leaves_what_place_alone_leaves(rt: HostRuntime) -> Result<(), Fail> {
     Ok(())
 }
 
-/// No value.
+/// A number that means that there is no value.
 const NONE: u64 = u64::MAX;
 
-/// Hashes of the first shard of two and of the second, numbers, and what an equality that is always met shows, and what comes back.
+/// The hash and the number of each insert with an `eq` that accepts every entry, and the entry and the value that it returns.
 const CARELESS: [(u64, u64, [u64; 2]); 4] = [
     (0, 1, [1, NONE]),
     (1 << 63, 2, [2, NONE]),
@@ -76,12 +76,12 @@ const CARELESS: [(u64, u64, [u64; 2]); 4] = [
     (1 << 63, 4, [2, 4]),
 ];
 
-/// An equality that is always met.
+/// Accepts every entry as equal.
 fn always(_new: &u64, _entry: &u64) -> bool {
     true
 }
 
-/// What an insert of the value shows by an equality that is always met, and what comes back.
+/// Inserts the value with an `eq` that accepts every entry. Returns the entry and the returned value, with `NONE` for a missing one.
 fn show_careless(table: &mut Numbers<2, Global>, hash_of: u64, value: Box<u64>) -> [u64; 2] {
     match table.insert_alone::<NumberLaw, _, _>(hash_of, value, always, hash) {
         Ok((shown, None)) => [*shown, NONE],
@@ -90,7 +90,7 @@ fn show_careless(table: &mut Numbers<2, Global>, hash_of: u64, value: Box<u64>) 
     }
 }
 
-/// An equality that is always met is asked of entries in the hash's shard alone.
+/// Checks that an insert compares its value only with entries in the shard of its hash.
 #[test]
 fn shows_an_entry_of_its_own_shard(rt: HostRuntime) -> Result<(), Fail> {
     let mut table: Numbers<2, Global> = two_shards(rt.alloc());

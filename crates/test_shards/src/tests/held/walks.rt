@@ -1,4 +1,4 @@
-//! Walks over eight shards, by reference and by value.
+//! Tests of iterators over eight shards, by reference and by value.
 ghost use Rattle.std.specs.Iterator.{IsFinite};
 
 use super::makers::eight_shards;
@@ -11,14 +11,14 @@ use testkit::counting::numbers::count_first;
 
 type EightShards = Numbers<8, Global>;
 
-/// A table into which the numbers below `count` were placed.
+/// Makes a table of the numbers below `count`.
 fn filled(rt: &impl Abort, alloc: Global, count: u64) -> EightShards {
     let mut table = eight_shards(alloc);
     assert!(rt; fill(&mut table, alloc, count) == count);
     table
 }
 
-/// The numbers of a walk.
+/// Returns the numbers that an iterator by reference yields. `Err`: no memory.
 pub(crate) fn walked<const SHARDS: usize>(
     table: &Numbers<SHARDS, Global>,
     alloc: Global,
@@ -30,7 +30,7 @@ pub(crate) fn walked<const SHARDS: usize>(
     Ok(numbers)
 }
 
-/// The numbers of the values that a table hands out.
+/// Returns the numbers that the owning iterator yields. `Err`: no memory.
 fn handed_out(table: EightShards, alloc: Global) -> Result<Vec<u64>, AllocError> {
     let mut numbers = Vec::new(alloc);
     for value in table {
@@ -39,7 +39,7 @@ fn handed_out(table: EightShards, alloc: Global) -> Result<Vec<u64>, AllocError>
     Ok(numbers)
 }
 
-/// The numbers are the first so many, each once.
+/// Asserts that these are the numbers below `count`, each once.
 fn assert_each_once<R: Abort>(rt: &R, numbers: Vec<u64>, count: u64) {
     let (length, first) = count_first(numbers);
     assert_same(rt, [length, first], [count, count]);
@@ -57,7 +57,7 @@ fn walks_give_a_thousand_numbers_once_each(rt: HostRuntime) -> Result<(), Fail> 
     Ok(())
 }
 
-/// How many steps a walk has.
+/// Runs the iterator to its end, and returns how many items it yields.
 pub(super) fn count_steps<T: Drop, I: Iterator<Item = T> + Drop>(walk: &mut I) -> u64
     requires can { I.can_next walk.old }
     requires ends { IsFinite (I.remaining walk.old) }

@@ -1,4 +1,4 @@
-//! New tables of so many shards, each of which is a power of two.
+//! Functions that make new tables, one for each number of shards. Each number is a power of two, as `new` requires.
 ghost use Rattle.table_terms.specs.Capacities.{IsFirstCapacity};
 
 use lock_free_hashtable::sharded::{HeldShardedTable, ShardedLockFreeRawTable};
@@ -6,34 +6,34 @@ use std::alloc::Global;
 use table_generations::atomic_value::AtomicValue;
 use testkit::refusing::Refusing;
 
-/// Eight shards held alone.
+/// Makes a single-owner table over eight shards.
 pub(crate) fn eight_held(alloc: Global) -> HeldShardedTable<Box<u64>, 8> {
     HeldShardedTable::new(alloc)
 }
 
-/// Eight shards.
+/// Makes a table over eight shards.
 pub(crate) fn eight<T: AtomicValue>(alloc: Global) -> ShardedLockFreeRawTable<T, 8> {
     ShardedLockFreeRawTable::new(alloc)
 }
 
-/// Eight shards, each with this many buckets at first.
+/// Makes a table over eight shards, each of which has `first_capacity` buckets at first.
 pub(crate) fn eight_of(alloc: Global, first_capacity: usize) -> ShardedLockFreeRawTable<Box<u64>, 8>
     requires { IsFirstCapacity first_capacity }
 {
     ShardedLockFreeRawTable::with_first_capacity(alloc, first_capacity)
 }
 
-/// One shard.
+/// Makes a table over one shard.
 pub(crate) fn one(alloc: Global) -> ShardedLockFreeRawTable<Box<u64>, 1> {
     ShardedLockFreeRawTable::new(alloc)
 }
 
-/// Sixteen shards.
+/// Makes a table over sixteen shards.
 pub(crate) fn sixteen(alloc: Global) -> ShardedLockFreeRawTable<Box<u64>, 16> {
     ShardedLockFreeRawTable::new(alloc)
 }
 
-/// Two shards.
+/// Makes a table over two shards, which requests its memory from `alloc`.
 pub(crate) fn two(
     alloc: &Refusing<Global>,
 ) -> ShardedLockFreeRawTable<Box<u64>, 2, &Refusing<Global>> {

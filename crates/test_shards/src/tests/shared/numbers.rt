@@ -1,4 +1,4 @@
-//! Values in tables over shards, told apart by their numbers.
+//! Calls on tables over shards, in which values are equal if their numbers are.
 use crate::tests::assert_same;
 use lock_free_hashtable::AtomicValue;
 use lock_free_hashtable::sharded::ShardedLockFreeRawTable;
@@ -12,10 +12,10 @@ use testkit::counting::asked::Numbered;
 use testkit::counting::numbers::{count_first, told_by};
 pub(crate) use testkit::counting::numbers::{Inserts, Numbers, Told};
 
-/// A table of boxed numbers over so many shards.
+/// A table of boxed numbers over `SHARDS` shards.
 pub(crate) type Table<const SHARDS: usize, A> = ShardedLockFreeRawTable<Box<u64>, SHARDS, A>;
 
-/// What an insert of the value under this hash is told. Each number is equal to itself alone.
+/// Inserts the value under this hash, and returns the answer. Values are equal if their numbers are.
 pub(crate) fn insert_at<R: Wait, T: AtomicValue, const SHARDS: usize, A: Low + Copy>(
     rt: &R,
     table: &ShardedLockFreeRawTable<T, SHARDS, A>,
@@ -30,18 +30,18 @@ where
     told_by(table.insert(rt, hash, value, eq, hash_fn), number)
 }
 
-/// A table of boxed numbers over shards, each number under its own hash, whatever the number of shards and their memory.
+/// A table of boxed numbers, each under its own hash, over any number of shards and any allocator.
 pub(crate) trait OverShards {
-    /// What an insert of the number is told, whose block is asked for here.
+    /// Inserts the number in a box of `alloc`, and returns the answer.
     fn insert_of<R: Wait>(&self, rt: &R, alloc: Global, number: u64) -> Told;
 
-    /// Whether a look-up shows the number.
+    /// Returns whether a look-up finds the number.
     fn has(&self, number: u64) -> bool;
 
-    /// How many entries it counts, and whether it says that it is empty.
+    /// Returns the length of the table, and whether it reports that it is empty.
     fn counted(&self) -> (u64, bool);
 
-    /// The numbers that a walk shows.
+    /// Returns the numbers that an iterator by reference yields. `Err`: no memory.
     fn shown(&self, alloc: Global) -> Result<Vec<u64>, AllocError>;
 }
 
@@ -74,7 +74,7 @@ impl<const SHARDS: usize, A: Low + Copy> OverShards
     }
 }
 
-/// Such a table, and where the blocks of its numbers are asked for.
+/// A table over shards, and the allocator of the boxes.
 #[derive(Drop)]
 pub(crate) struct Sharded<'a, T> {
     pub table: &'a T,
@@ -101,7 +101,7 @@ impl<'a, T: OverShards> Numbers for Sharded<'a, T> {
     }
 }
 
-/// Asserts that the table hands out the numbers below `count`, each once, and nothing after.
+/// Asserts that the owning iterator yields the numbers below `count`, each once, and stays at its end. `Err`: no memory.
 pub(crate) fn assert_handed(
     rt: &impl Abort,
     table: Table<8, Global>,

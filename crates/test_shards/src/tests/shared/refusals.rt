@@ -1,4 +1,4 @@
-//! Each request for memory of two shards refused in turn.
+//! A test in which each request for memory of a table over two shards is refused in turn.
 use super::made::two;
 use super::numbers::Sharded;
 use crate::tests::assert_same;
@@ -7,16 +7,16 @@ use std::sync::Wait;
 use testkit::counting::numbers::{refused_in_turn, refused_inserts};
 use testkit::refusing::{Refusing, Rule};
 
-/// How many numbers are inserted: each shard grows from 16 buckets to 32.
+/// How many numbers are inserted. Each shard grows from 16 buckets to 32.
 const NUMBERS: u64 = 17;
 
-/// The requests whose refusal an insert is told: one block a number, and for the first generation of each shard its marks, its
-/// words, its block, the words for the later ones, the room to take those out, and the block of both. A later growth
-/// that is refused changes no answer, since the number was placed.
+/// How many requests make an insert fail if they are refused: the block of each number, and six for the first generation of each shard. The
+/// six are its marks, its words, its own block, the words for later generations, the room to take those generations out, and the block of
+/// these words and this room. A refused growth changes no answer, since the number was placed before.
 const TOLD: u64 = NUMBERS + 2 * 6;
 
-/// How many of the inserts were refused, where one request after `passing` many is refused. In the end each block was given
-/// back.
+/// Inserts the numbers while the request after the first `passing` ones is refused, and asserts that each block is freed in the end.
+/// Returns how many inserts were refused, or `None` after a wrong answer.
 fn refused<R: Wait + Abort + AllocGlobal>(rt: &R, passing: u64) -> Option<u64> {
     let alloc = rt.alloc();
     let memory = Refusing::new(alloc, Rule::new(0, usize::MAX, passing, 1));

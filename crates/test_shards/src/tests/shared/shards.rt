@@ -1,4 +1,4 @@
-//! One entry in one shard: every call asks the shard of its hash alone, or all of them.
+//! Tests with one entry in one shard. A call uses only the shard of its hash, or all shards.
 use super::made::{eight, eight_of, one};
 use super::numbers::{Table, Told, insert_at};
 use crate::tests::assert_same;
@@ -8,26 +8,26 @@ use std::process::Abort;
 use std::sync::Wait;
 use std::test::Fail;
 
-/// How many shards there are, and of how many bits their number is.
+/// How many shards there are, and how many bits of a hash choose one.
 const SHARDS: u64 = 8;
 
 const SHARD_BITS: u32 = 3;
 
-/// Ends of hashes, with the first bucket and the eight bits of an entry: they are the same in every shard.
+/// The low bits of hashes. They choose the first bucket and the eight bits that an entry keeps, whatever the shard.
 const ENDS: [u64; 4] = [0, 5, 15, (200 << 32) | 5];
 
-/// A first capacity that isn't the usual one.
+/// A first capacity other than the default one.
 const WIDE: usize = 64;
 
-/// A number that no test inserts.
+/// A number that no test inserts. It means that there is no number.
 const NONE: u64 = u64::MAX;
 
-/// The hash of this end in this shard.
+/// Returns the hash with these low bits whose shard is this one.
 fn hash_in(shard: u64, end: u64) -> u64 {
     (shard << (64 - SHARD_BITS)) | end
 }
 
-/// The number that a look-up under this hash shows, whatever it is.
+/// Returns the number that a look-up under this hash finds with a test that accepts every number, or `NONE`.
 fn shown<const N: usize, A: Allocator + Copy>(table: &Table<N, A>, hash: u64) -> u64 {
     match table.lookup(hash, |_| true) {
         Some(number) => *number,
@@ -35,14 +35,14 @@ fn shown<const N: usize, A: Allocator + Copy>(table: &Table<N, A>, hash: u64) ->
     }
 }
 
-/// The numbers that a walk shows first and second.
+/// Returns the first two numbers of an iterator by reference, with `NONE` for a missing one.
 fn first_two<const N: usize, A: Allocator + Copy>(table: &Table<N, A>) -> [u64; 2] {
     let mut walk = table.iter();
     let first = walk.next().copied().unwrap_or(NONE);
     [first, walk.next().copied().unwrap_or(NONE)]
 }
 
-/// Asserts that the number is shown under this end in this shard, which has an entry, and in no other one.
+/// Asserts that this shard has one entry, that a look-up with these low bits finds it, and that every other shard is empty.
 fn assert_shown_in<R: Abort>(rt: &R, table: &Table<8, Global>, shard: u64, end: u64, number: u64) {
     for asked in 0..SHARDS {
         let hash = hash_in(asked, end);
@@ -56,7 +56,7 @@ fn assert_shown_in<R: Abort>(rt: &R, table: &Table<8, Global>, shard: u64, end: 
     }
 }
 
-/// Inserts one number into a shard of the table, which has no entry before, and then this one alone.
+/// Inserts one number into a shard of an empty table, and asserts that it is then the only entry and lies in this shard.
 fn assert_alone_in<R: Abort + Wait>(
     rt: &R,
     table: &Table<8, Global>,
@@ -81,13 +81,13 @@ fn assert_alone_in<R: Abort + Wait>(
     assert_shown_in(rt, table, shard, end, number);
 }
 
-/// The numbers that a table hands out first and second.
+/// Returns the first two numbers of the owning iterator, with `NONE` for a missing one.
 fn handed_two(table: Table<8, Global>) -> [u64; 2] {
     let mut values = table.into_iter();
     [number_of(values.next()), number_of(values.next())]
 }
 
-/// The number of a value that is handed out.
+/// Returns the number of the value, or `NONE`.
 fn number_of(value: Option<Box<u64>>) -> u64 {
     match value {
         Some(value) => *value,
@@ -95,7 +95,7 @@ fn number_of(value: Option<Box<u64>>) -> u64 {
     }
 }
 
-/// Inserts one number into a shard of a new table, which hands it out.
+/// Inserts one number into a shard of a new table, and asserts that it is the only one that the owning iterator yields. `Err`: no memory.
 fn assert_lies_in<R: Abort + Wait>(
     rt: &R,
     alloc: Global,
@@ -118,7 +118,7 @@ fn an_entry_is_in_the_shard_of_its_hash_alone(rt: HostRuntime) -> Result<(), Fai
     Ok(())
 }
 
-/// How many values a table of one shard hands out.
+/// Returns how many values the owning iterator of a table over one shard yields.
 fn count_handed(table: Table<1, Global>) -> u64 {
     let mut handed = 0u64;
     for _value in table {
@@ -127,7 +127,7 @@ fn count_handed(table: Table<1, Global>) -> u64 {
     handed
 }
 
-/// Inserts the number, which is shown then. The one shard has all entries, which are so many.
+/// Inserts the number, and asserts that a look-up finds it and that the table and its one shard have `number` entries.
 fn assert_taken<R: Abort + Wait>(rt: &R, table: &Table<1, Global>, hash: u64, value: Box<u64>) {
     let number = *value;
     let is_placed = insert_at(rt, table, hash, value) == Told::Placed;
@@ -152,7 +152,7 @@ fn one_shard_takes_every_hash(rt: HostRuntime) -> Result<(), Fail> {
     Ok(())
 }
 
-/// The buckets of the shard of this hash; 0 where it has no generation.
+/// Returns how many buckets the current generation of the hash's shard has, or 0 if it has no generation.
 fn buckets_at(table: &Table<8, Global>, hash: u64) -> u64 {
     let shard = table.shard(hash);
     match shard.current(&mut shard.note()) {

@@ -1,11 +1,11 @@
-//! Threads that insert at once over sixteen shards.
+//! A test of threads that insert into a table over sixteen shards at once.
 use super::made::sixteen;
 use super::numbers::Sharded;
 use crate::tests::assert_same;
 use testkit::counting::numbers::{fill_at_once, seen, those_below};
 use testkit::counting::tally::Tally;
 
-/// The numbers of four threads, each from one on up to another.
+/// The numbers of each of four threads: from the first up to the second, exclusive.
 const PARTS: [(u64, u64); 4] = [
     (0, 250_000),
     (250_000, 500_000),

@@ -1,4 +1,4 @@
-//! Values over eight shards whose drops are counted.
+//! Tests over eight shards with values that count their drops.
 use super::made::eight;
 use super::numbers::{Told, insert_at};
 use crate::tests::assert_same;
@@ -10,15 +10,15 @@ use std::test::Fail;
 use table_terms::law::hash_number;
 use testkit::counting::{Counting, Drops};
 
-/// How many values there are.
+/// How many values are inserted.
 const VALUES: u64 = 200;
 
-/// How many of them an iterator hands out that ends early: none, some of the first shards, or all.
+/// How many of them are taken from an owning iterator before it is dropped: none, one, most, or all.
 const TAKEN: [u64; 4] = [0, 1, 120, VALUES];
 
 type Table = ShardedLockFreeRawTable<Box<Counting>, 8>;
 
-/// A table into which values of the first numbers were placed.
+/// Makes a table of the values of the numbers below `VALUES`. `Err`: no memory.
 fn filled<R: Wait + Abort>(rt: &R, alloc: Global, drops: &Drops) -> Result<Table, AllocError> {
     let table = eight(alloc);
     let mut placed = 0u64;
@@ -30,7 +30,7 @@ fn filled<R: Wait + Abort>(rt: &R, alloc: Global, drops: &Drops) -> Result<Table
     Ok(table)
 }
 
-/// So many values are taken out of a table, and the rest is dropped; those go last.
+/// Takes `taken` values from an owning iterator, drops it and then those, and asserts which values each step drops. `Err`: no memory.
 fn assert_taken<R: Wait + Abort>(rt: &R, alloc: Global, taken: u64) -> Result<(), AllocError> {
     let drops = Drops::new(alloc, VALUES)?;
     let mut values = filled(rt, alloc, &drops)?.into_iter();

@@ -1,4 +1,4 @@
-//! A thousand numbers over eight shards: found, walked and handed out.
+//! Tests of look-ups and iterators with a thousand numbers over eight shards.
 use super::made::{eight, eight_held};
 use super::numbers::{Inserts, Sharded, Table, Told, assert_handed};
 use crate::tests::assert_same;
@@ -12,10 +12,11 @@ use testkit::counting::asked::{hash, same};
 use testkit::counting::numbers::{fill, seen, those_below};
 use testkit::counting::tally::Tally;
 
-/// How many numbers there are.
+/// How many numbers are inserted into an empty table.
 const NUMBERS: u64 = 1000;
 
-/// A table that has the numbers below `from` finds them, is filled on up to `to`, and has those then. It is handed out.
+/// Asserts that the entries of the table are the numbers below `from`, inserts all below `to`, and asserts that look-ups and both kinds of
+/// iterators then find these, each once. `Err`: no memory.
 fn assert_filled_on<R: Abort + Wait>(
     rt: &R,
     table: Table<8, Global>,
@@ -44,7 +45,7 @@ fn what_is_inserted_is_walked_and_handed_out_once(rt: HostRuntime) -> Result<(),
     Ok(())
 }
 
-/// A table held alone into which the first numbers were placed.
+/// Makes a single-owner table of the numbers below `NUMBERS`. `Err`: no memory.
 fn held(alloc: Global) -> Result<HeldShardedTable<Box<u64>, 8>, AllocError> {
     let mut table = eight_held(alloc);
     for number in 0..NUMBERS {
@@ -61,7 +62,7 @@ fn what_is_shared_is_walked_and_handed_out_once(rt: HostRuntime) -> Result<(), F
     Ok(())
 }
 
-/// Whether an insert of a new number makes the shard of its hash alone longer by one.
+/// Inserts a new number. Returns whether it was placed and the shard of its hash then has one entry more.
 fn lengthens<R: Wait>(rt: &R, numbers: &Sharded<'_, Table<8, Global>>, number: u64) -> bool {
     let shard = numbers.table.shard(hash_number(number));
     let before = shard.len();
@@ -69,7 +70,7 @@ fn lengthens<R: Wait>(rt: &R, numbers: &Sharded<'_, Table<8, Global>>, number: u
     is_placed && shard.len() == before.saturating_add(1)
 }
 
-/// The sum of the lengths of the shards.
+/// Returns the sum of the lengths of the shards.
 fn lengths(table: &Table<8, Global>) -> u64 {
     let mut sum = 0u64;
     for shard in 0..8u64 {
@@ -78,7 +79,7 @@ fn lengths(table: &Table<8, Global>) -> u64 {
     sum
 }
 
-/// Each shard is asked for the numbers of its hashes alone.
+/// Checks that each number is an entry of the shard of its hash, and of no other one.
 #[test]
 fn a_number_lies_in_the_shard_of_its_hash(rt: HostRuntime) {
     let table = eight(rt.alloc());

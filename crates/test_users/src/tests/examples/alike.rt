@@ -1,4 +1,4 @@
-//! The same calls on one table and on four shards.
+//! The same calls on one table and on a table over four shards.
 
 use super::assert_same;
 use demo_examples::alike::{Ask, Both, ask_both};
@@ -8,7 +8,7 @@ use std::process::Abort;
 use std::test::Fail;
 use testkit::plain_list::told::{Told, told_by};
 
-/// In the shards 0, 1, 2 and 3 of four.
+/// The words `LOW`, `SECOND`, `THIRD` and `HIGH` belong to the shards 0, 1, 2 and 3.
 const LOW: u64 = 7;
 
 const SECOND: u64 = 1 << 62;

@@ -1,12 +1,12 @@
-//! What a memo answers, whatever it was asked before.
+//! The answers of a memo table, which don't depend on earlier calls.
 use super::{ask, slow_fibonacci};
 use std::process::Abort;
 use tool_lines::memo::Memo;
 
-/// Every argument below is asked.
+/// How many small arguments the tests ask for.
 const ARGUMENTS: u64 = 400;
 
-/// Great arguments and their answers, by powers of a matrix.
+/// Large arguments with their answers, which were computed by powers of a matrix.
 const GREAT: [(u64, u64); 4] = [
     (4_294_967_296, 14_555_514_507_530_727_995),
     (1_000_000_000_000_000_000, 13_142_498_416_641_831_483),
@@ -18,7 +18,7 @@ fn assert_answers(rt: &impl Abort, memo: &mut Memo, argument: u64, answer: u64) 
     assert_eq!(rt; ask(memo, argument), Some(answer), "at {argument}");
 }
 
-/// The argument that is asked in a turn, from the least on or from the greatest.
+/// Returns the argument of a turn. The arguments rise from 0, or fall from `ARGUMENTS`.
 fn argument_in(turn: u64, is_upward: bool) -> u64 {
     if is_upward {
         turn
@@ -27,7 +27,7 @@ fn argument_in(turn: u64, is_upward: bool) -> u64 {
     }
 }
 
-/// Asks a memo for the great ones, and for each of the small ones.
+/// Asserts what the memo answers for each large argument, and then for each small one.
 fn assert_all(rt: &impl Abort, memo: &mut Memo, is_upward: bool) {
     for (argument, answer) in &GREAT {
         assert_answers(rt, memo, *argument, *answer);
@@ -42,7 +42,7 @@ fn assert_all(rt: &impl Abort, memo: &mut Memo, is_upward: bool) {
 fn answers_are_those_of_additions(rt: HostRuntime) {
     let mut memo = Memo::new(rt.alloc());
     assert_all(&rt, &mut memo, true);
-    // Again, where all are kept, and in the other order.
+    // All answers are kept now. Another memo is asked in the other order.
     assert_all(&rt, &mut memo, true);
     let mut other = Memo::new(rt.alloc());
     assert_all(&rt, &mut other, false);

@@ -1,4 +1,4 @@
-//! The memo table over lines, by several threads.
+//! The memo program, which answers lines by several threads.
 use std::alloc::Global;
 use std::process::Abort;
 use std::test::Fail;
@@ -15,7 +15,7 @@ struct Printed {
     status: u8,
 }
 
-/// Runs the program over the input, as these words ask, on memory of an allocator.
+/// Runs the program with these arguments over the input. Its memory comes from `alloc`.
 fn run<R: Threads + Sync, A: Low + Copy + Send + Sync>(
     rt: &R,
     heap: Global,
@@ -40,7 +40,7 @@ fn run<R: Threads + Sync, A: Low + Copy + Send + Sync>(
     }
 }
 
-/// Asserts what was printed, and the status.
+/// Asserts what a run printed, and its status.
 fn assert_printed(rt: &impl Abort, printed: &Printed, output: &str, messages: &str, status: u8) {
     assert!(rt;
         printed.output.as_slice() == output.as_bytes(),
@@ -53,7 +53,7 @@ fn assert_printed(rt: &impl Abort, printed: &Printed, output: &str, messages: &s
     assert_eq!(rt; printed.status, status);
 }
 
-/// An input, and what it prints: answers, a message and a status.
+/// Inputs, each with the answers, the message and the status of its run.
 const ROWS: [(&str, &str, &str, u8); 5] = [
     ("", "", "", 0),
     ("10\n0\n10\n2", "55\n0\n55\n1\n", "", 0),
@@ -67,7 +67,7 @@ const ROWS: [(&str, &str, &str, u8); 5] = [
     ("\n", "", "bad line 1\n", 2),
 ];
 
-/// As many threads as are asked for print what one prints.
+/// Checks that any number of threads prints what one thread prints.
 #[test]
 fn threads_answer_lines_in_order(rt: HostRuntime) {
     for words in [["--threads", "1"], ["--threads", "3"], ["--threads", "64"]] {
@@ -78,7 +78,7 @@ fn threads_answer_lines_in_order(rt: HostRuntime) {
     }
 }
 
-/// More lines than are read at once are answered, and the line after them is counted.
+/// Checks that more lines than one batch holds are answered, and that the bad line after them has the right number.
 #[test]
 fn more_than_one_batch(rt: HostRuntime) -> Result<(), Fail> {
     let mut input = "11\n".repeat(rt.alloc(), 5000)?;
@@ -89,7 +89,7 @@ fn more_than_one_batch(rt: HostRuntime) -> Result<(), Fail> {
     Ok(())
 }
 
-/// Words that ask for nothing print how the program is called, and nothing is read.
+/// Checks that wrong arguments print the usage and no answer, and that the program needs no argument.
 #[test]
 fn wrong_words(rt: HostRuntime) {
     let wrong: [&[&str]; 6] = [
@@ -108,8 +108,8 @@ fn wrong_words(rt: HostRuntime) {
     assert_printed(&rt, &printed, "13\n", "", 0);
 }
 
-/// Runs while the request after so many is refused. The run prints all, or the answers before the refusal. Returns whether a request
-/// was refused.
+/// Runs the program while the request after the first `granted` ones is refused. Asserts that the run prints all answers, or the first ones
+/// and a message. Returns whether a request was refused.
 fn is_refused_after(rt: &(impl Abort + Threads + Sync), alloc: Global, granted: u64) -> bool {
     let heap = Refusing::new(alloc, Rule::new(0, usize::MAX, granted, 1));
     let printed = run(rt, alloc, &heap, &["--threads", "2"], "40\n1000\n9\n");

@@ -1,11 +1,11 @@
-//! The memo table over lines.
+//! The memo table over lines, by one thread.
 use std::alloc::{Allocator, Global};
 use std::process::Abort;
 use std::test::Fail;
 use testkit::refusing::{Refusing, Rule};
 use tool_lines::memo_lines::run_memo;
 
-/// An input, and what it prints: answers, a message and a status.
+/// An input, and the answers, the message and the status of its run.
 type Row = (&'static str, &'static str, &'static str, u8);
 
 const ROWS: [Row; 7] = [
@@ -23,7 +23,7 @@ const ROWS: [Row; 7] = [
     ("0x10\n", "", "bad line 1\n", 2),
 ];
 
-/// Asserts what is printed, on memory of an allocator.
+/// Asserts what a run over the input of the row prints, and its status. Its memory comes from `alloc`.
 fn assert_prints<A: Allocator + Copy>(
     rt: &impl Abort,
     heap: Global,

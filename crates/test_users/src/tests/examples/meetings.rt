@@ -1,4 +1,4 @@
-//! Two seats that meet.
+//! Two seats of a number table, which insert a number each and then meet.
 use demo_examples::seats::insert_and_meet;
 use seated::{NumberAnswer, NumberTable};
 use std::alloc::Global;
@@ -6,7 +6,7 @@ use std::num::NonZeroU64;
 use std::process::Abort;
 use std::test::Fail;
 
-/// What two seats are told at a table of so many words.
+/// A table of `words` words, the number that each of two seats inserts, and what their calls should return.
 #[derive(Clone, Copy)]
 struct Case {
     words: usize,
@@ -16,7 +16,7 @@ struct Case {
     finds: (bool, bool),
 }
 
-/// Two seats at a fresh table insert and meet.
+/// Runs `insert_and_meet` on a new table, and asserts what its calls return. `Err` means no memory.
 fn check(rt: &impl Abort, alloc: Global, case: &Case) -> Result<(), Fail> {
     assert!(rt; case.words.is_power_of_two());
     let (table, seat) = NumberTable::new(alloc, case.words)?;
@@ -29,7 +29,7 @@ fn check(rt: &impl Abort, alloc: Global, case: &Case) -> Result<(), Fail> {
     Ok(())
 }
 
-/// The number 1, and the next one.
+/// Returns the numbers 1 and 2^64 - 1.
 fn numbers() -> (NonZeroU64, NonZeroU64) {
     (NonZeroU64::MIN, NonZeroU64::MAX)
 }

@@ -1,4 +1,4 @@
-//! Memory that is refused to a memo.
+//! A memo table whose requests for memory are refused.
 use super::{ask, assert_same, slow_fibonacci};
 use std::alloc::Global;
 use std::process::Abort;
@@ -11,11 +11,11 @@ const ENOUGH: u64 = 200;
 
 const ARGUMENT: u64 = 1000;
 
-/// The bytes of an answer.
+/// The size of an answer in bytes.
 const ANSWER: usize = 16;
 
-/// Asks while the request after so many is refused, and again. Says whether the first call was refused, or None where no
-/// request was.
+/// Asks a new memo twice while the request after the first `granted` ones is refused. Returns whether the first call was refused. `None`
+/// means that no request was refused.
 fn is_refused_after(rt: &impl Abort, alloc: Global, granted: u64) -> Option<bool> {
     let heap = Refusing::new(alloc, Rule::new(0, usize::MAX, granted, 1));
     let mut memo = Memo::new(&heap);
@@ -40,13 +40,13 @@ fn each_request_is_refused_in_turn(rt: HostRuntime) -> Result<(), Fail> {
         .iter()
         .filter(|is_refused: &&bool| **is_refused)
         .count();
-    // A refused growth after an answer was placed keeps the answer.
+    // A growth that is refused after an answer was placed doesn't refuse the call.
     assert!(rt; 20 < refused && answers.len() < 60);
     Ok(())
 }
 
-/// Asks while all requests after so many are refused. Says whether the first call was answered; then it is again, and another
-/// argument isn't.
+/// Asks a new memo while all requests after the first `granted` ones are refused. Returns whether it answers. If it does, asserts that it
+/// answers the same argument again, and doesn't answer another one.
 fn is_answered_with(rt: &impl Abort, alloc: Global, granted: u64) -> bool {
     let heap = Refusing::new(alloc, Rule::new(0, usize::MAX, granted, u64::MAX));
     let mut memo = Memo::new(&heap);

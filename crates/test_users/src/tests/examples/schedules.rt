@@ -1,12 +1,12 @@
-//! A schedule, run.
+//! A schedule of calls, run by `run_as_list`.
 use super::assert_same;
 use demo_examples::schedules::run_as_list;
 use std::process::Abort;
 use std::test::Fail;
 use table_core::{Event, Finished, Reply};
 
-/// A look-up loads no generation, a length and a walk begin, an insert is refused the first generation, and the length and
-/// the walk load none either.
+/// In this schedule a look-up finds no generation, a length and a walk begin, the first generation of an insert is refused, and the length
+/// and the walk find no generation either.
 const EVENTS: [Event; 14] = [
     Event::Lookup { call: 1, hash: 7 },
     Event::Load { call: 1 },
@@ -35,7 +35,7 @@ const EVENTS: [Event; 14] = [
 /// The calls in the order in which they finish.
 const CALLS: [u64; 4] = [1, 4, 2, 3];
 
-/// Whether the call is told what it must be.
+/// Returns whether a finished call has its expected reply.
 fn is_told(finished: &Finished) -> bool {
     match &finished.reply {
         Reply::None => finished.call == 1,

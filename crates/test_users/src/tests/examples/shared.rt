@@ -1,4 +1,4 @@
-//! Tables that are shared by a caller that doesn't know their kind, while every request for memory is refused.
+//! A caller that doesn't know the kind of its tables shares them, while every request for memory is refused.
 use super::assert_same;
 use demo_examples::held::Words;
 use demo_examples::shared::share_both;
@@ -13,15 +13,15 @@ type Memory<'a> = &'a Refusing<Global>;
 /// How many words the first table has.
 const WORDS: u64 = 40;
 
-/// What each word adds to a sum beside itself.
+/// Each word adds itself and this number to a sum, so that the sum also counts the words.
 const COUNTED: u64 = 1 << 32;
 
-/// Every request is counted, and granted so far.
+/// Returns memory that counts its requests, and that grants them until `refuse` is called.
 fn memory(alloc: Global) -> Refusing<Global> {
     Refusing::new(alloc, Rule::new(0, usize::MAX, 0, 0))
 }
 
-/// A raw table of the words below this one.
+/// Makes a raw table of the words below `words`.
 fn raw<'a>(memory: Memory<'a>, words: u64) -> HeldRawTable<InPlace<u64>, Memory<'a>> {
     let mut table = HeldRawTable::new(memory);
     for word in 0..words {
@@ -32,7 +32,7 @@ fn raw<'a>(memory: Memory<'a>, words: u64) -> HeldRawTable<InPlace<u64>, Memory<
     table
 }
 
-/// A table over two shards of the words below this one.
+/// Makes a table over two shards of the words below `words`.
 fn sharded<'a>(memory: Memory<'a>, words: u64) -> HeldShardedTable<InPlace<u64>, 2, Memory<'a>> {
     let mut table = HeldShardedTable::new(memory);
     for word in 0..words {
@@ -48,7 +48,7 @@ fn sharded<'a>(memory: Memory<'a>, words: u64) -> HeldShardedTable<InPlace<u64>,
     table
 }
 
-/// The sum of the words in a raw table, and their number above that.
+/// Returns the sum of the words of a raw table, plus `COUNTED` for each word.
 fn sum_of_raw(table: &LockFreeRawTable<InPlace<u64>, Memory<'_>>) -> u64 {
     let mut sum = 0u64;
     for word in table {
@@ -57,7 +57,7 @@ fn sum_of_raw(table: &LockFreeRawTable<InPlace<u64>, Memory<'_>>) -> u64 {
     sum
 }
 
-/// The same of a table over shards.
+/// Returns the sum of the words of a table over shards, plus `COUNTED` for each word.
 fn sum_of_shards(table: &ShardedLockFreeRawTable<InPlace<u64>, 2, Memory<'_>>) -> u64 {
     let mut sum = 0u64;
     for word in table {
@@ -66,7 +66,7 @@ fn sum_of_shards(table: &ShardedLockFreeRawTable<InPlace<u64>, 2, Memory<'_>>) -
     sum
 }
 
-/// The same of the words below this one.
+/// Returns the sum of the words below `words`, plus `COUNTED` for each word.
 fn sum_below(words: u64) -> u64 {
     let mut sum = 0u64;
     for word in 0..words {
@@ -75,7 +75,7 @@ fn sum_below(words: u64) -> u64 {
     sum
 }
 
-/// The shared tables have these sums, and no request was made since so many were granted.
+/// Asserts the sums of the two shared tables, and that no request was made after the first `granted` ones.
 fn assert_shared(rt: &impl Abort, memory: Memory<'_>, granted: u64, sums: [u64; 2]) {
     assert_same(rt, sums, [sum_below(WORDS), sum_below(0)]);
     assert_same(

@@ -1,4 +1,4 @@
-//! Memory that is refused.
+//! An interner whose requests for memory are refused.
 use super::{assert_named, assert_same, intern, text_of};
 use interner::Interner;
 use std::alloc::{AllocError, Allocator, Global};
@@ -14,10 +14,10 @@ const TEXTS: [&str; 9] = [
 /// More requests than these texts make.
 const ENOUGH: u64 = 100;
 
-/// The requests of the third text: its bytes, and the table's block for its number.
+/// How many requests the third text makes: one for its bytes, and one for the table's block of its number.
 const REQUESTS_OF_THIRD: usize = 2;
 
-/// The interner knows the first `known` texts and nothing else.
+/// Asserts that the interner knows the first `known` texts and nothing else.
 fn assert_knows<A: Allocator + Copy>(rt: &impl Abort, interner: &Interner<A>, known: u32) {
     assert_same(rt, interner.len_alone(), known as usize);
     for (place, text) in TEXTS.iter().enumerate() {
@@ -27,7 +27,7 @@ fn assert_knows<A: Allocator + Copy>(rt: &impl Abort, interner: &Interner<A>, kn
     assert_same(rt, text_of(interner, known.saturating_add(1)), None);
 }
 
-/// Interns all texts, and one that is refused again. Says which one was, counted from 1, or 0 where none was.
+/// Interns all texts. A text that is refused is interned again. Returns the number of the refused text, or 0 if none was refused.
 fn intern_all<A: Allocator + Copy>(rt: &impl Abort, alloc: A) -> u32 {
     let mut interner = Interner::new(alloc);
     let mut refused = 0;
@@ -44,8 +44,8 @@ fn intern_all<A: Allocator + Copy>(rt: &impl Abort, alloc: A) -> u32 {
     refused
 }
 
-/// Interns all texts while the request after so many is refused. Says which text was refused, as `intern_all` does, or
-/// None where no request was.
+/// Interns all texts while the request after the first `granted` ones is refused. Returns the number of the refused text as `intern_all`
+/// does. `None` means that no request was refused.
 fn refused_after(rt: &impl Abort, alloc: Global, granted: u64) -> Option<u32> {
     let heap = Refusing::new(alloc, Rule::new(0, usize::MAX, granted, 1));
     let refused = intern_all(rt, &heap);
@@ -56,7 +56,7 @@ fn refused_after(rt: &impl Abort, alloc: Global, granted: u64) -> Option<u32> {
     None
 }
 
-/// Which text was refused, with each request refused in turn.
+/// Refuses each request in turn, and returns the number of the refused text of each run. `Err` means no memory for the list.
 fn refused_in_turn(rt: &impl Abort, alloc: Global) -> Result<Vec<u32>, AllocError> {
     (0..ENOUGH)
         .map_while(|granted: u64| refused_after(rt, alloc, granted))
@@ -72,8 +72,8 @@ fn each_request_is_refused_in_turn(rt: HostRuntime) -> Result<(), Fail> {
     Ok(())
 }
 
-/// Interns all texts while every request after so many is refused. Says whether all were interned; then no call on known texts
-/// makes a request.
+/// Interns all texts while all requests after the first `granted` ones are refused. Returns whether all were interned. If they were,
+/// asserts that calls on known texts make no request.
 fn is_known_with(rt: &impl Abort, alloc: Global, granted: u64) -> bool {
     let heap = Refusing::new(alloc, Rule::new(0, usize::MAX, granted, u64::MAX));
     let mut interner = Interner::new(&heap);

@@ -1,4 +1,4 @@
-//! What an interner asks its allocator for, and in which order.
+//! The requests for memory that an interner makes, and their order.
 use super::{assert_same, text_of};
 use interner::{Interner, Refused};
 use std::alloc::{AllocError, Global};
@@ -6,17 +6,17 @@ use std::process::Abort;
 use std::test::Fail;
 use testkit::refusing::{Refusing, Rule};
 
-/// The texts that come first: the next one finds no room in the vector.
+/// The texts that are interned first. The next text finds no room in the vector.
 const FIRST: [&str; 4] = ["one", "two", "three", "four"];
 
 /// How many bytes the next text has.
 const LONG: usize = 5000;
 
-/// The sizes of the three requests that the next text makes, in the order in which they come: for the vector's room, for the text's
-/// bytes, and for the table's block of its number.
+/// The least and the most bytes of each request that the next text makes, in order: for the vector's room, for the text's bytes, and for
+/// the table's block of its number.
 const ORDER: [(usize, usize); 3] = [(100, 1000), (LONG, LONG), (1, 64)];
 
-/// An interner of the first texts, which asks this allocator.
+/// Makes an interner on this memory, and interns the first texts.
 fn interner_of_first<'a>(
     rt: &impl Abort,
     heap: &'a Refusing<Global>,
@@ -28,7 +28,7 @@ fn interner_of_first<'a>(
     interner
 }
 
-/// A text of so many bytes.
+/// Returns a text of `LONG` bytes. `Err` means no memory.
 fn long_text(alloc: Global) -> Result<String, AllocError> {
     let mut text = String::new(alloc);
     for _ in 0..LONG {
@@ -37,7 +37,7 @@ fn long_text(alloc: Global) -> Result<String, AllocError> {
     Ok(text)
 }
 
-/// Interns the text while the request of these sizes is refused, and says how many requests were granted before it.
+/// Interns the text while the request of a size in this range is refused. Returns how many requests the text was granted before it.
 fn granted_before(
     rt: &impl Abort,
     alloc: Global,
@@ -60,7 +60,7 @@ fn granted_before(
     granted
 }
 
-/// The room of the vector is asked for first, then the text, and the table's block last.
+/// Checks that the interner requests the room of the vector first, then the bytes of the text, and the table's block last.
 #[test]
 fn room_then_the_text_then_the_table(rt: HostRuntime) -> Result<(), Fail> {
     let text = long_text(rt.alloc())?;
@@ -71,7 +71,7 @@ fn room_then_the_text_then_the_table(rt: HostRuntime) -> Result<(), Fail> {
     Ok(())
 }
 
-/// A new text for which no number is left asks for no memory, and changes nothing.
+/// Checks that a new text for which no number is left makes no request for memory and changes nothing.
 #[test]
 fn want_of_numbers_asks_for_no_memory(rt: HostRuntime) {
     let heap = Refusing::new(rt.alloc(), Rule::new(0, usize::MAX, u64::MAX, 0));

@@ -1,4 +1,4 @@
-//! Numbers of texts, shared by threads.
+//! Threads that insert the numbers of texts into one number table.
 ghost use Rattle.std.specs.Prelude.{IfOk};
 ghost use Rattle.seated.specs.Tables.{IsSeatOf};
 
@@ -13,7 +13,7 @@ use std::thread;
 
 const TEXTS: [&str; 8] = ["a", "b", "c", "d", "e", "f", "g", "h"];
 
-/// Interns the texts, and gives their numbers in that order.
+/// Interns the texts, and returns their numbers in that order. `Err` means no memory.
 fn numbers_of_texts(
     rt: &impl Abort,
     alloc: Global,
@@ -26,14 +26,14 @@ fn numbers_of_texts(
     Ok(numbers)
 }
 
-/// A table of eight words and its first seat.
+/// Makes a table of eight words, and returns it with its first seat. `Err` means no memory.
 fn table_of_eight(alloc: Global) -> Result<(NumberTable<Global>, Seat), AllocError>
     ensures { IfOk result (λ r. IsSeatOf r.0 r.1) }
 {
     NumberTable::new(alloc, 8)
 }
 
-/// Inserts the numbers through the seat, and counts those placed.
+/// Inserts the numbers by the seat. Returns the seat, and how many numbers were placed.
 fn insert_all(table: &NumberTable<Global>, mut seat: Seat, numbers: &[u64]) -> (Seat, usize)
     requires { IsSeatOf table.now seat }
     ensures { IsSeatOf table.entry.now result.0 }
@@ -49,7 +49,7 @@ fn insert_all(table: &NumberTable<Global>, mut seat: Seat, numbers: &[u64]) -> (
     (seat, placed)
 }
 
-/// The seat finds all these numbers.
+/// Asserts that the seat finds all these numbers.
 fn assert_finds(rt: &impl Abort, table: &NumberTable<Global>, seat: &mut Seat, numbers: &[u64])
     requires { IsSeatOf table.now seat.old }
     ensures { IsSeatOf table.now seat.new }
@@ -61,7 +61,7 @@ fn assert_finds(rt: &impl Abort, table: &NumberTable<Global>, seat: &mut Seat, n
     }
 }
 
-/// Each of the words is a number of its text.
+/// Asserts that the words are the numbers 1 to 8, each of which is the number of its text.
 fn assert_words_name_texts(rt: &impl Abort, interner: &Interner, words: &[u64]) {
     assert_eq!(rt; words, [1, 2, 3, 4, 5, 6, 7, 8].as_slice());
     for (word, text) in words.iter().zip(TEXTS.iter()) {

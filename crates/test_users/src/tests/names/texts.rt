@@ -1,4 +1,4 @@
-//! Texts and the numbers that they are given.
+//! Texts, and the numbers that an interner gives them.
 use super::{assert_named, assert_same, intern, text_of};
 use interner::Interner;
 use std::alloc::{AllocError, Global};
@@ -8,10 +8,10 @@ use std::test::Fail;
 /// Texts in the order in which they are interned, each with its number.
 const WORDS: [(&str, u32); 4] = [("a", 1), ("b", 2), ("a", 1), ("", 3)];
 
-/// Texts of one hash, 2112.
+/// Texts of which the different ones have the same hash, 2112.
 const SAME_HASH: [(&str, u32); 3] = [("Aa", 1), ("BB", 2), ("Aa", 1)];
 
-/// Texts whose characters take 1, 2, 3 or 4 bytes, and of all of these together.
+/// Texts of characters of 1, 2, 3 and 4 bytes, and texts of all these characters.
 const EVERY_LENGTH: [(&str, u32); 6] = [
     ("z", 1),
     ("é", 2),
@@ -21,13 +21,13 @@ const EVERY_LENGTH: [(&str, u32); 6] = [
     ("🦀語éz", 6),
 ];
 
-/// The bytes of a long text.
+/// The length of a long text in bytes.
 const LONG: usize = 100_000;
 
 /// How many texts the long run interns.
 const MANY: u32 = 200_000;
 
-/// Interns the texts in order, and asks for each of them when all are known.
+/// Interns the texts in order, and asserts their numbers, and again once all are interned. Returns the interner.
 fn intern_all(rt: &impl Abort, alloc: Global, texts: &[(&str, u32)]) -> Interner {
     let mut interner = Interner::new(alloc);
     for (text, number) in texts {
@@ -56,7 +56,7 @@ fn numbers_follow_first_appearance(rt: HostRuntime) {
     assert_same(&rt, text_of(&interner, u32::MAX), None);
 }
 
-/// Interns a long text, and one that differs in its last byte alone.
+/// Interns a long text, and then the same text with one more byte. Asserts that they get two numbers. `Err` means no memory.
 fn intern_long(rt: &impl Abort, alloc: Global) -> Result<(), AllocError> {
     let mut text = String::new(alloc);
     for _ in 0..LONG {
@@ -71,7 +71,7 @@ fn intern_long(rt: &impl Abort, alloc: Global) -> Result<(), AllocError> {
     Ok(())
 }
 
-/// Interns the decimal numbers below `MANY`.
+/// Interns the decimal numbers below `MANY`, and asserts their numbers. Returns the interner. `Err` means no memory.
 fn intern_many(rt: &impl Abort, alloc: Global) -> Result<Interner, Fail> {
     let mut interner = Interner::new(alloc);
     for n in 0..MANY {
@@ -81,7 +81,7 @@ fn intern_many(rt: &impl Abort, alloc: Global) -> Result<Interner, Fail> {
     Ok(interner)
 }
 
-/// Asks for each of them again.
+/// Asserts that each decimal number below `MANY` still has its number. `Err` means no memory.
 fn ask_many(rt: &impl Abort, alloc: Global, interner: &Interner) -> Result<(), Fail> {
     for n in 0..MANY {
         let text = format!(in alloc; "{n}")?;

@@ -1,4 +1,4 @@
-//! How often the system is asked: input is read, and output is written, a block at a time.
+//! Tools read their input and write their output a block at a time, so they make few calls of the system.
 use super::{DEDUP, WORDS, assert_status, numbered_lines, run_writing};
 use std::alloc::Global;
 use std::cell::Cell;
@@ -8,16 +8,16 @@ use std::process::Abort;
 use std::test::Fail;
 use std::thread::Threads;
 
-/// The bytes that are asked of the input at once.
+/// The number of bytes that a tool asks of its input at once.
 const READ: usize = 65536;
 
-/// The bytes that are kept of the output.
+/// The number of bytes of output that a tool keeps before it writes them.
 const WRITTEN: usize = 16384;
 
-/// How many lines the input has, each of some hundred bytes.
+/// How many lines the input has. Each has a hundred bytes.
 const LINES: u64 = 1_500;
 
-/// Adds to a number that a test reads afterwards.
+/// Adds `more` to the sum.
 fn add_to(sum: &Cell<usize>, more: usize) {
     let before = sum.replace(0);
     sum.set(before.wrapping_add(more));
@@ -56,7 +56,7 @@ impl Write for CountedWrites<'_> {
     }
 }
 
-/// Asserts that a tool asks at most once for each block of its input and its output, and once or twice for the ends.
+/// Asserts that a tool makes at most one read for each block of input, and one write for each block of output and of input, plus three.
 fn assert_by_blocks(rt: &(impl Abort + Threads + Sync), heap: Global, tool: &str, text: &str) {
     let (reads, writes, written) = (Cell::new(0), Cell::new(0), Cell::new(0));
     let input = CountedReads {

@@ -1,4 +1,4 @@
-//! Words that others have made to collide under a simple hash.
+//! Words that collide under a simple hash, as an attacker may choose them.
 use super::{WORDS, assert_status, run_on};
 use std::alloc::Global;
 use std::io;
@@ -7,25 +7,26 @@ use std::test::Fail;
 use std::thread::Threads;
 use std::time::{Clock, Duration, Instant};
 
-/// `Aa` and `BB` have one hash where a hash takes 31 times what came before, and so have all words of as many of them.
+/// `Aa` and `BB` have the same hash if a hash multiplies by 31 before it adds a byte. So have all words of equally many of these parts.
 const COLLIDING: [&str; 2] = ["Aa", "BB"];
 
-/// Parts of as many bytes whose words have different hashes.
+/// Parts of the same length, whose words have different hashes.
 const PLAIN: [&str; 2] = ["Aa", "Ba"];
 
 /// How many parts a word has.
 const LENGTH: u32 = 14;
 
-/// How many words of two parts there are.
+/// How many words of `LENGTH` parts there are.
 const COUNT: u32 = 1 << LENGTH;
 
-/// How many times as long as plain words colliding ones may take. Where each is compared with those before, it is hundreds.
+/// How many times as long as plain words the colliding words may take. If each word were compared with all before it, they would take
+/// hundreds of times as long.
 const MOST: u32 = 20;
 
-/// How often the words are counted; the least time is taken, since other work on the machine only adds to it.
+/// How often the words are counted. The least time is taken, since other work on the machine only adds to it.
 const TRIES: u32 = 4;
 
-/// The word whose parts are the bits of a number, on a line.
+/// Adds a line with one word. The bits of `bits` choose its parts. `Err` means no memory.
 fn push_word(text: &mut String, parts: [&str; 2], bits: u32) -> Result<(), Fail> {
     for place in 0..LENGTH {
         text.push_str(parts[(bits >> place & 1) as usize])?;
@@ -34,7 +35,7 @@ fn push_word(text: &mut String, parts: [&str; 2], bits: u32) -> Result<(), Fail>
     Ok(())
 }
 
-/// All words of these parts, each on a line.
+/// Returns all words of these parts, each on a line. `Err` means no memory.
 fn all_words(heap: Global, parts: [&str; 2]) -> Result<String, Fail> {
     let mut text = String::new(heap);
     for bits in 0..COUNT {
@@ -43,7 +44,7 @@ fn all_words(heap: Global, parts: [&str; 2]) -> Result<String, Fail> {
     Ok(text)
 }
 
-/// How long it takes to count these words, each of which is a line of its own.
+/// Returns how long it takes to count these words, and asserts that all are counted. `Err` means that the clock can't be read.
 fn time_of<R: Clock + Abort + Threads + Sync>(
     rt: &R,
     heap: Global,
@@ -59,7 +60,7 @@ fn time_of<R: Clock + Abort + Threads + Sync>(
     Ok(end.saturating_duration_since(start))
 }
 
-/// The least time of several tries.
+/// Returns the least time of `TRIES` counts of these words. `Err` means that the clock can't be read.
 fn least_time_of<R: Clock + Abort + Threads + Sync>(
     rt: &R,
     heap: Global,

@@ -1,10 +1,10 @@
-//! Texts of named files.
+//! Runs of the tools over named files.
 use super::{HELP, Shelf, assert_ended, run_files};
 use std::alloc::Global;
 use std::process::Abort;
 use std::thread::Threads;
 
-/// Two files without a last line break, one that is no text, and one that is empty.
+/// Two files without a last line break, one that isn't UTF-8, an empty one, and two whose names are options.
 pub(super) const SHELF: Shelf = Shelf {
     files: &[
         ("one", b"b a\nb"),
@@ -16,22 +16,22 @@ pub(super) const SHELF: Shelf = Shelf {
     ],
 };
 
-/// Words, what they write over the input `b d` and a line break, what they say, and the status.
+/// The arguments of a run over the input `b d` and a line break, its output, its messages and its status.
 pub(super) type Row = (&'static [&'static str], &'static str, &'static str, u8);
 
-/// A file ends its last line: the lines of the next one are others.
+/// The end of a file ends its last line, so the next file begins a new one.
 pub(super) const RUNS: [Row; 17] = [
     (&["words", "one"], "1 b 2\n2 a 1\n", "", 0),
     (&["words", "one", "two"], "1 b 3\n2 a 1\n3 c 1\n", "", 0),
     (&["dedup", "one", "two"], "b a\nb\nc\n", "", 0),
     (&["dedup", "two", "-", "one"], "b\nc\nb d\nb a\n", "", 0),
-    // Standard input has nothing left where it is named again.
+    // Standard input is empty when it is read a second time.
     (&["words", "-", "-"], "1 b 1\n2 d 1\n", "", 0),
     (&["words"], "1 b 1\n2 d 1\n", "", 0),
     (&["words", "none"], "", "", 0),
     (&["words", "--"], "1 b 1\n2 d 1\n", "", 0),
     (&["dedup", "--", "--help"], "h\n", "", 0),
-    // The text that is to blame is named; `dedup` has written the lines before.
+    // The message names the file that is to blame. `dedup` has written the lines before.
     (
         &["words", "one", "bad"],
         "",
@@ -57,7 +57,7 @@ pub(super) const RUNS: [Row; 17] = [
     (&["dedup", "-h"], HELP, "", 0),
 ];
 
-/// Asserts what a run over the files writes, says and ends with.
+/// Asserts the output, the messages and the status of a run over the files.
 fn assert_runs(rt: &(impl Abort + Threads + Sync), heap: Global, row: &Row) {
     let (words, written, said, status) = *row;
     let ended = run_files(rt, heap, &SHELF, words, b"b d\n");

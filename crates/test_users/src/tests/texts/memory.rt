@@ -1,4 +1,4 @@
-//! Memory that is refused.
+//! Tools whose requests for memory are refused.
 use super::{DEDUP, WORDS, assert_ended, assert_status, numbered_lines, run_on};
 use std::alloc::Global;
 use std::process::Abort;
@@ -17,8 +17,8 @@ const DEDUPED: &[u8] = b"one\ntwo\nthree\nfour\nfive\nsix\nseven\neight\nnine\n"
 /// More requests than a run over the text makes.
 const ENOUGH: u64 = 200;
 
-/// Runs the tool while the request after so many is refused. Says whether one was. A run that ends well has written all; one that
-/// was refused memory has written a first part, and of `words` nothing.
+/// Runs the tool while the request after the first `granted` ones is refused. Returns whether a request was refused. Asserts that a run of
+/// status 0 has written all, and that any other has written a first part, which for `words` is empty.
 fn is_refused_after(
     rt: &(impl Abort + Threads + Sync),
     heap: Global,
@@ -39,7 +39,7 @@ fn is_refused_after(
     memory.refusals_left() == 0
 }
 
-/// How many requests a run makes, each refused in turn.
+/// Refuses each request of a run in turn. Returns how many requests a run makes.
 fn requests_of(rt: &(impl Abort + Threads + Sync), heap: Global, tool: &str, all: &[u8]) -> u64 {
     for granted in 0..ENOUGH {
         if !is_refused_after(rt, heap, tool, all, granted) {
@@ -52,11 +52,11 @@ fn requests_of(rt: &(impl Abort + Threads + Sync), heap: Global, tool: &str, all
 /// How many different lines the long text has.
 const DIFFERENT: usize = 9;
 
-/// The bytes of each of them, more than the first block of an arena has.
+/// The length of each long line in bytes. It is more than the first block of an arena has.
 const LONG: usize = 600;
 
-/// Runs `dedup` over different lines while each request after so many is refused, and says how many it has written. They are the
-/// first ones, each whole, and all of them where the run ends well.
+/// Runs `dedup` over different lines while all requests after the first `granted` ones are refused. Returns how many lines it has written.
+/// Asserts that these are the first lines, each whole, and that the status is 0 if and only if they are all lines.
 fn lines_before(
     rt: &(impl Abort + Threads + Sync),
     heap: Global,

@@ -1,4 +1,4 @@
-//! The words that the program was called with.
+//! The arguments of the program.
 use super::{Ended, HELP, Shelf, USAGE, assert_ended, host_of};
 use std::alloc::{Allocator, Global};
 use std::process::Abort;
@@ -7,10 +7,10 @@ use testkit::refusing::{Refusing, Rule};
 use testkit::streams::Called;
 use tool_lines::program::run_program;
 
-/// Arguments, what they print, what they say, and the status.
+/// The arguments of a run, its output, its messages and its status.
 type Row = (&'static [&'static [u8]], &'static str, &'static str, u8);
 
-/// The input is `in in` and a line break, and the file `file` has `of` and a line break.
+/// Runs over the input `in in` and a line break. The file `file` has `of` and a line break.
 const ROWS: [Row; 8] = [
     (&[b"tool_text", b"words"], "1 in 2\n", "", 0),
     (&[b"tool_text", b"dedup"], "in in\n", "", 0),
@@ -24,7 +24,7 @@ const ROWS: [Row; 8] = [
     (&[b"tool_text", b"--help"], HELP, "", 0),
     (&[b"tool_text"], "", USAGE, 2),
     (&[b"words", b"tool_text"], "", USAGE, 2),
-    // No text.
+    // An argument that isn't UTF-8.
     (&[b"tool_text", b"words\xff"], "", USAGE, 2),
 ];
 
@@ -32,7 +32,7 @@ const SHELF: Shelf = Shelf {
     files: &[("file", b"of\n")],
 };
 
-/// Runs the program that is called so, over an input.
+/// Runs the program over the input, with the arguments of `called`.
 fn run_called<R: Threads + Sync, A: Allocator + Copy>(
     rt: &R,
     heap: Global,
@@ -54,7 +54,7 @@ fn run_called<R: Threads + Sync, A: Allocator + Copy>(
     }
 }
 
-/// Asserts what the program prints, says and ends with that is called so.
+/// Asserts the output, the messages and the status of a run with the arguments of the row.
 fn assert_row(rt: &(impl Abort + Threads + Sync), alloc: Global, row: &Row) {
     let (arguments, printed, said, status) = *row;
     let ended = run_called(rt, alloc, &Called { arguments, alloc }, b"in in\n");
@@ -70,8 +70,8 @@ fn arguments_are_the_words(rt: HostRuntime) {
 
 const CALLED: &[&[u8]] = &[b"tool_text", b"words", b"file"];
 
-/// Runs a tool while one request for the memory of its words is refused, the one after so many. How often it was told so, and
-/// nothing was written; where it isn't, that memory was not needed.
+/// Runs the program while the request after the first `granted` ones for the memory of its arguments is refused. Returns 1 if the program
+/// reports it, and asserts that it writes no output then. Otherwise returns 0, and asserts that the run writes its output.
 fn told_after(rt: &(impl Abort + Threads + Sync), heap: Global, granted: u64) -> u64 {
     let memory = Refusing::new(heap, Rule::new(0, usize::MAX, granted, 1));
     let called = Called {
@@ -87,7 +87,7 @@ fn told_after(rt: &(impl Abort + Threads + Sync), heap: Global, granted: u64) ->
     1
 }
 
-/// More requests than the words take.
+/// More requests than the arguments take.
 const ENOUGH: u64 = 20;
 
 #[test]
@@ -96,6 +96,6 @@ fn want_of_memory_for_the_arguments_is_told(rt: HostRuntime) {
     for granted in 0..ENOUGH {
         told = told.saturating_add(told_after(&rt, rt.alloc(), granted));
     }
-    // Three words and their list.
+    // Each of the three arguments takes memory, and so does the list of them.
     assert!(rt; 4 <= told && told < ENOUGH, "{told}");
 }

@@ -1,4 +1,4 @@
-//! Readers and writers that fail, and lines that are there when more is asked for.
+//! Readers and writers that fail, and lines that are written before the tool reads on.
 use super::{DEDUP, WORDS, assert_bytes, assert_ended, assert_status, run_on, run_writing};
 use std::alloc::Global;
 use std::cell::RefCell;
@@ -12,7 +12,7 @@ use testkit::streams::Failing;
 
 const INPUT: &[u8] = b"one\ntwo\none\n\nthree\ntwo";
 
-/// What `dedup` writes of the first bytes of the input.
+/// Returns what `dedup` has written after it has read this many bytes of the input.
 fn deduped_of(bytes: usize) -> &'static [u8] {
     match bytes {
         0..=3 => b"",
@@ -23,7 +23,7 @@ fn deduped_of(bytes: usize) -> &'static [u8] {
     }
 }
 
-/// Asserts what `dedup` writes where so many reads are given and the next one fails, if it is made.
+/// Asserts what `dedup` writes if the first `given` reads succeed and the next one fails. `fails` says whether the next one is made.
 fn assert_given(
     rt: &(impl Abort + Threads + Sync),
     heap: Global,
@@ -42,11 +42,11 @@ fn assert_given(
     assert_ended(rt, &ended, wanted, messages, status);
 }
 
-/// How many bytes a reader gives at a call, and how many calls are then made for the 22 bytes of the input. The last of them finds the
-/// end of the input, which is not asked for again.
+/// How many bytes a reader gives at a call, and how many calls `dedup` makes for the 22 bytes of the input, besides interrupted ones. The
+/// last call finds the end of the input, and no call follows it.
 const CALLS: [(usize, usize); 4] = [(1, 23), (2, 12), (7, 5), (100, 2)];
 
-/// A reader that fails at each of so many calls, which give so many bytes at once.
+/// Asserts what `dedup` writes if each of `calls` reads fails in turn. A read gives `at_once` bytes.
 fn fail_at_each_call(
     rt: &(impl Abort + Threads + Sync),
     heap: Global,
@@ -74,7 +74,7 @@ fn words_of_a_reader_that_fails_are_not_written(rt: HostRuntime) {
     }
 }
 
-/// A writer that takes so many bytes and then fails in this way.
+/// A writer that takes `room` bytes and then fails with the error `then`.
 #[derive(Drop)]
 struct Full {
     room: usize,
@@ -96,7 +96,7 @@ impl Write for Full {
     }
 }
 
-/// Asserts how a tool ends whose output takes so many bytes.
+/// Asserts the message and the status of a tool whose output takes `room` bytes.
 fn assert_fills(
     rt: &(impl Abort + Threads + Sync),
     heap: Global,
@@ -110,7 +110,7 @@ fn assert_fills(
     assert_status(rt, status, if message.is_empty() { 0 } else { 1 });
 }
 
-/// Tools, how many bytes their output takes, and what they say.
+/// Tools, how many bytes their output takes, and their messages.
 const FULL: [(&str, usize, &str); 6] = [
     (DEDUP, 0, "dedup: write failed\n"),
     (DEDUP, 14, "dedup: write failed\n"),
@@ -138,12 +138,12 @@ fn where_the_reader_has_gone_there_is_no_message(rt: HostRuntime) {
     }
 }
 
-/// A log that is in use.
+/// Returns the error of a log that is in use.
 fn busy() -> io::Error {
     io::Error::from(ErrorKind::ResourceBusy)
 }
 
-/// Asserts what stands in a log.
+/// Asserts that the log holds these items.
 fn assert_holds<T: PartialEq + Debug>(rt: &impl Abort, log: &RefCell<Vec<T>>, wanted: &[T]) {
     match log.try_borrow() {
         Ok(held) => assert_eq!(rt; held.as_slice(), wanted),
@@ -151,7 +151,7 @@ fn assert_holds<T: PartialEq + Debug>(rt: &impl Abort, log: &RefCell<Vec<T>>, wa
     }
 }
 
-/// A reader that gives a piece at a call, and sees before each call what was written.
+/// A reader that gives one piece a call. At each call it notes how many bytes were written before.
 #[derive(Drop)]
 struct Watching<'a> {
     pieces: &'a [&'a [u8]],
@@ -176,7 +176,7 @@ impl Read for Watching<'_> {
     }
 }
 
-/// A writer whose bytes are seen by others.
+/// A writer into a log that a reader can look at.
 #[derive(Drop)]
 struct Shown<'a> {
     written: &'a RefCell<Vec<u8>>,
@@ -196,19 +196,20 @@ impl Write for Shown<'_> {
     }
 }
 
-/// The input, a line at a call, and what was written before each call.
+/// The input, one line a call, and how many bytes were written before each call.
 const BY_LINES: (&[&[u8]], &[usize]) = (
     &[b"one\n", b"two\n", b"one\n", b"\n", b"three\n", b"two"],
     &[0, 4, 8, 8, 9, 15, 15],
 );
 
-/// The input in pieces that end within a line: a whole line doesn't wait for the rest of the next one.
+/// The input in pieces that end within a line, and how many bytes were written before each call. A whole line doesn't wait for the rest of
+/// the next one.
 const BY_HALVES: (&[&[u8]], &[usize]) = (
     &[b"one\ntw", b"o\none\n\nth", b"ree\ntwo"],
     &[0, 4, 9, 15],
 );
 
-/// Asserts what `dedup` has written before each call of a reader that gives these pieces.
+/// Asserts how many bytes `dedup` has written before each call of a reader that gives these pieces.
 fn assert_written_before(
     rt: &(impl Abort + Threads + Sync),
     heap: Global,

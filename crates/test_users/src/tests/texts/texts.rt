@@ -1,4 +1,4 @@
-//! Texts, and what is written of them.
+//! Texts, and what the tools write for them.
 use super::{DEDUP, EMPTY_SHELF, USAGE, WORDS, assert_ended, run_files, run_on};
 use std::alloc::Global;
 use std::process::Abort;
@@ -19,7 +19,7 @@ pub(super) const TEXTS: [(&str, &str); 8] = [
     ("a\u{0}b a\u{b}b", "1 a\u{0}b 1\n2 a\u{b}b 1\n"),
 ];
 
-/// Inputs that are no text, and the line that is named.
+/// Inputs that aren't UTF-8, and the message, which names the line.
 pub(super) const NO_TEXT: [(&[u8], &str); 4] = [
     (b"\xff", "words: line 1 is not UTF-8\n"),
     (b"a b\nc \xc3\n", "words: line 2 is not UTF-8\n"),
@@ -39,7 +39,7 @@ pub(super) const LINES: [(&[u8], &[u8]); 8] = [
     (b"a\n\0\n\0\0\na\0\n\0", b"a\n\0\n\0\0\na\0\n"),
 ];
 
-/// Asserts what the tool writes of an input in memory, and that it says nothing else.
+/// Asserts what the tool writes for the input, and that it has no message and ends with status 0.
 fn assert_writes(
     rt: &(impl Abort + Threads + Sync),
     heap: Global,
@@ -73,7 +73,7 @@ fn a_line_that_is_no_text_is_named(rt: HostRuntime) {
     }
 }
 
-/// Words that name no tool.
+/// Arguments that name no tool.
 const NO_TOOL: [&[&str]; 7] = [
     &[],
     &[""],
@@ -84,7 +84,7 @@ const NO_TOOL: [&[&str]; 7] = [
     &["help"],
 ];
 
-/// Asserts that nothing is read or written but the usage.
+/// Asserts that a run with these arguments writes nothing but the usage.
 fn assert_refused(rt: &(impl Abort + Threads + Sync), heap: Global, words: &[&str]) {
     let ended = run_files(rt, heap, &EMPTY_SHELF, words, b"a");
     assert_ended(rt, &ended, b"", USAGE, 2);

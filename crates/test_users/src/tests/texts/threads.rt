@@ -15,13 +15,14 @@ use tool_lines::program::Host;
 /// Numbers of threads, as arguments.
 const THREADS: [&str; 4] = ["1", "2", "3", "8"];
 
-/// The bytes after which a piece ends with the line.
+/// Numbers of bytes after which a piece ends, at the end of its line.
 const PIECES: [usize; 5] = [1, 2, 3, 7, 100];
 
-/// How a run is split: the number of threads, and the bytes after which a piece ends with the line.
+/// How a run is split: the number of threads, and the number of bytes after which a piece ends, at the end of its line.
 type Split = (&'static str, usize);
 
-/// Runs the tool over files and an input, on memory of an allocator. `words` are the arguments after the number of threads.
+/// Runs the tool by this number of threads over the input. `words` are the arguments after the number of threads. Returns the status. `Err`
+/// means no memory.
 fn run_split<
     'w,
     R: Threads + AllocGlobal + Sync,
@@ -44,7 +45,7 @@ fn run_split<
     Ok(run_into(host, all.as_slice(), input, output, messages))
 }
 
-/// Runs the tool over an input, by as many threads and on as long pieces as `split` says.
+/// Runs the tool over the input, split as `split` says. Returns what it printed, and its status. `Err` means no memory.
 fn run_of<R: Threads + AllocGlobal + Sync, A: Allocator + Copy + Send + Sync, I: Read + Drop>(
     rt: &R,
     alloc: A,
@@ -75,7 +76,7 @@ fn run_of<R: Threads + AllocGlobal + Sync, A: Allocator + Copy + Send + Sync, I:
     })
 }
 
-/// Asserts what the tool writes and says of an input, and with what status it ends, however it is split.
+/// Asserts the output, the messages and the status of the tool over the input, for each split. `Err` means no memory.
 fn assert_splits(
     rt: &(impl Abort + Threads + AllocGlobal + Sync),
     tool: &str,
@@ -116,7 +117,7 @@ fn a_line_that_is_no_text_is_named(rt: HostRuntime) -> Result<(), Fail> {
     Ok(())
 }
 
-/// Longer inputs whose equal lines stand in different pieces, and what `dedup` and `words` write of them.
+/// Longer inputs whose equal lines are in different pieces, and what `dedup` and `words` write for them.
 const LONGER: [(&[u8], &[u8], &str); 3] = [
     (
         b"to be\nor\nnot\nto be\nthat\nis\nor\nnot\n\nto be",
@@ -150,7 +151,7 @@ fn the_first_line_that_is_no_text_is_named_in_a_later_piece(rt: HostRuntime) -> 
     assert_splits(&rt, WORDS, input, (b"", "words: line 6 is not UTF-8\n", 2))
 }
 
-/// Runs a row of the table of files by threads, and asserts what it writes, says and ends with.
+/// Asserts the output, the messages and the status of a row of `RUNS`, run by several threads. `Err` means no memory.
 fn assert_row(
     rt: &(impl Abort + Threads + AllocGlobal + Sync),
     row: &super::files::Row,
@@ -184,7 +185,7 @@ fn assert_row(
     Ok(())
 }
 
-/// How many rows of the table of files run a tool: those behind them print help.
+/// How many rows of `RUNS` run a tool. The later rows print help.
 const TOOL_RUNS: usize = 13;
 
 #[test]
@@ -199,7 +200,7 @@ fn files_are_read_in_their_order(rt: HostRuntime) -> Result<(), Fail> {
     Ok(())
 }
 
-/// Arguments with a number of threads or without one, and what they write, say and end with.
+/// Arguments, most of them with a number of threads, and the output, the messages and the status of their runs.
 const ARGUMENTS: [(&[&str], &str, &str, u8); 14] = [
     (&["words", "--threads", "2"], "1 b 1\n2 d 1\n", "", 0),
     (
@@ -232,7 +233,7 @@ fn the_number_of_threads_is_an_argument(rt: HostRuntime) {
 
 const INPUT: &[u8] = b"one\ntwo\none\n\nthree\ntwo";
 
-/// What is written of the whole lines among the first bytes of the input.
+/// Returns what `dedup` writes for the whole lines among the first `bytes` bytes of the input.
 fn deduped_of(bytes: usize) -> &'static [u8] {
     match bytes {
         0..=3 => b"",
@@ -243,7 +244,7 @@ fn deduped_of(bytes: usize) -> &'static [u8] {
     }
 }
 
-/// Asserts what `dedup` writes if the read after so many fails.
+/// Asserts what `dedup` writes if the read after the first `given` ones fails. `Err` means no memory.
 fn assert_given(
     rt: &(impl Abort + Threads + AllocGlobal + Sync),
     split: Split,
@@ -279,7 +280,7 @@ fn words_of_a_reader_that_fails_are_not_written(rt: HostRuntime) -> Result<(), F
     Ok(())
 }
 
-/// A writer that takes so many bytes and then fails in this way.
+/// A writer that takes `room` bytes and then fails with the error `then`.
 #[derive(Drop)]
 struct Full {
     room: usize,
@@ -301,7 +302,7 @@ impl Write for Full {
     }
 }
 
-/// Asserts what a tool says and ends with whose output fails so after three bytes.
+/// Asserts the messages and the status of a tool whose output fails with the error `then` after three bytes. `Err` means no memory.
 fn assert_full(
     rt: &(impl Abort + Threads + AllocGlobal + Sync),
     tool: &str,
@@ -333,8 +334,8 @@ fn a_writer_that_fails(rt: HostRuntime) -> Result<(), Fail> {
 /// More requests than a run over the input makes.
 const ENOUGH: u64 = 2_000;
 
-/// Runs the tool while the request after so many is refused. Says whether one was. A run that ends well has written all; one that
-/// was refused memory has written a first part, and of `words` nothing.
+/// Runs the tool while the request after the first `granted` ones is refused. Returns whether a request was refused. Asserts that a run of
+/// status 0 has written all, and that any other has written a first part, which for `words` is empty.
 fn is_refused_after(
     rt: &(impl Abort + Threads + AllocGlobal + Sync),
     tool: &str,
@@ -354,7 +355,7 @@ fn is_refused_after(
     Ok(memory.refusals_left() == 0)
 }
 
-/// How many requests a run makes, each refused in turn.
+/// Refuses each request of a run in turn. Returns how many requests a run makes. `Err` means no memory.
 fn requests_of(
     rt: &(impl Abort + Threads + AllocGlobal + Sync),
     tool: &str,
@@ -377,10 +378,10 @@ fn each_request_is_refused_in_turn(rt: HostRuntime) -> Result<(), Fail> {
     Ok(())
 }
 
-/// The numbers that the drawn lines are made of.
+/// How many lines are drawn.
 const DRAWN: u64 = 400;
 
-/// Lines of no letter to three letters, drawn from a seed.
+/// Returns drawn lines of up to three letters each. The seed determines them. `Err` means no memory.
 fn drawn_lines(heap: Global, seed: u64) -> Result<Vec<u8>, Fail> {
     let mut text = Vec::new(heap);
     let mut state = seed;
@@ -394,7 +395,7 @@ fn drawn_lines(heap: Global, seed: u64) -> Result<Vec<u8>, Fail> {
     Ok(text)
 }
 
-/// Adds up to three letters that the number names.
+/// Adds up to three letters, which the number determines. `Err` means no memory.
 fn push_letters(text: &mut Vec<u8>, number: u64) -> Result<(), Fail> {
     let mut rest = number / 4;
     for _letter in 0..number % 4 {
@@ -404,7 +405,7 @@ fn push_letters(text: &mut Vec<u8>, number: u64) -> Result<(), Fail> {
     Ok(())
 }
 
-/// The lines of the text that are not equal to an earlier one, found by comparing each with all before it.
+/// Returns the lines of the text without those that equal an earlier line. It compares each line with all before it. `Err` means no memory.
 fn plain_dedup(heap: Global, text: &[u8]) -> Result<Vec<u8>, Fail> {
     let mut kept: Vec<&[u8]> = Vec::new(heap);
     let mut written = Vec::new(heap);
@@ -422,7 +423,7 @@ fn plain_dedup(heap: Global, text: &[u8]) -> Result<Vec<u8>, Fail> {
 fn drawn_lines_are_written_as_by_a_plain_list(rt: HostRuntime) -> Result<(), Fail> {
     for seed in 0..4 {
         let text = drawn_lines(rt.alloc(), seed)?;
-        // The text ends with a line break, and an empty line is drawn before.
+        // The split finds an empty line after the last line break. It adds nothing, since an empty line was drawn before.
         let wanted = plain_dedup(rt.alloc(), text.as_slice())?;
         for split in [("2", 10), ("3", 100), ("8", 33)] {
             let ended = run_of(&rt, rt.alloc(), DEDUP, split, text.as_slice())?;
