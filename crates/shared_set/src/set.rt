@@ -32,7 +32,7 @@ use std::sync::atomic::Ordering::SeqCst;
 use std::sync::atomic::{AtomicBool, AtomicU64, AtomicUsize};
 use table_cell::Low;
 use table_chain::Chain;
-use table_numbered::{Generation, SetLaw, Token};
+use table_numbered::{NumberedGeneration, SetLaw, Token};
 use table_slab::Slab;
 
 /// How many stages a set may have: from one bucket to 2^32.
@@ -111,7 +111,7 @@ impl<V, L: SetLaw<V>, A: Low + Copy> SharedSet<V, L, A> {
         ensures size { IfOk result (λ s. size_of s.start ≡ buckets) }
     {
         let slab = Slab::new(alloc, FIRST_CHUNK_BITS)?;
-        let generation = Generation::new(alloc, &slab, buckets)?;
+        let generation = NumberedGeneration::new(alloc, &slab, buckets)?;
         let start = generation.start();
         let before = start.again();
         let first = Stage { generation, before };

@@ -7,12 +7,12 @@ ghost use Rattle.shared_set.specs.Stages.{StageView, GrowsInto};
 use std::marker::{Model, PhantomData};
 use table_cell::Low;
 use table_chain::Follows;
-use table_numbered::{Generation, SetLaw, Token};
+use table_numbered::{NumberedGeneration, SetLaw, Token};
 
 /// A generation, and what the one before it had once it was full.
 #[derive(Drop)]
 pub struct Stage<V, L: SetLaw<V>, A: Low + Copy> {
-    pub(crate) generation: Generation<V, L, A>,
+    pub(crate) generation: NumberedGeneration<V, L, A>,
     pub(crate) before: Token<V, L>,
 }
 
@@ -39,7 +39,7 @@ impl<V, L: SetLaw<V>, A: Low + Copy> Follows<Stage<V, L, A>> for Grows<V, L, A> 
 
 impl<V, L: SetLaw<V>, A: Low + Copy> Stage<V, L, A> {
     /// Returns the generation.
-    pub(crate) fn generation(&self) -> &Generation<V, L, A>
+    pub(crate) fn generation(&self) -> &NumberedGeneration<V, L, A>
         ensures { result.now ≡ self.now.of }
     {
         &self.generation

@@ -30,13 +30,13 @@ pub struct Slot {
 /// A generation of buckets: its capacity, its size, and its set buckets by their indices. Its memory depends on the set buckets,
 /// never on the capacity.
 #[derive(Drop)]
-pub struct Generation<A: Allocator + Copy> {
+pub struct MachineGeneration<A: Allocator + Copy> {
     capacity: u64,
     size: u64,
     slots: BTreeMap<u64, Slot, A>,
 }
 
-impl<A: Allocator + Copy> Model for Generation<A> {
+impl<A: Allocator + Copy> Model for MachineGeneration<A> {
     ghost use Rattle.std.specs.Prelude.{◌≤◌, map, length};
     ghost use Rattle.table_core.specs.Generations.{Gen};
     ghost use Rattle.table_terms.specs.Capacities.{IsCapacity};
@@ -79,13 +79,13 @@ fn index_after(index: u64, steps: u64, capacity: u64) -> u64
     }
 }
 
-impl<A: Allocator + Copy> Generation<A> {
+impl<A: Allocator + Copy> MachineGeneration<A> {
     /// Makes a generation without entries. Does not allocate.
     pub fn new(alloc: A, capacity: u64) -> Self
         requires { IsCapacity capacity }
         ensures { result ≡ fresh capacity }
     {
-        Generation {
+        MachineGeneration {
             capacity,
             size: 0,
             slots: BTreeMap::new(alloc),

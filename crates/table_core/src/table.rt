@@ -7,7 +7,7 @@ ghost use Rattle.table_core.specs.Machine.{loads, checked, begin_growth, copy_ne
 ghost use Rattle.table_core.specs.History.{buckets};
 
 use crate::call::Answer;
-use crate::generation::{Entry, Generation};
+use crate::generation::{Entry, MachineGeneration};
 use std::alloc::{AllocError, Allocator};
 use std::marker::Model;
 
@@ -15,8 +15,8 @@ use std::marker::Model;
 #[derive(Drop)]
 pub struct Table<A: Allocator + Copy> {
     first: u64,
-    generations: Vec<Generation<A>, A>,
-    growing: Option<Generation<A>>,
+    generations: Vec<MachineGeneration<A>, A>,
+    growing: Option<MachineGeneration<A>>,
     /// The entries of the current generation, in order, while the next one is being built.
     source: Vec<Entry, A>,
     copied: usize,
@@ -36,9 +36,9 @@ impl<A: Allocator + Copy> Model for Table<A> {
 
 /// Returns the generation of this number.
 fn generation_of<A: Allocator + Copy>(
-    generations: &[Generation<A>],
+    generations: &[MachineGeneration<A>],
     walked: Option<u64>,
-) -> Option<&Generation<A>>
+) -> Option<&MachineGeneration<A>>
     ensures { option_copied result ≡ gen_of generations.now walked }
 {
     let number = walked?;
@@ -50,7 +50,9 @@ fn generation_of<A: Allocator + Copy>(
 }
 
 /// Returns the current generation.
-fn current_of<A: Allocator + Copy>(generations: &[Generation<A>]) -> Option<&Generation<A>>
+fn current_of<A: Allocator + Copy>(
+    generations: &[MachineGeneration<A>],
+) -> Option<&MachineGeneration<A>>
     ensures { option_copied result ≡ last_of generations.now }
 {
     if generations.is_empty() {
@@ -61,7 +63,7 @@ fn current_of<A: Allocator + Copy>(generations: &[Generation<A>]) -> Option<&Gen
 }
 
 /// Returns the capacity of the generation after these.
-fn next_capacity<A: Allocator + Copy>(first: u64, generations: &[Generation<A>]) -> u64
+fn next_capacity<A: Allocator + Copy>(first: u64, generations: &[MachineGeneration<A>]) -> u64
     requires allowed { IsFirstCapacity first }
     requires room { checked (last_of generations.now) true ≡ Answer.Begun }
     ensures value { result ≡ next_capacity first (last_of generations.now) }
@@ -75,7 +77,7 @@ fn next_capacity<A: Allocator + Copy>(first: u64, generations: &[Generation<A>])
 
 /// Returns the entries of the last of these generations.
 fn entries_of_last<A: Allocator + Copy>(
-    generations: &[Generation<A>],
+    generations: &[MachineGeneration<A>],
     alloc: A,
 ) -> Result<Vec<Entry, A>, AllocError>
     ensures { IfOk result (λ v. v.items ≡ entries_of (last_of generations.now)) }
@@ -87,7 +89,7 @@ fn entries_of_last<A: Allocator + Copy>(
 }
 
 /// Returns the sum of the capacities of these generations.
-fn capacity_of<A: Allocator + Copy>(generations: &[Generation<A>]) -> u64
+fn capacity_of<A: Allocator + Copy>(generations: &[MachineGeneration<A>]) -> u64
     requires { sum_by (λ (g : Gen). g.capacity) generations.now < 2 ^ 64 }
     ensures { result ≡ sum_by (λ (g : Gen). g.capacity) generations.now }
 {
@@ -99,7 +101,7 @@ fn capacity_of<A: Allocator + Copy>(generations: &[Generation<A>]) -> u64
 }
 
 fn fill_walked<A: Allocator + Copy>(
-    generations: &mut Vec<Generation<A>, A>,
+    generations: &mut Vec<MachineGeneration<A>, A>,
     walked: Option<u64>,
     entry: Entry,
 ) -> Result<(), AllocError>
@@ -118,7 +120,10 @@ fn fill_walked<A: Allocator + Copy>(
     Ok(())
 }
 
-fn count_walked<A: Allocator + Copy>(generations: &mut Vec<Generation<A>, A>, walked: Option<u64>)
+fn count_walked<A: Allocator + Copy>(
+    generations: &mut Vec<MachineGeneration<A>, A>,
+    walked: Option<u64>,
+)
     requires { (g : Gen) → gen_of generations.old.items walked ≡ Some g
         → g.size < length g.entries }
     ensures { generations.new.items ≡ change generations.old.items walked count }
@@ -256,7 +261,7 @@ impl<A: Allocator + Copy> Table<A> {
         let capacity = next_capacity(self.first, self.generations.as_slice());
         let source = entries_of_last(self.generations.as_slice(), alloc)?;
         self.source = source;
-        self.growing = Some(Generation::new(alloc, capacity));
+        self.growing = Some(MachineGeneration::new(alloc, capacity));
         self.copied = 0;
         Ok(())
     }

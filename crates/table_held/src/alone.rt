@@ -10,7 +10,7 @@ use table_generations::atomic_value::{AtomicValue, Law};
 /// The result of an insert into a table whose entries live at places of type `P`. `Ok((place, None))`: the value was placed.
 /// `Ok((place, Some(value)))`: an equal entry lives at `place`, and the value is returned. `Err(value)`: the insert was refused,
 /// and the value is returned.
-pub type Told<P, T> = Result<(P, Option<T>), T>;
+pub type InsertAnswer<P, T> = Result<(P, Option<T>), T>;
 
 /// A table with one owner, under the equality and hash of `L`. A contract sees the table by its entries, the entry at each place,
 /// whether its number of entries is right (`counted`), and whether it is lawful, as [`HeldRawTable`](crate::HeldRawTable) says.
@@ -39,7 +39,7 @@ pub trait AloneTable<T: AtomicValue, L: Law<T::Target>> {
         value: T,
         eq: &E,
         hash_fn: &H,
-    ) -> Told<Self::Place, T>
+    ) -> InsertAnswer<Self::Place, T>
     where
         E: Fn(&T::Target, &T::Target) -> bool,
         H: Fn(&T::Target) -> u64,

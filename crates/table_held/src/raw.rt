@@ -11,7 +11,7 @@ mod into_iter;
 mod iter;
 mod parts;
 
-use crate::alone::Told;
+use crate::alone::InsertAnswer;
 use crate::place::Place;
 pub use iter::HeldIter;
 pub use parts::HeldParts;
@@ -335,7 +335,7 @@ impl<T: AtomicValue, A: Allocator + Copy> HeldRawTable<T, A> {
         value: T,
         eq: E,
         hash_fn: H,
-    ) -> Told<Place, T>
+    ) -> InsertAnswer<Place, T>
         requires eq_callable { E.IsAlwaysCallable eq }
         requires hash_callable { H.IsAlwaysCallable hash_fn }
         ensures { Inserted T.target L.same L.hash_of (FnReturnsAtPair E.Fn eq)
@@ -345,7 +345,7 @@ impl<T: AtomicValue, A: Allocator + Copy> HeldRawTable<T, A> {
     }
 
     /// Returns the target of the entry at the place that an insert returned, with the rest of that insert's result.
-    fn show_placed(&self, placed: Told<Place, T>) -> Result<(&T::Target, Option<T>), T>
+    fn show_placed(&self, placed: InsertAnswer<Place, T>) -> Result<(&T::Target, Option<T>), T>
         requires { IfOk placed (λ p. IsSome (entry_at self.now p.0)) }
         ensures { ResultShows T.target held placed result self.now }
     {

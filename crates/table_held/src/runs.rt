@@ -9,7 +9,7 @@ ghost use Rattle.table_held.specs.Shown.{IsLater, entries_of};
 
 pub mod laws;
 
-pub use crate::alone::{AloneTable, KeepsApart, Told};
+pub use crate::alone::{AloneTable, InsertAnswer, KeepsApart};
 use std::alloc::Allocator;
 use table_generations::atomic_value::{AtomicValue, Law};
 

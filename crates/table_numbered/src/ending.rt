@@ -7,7 +7,7 @@ ghost use Rattle.table_numbered.specs.History.{IsEntry, IsFull};
 ghost use Rattle.table_numbered.specs.Generations.{IsOf};
 ghost use Rattle.table_numbered.specs.Ending.{AreLeft, TakesAt, AreValues, IsSameEnd, values_from};
 
-use crate::generation::Generation;
+use crate::generation::NumberedGeneration;
 use crate::rule::Token;
 use crate::trade::known;
 use crate::word::number_of_word;
@@ -40,7 +40,7 @@ impl<V, L: SetLaw<V>, A: Low + Copy> Model for LeftValues<V, L, A> {
         v.count };
 }
 
-impl<V, L: SetLaw<V>, A: Low + Copy> Generation<V, L, A> {
+impl<V, L: SetLaw<V>, A: Low + Copy> NumberedGeneration<V, L, A> {
     /// Closes each bucket that is empty. Returns how many buckets have an entry.
     fn close_counting(&self, seen: &mut Token<V, L>) -> usize
         requires of { IsOf L.same L.hash_of self.now.of seen.old.book seen.old.names seen.old.log }
@@ -111,7 +111,7 @@ impl<V, L: SetLaw<V>, A: Low + Copy> LeftValues<V, L, A> {
     }
 
     /// Takes the next value out. `None` means that no value is left.
-    pub fn next(&mut self, generation: &Generation<V, L, A>) -> Option<V>
+    pub fn next(&mut self, generation: &NumberedGeneration<V, L, A>) -> Option<V>
         requires of { generation.now.of ≡ self.old.of }
         ensures same { IsSameEnd self.old self.new }
         ensures next { YieldsFirst (λ v. v.left) self.old result self.new }
@@ -139,7 +139,7 @@ impl<V, L: SetLaw<V>, A: Low + Copy> LeftValues<V, L, A> {
 
 impl<V: Drop, L: SetLaw<V>, A: Low + Copy> LeftValues<V, L, A> {
     /// Drops the values that are left.
-    pub fn drop_all(self, generation: &Generation<V, L, A>)
+    pub fn drop_all(self, generation: &NumberedGeneration<V, L, A>)
         requires of { generation.now.of ≡ self.of }
     {
         let mut left = self;

@@ -23,12 +23,12 @@ use table_terms::law::SetLaw;
 ///
 /// A contract sees which generation it is, how many buckets it has, its slab, and the history that it was made with.
 #[derive(Drop)]
-pub struct Generation<V, L: SetLaw<V>, A: Allocator> {
+pub struct NumberedGeneration<V, L: SetLaw<V>, A: Allocator> {
     pub(crate) row: Row<V, L, A>,
     pub(crate) hints: Hints<V, L, A>,
 }
 
-impl<V, L: SetLaw<V>, A: Allocator> Model for Generation<V, L, A> {
+impl<V, L: SetLaw<V>, A: Allocator> Model for NumberedGeneration<V, L, A> {
     ghost use Rattle.table_numbered.specs.History.{IsWhole};
     ghost use Rattle.table_numbered.specs.Generations.{GenerationView};
     ghost use Rattle.table_numbered.specs.Hints.{AreHints};
@@ -40,7 +40,7 @@ impl<V, L: SetLaw<V>, A: Allocator> Model for Generation<V, L, A> {
     ghost invariant = { λ g. IsWhole g.row.start × AreHints g.row.of.book g.hints };
 }
 
-impl<V, L: SetLaw<V>, A: Low + Copy> Generation<V, L, A> {
+impl<V, L: SetLaw<V>, A: Low + Copy> NumberedGeneration<V, L, A> {
     /// Makes an empty one of this many buckets, a power of two, over the slab. It takes two blocks of memory, for the buckets and for
     /// hints, and nothing where one is refused.
     pub fn new(alloc: A, slab: &Slab<V, A>, buckets: usize) -> Result<Self, AllocError>
@@ -55,7 +55,7 @@ impl<V, L: SetLaw<V>, A: Low + Copy> Generation<V, L, A> {
         let more = Vec::with_capacity(alloc, words)?;
         let row = Row::empty(room, slab, buckets);
         let hints = Hints::new(more, &row.begin(), words, false);
-        Ok(Generation { row, hints })
+        Ok(NumberedGeneration { row, hints })
     }
 
     /// Returns what is known of it from the first.

@@ -9,7 +9,7 @@ ghost use Rattle.table_numbered.specs.Carrying.{IsLoad, AreOwed, IsCarried, Carr
 ghost use Rattle.table_numbered.specs.declared.growth.Refused.TheVariants.{Buckets};
 
 use crate::carrying::Load;
-use crate::generation::Generation;
+use crate::generation::NumberedGeneration;
 use crate::hints::{Hints, words_for};
 use crate::row::Row;
 use crate::rule::Token;
@@ -30,7 +30,7 @@ pub enum Refused {
 
 impl<V, L: SetLaw<V>, A: Allocator> Row<V, L, A> {
     /// Returns the generation of this row, of which this history is known from the first, with hints.
-    fn begun(self, seen: Token<V, L>, hints: Hints<V, L, A>) -> Generation<V, L, A>
+    fn begun(self, seen: Token<V, L>, hints: Hints<V, L, A>) -> NumberedGeneration<V, L, A>
         requires known { IsKnown L.same L.hash_of self.of seen.book seen.names seen.log }
         requires whole { IsWhole seen.log }
         requires hints { AreHints seen.book hints }
@@ -39,11 +39,11 @@ impl<V, L: SetLaw<V>, A: Allocator> Row<V, L, A> {
     {
         let Row { words, start: _ } = self;
         let row = Row { words, start: seen };
-        Generation { row, hints }
+        NumberedGeneration { row, hints }
     }
 }
 
-impl<V, L: SetLaw<V>, A: Low + Copy> Generation<V, L, A> {
+impl<V, L: SetLaw<V>, A: Low + Copy> NumberedGeneration<V, L, A> {
     /// Closes each bucket that is empty.
     fn close_all(&self, seen: &mut Token<V, L>)
         requires of { IsOf L.same L.hash_of self.now.of seen.old.book seen.old.names seen.old.log }

@@ -8,7 +8,7 @@ ghost use Rattle.table_numbered.specs.Generations.{IsOf};
 ghost use Rattle.table_numbered.specs.Walking.{IsTaken};
 ghost use Rattle.table_numbered.specs.Hints.{Names, NamesTaken, IsHint, AreHints};
 
-use crate::generation::Generation;
+use crate::generation::NumberedGeneration;
 use crate::rule::{Bucket, Token};
 use crate::word::HALF;
 use logbook::Word;
@@ -147,7 +147,7 @@ impl<V, L: SetLaw<V>, A: Allocator> Hints<V, L, A> {
     }
 }
 
-impl<V, L: SetLaw<V>, A: Low + Copy> Generation<V, L, A> {
+impl<V, L: SetLaw<V>, A: Low + Copy> NumberedGeneration<V, L, A> {
     /// Returns true if a hint names the number: then an entry has it by now. It reads one word.
     pub(crate) fn is_hinted(&self, seen: &mut Token<V, L>, number: u64) -> bool
         requires of { IsOf L.same L.hash_of self.now.of seen.old.book seen.old.names seen.old.log }

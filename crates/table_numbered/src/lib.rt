@@ -19,7 +19,7 @@ mod word;
 
 pub use ending::LeftValues;
 pub use event::{Event, Listed, Numbered, Stored};
-pub use generation::Generation;
+pub use generation::NumberedGeneration;
 pub use growth::Refused;
 pub use place::Placing;
 pub use probe::Judged;

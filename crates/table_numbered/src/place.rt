@@ -7,7 +7,7 @@ ghost use Rattle.table_numbered.specs.History.{Says, Reaches};
 ghost use Rattle.table_numbered.specs.Generations.{IsOf, IsComing, Claims, Inserts, GivesBack, IsFullBy};
 
 use crate::bucket::{Lost, publish};
-use crate::generation::Generation;
+use crate::generation::NumberedGeneration;
 use crate::rule::Token;
 use crate::word::{first_bucket, mark_of_hash, mark_of_word, number_of_word, word_of_entry};
 use std::alloc::Allocator;
@@ -50,7 +50,7 @@ pub(crate) enum Claim<'a, V, A: Allocator> {
     Closed(Coming<V, A>),
 }
 
-impl<V, L: SetLaw<V>, A: Low + Copy> Generation<V, L, A> {
+impl<V, L: SetLaw<V>, A: Low + Copy> NumberedGeneration<V, L, A> {
     /// Compares the value with what the bucket has.
     fn compare<'a>(
         &self,

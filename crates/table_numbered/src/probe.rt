@@ -5,7 +5,7 @@ ghost use Rattle.table_numbered.specs.Words.{mark_of};
 ghost use Rattle.table_numbered.specs.History.{IsEntry};
 ghost use Rattle.table_numbered.specs.Generations.{IsOf, Meets, Finds, Judges, Ends};
 
-use crate::generation::Generation;
+use crate::generation::NumberedGeneration;
 use crate::rule::Token;
 use crate::sought::Sought;
 use crate::word::{first_bucket, mark_of_hash, mark_of_word, number_of_word};
@@ -38,7 +38,7 @@ pub enum Judged<'a, V> {
     Spent,
 }
 
-impl<V, L: SetLaw<V>, A: Low + Copy> Generation<V, L, A> {
+impl<V, L: SetLaw<V>, A: Low + Copy> NumberedGeneration<V, L, A> {
     /// Compares what is sought with what the bucket has. An entry is read only where its mark is that of what is sought.
     pub(crate) fn meet<'a, S: Sought<V, L>>(
         &self,

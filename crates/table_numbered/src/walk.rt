@@ -6,7 +6,7 @@ ghost use Rattle.table_numbered.specs.History.{Stands, IsFree};
 ghost use Rattle.table_numbered.specs.Generations.{IsOf};
 ghost use Rattle.table_numbered.specs.Walking.{IsTaken, HasAt, IsOnlyAt};
 
-use crate::generation::Generation;
+use crate::generation::NumberedGeneration;
 use crate::rule::Token;
 use crate::trade::known;
 use crate::word::number_of_word;
@@ -14,7 +14,7 @@ use table_cell::Low;
 use table_slab::Slab;
 use table_terms::law::SetLaw;
 
-impl<V, L: SetLaw<V>, A: Low + Copy> Generation<V, L, A> {
+impl<V, L: SetLaw<V>, A: Low + Copy> NumberedGeneration<V, L, A> {
     /// Returns the number of the entry that the bucket has by now. `None` means that it has no entry. It reads no entry.
     pub(crate) fn number_at(&self, seen: &mut Token<V, L>, index: usize) -> Option<u64>
         requires of { IsOf L.same L.hash_of self.now.of seen.old.book seen.old.names seen.old.log }

@@ -8,7 +8,7 @@ use crate::inserted::Shown;
 use crate::placing::place_by_law;
 use std::alloc::Allocator;
 use std::marker::{Model, PhantomData};
-use table_held::alone::Told;
+use table_held::alone::InsertAnswer;
 use table_held::{AtomicValue, HeldRawTable, Place};
 use table_terms::law::SetLaw;
 
@@ -53,7 +53,7 @@ impl<T: AtomicValue, L: SetLaw<T::Target>, A: Allocator + Copy> LawfulTable<T, L
 
     /// Inserts the value unless an entry is equal, and returns the place of the entry. A refused value is returned, and the
     /// entries are unchanged.
-    pub(crate) fn place(&mut self, value: T) -> Told<Place, T>
+    pub(crate) fn place(&mut self, value: T) -> InsertAnswer<Place, T>
         ensures places { PlacesByLaw T.target L.same self.old value result self.new }
         ensures lawful { IsLawful T.target L.same L.hash_of self.new }
     {
@@ -61,7 +61,7 @@ impl<T: AtomicValue, L: SetLaw<T::Target>, A: Allocator + Copy> LawfulTable<T, L
     }
 
     /// Returns the target of the entry at the place that an insert returned, as a [`Shown`].
-    pub(crate) fn show(&self, placed: Told<Place, T>) -> Shown<&T::Target, T>
+    pub(crate) fn show(&self, placed: InsertAnswer<Place, T>) -> Shown<&T::Target, T>
         requires { IfOk placed (λ p. IsSome (entry_at self.now p.0)) }
         ensures { ShowsByLaw T.target placed self.now result }
     {

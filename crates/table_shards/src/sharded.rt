@@ -20,7 +20,7 @@ use std::alloc::{Allocator, Global};
 use std::array;
 use std::marker::Model;
 use table_generations::atomic_value::{AtomicValue, Law};
-use table_held::alone::Told;
+use table_held::alone::InsertAnswer;
 use table_held::raw::HeldRawTable;
 
 /// An insertion-only hash table over `SHARDS` raw tables, with one owner. A value lies in the shard of its hash.
@@ -196,7 +196,7 @@ impl<T: AtomicValue, const SHARDS: usize, A: Allocator + Copy> HeldShardedTable<
         value: T,
         eq: E,
         hash_fn: H,
-    ) -> Told<ShardPlace, T>
+    ) -> InsertAnswer<ShardPlace, T>
         requires eq_callable { E.IsAlwaysCallable eq }
         requires hash_callable { H.IsAlwaysCallable hash_fn }
         ensures { Inserted T.target L.same L.hash_of SHARDS (FnReturnsAtPair E.Fn eq)
@@ -206,7 +206,7 @@ impl<T: AtomicValue, const SHARDS: usize, A: Allocator + Copy> HeldShardedTable<
     }
 
     /// Returns the target of the entry at the place that an insert returned, with the rest of that insert's result.
-    fn show_placed(&self, placed: Told<ShardPlace, T>) -> Result<(&T::Target, Option<T>), T>
+    fn show_placed(&self, placed: InsertAnswer<ShardPlace, T>) -> Result<(&T::Target, Option<T>), T>
         requires { IfOk placed (λ p. IsSome (entry_at self.now p.0)) }
         ensures { ResultShows T.target sharded placed result self.now }
     {

@@ -71,7 +71,7 @@ impl<T: AtomicValue, A: Low + Copy> LockFreeRawTable<T, A> {
     {
         let given = Snapshot::of(&value);
         let asking = Asking { given, eq, hash_fn };
-        let guard = self.share(rt, hash);
+        let guard = self.lock_shared(rt, hash);
         let state = step(CallState::insert(hash), Answer::Taken);
         let Some(current) = self.current(&mut self.note()) else {
             let state = step(state, Answer::NoGeneration);

@@ -121,7 +121,7 @@ impl Locks {
 
     /// Takes the stripe of this hash, shared, for the table of this home. Waits while a writer holds it.
     #[inline(always)]
-    fn share<R: Wait>(&self, rt: &R, hash: u64, home: &Home) -> SharedLock<'_>
+    fn lock_shared<R: Wait>(&self, rt: &R, hash: u64, home: &Home) -> SharedLock<'_>
         ensures { result.home ≡ home.now.id }
     {
         SharedLock {
@@ -131,7 +131,7 @@ impl Locks {
     }
 
     /// Takes the stripe of this hash, shared, for the table of this home, if no writer holds it now.
-    fn try_share(&self, hash: u64, home: &Home) -> Option<SharedLock<'_>>
+    fn try_lock_shared(&self, hash: u64, home: &Home) -> Option<SharedLock<'_>>
         ensures { IfSome result (λ l. l.home ≡ home.now.id) }
     {
         Some(SharedLock {
@@ -212,17 +212,17 @@ impl Locks {
 impl<T: AtomicValue, A: Allocator + Copy> LockFreeRawTable<T, A> {
     /// Takes the stripe of this hash, shared. Waits while a writer holds it.
     #[inline(always)]
-    pub(crate) fn share<R: Wait>(&self, rt: &R, hash: u64) -> SharedLock<'_>
+    pub(crate) fn lock_shared<R: Wait>(&self, rt: &R, hash: u64) -> SharedLock<'_>
         ensures { result.home ≡ self.now.home }
     {
-        self.locks.share(rt, hash, &self.home)
+        self.locks.lock_shared(rt, hash, &self.home)
     }
 
     /// Takes the stripe of this hash, shared, if no writer holds it now.
-    pub(crate) fn try_share(&self, hash: u64) -> Option<SharedLock<'_>>
+    pub(crate) fn try_lock_shared(&self, hash: u64) -> Option<SharedLock<'_>>
         ensures { IfSome result (λ l. l.home ≡ self.now.home) }
     {
-        self.locks.try_share(hash, &self.home)
+        self.locks.try_lock_shared(hash, &self.home)
     }
 
     /// Takes all stripes of the table exclusively. Waits for everybody who holds one.

@@ -10,18 +10,18 @@ mod runs;
 mod sets;
 mod values;
 
-use pairs::{Pair, Pairs, Told};
+use pairs::{Pair, PairAnswer, Pairs};
 use std::fmt::Debug;
 use std::process::Abort;
 use std::test::Fail;
 
 /// Pairs for a first generation, and the answer to the insert of each. The probe of (15, 9) passes the last bucket and then the first.
-const INSERTS: [(Pair, Told); 5] = [
-    ((0, 1), Told::Placed((0, 1))),
-    ((0, 1), Told::Found((0, 1), (0, 1))),
-    ((15, 7), Told::Placed((15, 7))),
-    ((15, 9), Told::Placed((15, 9))),
-    ((15, 7), Told::Found((15, 7), (15, 7))),
+const INSERTS: [(Pair, PairAnswer); 5] = [
+    ((0, 1), PairAnswer::Placed((0, 1))),
+    ((0, 1), PairAnswer::Found((0, 1), (0, 1))),
+    ((15, 7), PairAnswer::Placed((15, 7))),
+    ((15, 9), PairAnswer::Placed((15, 9))),
+    ((15, 7), PairAnswer::Found((15, 7), (15, 7))),
 ];
 
 /// Pairs, and whether each is an entry after those inserts.
@@ -68,7 +68,7 @@ fn a_hundred_values_of_one_hash(rt: HostRuntime) -> Result<(), Fail> {
     let mut pairs = Pairs::new(rt.alloc());
     for number in 0..100 {
         let pair = (0, number);
-        pairs.assert_told(&rt, pair, Told::Placed(pair))?;
+        pairs.assert_told(&rt, pair, PairAnswer::Placed(pair))?;
     }
     pairs.assert_size(&rt, 100, 256);
     assert_same(&rt, pairs.table.buckets_alone(), 496);

@@ -19,13 +19,13 @@ fn assert_same<X: PartialEq + Debug + Drop>(rt: &impl Abort, got: X, expected: X
 
 /// The numbers below 128 for which a seat got each answer. Bit n of a word is set for the number n.
 #[derive(Clone, Copy, Drop, PartialEq, Eq, Debug)]
-struct Told {
+struct AnswerBits {
     placed: u128,
     found: u128,
     full: u128,
 }
 
-const NOTHING: Told = Told {
+const NOTHING: AnswerBits = AnswerBits {
     placed: 0,
     found: 0,
     full: 0,
@@ -65,7 +65,11 @@ fn table_of<A: Allocator + Copy>(
 }
 
 /// Inserts 1 to `last`, in order. Returns the seat and the answers.
-fn insert_to<A: Allocator + Copy>(table: &NumberTable<A>, mut seat: Seat, last: u32) -> (Seat, Told)
+fn insert_to<A: Allocator + Copy>(
+    table: &NumberTable<A>,
+    mut seat: Seat,
+    last: u32,
+) -> (Seat, AnswerBits)
     requires { IsSeatOf table.now seat }
     ensures { IsSeatOf table.entry.now result.0 }
 {
@@ -194,20 +198,20 @@ fn insert_in_threads<R: Threads + Sync>(
     table: &NumberTable<Global>,
     seats: Vec<Seat>,
     last: u32,
-) -> Result<Vec<Told>, AllocError>
+) -> Result<Vec<AnswerBits>, AllocError>
     requires { All (IsSeatOf table.now) seats.items }
 {
     thread::map_vec(
         rt,
         seats,
-        &|seat: Seat| -> Told
+        &|seat: Seat| -> AnswerBits
             requires { IsSeatOf table.now seat }
         { insert_to(table, seat, last).1 },
     )
 }
 
 /// Asserts that each number up to `last` was placed by one of the seats and found by all others.
-fn assert_placed_once(rt: &impl Abort, all: &[Told], last: u32) {
+fn assert_placed_once(rt: &impl Abort, all: &[AnswerBits], last: u32) {
     let mut placed = 0;
     for told in all {
         assert_same(rt, told.placed & placed, 0);

@@ -1,11 +1,11 @@
 //! A table that is a plain list, scanned from its front: slow, and plainly right. Tests run the same lists of calls on it and on the hash
-//! tables. Module [`told`] has what the calls return.
+//! tables. Module [`reply`] has what the calls return.
 ghost use Rattle.std.specs.Prelude.{◌≡◌, [], IfSome, IfNone};
 ghost use Rattle.std.specs.Fn.{FnReturnsAt, FnReturnsAtPair};
 ghost use Rattle.table_held.specs.Shown.{FindsOne};
 ghost use Rattle.testkit.specs.Plain.{Finds, RefusesEach, Inserts};
 
-pub mod told;
+pub mod reply;
 
 use std::alloc::Global;
 use std::marker::Model;

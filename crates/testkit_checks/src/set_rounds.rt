@@ -12,7 +12,7 @@ use std::thread::Threads;
 use std::time::Instant;
 use testkit::refusing::{Refusing, Rule};
 use testkit_rounds::drawn::{Plan, Stop};
-use testkit_rounds::{Fault, Kind, Round};
+use testkit_rounds::{Kind, Round, RoundFault};
 
 /// The status of rounds without a fault.
 const WELL: u8 = 0;
@@ -156,17 +156,17 @@ fn run_round<R: Threads + Sync>(
     rt: &R,
     alloc: Global,
     round: Round,
-) -> Result<Option<Counts>, Fault> {
+) -> Result<Option<Counts>, RoundFault> {
     let heap = Refusing::new(alloc, rule_of(round));
     let lists = lists_of(alloc, round)?;
     let mut left = count_each(alloc, round, &lists)?;
     let came = match insert_lists(rt, alloc, &heap, lists) {
         Ok(outcome) => Some(account_for(alloc, &mut left, &outcome)?),
         Err(NoOutcome::Memory) => None,
-        Err(NoOutcome::Others) => return Err(Fault::Length),
+        Err(NoOutcome::Others) => return Err(RoundFault::Length),
     };
     if heap.granted() != heap.given_back() {
-        return Err(Fault::Blocks);
+        return Err(RoundFault::Blocks);
     }
     Ok(came)
 }
@@ -218,22 +218,26 @@ fn count_list(counts: &mut [u64], list: &[u64]) {
 }
 
 /// Compares the outcome with the counts of the inserted numbers. `Err` is the first fault.
-fn account_for(alloc: Global, left: &mut [u64], outcome: &Outcome<u64>) -> Result<Counts, Fault> {
+fn account_for(
+    alloc: Global,
+    left: &mut [u64],
+    outcome: &Outcome<u64>,
+) -> Result<Counts, RoundFault> {
     let mut not_out = Vec::new(alloc);
     not_out.resize(left.len(), 1)?;
-    take_each(&mut not_out, &outcome.out).map_err(Fault::Equal)?;
+    take_each(&mut not_out, &outcome.out).map_err(RoundFault::Equal)?;
     for numbers in [&outcome.out, &outcome.found, &outcome.refused] {
-        take_each(left, numbers).map_err(Fault::Unknown)?;
+        take_each(left, numbers).map_err(RoundFault::Unknown)?;
     }
     if let Some(number) = outcome
         .found
         .iter()
         .find(|number| is_left(&not_out, **number))
     {
-        return Err(Fault::NotFound(*number));
+        return Err(RoundFault::NotFound(*number));
     }
     match left.iter().position(|count| *count > 0) {
-        Some(number) => Err(Fault::Lost(number as u64)),
+        Some(number) => Err(RoundFault::Lost(number as u64)),
         None => Ok(Counts {
             out: outcome.out.len() as u64,
             found: outcome.found.len() as u64,

@@ -2,7 +2,7 @@
 ghost use Rattle.table_terms.specs.Capacities.{IsFirstCapacity};
 
 use crate::events::{answers_of, takes};
-use crate::fault::Fault;
+use crate::fault::ReplayFault;
 use crate::item::Item;
 use crate::replay::{Replay, Turn, any_request, run_schedule};
 use crate::running::{Schedule, Stepped};
@@ -43,7 +43,7 @@ pub fn run_course(
     manner: Manner,
     seed: u64,
     course: Course<'_>,
-) -> Result<(), Fault>
+) -> Result<(), ReplayFault>
     requires { IsFirstCapacity first }
 {
     let script = Script::new(manner, seed);
@@ -94,7 +94,7 @@ impl Events<'_> {
 
     /// Follows one event of the schedule. If no class is given to a call that begins, its class is the number of its value, or 0 for a
     /// look-up. `Err`: a fault.
-    fn follow(&mut self, replay: &mut Replay<'_, '_>, event: Event) -> Result<Turn, Fault> {
+    fn follow(&mut self, replay: &mut Replay<'_, '_>, event: Event) -> Result<Turn, ReplayFault> {
         match event {
             Event::Insert { call, value, hash } => {
                 let class = self.class_of(call).unwrap_or(value);
@@ -119,7 +119,7 @@ impl Events<'_> {
 }
 
 /// Follows an event of a call that has begun. If the call isn't on the table, only the machine takes the event. `Err`: a fault.
-fn follow_step(replay: &mut Replay<'_, '_>, event: Event) -> Result<Turn, Fault> {
+fn follow_step(replay: &mut Replay<'_, '_>, event: Event) -> Result<Turn, ReplayFault> {
     let Some(index) = replay.place_of(event.call()) else {
         replay.take(event)?;
         return Ok(Turn::Nothing);
@@ -136,7 +136,7 @@ fn follow_step(replay: &mut Replay<'_, '_>, event: Event) -> Result<Turn, Fault>
 }
 
 impl Schedule for Events<'_> {
-    fn next(&mut self, replay: &mut Replay<'_, '_>) -> Result<Turn, Fault> {
+    fn next(&mut self, replay: &mut Replay<'_, '_>) -> Result<Turn, ReplayFault> {
         let Some((event, left)) = self.left.split_first() else {
             return replay.end();
         };
@@ -151,7 +151,7 @@ impl Schedule for Events<'_> {
         }
     }
 
-    fn hear(&mut self, replay: &mut Replay<'_, '_>, stepped: Stepped) -> Result<(), Fault> {
+    fn hear(&mut self, replay: &mut Replay<'_, '_>, stepped: Stepped) -> Result<(), ReplayFault> {
         let Some(event) = self.event else {
             return Ok(());
         };
@@ -159,8 +159,8 @@ impl Schedule for Events<'_> {
         let call = event.call();
         let copied = stepped.state.phase == Phase::Building;
         match event {
-            Event::Copy { .. } if !copied => Err(Fault::Step { call }),
-            Event::Show { .. } if copied => Err(Fault::Step { call }),
+            Event::Copy { .. } if !copied => Err(ReplayFault::Step { call }),
+            Event::Show { .. } if copied => Err(ReplayFault::Step { call }),
             _ => Ok(()),
         }
     }

@@ -3,7 +3,7 @@ use crate::item::Said;
 
 /// The reason for which a replay ends early.
 #[derive(Clone, Copy, Debug)]
-pub enum Fault {
+pub enum ReplayFault {
     /// A request of the replay itself for memory was refused.
     NoMemory,
     /// The replies of the table and of the machine to this call differ. `None` means that the call hasn't ended.
@@ -40,9 +40,9 @@ pub enum Fault {
 }
 
 /// Returns the result of a request of the replay itself for memory. `Err`: it was refused.
-pub(crate) fn granted<T, E: Drop>(asked: Result<T, E>) -> Result<T, Fault> {
+pub(crate) fn granted<T, E: Drop>(asked: Result<T, E>) -> Result<T, ReplayFault> {
     match asked {
         Ok(there) => Ok(there),
-        Err(_refused) => Err(Fault::NoMemory),
+        Err(_refused) => Err(ReplayFault::NoMemory),
     }
 }

@@ -1,7 +1,7 @@
 //! The machine beside a running table.
 ghost use Rattle.table_terms.specs.Capacities.{IsFirstCapacity};
 
-use crate::fault::{Fault, granted};
+use crate::fault::{ReplayFault, granted};
 use crate::item::Said;
 use std::alloc::Global;
 use table_core::call::CallState;
@@ -35,7 +35,7 @@ impl Machine {
     }
 
     /// Takes one event, and returns the call that finishes by it, if one does. `Err`: no memory.
-    pub fn take(&mut self, event: Event) -> Result<Option<Finished>, Fault> {
+    pub fn take(&mut self, event: Event) -> Result<Option<Finished>, ReplayFault> {
         granted(self.state.step(event))
     }
 
@@ -56,7 +56,7 @@ impl Machine {
     }
 
     /// Returns the number of entries, by one of the replay's own calls. Returns `None` if that call doesn't end. `Err`: no memory.
-    pub fn length(&mut self) -> Result<Option<u64>, Fault> {
+    pub fn length(&mut self) -> Result<Option<u64>, ReplayFault> {
         let call = self.own_call();
         self.take(Event::Len { call })?;
         let loaded = self.take(Event::Load { call })?;
@@ -66,7 +66,7 @@ impl Machine {
 
     /// Reads the entries in the order of their buckets, by one of the replay's own calls. Returns `None` if that call doesn't end. `Err`:
     /// no memory.
-    pub fn walk(&mut self) -> Result<Option<Finished>, Fault> {
+    pub fn walk(&mut self) -> Result<Option<Finished>, ReplayFault> {
         let call = self.own_call();
         self.take(Event::Walk { call })?;
         let mut told = self.take(Event::Load { call })?;

@@ -3,7 +3,7 @@ ghost use Rattle.std.specs.Prelude.{◌≡◌};
 ghost use Rattle.table_terms.specs.Capacities.{IsFirstCapacity};
 
 use crate::events::event_taken;
-use crate::fault::{Fault, granted};
+use crate::fault::{ReplayFault, granted};
 use crate::item::{Item, Said};
 use crate::machine::{Machine, said_to};
 use crate::running::{Calls, Schedule, Stepped, Table, Took};
@@ -35,7 +35,7 @@ pub(crate) fn run_schedule<S: Schedule>(
     rule: Rule,
     script: &Script,
     schedule: &mut S,
-) -> Result<(), Fault>
+) -> Result<(), ReplayFault>
     requires { IsFirstCapacity first }
 {
     let memory = Refusing::new(alloc, rule);
@@ -145,7 +145,7 @@ impl<'a, 'm> Replay<'a, 'm> {
     }
 
     /// Begins the next call. Its number is its index. `Err`: no memory.
-    pub(crate) fn begin(&mut self, ask: Ask) -> Result<Turn, Fault> {
+    pub(crate) fn begin(&mut self, ask: Ask) -> Result<Turn, ReplayFault> {
         let number = self.calls.len() as u64;
         match ask {
             Ask::Insert(class, hash) => self.insert(
@@ -161,7 +161,7 @@ impl<'a, 'm> Replay<'a, 'm> {
     }
 
     /// Begins an insert. The table skips it if its number or its value was used before. `Err`: no memory.
-    pub(crate) fn insert(&mut self, number: u64, item: Item) -> Result<Turn, Fault> {
+    pub(crate) fn insert(&mut self, number: u64, item: Item) -> Result<Turn, ReplayFault> {
         let (value, hash) = (item.number, item.hash);
         self.machine.take(Event::Insert {
             call: number,
@@ -180,7 +180,12 @@ impl<'a, 'm> Replay<'a, 'm> {
     }
 
     /// Begins a look-up of a class. The table skips it if its number was used before. `Err`: no memory.
-    pub(crate) fn lookup(&mut self, number: u64, class: u64, hash: u64) -> Result<Turn, Fault> {
+    pub(crate) fn lookup(
+        &mut self,
+        number: u64,
+        class: u64,
+        hash: u64,
+    ) -> Result<Turn, ReplayFault> {
         self.machine.take(Event::Lookup { call: number, hash })?;
         let call = Call {
             number,
@@ -194,7 +199,7 @@ impl<'a, 'm> Replay<'a, 'm> {
 
     /// Adds a call, and returns the turn by which it begins. If its number or its value was used before, adds nothing and returns
     /// `Turn::Nothing`. `Err`: no memory.
-    fn add(&mut self, call: Call, turn: Turn) -> Result<Turn, Fault> {
+    fn add(&mut self, call: Call, turn: Turn) -> Result<Turn, ReplayFault> {
         if self.is_used(&call) {
             return Ok(Turn::Nothing);
         }
@@ -215,7 +220,7 @@ impl<'a, 'm> Replay<'a, 'm> {
     }
 
     /// Begins a length or a walk, on the machine only. `Err`: no memory.
-    pub(crate) fn begin_whole(&mut self, event: Event) -> Result<Turn, Fault> {
+    pub(crate) fn begin_whole(&mut self, event: Event) -> Result<Turn, ReplayFault> {
         self.machine.take(event)?;
         granted(self.numbers.push(event.call()))?;
         Ok(Turn::Nothing)
@@ -268,7 +273,7 @@ impl<'a, 'm> Replay<'a, 'm> {
 
     /// Gives the machine the event of the step that the table has taken, and compares the reply, the state and the length. `Err`: they
     /// differ, or no memory.
-    pub(crate) fn follow(&mut self, stepped: Stepped) -> Result<(), Fault> {
+    pub(crate) fn follow(&mut self, stepped: Stepped) -> Result<(), ReplayFault> {
         let granted = self.ground.memory.refusals_left() == self.refusals;
         let Some(call) = self.calls.get(self.stepping) else {
             return Ok(());
@@ -284,7 +289,7 @@ impl<'a, 'm> Replay<'a, 'm> {
     }
 
     /// Gives the machine this event, which the table has taken, and compares the reply and the state. `Err`: they differ, or no memory.
-    pub(crate) fn follow_by(&mut self, event: Event, stepped: Stepped) -> Result<(), Fault> {
+    pub(crate) fn follow_by(&mut self, event: Event, stepped: Stepped) -> Result<(), ReplayFault> {
         self.note(stepped);
         let finished = self.take(event)?;
         let call = event.call();
@@ -294,7 +299,11 @@ impl<'a, 'm> Replay<'a, 'm> {
 
     /// Checks that the machine doesn't take an event that the call at this index can't take on the table. `Err`: it takes the event, or no
     /// memory.
-    pub(crate) fn follow_blocked(&mut self, index: usize, event: Event) -> Result<Turn, Fault> {
+    pub(crate) fn follow_blocked(
+        &mut self,
+        index: usize,
+        event: Event,
+    ) -> Result<Turn, ReplayFault> {
         if let Some(call) = self.calls.get(index) {
             let blocked = Stepped {
                 took: Took::Blocked,
@@ -308,7 +317,7 @@ impl<'a, 'm> Replay<'a, 'm> {
 
     /// Gives the machine this event, and returns the call that finishes by it. Compares the reply of a length or a walk with the table.
     /// `Err`: they differ, or no memory.
-    pub(crate) fn take(&mut self, event: Event) -> Result<Option<Finished>, Fault> {
+    pub(crate) fn take(&mut self, event: Event) -> Result<Option<Finished>, ReplayFault> {
         let finished = self.machine.take(event)?;
         compare_whole(self.ground.table, &finished)?;
         Ok(finished)
@@ -326,15 +335,15 @@ impl<'a, 'm> Replay<'a, 'm> {
     }
 
     /// Checks that the call with this number has this state in the machine. `Err`: it has another one.
-    fn compare_state(&self, call: u64, state: CallState) -> Result<(), Fault> {
+    fn compare_state(&self, call: u64, state: CallState) -> Result<(), ReplayFault> {
         if self.machine.state_of(call) == Some(state) {
             return Ok(());
         }
-        Err(Fault::Stands { call })
+        Err(ReplayFault::Stands { call })
     }
 
     /// Checks that the call of this number, which is also its index, ended with this reply. `Err`: it didn't.
-    pub(crate) fn compare_end(&self, call: u64, said: Said) -> Result<(), Fault> {
+    pub(crate) fn compare_end(&self, call: u64, said: Said) -> Result<(), ReplayFault> {
         let machine = match self.calls.get(call as usize) {
             Some(call) => call.said,
             None => None,
@@ -344,7 +353,7 @@ impl<'a, 'm> Replay<'a, 'm> {
 
     /// Ends the schedule, and compares the length, the entries and the buckets of the table and of the machine. `Err`: they differ, or no
     /// memory.
-    pub(crate) fn end(&mut self) -> Result<Turn, Fault> {
+    pub(crate) fn end(&mut self) -> Result<Turn, ReplayFault> {
         self.compare_walk()?;
         self.compare_buckets()?;
         Ok(Turn::End)
@@ -352,29 +361,29 @@ impl<'a, 'm> Replay<'a, 'm> {
 
     /// Checks that the table and the machine have the same length, and the same entries in the same order. `Err`: they differ, or no
     /// memory.
-    pub(crate) fn compare_walk(&mut self) -> Result<(), Fault> {
+    pub(crate) fn compare_walk(&mut self) -> Result<(), ReplayFault> {
         self.compare_length()?;
         let walked = self.machine.walk()?;
         if walked.is_none() {
-            return Err(Fault::Walk);
+            return Err(ReplayFault::Walk);
         }
         compare_whole(self.ground.table, &walked)
     }
 
     /// Checks that the table and the machine have the same length now. `Err`: they differ, or no memory.
-    fn compare_length(&mut self) -> Result<(), Fault> {
+    fn compare_length(&mut self) -> Result<(), ReplayFault> {
         if self.machine.length()? == Some(self.ground.table.len() as u64) {
             return Ok(());
         }
-        Err(Fault::Length)
+        Err(ReplayFault::Length)
     }
 
     /// Checks that the table and the machine have the same number of buckets. `Err`: they differ.
-    pub(crate) fn compare_buckets(&self) -> Result<(), Fault> {
+    pub(crate) fn compare_buckets(&self) -> Result<(), ReplayFault> {
         if self.machine.buckets() == buckets(self.ground.table, self.ground.first) {
             return Ok(());
         }
-        Err(Fault::Buckets)
+        Err(ReplayFault::Buckets)
     }
 }
 
@@ -389,7 +398,7 @@ pub(crate) fn buckets(table: &Table<'_>, first: u64) -> u64 {
 }
 
 /// Checks that the call has the same reply from the table and from the machine, or none from both. `Err`: the replies differ.
-fn compare(call: u64, took: Took, finished: &Option<Finished>) -> Result<(), Fault> {
+fn compare(call: u64, took: Took, finished: &Option<Finished>) -> Result<(), ReplayFault> {
     let table = match took {
         Took::Told(said) => Some(said),
         Took::Moved | Took::Blocked => None,
@@ -398,11 +407,11 @@ fn compare(call: u64, took: Took, finished: &Option<Finished>) -> Result<(), Fau
 }
 
 /// Checks that the two replies to the call are the same. `Err`: they differ.
-fn same_told(call: u64, table: Option<Said>, machine: Option<Said>) -> Result<(), Fault> {
+fn same_told(call: u64, table: Option<Said>, machine: Option<Said>) -> Result<(), ReplayFault> {
     if table == machine {
         return Ok(());
     }
-    Err(Fault::Told {
+    Err(ReplayFault::Told {
         call,
         table,
         machine,
@@ -410,13 +419,13 @@ fn same_told(call: u64, table: Option<Said>, machine: Option<Said>) -> Result<()
 }
 
 /// Checks that a length or a walk has the same reply from the machine as from the table. `Err`: the replies differ.
-fn compare_whole(table: &Table<'_>, finished: &Option<Finished>) -> Result<(), Fault> {
+fn compare_whole(table: &Table<'_>, finished: &Option<Finished>) -> Result<(), ReplayFault> {
     let Some(finished) = finished else {
         return Ok(());
     };
     match &finished.reply {
-        Reply::Len(length) if *length != table.len() as u64 => Err(Fault::Length),
-        Reply::Walk(entries) if !shows(table, entries.as_slice()) => Err(Fault::Walk),
+        Reply::Len(length) if *length != table.len() as u64 => Err(ReplayFault::Length),
+        Reply::Walk(entries) if !shows(table, entries.as_slice()) => Err(ReplayFault::Walk),
         _ => Ok(()),
     }
 }

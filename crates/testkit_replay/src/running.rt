@@ -1,7 +1,7 @@
 //! Calls on a running table, which take one step at a time.
 ghost use Rattle.testkit_replay.specs.Running.{IsReady, MayGo};
 
-use crate::fault::Fault;
+use crate::fault::ReplayFault;
 use crate::item::{Item, Said};
 use crate::replay::{Replay, Turn};
 use std::alloc::Global;
@@ -33,10 +33,10 @@ pub struct Stepped {
 /// A schedule. It says turn by turn what the table does.
 pub trait Schedule {
     /// Returns the next turn. `Err`: a fault, which ends the replay.
-    fn next(&mut self, replay: &mut Replay<'_, '_>) -> Result<Turn, Fault>;
+    fn next(&mut self, replay: &mut Replay<'_, '_>) -> Result<Turn, ReplayFault>;
 
     /// Takes the result of the step that was the last turn. `Err`: the result isn't the expected one.
-    fn hear(&mut self, replay: &mut Replay<'_, '_>, stepped: Stepped) -> Result<(), Fault>;
+    fn hear(&mut self, replay: &mut Replay<'_, '_>, stepped: Stepped) -> Result<(), ReplayFault>;
 }
 
 /// A call that runs one step at a time.
@@ -150,7 +150,7 @@ impl<
         &mut self,
         replay: &mut Replay<'_, '_>,
         schedule: &mut S,
-    ) -> Result<(), Fault>
+    ) -> Result<(), ReplayFault>
         requires ready { IsReady E.IsAlwaysCallable H.IsAlwaysCallable F.IsAlwaysCallable E.Fn
             self.old }
     {
@@ -163,11 +163,11 @@ impl<
                 Turn::End => return Ok(()),
             }
         }
-        Err(Fault::Unfinished)
+        Err(ReplayFault::Unfinished)
     }
 
     /// Begins an insert of this value. `Err`: no memory.
-    fn insert(&mut self, value: Box<Item>) -> Result<(), Fault>
+    fn insert(&mut self, value: Box<Item>) -> Result<(), ReplayFault>
         requires ready { IsReady E.IsAlwaysCallable H.IsAlwaysCallable F.IsAlwaysCallable E.Fn
             self.old }
         ensures ready { IsReady E.IsAlwaysCallable H.IsAlwaysCallable F.IsAlwaysCallable E.Fn
@@ -177,12 +177,12 @@ impl<
         let call = InsertCall::new(self.table, hash, value, self.eq, self.hash_fn);
         match self.begun.push(Steps::Insert(call)) {
             Ok(()) => Ok(()),
-            Err(_refused) => Err(Fault::NoMemory),
+            Err(_refused) => Err(ReplayFault::NoMemory),
         }
     }
 
     /// Begins a look-up of a hash. `Err`: no memory.
-    fn lookup(&mut self, hash: u64) -> Result<(), Fault>
+    fn lookup(&mut self, hash: u64) -> Result<(), ReplayFault>
         requires ready { IsReady E.IsAlwaysCallable H.IsAlwaysCallable F.IsAlwaysCallable E.Fn
             self.old }
         ensures ready { IsReady E.IsAlwaysCallable H.IsAlwaysCallable F.IsAlwaysCallable E.Fn
@@ -191,12 +191,12 @@ impl<
         let call = LookupCall::new(self.table, hash, self.test);
         match self.begun.push(Steps::Lookup(call)) {
             Ok(()) => Ok(()),
-            Err(_refused) => Err(Fault::NoMemory),
+            Err(_refused) => Err(ReplayFault::NoMemory),
         }
     }
 
     /// Takes one step of the call at this index. `Err`: there is no such call.
-    fn advance(&mut self, index: usize) -> Result<Stepped, Fault>
+    fn advance(&mut self, index: usize) -> Result<Stepped, ReplayFault>
         requires ready { IsReady E.IsAlwaysCallable H.IsAlwaysCallable F.IsAlwaysCallable E.Fn
             self.old }
         ensures ready { IsReady E.IsAlwaysCallable H.IsAlwaysCallable F.IsAlwaysCallable E.Fn
@@ -204,7 +204,7 @@ impl<
     {
         match self.begun.get_mut(index) {
             Some(steps) => Ok(steps.advance()),
-            None => Err(Fault::Unfinished),
+            None => Err(ReplayFault::Unfinished),
         }
     }
 }

@@ -1,5 +1,5 @@
 //! Schedules of calls: random ones, and schedules in which two calls interrupt each other.
-use crate::fault::Fault;
+use crate::fault::ReplayFault;
 use crate::replay::{Replay, Turn};
 use crate::running::{Schedule, Stepped, Took};
 use crate::script::Script;
@@ -63,11 +63,11 @@ impl Way {
     }
 
     /// Returns whether there are more steps. `Err`: no step is left, and a call hasn't ended.
-    fn goes_on(&self, replay: &Replay<'_, '_>) -> Result<bool, Fault> {
+    fn goes_on(&self, replay: &Replay<'_, '_>) -> Result<bool, ReplayFault> {
         match self.goal {
             Goal::Stop => Ok(self.left != 0),
             Goal::AllEnd if replay.all_ended() => Ok(false),
-            Goal::AllEnd if self.left == 0 => Err(Fault::Unfinished),
+            Goal::AllEnd if self.left == 0 => Err(ReplayFault::Unfinished),
             Goal::AllEnd => Ok(true),
         }
     }
@@ -99,7 +99,7 @@ const ARRIVED: Way = Way {
 /// A plot: it decides which calls begin, and on which ways they take steps.
 pub(crate) trait Plot {
     /// Returns the next turn, once the last way has no step left. It can set a new way, which starts after this turn. `Err`: a fault.
-    fn advance(&mut self, replay: &mut Replay<'_, '_>, way: &mut Way) -> Result<Turn, Fault>;
+    fn advance(&mut self, replay: &mut Replay<'_, '_>, way: &mut Way) -> Result<Turn, ReplayFault>;
 }
 
 /// The schedule of a plot. It takes all steps of a way before it asks the plot for the next turn.
@@ -117,7 +117,7 @@ impl<P: Plot> Plotted<P> {
 }
 
 impl<P: Plot> Schedule for Plotted<P> {
-    fn next(&mut self, replay: &mut Replay<'_, '_>) -> Result<Turn, Fault> {
+    fn next(&mut self, replay: &mut Replay<'_, '_>) -> Result<Turn, ReplayFault> {
         if self.way.goes_on(replay)? {
             return Ok(replay.step_refused(self.way.index, 0, 0));
         }
@@ -125,7 +125,7 @@ impl<P: Plot> Schedule for Plotted<P> {
         self.plot.advance(replay, &mut self.way)
     }
 
-    fn hear(&mut self, replay: &mut Replay<'_, '_>, stepped: Stepped) -> Result<(), Fault> {
+    fn hear(&mut self, replay: &mut Replay<'_, '_>, stepped: Stepped) -> Result<(), ReplayFault> {
         self.way.hear(stepped.took, replay.begun());
         replay.follow(stepped)
     }
@@ -180,7 +180,7 @@ impl<'s> Drawn<'s> {
 }
 
 impl Plot for Drawn<'_> {
-    fn advance(&mut self, replay: &mut Replay<'_, '_>, way: &mut Way) -> Result<Turn, Fault> {
+    fn advance(&mut self, replay: &mut Replay<'_, '_>, way: &mut Way) -> Result<Turn, ReplayFault> {
         match self.stage {
             Stage::Fill(0) => {
                 self.first = replay.begun();
@@ -267,7 +267,7 @@ impl<'c> Cut<'c> {
 }
 
 impl Plot for Cut<'_> {
-    fn advance(&mut self, replay: &mut Replay<'_, '_>, way: &mut Way) -> Result<Turn, Fault> {
+    fn advance(&mut self, replay: &mut Replay<'_, '_>, way: &mut Way) -> Result<Turn, ReplayFault> {
         let begun = replay.begun();
         if let Some(hash) = self.hashes.get(begun) {
             *way = Way::to_ends(begun, STEPS);

@@ -11,7 +11,7 @@ mod retrace;
 pub mod trace;
 mod whole;
 
-use crate::fault::{Fault, granted};
+use crate::fault::{ReplayFault, granted};
 use crate::item::Said;
 use crate::replay::{Ground, any_request, new_table, run_schedule};
 use crate::schedules::Ask;
@@ -55,7 +55,7 @@ pub fn run_whole<R: Wait>(
     manner: Manner,
     seed: u64,
     plan: Plan<'_>,
-) -> Result<Vec<(u64, Said)>, Fault>
+) -> Result<Vec<(u64, Said)>, ReplayFault>
     requires { IsFirstCapacity first }
 {
     let memory = Refusing::new(alloc, any_request());
@@ -67,7 +67,7 @@ pub fn run_whole<R: Wait>(
 }
 
 /// Repeats a trace on a table whose memory has this rule, and on the machine. `Err`: the first fault.
-fn follow(alloc: Global, first: u64, rule: Rule, marks: &[Mark]) -> Result<(), Fault>
+fn follow(alloc: Global, first: u64, rule: Rule, marks: &[Mark]) -> Result<(), ReplayFault>
     requires { IsFirstCapacity first }
 {
     let script = Script::new(Manner::Told, 0);
@@ -75,7 +75,7 @@ fn follow(alloc: Global, first: u64, rule: Rule, marks: &[Mark]) -> Result<(), F
 }
 
 /// Returns the replies of the calls, in the order in which they ended. `Err`: no memory.
-fn told_in(alloc: Global, marks: &[Mark]) -> Result<Vec<(u64, Said)>, Fault> {
+fn told_in(alloc: Global, marks: &[Mark]) -> Result<Vec<(u64, Said)>, ReplayFault> {
     let mut told = Vec::new(alloc);
     for mark in marks {
         if let Mark::Told(call, said) = mark {

@@ -1,8 +1,8 @@
 //! The account of a round: the outcomes of its inserts, the entries of the table, and the values that the table returns at the end.
 use crate::fates::{Fate, Fates};
 use crate::value::Value;
-use crate::work::{Told, Values, look};
-use crate::{Fault, Round};
+use crate::work::{ThreadAnswers, Values, look};
+use crate::{Round, RoundFault};
 use std::alloc::Global;
 
 /// How many values of a round without a fault had which fate. Each value that a thread inserted has one fate.
@@ -23,12 +23,12 @@ pub(crate) fn account_for(
     alloc: Global,
     round: Round,
     table: Values<'_>,
-    told: Vec<Result<Told, Fault>>,
-) -> Result<Account, Fault> {
+    told: Vec<Result<ThreadAnswers, RoundFault>>,
+) -> Result<Account, RoundFault> {
     let mut fates = Fates::new(alloc, round.values())?;
     let account = settle_told(&mut fates, told)?;
     if table.len() as u64 != account.placed {
-        return Err(Fault::Length);
+        return Err(RoundFault::Length);
     }
     check_found(&table, round, &fates)?;
     let walked = walk(alloc, round, &table)?;
@@ -37,7 +37,7 @@ pub(crate) fn account_for(
         let given = value.given;
         fates.settle(given.id, Fate::Entry)?;
         if round.is_lawful() && classes.settle(given.class, Fate::Entry).is_err() {
-            return Err(Fault::Equal(given.id));
+            return Err(RoundFault::Equal(given.id));
         }
     }
     fates.check_settled()?;
@@ -46,7 +46,10 @@ pub(crate) fn account_for(
 }
 
 /// Notes which values were returned, and counts the outcomes of all threads. `Err`: a thread had a fault, or a value has two fates.
-fn settle_told(fates: &mut Fates, told: Vec<Result<Told, Fault>>) -> Result<Account, Fault> {
+fn settle_told(
+    fates: &mut Fates,
+    told: Vec<Result<ThreadAnswers, RoundFault>>,
+) -> Result<Account, RoundFault> {
     let mut account = Account {
         placed: 0,
         found: 0,
@@ -66,7 +69,7 @@ fn settle_told(fates: &mut Fates, told: Vec<Result<Told, Fault>>) -> Result<Acco
 
 /// Checks that a look-up finds an equal entry of each value that wasn't refused, if the closures are lawful. `Err` names the first value
 /// without one.
-fn check_found(table: &Values<'_>, round: Round, fates: &Fates) -> Result<(), Fault> {
+fn check_found(table: &Values<'_>, round: Round, fates: &Fates) -> Result<(), RoundFault> {
     if !round.is_lawful() {
         return Ok(());
     }
@@ -75,14 +78,14 @@ fn check_found(table: &Values<'_>, round: Round, fates: &Fates) -> Result<(), Fa
         let shown = look(table, round, class);
         let is_equal = shown.is_some_and(|entry: &Value| entry.given.class == class);
         if !is_equal && fates.of(id) != Some(Fate::Refused) {
-            return Err(Fault::NotFound(id));
+            return Err(RoundFault::NotFound(id));
         }
     }
     Ok(())
 }
 
 /// Returns the values that a walk yields. `Err`: a value came twice or was never inserted, or memory was refused.
-fn walk(alloc: Global, round: Round, table: &Values<'_>) -> Result<Fates, Fault> {
+fn walk(alloc: Global, round: Round, table: &Values<'_>) -> Result<Fates, RoundFault> {
     let mut walked = Fates::new(alloc, round.values())?;
     for entry in table {
         walked.settle(entry.given.id, Fate::Entry)?;

@@ -2,7 +2,7 @@
 ghost use Rattle.std.specs.Prelude.{◌≡◌, ◌≢◌, ◌↔◌, All, IfOk, IsOk, OnErr, OnOk, Some, replicate, slice_get, slice_set};
 ghost use Rattle.testkit_rounds.specs.declared.fates.Fate.TheVariants.{Open};
 
-use crate::Fault;
+use crate::RoundFault;
 use std::alloc::{AllocError, Global};
 use std::marker::Model;
 
@@ -52,7 +52,7 @@ impl Fates {
     }
 
     /// Sets the fate of a value whose fate is open. `Err`: the value has a fate, or no value has this number. Then nothing changes.
-    pub fn settle(&mut self, number: u64, fate: Fate) -> Result<(), Fault>
+    pub fn settle(&mut self, number: u64, fate: Fate) -> Result<(), RoundFault>
         ensures ok { OnOk result ((slice_get self.old number ≡ Some Open)
             × (self.new ≡ slice_set self.old number fate)) }
         ensures err { OnErr result ((slice_get self.old number ≢ Some Open)
@@ -63,13 +63,13 @@ impl Fates {
                 self.each[number as usize] = fate;
                 Ok(())
             }
-            Some(_) => Err(Fault::Doubled(number)),
-            None => Err(Fault::Unknown(number)),
+            Some(_) => Err(RoundFault::Doubled(number)),
+            None => Err(RoundFault::Unknown(number)),
         }
     }
 
     /// Sets this fate for each of these values. `Err` is the first fault, and the values before it keep their new fate.
-    pub fn settle_all(&mut self, numbers: &[u64], fate: Fate) -> Result<(), Fault> {
+    pub fn settle_all(&mut self, numbers: &[u64], fate: Fate) -> Result<(), RoundFault> {
         for number in numbers {
             self.settle(*number, fate)?;
         }
@@ -77,21 +77,21 @@ impl Fates {
     }
 
     /// Checks that no fate is open. `Err` names the first value whose fate is.
-    pub fn check_settled(&self) -> Result<(), Fault>
+    pub fn check_settled(&self) -> Result<(), RoundFault>
         ensures { IsOk result ↔ All (λ fate. fate ≢ Open) self.now }
     {
         match self.each.iter().position(|fate: &Fate| *fate == Fate::Open) {
-            Some(number) => Err(Fault::Lost(number as u64)),
+            Some(number) => Err(RoundFault::Lost(number as u64)),
             None => Ok(()),
         }
     }
 
     /// Checks that the same values are entries in both. `Err` names the first value that is an entry in only one of them.
-    pub fn check_same_entries(&self, other: &Fates) -> Result<(), Fault> {
+    pub fn check_same_entries(&self, other: &Fates) -> Result<(), RoundFault> {
         for (number, fate) in (0u64..).zip(self.each.as_slice()) {
             let there = other.of(number) == Some(Fate::Entry);
             if there != (*fate == Fate::Entry) {
-                return Err(Fault::Walk(number));
+                return Err(RoundFault::Walk(number));
             }
         }
         Ok(())

@@ -5,7 +5,7 @@ use std::fmt::{Display, Formatter};
 
 /// A fault, with the id of the value.
 #[derive(Clone, Copy, Debug, PartialEq, Eq)]
-pub enum Fault {
+pub enum RoundFault {
     /// Memory for the round itself was refused: nothing is known of the table.
     NoMemory,
     /// The insert of the value had an outcome that it can't have.
@@ -32,27 +32,27 @@ pub enum Fault {
     Blocks,
 }
 
-impl From<AllocError> for Fault {
-    fn from(_refused: AllocError) -> Fault {
-        Fault::NoMemory
+impl From<AllocError> for RoundFault {
+    fn from(_refused: AllocError) -> RoundFault {
+        RoundFault::NoMemory
     }
 }
 
-impl Display for Fault {
+impl Display for RoundFault {
     fn fmt<W: fmt::Write>(&self, f: &mut Formatter<W>) -> fmt::Result {
         match *self {
-            Fault::NoMemory => write!(f, "no memory"),
-            Fault::Answer(id) => write!(f, "a wrong answer for value {id}"),
-            Fault::Lost(id) => write!(f, "value {id} is lost"),
-            Fault::Doubled(id) => write!(f, "value {id} is there twice"),
-            Fault::Equal(id) => write!(f, "value {id} has an equal entry beside it"),
-            Fault::Unknown(id) => write!(f, "value {id} was never given"),
-            Fault::NotFound(id) => write!(f, "no equal of value {id} is found"),
-            Fault::Moved(id) => write!(f, "the target kept of value {id} is another"),
-            Fault::Walk(id) => write!(f, "the walk is wrong about value {id}"),
-            Fault::Length => write!(f, "the length is wrong"),
-            Fault::Refusals => write!(f, "an insert was refused without a cause"),
-            Fault::Blocks => write!(f, "a block did not come back"),
+            RoundFault::NoMemory => write!(f, "no memory"),
+            RoundFault::Answer(id) => write!(f, "a wrong answer for value {id}"),
+            RoundFault::Lost(id) => write!(f, "value {id} is lost"),
+            RoundFault::Doubled(id) => write!(f, "value {id} is there twice"),
+            RoundFault::Equal(id) => write!(f, "value {id} has an equal entry beside it"),
+            RoundFault::Unknown(id) => write!(f, "value {id} was never given"),
+            RoundFault::NotFound(id) => write!(f, "no equal of value {id} is found"),
+            RoundFault::Moved(id) => write!(f, "the target kept of value {id} is another"),
+            RoundFault::Walk(id) => write!(f, "the walk is wrong about value {id}"),
+            RoundFault::Length => write!(f, "the length is wrong"),
+            RoundFault::Refusals => write!(f, "an insert was refused without a cause"),
+            RoundFault::Blocks => write!(f, "a block did not come back"),
         }
     }
 }

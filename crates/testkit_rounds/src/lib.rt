@@ -14,7 +14,7 @@ mod work;
 pub use account::Account;
 use account::account_for;
 use closures::Whims;
-pub use fault::Fault;
+pub use fault::RoundFault;
 use lock_free_hashtable::raw::{LockFreeRawTable, is_first_capacity};
 pub use round::{FIRST_CAPACITIES, KINDS, Kind, Round, THREADS};
 use start::Start;
@@ -23,14 +23,14 @@ use std::sync::Wait;
 use std::thread;
 use std::thread::Threads;
 use testkit::refusing::Refusing;
-use work::{Job, Told, Values, work};
+use work::{Job, ThreadAnswers, Values, work};
 
 /// Runs a round, and accounts for each value. `Err` is the first fault.
 pub fn run_round<R: Threads + Wait + Sync>(
     rt: &R,
     alloc: Global,
     round: Round,
-) -> Result<Account, Fault> {
+) -> Result<Account, RoundFault> {
     let heap = Refusing::new(alloc, round.rule());
     let whims = Whims::new(round.seed);
     let start = Start::new(round.threads);
@@ -48,10 +48,10 @@ pub fn run_round<R: Threads + Wait + Sync>(
     let given_back = heap.given_back();
     let account = account_for(alloc, round, table, told)?;
     if account.refused > round.refusals().wrapping_sub(heap.refusals_left()) {
-        return Err(Fault::Refusals);
+        return Err(RoundFault::Refusals);
     }
     if heap.granted() != heap.given_back() {
-        return Err(Fault::Blocks);
+        return Err(RoundFault::Blocks);
     }
     Ok(Account {
         given_back,
@@ -72,12 +72,12 @@ fn table_of<'m>(heap: &'m Refusing<Global>, first_capacity: usize) -> Values<'m>
 fn told_in_threads<R: Threads + Wait + Sync>(
     rt: &R,
     job: &Job<'_, '_>,
-) -> Result<Vec<Result<Told, Fault>>, Fault> {
+) -> Result<Vec<Result<ThreadAnswers, RoundFault>>, RoundFault> {
     let told = thread::map_indices(
         rt,
         job.alloc,
         job.round.threads as usize,
         &|thread: usize| work(rt, job, thread as u64),
     );
-    told.map_err(Fault::from)
+    told.map_err(RoundFault::from)
 }

@@ -2,7 +2,7 @@
 use crate::closures::Whims;
 use crate::start::Start;
 use crate::value::{Given, Value};
-use crate::{Fault, Kind, Round};
+use crate::{Kind, Round, RoundFault};
 use std::alloc::{AllocError, Global};
 use std::sync::Wait;
 use table_shared::LockFreeRawTable;
@@ -26,7 +26,7 @@ pub(crate) struct Job<'a, 'm> {
 
 /// The outcomes of one thread's inserts.
 #[derive(Drop)]
-pub(crate) struct Told {
+pub(crate) struct ThreadAnswers {
     /// How many of its values were placed.
     pub placed: u64,
     /// The ids of the values that were returned with an entry.
@@ -44,8 +44,12 @@ struct Kept<'a> {
 
 /// Waits for the other threads, and inserts the thread's values one after the other. Keeps the first target that an insert returns, and
 /// checks it at the end. `Err` is the first fault.
-pub(crate) fn work<R: Wait>(rt: &R, job: &Job<'_, '_>, thread: u64) -> Result<Told, Fault> {
-    let mut told = Told {
+pub(crate) fn work<R: Wait>(
+    rt: &R,
+    job: &Job<'_, '_>,
+    thread: u64,
+) -> Result<ThreadAnswers, RoundFault> {
+    let mut told = ThreadAnswers {
         placed: 0,
         found: Vec::new(job.alloc),
         refused: Vec::new(job.alloc),
@@ -101,7 +105,12 @@ fn shown_by<'a>(answer: &Answer<'a>) -> Option<Kept<'a>> {
 
 /// Notes the outcome of an insert. `Err`: the outcome is wrong. A value may be returned without an entry only if memory is refused. An
 /// entry that it is returned with must be another value, and an equal one if the closures are lawful.
-fn note(told: &mut Told, round: Round, given: Given, answer: Answer<'_>) -> Result<(), Fault> {
+fn note(
+    told: &mut ThreadAnswers,
+    round: Round,
+    given: Given,
+    answer: Answer<'_>,
+) -> Result<(), RoundFault> {
     match answer {
         Ok((target, None)) if target.given == given => told.placed = told.placed.saturating_add(1),
         Ok((target, Some(back)))
@@ -111,7 +120,7 @@ fn note(told: &mut Told, round: Round, given: Given, answer: Answer<'_>) -> Resu
         Err(back) if back.given == given && round.kind == Kind::Refused => {
             keep(&mut told.refused, given.id)?;
         }
-        _ => return Err(Fault::Answer(given.id)),
+        _ => return Err(RoundFault::Answer(given.id)),
     }
     Ok(())
 }
@@ -141,28 +150,28 @@ fn id_of(job: &Job<'_, '_>, class: u64) -> Option<u64> {
 
 /// Looks up two classes in a round of kind `Beside`. `Err`: the class of the value that was just inserted has no entry, or another class
 /// had an entry and now has another one or none.
-fn look_beside(job: &Job<'_, '_>, given: Given) -> Result<(), Fault> {
+fn look_beside(job: &Job<'_, '_>, given: Given) -> Result<(), RoundFault> {
     if job.round.kind != Kind::Beside {
         return Ok(());
     }
     let other = job.round.given(job.round.other_than(given.id));
     let before = id_of(job, other.class);
     if id_of(job, given.class).is_none() {
-        return Err(Fault::NotFound(given.id));
+        return Err(RoundFault::NotFound(given.id));
     }
     if before.is_some() && before != id_of(job, other.class) {
-        return Err(Fault::NotFound(other.id));
+        return Err(RoundFault::NotFound(other.id));
     }
     Ok(())
 }
 
 /// Checks that the kept target is unchanged and, with lawful closures, that a look-up finds it, not a copy. `Err`: it has changed or moved.
-fn check_kept(job: &Job<'_, '_>, thread: u64, kept: Kept<'_>) -> Result<(), Fault> {
+fn check_kept(job: &Job<'_, '_>, thread: u64, kept: Kept<'_>) -> Result<(), RoundFault> {
     kept.target.mark(thread);
     let shown = look(job.table, job.round, kept.read.class);
     let stays = shown.is_some_and(|shown: &Value| shown.has_mark(thread));
     if kept.target.given == kept.read && (stays || !job.round.is_lawful()) {
         return Ok(());
     }
-    Err(Fault::Moved(kept.read.id))
+    Err(RoundFault::Moved(kept.read.id))
 }

@@ -1,6 +1,6 @@
 //! The raw table as an [`AloneTable`].
 
-use crate::alone::{AloneTable, KeepsApart, Told};
+use crate::alone::{AloneTable, InsertAnswer, KeepsApart};
 use crate::place::Place;
 use crate::raw::HeldRawTable;
 use std::alloc::Allocator;
@@ -17,7 +17,13 @@ impl<T: AtomicValue, A: Allocator + Copy, L: Law<T::Target>> AloneTable<T, L>
 
     ghost no_entries_is_lawful = { held_without_entries T.target };
 
-    fn place_alone<E, H>(&mut self, hash: u64, value: T, eq: &E, hash_fn: &H) -> Told<Place, T>
+    fn place_alone<E, H>(
+        &mut self,
+        hash: u64,
+        value: T,
+        eq: &E,
+        hash_fn: &H,
+    ) -> InsertAnswer<Place, T>
     where
         E: Fn(&T::Target, &T::Target) -> bool,
         H: Fn(&T::Target) -> u64,

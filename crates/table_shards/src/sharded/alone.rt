@@ -3,7 +3,7 @@
 use crate::sharded::{HeldShardedTable, ShardPlace};
 use std::alloc::Allocator;
 use table_generations::atomic_value::{AtomicValue, Law};
-use table_held::alone::{AloneTable, KeepsApart, Told};
+use table_held::alone::{AloneTable, InsertAnswer, KeepsApart};
 
 impl<T: AtomicValue, const SHARDS: usize, A: Allocator + Copy, L: Law<T::Target>> AloneTable<T, L>
     for HeldShardedTable<T, SHARDS, A> {
@@ -16,7 +16,13 @@ impl<T: AtomicValue, const SHARDS: usize, A: Allocator + Copy, L: Law<T::Target>
 
     ghost no_entries_is_lawful = { shards_without_entries T.target };
 
-    fn place_alone<E, H>(&mut self, hash: u64, value: T, eq: &E, hash_fn: &H) -> Told<ShardPlace, T>
+    fn place_alone<E, H>(
+        &mut self,
+        hash: u64,
+        value: T,
+        eq: &E,
+        hash_fn: &H,
+    ) -> InsertAnswer<ShardPlace, T>
     where
         E: Fn(&T::Target, &T::Target) -> bool,
         H: Fn(&T::Target) -> u64,

@@ -289,7 +289,7 @@ where
         let hash = self.state.hash;
         match self.state.phase {
             Phase::Done => None,
-            Phase::WantShared => Some(self.take(Held::Shared(table.try_share(hash)?))),
+            Phase::WantShared => Some(self.take(Held::Shared(table.try_lock_shared(hash)?))),
             Phase::WantOwned => Some(self.take(Held::Alone(table.try_own()?))),
             _ => Some(self.turn()),
         }
@@ -305,7 +305,7 @@ where
         let table: &'a LockFreeRawTable<T, A> = self.table;
         let hash = self.state.hash;
         match self.state.phase {
-            Phase::WantShared => self.take(Held::Shared(table.share(rt, hash))),
+            Phase::WantShared => self.take(Held::Shared(table.lock_shared(rt, hash))),
             Phase::WantOwned => self.take(Held::Alone(table.own(rt))),
             _ => self.turn(),
         }

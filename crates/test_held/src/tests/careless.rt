@@ -1,16 +1,16 @@
 //! Tests with unlawful closures: no value is lost, and none is stored twice.
 use super::assert_same;
-use super::pairs::{Closures, End, Equality, Hashing, Pair, Pairs, Told, told_of};
+use super::pairs::{Closures, End, Equality, Hashing, Pair, PairAnswer, Pairs, told_of};
 use std::alloc::{AllocError, Global};
 use std::ops::Range;
 use std::process::Abort;
 use std::test::Fail;
 
 /// Pairs that are inserted in this order, the answer to each insert, and how often it calls `eq`.
-const INSERT_ASKS: [(Pair, Told, u64); 3] = [
-    ((0, 1), Told::Placed((0, 1)), 0),
-    ((1 << 32, 2), Told::Placed((1 << 32, 2)), 0),
-    ((0, 1), Told::Found((0, 1), (0, 1)), 1),
+const INSERT_ASKS: [(Pair, PairAnswer, u64); 3] = [
+    ((0, 1), PairAnswer::Placed((0, 1)), 0),
+    ((1 << 32, 2), PairAnswer::Placed((1 << 32, 2)), 0),
+    ((0, 1), PairAnswer::Found((0, 1), (0, 1)), 1),
 ];
 
 /// Pairs that are looked up after those inserts, whether each is found, and how often the look-up calls its test.
@@ -21,10 +21,10 @@ const LOOKUP_ASKS: [(Pair, bool, u64); 3] = [
 ];
 
 /// Pairs, and the answer to the insert of each if `eq` accepts every entry as equal.
-const ALWAYS: [(Pair, Told); 3] = [
-    ((0, 1), Told::Placed((0, 1))),
-    ((0, 2), Told::Found((0, 1), (0, 2))),
-    ((0, 3), Told::Found((0, 1), (0, 3))),
+const ALWAYS: [(Pair, PairAnswer); 3] = [
+    ((0, 1), PairAnswer::Placed((0, 1))),
+    ((0, 2), PairAnswer::Found((0, 1), (0, 2))),
+    ((0, 3), PairAnswer::Found((0, 1), (0, 3))),
 ];
 
 /// Makes closures of which only `hash_fn` is unlawful.
@@ -87,7 +87,7 @@ fn an_equality_that_is_never_met(rt: HostRuntime) -> Result<(), Fail> {
     let never = Closures::new(Equality::Never, Hashing::Lawful);
     let mut pairs = Pairs::new(rt.alloc());
     for _again in 0..2 {
-        pairs.assert_told_by(&rt, &never, 1, (1, 1), Told::Placed((1, 1)))?;
+        pairs.assert_told_by(&rt, &never, 1, (1, 1), PairAnswer::Placed((1, 1)))?;
     }
     pairs.assert_size(&rt, 2, 16);
     Ok(())

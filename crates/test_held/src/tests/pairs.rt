@@ -12,7 +12,7 @@ pub type Pair = (u64, u64);
 
 /// The answer to an insert: the entry that it refers to, if any, and the pair that it returns, if any.
 #[derive(Clone, Copy, PartialEq)]
-pub enum Told {
+pub enum PairAnswer {
     Placed(Pair),
     Found(Pair, Pair),
     Refused(Pair),
@@ -101,12 +101,12 @@ impl Closures {
 }
 
 /// Returns the answer to an insert of the pair `(number, number)` that ends as `end`.
-pub fn told_of(number: u64, end: End) -> Told {
+pub fn told_of(number: u64, end: End) -> PairAnswer {
     let pair = (number, number);
     match end {
-        End::Placed => Told::Placed(pair),
-        End::Found => Told::Found(pair, pair),
-        End::Refused => Told::Refused(pair),
+        End::Placed => PairAnswer::Placed(pair),
+        End::Found => PairAnswer::Found(pair, pair),
+        End::Refused => PairAnswer::Refused(pair),
     }
 }
 
@@ -139,7 +139,7 @@ impl<A: Allocator + Copy> Pairs<A> {
         closures: &Closures,
         given: u64,
         pair: Pair,
-    ) -> Result<Told, AllocError> {
+    ) -> Result<PairAnswer, AllocError> {
         let value = Box::new(self.alloc, pair)?;
         Ok(
             match self.table.insert_alone::<PairLaw, _, _>(
@@ -148,15 +148,15 @@ impl<A: Allocator + Copy> Pairs<A> {
                 |a: &Pair, b: &Pair| closures.eq(a, b),
                 |a: &Pair| closures.hash(a),
             ) {
-                Ok((shown, None)) => Told::Placed(*shown),
-                Ok((shown, Some(back))) => Told::Found(*shown, *back),
-                Err(back) => Told::Refused(*back),
+                Ok((shown, None)) => PairAnswer::Placed(*shown),
+                Ok((shown, Some(back))) => PairAnswer::Found(*shown, *back),
+                Err(back) => PairAnswer::Refused(*back),
             },
         )
     }
 
     /// Inserts the pair under its own hash with lawful closures, and returns the answer. `Err`: no memory for the box of the pair.
-    pub fn insert(&mut self, pair: Pair) -> Result<Told, AllocError> {
+    pub fn insert(&mut self, pair: Pair) -> Result<PairAnswer, AllocError> {
         self.insert_by(&Closures::lawful(), pair.0, pair)
     }
 
@@ -174,7 +174,7 @@ impl<A: Allocator + Copy> Pairs<A> {
         closures: &Closures,
         given: u64,
         pair: Pair,
-        expected: Told,
+        expected: PairAnswer,
     ) -> Result<(), AllocError> {
         let told = self.insert_by(closures, given, pair)?;
         assert!(rt; told == expected, "{} at {given}", pair.1);
@@ -186,7 +186,7 @@ impl<A: Allocator + Copy> Pairs<A> {
         &mut self,
         rt: &impl Abort,
         pair: Pair,
-        expected: Told,
+        expected: PairAnswer,
     ) -> Result<(), AllocError> {
         self.assert_told_by(rt, &Closures::lawful(), pair.0, pair, expected)
     }

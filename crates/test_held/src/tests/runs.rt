@@ -1,6 +1,6 @@
 //! Generated runs of calls, in which each answer is compared with that of a plain list.
 use super::assert_same;
-use super::pairs::{Pair, Pairs, Told};
+use super::pairs::{Pair, PairAnswer, Pairs};
 use rand_core::{Rng, SeedableRng};
 use rand_xoshiro::SplitMix64;
 use std::alloc::{AllocError, Allocator, Global};
@@ -46,16 +46,16 @@ fn hash(pair: &Pair) -> u64 {
 fn place<T: AtomicValue<Target = Pair>, B: AloneTable<T, PairLaw>>(
     table: &mut B,
     value: T,
-) -> Told {
+) -> PairAnswer {
     let pair = *value.deref();
     let (place, back) = match table.place_alone(pair.0, value, &same, &hash) {
         Ok(placed) => placed,
-        Err(back) => return Told::Refused(*back.deref()),
+        Err(back) => return PairAnswer::Refused(*back.deref()),
     };
     let shown = *table.target_at(place);
     match back {
-        None => Told::Placed(shown),
-        Some(back) => Told::Found(shown, *back.deref()),
+        None => PairAnswer::Placed(shown),
+        Some(back) => PairAnswer::Found(shown, *back.deref()),
     }
 }
 
@@ -70,9 +70,9 @@ fn listed(list: &PairList, pair: Pair) -> Option<Pair> {
 
 /// Inserts the pair into the list too, unless the table refused it, and returns whether the table's answer `told` is right. The table may
 /// refuse the pair if a request was refused and the list has no equal pair.
-fn agrees(list: &mut PairList, pair: Pair, told: Told, refused: bool) -> bool {
+fn agrees(list: &mut PairList, pair: Pair, told: PairAnswer, refused: bool) -> bool {
     match told {
-        Told::Refused(back) => refused && back == pair && listed(list, pair).is_none(),
+        PairAnswer::Refused(back) => refused && back == pair && listed(list, pair).is_none(),
         _ => told == place(list, InPlace(pair)),
     }
 }

@@ -12,7 +12,7 @@ use std::alloc::{AllocError, Allocator, Global};
 use std::fmt::Debug;
 use std::process::Abort;
 use table_sets::{AtomicValue, HeldSet, Inserted, NumberLaw, SetLaw, Shown, TextLaw};
-use testkit::counting::numbers::Told;
+use testkit::counting::numbers::InsertEnd;
 
 /// A set of boxed texts.
 type Texts<A> = HeldSet<Box<String<A>, A>, TextLaw, A>;
@@ -24,11 +24,11 @@ type Numbers<A> = HeldSet<Box<u64>, NumberLaw, A>;
 fn told_of<T: AtomicValue, L: SetLaw<T::Target>, A: Allocator + Copy>(
     set: &mut HeldSet<T, L, A>,
     value: T,
-) -> Told {
+) -> InsertEnd {
     match set.insert(value) {
-        Inserted::Placed => Told::Placed,
-        Inserted::Found(_) => Told::Found,
-        Inserted::Refused(_) => Told::Refused,
+        Inserted::Placed => InsertEnd::Placed,
+        Inserted::Found(_) => InsertEnd::Found,
+        Inserted::Refused(_) => InsertEnd::Refused,
     }
 }
 
@@ -37,7 +37,7 @@ fn assert_told<T: AtomicValue, L: SetLaw<T::Target>, A: Allocator + Copy>(
     rt: &impl Abort,
     set: &mut HeldSet<T, L, A>,
     value: T,
-    expected: Told,
+    expected: InsertEnd,
 ) {
     assert!(rt; told_of(set, value) == expected);
 }
@@ -49,8 +49,8 @@ fn assert_placed_once<T: AtomicValue, L: SetLaw<T::Target>, A: Allocator + Copy>
     first: T,
     again: T,
 ) {
-    assert_told(rt, set, first, Told::Placed);
-    assert_told(rt, set, again, Told::Found);
+    assert_told(rt, set, first, InsertEnd::Placed);
+    assert_told(rt, set, again, InsertEnd::Found);
 }
 
 /// Inserts the number in a box, and returns the answer. `Err`: no memory for the box.
@@ -58,17 +58,18 @@ fn insert_box<A: Allocator + Copy>(
     set: &mut Numbers<A>,
     alloc: Global,
     number: u64,
-) -> Result<Told, AllocError> {
+) -> Result<InsertEnd, AllocError> {
     Ok(told_of(set, Box::new(alloc, number)?))
 }
 
 /// Returns the answer of `insert_and_show` for this number: `Wrong` if it has an entry or a value with another number.
-fn told_by<T: AtomicValue<Target = u64>>(shown: Shown<&u64, T>, number: u64) -> Told {
+fn told_by<T: AtomicValue<Target = u64>>(shown: Shown<&u64, T>, number: u64) -> InsertEnd {
     match shown {
-        Shown::Placed(entry) if *entry == number => Told::Placed,
-        Shown::Found(entry, back) if *entry == number && *back.deref() == number => Told::Found,
-        Shown::Refused(back) if *back.deref() == number => Told::Refused,
-        _ => Told::Wrong,
+        Shown::Placed(entry) if *entry == number => InsertEnd::Placed,
+        Shown::Found(entry, back) if *entry == number && *back.deref() == number =>
+            InsertEnd::Found,
+        Shown::Refused(back) if *back.deref() == number => InsertEnd::Refused,
+        _ => InsertEnd::Wrong,
     }
 }
 

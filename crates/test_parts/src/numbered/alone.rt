@@ -1,5 +1,5 @@
 //! One thread and one generation, which is empty, has entries, or is full.
-use super::caller::{By, Numbers, Row, Told, made};
+use super::caller::{By, CallEnd, Numbers, Row, made};
 use std::alloc::{AllocError, Global};
 use std::process::Abort;
 use std::test::Fail;
@@ -25,21 +25,21 @@ fn assert_calls(
 /// Calls of a generation of eight buckets. An insert that finds its value returns the slot, which the next value takes. Numbers 4 to 7 have
 /// one mark.
 const EIGHT: [Row; 15] = [
-    (By::Judge, 0, Told::Vacant),
-    (By::Judge, u64::MAX, Told::Vacant),
-    (By::Show, 5, Told::Missed),
-    (By::Put, 5, Told::Placed(0)),
-    (By::PutOrNext, 5, Told::Placed(1)),
-    (By::Show, 5, Told::Shown(5)),
-    (By::Show, 6, Told::Shown(6)),
-    (By::Show, 7, Told::Missed),
-    (By::Put, 4, Told::Placed(2)),
-    (By::Put, 1, Told::Placed(3)),
-    (By::Put, 6, Told::Found(1)),
-    (By::Judge, 4, Told::Found(2)),
-    (By::Judge, 6, Told::Found(1)),
-    (By::Judge, 1, Told::Found(3)),
-    (By::Judge, 7, Told::Vacant),
+    (By::Judge, 0, CallEnd::Vacant),
+    (By::Judge, u64::MAX, CallEnd::Vacant),
+    (By::Show, 5, CallEnd::Missed),
+    (By::Put, 5, CallEnd::Placed(0)),
+    (By::PutOrNext, 5, CallEnd::Placed(1)),
+    (By::Show, 5, CallEnd::Shown(5)),
+    (By::Show, 6, CallEnd::Shown(6)),
+    (By::Show, 7, CallEnd::Missed),
+    (By::Put, 4, CallEnd::Placed(2)),
+    (By::Put, 1, CallEnd::Placed(3)),
+    (By::Put, 6, CallEnd::Found(1)),
+    (By::Judge, 4, CallEnd::Found(2)),
+    (By::Judge, 6, CallEnd::Found(1)),
+    (By::Judge, 1, CallEnd::Found(3)),
+    (By::Judge, 7, CallEnd::Vacant),
 ];
 
 #[test]
@@ -50,12 +50,12 @@ fn a_value_is_placed_once_and_found(rt: HostRuntime) -> Result<(), Fail> {
 
 /// Calls of a generation of two buckets. An insert returns a value that finds no empty bucket, or that is found.
 const TWO: [Row; 6] = [
-    (By::Put, 1, Told::Placed(0)),
-    (By::Put, 2, Told::Placed(1)),
-    (By::Put, 9, Told::Full),
-    (By::Put, 1, Told::Found(0)),
-    (By::Judge, 9, Told::Spent),
-    (By::Show, 9, Told::Missed),
+    (By::Put, 1, CallEnd::Placed(0)),
+    (By::Put, 2, CallEnd::Placed(1)),
+    (By::Put, 9, CallEnd::Full),
+    (By::Put, 1, CallEnd::Found(0)),
+    (By::Judge, 9, CallEnd::Spent),
+    (By::Show, 9, CallEnd::Missed),
 ];
 
 #[test]

@@ -8,7 +8,7 @@ use std::alloc::AllocError;
 use std::fmt::Debug;
 use std::process::Abort;
 use table_cell::Low;
-use table_numbered::{Generation, Judged, Placing, SameAs};
+use table_numbered::{Judged, NumberedGeneration, Placing, SameAs};
 use table_slab::{Right, Run, Slab};
 
 /// The call that a row makes with its number.
@@ -28,7 +28,7 @@ pub(crate) enum By {
 
 /// How a call ended. A number that was placed or found comes with the number of its slot.
 #[derive(PartialEq, Eq, Debug, Clone, Copy, Drop)]
-pub(crate) enum Told {
+pub(crate) enum CallEnd {
     Placed(u64),
     Found(u64),
     Full,
@@ -41,7 +41,7 @@ pub(crate) enum Told {
 }
 
 /// A call, its number, and how it should end.
-pub(crate) type Row = (By, u64, Told);
+pub(crate) type Row = (By, u64, CallEnd);
 
 /// Asserts that `got` equals `expected`.
 pub(crate) fn assert_same<X: PartialEq + Debug + Drop>(rt: &impl Abort, got: X, expected: X) {
@@ -53,11 +53,11 @@ pub(crate) fn made<A: Low + Copy>(
     alloc: A,
     slab: &Slab<u64, A>,
     buckets: usize,
-) -> Result<Generation<u64, Fours, A>, AllocError>
+) -> Result<NumberedGeneration<u64, Fours, A>, AllocError>
     ensures slab { IfOk result (λ g. g.of.slab ≡ slab.now) }
 {
     if buckets.is_power_of_two() && buckets <= 8 {
-        Generation::new(alloc, slab, buckets)
+        NumberedGeneration::new(alloc, slab, buckets)
     } else {
         Err(AllocError)
     }
@@ -66,7 +66,7 @@ pub(crate) fn made<A: Low + Copy>(
 /// A generation of numbers, and the slab that they lie in.
 #[derive(Drop)]
 pub(crate) struct Numbers<'a, A: Low + Copy> {
-    pub(crate) set: &'a Generation<u64, Fours, A>,
+    pub(crate) set: &'a NumberedGeneration<u64, Fours, A>,
     pub(crate) slab: &'a Slab<u64, A>,
     ghost of: { slab.now ≡ set.now.of.slab },
 }
@@ -83,7 +83,12 @@ impl<'a, A: Low + Copy> Numbers<'a, A> {
     }
 
     /// Places the number in the slot. Returns the right too, unless the number was placed.
-    fn put_at(&self, slot: u64, right: Right<u64, A>, number: u64) -> (Told, Option<Right<u64, A>>)
+    fn put_at(
+        &self,
+        slot: u64,
+        right: Right<u64, A>,
+        number: u64,
+    ) -> (CallEnd, Option<Right<u64, A>>)
         requires number { IsNumber slot }
         requires right { IsRightTo self.now.slab.now slot right }
         requires empty { right.room.value ≡ None }
@@ -92,24 +97,24 @@ impl<'a, A: Low + Copy> Numbers<'a, A> {
     {
         let mut seen = self.set.start();
         match self.set.place(self.slab, &mut seen, slot, right, number) {
-            Placing::Placed(_entry, _receipt) => (Told::Placed(slot), None),
-            Placing::Found(met, _entry, _back, right) => (Told::Found(met), Some(right)),
-            Placing::Full(_back, right) => (Told::Full, Some(right)),
+            Placing::Placed(_entry, _receipt) => (CallEnd::Placed(slot), None),
+            Placing::Found(met, _entry, _back, right) => (CallEnd::Found(met), Some(right)),
+            Placing::Full(_back, right) => (CallEnd::Full, Some(right)),
         }
     }
 
     /// Places the number in a slot of its own.
-    pub(crate) fn put(&self, number: u64) -> Told {
+    pub(crate) fn put(&self, number: u64) -> CallEnd {
         match self.slot() {
             Some((slot, right)) => self.put_at(slot, right, number).0,
-            None => Told::NoSlot,
+            None => CallEnd::NoSlot,
         }
     }
 
     /// Places the number. If it is returned, places the number after it in the slot that was returned.
-    fn put_or_next(&self, number: u64) -> Told {
+    fn put_or_next(&self, number: u64) -> CallEnd {
         let Some((slot, right)) = self.slot() else {
-            return Told::NoSlot;
+            return CallEnd::NoSlot;
         };
         match self.put_at(slot, right, number) {
             (_, Some(right)) => self.put_at(slot, right, number.wrapping_add(1)).0,
@@ -118,34 +123,34 @@ impl<'a, A: Low + Copy> Numbers<'a, A> {
     }
 
     /// Probes for the number.
-    pub(crate) fn judge(&self, number: u64) -> Told {
+    pub(crate) fn judge(&self, number: u64) -> CallEnd {
         let mut seen = self.set.start();
         let sought = SameAs { target: &number };
         match self.set.judge(self.slab, &mut seen, &sought) {
-            Judged::Found(slot, _entry) => Told::Found(slot),
-            Judged::Vacant => Told::Vacant,
-            Judged::Spent => Told::Spent,
+            Judged::Found(slot, _entry) => CallEnd::Found(slot),
+            Judged::Vacant => CallEnd::Vacant,
+            Judged::Spent => CallEnd::Spent,
         }
     }
 
     /// Looks the number up, and reads the entry once more by the number of its slot.
-    fn show(&self, number: u64) -> Told {
+    fn show(&self, number: u64) -> CallEnd {
         let mut seen = self.set.start();
         let sought = SameAs { target: &number };
         match self.set.seek(self.slab, &mut seen, &sought) {
-            Some((slot, _entry)) => Told::Shown(*self.set.entry(self.slab, &seen, slot)),
-            None => Told::Missed,
+            Some((slot, _entry)) => CallEnd::Shown(*self.set.entry(self.slab, &seen, slot)),
+            None => CallEnd::Missed,
         }
     }
 
     /// Makes the call with the number.
-    fn call(&self, by: By, number: u64) -> Told {
+    fn call(&self, by: By, number: u64) -> CallEnd {
         match by {
             By::Put => self.put(number),
             By::PutOrNext => self.put_or_next(number),
             By::Judge => self.judge(number),
             By::Show => self.show(number),
-            By::Has => Told::Has(self.set.has_number(&mut self.set.start(), number)),
+            By::Has => CallEnd::Has(self.set.has_number(&mut self.set.start(), number)),
         }
     }
 

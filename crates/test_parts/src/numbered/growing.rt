@@ -1,58 +1,58 @@
 //! Growth: the next generation carries the entries, and the old one is closed.
 ghost use Rattle.std.specs.Prelude.{◌≡◌, IfOk};
 
-use super::caller::{By, Numbers, Row, Told, assert_same, made};
+use super::caller::{By, CallEnd, Numbers, Row, assert_same, made};
 use super::laws::Fours;
 use std::alloc::{AllocError, Global};
 use std::process::Abort;
 use std::test::Fail;
 use table_cell::Low;
-use table_numbered::{Generation, Refused};
+use table_numbered::{NumberedGeneration, Refused};
 use table_slab::Slab;
 
 /// Slots are numbered from 0 on, in the order in which they are taken. The first call of `has_number` finds no hint. Later calls find one,
 /// also for a number that is placed after the first call.
 const BEFORE: [Row; 9] = [
-    (By::Put, 4, Told::Placed(0)),
-    (By::Put, 5, Told::Placed(1)),
-    (By::Has, 0, Told::Has(true)),
-    (By::Has, 1, Told::Has(true)),
-    (By::Has, 2, Told::Has(false)),
-    (By::Has, u64::MAX, Told::Has(false)),
-    (By::Put, 9, Told::Placed(2)),
-    (By::Has, 2, Told::Has(true)),
-    (By::Judge, 6, Told::Vacant),
+    (By::Put, 4, CallEnd::Placed(0)),
+    (By::Put, 5, CallEnd::Placed(1)),
+    (By::Has, 0, CallEnd::Has(true)),
+    (By::Has, 1, CallEnd::Has(true)),
+    (By::Has, 2, CallEnd::Has(false)),
+    (By::Has, u64::MAX, CallEnd::Has(false)),
+    (By::Put, 9, CallEnd::Placed(2)),
+    (By::Has, 2, CallEnd::Has(true)),
+    (By::Judge, 6, CallEnd::Vacant),
 ];
 
 /// The next generation has each entry by its number. A new number is placed there.
 const NEXT: [Row; 12] = [
-    (By::Has, 0, Told::Has(true)),
-    (By::Has, 1, Told::Has(true)),
-    (By::Has, 2, Told::Has(true)),
-    (By::Has, 3, Told::Has(false)),
-    (By::Judge, 4, Told::Found(0)),
-    (By::Judge, 5, Told::Found(1)),
-    (By::Judge, 9, Told::Found(2)),
-    (By::Judge, 6, Told::Vacant),
-    (By::Put, 6, Told::Placed(3)),
-    (By::Has, 3, Told::Has(true)),
-    (By::Has, u64::MAX, Told::Has(false)),
-    (By::Put, 5, Told::Found(1)),
+    (By::Has, 0, CallEnd::Has(true)),
+    (By::Has, 1, CallEnd::Has(true)),
+    (By::Has, 2, CallEnd::Has(true)),
+    (By::Has, 3, CallEnd::Has(false)),
+    (By::Judge, 4, CallEnd::Found(0)),
+    (By::Judge, 5, CallEnd::Found(1)),
+    (By::Judge, 9, CallEnd::Found(2)),
+    (By::Judge, 6, CallEnd::Vacant),
+    (By::Put, 6, CallEnd::Placed(3)),
+    (By::Has, 3, CallEnd::Has(true)),
+    (By::Has, u64::MAX, CallEnd::Has(false)),
+    (By::Put, 5, CallEnd::Found(1)),
 ];
 
 /// The old generation finds its entries, and takes no new one.
 const CLOSED: [Row; 4] = [
-    (By::Judge, 5, Told::Found(1)),
-    (By::Judge, 6, Told::Spent),
-    (By::Put, 6, Told::Full),
-    (By::Show, 6, Told::Missed),
+    (By::Judge, 5, CallEnd::Found(1)),
+    (By::Judge, 6, CallEnd::Spent),
+    (By::Put, 6, CallEnd::Full),
+    (By::Show, 6, CallEnd::Missed),
 ];
 
 /// Grows the generation, and returns the next one. `Err` means that memory was refused, or that there would be too many buckets.
 pub(crate) fn grown<A: Low + Copy>(
-    set: &Generation<u64, Fours, A>,
+    set: &NumberedGeneration<u64, Fours, A>,
     alloc: A,
-) -> Result<Generation<u64, Fours, A>, Refused>
+) -> Result<NumberedGeneration<u64, Fours, A>, Refused>
     ensures slab { IfOk result (λ g. g.of.slab ≡ set.now.of.slab) }
 {
     let mut seen = set.start();
@@ -60,7 +60,7 @@ pub(crate) fn grown<A: Low + Copy>(
 }
 
 /// Ends the generation. Returns how often each of the numbers 0 to 9 is among its values.
-fn tally(set: &Generation<u64, Fours, Global>, slab: Slab<u64, Global>) -> [u64; 10]
+fn tally(set: &NumberedGeneration<u64, Fours, Global>, slab: Slab<u64, Global>) -> [u64; 10]
     requires slab { slab ≡ set.now.of.slab }
 {
     let mut counts = [0u64; 10];

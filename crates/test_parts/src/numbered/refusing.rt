@@ -1,5 +1,5 @@
 //! A slab and a generation whose requests for memory are refused.
-use super::caller::{Numbers, Told, assert_same, made};
+use super::caller::{CallEnd, Numbers, assert_same, made};
 use super::growing::grown;
 use std::alloc::Global;
 use std::process::Abort;
@@ -8,14 +8,14 @@ use testkit::refusing::{Refusing, Rule};
 
 /// Places 1 in a generation of two buckets, and grows it. Returns how a probe for 1 ends in the next generation. If the growth is refused,
 /// places 2 in the old generation, and returns how that ends. `None` means that memory was refused before.
-fn story(heap: &Refusing<Global>) -> Option<Told> {
+fn story(heap: &Refusing<Global>) -> Option<CallEnd> {
     let slab = Slab::new(heap, 1).ok()?;
     let set = made(heap, &slab, 2).ok()?;
     let old = Numbers {
         set: &set,
         slab: &slab,
     };
-    if old.put(1) != Told::Placed(0) {
+    if old.put(1) != CallEnd::Placed(0) {
         return None;
     }
     let Ok(next) = grown(&set, heap) else {
@@ -31,16 +31,16 @@ fn story(heap: &Refusing<Global>) -> Option<Told> {
 /// How many requests are granted before one is refused, and what `story` then returns. A slab makes two requests, for its cells and for
 /// what its end needs. A generation makes two, for its words and for the words of its hints. A first number makes two, for its chunk and
 /// for the chunk's box. A growth makes two, for words and for the words of hints.
-const ENDS: [(u64, Option<Told>); 9] = [
+const ENDS: [(u64, Option<CallEnd>); 9] = [
     (0, None),
     (1, None),
     (2, None),
     (3, None),
     (4, None),
     (5, None),
-    (6, Some(Told::Placed(1))),
-    (7, Some(Told::Placed(1))),
-    (8, Some(Told::Found(0))),
+    (6, Some(CallEnd::Placed(1))),
+    (7, Some(CallEnd::Placed(1))),
+    (8, Some(CallEnd::Found(0))),
 ];
 
 /// Checks that each of eight requests can be refused in turn, that a refused growth closes nothing, and that all memory is freed.

@@ -2,7 +2,7 @@
 use std::alloc::Global;
 use std::process::Abort;
 use testkit_replay::course::{Course, run_course};
-use testkit_replay::fault::Fault;
+use testkit_replay::fault::ReplayFault;
 use testkit_replay::schedules::Ask;
 use testkit_replay::schedules::Ask::{Insert, Lookup};
 use testkit_replay::script::Manner;
@@ -32,7 +32,7 @@ const AHEAD: u64 = 24;
 const MOST: u64 = 400;
 
 /// Runs the calls of a start. First the first call takes `steps.0` steps, and then the second `steps.1`. `Err`: the first fault.
-fn cut(alloc: Global, start: &Start, steps: (u64, u64)) -> Result<(), Fault> {
+fn cut(alloc: Global, start: &Start, steps: (u64, u64)) -> Result<(), ReplayFault> {
     let course = Course::Cut {
         hashes: start.0,
         asks: start.1,

@@ -28,22 +28,22 @@ const SEVEN: Tops<'static> = Tops {
 };
 
 /// The replies of calls, in the order in which the calls end.
-type Told = &'static [(u64, Said)];
+type Endings = &'static [(u64, Said)];
 
 /// The replies of all calls if the last two insert different values: when the first of these wins, and when the second does.
-const BOTH_PLACED: (Told, Told) = (
+const BOTH_PLACED: (Endings, Endings) = (
     &[(0, Refused(0)), (1, Placed(1)), (2, Placed(2))],
     &[(0, Refused(0)), (2, Placed(2)), (1, Placed(1))],
 );
 
 /// The replies of all calls if the last two insert equal values. The loser's value is returned with the winner's entry.
-const ONE_FOUND: (Told, Told) = (
+const ONE_FOUND: (Endings, Endings) = (
     &[(0, Refused(0)), (1, Placed(1)), (2, Found(1, 2))],
     &[(0, Refused(0)), (2, Placed(2)), (1, Found(2, 1))],
 );
 
 /// Two inserts at one empty bucket of a table without entries, and the replies of all calls.
-const AT_ONE_BUCKET: [((Ask, Ask), (Told, Told)); 4] = [
+const AT_ONE_BUCKET: [((Ask, Ask), (Endings, Endings)); 4] = [
     // Different values of one hash: the loser goes on to the next bucket.
     ((Insert(1, 0), Insert(2, 0)), BOTH_PLACED),
     ((Insert(1, 0), Insert(1, 0)), ONE_FOUND),
@@ -67,7 +67,7 @@ fn assert_at_one_bucket<R: Abort + Threads + Wait + Sync>(
     rt: &R,
     alloc: Global,
     asks: (Ask, Ask),
-    expected: (Told, Told),
+    expected: (Endings, Endings),
 ) {
     let (first_wins, second_wins) = expected;
     assert!(rt; is_first_capacity(16));

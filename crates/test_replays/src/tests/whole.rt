@@ -3,7 +3,7 @@ use std::alloc::Global;
 use std::process::Abort;
 use std::sync::Wait;
 use table_terms::capacity::is_first_capacity;
-use testkit_replay::fault::Fault;
+use testkit_replay::fault::ReplayFault;
 use testkit_replay::item::Said;
 use testkit_replay::item::Said::{Absent, Found, Placed, Refused, Shown};
 use testkit_replay::schedules::Ask;
@@ -90,7 +90,7 @@ const ROWS: [Row; 6] = [
 /// Asserts that the first `filled` calls placed their values, and that the others have the expected replies.
 pub(crate) fn assert_told(
     rt: &impl Abort,
-    run: Result<Vec<(u64, Said)>, Fault>,
+    run: Result<Vec<(u64, Said)>, ReplayFault>,
     filled: u64,
     expected: &[(u64, Said)],
 ) {

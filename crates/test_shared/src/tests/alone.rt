@@ -1,5 +1,5 @@
 //! Tests of a shared table that only one thread uses.
-use super::numbers::{Boxed, Inserts, Numbers, Told, assert_same};
+use super::numbers::{Boxed, InsertEnd, Inserts, Numbers, assert_same};
 use std::alloc::Global;
 use std::sync::Wait;
 use testkit::counting::asked::Lawful;
@@ -20,7 +20,7 @@ fn fill_anew<R: Wait>(rt: &R, table: &Boxed<Global>) -> Tally {
     let mut tally = Tally::NONE;
     for number in 0..NUMBERS {
         if table.contains(number) {
-            tally = tally.with(Told::Wrong);
+            tally = tally.with(InsertEnd::Wrong);
         }
         tally = tally.with(table.insert(rt, number));
     }

@@ -8,7 +8,7 @@ use std::sync::atomic::{AtomicU64, Ordering};
 use std::test::Fail;
 use std::thread::Threads;
 use testkit::counting::asked::Asked;
-use testkit::counting::numbers::Told;
+use testkit::counting::numbers::InsertEnd;
 use testkit::counting::tally::{Tally, Work, at_once};
 
 /// How many numbers each thread inserts.
@@ -76,7 +76,7 @@ struct Giving<'a> {
 
 impl<'a> Giving<'a> {
     /// Inserts the number, and returns the answer.
-    fn give<R: Wait>(&self, rt: &R, number: u64) -> Told {
+    fn give<R: Wait>(&self, rt: &R, number: u64) -> InsertEnd {
         match Box::new(self.alloc, number) {
             Ok(value) => insert_at(
                 rt,
@@ -85,7 +85,7 @@ impl<'a> Giving<'a> {
                 value,
                 self.careless,
             ),
-            Err(_) => Told::Wrong,
+            Err(_) => InsertEnd::Wrong,
         }
     }
 }

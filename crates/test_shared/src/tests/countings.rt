@@ -1,5 +1,5 @@
 //! A shared table of values that count their drops, over an allocator that refuses some requests. The numbers 4n to 4n + 3 are equal.
-use super::numbers::{Told, insert_at};
+use super::numbers::{InsertEnd, insert_at};
 use lock_free_hashtable::raw::{LockFreeRawTable, is_first_capacity};
 use std::alloc::Global;
 use std::process::Abort;
@@ -27,10 +27,10 @@ pub(crate) struct Counted<'m> {
 
 impl<'m> Counted<'m> {
     /// Inserts the number under this hash, and returns the answer.
-    pub(crate) fn insert<R: Wait>(&self, rt: &R, hash: u64, number: u64) -> Told {
+    pub(crate) fn insert<R: Wait>(&self, rt: &R, hash: u64, number: u64) -> InsertEnd {
         match self.drops.counting(number) {
             Ok(value) => insert_at(rt, &self.table, hash, value, &Lawful::InFours),
-            Err(_) => Told::Wrong,
+            Err(_) => InsertEnd::Wrong,
         }
     }
 }
@@ -55,7 +55,7 @@ pub(crate) fn opened<'m, R: Abort + Wait>(
         table: LockFreeRawTable::with_first_capacity(heap, CAPACITY),
         drops,
     };
-    let is_refused = opened.insert(rt, 0, number) == Told::Refused;
+    let is_refused = opened.insert(rt, 0, number) == InsertEnd::Refused;
     let is_open = opened.table.is_empty()
         && opened.table.current(&mut opened.table.note()).is_some();
     assert!(rt; is_refused && is_open);

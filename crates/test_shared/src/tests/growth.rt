@@ -1,7 +1,7 @@
 //! Tests of when a table grows, of its length in each generation, and of references that are kept over growth.
 ghost use Rattle.table_terms.specs.Capacities.{IsFirstCapacity};
 
-use super::numbers::{Boxed, Inserts, Told, assert_same, insert_and_show, shown};
+use super::numbers::{Boxed, InsertEnd, Inserts, assert_same, insert_and_show, shown};
 use lock_free_hashtable::raw::{HeldRawTable, LockFreeRawTable, Share, is_first_capacity};
 use std::alloc::{AllocError, Global};
 use std::process::Abort;
@@ -43,7 +43,7 @@ fn buckets_for(entries: u64) -> u64 {
 
 /// Inserts the number, and asserts that it is placed, and that the length, the number of entries and the capacity are right.
 fn assert_placed<R: Abort + Wait>(rt: &R, table: &Boxed<Global>, number: u64) {
-    let placed = table.insert(rt, number) == Told::Placed;
+    let placed = table.insert(rt, number) == InsertEnd::Placed;
     let [counted, shown, buckets] = table.size();
     let entries = number.wrapping_add(1);
     assert_same(
@@ -146,7 +146,7 @@ fn place<'a, R: Wait>(
     let mark = AtomicU64::new(0);
     let value = Box::new(alloc, Marked { number, mark })?;
     match insert_and_show(rt, table, hash_number(number), value, &Lawful::Spread) {
-        (Told::Placed, shown) => Ok(shown),
+        (InsertEnd::Placed, shown) => Ok(shown),
         _ => Ok(None),
     }
 }

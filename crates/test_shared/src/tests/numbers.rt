@@ -7,7 +7,7 @@ use std::process::Abort;
 use std::sync::Wait;
 use testkit::counting::asked::{Asked, Lawful, Numbered};
 use testkit::counting::made::Made;
-pub(crate) use testkit::counting::numbers::{Inserts, Numbers, Told};
+pub(crate) use testkit::counting::numbers::{InsertEnd, Inserts, Numbers};
 
 /// Inserts the value under this hash. Returns the answer, and the entry that the insert returns.
 pub(crate) fn insert_and_show<'a, R: Wait, T: AtomicValue, A: Low + Copy, L: Asked>(
@@ -16,7 +16,7 @@ pub(crate) fn insert_and_show<'a, R: Wait, T: AtomicValue, A: Low + Copy, L: Ask
     hash: u64,
     value: T,
     asked: &L,
-) -> (Told, Option<&'a T::Target>)
+) -> (InsertEnd, Option<&'a T::Target>)
 where
     T::Target: Numbered,
 {
@@ -29,14 +29,14 @@ where
         |new: &T::Target, entry: &T::Target| asked.agrees(new.number(), entry.number()),
         |entry: &T::Target| asked.hash(entry.number()),
     ) {
-        Ok((shown, None)) if shown.number() == number => (Told::Placed, Some(shown)),
+        Ok((shown, None)) if shown.number() == number => (InsertEnd::Placed, Some(shown)),
         Ok((shown, Some(back)))
             if asked.agrees(number, shown.number()) && back.deref().number() == number => (
-            Told::Found,
+            InsertEnd::Found,
             Some(shown),
         ),
-        Err(back) if back.deref().number() == number => (Told::Refused, None),
-        _ => (Told::Wrong, None),
+        Err(back) if back.deref().number() == number => (InsertEnd::Refused, None),
+        _ => (InsertEnd::Wrong, None),
     }
 }
 
@@ -47,7 +47,7 @@ pub(crate) fn insert_at<R: Wait, T: AtomicValue, A: Low + Copy, L: Asked>(
     hash: u64,
     value: T,
     asked: &L,
-) -> Told
+) -> InsertEnd
 where
     T::Target: Numbered,
 {
@@ -119,10 +119,15 @@ where
     T::Target: Numbered,
 {
     /// Inserts the number with the closures of `asked`, and returns the answer.
-    pub(crate) fn insert_asking<R: Wait, L: Asked>(&self, rt: &R, number: u64, asked: &L) -> Told {
+    pub(crate) fn insert_asking<R: Wait, L: Asked>(
+        &self,
+        rt: &R,
+        number: u64,
+        asked: &L,
+    ) -> InsertEnd {
         match T::made(self.alloc, number) {
             Some(value) => insert_at(rt, &self.table, self.lawful.hash(number), value, asked),
-            None => Told::Wrong,
+            None => InsertEnd::Wrong,
         }
     }
 }
@@ -131,7 +136,7 @@ impl<T: Made, A: Low + Copy> Inserts for Shared<T, A>
 where
     T::Target: Numbered,
 {
-    fn insert<R: Wait>(&self, rt: &R, number: u64) -> Told {
+    fn insert<R: Wait>(&self, rt: &R, number: u64) -> InsertEnd {
         self.insert_asking(rt, number, &self.lawful)
     }
 }
@@ -181,6 +186,11 @@ pub(crate) fn assert_same<X: PartialEq + Debug + Drop>(rt: &impl Abort, seen: X,
 }
 
 /// Inserts the number, and asserts that the answer is `told`.
-pub(crate) fn assert_told<R: Abort + Wait, T: Inserts>(rt: &R, table: &T, number: u64, told: Told) {
+pub(crate) fn assert_told<R: Abort + Wait, T: Inserts>(
+    rt: &R,
+    table: &T,
+    number: u64,
+    told: InsertEnd,
+) {
     assert_eq!(rt; table.insert(rt, number), told, "{number}");
 }

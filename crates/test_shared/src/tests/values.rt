@@ -1,5 +1,5 @@
 //! Tests of other kinds of values in a table that threads share, and of a million values.
-use super::numbers::{Boxed, Inserts, Numbers, Shared, Told, assert_same, handed};
+use super::numbers::{Boxed, InsertEnd, Inserts, Numbers, Shared, assert_same, handed};
 use lock_free_hashtable::InPlace;
 use std::alloc::{AllocError, Global};
 use std::num::NonZeroU32;
@@ -58,9 +58,9 @@ impl<'a> Work for Joined<'a> {
         let told = if self.inserts {
             self.table.insert(rt, thread)
         } else if self.table.contains(0) && self.table.contains(1) {
-            Told::Found
+            InsertEnd::Found
         } else {
-            Told::Wrong
+            InsertEnd::Wrong
         };
         Tally::NONE.with(told)
     }

@@ -6,7 +6,7 @@ use std::sync::Wait;
 use std::thread::Threads;
 use table_terms::law::hash_number;
 use testkit::counting::asked::{Asked, Lawful};
-use testkit::counting::numbers::{Told, fill, seen, those_below};
+use testkit::counting::numbers::{InsertEnd, fill, seen, those_below};
 use testkit::counting::tally::{Tally, Work, at_once};
 use testkit::refusing::handover::Handover;
 
@@ -33,7 +33,7 @@ impl Asked for Growing {
 
 impl Growing {
     /// Inserts the next number while the other thread copies entries, and returns the answer.
-    fn insert_meanwhile<R: Wait>(&self, rt: &R) -> Told {
+    fn insert_meanwhile<R: Wait>(&self, rt: &R) -> InsertEnd {
         self.signs.take_over();
         self.table.insert(rt, GROWS.wrapping_add(1))
     }

@@ -1,7 +1,7 @@
 //! Sets that one thread calls.
 use super::caller::{
-    Numbering, Numbers, Tally, Told, assert_none_out, assert_same, counted, fill, insert, set_with,
-    told_of,
+    InsertEnd, Numbering, Numbers, Tally, assert_none_out, assert_same, counted, fill, insert,
+    set_with, told_of,
 };
 use std::process::Abort;
 
@@ -29,11 +29,11 @@ fn insert_each(
     handle: &mut Numbering<'_, '_>,
     count: u64,
     step: u64,
-    expected: Told,
+    expected: InsertEnd,
 ) {
     for index in 0..count {
         let value = index.wrapping_mul(step);
-        assert_same(rt, handle.contains(&value), expected == Told::Found);
+        assert_same(rt, handle.contains(&value), expected == InsertEnd::Found);
         assert_same(rt, insert(handle, value), (expected, Some(index)));
     }
 }
@@ -46,9 +46,9 @@ fn each_number_is_found_over_growth(rt: HostRuntime) {
         let set = set_with(&rt, &heap, room);
         let mut handle = set.handle();
         let mut late = set.handle();
-        insert_each(&rt, &mut handle, count, step, Told::Placed);
-        insert_each(&rt, &mut handle, count, step, Told::Found);
-        insert_each(&rt, &mut late, count, step, Told::Found);
+        insert_each(&rt, &mut handle, count, step, InsertEnd::Placed);
+        insert_each(&rt, &mut handle, count, step, InsertEnd::Found);
+        insert_each(&rt, &mut late, count, step, InsertEnd::Found);
         assert_same(&rt, handle.get(&count.wrapping_mul(step)), None);
         drop(handle);
         drop(late);
@@ -60,7 +60,7 @@ fn each_number_is_found_over_growth(rt: HostRuntime) {
 }
 
 /// Inserts a number by the set itself. Returns how the insert ended, with the entry's number.
-fn insert_by(set: &Numbers<'_>, value: u64) -> (Told, Option<u64>) {
+fn insert_by(set: &Numbers<'_>, value: u64) -> (InsertEnd, Option<u64>) {
     told_of(set.insert(value), value)
 }
 
@@ -70,8 +70,8 @@ fn place_by_the_set(rt: &impl Abort, set: &Numbers<'_>, count: u64) {
     for index in 0..count {
         let value = index.wrapping_mul(7);
         assert_same(rt, set.contains(&value), false);
-        assert_same(rt, insert_by(set, value), (Told::Placed, Some(index)));
-        assert_same(rt, insert_by(set, value), (Told::Found, Some(index)));
+        assert_same(rt, insert_by(set, value), (InsertEnd::Placed, Some(index)));
+        assert_same(rt, insert_by(set, value), (InsertEnd::Found, Some(index)));
         assert_same(rt, set.handle().find(&value), Some((index, &value)));
         assert_same(rt, set.get(&value), Some(&value));
         assert_same(rt, set.len(), index.wrapping_add(1));
@@ -99,7 +99,11 @@ const NEXT: [u64; 8] = [7, 8, 9, 4, 5, 6, 10, 11];
 fn assert_takes(rt: &impl Abort, handle: &mut Numbering<'_, '_>, from: u64, numbers: &[u64]) {
     for (index, number) in numbers.iter().enumerate() {
         let value = from.wrapping_add(index as u64);
-        assert_same(rt, insert(handle, value), (Told::Placed, Some(*number)));
+        assert_same(
+            rt,
+            insert(handle, value),
+            (InsertEnd::Placed, Some(*number)),
+        );
     }
 }
 

@@ -6,7 +6,7 @@ use std::alloc::Global;
 use std::fmt::Debug;
 use std::process::Abort;
 use table_terms::law::NumberLaw;
-pub(crate) use testkit::counting::numbers::Told;
+pub(crate) use testkit::counting::numbers::InsertEnd;
 pub(crate) use testkit::counting::tally::Tally;
 use testkit::refusing::{Refusing, Rule};
 
@@ -39,19 +39,19 @@ pub(crate) fn assert_none_out(rt: &impl Abort, heap: &Heap) {
 }
 
 /// Returns how an insert of this number ended, with the entry's number.
-pub(crate) fn told_of(ended: Inserted<'_, u64>, value: u64) -> (Told, Option<u64>) {
+pub(crate) fn told_of(ended: Inserted<'_, u64>, value: u64) -> (InsertEnd, Option<u64>) {
     match ended {
-        Inserted::Placed(number, entry, _) if *entry == value => (Told::Placed, Some(number)),
+        Inserted::Placed(number, entry, _) if *entry == value => (InsertEnd::Placed, Some(number)),
         Inserted::Found(number, entry, back) if *entry == value && back == value => {
-            (Told::Found, Some(number))
+            (InsertEnd::Found, Some(number))
         }
-        Inserted::Refused(back) if back == value => (Told::Refused, None),
-        _ => (Told::Wrong, None),
+        Inserted::Refused(back) if back == value => (InsertEnd::Refused, None),
+        _ => (InsertEnd::Wrong, None),
     }
 }
 
 /// Inserts a number. Returns how the insert ended, with the entry's number.
-pub(crate) fn insert(handle: &mut Numbering<'_, '_>, value: u64) -> (Told, Option<u64>)
+pub(crate) fn insert(handle: &mut Numbering<'_, '_>, value: u64) -> (InsertEnd, Option<u64>)
     ensures { handle.new.of ≡ handle.old.of }
 {
     let ended = handle.insert(value);
@@ -59,17 +59,17 @@ pub(crate) fn insert(handle: &mut Numbering<'_, '_>, value: u64) -> (Told, Optio
 }
 
 /// Inserts a number until it isn't refused, at most `tries` times, and then looks it up. Returns how the insert ended.
-fn place(handle: &mut Numbering<'_, '_>, value: u64, tries: u32) -> Told
+fn place(handle: &mut Numbering<'_, '_>, value: u64, tries: u32) -> InsertEnd
     ensures { handle.new.of ≡ handle.old.of }
 {
     for _tried in 0..tries {
         let told = insert(handle, value).0;
-        if told != Told::Refused {
+        if told != InsertEnd::Refused {
             let found = handle.get(&value) == Some(&value);
-            return if found { told } else { Told::Wrong };
+            return if found { told } else { InsertEnd::Wrong };
         }
     }
-    Told::Refused
+    InsertEnd::Refused
 }
 
 /// Inserts the numbers from `from` to below `end`, each at most `tries` times. Returns how many were placed and how many were found.

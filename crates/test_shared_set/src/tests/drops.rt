@@ -1,5 +1,5 @@
 //! Values that count their drops. Each is dropped once, by the set or by the caller to which it is returned.
-use super::caller::{Heap, Tally, Told, assert_none_out, assert_same};
+use super::caller::{Heap, InsertEnd, Tally, assert_none_out, assert_same};
 use shared_set::{Handle, Inserted, SharedSet};
 use std::alloc::AllocError;
 use std::process::Abort;
@@ -23,19 +23,23 @@ const SETS: [(usize, u64, u64, u64); 4] = [
 type Counts<'h> = SharedSet<Counting, CountingLaw, &'h Heap>;
 
 /// Inserts the value, and tries again if it is refused. Drops a value that is returned. Returns how the insert ended.
-fn insert(handle: &mut Handle<'_, Counting, CountingLaw, &Heap>, value: Counting) -> Told {
+fn insert(handle: &mut Handle<'_, Counting, CountingLaw, &Heap>, value: Counting) -> InsertEnd {
     let mut value = value;
     for _tried in 0..1000u32 {
         match handle.insert(value) {
-            Inserted::Placed(_, _, _) => return Told::Placed,
+            Inserted::Placed(_, _, _) => return InsertEnd::Placed,
             Inserted::Found(_, entry, back) => {
                 let is_same = entry.number == back.number;
-                return if is_same { Told::Found } else { Told::Wrong };
+                return if is_same {
+                    InsertEnd::Found
+                } else {
+                    InsertEnd::Wrong
+                };
             }
             Inserted::Refused(back) => value = back,
         }
     }
-    Told::Refused
+    InsertEnd::Refused
 }
 
 /// Inserts a value of each number. Returns how many were placed, and how many were found and returned. `Err` means no memory.

@@ -1,5 +1,5 @@
 //! Sets of texts, which are also looked up by keys of another type.
-use super::caller::{Told, assert_same};
+use super::caller::{InsertEnd, assert_same};
 use shared_set::{Handle, Inserted, SharedSet};
 use std::alloc::{AllocError, Global};
 use std::process::Abort;
@@ -24,13 +24,13 @@ fn has(handle: &mut Texting<'_>, letters: &str) -> bool {
 }
 
 /// Returns how an insert of a text of these letters ended.
-fn told_of(ended: &Inserted<'_, String>, letters: &str) -> Told {
+fn told_of(ended: &Inserted<'_, String>, letters: &str) -> InsertEnd {
     match ended {
-        Inserted::Placed(_, entry, _) if entry.as_str() == letters => Told::Placed,
+        Inserted::Placed(_, entry, _) if entry.as_str() == letters => InsertEnd::Placed,
         Inserted::Found(_, entry, back) if entry.as_str() == letters && back.as_str() == letters =>
-            Told::Found,
-        Inserted::Refused(back) if back.as_str() == letters => Told::Refused,
-        _ => Told::Wrong,
+            InsertEnd::Found,
+        Inserted::Refused(back) if back.as_str() == letters => InsertEnd::Refused,
+        _ => InsertEnd::Wrong,
     }
 }
 
@@ -40,12 +40,12 @@ fn insert_each(
     rt: &impl Abort,
     alloc: Global,
     handle: &mut Texting<'_>,
-    expected: Told,
+    expected: InsertEnd,
 ) -> Result<(), AllocError> {
     for number in 0..TEXTS {
         let letters = format!(in alloc; "{number}")?;
         let text = letters.as_str();
-        assert_same(rt, has(handle, text), expected == Told::Found);
+        assert_same(rt, has(handle, text), expected == InsertEnd::Found);
         let told = told_of(&handle.insert(String::from_str(alloc, text)?), text);
         assert_same(rt, (told, has(handle, text)), (expected, true));
     }
@@ -55,8 +55,8 @@ fn insert_each(
 #[test]
 fn texts_are_found_by_their_letters(rt: HostRuntime) -> Result<(), Fail> {
     let set: SharedSet<String, TextLaw> = SharedSet::new(rt.alloc())?;
-    insert_each(&rt, rt.alloc(), &mut set.handle(), Told::Placed)?;
-    insert_each(&rt, rt.alloc(), &mut set.handle(), Told::Found)?;
+    insert_each(&rt, rt.alloc(), &mut set.handle(), InsertEnd::Placed)?;
+    insert_each(&rt, rt.alloc(), &mut set.handle(), InsertEnd::Found)?;
     assert_same(&rt, set.len(), TEXTS);
     for letters in OTHERS {
         assert!(rt; !has(&mut set.handle(), letters));

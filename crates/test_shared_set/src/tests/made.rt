@@ -1,6 +1,6 @@
 //! Inserts of values that are made only if they are needed.
 use super::caller::{
-    Numbering, Told, assert_has, assert_none_out, assert_same, counted, set_with, told_of,
+    InsertEnd, Numbering, assert_has, assert_none_out, assert_same, counted, set_with, told_of,
 };
 use shared_set::{GotOrInserted, KeyLaw, SameAs};
 use std::process::Abort;
@@ -32,10 +32,10 @@ impl KeyLaw<Short, u64> for NumberLaw {
 }
 
 /// Returns how a call that gets or inserts this value ended, with the entry's number.
-fn ended(told: GotOrInserted<'_, u64>, value: u64) -> (Told, Option<u64>) {
+fn ended(told: GotOrInserted<'_, u64>, value: u64) -> (InsertEnd, Option<u64>) {
     match told {
-        GotOrInserted::Got(number, entry) if *entry == value => (Told::Found, Some(number)),
-        GotOrInserted::Got(_number, _entry) => (Told::Wrong, None),
+        GotOrInserted::Got(number, entry) if *entry == value => (InsertEnd::Found, Some(number)),
+        GotOrInserted::Got(_number, _entry) => (InsertEnd::Wrong, None),
         GotOrInserted::Made(inserted) => told_of(inserted, value),
     }
 }
@@ -46,7 +46,7 @@ pub(crate) fn get_or_insert(
     handle: &mut Numbering<'_, '_>,
     key: u32,
     value: u64,
-) -> (Told, Option<u64>, bool) {
+) -> (InsertEnd, Option<u64>, bool) {
     let mut made = false;
     let told = handle.get_or_insert_with(&Short { number: key }, || {
         made = true;
@@ -58,7 +58,10 @@ pub(crate) fn get_or_insert(
 }
 
 /// Gets the entry that is the same as the value, or inserts the value. Returns how the call ended, with the entry's number.
-pub(crate) fn seek_or_insert(handle: &mut Numbering<'_, '_>, value: u64) -> (Told, Option<u64>) {
+pub(crate) fn seek_or_insert(
+    handle: &mut Numbering<'_, '_>,
+    value: u64,
+) -> (InsertEnd, Option<u64>) {
     let told = handle.seek_or_insert_with(&SameAs { target: &value }, || value);
     ended(told, value)
 }
@@ -68,14 +71,14 @@ const MANY: u64 = 1000;
 
 /// Keys, the values to insert if no entry meets them, how the call ends, the number of the entry, and whether the value is made. A value
 /// that doesn't meet its key is inserted too.
-const CASES: [(u32, u64, Told, u64, bool); 7] = [
-    (0, 0, Told::Found, 0, false),
-    (999, 7, Told::Found, 999, false),
-    (1000, 1001, Told::Placed, 1000, true),
-    (1000, 1001, Told::Found, 1000, true),
-    (1001, 1002, Told::Found, 1000, false),
-    (1000, 1000, Told::Placed, 1001, true),
-    (1000, 1002, Told::Found, 1001, false),
+const CASES: [(u32, u64, InsertEnd, u64, bool); 7] = [
+    (0, 0, InsertEnd::Found, 0, false),
+    (999, 7, InsertEnd::Found, 999, false),
+    (1000, 1001, InsertEnd::Placed, 1000, true),
+    (1000, 1001, InsertEnd::Found, 1000, true),
+    (1001, 1002, InsertEnd::Found, 1000, false),
+    (1000, 1000, InsertEnd::Placed, 1001, true),
+    (1000, 1002, InsertEnd::Found, 1001, false),
 ];
 
 /// Places the numbers below `MANY`, each by itself as its key.
@@ -83,7 +86,7 @@ fn place_all(rt: &impl Abort, handle: &mut Numbering<'_, '_>) {
     for key in 0..MANY as u32 {
         let number = Some(u64::from(key));
         let told = get_or_insert(handle, key, u64::from(key));
-        assert_same(rt, told, (Told::Placed, number, true));
+        assert_same(rt, told, (InsertEnd::Placed, number, true));
     }
 }
 
@@ -94,7 +97,7 @@ fn a_value_is_made_only_if_no_entry_meets_the_key(rt: HostRuntime) {
     let mut handle = set.handle();
     heap.refuse(0, 1);
     let refused = get_or_insert(&mut handle, 0, 0);
-    assert_same(&rt, refused, (Told::Refused, None, true));
+    assert_same(&rt, refused, (InsertEnd::Refused, None, true));
     place_all(&rt, &mut handle);
     assert_has(&rt, &mut handle, MANY);
     for (key, value, told, number, made) in CASES {
@@ -114,9 +117,9 @@ fn a_target_may_be_the_key(rt: HostRuntime) {
     let set = set_with(&rt, &heap, 0);
     let mut handle = set.handle();
     for (refused, expected) in [
-        (1, (Told::Refused, None)),
-        (0, (Told::Placed, Some(0))),
-        (u64::MAX, (Told::Found, Some(0))),
+        (1, (InsertEnd::Refused, None)),
+        (0, (InsertEnd::Placed, Some(0))),
+        (u64::MAX, (InsertEnd::Found, Some(0))),
     ] {
         heap.refuse(0, refused);
         assert_same(&rt, seek_or_insert(&mut handle, 7), expected);

@@ -1,7 +1,7 @@
 //! Sets whose requests for memory are refused.
 use super::caller::{
-    Heap, Numbering, Numbers, Tally, Told, assert_has, assert_none_out, assert_same, counted, fill,
-    insert, set_with, told_of,
+    Heap, InsertEnd, Numbering, Numbers, Tally, assert_has, assert_none_out, assert_same, counted,
+    fill, insert, set_with, told_of,
 };
 use super::made::{get_or_insert, seek_or_insert};
 use shared_set::SharedSet;
@@ -47,13 +47,13 @@ fn made_at_last<'h>(
 }
 
 /// Inserts the number by this call, and returns how it ended.
-fn insert_by(by: By, set: &Numbers<'_>, handle: &mut Numbering<'_, '_>, value: u64) -> Told {
+fn insert_by(by: By, set: &Numbers<'_>, handle: &mut Numbering<'_, '_>, value: u64) -> InsertEnd {
     match by {
         By::Handle => insert(handle, value).0,
         By::Set => told_of(set.insert(value), value).0,
         By::Key => match u32::try_from(value) {
             Ok(key) => get_or_insert(handle, key, value).0,
-            Err(_) => Told::Wrong,
+            Err(_) => InsertEnd::Wrong,
         },
         By::Sought => seek_or_insert(handle, value).0,
     }
@@ -70,13 +70,13 @@ fn place_at_last(
 ) {
     for _refused in 0..refused {
         let told = insert_by(by, set, handle, value);
-        if told == Told::Placed {
+        if told == InsertEnd::Placed {
             return;
         }
-        assert_same(rt, told, Told::Refused);
+        assert_same(rt, told, InsertEnd::Refused);
         assert_has(rt, handle, value);
     }
-    assert_same(rt, insert_by(by, set, handle, value), Told::Placed);
+    assert_same(rt, insert_by(by, set, handle, value), InsertEnd::Placed);
 }
 
 /// Places the numbers on memory that refuses `refused` requests after the first `granted` ones. Asserts that each number is placed after
@@ -164,7 +164,7 @@ fn a_generation_grows_once_half_of_it_is_filled(rt: HostRuntime) {
         let count = half as u64;
         assert_same(&rt, fill(&mut handle, 0, count, 1), Tally::of(count, 0));
         assert_same(&rt, heap.refusals_left(), u64::MAX);
-        assert_same(&rt, insert(&mut handle, count).0, Told::Placed);
+        assert_same(&rt, insert(&mut handle, count).0, InsertEnd::Placed);
         assert_same(&rt, heap.refusals_left(), u64::MAX - 1);
         drop(handle);
         drop(set);
@@ -185,7 +185,7 @@ fn a_refused_growth_is_asked_for_now_and_then(rt: HostRuntime) {
         let mut handle = set.handle();
         assert_same(&rt, fill(&mut handle, 0, full, 1), Tally::of(full, 0));
         assert_same(&rt, heap.refusals_left(), u64::MAX - 16);
-        assert_same(&rt, insert(&mut handle, full).0, Told::Refused);
+        assert_same(&rt, insert(&mut handle, full).0, InsertEnd::Refused);
         assert_same(&rt, heap.refusals_left(), u64::MAX - 17);
         drop(handle);
         drop(set);
@@ -209,11 +209,11 @@ fn a_set_that_cannot_grow_is_filled(rt: HostRuntime) {
     let set = full_set(&rt, &heap);
     let mut handle = set.handle();
     for _again in 0..3 {
-        assert_same(&rt, insert(&mut handle, 32), (Told::Refused, None));
+        assert_same(&rt, insert(&mut handle, 32), (InsertEnd::Refused, None));
         assert_has(&rt, &mut handle, 32);
     }
     heap.refuse(0, 0);
-    assert_same(&rt, insert(&mut handle, 32).0, Told::Placed);
+    assert_same(&rt, insert(&mut handle, 32).0, InsertEnd::Placed);
     assert_has(&rt, &mut handle, 33);
 }
 

@@ -1,7 +1,7 @@
 //! Entries by their numbers.
 use super::caller::{
-    Numbering, Tally, Told, assert_none_out, assert_numbered, assert_same, counted, fill, insert,
-    set_with,
+    InsertEnd, Numbering, Tally, assert_none_out, assert_numbered, assert_same, counted, fill,
+    insert, set_with,
 };
 use std::process::Abort;
 
@@ -16,7 +16,7 @@ fn assert_shown(
     value: u64,
 ) {
     let (told, number) = insert(mine, value);
-    assert_same(rt, told, Told::Placed);
+    assert_same(rt, told, InsertEnd::Placed);
     let number = number.expect(rt, "a number");
     assert_same(rt, mine.entry(number), Some(&value));
     assert_same(rt, other.entry(number), Some(&value));

@@ -2,7 +2,7 @@
 ghost use Rattle.std.specs.Prelude.{◌≡◌};
 
 use super::caller::{
-    Heap, Numbering, Numbers, Told, assert_none_out, assert_same, insert, set_with,
+    Heap, InsertEnd, Numbering, Numbers, assert_none_out, assert_same, insert, set_with,
 };
 use rand_core::{Rng, SeedableRng};
 use rand_xoshiro::SplitMix64;
@@ -39,11 +39,11 @@ fn insert_into_both(
     let before = heap.refusals_left();
     let told = insert(handle, number).0;
     if list.contains(&number) {
-        assert_same(rt, told, Told::Found);
-    } else if told == Told::Placed {
+        assert_same(rt, told, InsertEnd::Found);
+    } else if told == InsertEnd::Placed {
         list.push(number)?;
     } else {
-        assert!(rt; told == Told::Refused && heap.refusals_left() < before);
+        assert!(rt; told == InsertEnd::Refused && heap.refusals_left() < before);
     }
     Ok(())
 }

@@ -1,7 +1,7 @@
 //! Threads that share a set while it grows. Each number is placed by one of them, and each thread finds what it inserted.
 use super::caller::{
-    Numbers, Tally, Told, assert_has, assert_none_out, assert_numbered, assert_same, counted, fill,
-    set_with,
+    InsertEnd, Numbers, Tally, assert_has, assert_none_out, assert_numbered, assert_same, counted,
+    fill, set_with,
 };
 use super::memory::full_set;
 use std::alloc::Global;
@@ -40,7 +40,7 @@ fn ask(set: &Numbers<'_>) -> Tally {
         if let Some(value) = set.handle().entry(number)
             && (*value != number || number >= ASKED)
         {
-            return Tally::NONE.with(Told::Wrong);
+            return Tally::NONE.with(InsertEnd::Wrong);
         }
     }
     Tally::NONE

@@ -9,7 +9,7 @@ use table_generations::atomic_value::AtomicValue;
 
 /// The outcome of an insert.
 #[derive(Clone, Copy, Debug, PartialEq, Eq)]
-pub enum Told {
+pub enum InsertEnd {
     /// The number was inserted.
     Placed,
     /// The number was an entry before, and the value was returned.
@@ -21,23 +21,23 @@ pub enum Told {
 }
 
 /// Returns the outcome of an insert of this number, from the entry and the value that the insert returned.
-pub fn told_by<T: AtomicValue>(answer: Result<(&T::Target, Option<T>), T>, number: u64) -> Told
+pub fn told_by<T: AtomicValue>(answer: Result<(&T::Target, Option<T>), T>, number: u64) -> InsertEnd
 where
     T::Target: Numbered,
 {
     match answer {
-        Ok((shown, None)) if shown.number() == number => Told::Placed,
+        Ok((shown, None)) if shown.number() == number => InsertEnd::Placed,
         Ok((shown, Some(back))) if shown.number() == number && back.deref().number() == number =>
-            Told::Found,
-        Err(back) if back.deref().number() == number => Told::Refused,
-        _ => Told::Wrong,
+            InsertEnd::Found,
+        Err(back) if back.deref().number() == number => InsertEnd::Refused,
+        _ => InsertEnd::Wrong,
     }
 }
 
 /// A table into which threads insert numbers.
 pub trait Inserts {
     /// Inserts the number, and returns the outcome.
-    fn insert<R: Wait>(&self, rt: &R, number: u64) -> Told;
+    fn insert<R: Wait>(&self, rt: &R, number: u64) -> InsertEnd;
 }
 
 /// A table whose numbers can also be read.
@@ -145,16 +145,16 @@ pub fn refused_inserts<R: Wait, T: Numbers>(rt: &R, table: &T, count: u64) -> Op
     for number in 0..count {
         refused = refused.wrapping_add(refused_before(rt, table, number)?);
     }
-    let is_right = has_below(table, count) && table.insert(rt, 4) == Told::Found;
+    let is_right = has_below(table, count) && table.insert(rt, 4) == InsertEnd::Found;
     if is_right { Some(refused) } else { None }
 }
 
 /// Inserts the number, and once more if it was refused. Returns how often it was refused. `None`: an outcome or the entries were wrong.
 fn refused_before<R: Wait, T: Numbers>(rt: &R, table: &T, number: u64) -> Option<u64> {
     match table.insert(rt, number) {
-        Told::Placed => Some(0),
-        Told::Refused if has_below(table, number) && table.insert(rt, number) == Told::Placed =>
-            Some(1),
+        InsertEnd::Placed => Some(0),
+        InsertEnd::Refused
+            if has_below(table, number) && table.insert(rt, number) == InsertEnd::Placed => Some(1),
         _ => None,
     }
 }

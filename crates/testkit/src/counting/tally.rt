@@ -1,5 +1,5 @@
 //! Counts of the outcomes of inserts, and threads that insert at once.
-use crate::counting::numbers::Told;
+use crate::counting::numbers::InsertEnd;
 use std::alloc::Global;
 use std::sync::Wait;
 use std::thread;
@@ -31,11 +31,11 @@ impl Tally {
     }
 
     /// Adds one outcome.
-    pub fn with(mut self, told: Told) -> Tally {
+    pub fn with(mut self, told: InsertEnd) -> Tally {
         let count = match told {
-            Told::Placed => &mut self.placed,
-            Told::Found => &mut self.found,
-            Told::Refused | Told::Wrong => &mut self.other,
+            InsertEnd::Placed => &mut self.placed,
+            InsertEnd::Found => &mut self.found,
+            InsertEnd::Refused | InsertEnd::Wrong => &mut self.other,
         };
         *count = count.wrapping_add(1);
         self
@@ -72,7 +72,7 @@ pub fn at_once<R: Threads + Wait + Sync, W: Work + Sync>(
     );
     match told {
         Ok(told) => sum(told.as_slice()),
-        Err(_) => Tally::NONE.with(Told::Wrong),
+        Err(_) => Tally::NONE.with(InsertEnd::Wrong),
     }
 }
 

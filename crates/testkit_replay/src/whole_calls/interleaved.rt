@@ -4,7 +4,7 @@
 //! its stops.
 ghost use Rattle.table_terms.specs.Capacities.{IsFirstCapacity};
 
-use crate::fault::{Fault, granted};
+use crate::fault::{ReplayFault, granted};
 use crate::item::{Item, Said};
 use crate::replay::{Ground, any_request, new_table, run_schedule};
 use crate::schedules::Ask;
@@ -44,18 +44,18 @@ struct Player<'p, 'm, R: Wait> {
     copied: &'p AtomicU64,
     actor: Actor,
     place: Cell<usize>,
-    fault: Cell<Option<Fault>>,
+    fault: Cell<Option<ReplayFault>>,
 }
 
 /// Returns the fault of a call that has come to this mark instead of the rehearsed one.
-fn difference(call: u64, rehearsed: Option<Mark>, mark: Mark) -> Fault {
+fn difference(call: u64, rehearsed: Option<Mark>, mark: Mark) -> ReplayFault {
     match (rehearsed, mark) {
-        (Some(Mark::Told(_, machine)), Mark::Told(_, table)) => Fault::Told {
+        (Some(Mark::Told(_, machine)), Mark::Told(_, table)) => ReplayFault::Told {
             call,
             table: Some(table),
             machine: Some(machine),
         },
-        _ => Fault::Asked { call },
+        _ => ReplayFault::Asked { call },
     }
 }
 
@@ -84,7 +84,7 @@ impl<R: Wait> Player<'_, '_, R> {
     }
 
     /// Records a fault, if it is the first. From then on no thread waits, and both threads run to their ends.
-    fn fail(&self, fault: Fault) {
+    fn fail(&self, fault: ReplayFault) {
         if self.fault.get().is_none() && !self.turns_have_ended() {
             self.fault.set(Some(fault));
         }
@@ -126,11 +126,11 @@ impl<R: Wait> Player<'_, '_, R> {
     fn compare(&self, stop: Stop) {
         if let Some(sight) = stop.sight {
             if sight != self.sight() {
-                self.fail(Fault::Sight);
+                self.fail(ReplayFault::Sight);
             }
         }
         if self.ground.memory.turns().holds_next() && stop.sight.is_some() {
-            self.fail(Fault::Step { call: stop.call });
+            self.fail(ReplayFault::Step { call: stop.call });
         }
     }
 
@@ -184,12 +184,12 @@ impl<R: Wait> Player<'_, '_, R> {
             sight: self.sight(),
         };
         if self.plan.copied.get(index as usize) != Some(&copied) {
-            self.fail(Fault::Asked { call });
+            self.fail(ReplayFault::Asked { call });
         }
     }
 
     /// Runs a whole call, and returns its reply. `Err`: no memory for its value.
-    fn call(&self, call: u64, ask: Ask) -> Result<Said, Fault> {
+    fn call(&self, call: u64, ask: Ask) -> Result<Said, ReplayFault> {
         match ask {
             Ask::Insert(class, hash) => {
                 let item = Item {
@@ -243,7 +243,7 @@ impl<R: Wait> Player<'_, '_, R> {
     }
 
     /// Makes all stops of this thread, and returns its first fault.
-    fn run(&self) -> Option<Fault> {
+    fn run(&self) -> Option<ReplayFault> {
         if self.actor != Actor::Watcher {
             self.wait(self.peek().map(|stop| stop.turn));
         }
@@ -283,7 +283,7 @@ fn play_as<R: Wait>(
     plan: &Interleaving,
     copied: &AtomicU64,
     actor: Actor,
-) -> Option<Fault> {
+) -> Option<ReplayFault> {
     let player = Player {
         rt,
         ground,
@@ -301,7 +301,7 @@ fn run_plan<R: Threads + Wait + Sync>(
     rt: &R,
     ground: Ground<'_, '_>,
     plan: &Interleaving,
-) -> Result<(), Fault> {
+) -> Result<(), ReplayFault> {
     let copied = AtomicU64::new(0);
     let ((first, second), watcher) = thread::join(
         rt,
@@ -318,10 +318,10 @@ fn run_plan<R: Threads + Wait + Sync>(
         return Err(fault);
     }
     if ground.memory.turns().missed() != 0 {
-        return Err(Fault::Alone);
+        return Err(ReplayFault::Alone);
     }
     if copied.load(Ordering::SeqCst) != plan.copied.len() as u64 {
-        return Err(Fault::Unfinished);
+        return Err(ReplayFault::Unfinished);
     }
     Ok(())
 }
@@ -333,7 +333,7 @@ fn run_drawn<R: Threads + Wait + Sync>(
     alloc: Global,
     first: u64,
     seed: u64,
-) -> Result<(), Fault>
+) -> Result<(), ReplayFault>
     requires { IsFirstCapacity first }
 {
     let script = Script::new(Manner::Lawful, seed);
@@ -351,7 +351,7 @@ pub fn run_interleaved<R: Threads + Wait + Sync>(
     rt: &R,
     alloc: Global,
     seed: u64,
-) -> Result<(), Fault> {
+) -> Result<(), ReplayFault> {
     run_drawn(rt, alloc, FIRST, seed)
 }
 
@@ -361,7 +361,7 @@ pub fn first_fault<R: Threads + Wait + Sync>(
     alloc: Global,
     first_seed: u64,
     seeds: u64,
-) -> Option<(u64, Fault)> {
+) -> Option<(u64, ReplayFault)> {
     for index in 0..seeds {
         let seed = first_seed.wrapping_add(index);
         if let Err(fault) = run_interleaved(rt, alloc, seed) {

@@ -3,7 +3,7 @@
 //! An interleaving is rehearsed by stepped calls beside the machine. It lists the stops of each call, such as calls of a closure and
 //! requests for the block of a value. A turn ends at some stops, and then a thread is drawn that goes on. If a call is blocked, both
 //! threads run at once until both calls have ended.
-use crate::fault::{Fault, granted};
+use crate::fault::{ReplayFault, granted};
 use crate::item::Said;
 use crate::replay::{Replay, Turn};
 use crate::running::{Schedule, Stepped, Took};
@@ -190,7 +190,7 @@ impl<'s> Rehearsal<'s> {
         mark: Mark,
         sight: Option<Sight>,
         then: Then,
-    ) -> Result<(), Fault> {
+    ) -> Result<(), ReplayFault> {
         if actor != Actor::Watcher {
             self.part_mut(actor).passes_request = matches!(mark, Mark::AtEmpty(_));
         }
@@ -249,7 +249,7 @@ impl<'s> Rehearsal<'s> {
     }
 
     /// Begins the next call of this thread. `Err`: no memory.
-    fn begin(&mut self, replay: &mut Replay<'_, '_>, actor: Actor) -> Result<Turn, Fault> {
+    fn begin(&mut self, replay: &mut Replay<'_, '_>, actor: Actor) -> Result<Turn, ReplayFault> {
         let ask = self.draw_ask();
         let place = replay.begun();
         let sight = Sight::of(replay.ground.table, replay.ground.first);
@@ -287,7 +287,7 @@ impl<'s> Rehearsal<'s> {
         stepped: Stepped,
         met: Option<u64>,
         sight: Sight,
-    ) -> Result<(), Fault> {
+    ) -> Result<(), ReplayFault> {
         match stepped.took {
             Took::Blocked => {
                 self.enter(actor);
@@ -323,7 +323,7 @@ impl<'s> Rehearsal<'s> {
         call: u64,
         met: Option<u64>,
         sight: Option<Sight>,
-    ) -> Result<(), Fault> {
+    ) -> Result<(), ReplayFault> {
         match met {
             Some(entry) => {
                 let mark = self.question(call, entry);
@@ -348,7 +348,7 @@ impl<'s> Rehearsal<'s> {
         call: u64,
         said: Said,
         sight: Option<Sight>,
-    ) -> Result<(), Fault> {
+    ) -> Result<(), ReplayFault> {
         self.part_mut(actor).call = None;
         self.stop(actor, call, Mark::Told(call, said), sight, Then::Hands)
     }
@@ -368,9 +368,9 @@ impl<'s> Rehearsal<'s> {
         stepped: Stepped,
         met: Option<u64>,
         sight: Sight,
-    ) -> Result<(), Fault> {
+    ) -> Result<(), ReplayFault> {
         match (stepped.took, met) {
-            (Took::Blocked, _) => Err(Fault::Step { call }),
+            (Took::Blocked, _) => Err(ReplayFault::Step { call }),
             (Took::Told(said), _) => {
                 self.answer(actor, call, met, None)?;
                 self.end_call(actor, call, said, None)?;
@@ -403,7 +403,7 @@ impl<'s> Rehearsal<'s> {
 }
 
 impl Schedule for Rehearsal<'_> {
-    fn next(&mut self, replay: &mut Replay<'_, '_>) -> Result<Turn, Fault> {
+    fn next(&mut self, replay: &mut Replay<'_, '_>) -> Result<Turn, ReplayFault> {
         let Some(actor) = self.running else {
             return replay.end();
         };
@@ -416,7 +416,7 @@ impl Schedule for Rehearsal<'_> {
         }
     }
 
-    fn hear(&mut self, replay: &mut Replay<'_, '_>, stepped: Stepped) -> Result<(), Fault> {
+    fn hear(&mut self, replay: &mut Replay<'_, '_>, stepped: Stepped) -> Result<(), ReplayFault> {
         replay.follow(stepped)?;
         let met = replay.script.take_met();
         let sight = Sight::of(replay.ground.table, replay.ground.first);

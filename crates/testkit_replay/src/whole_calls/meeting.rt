@@ -5,7 +5,7 @@
 //! one, which is repeated on the machine.
 ghost use Rattle.table_terms.specs.Capacities.{IsFirstCapacity};
 
-use crate::fault::{Fault, granted};
+use crate::fault::{ReplayFault, granted};
 use crate::item::Said;
 use crate::replay::{Ground, any_request, new_table};
 use crate::schedules::Ask;
@@ -76,7 +76,7 @@ impl<'w, 'm> Place<'w, 'm> {
         number: u64,
         ask: Ask,
         meeting: Meeting,
-    ) -> Result<Vec<Mark>, Fault> {
+    ) -> Result<Vec<Mark>, ReplayFault> {
         if meeting == Meeting::Lock {
             self.signs.take_over();
         }
@@ -91,14 +91,14 @@ impl<'w, 'm> Place<'w, 'm> {
         numbers: (u64, u64),
         meeting: Meeting,
         asks: (Ask, Ask),
-    ) -> Result<(Vec<Mark>, Vec<Mark>), Fault> {
+    ) -> Result<(Vec<Mark>, Vec<Mark>), ReplayFault> {
         let (one, other) = thread::join(
             rt,
             || run_alone(rt, self.ground, numbers.0, asks.0, self.signs),
             || self.run_second(rt, numbers.1, asks.1, meeting),
         );
         if self.ground.memory.went_alone() != 0 {
-            return Err(Fault::Alone);
+            return Err(ReplayFault::Alone);
         }
         Ok((one?, other?))
     }
@@ -111,7 +111,7 @@ impl<'w, 'm> Place<'w, 'm> {
         tops: Tops<'_>,
         meeting: Meeting,
         asks: (Ask, Ask),
-    ) -> Result<Vec<Mark>, Fault> {
+    ) -> Result<Vec<Mark>, ReplayFault> {
         let plan = Plan::Worked { tops, inside: &[] };
         let mut marks = run_plan(rt, self.ground, &Script::new(Manner::Lawful, 0), plan)?;
         let calls = tops.filled.saturating_add(tops.then.len() as u64);
@@ -150,7 +150,7 @@ pub fn run_meeting<R: Threads + Wait + Sync>(
     tops: Tops<'_>,
     meeting: Meeting,
     asks: (Ask, Ask),
-) -> Result<Vec<(u64, Said)>, Fault>
+) -> Result<Vec<(u64, Said)>, ReplayFault>
     requires { IsFirstCapacity first }
 {
     let memory = Refusing::new(alloc, meeting.rule().paired(meeting.pairs(), MOST_LOOKS));
@@ -173,7 +173,7 @@ fn weave_at_bucket(
     first_wins: bool,
     one: &[Mark],
     other: &[Mark],
-) -> Result<(), Fault> {
+) -> Result<(), ReplayFault> {
     let (one_began, one) = split_began(one)?;
     let (other_began, other) = split_began(other)?;
     let (one_comes, other_comes) = (Mark::AtEmpty(numbers.0), Mark::AtEmpty(numbers.1));
@@ -194,7 +194,7 @@ fn weave_at_lock(
     second: u64,
     one: &[Mark],
     other: &[Mark],
-) -> Result<(), Fault> {
+) -> Result<(), ReplayFault> {
     let (began, after) = split_began(other)?;
     let mut waits = false;
     for mark in one {
@@ -208,15 +208,15 @@ fn weave_at_lock(
 }
 
 /// Splits the marks of a call into its beginning and the rest. `Err`: there are none.
-fn split_began(marks: &[Mark]) -> Result<(Mark, &[Mark]), Fault> {
+fn split_began(marks: &[Mark]) -> Result<(Mark, &[Mark]), ReplayFault> {
     match marks.split_first() {
         Some((began, after)) => Ok((*began, after)),
-        None => Err(Fault::Unfinished),
+        None => Err(ReplayFault::Unfinished),
     }
 }
 
 /// Adds these marks. `Err`: no memory.
-fn add_all(marks: &mut Vec<Mark>, more: &[Mark]) -> Result<(), Fault> {
+fn add_all(marks: &mut Vec<Mark>, more: &[Mark]) -> Result<(), ReplayFault> {
     for mark in more {
         granted(marks.push(*mark))?;
     }

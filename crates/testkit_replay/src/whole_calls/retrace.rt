@@ -1,5 +1,5 @@
 //! The schedule that repeats a trace of whole calls step by step.
-use crate::fault::Fault;
+use crate::fault::ReplayFault;
 use crate::replay::{Replay, Turn};
 use crate::running::{Schedule, Stepped, Took};
 use crate::whole_calls::trace::{Mark, Sight};
@@ -33,7 +33,7 @@ impl<'t> Retrace<'t> {
     }
 
     /// Returns the next turn for this mark: a step of its call until the mark is reached, and then what the mark asks for. `Err`: a fault.
-    fn follow(&mut self, replay: &mut Replay<'_, '_>, mark: Mark) -> Result<Turn, Fault> {
+    fn follow(&mut self, replay: &mut Replay<'_, '_>, mark: Mark) -> Result<Turn, ReplayFault> {
         match mark {
             Mark::Asked(call, _, accepted) => self.step(replay, call, accepted, 0),
             Mark::Hashed(call, _, hash) => self.step(replay, call, true, hash),
@@ -58,9 +58,9 @@ impl<'t> Retrace<'t> {
         call: u64,
         accepted: bool,
         hash: u64,
-    ) -> Result<Turn, Fault> {
+    ) -> Result<Turn, ReplayFault> {
         if self.steps == 0 {
-            return Err(Fault::Unfinished);
+            return Err(ReplayFault::Unfinished);
         }
         self.steps = self.steps.saturating_sub(1);
         Ok(replay.step(call as usize, accepted, hash))
@@ -68,7 +68,7 @@ impl<'t> Retrace<'t> {
 }
 
 /// Does what a mark asks for once it is reached: begins a call, sets refusals, or compares. `Err`: a difference, or no memory.
-fn end(replay: &mut Replay<'_, '_>, mark: Mark) -> Result<Turn, Fault> {
+fn end(replay: &mut Replay<'_, '_>, mark: Mark) -> Result<Turn, ReplayFault> {
     match mark {
         Mark::Began(ask) => return replay.begin(ask),
         Mark::Refuses(passing, refused) => replay.ground.memory.refuse(passing, refused),
@@ -80,16 +80,16 @@ fn end(replay: &mut Replay<'_, '_>, mark: Mark) -> Result<Turn, Fault> {
 }
 
 /// Checks that the table shows this, and that the machine agrees with it. `Err`: there is a difference, or no memory.
-fn compare_sight(replay: &mut Replay<'_, '_>, sight: Sight) -> Result<(), Fault> {
+fn compare_sight(replay: &mut Replay<'_, '_>, sight: Sight) -> Result<(), ReplayFault> {
     if sight != Sight::of(replay.ground.table, replay.ground.first) {
-        return Err(Fault::Sight);
+        return Err(ReplayFault::Sight);
     }
     replay.compare_walk()
 }
 
 /// Returns whether a mark was reached by a step with this result. A closure was called with the entry `met`, if there is one. `Err`: the
 /// step doesn't lead to the mark.
-fn is_reached(mark: Mark, took: Took, met: Option<u64>) -> Result<bool, Fault> {
+fn is_reached(mark: Mark, took: Took, met: Option<u64>) -> Result<bool, ReplayFault> {
     match mark {
         Mark::Asked(call, entry, _) => meets(call, entry, took, met),
         Mark::Hashed(call, entry, _) => meets(call, entry, took, met),
@@ -101,41 +101,41 @@ fn is_reached(mark: Mark, took: Took, met: Option<u64>) -> Result<bool, Fault> {
 }
 
 /// Returns whether a closure was called with this entry. `Err`: it was called with another one, or the call ended or was blocked first.
-fn meets(call: u64, entry: u64, took: Took, met: Option<u64>) -> Result<bool, Fault> {
+fn meets(call: u64, entry: u64, took: Took, met: Option<u64>) -> Result<bool, ReplayFault> {
     match met {
         Some(met) if met == entry => Ok(true),
         None if took == Took::Moved => Ok(false),
-        _ => Err(Fault::Asked { call }),
+        _ => Err(ReplayFault::Asked { call }),
     }
 }
 
 /// Checks that the call goes on and called no closure. Returns false, since `follow` passes such a mark by the phase. `Err`: it isn't so.
-fn goes_on(call: u64, goes: bool, met: Option<u64>) -> Result<bool, Fault> {
+fn goes_on(call: u64, goes: bool, met: Option<u64>) -> Result<bool, ReplayFault> {
     if goes && met.is_none() {
         Ok(false)
     } else {
-        Err(Fault::Asked { call })
+        Err(ReplayFault::Asked { call })
     }
 }
 
 /// Checks that the call was blocked, since another one holds the lock. Returns true. `Err`: it took a step.
-fn waits(call: u64, took: Took) -> Result<bool, Fault> {
+fn waits(call: u64, took: Took) -> Result<bool, ReplayFault> {
     if took == Took::Blocked {
         Ok(true)
     } else {
-        Err(Fault::Step { call })
+        Err(ReplayFault::Step { call })
     }
 }
 
 impl Schedule for Retrace<'_> {
-    fn next(&mut self, replay: &mut Replay<'_, '_>) -> Result<Turn, Fault> {
+    fn next(&mut self, replay: &mut Replay<'_, '_>) -> Result<Turn, ReplayFault> {
         match self.left.first() {
             Some(mark) => self.follow(replay, *mark),
             None => replay.end(),
         }
     }
 
-    fn hear(&mut self, replay: &mut Replay<'_, '_>, stepped: Stepped) -> Result<(), Fault> {
+    fn hear(&mut self, replay: &mut Replay<'_, '_>, stepped: Stepped) -> Result<(), ReplayFault> {
         replay.follow(stepped)?;
         let Some(mark) = self.left.first() else {
             return Ok(());

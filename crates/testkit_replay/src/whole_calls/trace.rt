@@ -1,5 +1,5 @@
 //! Traces: what happens while whole calls run, in order.
-use crate::fault::Fault;
+use crate::fault::ReplayFault;
 use crate::item::Said;
 use crate::running::Table;
 use crate::schedules::Ask;
@@ -59,7 +59,7 @@ pub struct Trace {
     marks: RefCell<Vec<Mark>>,
     begun: Cell<u64>,
     /// The last fault of the trace itself, or of a call inside a closure.
-    fault: Cell<Option<Fault>>,
+    fault: Cell<Option<ReplayFault>>,
 }
 
 impl Trace {
@@ -79,7 +79,7 @@ impl Trace {
             Err(_used) => false,
         };
         if !noted {
-            self.fault.set(Some(Fault::NoMemory));
+            self.fault.set(Some(ReplayFault::NoMemory));
         }
     }
 
@@ -92,14 +92,14 @@ impl Trace {
     }
 
     /// Records the fault of a call inside a closure, if it has one.
-    pub fn keep(&self, ended: Result<(), Fault>) {
+    pub fn keep(&self, ended: Result<(), ReplayFault>) {
         if let Err(fault) = ended {
             self.fault.set(Some(fault));
         }
     }
 
     /// Returns all marks. `Err`: the trace has a fault.
-    pub fn into_marks(self) -> Result<Vec<Mark>, Fault> {
+    pub fn into_marks(self) -> Result<Vec<Mark>, ReplayFault> {
         let Trace {
             marks,
             begun: _,

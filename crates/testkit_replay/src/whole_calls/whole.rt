@@ -1,5 +1,5 @@
 //! Whole calls on a table, and what runs inside their closures.
-use crate::fault::{Fault, granted};
+use crate::fault::{ReplayFault, granted};
 use crate::item::{Item, Said};
 use crate::replay::Ground;
 use crate::running::Table;
@@ -77,7 +77,7 @@ impl<'w, 'n, 'm> Scene<'w, 'n, 'm> {
     }
 
     /// Records the result of a call that has ended, and notes what the table shows.
-    fn look_after(&self, ended: Result<(), Fault>) {
+    fn look_after(&self, ended: Result<(), ReplayFault>) {
         self.trace.keep(ended);
         let sight = Sight::of(self.ground.table, self.ground.first);
         self.trace.note(Mark::Saw(sight));
@@ -188,7 +188,12 @@ impl Inside for Cutting {
 
 impl<'w, 'n, 'm, R: Wait> Whole<'w, 'n, 'm, R> {
     /// Runs a whole call while `lock` is held. `inside` runs in its closures. `Err`: no memory for its value.
-    pub(crate) fn call<I: Inside>(&self, ask: Ask, lock: Lock, inside: &I) -> Result<(), Fault> {
+    pub(crate) fn call<I: Inside>(
+        &self,
+        ask: Ask,
+        lock: Lock,
+        inside: &I,
+    ) -> Result<(), ReplayFault> {
         let number = self.scene.trace.begin(ask);
         let said = match ask {
             Ask::Insert(class, hash) => self.insert(
@@ -207,7 +212,7 @@ impl<'w, 'n, 'm, R: Wait> Whole<'w, 'n, 'm, R> {
     }
 
     /// Runs a whole insert, and returns its reply. While it calls its equality closure, `lock` is held. `Err`: no memory for its value.
-    fn insert<I: Inside>(&self, item: Item, lock: Lock, inside: &I) -> Result<Said, Fault> {
+    fn insert<I: Inside>(&self, item: Item, lock: Lock, inside: &I) -> Result<Said, ReplayFault> {
         let value = granted(Box::new(self.scene.ground.alloc, item))?;
         let reply = self.scene.ground.table.insert(
             self.rt,
@@ -252,7 +257,7 @@ impl<'w, 'n, 'm, R: Wait> Whole<'w, 'n, 'm, R> {
     }
 
     /// Runs a top call, and notes what the table shows then. `Err`: no memory for its value.
-    fn run_top(&self, top: Top) -> Result<(), Fault> {
+    fn run_top(&self, top: Top) -> Result<(), ReplayFault> {
         let (ask, refusals) = top;
         self.scene.refuse(refusals);
         self.call(ask, Lock::Free, &Cutting)?;
@@ -261,7 +266,7 @@ impl<'w, 'n, 'm, R: Wait> Whole<'w, 'n, 'm, R> {
     }
 
     /// Runs all calls of the plan. `Err`: no memory for a value.
-    fn run(&self, plan: Plan<'_>) -> Result<(), Fault> {
+    fn run(&self, plan: Plan<'_>) -> Result<(), ReplayFault> {
         match plan {
             Plan::Drawn { tops, refuses } => {
                 for _top in 0..tops {
@@ -274,7 +279,7 @@ impl<'w, 'n, 'm, R: Wait> Whole<'w, 'n, 'm, R> {
     }
 
     /// Runs these calls. The calls of the scene are due in the last of them. `Err`: no memory for a value.
-    fn run_worked(&self, tops: Tops<'_>) -> Result<(), Fault> {
+    fn run_worked(&self, tops: Tops<'_>) -> Result<(), ReplayFault> {
         for number in 0..tops.filled {
             self.run_top((Ask::Insert(number, number), (0, 0)))?;
         }
@@ -294,7 +299,7 @@ pub(crate) fn run_plan<R: Wait>(
     ground: Ground<'_, '_>,
     script: &Script,
     plan: Plan<'_>,
-) -> Result<Vec<Mark>, Fault> {
+) -> Result<Vec<Mark>, ReplayFault> {
     let trace = Trace::new(ground.alloc, 0);
     let inside = match plan {
         Plan::Drawn { .. } => None,
@@ -316,7 +321,7 @@ pub(crate) fn run_alone<R: Wait, I: Inside>(
     number: u64,
     ask: Ask,
     inside: &I,
-) -> Result<Vec<Mark>, Fault> {
+) -> Result<Vec<Mark>, ReplayFault> {
     let script = Script::new(Manner::Lawful, 0);
     let trace = Trace::new(ground.alloc, number);
     let whole = Whole {

@@ -1,5 +1,5 @@
 //! Why rounds end early.
-use crate::{Fault, Round};
+use crate::{Round, RoundFault};
 use std::fmt::{Display, Formatter};
 use std::{fmt, io};
 
@@ -7,7 +7,7 @@ use std::{fmt, io};
 #[derive(Debug, Drop)]
 pub enum Stop {
     /// A round had a fault.
-    Fault(Round, Fault),
+    Fault(Round, RoundFault),
     /// The clock or the output failed.
     Io(io::Error),
 }

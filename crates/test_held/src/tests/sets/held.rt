@@ -9,7 +9,7 @@ use std::ops::Range;
 use std::process::Abort;
 use std::test::Fail;
 use table_sets::{HeldSet, InPlace, Inserted, NumberLaw};
-use testkit::counting::numbers::Told;
+use testkit::counting::numbers::InsertEnd;
 
 /// A set of numbers in place.
 type InPlaces = HeldSet<InPlace<u64>, NumberLaw>;
@@ -29,7 +29,7 @@ fn insert_all(
     set: &mut Numbers<Global>,
     alloc: Global,
     numbers: Range<u64>,
-    expected: Told,
+    expected: InsertEnd,
 ) -> Result<(), AllocError> {
     for number in numbers {
         assert!(rt; insert_box(set, alloc, number)? == expected);
@@ -41,8 +41,8 @@ fn insert_all(
 #[test]
 fn boxed_numbers(rt: HostRuntime) -> Result<(), Fail> {
     let mut set: Numbers<Global> = HeldSet::new(rt.alloc());
-    insert_all(&rt, &mut set, rt.alloc(), 0..300, Told::Placed)?;
-    insert_all(&rt, &mut set, rt.alloc(), 0..300, Told::Found)?;
+    insert_all(&rt, &mut set, rt.alloc(), 0..300, InsertEnd::Placed)?;
+    insert_all(&rt, &mut set, rt.alloc(), 0..300, InsertEnd::Found)?;
     assert_numbers(&rt, &set, 300);
     Ok(())
 }
@@ -51,7 +51,7 @@ fn boxed_numbers(rt: HostRuntime) -> Result<(), Fail> {
 #[test]
 fn the_value_comes_back(rt: HostRuntime) {
     let mut set: InPlaces = HeldSet::new(rt.alloc());
-    assert_told(&rt, &mut set, InPlace(7), Told::Placed);
+    assert_told(&rt, &mut set, InPlace(7), InsertEnd::Placed);
     match set.insert(InPlace(7)) {
         Inserted::Found(InPlace(back)) => assert_same(&rt, back, 7),
         Inserted::Placed | Inserted::Refused(_) => assert!(rt; false),
@@ -62,7 +62,7 @@ fn the_value_comes_back(rt: HostRuntime) {
 
 /// Asserts how many buckets the set has after its first insert.
 fn assert_first_buckets(rt: &impl Abort, mut set: InPlaces, buckets: u64) {
-    assert_told(rt, &mut set, InPlace(7), Told::Placed);
+    assert_told(rt, &mut set, InPlace(7), InsertEnd::Placed);
     assert_same(rt, set.into_table().capacity_alone() as u64, buckets);
 }
 
@@ -77,7 +77,7 @@ fn the_first_generation_has_as_many_buckets_as_were_asked_for(rt: HostRuntime) {
 #[test]
 fn the_entry_is_shown(rt: HostRuntime) {
     let mut set: InPlaces = HeldSet::new(rt.alloc());
-    for expected in [Told::Placed, Told::Found] {
+    for expected in [InsertEnd::Placed, InsertEnd::Found] {
         for number in 0..20 {
             assert_same(
                 &rt,
@@ -92,7 +92,7 @@ fn the_entry_is_shown(rt: HostRuntime) {
 #[test]
 fn walks(rt: HostRuntime) -> Result<(), Fail> {
     let mut set: Numbers<Global> = HeldSet::new(rt.alloc());
-    insert_all(&rt, &mut set, rt.alloc(), 1..21, Told::Placed)?;
+    insert_all(&rt, &mut set, rt.alloc(), 1..21, InsertEnd::Placed)?;
     let (by_iter, by_loop) = (sum_shown(set.iter()), sum_shown((&set).into_iter()));
     assert_sums(&rt, [by_iter, by_loop, sum_handed(set.into_iter())]);
     Ok(())

@@ -4,7 +4,7 @@ use std::alloc::{AllocError, Global};
 use std::process::Abort;
 use std::test::Fail;
 use table_sets::{HeldSet, Shown};
-use testkit::counting::numbers::{Told, refused_in_turn};
+use testkit::counting::numbers::{InsertEnd, refused_in_turn};
 use testkit::refusing::{Refusing, Rule};
 
 /// How many numbers are inserted. The set grows from 16 buckets to 32, and then to 64.
@@ -21,14 +21,14 @@ fn refused_inserts(rt: &impl Abort, alloc: Global, passing: u64) -> Result<u64, 
     let mut set: Numbers<&Refusing<Global>> = HeldSet::new(&memory);
     let mut refused = 0u64;
     for number in 0..NUMBERS {
-        if insert_box(&mut set, alloc, number)? == Told::Refused {
+        if insert_box(&mut set, alloc, number)? == InsertEnd::Refused {
             refused = refused.wrapping_add(1);
             assert_numbers(rt, &set, number);
-            assert!(rt; insert_box(&mut set, alloc, number)? == Told::Placed);
+            assert!(rt; insert_box(&mut set, alloc, number)? == InsertEnd::Placed);
         }
     }
     assert_numbers(rt, &set, NUMBERS);
-    assert!(rt; insert_box(&mut set, alloc, 4)? == Told::Found);
+    assert!(rt; insert_box(&mut set, alloc, 4)? == InsertEnd::Found);
     Ok(refused)
 }
 
@@ -49,7 +49,11 @@ fn no_memory_at_all(rt: HostRuntime) -> Result<(), Fail> {
     }
     assert_numbers(&rt, &set, 0);
     memory.refuse(3, u64::MAX);
-    for (number, told) in [(0, Told::Placed), (1, Told::Refused), (0, Told::Found)] {
+    for (number, told) in [
+        (0, InsertEnd::Placed),
+        (1, InsertEnd::Refused),
+        (0, InsertEnd::Found),
+    ] {
         assert!(rt; insert_box(&mut set, rt.alloc(), number)? == told);
     }
     assert_numbers(&rt, &set, 1);

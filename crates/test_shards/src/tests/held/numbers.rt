@@ -3,7 +3,7 @@ use lock_free_hashtable::sharded::HeldShardedTable;
 use std::alloc::{Allocator, Global};
 use table_terms::law::{NumberLaw, hash_number};
 use testkit::counting::asked::{hash, same};
-use testkit::counting::numbers::{Told, told_by};
+use testkit::counting::numbers::{InsertEnd, told_by};
 
 /// A table of boxed numbers over `SHARDS` shards.
 pub type Numbers<const SHARDS: usize, A> = HeldShardedTable<Box<u64>, SHARDS, A>;
@@ -13,15 +13,15 @@ pub fn insert<const SHARDS: usize, A: Allocator + Copy>(
     table: &mut Numbers<SHARDS, A>,
     alloc: Global,
     number: u64,
-) -> Told {
+) -> InsertEnd {
     let Ok(value) = Box::new(alloc, number) else {
-        return Told::Wrong;
+        return InsertEnd::Wrong;
     };
     match table.place_alone::<NumberLaw, _, _>(hash_number(number), value, &same, &hash) {
-        Ok((_, None)) => Told::Placed,
-        Ok((_, Some(back))) if *back == number => Told::Found,
-        Err(back) if *back == number => Told::Refused,
-        _ => Told::Wrong,
+        Ok((_, None)) => InsertEnd::Placed,
+        Ok((_, Some(back))) if *back == number => InsertEnd::Found,
+        Err(back) if *back == number => InsertEnd::Refused,
+        _ => InsertEnd::Wrong,
     }
 }
 
@@ -30,13 +30,13 @@ pub fn show<const SHARDS: usize, A: Allocator + Copy>(
     table: &mut Numbers<SHARDS, A>,
     alloc: Global,
     number: u64,
-) -> Told {
+) -> InsertEnd {
     match Box::new(alloc, number) {
         Ok(value) => told_by(
             table.insert_alone::<NumberLaw, _, _>(hash_number(number), value, same, hash),
             number,
         ),
-        Err(_) => Told::Wrong,
+        Err(_) => InsertEnd::Wrong,
     }
 }
 
@@ -48,7 +48,7 @@ pub fn fill<const SHARDS: usize>(
 ) -> u64 {
     let mut placed = 0u64;
     for number in 0..count {
-        placed = placed.wrapping_add(u64::from(insert(table, alloc, number) == Told::Placed));
+        placed = placed.wrapping_add(u64::from(insert(table, alloc, number) == InsertEnd::Placed));
     }
     placed
 }

@@ -7,8 +7,8 @@ use lock_free_hashtable::raw::HeldRawTable;
 use std::alloc::{AllocError, Global};
 use std::process::Abort;
 use std::test::Fail;
-use testkit::counting::numbers::{Told, refused_in_turn};
-use testkit::plain_list::told::Told as Reply;
+use testkit::counting::numbers::{InsertEnd, refused_in_turn};
+use testkit::plain_list::reply::PlainReply;
 use testkit::refusing::{Refusing, Rule};
 
 /// How many runs are made. Each grants one request more than the run before, and refuses the next one.
@@ -38,7 +38,7 @@ fn insert_by(
     table: &mut Numbers<2, &Refusing<Global>>,
     alloc: Global,
     number: u64,
-) -> Told {
+) -> InsertEnd {
     match form {
         Form::Places => insert(table, alloc, number),
         Form::Shows => show(table, alloc, number),
@@ -53,10 +53,10 @@ fn is_placed(
     number: u64,
 ) -> bool {
     let mut told = insert_by(form, table, alloc, number);
-    if told == Told::Refused && holds(table, number) {
+    if told == InsertEnd::Refused && holds(table, number) {
         told = insert_by(form, table, alloc, number);
     }
-    told == Told::Placed && holds(table, number.wrapping_add(1))
+    told == InsertEnd::Placed && holds(table, number.wrapping_add(1))
 }
 
 /// Inserts 17 numbers and then the fifth again, while the request after the first `passing` ones is refused. Asserts that each is placed,
@@ -67,7 +67,7 @@ fn assert_all_placed(rt: &impl Abort, alloc: Global, form: Form, passing: u64) -
     for number in 0..17u64 {
         assert!(rt; is_placed(form, &mut table, alloc, number), "{number}");
     }
-    let is_found = insert_by(form, &mut table, alloc, 4) == Told::Found;
+    let is_found = insert_by(form, &mut table, alloc, 4) == InsertEnd::Found;
     assert!(rt; is_found && holds(&table, 17));
     heap.refusals_left() == 0
 }
@@ -109,8 +109,8 @@ fn inserts(alloc: Global) -> Result<Vec<Step>, AllocError> {
 }
 
 /// Returns whether the step is an insert whose value was refused and returned.
-fn is_refused(step: Step, told: Reply) -> bool {
-    matches!((step, told), (Step::Insert(number), Reply::Refused(back)) if number == back)
+fn is_refused(step: Step, told: PlainReply) -> bool {
+    matches!((step, told), (Step::Insert(number), PlainReply::Refused(back)) if number == back)
 }
 
 /// Asserts that the answers are those of a list without the refused inserts. Returns the length of the list then. `Err`: no memory.
@@ -118,7 +118,7 @@ fn assert_told_or_refused(
     rt: &impl Abort,
     alloc: Global,
     steps: &[Step],
-    told: &[Reply],
+    told: &[PlainReply],
 ) -> Result<usize, AllocError> {
     let mut list = Vec::new(alloc);
     for (step, told) in steps.iter().zip(told) {

@@ -9,7 +9,7 @@ use std::process::Abort;
 use std::test::Fail;
 use table_terms::law::{NumberLaw, hash_number};
 use testkit::plain_list::PlainList;
-use testkit::plain_list::told::{Told, told_by};
+use testkit::plain_list::reply::{PlainReply, told_by};
 
 /// A call on a table of numbers.
 #[derive(Clone, Copy)]
@@ -44,7 +44,10 @@ pub fn calls<A: Allocator + Copy>(
 }
 
 /// Returns the replies with numbers in place of values. `Err`: no memory.
-pub fn told_by_all(alloc: Global, replies: &[Reply<Box<u64>>]) -> Result<Vec<Told>, AllocError> {
+pub fn told_by_all(
+    alloc: Global,
+    replies: &[Reply<Box<u64>>],
+) -> Result<Vec<PlainReply>, AllocError> {
     let mut told = Vec::with_capacity(alloc, replies.len())?;
     for reply in replies {
         told.push(told_by(reply))?;
@@ -73,7 +76,7 @@ fn run<B: AloneTable<Box<u64>, NumberLaw>>(
     alloc: Global,
     table: &mut B,
     steps: &[Step],
-) -> Result<Vec<Told>, AllocError> {
+) -> Result<Vec<PlainReply>, AllocError> {
     match run_numbers(alloc, table, calls(alloc, alloc, steps)?) {
         Ok(replies) => told_by_all(alloc, replies.as_slice()),
         Err(_) => Err(AllocError),
@@ -85,7 +88,7 @@ fn tells<B: AloneTable<Box<u64>, NumberLaw>>(
     alloc: Global,
     table: &mut B,
     steps: &[Step],
-    expected: &[Told],
+    expected: &[PlainReply],
 ) -> bool {
     match run(alloc, table, steps) {
         Ok(told) => told.as_slice() == expected,
@@ -94,14 +97,14 @@ fn tells<B: AloneTable<Box<u64>, NumberLaw>>(
 }
 
 /// Asserts that a new table of each kind gives the expected answers: the plain list, the raw table, and tables over shards.
-fn assert_told(rt: &impl Abort, alloc: Global, steps: &[Step], expected: &[Told]) {
+fn assert_told(rt: &impl Abort, alloc: Global, steps: &[Step], expected: &[PlainReply]) {
     assert!(rt; tells(alloc, &mut PlainList::new(alloc), steps, expected));
     assert!(rt; tells(alloc, &mut HeldRawTable::new(alloc), steps, expected));
     assert!(rt; tells_over_shards(alloc, steps, expected));
 }
 
 /// Returns whether new tables over one, two, four, eight and sixteen shards all give the expected answers.
-fn tells_over_shards(alloc: Global, steps: &[Step], expected: &[Told]) -> bool {
+fn tells_over_shards(alloc: Global, steps: &[Step], expected: &[PlainReply]) -> bool {
     tells(alloc, &mut one_shard(alloc), steps, expected)
         && tells(alloc, &mut two_shards(alloc), steps, expected)
         && tells(alloc, &mut four_shards(alloc), steps, expected)
@@ -119,14 +122,14 @@ const STEPS: [Step; 7] = [
     Step::Len,
 ];
 
-const TOLD: [Told; 7] = [
-    Told::Placed(1),
-    Told::Found(1, 1),
-    Told::Some(1),
-    Told::Len(1),
-    Told::Placed(2),
-    Told::None,
-    Told::Len(2),
+const TOLD: [PlainReply; 7] = [
+    PlainReply::Placed(1),
+    PlainReply::Found(1, 1),
+    PlainReply::Some(1),
+    PlainReply::Len(1),
+    PlainReply::Placed(2),
+    PlainReply::None,
+    PlainReply::Len(2),
 ];
 
 #[test]
@@ -135,23 +138,23 @@ fn calls_are_told_what_a_list_tells(rt: HostRuntime) {
 }
 
 /// Takes the step on a list of numbers, and returns the answer. `Err`: no memory.
-pub fn list_tells(list: &mut Vec<u64>, step: Step) -> Result<Told, AllocError> {
+pub fn list_tells(list: &mut Vec<u64>, step: Step) -> Result<PlainReply, AllocError> {
     match step {
         Step::Insert(number) => {
             if list.contains(&number) {
-                return Ok(Told::Found(number, number));
+                return Ok(PlainReply::Found(number, number));
             }
             list.push(number)?;
-            Ok(Told::Placed(number))
+            Ok(PlainReply::Placed(number))
         }
         Step::Lookup(number) => {
             if list.contains(&number) {
-                Ok(Told::Some(number))
+                Ok(PlainReply::Some(number))
             } else {
-                Ok(Told::None)
+                Ok(PlainReply::None)
             }
         }
-        Step::Len => Ok(Told::Len(list.len())),
+        Step::Len => Ok(PlainReply::Len(list.len())),
     }
 }
 

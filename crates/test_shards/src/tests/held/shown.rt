@@ -8,7 +8,7 @@ use std::process::Abort;
 use std::test::Fail;
 use table_terms::law::NumberLaw;
 use testkit::counting::asked::hash;
-use testkit::counting::numbers::Told;
+use testkit::counting::numbers::InsertEnd;
 
 /// Returns whether the tables have the same entries in the same order, and equally many buckets. `Err`: no memory.
 fn are_alike<const SHARDS: usize>(
@@ -32,7 +32,7 @@ fn assert_told<const SHARDS: usize>(
     places: &Numbers<SHARDS, Global>,
     alloc: Global,
     number: u64,
-    told: Told,
+    told: InsertEnd,
 ) -> Result<(), AllocError> {
     assert_eq!(rt; show(shows, alloc, number), told, "{number}");
     assert!(rt; are_alike(shows, places, alloc)?, "{number}");
@@ -49,9 +49,9 @@ fn assert_shows_as_placed<const SHARDS: usize>(
     numbers: u64,
 ) -> Result<(), AllocError> {
     for number in 0..numbers {
-        assert!(rt; insert(&mut places, alloc, number) == Told::Placed);
-        assert_told(rt, &mut shows, &places, alloc, number, Told::Placed)?;
-        assert_told(rt, &mut shows, &places, alloc, number, Told::Found)?;
+        assert!(rt; insert(&mut places, alloc, number) == InsertEnd::Placed);
+        assert_told(rt, &mut shows, &places, alloc, number, InsertEnd::Placed)?;
+        assert_told(rt, &mut shows, &places, alloc, number, InsertEnd::Found)?;
     }
     assert!(rt; holds(&shows, numbers));
     Ok(())

@@ -10,7 +10,7 @@ use table_terms::law::hash_number;
 use testkit::counting::asked;
 use testkit::counting::asked::Numbered;
 use testkit::counting::numbers::{count_first, told_by};
-pub(crate) use testkit::counting::numbers::{Inserts, Numbers, Told};
+pub(crate) use testkit::counting::numbers::{InsertEnd, Inserts, Numbers};
 
 /// A table of boxed numbers over `SHARDS` shards.
 pub(crate) type Table<const SHARDS: usize, A> = ShardedLockFreeRawTable<Box<u64>, SHARDS, A>;
@@ -21,7 +21,7 @@ pub(crate) fn insert_at<R: Wait, T: AtomicValue, const SHARDS: usize, A: Low + C
     table: &ShardedLockFreeRawTable<T, SHARDS, A>,
     hash: u64,
     value: T,
-) -> Told
+) -> InsertEnd
 where
     T::Target: Numbered,
 {
@@ -33,7 +33,7 @@ where
 /// A table of boxed numbers, each under its own hash, over any number of shards and any allocator.
 pub(crate) trait OverShards {
     /// Inserts the number in a box of `alloc`, and returns the answer.
-    fn insert_of<R: Wait>(&self, rt: &R, alloc: Global, number: u64) -> Told;
+    fn insert_of<R: Wait>(&self, rt: &R, alloc: Global, number: u64) -> InsertEnd;
 
     /// Returns whether a look-up finds the number.
     fn has(&self, number: u64) -> bool;
@@ -47,10 +47,10 @@ pub(crate) trait OverShards {
 
 impl<const SHARDS: usize, A: Low + Copy> OverShards
     for ShardedLockFreeRawTable<Box<u64>, SHARDS, A> {
-    fn insert_of<R: Wait>(&self, rt: &R, alloc: Global, number: u64) -> Told {
+    fn insert_of<R: Wait>(&self, rt: &R, alloc: Global, number: u64) -> InsertEnd {
         match Box::new(alloc, number) {
             Ok(value) => insert_at(rt, self, hash_number(number), value),
-            Err(_) => Told::Wrong,
+            Err(_) => InsertEnd::Wrong,
         }
     }
 
@@ -82,7 +82,7 @@ pub(crate) struct Sharded<'a, T> {
 }
 
 impl<'a, T: OverShards> Inserts for Sharded<'a, T> {
-    fn insert<R: Wait>(&self, rt: &R, number: u64) -> Told {
+    fn insert<R: Wait>(&self, rt: &R, number: u64) -> InsertEnd {
         self.table.insert_of(rt, self.alloc, number)
     }
 }

@@ -1,6 +1,6 @@
 //! Tests with one entry in one shard. A call uses only the shard of its hash, or all shards.
 use super::made::{eight, eight_of, one};
-use super::numbers::{Table, Told, insert_at};
+use super::numbers::{InsertEnd, Table, insert_at};
 use crate::tests::assert_same;
 use lock_free_hashtable::raw::is_first_capacity;
 use std::alloc::{AllocError, Allocator, Global};
@@ -66,7 +66,7 @@ fn assert_alone_in<R: Abort + Wait>(
 ) {
     let number = *value;
     let was_empty = table.is_empty();
-    let is_placed = insert_at(rt, table, hash_in(shard, end), value) == Told::Placed;
+    let is_placed = insert_at(rt, table, hash_in(shard, end), value) == InsertEnd::Placed;
     let [first, second] = first_two(table);
     assert_same(
         rt,
@@ -130,7 +130,7 @@ fn count_handed(table: Table<1, Global>) -> u64 {
 /// Inserts the number, and asserts that a look-up finds it and that the table and its one shard have `number` entries.
 fn assert_taken<R: Abort + Wait>(rt: &R, table: &Table<1, Global>, hash: u64, value: Box<u64>) {
     let number = *value;
-    let is_placed = insert_at(rt, table, hash, value) == Told::Placed;
+    let is_placed = insert_at(rt, table, hash, value) == InsertEnd::Placed;
     let seen = [
         u64::from(is_placed),
         shown(table, hash),

@@ -1,6 +1,6 @@
 //! Tests over eight shards with values that count their drops.
 use super::made::eight;
-use super::numbers::{Told, insert_at};
+use super::numbers::{InsertEnd, insert_at};
 use crate::tests::assert_same;
 use lock_free_hashtable::sharded::ShardedLockFreeRawTable;
 use std::alloc::{AllocError, Global};
@@ -24,7 +24,7 @@ fn filled<R: Wait + Abort>(rt: &R, alloc: Global, drops: &Drops) -> Result<Table
     let mut placed = 0u64;
     for number in 0..VALUES {
         let told = insert_at(rt, &table, hash_number(number), drops.counting(number)?);
-        placed = placed.wrapping_add(u64::from(told == Told::Placed));
+        placed = placed.wrapping_add(u64::from(told == InsertEnd::Placed));
     }
     assert!(rt; placed == VALUES);
     Ok(table)

@@ -1,6 +1,6 @@
 //! Tests of look-ups and iterators with a thousand numbers over eight shards.
 use super::made::{eight, eight_held};
-use super::numbers::{Inserts, Sharded, Table, Told, assert_handed};
+use super::numbers::{InsertEnd, Inserts, Sharded, Table, assert_handed};
 use crate::tests::assert_same;
 use lock_free_hashtable::sharded::{HeldShardedTable, Share};
 use std::alloc::{AllocError, Global};
@@ -66,7 +66,7 @@ fn what_is_shared_is_walked_and_handed_out_once(rt: HostRuntime) -> Result<(), F
 fn lengthens<R: Wait>(rt: &R, numbers: &Sharded<'_, Table<8, Global>>, number: u64) -> bool {
     let shard = numbers.table.shard(hash_number(number));
     let before = shard.len();
-    let is_placed = numbers.insert(rt, number) == Told::Placed;
+    let is_placed = numbers.insert(rt, number) == InsertEnd::Placed;
     is_placed && shard.len() == before.saturating_add(1)
 }
 

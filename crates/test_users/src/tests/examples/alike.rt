@@ -6,7 +6,7 @@ use lock_free_hashtable::InPlace;
 use lock_free_hashtable::alone::Reply;
 use std::process::Abort;
 use std::test::Fail;
-use testkit::plain_list::told::{Told, told_by};
+use testkit::plain_list::reply::{PlainReply, told_by};
 
 /// The words `LOW`, `SECOND`, `THIRD` and `HIGH` belong to the shards 0, 1, 2 and 3.
 const LOW: u64 = 7;
@@ -30,17 +30,17 @@ const ASKS: [Ask; 10] = [
     Ask::Count,
 ];
 
-const TOLD: [Told; 10] = [
-    Told::Len(0),
-    Told::None,
-    Told::Placed(LOW),
-    Told::Placed(HIGH),
-    Told::Found(LOW, LOW),
-    Told::Some(LOW),
-    Told::Placed(SECOND),
-    Told::Placed(THIRD),
-    Told::Some(HIGH),
-    Told::Len(4),
+const TOLD: [PlainReply; 10] = [
+    PlainReply::Len(0),
+    PlainReply::None,
+    PlainReply::Placed(LOW),
+    PlainReply::Placed(HIGH),
+    PlainReply::Found(LOW, LOW),
+    PlainReply::Some(LOW),
+    PlainReply::Placed(SECOND),
+    PlainReply::Placed(THIRD),
+    PlainReply::Some(HIGH),
+    PlainReply::Len(4),
 ];
 
 fn assert_told(rt: &impl Abort, replies: &[Reply<InPlace<u64>>]) {

@@ -25,7 +25,7 @@ step-state-requires-in_default g c = record { fits = rw (begun_phase _ c.insert.
 pub go_on-requires : goal.go_on-requires
 go_on-requires g c =
     let on : c.step-state.result.phase ≡ Shared = begun_phase _ c.insert.result c.step-state.result c.insert.ensures c.step-state.ensures.decided in
-    let b = finds_none {A = g.row.A.Denot} (begins_shared c.args.self.now.home g.T.AtomicValue.target c.of-given.result.value c.args.value _ c.insert.result c.step-state.result _ c.insert.ensures (sym c.of-given.ensures) refl (λ h e. sym (some_same c.share-guard.result.home h e) ∙ c.share-guard.ensures) c.step-state.ensures.decided)
+    let b = finds_none {A = g.row.A.Denot} (begins_shared c.args.self.now.home g.T.AtomicValue.target c.of-given.result.value c.args.value _ c.insert.result c.step-state.result _ c.insert.ensures (sym c.of-given.ensures) refl (λ h e. sym (some_same c.lock_shared-guard.result.home h e) ∙ c.lock_shared-guard.ensures) c.step-state.ensures.decided)
     c.step-state-in_default.result on (taken Shared NoGeneration c.step-state.result c.step-state-in_default.result on c.step-state-in_default.ensures.decided) in
     record { unfinished = shares_on b refl; between = b; asks = record { calls_eq = c.requires.eq_callable; calls_hash = c.requires.hash_callable; heard = tt } }
 
@@ -53,7 +53,7 @@ loop-guard-init g c =
       phase = probes;
       walked = ap (λ (t : CallState). t.walked) same ∙ c.step_loaded-started.ensures.starting.walked.0;
       between =
-          starts (begins_shared {A = g.row.A.Denot} c.args.self.now.home g.T.AtomicValue.target c.of-given.result.value c.args.value _ c.insert.result c.step-state.result _ c.insert.ensures (sym c.of-given.ensures) refl (λ h e. sym (some_same c.share-guard.result.home h e) ∙ c.share-guard.ensures) c.step-state.ensures.decided)
+          starts (begins_shared {A = g.row.A.Denot} c.args.self.now.home g.T.AtomicValue.target c.of-given.result.value c.args.value _ c.insert.result c.step-state.result _ c.insert.ensures (sym c.of-given.ensures) refl (λ h e. sym (some_same c.lock_shared-guard.result.home h e) ∙ c.lock_shared-guard.ensures) c.step-state.ensures.decided)
           c.spelt-state.result c.in-Some.current.number c.in-Some.current.generation on probes (rw (← same) at (rw c.capacity-capacity.ensures at c.step_loaded-started.ensures.starting)) c.in-Some.ensures.home;
       same = refl;
     }

@@ -1,0 +1,9 @@
+use mathlib.Core.List.{IsPrefix}
+use Rattle.table_numbered.specs.Generations.{IsOf}
+use Rattle.table_numbered.proofs.generation.NumberedGeneration.hint_all.Given as goal
+
+abbrev pub invariant-loop-index : goal.invariant-loop-index
+invariant-loop-index g l = record {
+  of : IsOf g.L.Law.same g.L.Law.hash_of l.self.of l.seen.book l.seen.names l.seen.log;
+  longer : IsPrefix l.fn.seen.log l.seen.log;
+}
