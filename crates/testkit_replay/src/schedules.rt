@@ -19,10 +19,11 @@ pub enum Ask {
     Lookup(u64, u64),
 }
 
-/// Draws a class, and returns it with its hash. Different classes can have the same hash, or only the same first bucket and mark.
+/// Draws a class, and returns it with its hash. Different classes can have the same hash, or only the same first bucket, with the same
+/// mark or with another one.
 pub(crate) fn draw_class(script: &Script) -> (u64, u64) {
     let class = script.draw(CLASSES);
-    (class, (class % 24) | ((class & 3) << 32))
+    (class, (class % 24) | ((class / 24 & 1) << 32))
 }
 
 /// Draws a call. One in three is a look-up, or none if `lookups` is false.

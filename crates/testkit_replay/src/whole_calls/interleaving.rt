@@ -167,12 +167,12 @@ impl<'s> Rehearsal<'s> {
         }
     }
 
-    /// Draws a call. Three of four are inserts, and one of three has the class that was drawn last. Classes with the same first bucket have
-    /// the same hash.
+    /// Draws a call. Three of four are inserts, and one of three has the class that was drawn last. Classes with the same first bucket
+    /// have the same mark, or another one.
     fn draw_ask(&mut self) -> Ask {
         if self.script.draw(3) != 0 {
             let class = self.script.draw(CLASSES);
-            self.drawn = (class, (class % 12) | ((class & 1) << 32));
+            self.drawn = (class, (class % 12) | ((class / 12 & 1) << 32));
         }
         let (class, hash) = self.drawn;
         if self.script.draw(4) == 0 {

@@ -51,7 +51,7 @@ fn pairs(rt: HostRuntime) {
     assert!(rt; Law::hash(&(3u64, 4u32)) != Law::hash(&(4u64, 3u32)));
 }
 
-/// Checks which texts match a key, which texts are equal, and that a text has the hash of its bytes.
+/// Checks which texts match a key, which texts are equal, and that a text and its key have the hash of the bytes.
 #[test]
 fn keys(rt: HostRuntime) -> Result<(), Fail> {
     let text: String<Global> = String::from_str(rt.alloc(), "ab")?;
@@ -59,6 +59,8 @@ fn keys(rt: HostRuntime) -> Result<(), Fail> {
     assert!(rt; TextLaw::is_met(&"ab", &text) && !TextLaw::is_met(&"ab", &other));
     assert!(rt; TextLaw::is_same(&text, &text) && !TextLaw::is_same(&text, &other));
     assert_same(&rt, TextLaw::hash(&text), 0xB1A1_C301_919D_DD8F);
+    let key_hash = <TextLaw as KeyLaw<&str, String<Global>>>::hash_key(&"ab");
+    assert_same(&rt, key_hash, 0xB1A1_C301_919D_DD8F);
     Ok(())
 }
 
