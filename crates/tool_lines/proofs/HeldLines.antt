@@ -6,6 +6,7 @@ use Rattle.std.proofs.lemmas.Bool.{false≢true}
 use Rattle.std.proofs.lemmas.List.{length-map, map_push}
 use Rattle.std.proofs.lemmas.Slice.Eq.{bytes_eq-Decides}
 use Rattle.std.proofs.Math.ListN.{get_or-map}
+use Rattle.table_generations.specs.declared.atomic_value.InPlace.{InPlace}
 use Rattle.table_held.specs.Table.{HeldTable, Place, entries, entry_at}
 use Rattle.table_held.specs.Held.{ShowsAt, IsLawfulInsert, PlacesAsList, InsertReplies, equal, LooksUpAsList, LookupReplies, IsLawfulLookup}
 use Rattle.table_terms.specs.ListObject.{ListReply, Placed, Found, Insert, Lookup, Answers}
@@ -15,13 +16,19 @@ use Rattle.tool_lines.specs.Hashes.{same_by_bytes, hash_by_bytes}
 use Rattle.std.specs.Io.KnownBytes.{Appends}
 use Rattle.std.proofs.KnownBytes.{Appends-trans}
 use Rattle.tool_lines.specs.Firsts.{firsts, deduped, with_break}
-use Rattle.tool_lines.specs.Seen.{IsLineTable, HoldsLines, SeesLine, RefusesLine}
+use Rattle.tool_lines.specs.LineSet.{IsLineTable, HoldsLines, SeesLine, RefusesLine}
 use Rattle.tool_lines.specs.Taken.{TakesLines}
 use Rattle.tool_lines.proofs.Firsts.{firsts_known, firsts_new, Contains_from_firsts, Contains_in_firsts, deduped_known, deduped_new}
 
-module _ {T V : Type 0} (target : T → V) (bytes : V → List ℕ) where
+module _ {V : Type 0} (bytes : V → List ℕ) where
+  abbrev T : Type 0
+  T = InPlace V
+
+  abbrev target : T → V
+  target e = e.0
+
   abbrev bytes_of : T → List ℕ
-  bytes_of e = bytes (target e)
+  bytes_of e = bytes e.0
 
   -- the bytes of an element are among the bytes of all
   has_bytes : (M : List T) (e : T) → Contains M e → Contains (map bytes_of M) (bytes_of e)
@@ -31,8 +38,8 @@ module _ {T V : Type 0} (target : T → V) (bytes : V → List ℕ) where
   abbrev has : List ℕ → V → Bool
   has x v = bytes_eq (bytes v) x
 
-  lawful_lookup : (t : HeldTable T) (answers : V → Bool → Type 0) (x : List ℕ) → ((v : V) (answer : Bool) → answers v answer → answer ≡ has x v) → IsLineTable target bytes t
-      → IsLawfulLookup target (same_by_bytes bytes) (hash_by_bytes bytes) answers (IsLineTable target bytes t) (entries t) (mixed_hash x) (has x)
+  lawful_lookup : (t : HeldTable T) (answers : V → Bool → Type 0) (x : List ℕ) → ((v : V) (answer : Bool) → answers v answer → answer ≡ has x v) → IsLineTable bytes t
+      → IsLawfulLookup target (same_by_bytes bytes) (hash_by_bytes bytes) answers (IsLineTable bytes t) (entries t) (mixed_hash x) (has x)
   lawful_lookup t answers x test_is lawful = record {
     test_is = λ e answer among h. test_is _ answer h;
     hash_is = λ e among h. ap mixed_hash ((bytes_eq-Decides (bytes_of e) x).0 h);
@@ -52,10 +59,10 @@ module _ {T V : Type 0} (target : T → V) (bytes : V → List ℕ) where
       let same : bytes_of e ≡ x = (bytes_eq-Decides (bytes_of e) x).0 told.0.1 in
       (λ yes. rw same at (has_bytes M e told.0.0), λ among. refl)
 
-  pub looks_up : (answers : V → Bool → Type 0) (t : HeldTable T) (x : List ℕ) (hash : ℕ) (shown : Option V) → IsLineTable target bytes t
+  pub looks_up : (answers : V → Bool → Type 0) (t : HeldTable T) (x : List ℕ) (hash : ℕ) (shown : Option V) → IsLineTable bytes t
       → ((v : V) (answer : Bool) → answers v answer → answer ≡ has x v) → hash ≡ mixed_hash x
       → LooksUpAsList target (same_by_bytes bytes) (hash_by_bytes bytes) answers t hash shown
-      → (lines : List (List ℕ)) → HoldsLines target bytes t lines → IsTrue (is_some shown) ↔ Contains lines x
+      → (lines : List (List ℕ)) → HoldsLines bytes t lines → IsTrue (is_some shown) ↔ Contains lines x
   looks_up answers t x hash shown lawful test_is hash_is as_list lines (M, stands, is) =
       let at_hash : LooksUpAsList target (same_by_bytes bytes) (hash_by_bytes bytes) answers t (mixed_hash x) shown = rw hash_is at as_list in
       let told = at_hash (has x) (lawful_lookup t answers x test_is lawful) M stands in
@@ -88,11 +95,11 @@ module _ {T V : Type 0} (target : T → V) (bytes : V → List ℕ) where
     kept new p None replies h = placed (entry_at new p) replies h
     kept new p (Some back) replies h = found back (entry_at new p) replies h
 
-  lawful_insert : (eq : V → V → Bool → Type 0) (rehash : V → ℕ → Type 0) (old : HeldTable T) (hash : ℕ) (value : T) (x : List ℕ) → IsLineTable target bytes old
+  lawful_insert : (eq : V → V → Bool → Type 0) (rehash : V → ℕ → Type 0) (old : HeldTable T) (hash : ℕ) (value : T) (x : List ℕ) → IsLineTable bytes old
       → ((a b : V) (answer : Bool) → eq a b answer → answer ≡ same_by_bytes bytes a b)
       → ((a : V) (h : ℕ) → rehash a h → h ≡ hash_by_bytes bytes a)
       → hash ≡ mixed_hash x → bytes_of value ≡ x
-      → IsLawfulInsert target (same_by_bytes bytes) (hash_by_bytes bytes) eq rehash (IsLineTable target bytes old) (entries old) hash value
+      → IsLawfulInsert target (same_by_bytes bytes) (hash_by_bytes bytes) eq rehash (IsLineTable bytes old) (entries old) hash value
   lawful_insert eq rehash old hash value x lawful eq_is rehash_is hash_is value_is = record {
     eq_is = λ e answer among h. eq_is _ _ answer h;
     rehash_is = λ e h among r. rehash_is _ h r;
@@ -102,33 +109,33 @@ module _ {T V : Type 0} (target : T → V) (bytes : V → List ℕ) where
   }
 
   -- after an Ok the table holds the lines and the new one
-  pub keeps : (eq : V → V → Bool → Type 0) (rehash : V → ℕ → Type 0) (old new : HeldTable T) (hash : ℕ) (value : T) (x : List ℕ) (p : Place) (back : Option T) → IsLineTable target bytes old
+  pub keeps : (eq : V → V → Bool → Type 0) (rehash : V → ℕ → Type 0) (old new : HeldTable T) (hash : ℕ) (value : T) (x : List ℕ) (p : Place) (back : Option T) → IsLineTable bytes old
       → ((a b : V) (answer : Bool) → eq a b answer → answer ≡ same_by_bytes bytes a b)
       → ((a : V) (h : ℕ) → rehash a h → h ≡ hash_by_bytes bytes a)
       → hash ≡ mixed_hash x → bytes_of value ≡ x
       → PlacesAsList target (same_by_bytes bytes) (hash_by_bytes bytes) eq rehash old hash value (Ok (p, back)) new
-      → (lines : List (List ℕ)) → HoldsLines target bytes old lines → HoldsLines target bytes new (lines ++ x ∷ [])
+      → (lines : List (List ℕ)) → HoldsLines bytes old lines → HoldsLines bytes new (lines ++ x ∷ [])
   keeps eq rehash old new hash value x p back lawful eq_is rehash_is hash_is value_is as_list lines (M, stands, is) =
       let told = as_list (lawful_insert eq rehash old hash value x lawful eq_is rehash_is hash_is value_is) M stands in
       (told.1, told.4, rw value_is at (kept M told.1 value told.0 lines is new p back told.2 told.3))
 
   -- a known line changes nothing
-  pub sees_known : (t : HeldTable T) (x : List ℕ) → ((lines : List (List ℕ)) → HoldsLines target bytes t lines → Contains lines x) → SeesLine target bytes t x true t
+  pub sees_known : (t : HeldTable T) (x : List ℕ) → ((lines : List (List ℕ)) → HoldsLines bytes t lines → Contains lines x) → SeesLine bytes t x true t
   sees_known t x known lines (M, stands, is) =
       let among = known lines (M, stands, is) in
       ((λ yes. among, λ held. refl), (M, stands, is ∙ sym (firsts_known lines x among)))
 
   -- a line that is not known, and a table that holds the same lines
-  pub refuses_new : (old new : HeldTable T) (x : List ℕ) → ((lines : List (List ℕ)) → HoldsLines target bytes old lines → IsTrue false ↔ Contains lines x)
-      → ((lines : List (List ℕ)) → HoldsLines target bytes old lines → HoldsLines target bytes new lines) → RefusesLine target bytes old x new
+  pub refuses_new : (old new : HeldTable T) (x : List ℕ) → ((lines : List (List ℕ)) → HoldsLines bytes old lines → IsTrue false ↔ Contains lines x)
+      → ((lines : List (List ℕ)) → HoldsLines bytes old lines → HoldsLines bytes new lines) → RefusesLine bytes old x new
   refuses_new old new x unknown stay lines held = (λ known. false≢true ((unknown lines held).1 known), stay lines held)
 
-  pub takes_known : (old new : HeldTable T) (x : List ℕ) (before : Option (List ℕ)) → SeesLine target bytes old x true new → TakesLines (HoldsLines target bytes) deduped old (x ∷ []) new before before
+  pub takes_known : (old new : HeldTable T) (x : List ℕ) (before : Option (List ℕ)) → SeesLine bytes old x true new → TakesLines (HoldsLines bytes) deduped old (x ∷ []) new before before
   takes_known old new x before sees lines start held wrote =
       let told = sees lines held in
       (told.1, (let same = deduped_known lines x (told.0.0 refl) in rw same wrote))
 
-  pub takes_new : (old new : HeldTable T) (x : List ℕ) (before after : Option (List ℕ)) → SeesLine target bytes old x false new → Appends before after (with_break x) → TakesLines (HoldsLines target bytes) deduped old (x ∷ []) new before after
+  pub takes_new : (old new : HeldTable T) (x : List ℕ) (before after : Option (List ℕ)) → SeesLine bytes old x false new → Appends before after (with_break x) → TakesLines (HoldsLines bytes) deduped old (x ∷ []) new before after
   takes_new old new x before after sees more lines start held wrote =
       let told = sees lines held in
       let none : ¬ Contains lines x = λ known. false≢true (told.0.1 known) in

@@ -5,7 +5,7 @@ pub mod Pieces
 pub mod Texts
 pub mod Firsts
 pub mod Counts
-pub mod Seen
+pub mod LineSet
 pub mod Taken
 pub mod Fibonacci
 pub mod Memo

@@ -4,23 +4,23 @@ ghost use Rattle.std.specs.Io.KnownBytes.{Appends};
 ghost use Rattle.tool_lines.specs.Firsts.{with_break};
 
 use crate::faults::Fault;
+use crate::line_set::{HashedLine, LineSet, StoredLine};
 use crate::line_tool::{LineTool, TextLine};
-use crate::seen::Seen;
 use std::alloc::Allocator;
 use std::io::Write;
 use tool_streams::faults::StreamFault;
 
-impl<A: Allocator + Copy> LineTool for Seen<'_, A> {
+impl<T: StoredLine<A>, A: Allocator + Copy> LineTool for LineSet<T, A> {
     ghost use Rattle.tool_lines.specs.Firsts.{deduped};
-    ghost use Rattle.tool_lines.specs.Seen.{HoldsLines};
+    ghost use Rattle.tool_lines.specs.LineSet.{HoldsLines};
 
-    ghost has_taken = { λ t lines. HoldsLines (λ v. v.0) (λ line. line.now) t lines };
+    ghost has_taken = { HoldsLines T.bytes_of };
 
     ghost written = { deduped };
 
     /// Writes the line, unless it is equal to an earlier one.
     fn take_line<W: Write>(&mut self, line: TextLine<'_>, output: &mut W) -> Result<(), Fault> {
-        match self.seen_before(line.bytes) {
+        match self.seen_before(HashedLine::new(line.bytes)) {
             Ok(true) => Ok(()),
             Ok(false) => write_line(line.bytes, output),
             Err(_) => Err(Fault::Stream(StreamFault::NoMemory)),

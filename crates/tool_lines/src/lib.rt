@@ -7,6 +7,7 @@
 
 pub mod dedup;
 pub mod faults;
+pub mod line_set;
 pub mod line_tool;
 pub mod memo;
 pub mod memo_lines;
@@ -15,7 +16,6 @@ pub mod memo_shared;
 pub mod memo_threads;
 pub mod parallel;
 pub mod program;
-pub mod seen;
 pub mod texts;
 pub mod tool;
 pub mod word_counts;

@@ -21,7 +21,7 @@ use tool_streams::messages::end_with;
 pub enum MemoRequest {
     /// Answer each line before more input is read.
     Lines,
-    /// Answer batches of lines, each by so many threads.
+    /// Answer batches of lines, each by this number of threads.
     Batches(usize),
 }
 

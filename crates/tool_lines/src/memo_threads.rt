@@ -43,7 +43,7 @@ fn solve_part<A: Low + Copy>(answers: &Answers<A>, arguments: &[u64]) -> Result<
     Ok(())
 }
 
-/// Computes the Fibonacci numbers of the arguments by at most so many threads, and stores them. If memory is refused, some are not stored.
+/// Computes the Fibonacci numbers of the arguments by at most `threads` threads, and stores them. If memory is refused, some are not stored.
 fn solve<R: Threads + Sync, A: Low + Copy + Send + Sync>(
     rt: &R,
     alloc: A,
@@ -155,7 +155,7 @@ fn answer_batches<R: Threads + Sync, A: Low + Copy + Send + Sync, I: Read, O: Wr
     Err(LineFault::Stream(StreamFault::ReadFailed))
 }
 
-/// Answers the lines of the input by so many threads, in the order of the lines, and returns the exit status. It answers up to 4096 lines
+/// Answers the lines of the input by `threads` threads, in the order of the lines, and returns the exit status. It answers up to 4096 lines
 /// at once. If there is a fault, it writes the message to `messages`, after the answers to the lines before it.
 pub fn run_memo_by<
     R: Threads + Sync,
@@ -174,7 +174,7 @@ pub fn run_memo_by<
     }
 }
 
-/// Answers the lines of the input by so many threads.
+/// Answers the lines of the input by `threads` threads.
 fn answer_lines_by<R: Threads + Sync, A: Low + Copy + Send + Sync, I: Read + Drop, O: Write>(
     rt: &R,
     alloc: A,

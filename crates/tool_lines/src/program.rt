@@ -5,10 +5,10 @@ ghost use Rattle.tool_lines.specs.Tools.{AsksTool, AsksHelp, help, written_by};
 ghost use Rattle.tool_lines.specs.declared.tool.Tool.{Tool as ToolOf};
 
 use crate::faults::Fault;
+use crate::line_set::LineSet;
 use crate::line_tool::take_texts;
 use crate::parallel::rounds;
 use crate::parallel::rounds::{RoundTool, Split};
-use crate::seen::Seen;
 use crate::texts::{NamedTexts, OneText, TextFiles, Texts};
 use crate::tool::{Help, Request, Tool, ToolFault, Usage, parse_request};
 use crate::word_counts::WordCounts;
@@ -198,7 +198,7 @@ pub fn run_tool<A: Allocator + Copy, T: Texts, O: Write>(
             words.write_to(output)
         }
         Tool::Dedup => {
-            let mut seen = Seen::new(&arena);
+            let mut seen = LineSet::<&[u8], _>::new(&arena);
             take_texts(alloc, &mut seen, texts, output)
         }
     }

@@ -24,7 +24,7 @@ pub enum Tool {
 pub enum Request<'a, S> {
     /// Write the help text.
     Help,
-    /// Run this tool by so many threads over the texts of these names, or over standard input if there are none.
+    /// Run this tool by `threads` threads over the texts of these names, or over standard input if there are none.
     Run {
         tool: Tool,
         threads: usize,

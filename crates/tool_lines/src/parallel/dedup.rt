@@ -1,7 +1,8 @@
 //! The tool `dedup` by several threads.
 use crate::dedup::write_line;
 use crate::faults::Fault;
-use crate::parallel::hashed_lines::{HashedLine, hash_lines};
+use crate::line_set::HashedLine;
+use crate::parallel::hashed_lines::hash_lines;
 use crate::parallel::line_part::LinePart;
 use crate::parallel::share::Share;
 use std::alloc::{AllocError, Allocator};

@@ -1,31 +1,10 @@
 //! The lines of one piece, with their hashes.
 ghost use Rattle.std.specs.Prelude.{◌≡◌, ◌<◌, [], ◌∷◌, length, map, IfOk, IfSome, IfNone};
-ghost use Rattle.interner.specs.Hashes.{mixed_hash};
 ghost use Rattle.tool_streams.specs.Lines.{CutsLine};
 ghost use Rattle.tool_lines.specs.Pieces.{lines_of};
 
-use interner::{Mixed, TextHash};
+use crate::line_set::HashedLine;
 use std::alloc::{AllocError, Allocator};
-
-/// A line of a piece, without its line break, and its hash.
-#[derive(Clone, Copy)]
-pub struct HashedLine<'p> {
-    pub bytes: &'p [u8],
-    pub hash: u64,
-    ghost hashed: { hash ≡ mixed_hash bytes.now },
-}
-
-impl<'p> HashedLine<'p> {
-    /// Makes the line of these bytes.
-    pub fn new(bytes: &'p [u8]) -> Self
-        ensures { result.bytes.now ≡ bytes.now }
-    {
-        HashedLine {
-            bytes,
-            hash: Mixed::hash(bytes),
-        }
-    }
-}
 
 /// Returns the lines of the piece, in order. `Err`: memory was refused.
 pub fn hash_lines<A: Allocator + Copy>(

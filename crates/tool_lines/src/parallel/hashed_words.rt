@@ -4,6 +4,7 @@ ghost use Rattle.interner.specs.Hashes.{mixed_hash};
 ghost use Rattle.tool_lines.specs.Pieces.{words_of};
 
 use crate::faults::Fault;
+use crate::line_set::HashedLine;
 use crate::words::first_word;
 use interner::{Mixed, TextHash};
 use std::alloc::Allocator;
@@ -15,6 +16,18 @@ pub struct HashedWord<'p> {
     pub text: &'p str,
     pub hash: u64,
     ghost hashed: { hash ≡ mixed_hash text.now },
+}
+
+impl<'p> HashedWord<'p> {
+    /// Returns the bytes of the word, with their hash.
+    pub fn line(self) -> HashedLine<'p>
+        ensures { result.bytes.now ≡ self.entry.text.now }
+    {
+        HashedLine {
+            bytes: self.text.as_bytes(),
+            hash: self.hash,
+        }
+    }
 }
 
 /// The words of a piece, in order.

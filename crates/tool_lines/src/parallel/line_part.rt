@@ -1,5 +1,5 @@
 //! The lines of one part.
-use crate::parallel::hashed_lines::HashedLine;
+use crate::line_set::HashedLine;
 use crate::parallel::kept_lines::KeptLines;
 use crate::parallel::share::Share;
 use std::alloc::{AllocError, Allocator};

@@ -7,7 +7,7 @@ use tool_streams::faults::StreamFault;
 /// The number of bytes that are read from the input at once.
 const BLOCK: usize = 65536;
 
-/// The pieces of a reader. A piece has so many bytes and the rest of their last line, or else it is the last one.
+/// The pieces of a reader. A piece has `length` bytes and the rest of their last line, or else it is the last one.
 #[derive(Drop)]
 pub struct Pieces<R: Read, A: Allocator + Copy> {
     reader: BufReader<R, A>,
@@ -40,7 +40,7 @@ impl<R: Read + Drop, A: Allocator + Copy> Pieces<R, A> {
         self.fault
     }
 
-    /// Reads the next pieces, at most so many. There are fewer only if no other piece is left.
+    /// Reads the next pieces, at most `most`. There are fewer only if no other piece is left.
     pub fn read_round(&mut self, most: usize) -> Result<Vec<Vec<u8, A>, A>, StreamFault> {
         let Ok(mut pieces) = Vec::with_capacity(self.alloc, most) else {
             return Err(StreamFault::NoMemory);
@@ -99,7 +99,7 @@ impl<R: Read + Drop, A: Allocator + Copy> Pieces<R, A> {
         Err(StreamFault::ReadFailed)
     }
 
-    /// Appends bytes of one read, at most so many. Returns whether the reader's end was seen. An interrupted read appends nothing.
+    /// Appends bytes of one read, at most `most`. Returns whether the reader's end was seen. An interrupted read appends nothing.
     fn append_block(&mut self, bytes: &mut Vec<u8, A>, most: usize) -> Result<bool, StreamFault> {
         let block = match self.reader.fill_buf() {
             Ok(block) => block,

@@ -27,7 +27,7 @@ pub enum RoundTool<A: Allocator + Copy> {
 }
 
 impl<A: Allocator + Copy> RoundTool<A> {
-    /// Makes the tool, which has taken no line, for so many threads. `Err`: memory was refused.
+    /// Makes the tool, which has taken no line, for `threads` threads. `Err`: memory was refused.
     pub fn new(tool: Tool, alloc: A, threads: usize) -> Result<Self, AllocError> {
         match tool {
             Tool::Words => Ok(RoundTool::Words(RoundWords::new(alloc, threads)?)),
@@ -95,7 +95,7 @@ pub fn take_texts<R: Threads + Sync, A: Allocator + Copy + Send + Sync, T: Texts
     Err(Fault::Stream(StreamFault::ReadFailed))
 }
 
-/// Takes each line of the pieces, so many pieces at a time.
+/// Takes each line of the pieces, `most` pieces at a time.
 fn take_pieces<R: Threads + Sync, A: Allocator + Copy + Send + Sync, I: Read + Drop, O: Write>(
     rt: &R,
     most: usize,

@@ -1,8 +1,6 @@
 //! The words of one part.
-ghost use Rattle.std.specs.Prelude.{◌≡◌};
-ghost use Rattle.interner.specs.Hashes.{mixed_hash};
-
 use crate::faults::Fault;
+use crate::line_set::HashedLine;
 use crate::parallel::hashed_words::{HashedWord, HashedWords};
 use crate::parallel::kept_lines::KeptLines;
 use crate::parallel::share::Share;
@@ -47,7 +45,7 @@ impl<A: Allocator + Copy> WordPart<A> {
         self.counts.len()
     }
 
-    /// Counts its share of the words of the pieces, before which there were so many words.
+    /// Counts its share of the words of the pieces. The texts have `before` words before these pieces.
     pub fn take_round(&mut self, share: Share, before: u64, pieces: &[HashedWords<'_, A>]) {
         self.fault = match self.count_round(share, before, pieces) {
             Ok(()) => None,
@@ -85,10 +83,10 @@ impl<A: Allocator + Copy> WordPart<A> {
         Ok(())
     }
 
-    /// Counts a word once more, which has so many words before it.
+    /// Counts a word once more. The texts have `before` words before it.
     fn count(&mut self, word: HashedWord<'_>, before: u64) -> Result<(), Fault> {
-        let bytes = word.text.as_bytes();
-        if let Some(at) = self.words.before(word.hash, bytes)
+        let line = word.line();
+        if let Some(at) = self.words.before(line)
             && let Some(count) = self.counts.get_mut(at)
         {
             let Some(times) = count.times.checked_add(1) else {
@@ -97,23 +95,21 @@ impl<A: Allocator + Copy> WordPart<A> {
             count.times = times;
             return Ok(());
         }
-        self.add(word.hash, bytes, before)?;
+        self.add(line, before)?;
         Ok(())
     }
 
     /// Adds a new word, counted once.
-    fn add(&mut self, hash: u64, word: &[u8], before: u64) -> Result<(), AllocError>
-        requires { hash ≡ mixed_hash word.now }
-    {
+    fn add(&mut self, word: HashedLine<'_>, before: u64) -> Result<(), AllocError> {
         self.counts.reserve(1)?;
-        self.words.keep(hash, word)?;
+        self.words.keep(word)?;
         self.counts.push(Count { times: 1, before })?;
         Ok(())
     }
 
     /// Returns the words with their counts, in the order of first appearance. `Err`: memory was refused.
     pub fn in_order(&self, alloc: A) -> Result<Vec<CountedWord<'_>, A>, AllocError> {
-        let words = self.words.in_order()?;
+        let words = self.words.in_order(alloc)?;
         let mut all = Vec::with_capacity(alloc, self.counts.len())?;
         for (word, count) in words.iter().zip(&self.counts) {
             all.push(CountedWord {

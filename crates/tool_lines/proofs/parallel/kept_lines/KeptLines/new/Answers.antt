@@ -1,5 +1,0 @@
-use Rattle.tool_lines.specs.Hashes.{same_by_bytes, hash_by_bytes}
-use Rattle.tool_lines.proofs.parallel.kept_lines.KeptLines.new.Goals as goal
-
-pub invariant_of-result : goal.invariant_of-result
-invariant_of-result g c = c.new.ensures.lawful (same_by_bytes (λ line. line.bytes.items)) (hash_by_bytes (λ line. line.bytes.items))
