@@ -1,5 +1,5 @@
 -- The numbers that a handle has taken ahead.
-use Rattle.std.specs.Prelude.{◌≡◌, ℕ, ◌<◌, IfSome, None}
+use Rattle.std.specs.Prelude.{◌≡◌, ℕ, ◌+◌, ◌<◌, Option, IfSome, None, Some}
 use Rattle.table_slab.specs.Held.{IsRightTo}
 use Rattle.table_slab.specs.Runs.{IsRunOf}
 use Rattle.table_slab.specs.Slabs.{SlabView}
@@ -18,3 +18,12 @@ pub record IsSupplyOf {V A : Type 0} (s : SlabView) (supply : Supply V A) : Type
   pub spare : IfSome supply.spare (IsVacant s)
   pub run : IsRunOf s supply.run
   pub want : 0 < supply.want
+
+-- 1 if there is a spare number, and else 0
+abbrev pub spares : {X : Type 0} → Option X → ℕ
+spares None = 0
+spares (Some x) = 1
+
+-- how many numbers a supply has
+abbrev pub count_of : {V A : Type 0} → Supply V A → ℕ
+count_of supply = spares supply.spare + supply.run.left

@@ -1,7 +1,7 @@
 //! The numbers that a handle has taken ahead.
-ghost use Rattle.std.specs.Prelude.{◌≡◌, ◌<◌, IfSome, IfOk};
+ghost use Rattle.std.specs.Prelude.{◌≡◌, suc, ◌<◌, Some, IfSome, IfOk, IfErr, MatchOption};
 ghost use Rattle.table_slab.specs.Slabs.{SlabView};
-ghost use Rattle.shared_set.specs.Supplies.{IsVacant, IsSupplyOf};
+ghost use Rattle.shared_set.specs.Supplies.{IsVacant, IsSupplyOf, count_of};
 
 use std::alloc::Allocator;
 use std::cmp::min;
@@ -28,11 +28,12 @@ impl<V, A: Allocator> Supply<V, A> {
         }
     }
 
-    /// Takes a number that is there.
+    /// Takes a number that is there. `None` means that there is none.
     pub(crate) fn take(&mut self) -> Option<(u64, Right<V, A>)>
         requires { (s : SlabView) × IsSupplyOf s self.old }
         ensures number { (s : SlabView) → IsSupplyOf s self.old → IfSome result (IsVacant s) }
         ensures rest { (s : SlabView) → IsSupplyOf s self.old → IsSupplyOf s self.new }
+        ensures left { MatchOption result (count_of self.old ≡ 0) (λ _. count_of self.old ≡ suc (count_of self.new)) }
     {
         match self.spare.take() {
             Some(spare) => Some(spare),
@@ -42,7 +43,9 @@ impl<V, A: Allocator> Supply<V, A> {
 
     /// Keeps a number whose slot is empty for the next call of `take`.
     pub(crate) fn keep(&mut self, number: u64, right: Right<V, A>)
-        ensures { (s : SlabView) → IsVacant s (number, right) → IsSupplyOf s self.old → IsSupplyOf s self.new }
+        ensures of { (s : SlabView) → IsVacant s (number, right) → IsSupplyOf s self.old → IsSupplyOf s self.new }
+        ensures spare { self.new.spare ≡ Some (number, right) }
+        ensures run { self.new.run ≡ self.old.run }
     {
         self.spare = Some((number, right));
     }
@@ -59,6 +62,8 @@ impl<V, A: Low + Copy> Supply<V, A> {
         requires { IsSupplyOf slab.now self.old }
         ensures number { IfOk result (IsVacant slab.now) }
         ensures rest { IsSupplyOf slab.now self.new }
+        ensures spare { self.new.spare ≡ self.old.spare }
+        ensures refused { IfErr result (λ _. self.new ≡ self.old) }
     {
         let next = slab.number(&mut self.run, self.want)?;
         if self.want < most {

@@ -99,6 +99,8 @@ impl<T, A: Low + Copy> Slab<T, A> {
         ensures empty { IfOk result (λ r. r.1.room.value ≡ None) }
         ensures of { IsRunOf self.now run.new }
         ensures refused { IfErr result (λ _. run.new ≡ run.old) }
+        ensures left { IfOk result (λ _. 0 < run.old.left → run.old.left ≡ suc run.new.left) }
+        ensures most { IfOk result (λ _. run.old.left ≡ 0 → run.new.left < want) }
     {
         if let Some(next) = run.take() {
             return Ok(next);

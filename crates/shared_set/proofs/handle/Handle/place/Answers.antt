@@ -40,7 +40,7 @@ invariant_of-self-in-Found g c = let i = c.self.invariant in let k = c.self.insi
   at = at_more g.L.Law.same g.L.Law.hash_of c.self.inside.set.now.of k.slot k.stages.book k.stages.names k.stages.log k.entries.book k.entries.names k.entries.log n.book n.names n.log s i.shown
       (subst (λ (v : GenerationView g.row.V.Denot). IsOf g.L.Law.same g.L.Law.hash_of v.of n.book n.names n.log) c.generation-generation.ensures c.place.ensures.of) i.at;
   shown = i.shown;
-  supply = c.keep.ensures c.self.inside.set.now.of.slab (vacant_back c.self.inside.set.now.of.slab c.generation-generation.result.now.of.slab c.args.number c.in-Found.right
+  supply = c.keep.ensures.of c.self.inside.set.now.of.slab (vacant_back c.self.inside.set.now.of.slab c.generation-generation.result.now.of.slab c.args.number c.in-Found.right
       (ap (λ (v : GenerationView g.row.V.Denot). v.of.slab) c.generation-generation.ensures
       ∙ (at_shown g.L.Law.same g.L.Law.hash_of c.self.inside.set.now.of k.slot k.stages.book k.stages.names k.stages.log k.entries.book k.entries.names k.entries.log s i.shown i.at).0)
       c.requires.vacant.small back.1 back.2) i.supply;
@@ -51,7 +51,7 @@ invariant_of-self-in-Full g c = let i = c.self.invariant in let k = c.self.insid
   at = at_more g.L.Law.same g.L.Law.hash_of c.self.inside.set.now.of k.slot k.stages.book k.stages.names k.stages.log k.entries.book k.entries.names k.entries.log n.book n.names n.log s i.shown
       (subst (λ (v : GenerationView g.row.V.Denot). IsOf g.L.Law.same g.L.Law.hash_of v.of n.book n.names n.log) c.generation-generation.ensures c.place.ensures.of) i.at;
   shown = i.shown;
-  supply = c.keep-in-Full.ensures c.self.inside.set.now.of.slab (vacant_back c.self.inside.set.now.of.slab c.generation-generation.result.now.of.slab c.args.number c.in-Full.right
+  supply = c.keep-in-Full.ensures.of c.self.inside.set.now.of.slab (vacant_back c.self.inside.set.now.of.slab c.generation-generation.result.now.of.slab c.args.number c.in-Full.right
       (ap (λ (v : GenerationView g.row.V.Denot). v.of.slab) c.generation-generation.ensures
       ∙ (at_shown g.L.Law.same g.L.Law.hash_of c.self.inside.set.now.of k.slot k.stages.book k.stages.names k.stages.log k.entries.book k.entries.names k.entries.log s i.shown i.at).0)
       c.requires.vacant.small back.1 back.2) i.supply;
