@@ -375,18 +375,27 @@ def size_of(crate):
     return lines_in(code), lines_in(specs), lines_in(proofs), len(edits), tests
 
 
+def group_of(crate, definitions):
+    """The group whose crates share a row, or nothing for a crate with a row of its own."""
+    if crate.startswith("test_"):
+        return "tests"
+    if crate.startswith("testkit"):
+        return "testkits"
+    return "" if definitions else "without definitions"
+
+
 def sizes():
-    """How large each library is, and all crates of each other kind."""
+    """The sizes of each crate with definitions, and the sums of the testkits, of the tests and of the crates without definitions."""
     rows = ["| Crate | Code | Definitions | Proofs | Edits | Tests |", "|---|---|---|---|---|---|"]
-    others = collections.defaultdict(list)
+    groups = collections.defaultdict(list)
     for crate, _ in crates():
         size = size_of(crate)
-        if kind := "tests" if crate.startswith("test_") else "testkits" if crate.startswith("testkit") else "" if size[1] else "without definitions":
-            others[kind].append(size)
+        if group := group_of(crate, size[1]):
+            groups[group].append(size)
         else:
             rows.append(f"| `{crate}` | {' | '.join(map(str, size))} |")
-    for kind, all_of in others.items():
-        rows.append(f"| {kind} ({len(all_of)} crates) | {' | '.join(str(sum(column)) for column in zip(*all_of))} |")
+    for group, all_of in groups.items():
+        rows.append(f"| {group} ({len(all_of)} crates) | {' | '.join(str(sum(column)) for column in zip(*all_of))} |")
     return "\n".join(rows)
 
 

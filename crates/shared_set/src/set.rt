@@ -280,7 +280,7 @@ impl<V, L: SetLaw<V>, A: Low + Copy> SharedSet<V, L, A> {
     }
 }
 
-/// Returns how many buckets a set for this many entries has: a power of two, at least twice as many, and at most 16 or four times as many.
+/// Returns the number of buckets of a set for this many entries: the least power of two that is at least 16 and twice as many.
 fn buckets_for(entries: usize) -> usize
     requires { entries ≤ 2 ^ 31 }
     ensures power { IsPowerOfTwo result }

@@ -47,7 +47,7 @@ pub(crate) fn start<X, N: Names<X>, G, F: Follows<G>>(
     }
 }
 
-/// Makes the update that shows the value of the number in the slot.
+/// Makes the update that shows the value of this number in this slot of the chain.
 pub(crate) fn offering<G, F: Follows<G>, A: Allocator>(
     _seen: &Token<G, F>,
     _slot: u64,
@@ -84,7 +84,7 @@ pub(crate) fn closing<G, F: Follows<G>>(_seen: &Token<G, F>, _slot: u64) -> Plai
     }
 }
 
-/// Returns the two parts of the right, if the slot was set before.
+/// Returns the two parts of the right after an exchange that was lost: the slot was set before.
 fn returned<G, A: Allocator>(
     gained: Gained<Event<G>, u64, Trade<G>>,
     _slot: u64,
@@ -107,7 +107,7 @@ fn returned<G, A: Allocator>(
     )
 }
 
-/// Returns the right, if the slot was set before.
+/// Returns the right after an exchange that was lost: the slot was set before.
 pub(crate) fn right_back<G, A: Allocator>(
     gained: Gained<Event<G>, u64, Trade<G>>,
     slot: u64,

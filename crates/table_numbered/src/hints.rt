@@ -44,7 +44,7 @@ impl<V, L: SetLaw<V>, A: Allocator> Model for Hints<V, L, A> {
     ghost view = { λ h. h.words.items };
 }
 
-/// Returns the number of words for this many buckets: one for 32 buckets, and one more.
+/// Returns the number of words for this many buckets: one for each 32 buckets, and one more.
 pub(crate) fn words_for(buckets: usize) -> usize {
     buckets / NUMBERS as usize + 1
 }

@@ -221,7 +221,7 @@ impl Plot for Drawn<'_> {
 
 /// A schedule of an insert for each of these hashes, and then two calls. The class of an insert is its index. The first call takes up to
 /// `steps.0` steps, and then the second up to `steps.1`. After that the calls run to their ends, each in turn until it is blocked or ends.
-/// The two calls take at most `most` steps.
+/// The calls then have the rest of `most` steps in all to end.
 #[derive(Drop)]
 pub(crate) struct Cut<'c> {
     hashes: &'c [u64],

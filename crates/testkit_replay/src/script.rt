@@ -88,12 +88,12 @@ impl Script {
         self.met.replace(None)
     }
 
-    /// Returns whether a closure accepted the last entry. If none was called since `begin`, returns the answer that was set there.
+    /// Returns whether a closure accepted the last entry. If no closure was called since `begin`, returns the answer that was set there.
     pub fn accepted(&self) -> bool {
         self.accepted.get()
     }
 
-    /// Returns the last hash that a closure gave. If none was called since `begin`, returns the hash that was set there.
+    /// Returns the last hash that a closure gave. If no closure was called since `begin`, returns the hash that was set there.
     pub fn hash(&self) -> u64 {
         self.hash.get()
     }

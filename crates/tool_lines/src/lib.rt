@@ -1,8 +1,8 @@
 //! Tools over lines: `words` counts the words of a text, `dedup` writes each different line once, and a memo table answers numbers.
 //!
-//! Each is a function over a reader and a writer. What it stores in memory has a type of its own. The program `tool_text` runs `words`
-//! or `dedup` ([`program`]). The program `tool_memo` runs [`memo_lines`], over a memo table that stores the results of a recursive
-//! function ([`memo`]), or [`memo_threads`], over one that threads share ([`memo_shared`]).
+//! Each is a function over a reader and a writer. [`line_set`] has the set of lines or words that `dedup`, and the threads of both tools,
+//! store. The program `tool_text` runs `words` or `dedup` ([`program`]). The program `tool_memo` runs [`memo_lines`], over a memo table
+//! that stores the results of a recursive function ([`memo`]), or [`memo_threads`], over one that threads share ([`memo_shared`]).
 #![tactic(auto)]
 
 pub mod dedup;

@@ -30,7 +30,7 @@ impl<'p> HashedLine<'p> {
     }
 }
 
-/// A line as a set stores it, in memory that an `A` gives.
+/// A line as a set stores it. Its memory comes from `A`.
 pub trait StoredLine<A>: Drop {
     ghost use Rattle.std.specs.Prelude.{ℕ, List};
 
@@ -45,7 +45,7 @@ pub trait StoredLine<A>: Drop {
     fn bytes(&self) -> &[u8]
         ensures { result.now ≡ bytes_of self.now };
 
-    /// Returns the hash of the line, which growth asks for.
+    /// Returns the hash of the line, which a growth needs.
     fn hash(&self) -> u64
         ensures { result ≡ mixed_hash (bytes_of self.now) };
 }

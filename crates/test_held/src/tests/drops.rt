@@ -41,7 +41,7 @@ fn table_of(
     Ok(table)
 }
 
-/// Takes two values from an owning iterator, drops it and then those, and asserts which values each step drops. `Err`: no memory.
+/// Takes two values from an owning iterator, drops it and then those, and asserts how many values each step drops. `Err`: no memory.
 fn assert_rest_dropped(
     rt: &impl Abort,
     alloc: Global,

@@ -198,7 +198,7 @@ fn generated_runs_answer_as_the_list(rt: HostRuntime) -> Result<(), Fail> {
 }
 
 /// Makes a run of inserts in which the first `granted` requests are granted and the next `refused` are refused, and then inserts what is
-/// missing until it is an entry. Returns whether all of those were refused. `Err`: no memory for the test itself.
+/// missing until it is an entry. Returns whether all `refused` refusals took place. `Err`: no memory for the test itself.
 fn run_refused(rt: &impl Abort, alloc: Global, granted: u64, refused: u64) -> Result<bool, Fail> {
     let heap = Refusing::new(alloc, Rule::new(0, usize::MAX, granted, refused));
     let mut both = Both::new(&heap, alloc);

@@ -85,7 +85,7 @@ fn shared_after_alone<A: Low + Copy>(alloc: A) -> ([Fared; 3], Option<u64>) {
     ([first, second, third], bucket.take(&closed, alloc, note))
 }
 
-/// Returns memory that grants the first `passing` requests of 16 bytes, the size of an entry of a number, and refuses the next one.
+/// Makes an allocator that grants the first `passing` requests of 16 bytes, the size of an entry of a number, and refuses the next one.
 fn refusing_after<B: Allocator>(inner: B, passing: u64) -> Refusing<B> {
     Refusing::new(inner, Rule::new(16, 16, passing, 1))
 }

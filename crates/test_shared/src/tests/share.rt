@@ -88,7 +88,7 @@ fn handed_to_the_end(
     Ok((length, values.next().is_none(), seen))
 }
 
-/// Asserts that the owning iterator yields the first `numbers` numbers, or drops the table unless `is_handed`. `Err`: no memory.
+/// If `is_handed`, asserts that the owning iterator yields the first `numbers` numbers. Otherwise drops the table. `Err`: no memory.
 fn assert_ended(
     rt: &impl Abort,
     table: Shared<'_>,

@@ -14,7 +14,7 @@ pub(crate) fn assert_same<X: PartialEq + Debug + Drop>(rt: &impl Abort, got: X, 
     assert_eq!(rt; got, expected);
 }
 
-/// Returns memory that grants each request and counts its blocks.
+/// Makes an allocator that grants each request and counts its blocks.
 pub(crate) fn counted(alloc: Global) -> Heap {
     Refusing::new(alloc, Rule::new(0, usize::MAX, 0, 0))
 }

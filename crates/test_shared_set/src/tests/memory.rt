@@ -135,7 +135,7 @@ fn each_request_refused_in_turn(rt: HostRuntime) {
     }
 }
 
-/// Returns memory that refuses the growth of a set of `buckets` buckets, once `refuse` is called. The growth requests twice as many words
+/// Makes an allocator that refuses the growth of a set of `buckets` buckets, once `refuse` is called. The growth requests twice as many words
 /// of eight bytes.
 fn without_growth(alloc: Global, buckets: usize) -> Heap {
     let least = buckets.saturating_mul(16);

@@ -34,7 +34,7 @@ pub struct Report<'a> {
 }
 
 impl Report<'_> {
-    /// Prints the time of one operation since `start`. `Err`: the count `done` isn't `wanted` (then nothing is printed), or an I/O error.
+    /// Prints the mean time of an operation since `start`. `Err`: the count `done` isn't `wanted` (then nothing is printed), or an I/O error.
     pub fn time(
         &self,
         rt: &(impl Print + Clock),

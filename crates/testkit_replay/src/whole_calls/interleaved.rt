@@ -29,7 +29,7 @@ const CALLS: u64 = 20;
 /// The number of times that a thread checks whether its turn has begun. That takes at most twenty seconds if no turn begins.
 const LOOKS: u64 = 4000;
 
-/// How often the watcher checks whether the table shows what a call does before it waits.
+/// How often the watcher compares what the table shows with what was rehearsed for a call that waits.
 const SIGHTS: u64 = 1 << 20;
 
 /// How often the watcher yields after that, so that the call comes to its lock.
@@ -226,7 +226,8 @@ impl<R: Wait> Player<'_, '_, R> {
         }
     }
 
-    /// Waits until the table shows what the blocked call does before it waits, and begins the next turn a little later.
+    /// Waits for the turn of this stop, and until the table shows what was rehearsed for it. Yields `QUIET_YIELDS` times, and begins the
+    /// next turn.
     fn watch(&self, stop: Stop) {
         self.wait(Some(stop.turn));
         for _look in 0..SIGHTS {

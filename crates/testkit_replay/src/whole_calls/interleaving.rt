@@ -167,8 +167,8 @@ impl<'s> Rehearsal<'s> {
         }
     }
 
-    /// Draws a call. Three of four are inserts, and one of three has the class that was drawn last. Classes with the same first bucket
-    /// have the same mark, or another one.
+    /// Draws a call. One in four is a look-up, and one in three has the class that was drawn last. Classes with the same first bucket have
+    /// the same hash, or hashes with different marks.
     fn draw_ask(&mut self) -> Ask {
         if self.script.draw(3) != 0 {
             let class = self.script.draw(CLASSES);
@@ -353,8 +353,8 @@ impl<'s> Rehearsal<'s> {
         self.stop(actor, call, Mark::Told(call, said), sight, Then::Hands)
     }
 
-    /// Returns whether the call of this thread stops at its request for a block. One of two does, but none whose last stop was such a
-    /// request.
+    /// Draws whether the call of this thread stops at its request for a block. One in two does, but none that passes this request
+    /// (`passes_request`).
     fn draws_request(&self, actor: Actor) -> bool {
         !self.part(actor).passes_request && self.script.draw(2) == 0
     }
@@ -390,7 +390,8 @@ impl<'s> Rehearsal<'s> {
         }
     }
 
-    /// Lets the other thread's call go on after that of this thread has ended while both ran. If that has ended too, begins a new turn.
+    /// Lets the other thread's call go on after that of this thread has ended while both ran. If the other call has
+    /// ended too, begins a new turn.
     fn go_on_after(&mut self, actor: Actor) {
         if self.part(actor.other()).call.is_some() {
             self.running = Some(actor.other());

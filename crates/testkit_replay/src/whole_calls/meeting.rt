@@ -166,7 +166,7 @@ pub fn run_meeting<R: Threads + Wait + Sync>(
 }
 
 /// Adds the marks of two inserts that met at an empty bucket. Both come to it, then the winner goes on to its end, and then the loser.
-/// `Err`: no memory.
+/// `Err`: a call has no marks, or no memory.
 fn weave_at_bucket(
     marks: &mut Vec<Mark>,
     numbers: (u64, u64),
@@ -188,7 +188,7 @@ fn weave_at_bucket(
 }
 
 /// Adds the marks of two calls that met at the lock. The second, which has this number, begins when the growth of the first asks for its
-/// first hash. It waits there, and goes on once the first has ended. `Err`: no memory.
+/// first hash. It waits there, and goes on once the first has ended. `Err`: a call has no marks, or no memory.
 fn weave_at_lock(
     marks: &mut Vec<Mark>,
     second: u64,

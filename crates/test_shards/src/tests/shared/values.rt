@@ -30,7 +30,7 @@ fn filled<R: Wait + Abort>(rt: &R, alloc: Global, drops: &Drops) -> Result<Table
     Ok(table)
 }
 
-/// Takes `taken` values from an owning iterator, drops it and then those, and asserts which values each step drops. `Err`: no memory.
+/// Takes `taken` values from an owning iterator, drops it and then those, and asserts how many values each step drops. `Err`: no memory.
 fn assert_taken<R: Wait + Abort>(rt: &R, alloc: Global, taken: u64) -> Result<(), AllocError> {
     let drops = Drops::new(alloc, VALUES)?;
     let mut values = filled(rt, alloc, &drops)?.into_iter();

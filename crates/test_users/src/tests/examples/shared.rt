@@ -16,7 +16,7 @@ const WORDS: u64 = 40;
 /// Each word adds itself and this number to a sum, so that the sum also counts the words.
 const COUNTED: u64 = 1 << 32;
 
-/// Returns memory that counts its requests, and that grants them until `refuse` is called.
+/// Makes an allocator that counts its requests, and grants them until `refuse` is called.
 fn memory(alloc: Global) -> Refusing<Global> {
     Refusing::new(alloc, Rule::new(0, usize::MAX, 0, 0))
 }
