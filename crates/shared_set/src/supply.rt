@@ -28,7 +28,7 @@ impl<V, A: Allocator> Supply<V, A> {
         }
     }
 
-    /// Takes a number that is there. `None` means that there is none.
+    /// Takes the spare number, or else the next one of the run. `None` means that there is none.
     pub(crate) fn take(&mut self) -> Option<(u64, Right<V, A>)>
         requires { (s : SlabView) × IsSupplyOf s self.old }
         ensures number { (s : SlabView) → IsSupplyOf s self.old → IfSome result (IsVacant s) }
@@ -41,7 +41,7 @@ impl<V, A: Allocator> Supply<V, A> {
         }
     }
 
-    /// Keeps a number whose slot is empty for the next call of `take`.
+    /// Keeps a number whose slot is empty as the spare one.
     pub(crate) fn keep(&mut self, number: u64, right: Right<V, A>)
         ensures of { (s : SlabView) → IsVacant s (number, right) → IsSupplyOf s self.old → IsSupplyOf s self.new }
         ensures spare { self.new.spare ≡ Some (number, right) }

@@ -7,14 +7,14 @@ pub enum ReplayFault {
     /// A request of the replay itself for memory was refused.
     NoMemory,
     /// The replies of the table and of the machine to this call differ. `None` means that the call hasn't ended.
-    Told {
+    Reply {
         call: u64,
         table: Option<Said>,
         machine: Option<Said>,
     },
     /// The states of this call in the table and in the machine differ: it is in another phase or at another bucket, or only one of them
     /// blocks it.
-    Stands {
+    State {
         call: u64,
     },
     /// This call didn't take the step that the schedule names.
@@ -25,7 +25,7 @@ pub enum ReplayFault {
     Asked {
         call: u64,
     },
-    /// A call didn't end within the steps that it has, a mark is missing, or growths copied fewer entries than were rehearsed.
+    /// A call didn't end within the steps that it has, a milestone is missing, or growths copied fewer entries than were rehearsed.
     Unfinished,
     /// The lengths of the table and of the machine differ.
     Length,

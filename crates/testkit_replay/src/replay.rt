@@ -327,7 +327,7 @@ impl<'a, 'm> Replay<'a, 'm> {
     fn note(&mut self, stepped: Stepped) {
         if let Some(call) = self.calls.get_mut(self.stepping) {
             call.state = stepped.state;
-            if let Took::Told(said) = stepped.took {
+            if let Took::Ended(said) = stepped.took {
                 call.said = Some(said);
                 self.going = self.going.wrapping_sub(1);
             }
@@ -339,7 +339,7 @@ impl<'a, 'm> Replay<'a, 'm> {
         if self.machine.state_of(call) == Some(state) {
             return Ok(());
         }
-        Err(ReplayFault::Stands { call })
+        Err(ReplayFault::State { call })
     }
 
     /// Checks that the call of this number, which is also its index, ended with this reply. `Err`: it didn't.
@@ -400,7 +400,7 @@ pub(crate) fn buckets(table: &Table<'_>, first: u64) -> u64 {
 /// Checks that the call has the same reply from the table and from the machine, or none from both. `Err`: the replies differ.
 fn compare(call: u64, took: Took, finished: &Option<Finished>) -> Result<(), ReplayFault> {
     let table = match took {
-        Took::Told(said) => Some(said),
+        Took::Ended(said) => Some(said),
         Took::Moved | Took::Blocked => None,
     };
     same_told(call, table, said_to(call, finished))
@@ -411,7 +411,7 @@ fn same_told(call: u64, table: Option<Said>, machine: Option<Said>) -> Result<()
     if table == machine {
         return Ok(());
     }
-    Err(ReplayFault::Told {
+    Err(ReplayFault::Reply {
         call,
         table,
         machine,

@@ -20,7 +20,7 @@ pub enum Took {
     /// The call took no step: others hold the lock that it needs, or it had ended.
     Blocked,
     /// The call took its last step, and has this reply.
-    Told(Said),
+    Ended(Said),
 }
 
 /// The result of a step, and the state of the call after it.
@@ -93,7 +93,7 @@ fn took_insert(progress: &Progress<Result<(&Item, Option<Box<Item>>), Box<Item>>
     match progress {
         Progress::Moved => Took::Moved,
         Progress::Blocked => Took::Blocked,
-        Progress::Done(reply) => Took::Told(Said::of_insert(reply)),
+        Progress::Done(reply) => Took::Ended(Said::of_insert(reply)),
     }
 }
 
@@ -102,7 +102,7 @@ fn took_lookup(progress: Progress<Option<&Item>>) -> Took {
     match progress {
         Progress::Moved => Took::Moved,
         Progress::Blocked => Took::Blocked,
-        Progress::Done(reply) => Took::Told(Said::of_lookup(reply)),
+        Progress::Done(reply) => Took::Ended(Said::of_lookup(reply)),
     }
 }
 

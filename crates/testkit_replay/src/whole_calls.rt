@@ -17,7 +17,7 @@ use crate::replay::{Ground, any_request, new_table, run_schedule};
 use crate::schedules::Ask;
 use crate::script::{Manner, Script};
 use crate::whole_calls::retrace::Retrace;
-use crate::whole_calls::trace::Mark;
+use crate::whole_calls::trace::Milestone;
 use crate::whole_calls::whole::run_plan;
 use std::alloc::Global;
 use std::sync::Wait;
@@ -61,24 +61,29 @@ pub fn run_whole<R: Wait>(
     let memory = Refusing::new(alloc, any_request());
     let table = new_table(&memory, first);
     let ground = Ground::new(alloc, first, &memory, &table);
-    let marks = run_plan(rt, ground, &Script::new(manner, seed), plan)?;
-    follow(alloc, first, any_request(), marks.as_slice())?;
-    told_in(alloc, marks.as_slice())
+    let milestones = run_plan(rt, ground, &Script::new(manner, seed), plan)?;
+    follow(alloc, first, any_request(), milestones.as_slice())?;
+    told_in(alloc, milestones.as_slice())
 }
 
 /// Repeats a trace on a table whose memory has this rule, and on the machine. `Err`: the first fault.
-fn follow(alloc: Global, first: u64, rule: Rule, marks: &[Mark]) -> Result<(), ReplayFault>
+fn follow(
+    alloc: Global,
+    first: u64,
+    rule: Rule,
+    milestones: &[Milestone],
+) -> Result<(), ReplayFault>
     requires { IsFirstCapacity first }
 {
     let script = Script::new(Manner::Told, 0);
-    run_schedule(alloc, first, rule, &script, &mut Retrace::new(marks))
+    run_schedule(alloc, first, rule, &script, &mut Retrace::new(milestones))
 }
 
 /// Returns the replies of the calls, in the order in which they ended. `Err`: no memory.
-fn told_in(alloc: Global, marks: &[Mark]) -> Result<Vec<(u64, Said)>, ReplayFault> {
+fn told_in(alloc: Global, milestones: &[Milestone]) -> Result<Vec<(u64, Said)>, ReplayFault> {
     let mut told = Vec::new(alloc);
-    for mark in marks {
-        if let Mark::Told(call, said) = mark {
+    for milestone in milestones {
+        if let Milestone::Ended(call, said) = milestone {
             granted(told.push((*call, *said)))?;
         }
     }

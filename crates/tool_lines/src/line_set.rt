@@ -1,5 +1,5 @@
 //! A set of lines, or of words.
-ghost use Rattle.std.specs.Prelude.{◌≡◌, ◌↔◌, ◌++◌, ◌∷◌, [], IfOk, OnOk, OnErr, IsTrue, List, ℕ, Contains, is_some};
+ghost use Rattle.std.specs.Prelude.{◌≡◌, ◌↔◌, ◌++◌, ◌∷◌, [], IfOk, IfSome, OnOk, OnErr, IsTrue, List, ℕ, Contains, is_some};
 ghost use Rattle.interner.specs.Hashes.{mixed_hash};
 ghost use Rattle.tool_lines.specs.LineSet.{HoldsLines, SeesLine, RefusesLine};
 
@@ -90,7 +90,7 @@ impl<T: StoredLine<A>, A> Law<T> for LineLaw<A> {
 #[derive(Drop)]
 pub struct LineSet<T: StoredLine<A>, A: Allocator + Copy> {
     pub(crate) lines: HeldRawTable<InPlace<T>, A>,
-    alloc: A,
+    pub(crate) alloc: A,
 }
 
 impl<T: StoredLine<A>, A: Allocator + Copy> Model for LineSet<T, A> {
@@ -132,10 +132,11 @@ impl<T: StoredLine<A>, A: Allocator + Copy> LineSet<T, A> {
         Ok(false)
     }
 
-    /// Returns the line as it is stored, if it is in the set.
+    /// Returns the stored line that has these bytes, if it is in the set.
     pub fn find(&self, line: HashedLine<'_>) -> Option<&T>
-        ensures { (lines : List (List ℕ)) → HoldsLines T.bytes_of self.now lines
+        ensures known { (lines : List (List ℕ)) → HoldsLines T.bytes_of self.now lines
             → IsTrue (is_some result) ↔ Contains lines line.entry.bytes.now }
+        ensures found { IfSome result (λ stored. T.bytes_of stored.now ≡ line.entry.bytes.now) }
     {
         let bytes = line.bytes;
         self.lines

@@ -11,7 +11,7 @@ use crate::schedules::Ask;
 use crate::script::{Manner, Script};
 use crate::whole_calls::interleaving::{Actor, Copied, Interleaving, Rehearsal, Stop, Then};
 use crate::whole_calls::meeting::BLOCK;
-use crate::whole_calls::trace::{Mark, Sight};
+use crate::whole_calls::trace::{Milestone, Sight};
 use std::alloc::Global;
 use std::cell::Cell;
 use std::sync::Wait;
@@ -47,10 +47,10 @@ struct Player<'p, 'm, R: Wait> {
     fault: Cell<Option<ReplayFault>>,
 }
 
-/// Returns the fault of a call that has come to this mark instead of the rehearsed one.
-fn difference(call: u64, rehearsed: Option<Mark>, mark: Mark) -> ReplayFault {
-    match (rehearsed, mark) {
-        (Some(Mark::Told(_, machine)), Mark::Told(_, table)) => ReplayFault::Told {
+/// Returns the fault of a call that has come to this milestone instead of the rehearsed one.
+fn difference(call: u64, rehearsed: Option<Milestone>, milestone: Milestone) -> ReplayFault {
+    match (rehearsed, milestone) {
+        (Some(Milestone::Ended(_, machine)), Milestone::Ended(_, table)) => ReplayFault::Reply {
             call,
             table: Some(table),
             machine: Some(machine),
@@ -108,17 +108,17 @@ impl<R: Wait> Player<'_, '_, R> {
         }
     }
 
-    /// Takes the next stop, which must have this mark, and compares what the table shows there. Waits if the stop says so.
-    fn arrive(&self, call: u64, mark: Mark) {
+    /// Takes the next stop, which must have this milestone, and compares what the table shows there. Waits if the stop says so.
+    fn arrive(&self, call: u64, milestone: Milestone) {
         if self.turns_have_ended() {
             return;
         }
         match self.take() {
-            Some(stop) if stop.mark == mark => {
+            Some(stop) if stop.milestone == milestone => {
                 self.compare(stop);
                 self.leave(stop);
             }
-            stop => self.fail(difference(call, stop.map(|stop| stop.mark), mark)),
+            stop => self.fail(difference(call, stop.map(|stop| stop.milestone), milestone)),
         }
     }
 
@@ -146,7 +146,7 @@ impl<R: Wait> Player<'_, '_, R> {
         let Some(next) = self.peek() else {
             return;
         };
-        if matches!(next.mark, Mark::AtEmpty(_)) {
+        if matches!(next.milestone, Milestone::AtEmpty(_)) {
             self.take();
             if let Some(turn) = next.resumes {
                 self.ground.memory.turns().hold_next(turn);
@@ -157,15 +157,15 @@ impl<R: Wait> Player<'_, '_, R> {
     /// Returns whether an entry is of this class. The thread first makes its stop there.
     fn says(&self, call: u64, class: u64, entry: &Item) -> bool {
         let accepted = class == entry.class;
-        self.arrive(call, Mark::Asked(call, entry.number, accepted));
+        self.arrive(call, Milestone::Asked(call, entry.number, accepted));
         accepted
     }
 
     /// Returns the hash of an entry. The thread first makes its stop there, or compares the copy if it has no such stop.
     fn rehashes(&self, call: u64, entry: &Item) -> u64 {
         match self.peek() {
-            Some(stop) if matches!(stop.mark, Mark::Hashed(_, _, _)) => {
-                self.arrive(call, Mark::Hashed(call, entry.number, entry.hash))
+            Some(stop) if matches!(stop.milestone, Milestone::Hashed(_, _, _)) => {
+                self.arrive(call, Milestone::Hashed(call, entry.number, entry.hash))
             }
             _ => self.copy(call, entry),
         }
@@ -216,12 +216,12 @@ impl<R: Wait> Player<'_, '_, R> {
 
     /// Runs the call that begins at this stop to its end.
     fn play(&self, stop: Stop) {
-        let Mark::Began(ask) = stop.mark else {
+        let Milestone::Began(ask) = stop.milestone else {
             return;
         };
-        self.arrive(stop.call, stop.mark);
+        self.arrive(stop.call, stop.milestone);
         match self.call(stop.call, ask) {
-            Ok(said) => self.arrive(stop.call, Mark::Told(stop.call, said)),
+            Ok(said) => self.arrive(stop.call, Milestone::Ended(stop.call, said)),
             Err(fault) => self.fail(fault),
         }
     }

@@ -9,7 +9,7 @@ use crate::replay::{Replay, Turn};
 use crate::running::{Schedule, Stepped, Took};
 use crate::schedules::Ask;
 use crate::script::Script;
-use crate::whole_calls::trace::{Mark, Sight};
+use crate::whole_calls::trace::{Milestone, Sight};
 use std::alloc::Global;
 use table_core::call::Phase;
 
@@ -35,14 +35,14 @@ impl Actor {
     }
 }
 
-/// A stop of a thread: its turn, its mark, and what the table shows then if no other thread runs.
+/// A stop of a thread: its turn, its milestone, and what the table shows then if no other thread runs.
 #[derive(Clone, Copy)]
 pub(crate) struct Stop {
     pub(crate) actor: Actor,
     pub(crate) turn: u64,
     /// The number of the call.
     pub(crate) call: u64,
-    pub(crate) mark: Mark,
+    pub(crate) milestone: Milestone,
     pub(crate) sight: Option<Sight>,
     pub(crate) then: Then,
     /// The turn in which the thread goes on, if it does.
@@ -187,19 +187,19 @@ impl<'s> Rehearsal<'s> {
         &mut self,
         actor: Actor,
         call: u64,
-        mark: Mark,
+        milestone: Milestone,
         sight: Option<Sight>,
         then: Then,
     ) -> Result<(), ReplayFault> {
         if actor != Actor::Watcher {
-            self.part_mut(actor).passes_request = matches!(mark, Mark::AtEmpty(_));
+            self.part_mut(actor).passes_request = matches!(milestone, Milestone::AtEmpty(_));
         }
         granted(
             self.stops.push(Stop {
                 actor,
                 turn: self.turn,
                 call,
-                mark,
+                milestone,
                 sight,
                 then,
                 resumes: None,
@@ -259,7 +259,7 @@ impl<'s> Rehearsal<'s> {
         self.stop(
             actor,
             place as u64,
-            Mark::Began(ask),
+            Milestone::Began(ask),
             Some(sight),
             Then::GoesOn,
         )?;
@@ -269,12 +269,12 @@ impl<'s> Rehearsal<'s> {
         replay.begin(ask)
     }
 
-    /// Returns the mark of the closure that the call ran on this entry in its last step.
-    fn question(&self, call: u64, entry: u64) -> Mark {
+    /// Returns the milestone of the closure that the call ran on this entry in its last step.
+    fn question(&self, call: u64, entry: u64) -> Milestone {
         if self.before == Phase::Building {
-            Mark::Hashed(call, entry, self.script.hash())
+            Milestone::Hashed(call, entry, self.script.hash())
         } else {
-            Mark::Asked(call, entry, self.script.accepted())
+            Milestone::Asked(call, entry, self.script.accepted())
         }
     }
 
@@ -291,13 +291,13 @@ impl<'s> Rehearsal<'s> {
         match stepped.took {
             Took::Blocked => {
                 self.enter(actor);
-                let waits = Mark::Waits(call);
+                let waits = Milestone::Waits(call);
                 self.stop(Actor::Watcher, call, waits, Some(sight), Then::Hands)?;
                 self.turn = self.turn.wrapping_add(1);
                 self.both = true;
                 self.resume(Some(actor.other()));
             }
-            Took::Told(said) => {
+            Took::Ended(said) => {
                 self.answer(actor, call, met, Some(sight))?;
                 self.end_call(actor, call, said, Some(sight))?;
                 self.end_turn();
@@ -308,7 +308,7 @@ impl<'s> Rehearsal<'s> {
             }
             Took::Moved if met.is_some() => self.answer(actor, call, met, Some(sight))?,
             Took::Moved if stepped.state.phase == Phase::AtEmpty && self.draws_request(actor) => {
-                self.stop(actor, call, Mark::AtEmpty(call), None, Then::Hands)?;
+                self.stop(actor, call, Milestone::AtEmpty(call), None, Then::Hands)?;
                 self.end_turn();
             }
             Took::Moved => (),
@@ -326,8 +326,8 @@ impl<'s> Rehearsal<'s> {
     ) -> Result<(), ReplayFault> {
         match met {
             Some(entry) => {
-                let mark = self.question(call, entry);
-                self.stop(actor, call, mark, sight, Then::GoesOn)
+                let milestone = self.question(call, entry);
+                self.stop(actor, call, milestone, sight, Then::GoesOn)
             }
             None => Ok(()),
         }
@@ -350,7 +350,13 @@ impl<'s> Rehearsal<'s> {
         sight: Option<Sight>,
     ) -> Result<(), ReplayFault> {
         self.part_mut(actor).call = None;
-        self.stop(actor, call, Mark::Told(call, said), sight, Then::Hands)
+        self.stop(
+            actor,
+            call,
+            Milestone::Ended(call, said),
+            sight,
+            Then::Hands,
+        )
     }
 
     /// Draws whether the call of this thread stops at its request for a block. One in two does, but none that passes this request
@@ -371,7 +377,7 @@ impl<'s> Rehearsal<'s> {
     ) -> Result<(), ReplayFault> {
         match (stepped.took, met) {
             (Took::Blocked, _) => Err(ReplayFault::Step { call }),
-            (Took::Told(said), _) => {
+            (Took::Ended(said), _) => {
                 self.answer(actor, call, met, None)?;
                 self.end_call(actor, call, said, None)?;
                 self.go_on_after(actor);

@@ -10,7 +10,7 @@ use crate::item::Said;
 use crate::replay::{Ground, any_request, new_table};
 use crate::schedules::Ask;
 use crate::script::{Manner, Script};
-use crate::whole_calls::trace::{Mark, Sight};
+use crate::whole_calls::trace::{Milestone, Sight};
 use crate::whole_calls::whole::{Inside, Lock, Whole, run_alone, run_plan};
 use crate::whole_calls::{Plan, Tops, follow, told_in};
 use std::alloc::Global;
@@ -68,22 +68,22 @@ struct Place<'w, 'm> {
 }
 
 impl<'w, 'm> Place<'w, 'm> {
-    /// Runs the second call, which has this number, and returns its marks. If the two calls meet at the lock, it first waits for the growth
-    /// of the first. `Err`: a fault.
+    /// Runs the second call, which has this number, and returns its milestones. If the two calls meet at the lock, it first waits for the
+    /// growth of the first. `Err`: a fault.
     fn run_second<R: Wait>(
         &self,
         rt: &R,
         number: u64,
         ask: Ask,
         meeting: Meeting,
-    ) -> Result<Vec<Mark>, ReplayFault> {
+    ) -> Result<Vec<Milestone>, ReplayFault> {
         if meeting == Meeting::Lock {
             self.signs.take_over();
         }
         run_alone(rt, self.ground, number, ask, self.signs)
     }
 
-    /// Runs two calls with these numbers at once, and returns the marks of each. `Err`: a fault, or a request that went on without the
+    /// Runs two calls with these numbers at once, and returns the milestones of each. `Err`: a fault, or a request that went on without the
     /// other.
     fn run_both<R: Threads + Wait + Sync>(
         &self,
@@ -91,7 +91,7 @@ impl<'w, 'm> Place<'w, 'm> {
         numbers: (u64, u64),
         meeting: Meeting,
         asks: (Ask, Ask),
-    ) -> Result<(Vec<Mark>, Vec<Mark>), ReplayFault> {
+    ) -> Result<(Vec<Milestone>, Vec<Milestone>), ReplayFault> {
         let (one, other) = thread::join(
             rt,
             || run_alone(rt, self.ground, numbers.0, asks.0, self.signs),
@@ -103,31 +103,31 @@ impl<'w, 'm> Place<'w, 'm> {
         Ok((one?, other?))
     }
 
-    /// Runs these calls one after the other, and then the two at once. Returns their marks in an order in which they may have happened.
-    /// `Err`: a fault.
+    /// Runs these calls one after the other, and then the two at once. Returns their milestones in an order in which they may have
+    /// happened. `Err`: a fault.
     fn run_all<R: Threads + Wait + Sync>(
         &self,
         rt: &R,
         tops: Tops<'_>,
         meeting: Meeting,
         asks: (Ask, Ask),
-    ) -> Result<Vec<Mark>, ReplayFault> {
+    ) -> Result<Vec<Milestone>, ReplayFault> {
         let plan = Plan::Worked { tops, inside: &[] };
-        let mut marks = run_plan(rt, self.ground, &Script::new(Manner::Lawful, 0), plan)?;
+        let mut milestones = run_plan(rt, self.ground, &Script::new(Manner::Lawful, 0), plan)?;
         let calls = tops.filled.saturating_add(tops.then.len() as u64);
         let numbers = (calls, calls.saturating_add(1));
         let (one, other) = self.run_both(rt, numbers, meeting, asks)?;
         let (one, other) = (one.as_slice(), other.as_slice());
         match meeting {
-            Meeting::Lock => weave_at_lock(&mut marks, numbers.1, one, other)?,
+            Meeting::Lock => weave_at_lock(&mut milestones, numbers.1, one, other)?,
             Meeting::Bucket => {
                 let first_wins = self.is_before(numbers.0, numbers.1);
-                weave_at_bucket(&mut marks, numbers, first_wins, one, other)?
+                weave_at_bucket(&mut milestones, numbers, first_wins, one, other)?
             }
         }
         let sight = Sight::of(self.ground.table, self.ground.first);
-        add_all(&mut marks, &[Mark::Saw(sight)])?;
-        Ok(marks)
+        add_all(&mut milestones, &[Milestone::Saw(sight)])?;
+        Ok(milestones)
     }
 
     /// Returns whether a walk meets the value of call `one` before that of call `other`, or neither.
@@ -160,65 +160,68 @@ pub fn run_meeting<R: Threads + Wait + Sync>(
         ground: Ground::new(alloc, first, &memory, &table),
         signs: &signs,
     };
-    let marks = place.run_all(rt, tops, meeting, asks)?;
-    follow(alloc, first, meeting.rule(), marks.as_slice())?;
-    told_in(alloc, marks.as_slice())
+    let milestones = place.run_all(rt, tops, meeting, asks)?;
+    follow(alloc, first, meeting.rule(), milestones.as_slice())?;
+    told_in(alloc, milestones.as_slice())
 }
 
-/// Adds the marks of two inserts that met at an empty bucket. Both come to it, then the winner goes on to its end, and then the loser.
-/// `Err`: a call has no marks, or no memory.
+/// Adds the milestones of two inserts that met at an empty bucket. Both come to it, then the winner goes on to its end, and then the loser.
+/// `Err`: a call has no milestones, or no memory.
 fn weave_at_bucket(
-    marks: &mut Vec<Mark>,
+    milestones: &mut Vec<Milestone>,
     numbers: (u64, u64),
     first_wins: bool,
-    one: &[Mark],
-    other: &[Mark],
+    one: &[Milestone],
+    other: &[Milestone],
 ) -> Result<(), ReplayFault> {
     let (one_began, one) = split_began(one)?;
     let (other_began, other) = split_began(other)?;
-    let (one_comes, other_comes) = (Mark::AtEmpty(numbers.0), Mark::AtEmpty(numbers.1));
-    add_all(marks, &[one_began, other_began, one_comes, other_comes])?;
+    let (one_comes, other_comes) = (Milestone::AtEmpty(numbers.0), Milestone::AtEmpty(numbers.1));
+    add_all(
+        milestones,
+        &[one_began, other_began, one_comes, other_comes],
+    )?;
     let (winner, loser) = if first_wins {
         (one, other)
     } else {
         (other, one)
     };
-    add_all(marks, winner)?;
-    add_all(marks, loser)
+    add_all(milestones, winner)?;
+    add_all(milestones, loser)
 }
 
-/// Adds the marks of two calls that met at the lock. The second, which has this number, begins when the growth of the first asks for its
-/// first hash. It waits there, and goes on once the first has ended. `Err`: a call has no marks, or no memory.
+/// Adds the milestones of two calls that met at the lock. The second, which has this number, begins when the growth of the first asks for
+/// its first hash. It waits there, and goes on once the first has ended. `Err`: a call has no milestones, or no memory.
 fn weave_at_lock(
-    marks: &mut Vec<Mark>,
+    milestones: &mut Vec<Milestone>,
     second: u64,
-    one: &[Mark],
-    other: &[Mark],
+    one: &[Milestone],
+    other: &[Milestone],
 ) -> Result<(), ReplayFault> {
     let (began, after) = split_began(other)?;
     let mut waits = false;
-    for mark in one {
-        add_all(marks, &[*mark])?;
-        if !waits && matches!(mark, Mark::Hashed(_, _, _)) {
-            add_all(marks, &[began, Mark::Waits(second)])?;
+    for milestone in one {
+        add_all(milestones, &[*milestone])?;
+        if !waits && matches!(milestone, Milestone::Hashed(_, _, _)) {
+            add_all(milestones, &[began, Milestone::Waits(second)])?;
             waits = true;
         }
     }
-    add_all(marks, after)
+    add_all(milestones, after)
 }
 
-/// Splits the marks of a call into its beginning and the rest. `Err`: there are none.
-fn split_began(marks: &[Mark]) -> Result<(Mark, &[Mark]), ReplayFault> {
-    match marks.split_first() {
+/// Splits the milestones of a call into its beginning and the rest. `Err`: there are none.
+fn split_began(milestones: &[Milestone]) -> Result<(Milestone, &[Milestone]), ReplayFault> {
+    match milestones.split_first() {
         Some((began, after)) => Ok((*began, after)),
         None => Err(ReplayFault::Unfinished),
     }
 }
 
-/// Adds these marks. `Err`: no memory.
-fn add_all(marks: &mut Vec<Mark>, more: &[Mark]) -> Result<(), ReplayFault> {
-    for mark in more {
-        granted(marks.push(*mark))?;
+/// Adds these milestones. `Err`: no memory.
+fn add_all(milestones: &mut Vec<Milestone>, more: &[Milestone]) -> Result<(), ReplayFault> {
+    for milestone in more {
+        granted(milestones.push(*milestone))?;
     }
     Ok(())
 }

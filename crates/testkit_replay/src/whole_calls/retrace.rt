@@ -2,51 +2,55 @@
 use crate::fault::ReplayFault;
 use crate::replay::{Replay, Turn};
 use crate::running::{Schedule, Stepped, Took};
-use crate::whole_calls::trace::{Mark, Sight};
+use crate::whole_calls::trace::{Milestone, Sight};
 use table_core::call::Phase;
 
-/// The maximum number of steps that a call takes from one mark to the next.
+/// The maximum number of steps that a call takes from one milestone to the next.
 const STEPS: u64 = 1000;
 
-/// A schedule of marks: those that are left, in order.
+/// A schedule of milestones: those that are left, in order.
 #[derive(Drop)]
 pub(crate) struct Retrace<'t> {
-    left: &'t [Mark],
-    /// The number of steps that are left for the first mark.
+    left: &'t [Milestone],
+    /// The number of steps that are left for the first milestone.
     steps: u64,
 }
 
 impl<'t> Retrace<'t> {
-    pub(crate) fn new(marks: &'t [Mark]) -> Retrace<'t> {
+    pub(crate) fn new(milestones: &'t [Milestone]) -> Retrace<'t> {
         Retrace {
-            left: marks,
+            left: milestones,
             steps: STEPS,
         }
     }
 
-    /// Removes the first mark, which was reached.
+    /// Removes the first milestone, which was reached.
     fn pass(&mut self) {
-        if let Some((_mark, left)) = self.left.split_first() {
+        if let Some((_milestone, left)) = self.left.split_first() {
             self.left = left;
         }
         self.steps = STEPS;
     }
 
-    /// Returns the next turn for this mark: a step of its call until the mark is reached, and then what the mark asks for. `Err`: a fault.
-    fn follow(&mut self, replay: &mut Replay<'_, '_>, mark: Mark) -> Result<Turn, ReplayFault> {
-        match mark {
-            Mark::Asked(call, _, accepted) => self.step(replay, call, accepted, 0),
-            Mark::Hashed(call, _, hash) => self.step(replay, call, true, hash),
-            Mark::AtEmpty(call) if replay.phase_at(call as usize) != Phase::AtEmpty => self.step(
+    /// Returns the next turn for this milestone: a step of its call until the milestone is reached, and then what the milestone asks for.
+    /// `Err`: a fault.
+    fn follow(
+        &mut self,
+        replay: &mut Replay<'_, '_>,
+        milestone: Milestone,
+    ) -> Result<Turn, ReplayFault> {
+        match milestone {
+            Milestone::Asked(call, _, accepted) => self.step(replay, call, accepted, 0),
+            Milestone::Hashed(call, _, hash) => self.step(replay, call, true, hash),
+            Milestone::AtEmpty(call) if replay.phase_at(call as usize) != Phase::AtEmpty =>
+                self.step(replay, call, true, 0),
+            Milestone::Ended(call, _) if replay.phase_at(call as usize) != Phase::Done => self.step(
                 replay, call, true, 0,
             ),
-            Mark::Told(call, _) if replay.phase_at(call as usize) != Phase::Done => self.step(
-                replay, call, true, 0,
-            ),
-            Mark::Waits(call) => self.step(replay, call, true, 0),
+            Milestone::Waits(call) => self.step(replay, call, true, 0),
             _ => {
                 self.pass();
-                end(replay, mark)
+                end(replay, milestone)
             }
         }
     }
@@ -67,13 +71,13 @@ impl<'t> Retrace<'t> {
     }
 }
 
-/// Does what a mark asks for once it is reached: begins a call, sets refusals, or compares. `Err`: a difference, or no memory.
-fn end(replay: &mut Replay<'_, '_>, mark: Mark) -> Result<Turn, ReplayFault> {
-    match mark {
-        Mark::Began(ask) => return replay.begin(ask),
-        Mark::Refuses(passing, refused) => replay.ground.memory.refuse(passing, refused),
-        Mark::Saw(sight) => compare_sight(replay, sight)?,
-        Mark::Told(call, said) => replay.compare_end(call, said)?,
+/// Does what a milestone asks for once it is reached: begins a call, sets refusals, or compares. `Err`: a difference, or no memory.
+fn end(replay: &mut Replay<'_, '_>, milestone: Milestone) -> Result<Turn, ReplayFault> {
+    match milestone {
+        Milestone::Began(ask) => return replay.begin(ask),
+        Milestone::Refuses(passing, refused) => replay.ground.memory.refuse(passing, refused),
+        Milestone::Saw(sight) => compare_sight(replay, sight)?,
+        Milestone::Ended(call, said) => replay.compare_end(call, said)?,
         _ => (),
     }
     Ok(Turn::Nothing)
@@ -87,15 +91,15 @@ fn compare_sight(replay: &mut Replay<'_, '_>, sight: Sight) -> Result<(), Replay
     replay.compare_walk()
 }
 
-/// Returns whether a mark was reached by a step with this result. A closure was called with the entry `met`, if there is one. `Err`: the
-/// step doesn't lead to the mark.
-fn is_reached(mark: Mark, took: Took, met: Option<u64>) -> Result<bool, ReplayFault> {
-    match mark {
-        Mark::Asked(call, entry, _) => meets(call, entry, took, met),
-        Mark::Hashed(call, entry, _) => meets(call, entry, took, met),
-        Mark::AtEmpty(call) => goes_on(call, took == Took::Moved, met),
-        Mark::Told(call, _) => goes_on(call, took != Took::Blocked, met),
-        Mark::Waits(call) => waits(call, took),
+/// Returns whether a milestone was reached by a step with this result. A closure was called with the entry `met`, if there is one. `Err`:
+/// the step doesn't lead to the milestone.
+fn is_reached(milestone: Milestone, took: Took, met: Option<u64>) -> Result<bool, ReplayFault> {
+    match milestone {
+        Milestone::Asked(call, entry, _) => meets(call, entry, took, met),
+        Milestone::Hashed(call, entry, _) => meets(call, entry, took, met),
+        Milestone::AtEmpty(call) => goes_on(call, took == Took::Moved, met),
+        Milestone::Ended(call, _) => goes_on(call, took != Took::Blocked, met),
+        Milestone::Waits(call) => waits(call, took),
         _ => Ok(false),
     }
 }
@@ -109,7 +113,8 @@ fn meets(call: u64, entry: u64, took: Took, met: Option<u64>) -> Result<bool, Re
     }
 }
 
-/// Checks that the call goes on and called no closure. Returns false, since `follow` passes such a mark by the phase. `Err`: it isn't so.
+/// Checks that the call goes on and called no closure. Returns false, since `follow` passes such a milestone by the phase. `Err`: it isn't
+/// so.
 fn goes_on(call: u64, goes: bool, met: Option<u64>) -> Result<bool, ReplayFault> {
     if goes && met.is_none() {
         Ok(false)
@@ -130,17 +135,17 @@ fn waits(call: u64, took: Took) -> Result<bool, ReplayFault> {
 impl Schedule for Retrace<'_> {
     fn next(&mut self, replay: &mut Replay<'_, '_>) -> Result<Turn, ReplayFault> {
         match self.left.first() {
-            Some(mark) => self.follow(replay, *mark),
+            Some(milestone) => self.follow(replay, *milestone),
             None => replay.end(),
         }
     }
 
     fn hear(&mut self, replay: &mut Replay<'_, '_>, stepped: Stepped) -> Result<(), ReplayFault> {
         replay.follow(stepped)?;
-        let Some(mark) = self.left.first() else {
+        let Some(milestone) = self.left.first() else {
             return Ok(());
         };
-        if is_reached(*mark, stepped.took, replay.script.take_met())? {
+        if is_reached(*milestone, stepped.took, replay.script.take_met())? {
             self.pass();
         }
         Ok(())

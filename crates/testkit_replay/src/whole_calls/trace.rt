@@ -34,7 +34,7 @@ impl Sight {
 
 /// Something that happens. The number of a call is its place among those that have begun.
 #[derive(Clone, Copy, PartialEq)]
-pub enum Mark {
+pub enum Milestone {
     /// From now on, as many requests for memory as the first number says are granted, and then as many as the second says are refused.
     Refuses(u64, u64),
     /// The next call begins.
@@ -50,13 +50,13 @@ pub enum Mark {
     /// The table showed this.
     Saw(Sight),
     /// A call ended with this reply.
-    Told(u64, Said),
+    Ended(u64, Said),
 }
 
 /// A record of what has happened.
 #[derive(Drop)]
 pub struct Trace {
-    marks: RefCell<Vec<Mark>>,
+    milestones: RefCell<Vec<Milestone>>,
     begun: Cell<u64>,
     /// The last fault of the trace itself, or of a call inside a closure.
     fault: Cell<Option<ReplayFault>>,
@@ -66,16 +66,16 @@ impl Trace {
     /// Makes an empty trace. `begun` calls have begun before it.
     pub fn new(alloc: Global, begun: u64) -> Trace {
         Trace {
-            marks: RefCell::new(Vec::new(alloc)),
+            milestones: RefCell::new(Vec::new(alloc)),
             begun: Cell::new(begun),
             fault: Cell::new(None),
         }
     }
 
-    /// Adds a mark. If there is no memory, the trace has a fault.
-    pub fn note(&self, mark: Mark) {
-        let noted = match self.marks.try_borrow_mut() {
-            Ok(mut marks) => marks.push(mark).is_ok(),
+    /// Adds a milestone. If there is no memory, the trace has a fault.
+    pub fn note(&self, milestone: Milestone) {
+        let noted = match self.milestones.try_borrow_mut() {
+            Ok(mut milestones) => milestones.push(milestone).is_ok(),
             Err(_used) => false,
         };
         if !noted {
@@ -83,9 +83,9 @@ impl Trace {
         }
     }
 
-    /// Adds the mark of a call that begins, and returns its number.
+    /// Adds the milestone of a call that begins, and returns its number.
     pub fn begin(&self, ask: Ask) -> u64 {
-        self.note(Mark::Began(ask));
+        self.note(Milestone::Began(ask));
         let call = self.begun.get();
         self.begun.set(call.wrapping_add(1));
         call
@@ -98,16 +98,16 @@ impl Trace {
         }
     }
 
-    /// Returns all marks. `Err`: the trace has a fault.
-    pub fn into_marks(self) -> Result<Vec<Mark>, ReplayFault> {
+    /// Returns all milestones. `Err`: the trace has a fault.
+    pub fn into_milestones(self) -> Result<Vec<Milestone>, ReplayFault> {
         let Trace {
-            marks,
+            milestones,
             begun: _,
             fault,
         } = self;
         match fault.get() {
             Some(fault) => Err(fault),
-            None => Ok(marks.into_inner()),
+            None => Ok(milestones.into_inner()),
         }
     }
 }

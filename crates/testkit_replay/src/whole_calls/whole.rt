@@ -5,7 +5,7 @@ use crate::replay::Ground;
 use crate::running::Table;
 use crate::schedules::{Ask, draw_class};
 use crate::script::{Manner, Script};
-use crate::whole_calls::trace::{Mark, Sight, Trace};
+use crate::whole_calls::trace::{Milestone, Sight, Trace};
 use crate::whole_calls::{Plan, Refusals, Top, Tops};
 use std::cell::Cell;
 use std::sync::Wait;
@@ -65,14 +65,16 @@ impl<'w, 'n, 'm> Scene<'w, 'n, 'm> {
     /// Returns whether an entry is accepted as one of a call's class, and notes the answer.
     fn says(&self, number: u64, class: u64, entry: &Item) -> bool {
         let accepted = self.script.says(class, entry);
-        self.trace.note(Mark::Asked(number, entry.number, accepted));
+        self.trace
+            .note(Milestone::Asked(number, entry.number, accepted));
         accepted
     }
 
     /// Returns the hash that a growth is given for an entry, and notes it.
     fn rehashes(&self, number: u64, entry: &Item) -> u64 {
         let told = self.script.rehashes(entry);
-        self.trace.note(Mark::Hashed(number, entry.number, told));
+        self.trace
+            .note(Milestone::Hashed(number, entry.number, told));
         told
     }
 
@@ -80,7 +82,7 @@ impl<'w, 'n, 'm> Scene<'w, 'n, 'm> {
     fn look_after(&self, ended: Result<(), ReplayFault>) {
         self.trace.keep(ended);
         let sight = Sight::of(self.ground.table, self.ground.first);
-        self.trace.note(Mark::Saw(sight));
+        self.trace.note(Milestone::Saw(sight));
     }
 
     /// Returns whether an insert may begin while this lock is held. It may not if it could have to wait for a lock that its own thread
@@ -118,7 +120,7 @@ impl<'w, 'n, 'm> Scene<'w, 'n, 'm> {
     fn refuse(&self, refusals: Refusals) {
         let (passing, refused) = refusals;
         self.ground.memory.refuse(passing, refused);
-        self.trace.note(Mark::Refuses(passing, refused));
+        self.trace.note(Milestone::Refuses(passing, refused));
     }
 }
 
@@ -207,7 +209,7 @@ impl<'w, 'n, 'm, R: Wait> Whole<'w, 'n, 'm, R> {
             )?,
             Ask::Lookup(class, hash) => self.lookup(number, class, hash, lock, inside),
         };
-        self.scene.trace.note(Mark::Told(number, said));
+        self.scene.trace.note(Milestone::Ended(number, said));
         Ok(())
     }
 
@@ -293,13 +295,13 @@ impl<'w, 'n, 'm, R: Wait> Whole<'w, 'n, 'm, R> {
     }
 }
 
-/// Runs all calls of a plan on a table, and returns their marks. `Err`: a fault of a call or of the trace.
+/// Runs all calls of a plan on a table, and returns their milestones. `Err`: a fault of a call or of the trace.
 pub(crate) fn run_plan<R: Wait>(
     rt: &R,
     ground: Ground<'_, '_>,
     script: &Script,
     plan: Plan<'_>,
-) -> Result<Vec<Mark>, ReplayFault> {
+) -> Result<Vec<Milestone>, ReplayFault> {
     let trace = Trace::new(ground.alloc, 0);
     let inside = match plan {
         Plan::Drawn { .. } => None,
@@ -311,17 +313,17 @@ pub(crate) fn run_plan<R: Wait>(
     };
     whole.run(plan)?;
     drop(whole);
-    trace.into_marks()
+    trace.into_milestones()
 }
 
-/// Runs the call with this number on a table, and returns its marks. `Err`: a fault of the call or of the trace.
+/// Runs the call with this number on a table, and returns its milestones. `Err`: a fault of the call or of the trace.
 pub(crate) fn run_alone<R: Wait, I: Inside>(
     rt: &R,
     ground: Ground<'_, '_>,
     number: u64,
     ask: Ask,
     inside: &I,
-) -> Result<Vec<Mark>, ReplayFault> {
+) -> Result<Vec<Milestone>, ReplayFault> {
     let script = Script::new(Manner::Lawful, 0);
     let trace = Trace::new(ground.alloc, number);
     let whole = Whole {
@@ -330,5 +332,5 @@ pub(crate) fn run_alone<R: Wait, I: Inside>(
     };
     whole.call(ask, Lock::Free, inside)?;
     drop(whole);
-    trace.into_marks()
+    trace.into_milestones()
 }

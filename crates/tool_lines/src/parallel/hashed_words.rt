@@ -20,7 +20,7 @@ pub struct HashedWord<'p> {
 
 impl<'p> HashedWord<'p> {
     /// Returns the bytes of the word, with their hash.
-    pub fn line(self) -> HashedLine<'p>
+    pub fn as_line(self) -> HashedLine<'p>
         ensures { result.bytes.now ≡ self.entry.text.now }
     {
         HashedLine {

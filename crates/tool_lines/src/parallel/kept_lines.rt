@@ -47,9 +47,9 @@ impl<A: Allocator + Copy> LineSet<KeptLine<A>, A> {
     }
 
     /// Returns the lines in the order in which they were added. `Err`: memory was refused.
-    pub fn in_order(&self, alloc: A) -> Result<Vec<&[u8], A>, AllocError> {
+    pub fn in_order(&self) -> Result<Vec<&[u8], A>, AllocError> {
         let none: &[u8] = &[];
-        let mut all = Vec::from_elem(alloc, none, self.lines.len_alone())?;
+        let mut all = Vec::from_elem(self.alloc, none, self.lines.len_alone())?;
         for kept in self.lines.iter_alone() {
             if let Some(place) = all.get_mut(kept.before) {
                 *place = kept.bytes.as_slice();

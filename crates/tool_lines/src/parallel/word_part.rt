@@ -85,7 +85,7 @@ impl<A: Allocator + Copy> WordPart<A> {
 
     /// Counts a word once more. The texts have `before` words before it.
     fn count(&mut self, word: HashedWord<'_>, before: u64) -> Result<(), Fault> {
-        let line = word.line();
+        let line = word.as_line();
         if let Some(at) = self.words.before(line)
             && let Some(count) = self.counts.get_mut(at)
         {
@@ -109,7 +109,7 @@ impl<A: Allocator + Copy> WordPart<A> {
 
     /// Returns the words with their counts, in the order of first appearance. `Err`: memory was refused.
     pub fn in_order(&self, alloc: A) -> Result<Vec<CountedWord<'_>, A>, AllocError> {
-        let words = self.words.in_order(alloc)?;
+        let words = self.words.in_order()?;
         let mut all = Vec::with_capacity(alloc, self.counts.len())?;
         for (word, count) in words.iter().zip(&self.counts) {
             all.push(CountedWord {

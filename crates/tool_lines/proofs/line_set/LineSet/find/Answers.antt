@@ -8,7 +8,7 @@ is_some-copied : {V : Type 0} (found : Option (Bor V)) → is_some (option_copie
 is_some-copied None = refl
 is_some-copied (Some v) = refl
 
-pub returns : goal.returns
-returns g c = λ lines held. rw (is_some-copied c.lookup_alone.result) at
+pub returns-clause-known : goal.returns-clause-known
+returns-clause-known g c = λ lines held. rw (is_some-copied c.lookup_alone.result) at
     (looks_up g.T.StoredLine.bytes_of _ c.self.inside.lines c.args.line.bytes.now c.args.line.hash _ c.self.invariant (λ v answer s. search rules) c.args.line.hashed
     c.lookup_alone.ensures.as_list lines (rw (← c.self.view_is) at held))
