@@ -381,11 +381,13 @@ def group_of(crate, definitions):
         return "tests"
     if crate.startswith("testkit"):
         return "testkits"
+    if crate.startswith("tool_") and definitions:
+        return "tools"
     return "" if definitions else "without definitions"
 
 
 def sizes():
-    """The sizes of each crate with definitions, and the sums of the testkits, of the tests and of the crates without definitions."""
+    """The sizes of each library with definitions, and the sums of the tools, the testkits, the tests and the crates without definitions."""
     rows = ["| Crate | Code | Definitions | Proofs | Edits | Tests |", "|---|---|---|---|---|---|"]
     groups = collections.defaultdict(list)
     for crate, _ in crates():

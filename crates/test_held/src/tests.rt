@@ -53,8 +53,8 @@ fn a_table_without_entries(rt: HostRuntime) {
 #[test]
 fn answers_of_a_first_generation(rt: HostRuntime) -> Result<(), Fail> {
     let mut pairs = Pairs::new(rt.alloc());
-    for (pair, told) in INSERTS {
-        pairs.assert_told(&rt, pair, told)?;
+    for (pair, answer) in INSERTS {
+        pairs.assert_insert(&rt, pair, answer)?;
     }
     for (pair, is_entry) in LOOKUPS {
         pairs.assert_shown(&rt, pair, is_entry);
@@ -68,7 +68,7 @@ fn a_hundred_values_of_one_hash(rt: HostRuntime) -> Result<(), Fail> {
     let mut pairs = Pairs::new(rt.alloc());
     for number in 0..100 {
         let pair = (0, number);
-        pairs.assert_told(&rt, pair, PairAnswer::Placed(pair))?;
+        pairs.assert_insert(&rt, pair, PairAnswer::Placed(pair))?;
     }
     pairs.assert_size(&rt, 100, 256);
     assert_same(&rt, pairs.table.buckets_alone(), 496);

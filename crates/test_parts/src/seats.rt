@@ -52,7 +52,7 @@ fn bit(n: u32) -> u128 {
 /// A table and its first seat.
 type First<A> = (NumberTable<A>, Seat);
 
-/// Makes a table of `count` words, and returns it with its first seat. `Err` means no memory.
+/// Makes a table of `count` words, and returns it with its first seat. `Err`: no memory.
 fn table_of<A: Allocator + Copy>(
     rt: &impl Abort,
     alloc: A,
@@ -73,17 +73,17 @@ fn insert_to<A: Allocator + Copy>(
     requires { IsSeatOf table.now seat }
     ensures { IsSeatOf table.entry.now result.0 }
 {
-    let mut told = NOTHING;
+    let mut answers = NOTHING;
     for n in 1..=last {
         if let Some(v) = NonZeroU64::new(u64::from(n)) {
             match table.insert(&mut seat, v) {
-                NumberAnswer::Placed => told.placed |= bit(n),
-                NumberAnswer::Found => told.found |= bit(n),
-                NumberAnswer::Full => told.full |= bit(n),
+                NumberAnswer::Placed => answers.placed |= bit(n),
+                NumberAnswer::Found => answers.found |= bit(n),
+                NumberAnswer::Full => answers.full |= bit(n),
             }
         }
     }
-    (seat, told)
+    (seat, answers)
 }
 
 /// Inserts a number. Asserts that it is placed, and that the seat finds it afterwards and not before.
@@ -171,7 +171,7 @@ fn two_of<A: Allocator + Copy>(table: &NumberTable<A>, seat: Seat) -> (Seat, Sea
     seats
 }
 
-/// Splits the seat into `threads` seats. `Err` means no memory.
+/// Splits the seat into `threads` seats. `Err`: no memory.
 fn seats_for(
     alloc: Global,
     table: &NumberTable<Global>,
@@ -192,7 +192,7 @@ fn seats_for(
     Ok(seats)
 }
 
-/// Inserts 1 to `last` by each seat, in a thread of its own, and drops the seats. Returns the answers of each. `Err` means no memory.
+/// Inserts 1 to `last` by each seat, in a thread of its own, and drops the seats. Returns the answers of each. `Err`: no memory.
 fn insert_in_threads<R: Threads + Sync>(
     rt: &R,
     table: &NumberTable<Global>,
@@ -213,11 +213,11 @@ fn insert_in_threads<R: Threads + Sync>(
 /// Asserts that each number up to `last` was placed by one of the seats and found by all others.
 fn assert_placed_once(rt: &impl Abort, all: &[AnswerBits], last: u32) {
     let mut placed = 0;
-    for told in all {
-        assert_same(rt, told.placed & placed, 0);
-        placed |= told.placed;
-        assert_same(rt, told.placed | told.found, numbers_to(last));
-        assert_same(rt, told.full, 0);
+    for answers in all {
+        assert_same(rt, answers.placed & placed, 0);
+        placed |= answers.placed;
+        assert_same(rt, answers.placed | answers.found, numbers_to(last));
+        assert_same(rt, answers.full, 0);
     }
     assert_same(rt, placed, numbers_to(last));
 }
@@ -229,9 +229,9 @@ fn four_threads_place_each_number_once(rt: HostRuntime) -> Result<(), Fail> {
     let seats = seats_for(rt.alloc(), &table, first, 4)?;
     let all = insert_in_threads(&rt, &table, seats, 8)?;
     assert_placed_once(&rt, all.as_slice(), 8);
-    let (seat, told) = insert_to(&table, seat, 9);
+    let (seat, answers) = insert_to(&table, seat, 9);
     assert_eq!(rt;
-        (told.placed, told.found, told.full),
+        (answers.placed, answers.found, answers.full),
         (0, numbers_to(8), bit(9))
     );
     let (_, mut newcomer) = two_of(&table, seat);
@@ -316,9 +316,9 @@ fn new_answers_each_refused_request(rt: HostRuntime) -> Result<(), Fail> {
         let heap = Refusing::new(rt.alloc(), Rule::new(0, usize::MAX, granted, 1));
         assert!(rt; table_of(&rt, &heap, 8).is_err(), "after {granted}");
         let (table, seat) = table_of(&rt, &heap, 8)?;
-        let (seat, told) = insert_to(&table, seat, 9);
+        let (seat, answers) = insert_to(&table, seat, 9);
         assert_eq!(rt;
-            (told.placed, told.found, told.full),
+            (answers.placed, answers.found, answers.full),
             (numbers_to(8), 0, bit(9))
         );
         assert_same(&rt, table.close(seat).len(), 8);

@@ -81,7 +81,7 @@ fn run_refusing(rt: &impl Host, rule: Rule, words: &[&str], input: &[u8]) -> End
     run_under(rt, &memory, &ProgramGates, words, input)
 }
 
-/// Returns the first `count` lines of a text. `Err` means no memory.
+/// Returns the first `count` lines of a text. `Err`: no memory.
 fn first_lines(alloc: Global, text: &str, count: usize) -> Result<String, Fail> {
     let mut first = String::new(alloc);
     for line in text.lines().take(count) {

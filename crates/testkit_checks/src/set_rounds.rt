@@ -114,12 +114,12 @@ fn run_each<R: Threads + Clock + Sync, O: Write>(
         counts: NONE,
         unmade: 0,
     };
-    let mut told = 0u64;
+    let mut reported = 0u64;
     for seed in plan.first_seed..u64::MAX {
         let minutes = start.elapsed(rt)?.as_secs() / MINUTE;
-        if told < minutes {
+        if reported < minutes {
             writeln!(output, "minute {minutes}: {sum}")?;
-            told = minutes;
+            reported = minutes;
         }
         if plan.is_over(sum.rounds, minutes) {
             break;

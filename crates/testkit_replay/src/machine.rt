@@ -69,17 +69,17 @@ impl Machine {
     pub fn walk(&mut self) -> Result<Option<Finished>, ReplayFault> {
         let call = self.own_call();
         self.take(Event::Walk { call })?;
-        let mut told = self.take(Event::Load { call })?;
+        let mut answer = self.take(Event::Load { call })?;
         for _read in 0..READS {
-            if told.is_some() {
+            if answer.is_some() {
                 break;
             }
-            told = self.take(Event::Read {
+            answer = self.take(Event::Read {
                 call,
                 accepted: false,
             })?;
         }
-        Ok(told)
+        Ok(answer)
     }
 }
 

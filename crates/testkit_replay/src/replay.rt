@@ -249,7 +249,7 @@ impl<'a, 'm> Replay<'a, 'm> {
         self.going == 0
     }
 
-    /// Returns a turn in which the call at this index takes a step. With `Manner::Told` its closures give these answers. Refusals that are
+    /// Returns a turn in which the call at this index takes a step. With `Manner::Given` its closures give these answers. Refusals that are
     /// left from before apply to its requests for memory.
     pub(crate) fn step(&mut self, index: usize, accepted: bool, hash: u64) -> Turn {
         let class = match self.calls.get(index) {
@@ -348,7 +348,7 @@ impl<'a, 'm> Replay<'a, 'm> {
             Some(call) => call.said,
             None => None,
         };
-        same_told(call, Some(said), machine)
+        same_reply(call, Some(said), machine)
     }
 
     /// Ends the schedule, and compares the length, the entries and the buckets of the table and of the machine. `Err`: they differ, or no
@@ -403,11 +403,11 @@ fn compare(call: u64, took: Took, finished: &Option<Finished>) -> Result<(), Rep
         Took::Ended(said) => Some(said),
         Took::Moved | Took::Blocked => None,
     };
-    same_told(call, table, said_to(call, finished))
+    same_reply(call, table, said_to(call, finished))
 }
 
 /// Checks that the two replies to the call are the same. `Err`: they differ.
-fn same_told(call: u64, table: Option<Said>, machine: Option<Said>) -> Result<(), ReplayFault> {
+fn same_reply(call: u64, table: Option<Said>, machine: Option<Said>) -> Result<(), ReplayFault> {
     if table == machine {
         return Ok(());
     }

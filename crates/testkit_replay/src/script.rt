@@ -7,7 +7,7 @@ use table_terms::law::hash_number;
 #[derive(Clone, Copy)]
 pub enum Manner {
     /// By the answers that were set before the step.
-    Told,
+    Given,
     /// By the classes and the hashes of the values.
     Lawful,
     /// At random, whatever the value and the entry are.
@@ -40,7 +40,7 @@ impl Script {
         }
     }
 
-    /// Sets the answers of the next step for closures in the manner `Told`, and the class that a look-up looks for.
+    /// Sets the answers of the next step for closures in the manner `Given`, and the class that a look-up looks for.
     pub fn begin(&self, accepted: bool, hash: u64, sought: u64) {
         self.accepted.set(accepted);
         self.hash.set(hash);
@@ -57,7 +57,7 @@ impl Script {
     /// Returns whether a closure accepts an entry as equal to a value of this class.
     pub fn says(&self, class: u64, entry: &Item) -> bool {
         let accepted = match self.manner {
-            Manner::Told => self.accepted.get(),
+            Manner::Given => self.accepted.get(),
             Manner::Lawful => class == entry.class,
             Manner::Careless => self.draw(4) == 0,
         };
@@ -74,7 +74,7 @@ impl Script {
     /// Returns the hash that a closure gives for an entry.
     pub fn rehashes(&self, entry: &Item) -> u64 {
         let hash = match self.manner {
-            Manner::Told => self.hash.get(),
+            Manner::Given => self.hash.get(),
             Manner::Lawful => entry.hash,
             Manner::Careless => self.draw(64),
         };

@@ -63,7 +63,7 @@ pub fn run_whole<R: Wait>(
     let ground = Ground::new(alloc, first, &memory, &table);
     let milestones = run_plan(rt, ground, &Script::new(manner, seed), plan)?;
     follow(alloc, first, any_request(), milestones.as_slice())?;
-    told_in(alloc, milestones.as_slice())
+    replies_in(alloc, milestones.as_slice())
 }
 
 /// Repeats a trace on a table whose memory has this rule, and on the machine. `Err`: the first fault.
@@ -75,17 +75,17 @@ fn follow(
 ) -> Result<(), ReplayFault>
     requires { IsFirstCapacity first }
 {
-    let script = Script::new(Manner::Told, 0);
+    let script = Script::new(Manner::Given, 0);
     run_schedule(alloc, first, rule, &script, &mut Retrace::new(milestones))
 }
 
 /// Returns the replies of the calls, in the order in which they ended. `Err`: no memory.
-fn told_in(alloc: Global, milestones: &[Milestone]) -> Result<Vec<(u64, Said)>, ReplayFault> {
-    let mut told = Vec::new(alloc);
+fn replies_in(alloc: Global, milestones: &[Milestone]) -> Result<Vec<(u64, Said)>, ReplayFault> {
+    let mut replies = Vec::new(alloc);
     for milestone in milestones {
         if let Milestone::Ended(call, said) = milestone {
-            granted(told.push((*call, *said)))?;
+            granted(replies.push((*call, *said)))?;
         }
     }
-    Ok(told)
+    Ok(replies)
 }

@@ -23,10 +23,10 @@ pub(crate) fn account_for(
     alloc: Global,
     round: Round,
     table: Values<'_>,
-    told: Vec<Result<ThreadAnswers, RoundFault>>,
+    answers: Vec<Result<ThreadAnswers, RoundFault>>,
 ) -> Result<Account, RoundFault> {
     let mut fates = Fates::new(alloc, round.values())?;
-    let account = settle_told(&mut fates, told)?;
+    let account = settle_answers(&mut fates, answers)?;
     if table.len() as u64 != account.placed {
         return Err(RoundFault::Length);
     }
@@ -46,9 +46,9 @@ pub(crate) fn account_for(
 }
 
 /// Notes which values were returned, and counts the outcomes of all threads. `Err`: a thread had a fault, or a value has two fates.
-fn settle_told(
+fn settle_answers(
     fates: &mut Fates,
-    told: Vec<Result<ThreadAnswers, RoundFault>>,
+    answers: Vec<Result<ThreadAnswers, RoundFault>>,
 ) -> Result<Account, RoundFault> {
     let mut account = Account {
         placed: 0,
@@ -56,7 +56,7 @@ fn settle_told(
         refused: 0,
         given_back: 0,
     };
-    for thread in told {
+    for thread in answers {
         let thread = thread?;
         fates.settle_all(thread.found.as_slice(), Fate::Found)?;
         fates.settle_all(thread.refused.as_slice(), Fate::Refused)?;

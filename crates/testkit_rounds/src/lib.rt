@@ -35,7 +35,7 @@ pub fn run_round<R: Threads + Wait + Sync>(
     let whims = Whims::new(round.seed);
     let start = Start::new(round.threads);
     let table = table_of(&heap, round.first_capacity);
-    let told = told_in_threads(
+    let answers = answers_of_threads(
         rt,
         &Job {
             table: &table,
@@ -46,7 +46,7 @@ pub fn run_round<R: Threads + Wait + Sync>(
         },
     )?;
     let given_back = heap.given_back();
-    let account = account_for(alloc, round, table, told)?;
+    let account = account_for(alloc, round, table, answers)?;
     if account.refused > round.refusals().wrapping_sub(heap.refusals_left()) {
         return Err(RoundFault::Refusals);
     }
@@ -69,15 +69,15 @@ fn table_of<'m>(heap: &'m Refusing<Global>, first_capacity: usize) -> Values<'m>
 }
 
 /// Runs the threads of the round, and returns the outcomes of each thread. `Err`: memory for the threads was refused.
-fn told_in_threads<R: Threads + Wait + Sync>(
+fn answers_of_threads<R: Threads + Wait + Sync>(
     rt: &R,
     job: &Job<'_, '_>,
 ) -> Result<Vec<Result<ThreadAnswers, RoundFault>>, RoundFault> {
-    let told = thread::map_indices(
+    let answers = thread::map_indices(
         rt,
         job.alloc,
         job.round.threads as usize,
         &|thread: usize| work(rt, job, thread as u64),
     );
-    told.map_err(RoundFault::from)
+    answers.map_err(RoundFault::from)
 }

@@ -49,7 +49,7 @@ pub(crate) fn work<R: Wait>(
     job: &Job<'_, '_>,
     thread: u64,
 ) -> Result<ThreadAnswers, RoundFault> {
-    let mut told = ThreadAnswers {
+    let mut answers = ThreadAnswers {
         placed: 0,
         found: Vec::new(job.alloc),
         refused: Vec::new(job.alloc),
@@ -60,13 +60,13 @@ pub(crate) fn work<R: Wait>(
         let given = job.round.given(job.round.id_at(thread, turn));
         let answer = insert(rt, job, Value::boxed(job.alloc, given)?);
         kept = kept.or(shown_by(&answer));
-        note(&mut told, job.round, given, answer)?;
+        note(&mut answers, job.round, given, answer)?;
         look_beside(job, given)?;
     }
     if let Some(first) = kept {
         check_kept(job, thread, first)?;
     }
-    Ok(told)
+    Ok(answers)
 }
 
 /// Inserts the value with the closures of the round.
@@ -106,19 +106,21 @@ fn shown_by<'a>(answer: &Answer<'a>) -> Option<Kept<'a>> {
 /// Notes the outcome of an insert. `Err`: the outcome is wrong. A value may be returned without an entry only if memory is refused. An
 /// entry that it is returned with must be another value, and an equal one if the closures are lawful.
 fn note(
-    told: &mut ThreadAnswers,
+    answers: &mut ThreadAnswers,
     round: Round,
     given: Given,
     answer: Answer<'_>,
 ) -> Result<(), RoundFault> {
     match answer {
-        Ok((target, None)) if target.given == given => told.placed = told.placed.saturating_add(1),
+        Ok((target, None)) if target.given == given => answers.placed = answers
+            .placed
+            .saturating_add(1),
         Ok((target, Some(back)))
             if back.given == given && may_stand_beside(round, given, target.given) => {
-            keep(&mut told.found, given.id)?;
+            keep(&mut answers.found, given.id)?;
         }
         Err(back) if back.given == given && round.kind == Kind::Refused => {
-            keep(&mut told.refused, given.id)?;
+            keep(&mut answers.refused, given.id)?;
         }
         _ => return Err(RoundFault::Answer(given.id)),
     }

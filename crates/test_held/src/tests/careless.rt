@@ -1,6 +1,6 @@
 //! Tests with unlawful closures: no value is lost, and none is stored twice.
 use super::assert_same;
-use super::pairs::{Closures, End, Equality, Hashing, Pair, PairAnswer, Pairs, told_of};
+use super::pairs::{Closures, End, Equality, Hashing, Pair, PairAnswer, Pairs, answer_of};
 use std::alloc::{AllocError, Global};
 use std::ops::Range;
 use std::process::Abort;
@@ -41,8 +41,8 @@ fn filled(
 ) -> Result<Pairs, AllocError> {
     let mut pairs = Pairs::new(alloc);
     for number in numbers {
-        let placed = told_of(number, End::Placed);
-        pairs.assert_told_by(rt, closures, number, (number, number), placed)?;
+        let placed = answer_of(number, End::Placed);
+        pairs.assert_insert_by(rt, closures, number, (number, number), placed)?;
     }
     Ok(pairs)
 }
@@ -87,7 +87,7 @@ fn an_equality_that_is_never_met(rt: HostRuntime) -> Result<(), Fail> {
     let never = Closures::new(Equality::Never, Hashing::Lawful);
     let mut pairs = Pairs::new(rt.alloc());
     for _again in 0..2 {
-        pairs.assert_told_by(&rt, &never, 1, (1, 1), PairAnswer::Placed((1, 1)))?;
+        pairs.assert_insert_by(&rt, &never, 1, (1, 1), PairAnswer::Placed((1, 1)))?;
     }
     pairs.assert_size(&rt, 2, 16);
     Ok(())
@@ -97,8 +97,8 @@ fn an_equality_that_is_never_met(rt: HostRuntime) -> Result<(), Fail> {
 fn an_equality_that_is_always_met(rt: HostRuntime) -> Result<(), Fail> {
     let always = Closures::new(Equality::Always, Hashing::Lawful);
     let mut pairs = Pairs::new(rt.alloc());
-    for (pair, told) in ALWAYS {
-        pairs.assert_told_by(&rt, &always, 0, pair, told)?;
+    for (pair, answer) in ALWAYS {
+        pairs.assert_insert_by(&rt, &always, 0, pair, answer)?;
     }
     pairs.assert_size(&rt, 1, 16);
     Ok(())
@@ -133,9 +133,9 @@ fn assert_lookup_asks(rt: &impl Abort, pairs: &Pairs, pair: Pair, is_shown: bool
 #[test]
 fn entries_with_other_bits_are_not_asked_about(rt: HostRuntime) -> Result<(), Fail> {
     let mut pairs = Pairs::new(rt.alloc());
-    for (pair, told, asks) in INSERT_ASKS {
+    for (pair, answer, asks) in INSERT_ASKS {
         let closures = Closures::lawful();
-        pairs.assert_told_by(&rt, &closures, pair.0, pair, told)?;
+        pairs.assert_insert_by(&rt, &closures, pair.0, pair, answer)?;
         assert_same(&rt, closures.eq_asks(), asks);
     }
     for (pair, is_shown, asks) in LOOKUP_ASKS {

@@ -16,13 +16,13 @@ fn places<V: AtomicValue<Target = Counting>>(
     number: u64,
     value: V,
 ) -> bool {
-    let told = table.insert_alone::<CountingLaw, _, _>(
+    let answer = table.insert_alone::<CountingLaw, _, _>(
         hash_number(number),
         value,
         |a: &Counting, b: &Counting| a.number == b.number,
         |a: &Counting| hash_number(a.number),
     );
-    matches!(&told, Ok((_, None)))
+    matches!(&answer, Ok((_, None)))
 }
 
 /// Makes a table of the first `numbers` numbers, whose drops `drops` counts, and asserts its capacity. `Err`: no memory.

@@ -1,6 +1,6 @@
 //! Tests of when a table grows if no memory is refused, and of how often growth calls `hash_fn`.
 use super::assert_same;
-use super::pairs::{Closures, End, Pairs, told_of};
+use super::pairs::{Closures, End, Pairs, answer_of};
 use std::alloc::AllocError;
 use std::process::Abort;
 use std::test::Fail;
@@ -34,12 +34,12 @@ fn assert_asks(
     asks: u64,
 ) -> Result<(), AllocError> {
     let closures = Closures::lawful();
-    pairs.assert_told_by(
+    pairs.assert_insert_by(
         rt,
         &closures,
         number,
         (number, number),
-        told_of(number, end),
+        answer_of(number, end),
     )?;
     assert_same(rt, closures.hash_asks(), asks);
     Ok(())

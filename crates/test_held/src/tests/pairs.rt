@@ -101,7 +101,7 @@ impl Closures {
 }
 
 /// Returns the answer to an insert of the pair `(number, number)` that ends as `end`.
-pub fn told_of(number: u64, end: End) -> PairAnswer {
+pub fn answer_of(number: u64, end: End) -> PairAnswer {
     let pair = (number, number);
     match end {
         End::Placed => PairAnswer::Placed(pair),
@@ -168,7 +168,7 @@ impl<A: Allocator + Copy> Pairs<A> {
     }
 
     /// Asserts that the insert of the pair under the hash `given` has the expected answer. `Err`: no memory for the box of the pair.
-    pub fn assert_told_by(
+    pub fn assert_insert_by(
         &mut self,
         rt: &impl Abort,
         closures: &Closures,
@@ -176,24 +176,24 @@ impl<A: Allocator + Copy> Pairs<A> {
         pair: Pair,
         expected: PairAnswer,
     ) -> Result<(), AllocError> {
-        let told = self.insert_by(closures, given, pair)?;
-        assert!(rt; told == expected, "{} at {given}", pair.1);
+        let answer = self.insert_by(closures, given, pair)?;
+        assert!(rt; answer == expected, "{} at {given}", pair.1);
         Ok(())
     }
 
     /// Asserts that the insert of the pair with lawful closures has the expected answer. `Err`: no memory for the box of the pair.
-    pub fn assert_told(
+    pub fn assert_insert(
         &mut self,
         rt: &impl Abort,
         pair: Pair,
         expected: PairAnswer,
     ) -> Result<(), AllocError> {
-        self.assert_told_by(rt, &Closures::lawful(), pair.0, pair, expected)
+        self.assert_insert_by(rt, &Closures::lawful(), pair.0, pair, expected)
     }
 
     /// Asserts that the insert of the pair `(number, number)` ends as `end`, with this pair in its answer. `Err`: no memory for the box.
     pub fn assert_end(&mut self, rt: &impl Abort, number: u64, end: End) -> Result<(), AllocError> {
-        self.assert_told(rt, (number, number), told_of(number, end))
+        self.assert_insert(rt, (number, number), answer_of(number, end))
     }
 
     /// Places the pair of each number, and asserts `number + 1` entries and this capacity after it. `Err`: no memory for a box.

@@ -68,12 +68,12 @@ fn listed(list: &PairList, pair: Pair) -> Option<Pair> {
     ).copied()
 }
 
-/// Inserts the pair into the list too, unless the table refused it, and returns whether the table's answer `told` is right. The table may
+/// Inserts the pair into the list too, unless the table refused it, and returns whether the table's answer is right. The table may
 /// refuse the pair if a request was refused and the list has no equal pair.
-fn agrees(list: &mut PairList, pair: Pair, told: PairAnswer, refused: bool) -> bool {
-    match told {
+fn agrees(list: &mut PairList, pair: Pair, answer: PairAnswer, refused: bool) -> bool {
+    match answer {
         PairAnswer::Refused(back) => refused && back == pair && listed(list, pair).is_none(),
-        _ => told == place(list, InPlace(pair)),
+        _ => answer == place(list, InPlace(pair)),
     }
 }
 
@@ -103,9 +103,9 @@ impl<A: Allocator + Copy> Both<A> {
     fn insert(&mut self, rt: &impl Abort, heap: &Refusing<Global>, pair: Pair) -> Result<(), Fail> {
         let before = heap.refusals_left();
         let capacity = self.pairs.table.capacity_alone();
-        let told = self.pairs.insert(pair)?;
+        let answer = self.pairs.insert(pair)?;
         let refused = heap.refusals_left() < before;
-        assert!(rt; agrees(&mut self.list, pair, told, refused));
+        assert!(rt; agrees(&mut self.list, pair, answer, refused));
         self.assert_grown(rt, capacity, refused);
         Ok(())
     }

@@ -21,7 +21,7 @@ type Texts<A> = HeldSet<Box<String<A>, A>, TextLaw, A>;
 type Numbers<A> = HeldSet<Box<u64>, NumberLaw, A>;
 
 /// Inserts the value, and returns the answer.
-fn told_of<T: AtomicValue, L: SetLaw<T::Target>, A: Allocator + Copy>(
+fn end_of<T: AtomicValue, L: SetLaw<T::Target>, A: Allocator + Copy>(
     set: &mut HeldSet<T, L, A>,
     value: T,
 ) -> InsertEnd {
@@ -33,13 +33,13 @@ fn told_of<T: AtomicValue, L: SetLaw<T::Target>, A: Allocator + Copy>(
 }
 
 /// Asserts that the insert of the value has the expected answer.
-fn assert_told<T: AtomicValue, L: SetLaw<T::Target>, A: Allocator + Copy>(
+fn assert_insert<T: AtomicValue, L: SetLaw<T::Target>, A: Allocator + Copy>(
     rt: &impl Abort,
     set: &mut HeldSet<T, L, A>,
     value: T,
     expected: InsertEnd,
 ) {
-    assert!(rt; told_of(set, value) == expected);
+    assert!(rt; end_of(set, value) == expected);
 }
 
 /// Asserts that the insert of the first value places it, and that the next insert finds it.
@@ -49,8 +49,8 @@ fn assert_placed_once<T: AtomicValue, L: SetLaw<T::Target>, A: Allocator + Copy>
     first: T,
     again: T,
 ) {
-    assert_told(rt, set, first, InsertEnd::Placed);
-    assert_told(rt, set, again, InsertEnd::Found);
+    assert_insert(rt, set, first, InsertEnd::Placed);
+    assert_insert(rt, set, again, InsertEnd::Found);
 }
 
 /// Inserts the number in a box, and returns the answer. `Err`: no memory for the box.
@@ -59,11 +59,11 @@ fn insert_box<A: Allocator + Copy>(
     alloc: Global,
     number: u64,
 ) -> Result<InsertEnd, AllocError> {
-    Ok(told_of(set, Box::new(alloc, number)?))
+    Ok(end_of(set, Box::new(alloc, number)?))
 }
 
 /// Returns the answer of `insert_and_show` for this number: `Wrong` if it has an entry or a value with another number.
-fn told_by<T: AtomicValue<Target = u64>>(shown: Shown<&u64, T>, number: u64) -> InsertEnd {
+fn shown_end<T: AtomicValue<Target = u64>>(shown: Shown<&u64, T>, number: u64) -> InsertEnd {
     match shown {
         Shown::Placed(entry) if *entry == number => InsertEnd::Placed,
         Shown::Found(entry, back) if *entry == number && *back.deref() == number =>

@@ -44,7 +44,7 @@ fn assert_target<T: Number, V: AtomicValue<Target = T>>(rt: &impl Abort, value: 
 }
 
 /// Inserts the value, and asserts that the insert returns an entry with its number, and whether it places the value.
-fn assert_told<L: Law<T>, T: Number, V: AtomicValue<Target = T>>(
+fn assert_insert<L: Law<T>, T: Number, V: AtomicValue<Target = T>>(
     rt: &impl Abort,
     table: &mut HeldRawTable<V>,
     value: V,
@@ -112,11 +112,11 @@ fn values_show_their_targets(rt: HostRuntime) -> Result<(), Fail> {
 fn a_hundred_boxes_and_ten_shared_values(rt: HostRuntime) -> Result<(), Fail> {
     let mut boxes: HeldRawTable<Box<u16>> = HeldRawTable::new(rt.alloc());
     for number in 0..100u16 {
-        assert_told::<NumberLaw, _, _>(&rt, &mut boxes, Box::new(rt.alloc(), number)?, true);
+        assert_insert::<NumberLaw, _, _>(&rt, &mut boxes, Box::new(rt.alloc(), number)?, true);
     }
     let mut shared: HeldRawTable<Arc<u16>> = HeldRawTable::new(rt.alloc());
     for number in 0..10u16 {
-        assert_told::<NumberLaw, _, _>(&rt, &mut shared, Arc::new(rt.alloc(), number)?, true);
+        assert_insert::<NumberLaw, _, _>(&rt, &mut shared, Arc::new(rt.alloc(), number)?, true);
     }
     assert_same(&rt, boxes.len_alone(), 100);
     assert_all_shown::<NumberLaw, _, _>(&rt, &boxes, 0..100);
@@ -129,7 +129,7 @@ fn narrow_numbers_are_found(rt: HostRuntime) -> Result<(), Fail> {
     let mut table: HeldRawTable<NonZeroU32> = HeldRawTable::new(rt.alloc());
     for number in 1..10_000u32 {
         let value = NonZeroU32::new(number).ok_or("zero")?;
-        assert_told::<NumberLaw, _, _>(&rt, &mut table, value, true);
+        assert_insert::<NumberLaw, _, _>(&rt, &mut table, value, true);
     }
     assert_all_shown::<NumberLaw, _, _>(&rt, &table, 1..10_000);
     Ok(())
@@ -139,7 +139,7 @@ fn narrow_numbers_are_found(rt: HostRuntime) -> Result<(), Fail> {
 fn a_million_numbers(rt: HostRuntime) -> Result<(), Fail> {
     let mut table: HeldRawTable<InPlace<u32>> = HeldRawTable::new(rt.alloc());
     for number in 0..1_000_000u32 {
-        assert_told::<NumberLaw, _, _>(&rt, &mut table, InPlace(number), true);
+        assert_insert::<NumberLaw, _, _>(&rt, &mut table, InPlace(number), true);
     }
     assert_all_shown::<NumberLaw, _, _>(&rt, &table, 0..1_000_000);
     assert_same(&rt, table.iter_alone().count() as u64, 1_000_000);
@@ -152,7 +152,7 @@ fn wide_numbers_come_back(rt: HostRuntime) -> Result<(), Fail> {
     assert!(rt; is_first_capacity(64) && !is_first_capacity(48));
     let mut table: HeldRawTable<NonZeroU64> = HeldRawTable::with_first_capacity(rt.alloc(), 64);
     for is_placed in [true, false] {
-        assert_told::<NumberLaw, _, _>(&rt, &mut table, NonZeroU64::MAX, is_placed);
+        assert_insert::<NumberLaw, _, _>(&rt, &mut table, NonZeroU64::MAX, is_placed);
     }
     assert_same(&rt, table.capacity_alone() as u64, 64);
     assert_same(&rt, table.buckets_alone() as u64, 64);

@@ -99,7 +99,7 @@ fn agree(first: Fared, second: Fared, shown: Option<u64>) -> bool {
 }
 
 /// Runs a round: two threads offer a value each to one bucket, which then ends. Returns whether one value was placed, both threads saw it,
-/// and each value was dropped once. `Err` means no memory.
+/// and each value was dropped once. `Err`: no memory.
 fn round(rt: &impl Threads, alloc: Global, drops: &Arc<AtomicU64>) -> Result<bool, Fail> {
     let (mine, yours) = (drops.clone()?, drops.clone()?);
     let one = One::new(alloc);

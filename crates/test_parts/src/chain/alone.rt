@@ -10,7 +10,7 @@ use std::test::Fail;
 use table_cell::Low;
 use testkit::refusing::{Refusing, Rule};
 
-/// Appends the numbers 1, 2 and 3 to the chain. Returns what became of each. `Err` means no memory.
+/// Appends the numbers 1, 2 and 3 to the chain. Returns what became of each. `Err`: no memory.
 fn pushed<A: Low + Copy>(
     chain: &Numbers<A>,
     seen: &mut Seen,
@@ -27,7 +27,7 @@ fn pushed<A: Low + Copy>(
 }
 
 /// Appends the number 4, and ends the chain. Returns what became of the number, and the values of the chain as the digits of one number.
-/// `Err` means no memory.
+/// `Err`: no memory.
 fn ended<A: Low + Copy>(
     chain: Numbers<A>,
     seen: &mut Seen,

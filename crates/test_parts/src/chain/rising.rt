@@ -64,7 +64,7 @@ fn rise(chain: &Rising, seen: &mut Seen, slot: usize, next: usize, here: u64, nu
     }
 }
 
-/// Makes a chain of three slots that begins with 3. `Err` means no memory.
+/// Makes a chain of three slots that begins with 3. `Err`: no memory.
 fn made(alloc: Global) -> Result<Rising, Fail>
     ensures slots { IfOk result (λ c. c.slots ≡ 3) }
     ensures first { IfOk result (λ c. Stands c.start 0 3) }

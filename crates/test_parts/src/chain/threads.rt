@@ -9,7 +9,7 @@ use std::thread;
 use std::thread::Threads;
 
 /// Runs a round: two threads offer a number each to the second slot. Returns whether one of them placed its number, the other saw that
-/// number and got its own back, and the chain has two values. `Err` means no memory.
+/// number and got its own back, and the chain has two values. `Err`: no memory.
 fn race(rt: &impl Threads, alloc: Global, drops: &Arc<AtomicU64>) -> Result<bool, Fail> {
     let chain = made(alloc, drops.clone()?).ok_or("a chain")?;
     let (mine, yours) = (drops.clone()?, drops.clone()?);

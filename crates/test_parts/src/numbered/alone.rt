@@ -5,7 +5,7 @@ use std::process::Abort;
 use std::test::Fail;
 use table_slab::Slab;
 
-/// Asserts how the calls of the rows end in a new generation of `buckets` buckets. `Err` means no memory.
+/// Asserts how the calls of the rows end in a new generation of `buckets` buckets. `Err`: no memory.
 fn assert_calls(
     rt: &impl Abort,
     alloc: Global,

@@ -48,7 +48,7 @@ pub(crate) fn assert_same<X: PartialEq + Debug + Drop>(rt: &impl Abort, got: X, 
     assert_eq!(rt; got, expected);
 }
 
-/// Makes a generation of `buckets` buckets. `Err` means that memory was refused, or that `buckets` isn't 1, 2, 4 or 8.
+/// Makes a generation of `buckets` buckets. `Err`: no memory, or `buckets` isn't 1, 2, 4 or 8.
 pub(crate) fn made<A: Low + Copy>(
     alloc: A,
     slab: &Slab<u64, A>,
@@ -118,7 +118,7 @@ impl<'a, A: Low + Copy> Numbers<'a, A> {
         };
         match self.put_at(slot, right, number) {
             (_, Some(right)) => self.put_at(slot, right, number.wrapping_add(1)).0,
-            (told, None) => told,
+            (answer, None) => answer,
         }
     }
 
@@ -156,9 +156,9 @@ impl<'a, A: Low + Copy> Numbers<'a, A> {
 
     /// Makes each call, and asserts that it ends as it should.
     pub(crate) fn assert_ends(&self, rt: &impl Abort, rows: &[Row]) {
-        for (by, number, told) in rows {
+        for (by, number, answer) in rows {
             let got = self.call(*by, *number);
-            assert_same(rt, (*number, got), (*number, *told));
+            assert_same(rt, (*number, got), (*number, *answer));
         }
     }
 }

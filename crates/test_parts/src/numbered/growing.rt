@@ -48,7 +48,7 @@ const CLOSED: [Row; 4] = [
     (By::Show, 6, CallEnd::Missed),
 ];
 
-/// Grows the generation, and returns the next one. `Err` means that memory was refused, or that there would be too many buckets.
+/// Grows the generation, and returns the next one. `Err`: no memory, or there would be too many buckets.
 pub(crate) fn grown<A: Low + Copy>(
     set: &NumberedGeneration<u64, Fours, A>,
     alloc: A,
@@ -73,8 +73,8 @@ fn tally(set: &NumberedGeneration<u64, Fours, Global>, slab: Slab<u64, Global>) 
     counts
 }
 
-/// Asserts that the next generation carries each entry, that the old one is closed, and that each value is returned once at the end. `Err`
-/// means no memory.
+/// Asserts that the next generation carries each entry, that the old one is closed, and that each value is returned once at the end.
+/// `Err`: no memory.
 fn assert_carries(rt: &impl Abort, alloc: Global) -> Result<(), AllocError> {
     let slab = Slab::new(alloc, 1)?;
     let set = made(alloc, &slab, 4)?;

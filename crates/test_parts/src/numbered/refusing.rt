@@ -47,9 +47,9 @@ const ENDS: [(u64, Option<CallEnd>); 9] = [
 #[test]
 fn each_of_eight_requests_is_refused_in_turn(rt: HostRuntime) {
     let heap = Refusing::new(rt.alloc(), Rule::new(0, usize::MAX, 0, 0));
-    for (granted, told) in ENDS {
+    for (granted, answer) in ENDS {
         heap.refuse(granted, 1);
-        assert_same(&rt, (granted, story(&heap)), (granted, told));
+        assert_same(&rt, (granted, story(&heap)), (granted, answer));
         assert_same(&rt, heap.given_back(), heap.granted());
     }
     assert_same(&rt, heap.refusals_left(), 1);

@@ -51,8 +51,8 @@ fn write_and_end(slab: Slab<u64, Global>, value: u64) -> Option<u64> {
     Some(ending.take_out(number, &standing))
 }
 
-/// Takes the next number of a slab, and with it up to `2 ^ 31 - 2` numbers that follow it in its chunk. `Err` means that memory was refused
-/// or that no number is left.
+/// Takes the next number of a slab, and with it up to `2 ^ 31 - 2` numbers that follow it in its chunk. `Err`: no memory,
+/// or no number is left.
 fn next_with_others(slab: &Slab<(), Global>) -> Result<u64, Refused> {
     let mut run = Run::new();
     let (number, _right) = slab.number(&mut run, (1 << 31) - 1)?;

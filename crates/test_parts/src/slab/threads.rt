@@ -79,13 +79,13 @@ fn a_thread_reads_what_the_other_writes(rt: HostRuntime) -> Result<(), Fail> {
     let (slots, rooms) = Slots::new(rt.alloc(), 1)?;
     let (room, _none) = rooms.first();
     let (shared, place) = (&slots, OnceLock::new());
-    let told = &place;
+    let shown = &place;
     let (is_set, seen) = join(
         &rt,
         move ||
             requires { (0 < length shared.now) × (room.of ≡ get_or shared.now 0 0) × (room.value ≡ None) }
-        { told.try_set(write(shared, 0, room, 7)).is_ok() },
-        move || look(told),
+        { shown.try_set(write(shared, 0, room, 7)).is_ok() },
+        move || look(shown),
     );
     assert!(rt; is_set && (seen == None || seen == Some(7)));
     assert_eq!(rt; look(&place), Some(7));

@@ -3,7 +3,7 @@ use super::{Host, Script, run_refusing};
 use std::test::Fail;
 use testkit::refusing::Rule;
 
-/// Asserts what `calls` prints for a script under the rule of these numbers. `Err` means no memory.
+/// Asserts what `calls` prints for a script under the rule of these numbers. `Err`: no memory.
 fn assert_refusing(
     rt: &impl Host,
     rule: (usize, usize, u64, u64),
@@ -54,7 +54,7 @@ fn a_walk_without_memory(rt: HostRuntime) -> Result<(), Fail> {
 }
 
 /// Refuses one request of a run. The run inserts 17 pairs and the fifth again, then all of these once more, and asks for the length.
-/// Asserts that the next insert of a refused pair places it. Returns whether an insert was refused. `Err` means no memory.
+/// Asserts that the next insert of a refused pair places it. Returns whether an insert was refused. `Err`: no memory.
 fn refuse_one(rt: &impl Host, first: &str, granted: u64) -> Result<bool, Fail> {
     let lines = Script::new(rt.alloc(), "0..17; i 4 4; 0..17; i 4 4; n")?;
     let rule = Rule::new(0, usize::MAX, granted, 1);

@@ -63,7 +63,7 @@ const THREADED: [&str; 6] = [
     "tablerun stress 64 1: x = insert_unique 64000; x = insert_same 10000; x = insert_lookup 64000",
 ];
 
-/// Asserts what the command of a row prints for its script. `Err` means no memory.
+/// Asserts what the command of a row prints for its script. `Err`: no memory.
 fn assert_row(rt: &impl Host, row: &str) -> Result<(), Fail> {
     let (command, text) = row.split_once(": ").unwrap_or((row, ""));
     let words: Vec<&str> = command.split(' ').skip(1).collect(rt.alloc())?;

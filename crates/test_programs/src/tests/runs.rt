@@ -92,7 +92,7 @@ fn refused_memory_ends_the_run(rt: HostRuntime) {
 }
 
 #[test]
-fn want_of_memory_is_told_before_a_gate_that_is_stuck(rt: HostRuntime) {
+fn refused_memory_is_reported_before_a_stuck_gate(rt: HostRuntime) {
     // The list of threads is granted. The next request is for the first value of worker 0, and is refused.
     let heap = Refusing::new(rt.alloc(), Rule::new(0, usize::MAX, 1, u64::MAX));
     run_under(&rt, &heap, &Closed(NONE, 1), &STRESS, NOTHING).assert(&rt, "", "no memory\n", 1);

@@ -30,7 +30,7 @@ struct Schedule {
 }
 
 impl Schedule {
-    /// Returns a schedule that requests memory wherever a call can, over a first generation of `first` buckets. `Err` means no memory.
+    /// Returns a schedule that requests memory wherever a call can, over a first generation of `first` buckets. `Err`: no memory.
     ///
     /// Two inserts of equal values race for a bucket. Others fill the first generation while its growth is refused. Two more
     /// find it full, and each of them makes the next generation. Look-ups, a walk, an insert that is refused and a length
@@ -70,7 +70,7 @@ impl Schedule {
     }
 }
 
-/// Adds the end of the schedule, which begins with the two calls that find the first generation full. `Err` means no memory.
+/// Adds the end of the schedule, which begins with the two calls that find the first generation full. `Err`: no memory.
 fn push_growths(input: &mut String, alloc: Global, first: u64) -> Result<(), Fail>
     requires { first < 64 }
 {
@@ -106,7 +106,7 @@ enum Way {
 
 impl Way {
     /// Runs the schedule, and asserts what it prints. `None` means that no refusal ended the run or a step of it. Otherwise returns how
-    /// many lines were printed before the refusal, which only `Command` and `Lines` count: the others return 0. `Err` means no memory for
+    /// many lines were printed before the refusal, which only `Command` and `Lines` count: the others return 0. `Err`: no memory for
     /// the test itself.
     fn take<A: Low + Copy + Send + Sync>(
         self,
@@ -123,7 +123,7 @@ impl Way {
     }
 }
 
-/// Runs all events at once, and asserts the replies. Returns 0 if memory was refused. `Err` means no memory for the test itself.
+/// Runs all events at once, and asserts the replies. Returns 0 if memory was refused. `Err`: no memory for the test itself.
 fn run_events<A: Allocator + Copy>(
     rt: &(impl AllocGlobal + Abort),
     alloc: A,
@@ -154,7 +154,7 @@ fn run_events<A: Allocator + Copy>(
     Ok(None)
 }
 
-/// Returns the lines of finished calls among these lines, which are those with a space. `Err` means no memory.
+/// Returns the lines of finished calls among these lines, which are those with a space. `Err`: no memory.
 fn replies_among(alloc: Global, printed: &str) -> Result<String, Fail> {
     let mut replies = String::new(alloc);
     for line in printed.lines() {
@@ -166,7 +166,7 @@ fn replies_among(alloc: Global, printed: &str) -> Result<String, Fail> {
 }
 
 /// Takes the lines one by one, and asserts what they print. Asserts after each that there are as many buckets as with ample memory. Returns
-/// 0 if a step was refused. `Err` means no memory for the test itself.
+/// 0 if a step was refused. `Err`: no memory for the test itself.
 fn take_steps<A: Allocator + Copy>(
     rt: &(impl AllocGlobal + Abort),
     alloc: A,
@@ -195,7 +195,7 @@ fn take_steps<A: Allocator + Copy>(
 }
 
 /// Takes the step of an event, and takes it again if it is refused. Asserts that a refused step keeps the number of buckets. Returns
-/// whether the step was refused. `Err` means no memory for the test itself.
+/// whether the step was refused. `Err`: no memory for the test itself.
 fn take_event<A: Allocator + Copy>(
     rt: &impl Abort,
     state: &mut State<A>,
@@ -217,7 +217,7 @@ fn take_event<A: Allocator + Copy>(
 }
 
 /// Runs `core` over the schedule. If a refusal ends it, asserts that it printed the first lines, each whole, and returns how many.
-/// Otherwise asserts that it printed all. `Err` means no memory for the test itself.
+/// Otherwise asserts that it printed all. `Err`: no memory for the test itself.
 fn run_command<A: Low + Copy + Send + Sync>(
     rt: &impl Host,
     alloc: A,
@@ -233,7 +233,7 @@ fn run_command<A: Low + Copy + Send + Sync>(
 }
 
 /// Asserts that a run printed all of these lines. If a refusal ended it, asserts that it printed the first `lines`, and returns that
-/// number. `Err` means no memory for the test itself.
+/// number. `Err`: no memory for the test itself.
 fn assert_begun(
     rt: &(impl AllocGlobal + Abort),
     ended: &Ended,
@@ -256,7 +256,7 @@ const ASKING: &str =
     walk 3; load 3; read 3 n; len 4; load 4";
 
 /// Runs `core` over `ASKING`, which it reads one line at a time. Asserts that before a refusal it prints the replies to all lines that came
-/// before. `Err` means no memory for the test itself.
+/// before. `Err`: no memory for the test itself.
 fn run_lines<A: Low + Copy + Send + Sync>(rt: &impl Host, alloc: A) -> Result<Option<usize>, Fail> {
     let script = Script::new(rt.alloc(), ASKING)?;
     let (sent, mut seen) = (Cell::new(0), Vec::new(rt.alloc()));
@@ -285,8 +285,8 @@ fn worked_schedules(rt: HostRuntime) -> Result<(), Fail> {
 /// More requests than any schedule here makes.
 const REQUESTS: u64 = 10_000;
 
-/// Refuses `refused` requests of the schedule in a row, from each request on in turn, until a run makes no request that is refused. `Err`
-/// means that each run did, or no memory for the test itself.
+/// Refuses `refused` requests of the schedule in a row, from each request on in turn, until a run makes no request that is refused.
+/// `Err`: each run did, or no memory for the test itself.
 fn refuse_each(rt: &impl Host, way: Way, refused: u64, schedule: &Schedule) -> Result<(), Fail> {
     let mut refusals = 0u64;
     for granted in 0..REQUESTS {

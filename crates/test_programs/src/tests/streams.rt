@@ -14,7 +14,7 @@ const INPUT: &str = "i 0 1\ni 0 1\nl 0 1\nn\nw\n";
 const REPLIES: &str = "placed\nfound\nsome 1\n1\n[1]\n";
 
 /// Asserts that the replies to the lines read are printed if the first `given` reads succeed and the next one fails. `fails` says whether
-/// the next one is made. `Err` means no memory.
+/// the next one is made. `Err`: no memory.
 fn assert_given(rt: &impl Host, at_once: usize, given: usize, fails: bool) -> Result<(), Fail> {
     let reader = Failing::new(INPUT.as_bytes(), at_once, given as u64);
     let bytes = given.saturating_mul(at_once).min(INPUT.len());

@@ -155,7 +155,7 @@ impl Gate for Watching<'_> {
 }
 
 #[test]
-fn a_gate_is_told_once_the_value_is_an_entry(rt: HostRuntime) {
+fn a_gate_is_called_after_the_value_is_an_entry(rt: HostRuntime) {
     let table: Values<Global> = LockFreeRawTable::new(rt.alloc());
     let found = Cell::new(false);
     let gate = Watching {

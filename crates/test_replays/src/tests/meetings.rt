@@ -1,5 +1,5 @@
 //! Two whole calls at once: an exchange that an insert loses, and an insert that waits while a growth copies.
-use super::whole::{REFUSED, assert_told};
+use super::whole::{REFUSED, assert_replies};
 use std::alloc::Global;
 use std::process::Abort;
 use std::sync::Wait;
@@ -72,9 +72,9 @@ fn assert_at_one_bucket<R: Abort + Threads + Wait + Sync>(
     let (first_wins, second_wins) = expected;
     assert!(rt; is_first_capacity(16));
     let run = run_meeting(rt, alloc, 16, OPENING, Meeting::Bucket, asks);
-    let told = run.expect(rt, "no fault");
-    let is_told = told.as_slice() == first_wins || told.as_slice() == second_wins;
-    assert!(rt; is_told, "{told:?} {first_wins:?}");
+    let replies = run.expect(rt, "no fault");
+    let is_expected = replies.as_slice() == first_wins || replies.as_slice() == second_wins;
+    assert!(rt; is_expected, "{replies:?} {first_wins:?}");
 }
 
 #[test]
@@ -95,7 +95,7 @@ fn assert_at_the_lock<R: Abort + Threads + Wait + Sync>(
 ) {
     assert!(rt; is_first_capacity(16));
     let run = run_meeting(rt, alloc, 16, SEVEN, Meeting::Lock, (Insert(7, 7), ask));
-    assert_told(rt, run, 8, &[(8, expected)]);
+    assert_replies(rt, run, 8, &[(8, expected)]);
 }
 
 #[test]

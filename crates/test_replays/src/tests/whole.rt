@@ -88,18 +88,18 @@ const ROWS: [Row; 6] = [
 ];
 
 /// Asserts that the first `filled` calls placed their values, and that the others have the expected replies.
-pub(crate) fn assert_told(
+pub(crate) fn assert_replies(
     rt: &impl Abort,
     run: Result<Vec<(u64, Said)>, ReplayFault>,
     filled: u64,
     expected: &[(u64, Said)],
 ) {
-    let told = run.expect(rt, "no fault");
-    let (first, then) = told
+    let replies = run.expect(rt, "no fault");
+    let (first, then) = replies
         .split_at_checked(filled as usize)
         .expect(rt, "the first calls");
-    for (call, told) in first.iter().enumerate() {
-        assert_eq!(rt; *told, (call as u64, Placed(call as u64)));
+    for (call, reply) in first.iter().enumerate() {
+        assert_eq!(rt; *reply, (call as u64, Placed(call as u64)));
     }
     assert_eq!(rt; then, expected);
 }
@@ -113,7 +113,7 @@ fn assert_row<R: Abort + Wait>(rt: &R, alloc: Global, row: &Row) {
     };
     assert!(rt; is_first_capacity(16));
     let run = run_whole(rt, alloc, 16, Manner::Lawful, 0, plan);
-    assert_told(rt, run, filled, expected);
+    assert_replies(rt, run, filled, expected);
 }
 
 #[test]

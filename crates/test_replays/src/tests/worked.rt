@@ -76,7 +76,7 @@ fn assert_followed(
 #[test]
 fn worked_schedules_on_a_table(rt: HostRuntime) -> Result<(), Fail> {
     for row in &SCHEDULES {
-        assert_followed(&rt, rt.alloc(), row, Manner::Told, &[])?;
+        assert_followed(&rt, rt.alloc(), row, Manner::Given, &[])?;
     }
     Ok(())
 }

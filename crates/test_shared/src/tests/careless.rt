@@ -147,8 +147,8 @@ fn assert_kept<R: Abort + Threads + Wait + Sync>(
         careless: &careless,
         alloc,
     };
-    let told = at_once(rt, alloc, THREADS as usize, &giving);
-    assert_same(rt, told, Tally::of(placed, ALL.wrapping_sub(placed)));
+    let tally = at_once(rt, alloc, THREADS as usize, &giving);
+    assert_same(rt, tally, Tally::of(placed, ALL.wrapping_sub(placed)));
     assert_handed(rt, table, alloc, placed)?;
     Ok(careless.asked.load(Ordering::SeqCst))
 }

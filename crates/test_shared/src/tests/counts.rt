@@ -1,5 +1,5 @@
 //! Tests of the length of a table while threads insert, and of the answers to inserts if a generation is full.
-use super::numbers::{Boxed, InsertEnd, Inserts, Numbers, assert_same, assert_told, walk_length};
+use super::numbers::{Boxed, InsertEnd, Inserts, Numbers, assert_insert, assert_same, walk_length};
 use std::alloc::Global;
 use std::process::Abort;
 use std::sync::Wait;
@@ -103,13 +103,13 @@ fn assert_meets<R: Abort + Threads + Wait + Sync>(rt: &R, alloc: Global, meeting
         Rule::new(BLOCK, BLOCK, 0, 1).paired(pairs, MOST_LOOKS),
     );
     let table: Boxed<&Memory<'_>> = Boxed::new(&heap, alloc, meeting.lawful);
-    assert_told(rt, &table, 0, InsertEnd::Refused);
+    assert_insert(rt, &table, 0, InsertEnd::Refused);
     assert_same(rt, seen(&table, 0), those_below(0));
     assert_size(rt, &table, 0, 16);
     growth.refuse(0, meeting.refused);
-    let told = offer_all(rt, &table, alloc, meeting.pairs);
+    let tally = offer_all(rt, &table, alloc, meeting.pairs);
     let found = (2 * pairs).wrapping_sub(meeting.placed);
-    assert_same(rt, told, Tally::of(meeting.placed, found));
+    assert_same(rt, tally, Tally::of(meeting.placed, found));
     assert_same(rt, [heap.went_alone(), growth.refusals_left()], [0, 0]);
     assert_size(rt, &table, meeting.placed, meeting.buckets);
     assert_same(
@@ -146,7 +146,7 @@ fn full<'m, R: Abort + Wait>(
     alloc: Global,
 ) -> Boxed<&'m Refusing<Global>> {
     let table = Boxed::new(heap, alloc, Lawful::Spread);
-    assert_told(rt, &table, 0, InsertEnd::Placed);
+    assert_insert(rt, &table, 0, InsertEnd::Placed);
     heap.refuse(0, u64::MAX);
     assert_same(rt, fill(rt, &table, 1..16), Tally::of(15, 0));
     table
@@ -156,11 +156,11 @@ fn full<'m, R: Abort + Wait>(
 fn a_full_generation_grows_once_there_is_memory(rt: HostRuntime) {
     let heap = memory_of_growth(rt.alloc());
     let table = full(&rt, &heap, rt.alloc());
-    assert_told(&rt, &table, 16, InsertEnd::Refused);
-    assert_told(&rt, &table, 4, InsertEnd::Found);
+    assert_insert(&rt, &table, 16, InsertEnd::Refused);
+    assert_insert(&rt, &table, 4, InsertEnd::Found);
     assert_size(&rt, &table, 16, 16);
     heap.refuse(0, 0);
-    assert_told(&rt, &table, 4, InsertEnd::Found);
+    assert_insert(&rt, &table, 4, InsertEnd::Found);
     assert_size(&rt, &table, 16, 32);
 }
 
@@ -169,7 +169,7 @@ fn a_full_generation_grows_for_a_new_number(rt: HostRuntime) {
     let heap = memory_of_growth(rt.alloc());
     let table = full(&rt, &heap, rt.alloc());
     heap.refuse(0, 0);
-    assert_told(&rt, &table, 16, InsertEnd::Placed);
+    assert_insert(&rt, &table, 16, InsertEnd::Placed);
     assert_same(&rt, seen(&table, 17), those_below(17));
     assert_size(&rt, &table, 17, 64);
 }
@@ -216,7 +216,7 @@ fn an_entry_is_counted_once_it_is_there(rt: HostRuntime) {
         table: Boxed::new(&heap, rt.alloc(), Lawful::Spread),
         begun: AtomicU64::new(0),
     };
-    assert_told(&rt, &looked.table, 7, InsertEnd::Refused);
+    assert_insert(&rt, &looked.table, 7, InsertEnd::Refused);
     assert_same(&rt, at_once(&rt, rt.alloc(), 2, &looked), Tally::of(2, 0));
     assert_same(&rt, heap.went_alone(), 0);
     assert_same(&rt, seen(&looked.table, 2), those_below(2));
@@ -288,7 +288,7 @@ fn assert_counts<R: Abort + Threads + Wait + Sync>(rt: &R, alloc: Global) {
         miscounts: AtomicU64::new(0),
         done: AtomicU64::new(0),
     };
-    assert_told(rt, &watched.table, 0, InsertEnd::Placed);
+    assert_insert(rt, &watched.table, 0, InsertEnd::Placed);
     let new = NUMBERS - 1;
     assert_same(rt, at_once(rt, alloc, 3, &watched), Tally::of(new, new));
     assert_same(rt, watched.miscounts.load(Ordering::SeqCst), 0);

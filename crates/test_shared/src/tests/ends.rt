@@ -104,8 +104,8 @@ fn assert_grown<R: Abort + Threads + Wait + Sync>(
         table: LockFreeRawTable::new(&heap),
         drops: Drops::new(alloc, 4 * CLASSES)?,
     };
-    let told = fill_at_once(rt, alloc, &counted, 0, CLASSES, 4);
-    assert_same(rt, told, Tally::of(CLASSES, 3 * CLASSES));
+    let tally = fill_at_once(rt, alloc, &counted, 0, CLASSES, 4);
+    assert_same(rt, tally, Tally::of(CLASSES, 3 * CLASSES));
     assert_ends(rt, alloc, &heap, counted, taken, 3 * CLASSES)
 }
 
@@ -119,8 +119,8 @@ fn assert_lost<R: Abort + Threads + Wait + Sync>(
     let heap = paired(alloc, LOST);
     let counted = opened(rt, &heap, Drops::new(alloc, 4 * CLASSES)?, 3);
     let before = heap.granted();
-    let told = fill_at_once(rt, alloc, &counted, 0, LOST, 2);
-    assert_same(rt, told, Tally::of(LOST, LOST));
+    let tally = fill_at_once(rt, alloc, &counted, 0, LOST, 2);
+    assert_same(rt, tally, Tally::of(LOST, LOST));
     assert_same(
         rt,
         [
@@ -131,8 +131,8 @@ fn assert_lost<R: Abort + Threads + Wait + Sync>(
         ],
         [0, 2 * LOST, LOST, LOST],
     );
-    let told = fill_at_once(rt, alloc, &counted, LOST, CLASSES, 1);
-    assert_same(rt, told, Tally::of(CLASSES - LOST, 0));
+    let tally = fill_at_once(rt, alloc, &counted, LOST, CLASSES, 1);
+    assert_same(rt, tally, Tally::of(CLASSES - LOST, 0));
     assert_ends(rt, alloc, &heap, counted, taken, LOST + 1)
 }
 

@@ -23,15 +23,15 @@ fn account(alloc: Global, back: &[u64], entries: &[u64]) -> Result<(), RoundFaul
     fates.check_settled()
 }
 
-/// Asserts that the result of an account is the expected one.
-fn assert_told(rt: &impl Abort, told: Result<(), RoundFault>, expected: Result<(), RoundFault>) {
-    assert_eq!(rt; told, expected);
+/// Asserts that a result is the expected one.
+fn assert_result(rt: &impl Abort, got: Result<(), RoundFault>, expected: Result<(), RoundFault>) {
+    assert_eq!(rt; got, expected);
 }
 
 #[test]
 fn each_value_is_accounted_for(rt: HostRuntime) {
     for (back, entries, expected) in ACCOUNTS {
-        assert_told(&rt, account(rt.alloc(), back, entries), expected);
+        assert_result(&rt, account(rt.alloc(), back, entries), expected);
     }
 }
 
@@ -54,6 +54,6 @@ fn compare(alloc: Global, walked: &[u64], handed: &[u64]) -> Result<(), RoundFau
 #[test]
 fn a_walk_is_what_is_handed_out(rt: HostRuntime) {
     for (walked, handed, expected) in WALKS {
-        assert_told(&rt, compare(rt.alloc(), walked, handed), expected);
+        assert_result(&rt, compare(rt.alloc(), walked, handed), expected);
     }
 }

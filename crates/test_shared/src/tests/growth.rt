@@ -95,11 +95,11 @@ fn assert_filled_on<R: Abort + Threads + Wait + Sync>(
         Lawful::Spread,
     );
     let [counted, _, _] = table.size();
-    let told = fill_at_once(rt, &table, alloc, [(0, after), (0, after)].as_slice());
+    let tally = fill_at_once(rt, &table, alloc, [(0, after), (0, after)].as_slice());
     let [_, _, buckets] = table.size();
     assert_same(
         rt,
-        told,
+        tally,
         Tally::of(after.wrapping_sub(before), after.wrapping_add(before)),
     );
     assert_same(

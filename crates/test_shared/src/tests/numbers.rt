@@ -51,8 +51,8 @@ pub(crate) fn insert_at<R: Wait, T: AtomicValue, A: Low + Copy, L: Asked>(
 where
     T::Target: Numbered,
 {
-    let (told, _shown) = insert_and_show(rt, table, hash, value, asked);
-    told
+    let (answer, _shown) = insert_and_show(rt, table, hash, value, asked);
+    answer
 }
 
 /// Returns the target with this number that a look-up under this hash finds.
@@ -185,12 +185,12 @@ pub(crate) fn assert_same<X: PartialEq + Debug + Drop>(rt: &impl Abort, seen: X,
     assert_eq!(rt; seen, expected);
 }
 
-/// Inserts the number, and asserts that the answer is `told`.
-pub(crate) fn assert_told<R: Abort + Wait, T: Inserts>(
+/// Inserts the number, and asserts that the answer is the expected one.
+pub(crate) fn assert_insert<R: Abort + Wait, T: Inserts>(
     rt: &R,
     table: &T,
     number: u64,
-    told: InsertEnd,
+    expected: InsertEnd,
 ) {
-    assert_eq!(rt; table.insert(rt, number), told, "{number}");
+    assert_eq!(rt; table.insert(rt, number), expected, "{number}");
 }

@@ -16,8 +16,8 @@ fn equal_values_at_once(rt: HostRuntime) {
     let table: Boxed<Global> = Boxed::new(rt.alloc(), rt.alloc(), Lawful::Spread);
     for number in 0..300u64 {
         let part = (number, number.wrapping_add(1));
-        let told = fill_at_once(&rt, &table, rt.alloc(), [part, part].as_slice());
-        assert_same(&rt, told, Tally::of(1, 1));
+        let tally = fill_at_once(&rt, &table, rt.alloc(), [part, part].as_slice());
+        assert_same(&rt, tally, Tally::of(1, 1));
     }
     assert_same(&rt, seen(&table, 300), those_below(300));
 }

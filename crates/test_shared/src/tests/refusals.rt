@@ -12,7 +12,7 @@ const NUMBERS: u64 = 17;
 /// How many requests make an insert fail if they are refused: the block of each number, and six for the first generation. The six are its
 /// marks, its words, its own block, the words for later generations, the room to take those generations out, and the block of these words
 /// and this room. A refused growth changes no answer, since the number was placed before.
-const TOLD: u64 = NUMBERS + 6;
+const REFUSED: u64 = NUMBERS + 6;
 
 /// Inserts the numbers while the request after `passing` ones is refused. Returns how many are refused, or `None` after a wrong answer.
 fn refused<R: Wait + AllocGlobal>(rt: &R, passing: u64) -> Option<u64> {
@@ -23,5 +23,5 @@ fn refused<R: Wait + AllocGlobal>(rt: &R, passing: u64) -> Option<u64> {
 
 #[test]
 fn each_request_refused_in_turn(rt: HostRuntime) {
-    assert_same(&rt, refused_in_turn(&rt, 40, refused), Some(TOLD));
+    assert_same(&rt, refused_in_turn(&rt, 40, refused), Some(REFUSED));
 }

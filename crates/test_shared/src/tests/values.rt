@@ -55,14 +55,14 @@ struct Joined<'a> {
 
 impl<'a> Work for Joined<'a> {
     fn work<R: Wait>(&self, rt: &R, thread: u64) -> Tally {
-        let told = if self.inserts {
+        let answer = if self.inserts {
             self.table.insert(rt, thread)
         } else if self.table.contains(0) && self.table.contains(1) {
             InsertEnd::Found
         } else {
             InsertEnd::Wrong
         };
-        Tally::NONE.with(told)
+        Tally::NONE.with(answer)
     }
 }
 

@@ -29,7 +29,7 @@ pub(crate) fn assert_none_out(rt: &impl Abort, heap: &Heap) {
     assert_same(rt, heap.given_back(), heap.granted());
 }
 
-/// Returns the text of this number. Every third text is long. `Err` means no memory.
+/// Returns the text of this number. Every third text is long. `Err`: no memory.
 pub(crate) fn text_of(alloc: Global, number: u64) -> Result<String, AllocError> {
     if number % 3 == 0 {
         format!(in alloc; "a text that lies in a block of its own, {number}")
@@ -38,7 +38,7 @@ pub(crate) fn text_of(alloc: Global, number: u64) -> Result<String, AllocError> 
     }
 }
 
-/// Returns the texts of the numbers below `count`. `Err` means no memory.
+/// Returns the texts of the numbers below `count`. `Err`: no memory.
 pub(crate) fn texts_below(alloc: Global, count: u64) -> Result<Vec<String>, AllocError> {
     let mut texts = Vec::new(alloc);
     for number in 0..count {
@@ -47,7 +47,7 @@ pub(crate) fn texts_below(alloc: Global, count: u64) -> Result<Vec<String>, Allo
     Ok(texts)
 }
 
-/// Interns the texts, and returns their symbols. `Err` means no memory.
+/// Interns the texts, and returns their symbols. `Err`: no memory.
 pub(crate) fn symbols_of(
     alloc: Global,
     interner: &Interner<'_>,

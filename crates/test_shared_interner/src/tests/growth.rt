@@ -10,7 +10,7 @@ use std::test::Fail;
 /// How many texts there are.
 const TEXTS: u64 = 10_000;
 
-/// Interns each text by one handle, and returns the symbols. Asserts that the first symbol keeps its text. `Err` means no memory.
+/// Interns each text by one handle, and returns the symbols. Asserts that the first symbol keeps its text. `Err`: no memory.
 fn fill(
     rt: &impl Abort,
     alloc: Global,

@@ -36,7 +36,7 @@ fn intern_at_last(rt: &impl Abort, interner: &Interner<'_>, text: &str) -> Symbo
 }
 
 /// Interns the texts while the request after the first `granted` ones is refused. Asserts that each text has its symbol at last. Returns
-/// whether a request was refused. `Err` means no memory.
+/// whether a request was refused. `Err`: no memory.
 fn run(rt: &impl Abort, alloc: Global, texts: &[String], granted: u64) -> Result<bool, AllocError> {
     let heap = Refusing::new(alloc, Rule::new(0, usize::MAX, granted, 1));
     let interner = made_at_last(rt, &heap);
@@ -51,7 +51,7 @@ fn run(rt: &impl Abort, alloc: Global, texts: &[String], granted: u64) -> Result
     Ok(left == 0)
 }
 
-/// Refuses each request of a run in turn. Returns how many requests a run makes, at most 200. `Err` means no memory.
+/// Refuses each request of a run in turn. Returns how many requests a run makes, at most 200. `Err`: no memory.
 fn run_each(rt: &impl Abort, alloc: Global) -> Result<u64, AllocError> {
     let texts = texts_below(alloc, TEXTS)?;
     for granted in 0..200 {

@@ -11,7 +11,7 @@ use testkit::refusing::{Refusing, Rule};
 /// How many texts are copied. With 10,000 texts the single-owner interner has grown.
 const COUNTS: [u32; 4] = [0, 1, 100, 10_000];
 
-/// Makes a single-owner interner of these texts. `Err` means no memory.
+/// Makes a single-owner interner of these texts. `Err`: no memory.
 fn filled(rt: &impl Abort, alloc: Global, texts: &[String]) -> Result<Texts, AllocError> {
     let mut filled: Texts = Texts::new(alloc);
     let mut number: u32 = 0;
@@ -23,7 +23,7 @@ fn filled(rt: &impl Abort, alloc: Global, texts: &[String]) -> Result<Texts, All
     Ok(filled)
 }
 
-/// Returns the symbols of the numbers 1 to `count`. `Err` means no memory.
+/// Returns the symbols of the numbers 1 to `count`. `Err`: no memory.
 fn symbols_to(rt: &impl Abort, alloc: Global, count: u32) -> Result<Vec<Symbol>, AllocError> {
     let mut symbols = Vec::new(alloc);
     for number in 0..count {
@@ -33,7 +33,7 @@ fn symbols_to(rt: &impl Abort, alloc: Global, count: u32) -> Result<Vec<Symbol>,
 }
 
 /// Copies a single-owner interner of `count` texts. Asserts that each text keeps its number, that a handle that hears of the texts knows
-/// them, and that a new text gets a new symbol. `Err` means no memory.
+/// them, and that a new text gets a new symbol. `Err`: no memory.
 fn assert_copied(rt: &impl Abort, alloc: Global, count: u32) -> Result<(), AllocError> {
     let texts = texts_below(alloc, u64::from(count))?;
     let symbols = symbols_to(rt, alloc, count)?;

@@ -42,7 +42,7 @@ const TEXTS: [&str; 32] = [
     "\u{1f600}\u{1f600}\u{1f600}\u{1f600}\u{1f600}\u{1f600}",
 ];
 
-/// Interns each text, asserts that it is new, and returns the symbols. `Err` means no memory.
+/// Interns each text, asserts that it is new, and returns the symbols. `Err`: no memory.
 fn intern_each(
     rt: &impl Abort,
     alloc: Global,

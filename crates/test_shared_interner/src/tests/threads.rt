@@ -17,7 +17,7 @@ const TEXTS: u64 = 500;
 /// How many threads there are.
 const THREADS: usize = 4;
 
-/// Interns each text. Each thread begins with another text, and two of the threads intern without a handle. `Err` means no memory.
+/// Interns each text. Each thread begins with another text, and two of the threads intern without a handle. `Err`: no memory.
 fn intern_from(interner: &Interner<'_>, texts: &[String], thread: usize) -> Result<(), AllocError> {
     let mut names = interner.names();
     let first = thread % THREADS * 125;
@@ -31,7 +31,7 @@ fn intern_from(interner: &Interner<'_>, texts: &[String], thread: usize) -> Resu
     Ok(())
 }
 
-/// Interns each text, and then returns the symbols in the order of the texts. `Err` means no memory.
+/// Interns each text, and then returns the symbols in the order of the texts. `Err`: no memory.
 fn symbols_by(
     interner: &Interner<'_>,
     alloc: Global,
@@ -42,19 +42,19 @@ fn symbols_by(
     symbols_of(alloc, interner, texts)
 }
 
-/// Lets threads intern the same texts. Asserts that all threads get the same symbols, one for each text. `Err` means no memory.
+/// Lets threads intern the same texts. Asserts that all threads get the same symbols, one for each text. `Err`: no memory.
 fn assert_one_symbol<R: Threads + Abort + Sync>(rt: &R, alloc: Global) -> Result<(), AllocError> {
     let heap = counted(alloc);
     let interner = interner_with(rt, &heap, 0);
     let texts = texts_below(alloc, TEXTS)?;
-    let told = thread::map_indices(
+    let answers = thread::map_indices(
         rt,
         alloc,
         THREADS,
         &|thread: usize| symbols_by(&interner, alloc, texts.as_slice(), thread),
     )?;
-    assert_same(rt, told.len(), THREADS);
-    for symbols in told {
+    assert_same(rt, answers.len(), THREADS);
+    for symbols in answers {
         assert_has(rt, &interner, texts.as_slice(), symbols?.as_slice());
     }
     drop(interner);

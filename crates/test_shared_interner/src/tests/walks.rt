@@ -19,7 +19,7 @@ const WALKS: [(u64, usize); 7] = [
 ];
 
 /// Interns the first `known` texts, and returns what a walk returns. At each step another handle hears what the walk knows, and interns one
-/// of the other texts, if any is left. `Err` means no memory.
+/// of the other texts, if any is left. `Err`: no memory.
 fn walked<'i>(
     rt: &impl Abort,
     alloc: Global,
@@ -65,7 +65,7 @@ fn assert_once(
     assert_same(rt, met, pairs.len());
 }
 
-/// Asserts that a walk returns each text once that was known when it began, and no other text twice. `Err` means no memory.
+/// Asserts that a walk returns each text once that was known when it began, and no other text twice. `Err`: no memory.
 fn assert_walk(
     rt: &impl Abort,
     alloc: Global,

@@ -127,7 +127,7 @@ fn a_set_ends_with_what_its_account_has(rt: HostRuntime) {
     assert_none_out(&rt, &heap);
 }
 
-/// Returns the lists of numbers that threads insert. `Err` means no memory.
+/// Returns the lists of numbers that threads insert. `Err`: no memory.
 fn lists(heap: Global) -> Result<Vec<Vec<u64>>, AllocError> {
     let mut all = Vec::new(heap);
     for list in 0..LISTS {

@@ -1,7 +1,7 @@
 //! Sets that one thread calls.
 use super::caller::{
-    InsertEnd, Numbering, Numbers, Tally, assert_none_out, assert_same, counted, fill, insert,
-    set_with, told_of,
+    InsertEnd, Numbering, Numbers, Tally, assert_none_out, assert_same, counted, end_of, fill,
+    insert, set_with,
 };
 use std::process::Abort;
 
@@ -61,7 +61,7 @@ fn each_number_is_found_over_growth(rt: HostRuntime) {
 
 /// Inserts a number by the set itself. Returns how the insert ended, with the entry's number.
 fn insert_by(set: &Numbers<'_>, value: u64) -> (InsertEnd, Option<u64>) {
-    told_of(set.insert(value), value)
+    end_of(set.insert(value), value)
 }
 
 /// Places the first `count` multiples of 7 by the set itself. Asserts that the entries are numbered from 0 on, and that calls of the set
@@ -131,12 +131,12 @@ const COUNTED: [(u64, u64); 8] = [
 
 #[test]
 fn a_first_value_is_counted_at_once(rt: HostRuntime) {
-    for (placed, told) in COUNTED {
+    for (placed, length) in COUNTED {
         let heap = counted(rt.alloc());
         let set = set_with(&rt, &heap, 0);
         let mut handle = set.handle();
         assert_same(&rt, fill(&mut handle, 0, placed, 1), Tally::of(placed, 0));
-        assert_same(&rt, (set.len(), set.is_empty()), (told, placed == 0));
+        assert_same(&rt, (set.len(), set.is_empty()), (length, placed == 0));
         drop(handle);
         assert_same(&rt, set.len(), placed);
     }

@@ -39,7 +39,7 @@ pub(crate) fn assert_none_out(rt: &impl Abort, heap: &Heap) {
 }
 
 /// Returns how an insert of this number ended, with the entry's number.
-pub(crate) fn told_of(ended: Inserted<'_, u64>, value: u64) -> (InsertEnd, Option<u64>) {
+pub(crate) fn end_of(ended: Inserted<'_, u64>, value: u64) -> (InsertEnd, Option<u64>) {
     match ended {
         Inserted::Placed(number, entry, _) if *entry == value => (InsertEnd::Placed, Some(number)),
         Inserted::Found(number, entry, back) if *entry == value && back == value => {
@@ -55,7 +55,7 @@ pub(crate) fn insert(handle: &mut Numbering<'_, '_>, value: u64) -> (InsertEnd, 
     ensures { handle.new.of ≡ handle.old.of }
 {
     let ended = handle.insert(value);
-    told_of(ended, value)
+    end_of(ended, value)
 }
 
 /// Inserts a number until it isn't refused, at most `tries` times, and then looks it up. Returns how the insert ended.
@@ -63,10 +63,10 @@ fn place(handle: &mut Numbering<'_, '_>, value: u64, tries: u32) -> InsertEnd
     ensures { handle.new.of ≡ handle.old.of }
 {
     for _tried in 0..tries {
-        let told = insert(handle, value).0;
-        if told != InsertEnd::Refused {
+        let answer = insert(handle, value).0;
+        if answer != InsertEnd::Refused {
             let found = handle.get(&value) == Some(&value);
-            return if found { told } else { InsertEnd::Wrong };
+            return if found { answer } else { InsertEnd::Wrong };
         }
     }
     InsertEnd::Refused

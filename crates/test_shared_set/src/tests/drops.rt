@@ -42,7 +42,7 @@ fn insert(handle: &mut Handle<'_, Counting, CountingLaw, &Heap>, value: Counting
     InsertEnd::Refused
 }
 
-/// Inserts a value of each number. Returns how many were placed, and how many were found and returned. `Err` means no memory.
+/// Inserts a value of each number. Returns how many were placed, and how many were found and returned. `Err`: no memory.
 fn insert_all(set: &Counts<'_>, values: &Drops) -> Result<Tally, AllocError> {
     let mut handle = set.handle();
     let mut tally = Tally::NONE;
@@ -73,8 +73,8 @@ fn each_value_is_dropped_once(rt: HostRuntime) -> Result<(), Fail> {
         let heap = Refusing::new(rt.alloc(), rule);
         let set: Counts<'_> = SharedSet::with_capacity(&heap, room)?;
         heap.refuse(0, refused);
-        let told = [insert_all(&set, &values)?, insert_all(&set, &copies)?];
-        assert_same(&rt, told, [Tally::of(NUMBERS, 0), Tally::of(0, NUMBERS)]);
+        let tallies = [insert_all(&set, &values)?, insert_all(&set, &copies)?];
+        assert_same(&rt, tallies, [Tally::of(NUMBERS, 0), Tally::of(0, NUMBERS)]);
         assert_same(&rt, copies.never_and_once(), (0, NUMBERS));
         assert_same(&rt, values.never_and_once(), (NUMBERS, 0));
         end(&rt, set, &values, taken);

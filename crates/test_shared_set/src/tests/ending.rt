@@ -13,7 +13,7 @@ type Ended<'h> = IntoValues<u64, NumberLaw, &'h Heap>;
 /// How many values a set has when it ends.
 const COUNTS: [usize; 6] = [0, 1, 7, 8, 9, 1000];
 
-/// Takes all `count` values of an ended set. Asserts that the number of values that are left is exact. `Err` means no memory.
+/// Takes all `count` values of an ended set. Asserts that the number of values that are left is exact. `Err`: no memory.
 fn take_all(
     rt: &impl Abort,
     alloc: Global,
@@ -33,7 +33,7 @@ fn take_all(
 }
 
 /// Ends a set of `count` values while all memory is refused. Asserts that the end makes no request and returns each value once. The values
-/// that handles knew are among them. `Err` means no memory.
+/// that handles knew are among them. `Err`: no memory.
 fn assert_ends(rt: &impl Abort, alloc: Global, count: usize) -> Result<(), AllocError> {
     let heap = counted(alloc);
     let set = set_with(rt, &heap, 0);
@@ -44,8 +44,8 @@ fn assert_ends(rt: &impl Abort, alloc: Global, count: usize) -> Result<(), Alloc
     let known = handle.tell();
     drop(handle);
     let rest = count as u64 - half;
-    let told = fill(&mut set.handle(), half, count as u64, 1);
-    assert_same(rt, told, Tally::of(rest, 0));
+    let tally = fill(&mut set.handle(), half, count as u64, 1);
+    assert_same(rt, tally, Tally::of(rest, 0));
     heap.refuse(0, u64::MAX);
     let mut ended = set.into_values();
     ended.has_all(&early);

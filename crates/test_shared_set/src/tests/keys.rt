@@ -24,7 +24,7 @@ fn has(handle: &mut Texting<'_>, letters: &str) -> bool {
 }
 
 /// Returns how an insert of a text of these letters ended.
-fn told_of(ended: &Inserted<'_, String>, letters: &str) -> InsertEnd {
+fn end_of(ended: &Inserted<'_, String>, letters: &str) -> InsertEnd {
     match ended {
         Inserted::Placed(_, entry, _) if entry.as_str() == letters => InsertEnd::Placed,
         Inserted::Found(_, entry, back) if entry.as_str() == letters && back.as_str() == letters =>
@@ -35,7 +35,7 @@ fn told_of(ended: &Inserted<'_, String>, letters: &str) -> InsertEnd {
 }
 
 /// Inserts the decimal digits of each number. Asserts that each insert ends as expected, and that the text is found afterwards, but before
-/// only if it was in the set. `Err` means no memory.
+/// only if it was in the set. `Err`: no memory.
 fn insert_each(
     rt: &impl Abort,
     alloc: Global,
@@ -46,8 +46,8 @@ fn insert_each(
         let letters = format!(in alloc; "{number}")?;
         let text = letters.as_str();
         assert_same(rt, has(handle, text), expected == InsertEnd::Found);
-        let told = told_of(&handle.insert(String::from_str(alloc, text)?), text);
-        assert_same(rt, (told, has(handle, text)), (expected, true));
+        let answer = end_of(&handle.insert(String::from_str(alloc, text)?), text);
+        assert_same(rt, (answer, has(handle, text)), (expected, true));
     }
     Ok(())
 }

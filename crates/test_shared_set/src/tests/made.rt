@@ -1,6 +1,6 @@
 //! Inserts of values that are made only if they are needed.
 use super::caller::{
-    InsertEnd, Numbering, assert_has, assert_none_out, assert_same, counted, set_with, told_of,
+    InsertEnd, Numbering, assert_has, assert_none_out, assert_same, counted, end_of, set_with,
 };
 use shared_set::{GotOrInserted, KeyLaw, SameAs};
 use std::process::Abort;
@@ -32,11 +32,11 @@ impl KeyLaw<Short, u64> for NumberLaw {
 }
 
 /// Returns how a call that gets or inserts this value ended, with the entry's number.
-fn ended(told: GotOrInserted<'_, u64>, value: u64) -> (InsertEnd, Option<u64>) {
-    match told {
+fn ended(answer: GotOrInserted<'_, u64>, value: u64) -> (InsertEnd, Option<u64>) {
+    match answer {
         GotOrInserted::Got(number, entry) if *entry == value => (InsertEnd::Found, Some(number)),
         GotOrInserted::Got(_number, _entry) => (InsertEnd::Wrong, None),
-        GotOrInserted::Made(inserted) => told_of(inserted, value),
+        GotOrInserted::Made(inserted) => end_of(inserted, value),
     }
 }
 
@@ -48,13 +48,13 @@ pub(crate) fn get_or_insert(
     value: u64,
 ) -> (InsertEnd, Option<u64>, bool) {
     let mut made = false;
-    let told = handle.get_or_insert_with(&Short { number: key }, || {
+    let answer = handle.get_or_insert_with(&Short { number: key }, || {
         made = true;
         value
     });
     let got = if made { value } else { u64::from(key) };
-    let (told, number) = ended(told, got);
-    (told, number, made)
+    let (answer, number) = ended(answer, got);
+    (answer, number, made)
 }
 
 /// Gets the entry that is the same as the value, or inserts the value. Returns how the call ended, with the entry's number.
@@ -62,8 +62,8 @@ pub(crate) fn seek_or_insert(
     handle: &mut Numbering<'_, '_>,
     value: u64,
 ) -> (InsertEnd, Option<u64>) {
-    let told = handle.seek_or_insert_with(&SameAs { target: &value }, || value);
-    ended(told, value)
+    let answer = handle.seek_or_insert_with(&SameAs { target: &value }, || value);
+    ended(answer, value)
 }
 
 /// How many keys are placed first.
@@ -85,8 +85,8 @@ const CASES: [(u32, u64, InsertEnd, u64, bool); 7] = [
 fn place_all(rt: &impl Abort, handle: &mut Numbering<'_, '_>) {
     for key in 0..MANY as u32 {
         let number = Some(u64::from(key));
-        let told = get_or_insert(handle, key, u64::from(key));
-        assert_same(rt, told, (InsertEnd::Placed, number, true));
+        let answer = get_or_insert(handle, key, u64::from(key));
+        assert_same(rt, answer, (InsertEnd::Placed, number, true));
     }
 }
 
@@ -100,9 +100,9 @@ fn a_value_is_made_only_if_no_entry_meets_the_key(rt: HostRuntime) {
     assert_same(&rt, refused, (InsertEnd::Refused, None, true));
     place_all(&rt, &mut handle);
     assert_has(&rt, &mut handle, MANY);
-    for (key, value, told, number, made) in CASES {
+    for (key, value, answer, number, made) in CASES {
         let got = get_or_insert(&mut handle, key, value);
-        assert_same(&rt, got, (told, Some(number), made));
+        assert_same(&rt, got, (answer, Some(number), made));
     }
     drop(handle);
     drop(set);

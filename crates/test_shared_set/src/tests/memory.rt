@@ -1,7 +1,7 @@
 //! Sets whose requests for memory are refused.
 use super::caller::{
     Heap, InsertEnd, Numbering, Numbers, Tally, assert_has, assert_none_out, assert_same, counted,
-    fill, insert, set_with, told_of,
+    end_of, fill, insert, set_with,
 };
 use super::made::{get_or_insert, seek_or_insert};
 use shared_set::SharedSet;
@@ -50,7 +50,7 @@ fn made_at_last<'h>(
 fn insert_by(by: By, set: &Numbers<'_>, handle: &mut Numbering<'_, '_>, value: u64) -> InsertEnd {
     match by {
         By::Handle => insert(handle, value).0,
-        By::Set => told_of(set.insert(value), value).0,
+        By::Set => end_of(set.insert(value), value).0,
         By::Key => match u32::try_from(value) {
             Ok(key) => get_or_insert(handle, key, value).0,
             Err(_) => InsertEnd::Wrong,
@@ -69,11 +69,11 @@ fn place_at_last(
     refused: u64,
 ) {
     for _refused in 0..refused {
-        let told = insert_by(by, set, handle, value);
-        if told == InsertEnd::Placed {
+        let answer = insert_by(by, set, handle, value);
+        if answer == InsertEnd::Placed {
             return;
         }
-        assert_same(rt, told, InsertEnd::Refused);
+        assert_same(rt, answer, InsertEnd::Refused);
         assert_has(rt, handle, value);
     }
     assert_same(rt, insert_by(by, set, handle, value), InsertEnd::Placed);
@@ -91,8 +91,8 @@ fn run(rt: &impl Abort, (room, refused, by): Run, alloc: Global, granted: u64) -
     drop(handle);
     let left = heap.refusals_left();
     heap.refuse(0, 0);
-    let told = fill(&mut set.handle(), 0, NUMBERS, 1);
-    assert_same(rt, told, Tally::of(0, NUMBERS));
+    let tally = fill(&mut set.handle(), 0, NUMBERS, 1);
+    assert_same(rt, tally, Tally::of(0, NUMBERS));
     drop(set);
     assert_none_out(rt, &heap);
     left == 0
@@ -197,8 +197,8 @@ fn a_refused_growth_is_asked_for_now_and_then(rt: HostRuntime) {
 pub(crate) fn full_set<'h>(rt: &impl Abort, heap: &'h Heap) -> Numbers<'h> {
     let set = set_with(rt, heap, 16);
     heap.refuse(0, u64::MAX);
-    let told = fill(&mut set.handle(), 0, 32, 1);
-    assert_same(rt, told, Tally::of(32, 0));
+    let tally = fill(&mut set.handle(), 0, 32, 1);
+    assert_same(rt, tally, Tally::of(32, 0));
     set
 }
 

@@ -15,8 +15,8 @@ fn assert_shown(
     other: &mut Numbering<'_, '_>,
     value: u64,
 ) {
-    let (told, number) = insert(mine, value);
-    assert_same(rt, told, InsertEnd::Placed);
+    let (answer, number) = insert(mine, value);
+    assert_same(rt, answer, InsertEnd::Placed);
     let number = number.expect(rt, "a number");
     assert_same(rt, mine.entry(number), Some(&value));
     assert_same(rt, other.entry(number), Some(&value));
@@ -54,8 +54,8 @@ fn each_entry_is_found_by_its_number(rt: HostRuntime) {
             assert_same(&rt, set.handle().entry(0), None);
             fill_by_two(&rt, &mut set.handle(), &mut set.handle());
         } else {
-            let told = fill(&mut set.handle(), 0, MANY, 1);
-            assert_same(&rt, told, Tally::of(MANY, 0));
+            let tally = fill(&mut set.handle(), 0, MANY, 1);
+            assert_same(&rt, tally, Tally::of(MANY, 0));
             assert_same(&rt, set.handle().entry(MANY), None);
         }
         let mut handle = set.handle();

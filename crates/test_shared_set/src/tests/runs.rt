@@ -25,8 +25,8 @@ fn draw(numbers: &mut SplitMix64, bound: u64) -> u64 {
     numbers.next_u64().checked_rem(bound).unwrap_or(0)
 }
 
-/// Inserts the number into the set and into the list. Asserts that it is refused only if a request was refused and no entry is equal. `Err`
-/// means no memory.
+/// Inserts the number into the set and into the list. Asserts that it is refused only if a request was refused and no entry is equal.
+/// `Err`: no memory.
 fn insert_into_both(
     rt: &impl Abort,
     heap: &Heap,
@@ -37,13 +37,13 @@ fn insert_into_both(
     ensures { handle.new.of ≡ handle.old.of }
 {
     let before = heap.refusals_left();
-    let told = insert(handle, number).0;
+    let answer = insert(handle, number).0;
     if list.contains(&number) {
-        assert_same(rt, told, InsertEnd::Found);
-    } else if told == InsertEnd::Placed {
+        assert_same(rt, answer, InsertEnd::Found);
+    } else if answer == InsertEnd::Placed {
         list.push(number)?;
     } else {
-        assert!(rt; told == InsertEnd::Refused && heap.refusals_left() < before);
+        assert!(rt; answer == InsertEnd::Refused && heap.refusals_left() < before);
     }
     Ok(())
 }
@@ -55,7 +55,7 @@ fn assert_agrees(rt: &impl Abort, handle: &mut Numbering<'_, '_>, list: &Vec<u64
     assert_same(rt, handle.contains(&number), list.contains(&number));
 }
 
-/// Draws a call of the first handle, and makes it. By one of the calls the handle learns what the other one knows. `Err` means no memory.
+/// Draws a call of the first handle, and makes it. By one of the calls the handle learns what the other one knows. `Err`: no memory.
 fn call<'s, 'h>(
     rt: &impl Abort,
     heap: &Heap,
@@ -76,7 +76,7 @@ fn call<'s, 'h>(
     Ok(())
 }
 
-/// Makes drawn calls of two handles, which are made while the set is empty. Asserts that they agree with a list. `Err` means no memory.
+/// Makes drawn calls of two handles, which are made while the set is empty. Asserts that they agree with a list. `Err`: no memory.
 fn run(
     rt: &impl Abort,
     alloc: Global,

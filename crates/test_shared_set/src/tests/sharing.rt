@@ -25,7 +25,7 @@ type SharedBoxes<'h> = Shared<Box<Counting>, OfTarget<CountingLaw>, &'h Heap>;
 /// What is left of a set that could not be shared.
 type Left<'h> = Unshared<Box<Counting>, CountingLaw, OfTarget<CountingLaw>, &'h Heap>;
 
-/// Makes a single-owner set of the numbers below `count`. `Err` means no memory.
+/// Makes a single-owner set of the numbers below `count`. `Err`: no memory.
 fn held<'h>(heap: &'h Heap, values: &Drops, count: u64) -> Result<Held<'h>, AllocError> {
     let mut set: Held<'h> = HeldSet::new(heap);
     for number in 0..count {
@@ -37,13 +37,13 @@ fn held<'h>(heap: &'h Heap, values: &Drops, count: u64) -> Result<Held<'h>, Allo
     Ok(set)
 }
 
-/// Returns whether the handle finds the number. `Err` means no memory.
+/// Returns whether the handle finds the number. `Err`: no memory.
 fn has(handle: &mut Boxing<'_, '_>, probes: &Drops, number: u64) -> Result<bool, AllocError> {
     let probe = probes.counting(number)?;
     Ok(handle.contains(&probe))
 }
 
-/// Asserts that a handle finds each number below `count`, and not `count`. `Err` means no memory.
+/// Asserts that a handle finds each number below `count`, and not `count`. `Err`: no memory.
 fn assert_finds(
     rt: &impl Abort,
     alloc: Global,
@@ -99,10 +99,10 @@ fn share_left<'h>(rt: &impl Abort, heap: &'h Heap, left: Left<'h>, count: u64) -
 fn set_of<'h>(
     rt: &impl Abort,
     heap: &'h Heap,
-    told: Result<SharedBoxes<'h>, Left<'h>>,
+    answer: Result<SharedBoxes<'h>, Left<'h>>,
     count: u64,
 ) -> Boxes<'h> {
-    match told {
+    match answer {
         Ok(shared) => {
             let Shared { set, known: _ } = shared;
             set
@@ -112,17 +112,17 @@ fn set_of<'h>(
 }
 
 /// Shares a set of `count` values while the request after the first `granted` ones is refused. Asserts that the shared set then has each
-/// value once. Returns whether no request was refused. `Err` means no memory.
+/// value once. Returns whether no request was refused. `Err`: no memory.
 fn share(rt: &impl Abort, alloc: Global, count: u64, granted: u64) -> Result<bool, AllocError> {
     let values = Drops::new(alloc, count)?;
     let heap = counted(alloc);
     let held = held(&heap, &values, count)?;
     heap.refuse(granted, 1);
-    let told = held.share(&heap);
+    let answer = held.share(&heap);
     let whole = heap.refusals_left() == 1;
     heap.refuse(0, 0);
     assert_same(rt, values.never_and_once(), (count, 0));
-    let set = set_of(rt, &heap, told, count);
+    let set = set_of(rt, &heap, answer, count);
     assert_finds(rt, alloc, &set, count)?;
     assert_same(rt, (set.len(), set.is_empty()), (count, count == 0));
     assert_same(rt, values.never_and_once(), (count, 0));
@@ -178,8 +178,8 @@ const FIRST: u64 = 17;
 fn new_handles_find_each_value_after_growth(rt: HostRuntime) -> Result<(), Fail> {
     let values = Drops::new(rt.alloc(), NUMBERS)?;
     let heap = counted(rt.alloc());
-    let told = held(&heap, &values, FIRST)?.share(&heap);
-    let set = set_of(&rt, &heap, told, FIRST);
+    let answer = held(&heap, &values, FIRST)?.share(&heap);
+    let set = set_of(&rt, &heap, answer, FIRST);
     for number in FIRST..NUMBERS {
         assert!(&rt;
             matches!(

@@ -37,8 +37,8 @@ type Place<'s, 'h> = OnceLock<Message<'s, 'h>>;
 fn message_of<'s, 'h>(set: &'s Numbers<'h>, at: u64) -> Option<Message<'s, 'h>> {
     let mut handle = set.handle();
     let first = at.wrapping_mul(NUMBERS);
-    let told = fill(&mut handle, first, first.wrapping_add(NUMBERS), 1);
-    if told != Tally::of(NUMBERS, 0) {
+    let tally = fill(&mut handle, first, first.wrapping_add(NUMBERS), 1);
+    if tally != Tally::of(NUMBERS, 0) {
         return None;
     }
     let known = handle.tell();
@@ -109,7 +109,7 @@ impl Work for Talk<'_, '_, '_> {
     }
 }
 
-/// Returns the places for the messages. `Err` means no memory.
+/// Returns the places for the messages. `Err`: no memory.
 fn places_for<'s, 'h>(alloc: Global) -> Result<Vec<Place<'s, 'h>>, AllocError> {
     let mut places: Vec<Place<'s, 'h>> = Vec::new(alloc);
     for _message in 0..MESSAGES {
@@ -118,7 +118,7 @@ fn places_for<'s, 'h>(alloc: Global) -> Result<Vec<Place<'s, 'h>>, AllocError> {
     Ok(places)
 }
 
-/// Lets two threads talk. Returns how many messages were sent, and how many came and had all their numbers found. `Err` means no memory.
+/// Lets two threads talk. Returns how many messages were sent, and how many came and had all their numbers found. `Err`: no memory.
 fn let_talk<'s, 'h, R: Threads + Wait + Sync>(
     rt: &R,
     alloc: Global,
@@ -136,8 +136,8 @@ fn let_talk<'s, 'h, R: Threads + Wait + Sync>(
 fn a_thread_hears_what_another_knows_while_both_run(rt: HostRuntime) -> Result<(), Fail> {
     let heap = counted(rt.alloc());
     let set = set_with(&rt, &heap, 0);
-    let told = let_talk(&rt, rt.alloc(), &set)?;
-    assert_same(&rt, told, Tally::of(MESSAGES, MESSAGES));
+    let tally = let_talk(&rt, rt.alloc(), &set)?;
+    assert_same(&rt, tally, Tally::of(MESSAGES, MESSAGES));
     assert_has(&rt, &mut set.handle(), MESSAGES.wrapping_mul(NUMBERS));
     drop(set);
     assert_none_out(&rt, &heap);

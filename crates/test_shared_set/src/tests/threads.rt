@@ -58,8 +58,8 @@ fn entries_are_shown_while_a_thread_inserts(rt: HostRuntime) {
             parts: parts.as_slice(),
             tries: 1,
         };
-        let told = at_once(&rt, rt.alloc(), 2, &filling);
-        assert_same(&rt, told, Tally::of(ASKED, 0));
+        let tally = at_once(&rt, rt.alloc(), 2, &filling);
+        assert_same(&rt, tally, Tally::of(ASKED, 0));
         assert_numbered(&rt, &mut set.handle(), ASKED);
         drop(set);
         assert_none_out(&rt, &heap);
@@ -95,8 +95,8 @@ fn assert_fills<R: Threads + Wait + Abort + Sync>(
             parts: parts.as_slice(),
             tries: if refused == 0 { 1 } else { 1000 },
         };
-        let told = at_once(rt, alloc, threads, &filling);
-        assert_same(rt, told, Tally::of(end, found));
+        let tally = at_once(rt, alloc, threads, &filling);
+        assert_same(rt, tally, Tally::of(end, found));
         assert_has(rt, &mut set.handle(), end);
         assert_numbered(rt, &mut set.handle(), end);
         assert_same(rt, set.len(), end);
@@ -173,8 +173,8 @@ fn two_threads_grow_a_full_set(rt: HostRuntime) {
             parts: parts.as_slice(),
             tries: 1,
         };
-        let told = at_once(&rt, rt.alloc(), 2, &filling);
-        assert_same(&rt, told, Tally::of(2, 0));
+        let tally = at_once(&rt, rt.alloc(), 2, &filling);
+        assert_same(&rt, tally, Tally::of(2, 0));
         assert_has(&rt, &mut set.handle(), 34);
         drop(set);
         assert_none_out(&rt, &heap);

@@ -25,7 +25,7 @@ const WALKS: [(u64, u64); 11] = [
 ];
 
 /// Walks over a set of the values below `first`, and inserts those from `first` to `many` meanwhile. Asserts that each value has its own
-/// number. Returns the values. `Err` means no memory.
+/// number. Returns the values. `Err`: no memory.
 fn walked(
     rt: &impl Abort,
     alloc: Global,
@@ -62,7 +62,7 @@ fn assert_once(rt: &impl Abort, mut values: Vec<u64>, first: u64) {
     assert!(rt; first <= count_first(values).1);
 }
 
-/// Returns the values of a walk. `Err` means no memory.
+/// Returns the values of a walk. `Err`: no memory.
 fn values_of(alloc: Global, handle: &mut Numbering<'_, '_>) -> Result<Vec<u64>, AllocError> {
     let mut values = Vec::new(alloc);
     for (_number, entry) in handle.iter() {

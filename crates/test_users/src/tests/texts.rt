@@ -157,7 +157,7 @@ fn run_on<R: Threads + Sync, A: Allocator + Copy + Send + Sync, I: Read + Drop>(
     }
 }
 
-/// Returns `count` different lines. Each is a number, padded with hyphens to `bytes` bytes. `Err` means no memory.
+/// Returns `count` different lines. Each is a number, padded with hyphens to `bytes` bytes. `Err`: no memory.
 fn numbered_lines(heap: Global, count: u64, bytes: usize) -> Result<String, Fail> {
     let mut text = String::new(heap);
     for n in 0..count {

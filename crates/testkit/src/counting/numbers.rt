@@ -21,7 +21,10 @@ pub enum InsertEnd {
 }
 
 /// Returns the outcome of an insert of this number, from the entry and the value that the insert returned.
-pub fn told_by<T: AtomicValue>(answer: Result<(&T::Target, Option<T>), T>, number: u64) -> InsertEnd
+pub fn insert_end<T: AtomicValue>(
+    answer: Result<(&T::Target, Option<T>), T>,
+    number: u64,
+) -> InsertEnd
 where
     T::Target: Numbered,
 {

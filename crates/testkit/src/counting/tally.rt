@@ -31,8 +31,8 @@ impl Tally {
     }
 
     /// Adds one outcome.
-    pub fn with(mut self, told: InsertEnd) -> Tally {
-        let count = match told {
+    pub fn with(mut self, answer: InsertEnd) -> Tally {
+        let count = match answer {
             InsertEnd::Placed => &mut self.placed,
             InsertEnd::Found => &mut self.found,
             InsertEnd::Refused | InsertEnd::Wrong => &mut self.other,
@@ -64,14 +64,14 @@ pub fn at_once<R: Threads + Wait + Sync, W: Work + Sync>(
     threads: usize,
     work: &W,
 ) -> Tally {
-    let told = thread::map_indices(
+    let answer = thread::map_indices(
         rt,
         alloc,
         threads,
         &|thread: usize| work.work(rt, thread as u64),
     );
-    match told {
-        Ok(told) => sum(told.as_slice()),
+    match answer {
+        Ok(answer) => sum(answer.as_slice()),
         Err(_) => Tally::NONE.with(InsertEnd::Wrong),
     }
 }

@@ -15,7 +15,7 @@ pub enum PlainReply {
 }
 
 /// Returns this reply with the target in place of each value.
-pub fn told_by<T: AtomicValue<Target = u64>>(reply: &Reply<T>) -> PlainReply {
+pub fn plain_reply<T: AtomicValue<Target = u64>>(reply: &Reply<T>) -> PlainReply {
     match reply {
         Reply::Placed(shown) => PlainReply::Placed(*shown),
         Reply::Found(shown, back) => PlainReply::Found(*shown, *back.deref()),

@@ -12,7 +12,7 @@ use crate::schedules::Ask;
 use crate::script::{Manner, Script};
 use crate::whole_calls::trace::{Milestone, Sight};
 use crate::whole_calls::whole::{Inside, Lock, Whole, run_alone, run_plan};
-use crate::whole_calls::{Plan, Tops, follow, told_in};
+use crate::whole_calls::{Plan, Tops, follow, replies_in};
 use std::alloc::Global;
 use std::sync::Wait;
 use std::thread;
@@ -162,7 +162,7 @@ pub fn run_meeting<R: Threads + Wait + Sync>(
     };
     let milestones = place.run_all(rt, tops, meeting, asks)?;
     follow(alloc, first, meeting.rule(), milestones.as_slice())?;
-    told_in(alloc, milestones.as_slice())
+    replies_in(alloc, milestones.as_slice())
 }
 
 /// Adds the milestones of two inserts that met at an empty bucket. Both come to it, then the winner goes on to its end, and then the loser.

@@ -72,10 +72,10 @@ impl<'w, 'n, 'm> Scene<'w, 'n, 'm> {
 
     /// Returns the hash that a growth is given for an entry, and notes it.
     fn rehashes(&self, number: u64, entry: &Item) -> u64 {
-        let told = self.script.rehashes(entry);
+        let answer = self.script.rehashes(entry);
         self.trace
-            .note(Milestone::Hashed(number, entry.number, told));
-        told
+            .note(Milestone::Hashed(number, entry.number, answer));
+        answer
     }
 
     /// Records the result of a call that has ended, and notes what the table shows.
@@ -226,9 +226,9 @@ impl<'w, 'n, 'm, R: Wait> Whole<'w, 'n, 'm, R> {
                 accepted
             },
             |entry: &Item| {
-                let told = self.scene.rehashes(item.number, entry);
+                let answer = self.scene.rehashes(item.number, entry);
                 inside.run(self, Lock::Alone);
-                told
+                answer
             },
         );
         Ok(Said::of_insert(&reply))

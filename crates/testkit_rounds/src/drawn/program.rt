@@ -63,12 +63,12 @@ fn count_rounds<R: Threads + Wait + Sync + Clock, O: Write>(
 ) -> Result<u64, Stop> {
     let start = Instant::now(rt)?;
     let mut sum = Sum::none();
-    let mut told = 0u64;
+    let mut reported = 0u64;
     for seed in plan.first_seed..u64::MAX {
         let minutes = start.elapsed(rt)?.as_secs() / MINUTE;
-        if told < minutes {
+        if reported < minutes {
             writeln!(output, "minute {minutes}: {sum}")?;
-            told = minutes;
+            reported = minutes;
         }
         if plan.is_over(sum.rounds, minutes) {
             break;

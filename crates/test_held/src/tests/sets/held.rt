@@ -1,7 +1,7 @@
 //! Tests of `HeldSet`, the single-owner set.
 use super::{
-    Numbers, assert_numbers, assert_placed_once, assert_same, assert_sums, assert_told, insert_box,
-    sum_handed, sum_shown, told_by,
+    Numbers, assert_insert, assert_numbers, assert_placed_once, assert_same, assert_sums,
+    insert_box, shown_end, sum_handed, sum_shown,
 };
 use std::alloc::{AllocError, Global};
 use std::num::{NonZeroU32, NonZeroU64};
@@ -51,7 +51,7 @@ fn boxed_numbers(rt: HostRuntime) -> Result<(), Fail> {
 #[test]
 fn the_value_comes_back(rt: HostRuntime) {
     let mut set: InPlaces = HeldSet::new(rt.alloc());
-    assert_told(&rt, &mut set, InPlace(7), InsertEnd::Placed);
+    assert_insert(&rt, &mut set, InPlace(7), InsertEnd::Placed);
     match set.insert(InPlace(7)) {
         Inserted::Found(InPlace(back)) => assert_same(&rt, back, 7),
         Inserted::Placed | Inserted::Refused(_) => assert!(rt; false),
@@ -62,7 +62,7 @@ fn the_value_comes_back(rt: HostRuntime) {
 
 /// Asserts how many buckets the set has after its first insert.
 fn assert_first_buckets(rt: &impl Abort, mut set: InPlaces, buckets: u64) {
-    assert_told(rt, &mut set, InPlace(7), InsertEnd::Placed);
+    assert_insert(rt, &mut set, InPlace(7), InsertEnd::Placed);
     assert_same(rt, set.into_table().capacity_alone() as u64, buckets);
 }
 
@@ -81,7 +81,7 @@ fn the_entry_is_shown(rt: HostRuntime) {
         for number in 0..20 {
             assert_same(
                 &rt,
-                told_by(set.insert_and_show(InPlace(number)), number),
+                shown_end(set.insert_and_show(InPlace(number)), number),
                 expected,
             );
         }

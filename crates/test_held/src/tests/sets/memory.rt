@@ -12,7 +12,7 @@ const NUMBERS: u64 = 17;
 
 /// How many requests make an insert fail if they are refused: the block of each number, and the marks and the words of the first
 /// generation. A refused growth changes no answer, since the number was placed before.
-const TOLD: u64 = NUMBERS + 2;
+const REFUSED: u64 = NUMBERS + 2;
 
 /// Inserts the numbers while the request after the first `passing` ones is refused, and each again after a refusal. Returns how many
 /// inserts were refused. `Err`: no memory for a box of a number.
@@ -35,7 +35,7 @@ fn refused_inserts(rt: &impl Abort, alloc: Global, passing: u64) -> Result<u64, 
 #[test]
 fn each_request_refused_in_turn(rt: HostRuntime) {
     let refused = |rt: &HostRuntime, passing: u64| refused_inserts(rt, rt.alloc(), passing).ok();
-    assert_same(&rt, refused_in_turn(&rt, 40, refused), Some(TOLD));
+    assert_same(&rt, refused_in_turn(&rt, 40, refused), Some(REFUSED));
 }
 
 /// Checks that `insert_and_show` returns a refused value too, and that an insert that finds its value needs no memory.
@@ -49,12 +49,12 @@ fn no_memory_at_all(rt: HostRuntime) -> Result<(), Fail> {
     }
     assert_numbers(&rt, &set, 0);
     memory.refuse(3, u64::MAX);
-    for (number, told) in [
+    for (number, answer) in [
         (0, InsertEnd::Placed),
         (1, InsertEnd::Refused),
         (0, InsertEnd::Found),
     ] {
-        assert!(rt; insert_box(&mut set, rt.alloc(), number)? == told);
+        assert!(rt; insert_box(&mut set, rt.alloc(), number)? == answer);
     }
     assert_numbers(&rt, &set, 1);
     Ok(())

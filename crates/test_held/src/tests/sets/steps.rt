@@ -16,8 +16,8 @@ fn fill_held(alloc: Global, step: u64) -> (u64, u64) {
     let mut set: HeldSet<InPlace<u64>, NumberLaw> = HeldSet::new(alloc);
     let (mut placed, mut found) = (0u64, 0u64);
     for index in 0..COUNT {
-        let told = set.insert(InPlace(index.wrapping_mul(step)));
-        placed = placed.wrapping_add(u64::from(matches!(told, Inserted::Placed)));
+        let answer = set.insert(InPlace(index.wrapping_mul(step)));
+        placed = placed.wrapping_add(u64::from(matches!(answer, Inserted::Placed)));
     }
     for index in 0..COUNT {
         found = found.wrapping_add(u64::from(set.contains(&index.wrapping_mul(step))));

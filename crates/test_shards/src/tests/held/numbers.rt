@@ -3,7 +3,7 @@ use lock_free_hashtable::sharded::HeldShardedTable;
 use std::alloc::{Allocator, Global};
 use table_terms::law::{NumberLaw, hash_number};
 use testkit::counting::asked::{hash, same};
-use testkit::counting::numbers::{InsertEnd, told_by};
+use testkit::counting::numbers::{InsertEnd, insert_end};
 
 /// A table of boxed numbers over `SHARDS` shards.
 pub type Numbers<const SHARDS: usize, A> = HeldShardedTable<Box<u64>, SHARDS, A>;
@@ -32,7 +32,7 @@ pub fn show<const SHARDS: usize, A: Allocator + Copy>(
     number: u64,
 ) -> InsertEnd {
     match Box::new(alloc, number) {
-        Ok(value) => told_by(
+        Ok(value) => insert_end(
             table.insert_alone::<NumberLaw, _, _>(hash_number(number), value, same, hash),
             number,
         ),

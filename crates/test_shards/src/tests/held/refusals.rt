@@ -1,7 +1,7 @@
 //! Tests of refused memory, for tables over shards and for lists of calls.
 use super::makers::two_shards_of;
 use super::numbers::{Numbers, holds, insert, show};
-use super::runs::{Step, calls, list_tells, run_numbers, told_by_all};
+use super::runs::{Step, calls, list_reply, plain_replies, run_numbers};
 use crate::tests::assert_same;
 use lock_free_hashtable::raw::HeldRawTable;
 use std::alloc::{AllocError, Global};
@@ -52,11 +52,11 @@ fn is_placed(
     alloc: Global,
     number: u64,
 ) -> bool {
-    let mut told = insert_by(form, table, alloc, number);
-    if told == InsertEnd::Refused && holds(table, number) {
-        told = insert_by(form, table, alloc, number);
+    let mut answer = insert_by(form, table, alloc, number);
+    if answer == InsertEnd::Refused && holds(table, number) {
+        answer = insert_by(form, table, alloc, number);
     }
-    told == InsertEnd::Placed && holds(table, number.wrapping_add(1))
+    answer == InsertEnd::Placed && holds(table, number.wrapping_add(1))
 }
 
 /// Inserts 17 numbers and then the fifth again, while the request after the first `passing` ones is refused. Asserts that each is placed,
@@ -109,21 +109,21 @@ fn inserts(alloc: Global) -> Result<Vec<Step>, AllocError> {
 }
 
 /// Returns whether the step is an insert whose value was refused and returned.
-fn is_refused(step: Step, told: PlainReply) -> bool {
-    matches!((step, told), (Step::Insert(number), PlainReply::Refused(back)) if number == back)
+fn is_refused(step: Step, reply: PlainReply) -> bool {
+    matches!((step, reply), (Step::Insert(number), PlainReply::Refused(back)) if number == back)
 }
 
 /// Asserts that the answers are those of a list without the refused inserts. Returns the length of the list then. `Err`: no memory.
-fn assert_told_or_refused(
+fn assert_replies_or_refused(
     rt: &impl Abort,
     alloc: Global,
     steps: &[Step],
-    told: &[PlainReply],
+    replies: &[PlainReply],
 ) -> Result<usize, AllocError> {
     let mut list = Vec::new(alloc);
-    for (step, told) in steps.iter().zip(told) {
-        if !is_refused(*step, *told) {
-            assert!(rt; *told == list_tells(&mut list, *step)?);
+    for (step, reply) in steps.iter().zip(replies) {
+        if !is_refused(*step, *reply) {
+            assert!(rt; *reply == list_reply(&mut list, *step)?);
         }
     }
     Ok(list.len())
@@ -143,8 +143,13 @@ fn assert_run(
     heap.refuse(passing, 1);
     match run_numbers(heap, table, calls) {
         Ok(replies) => {
-            let told = told_by_all(alloc, replies.as_slice())?;
-            let placed = assert_told_or_refused(rt, alloc, steps.as_slice(), told.as_slice())?;
+            let replies = plain_replies(alloc, replies.as_slice())?;
+            let placed = assert_replies_or_refused(
+                rt,
+                alloc,
+                steps.as_slice(),
+                replies.as_slice(),
+            )?;
             assert!(rt; table.len_alone() == placed);
         }
         Err(back) => assert!(rt; passing == 0 && back.len() == 18 && table.len_alone() == 0),

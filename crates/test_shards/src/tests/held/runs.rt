@@ -9,7 +9,7 @@ use std::process::Abort;
 use std::test::Fail;
 use table_terms::law::{NumberLaw, hash_number};
 use testkit::plain_list::PlainList;
-use testkit::plain_list::reply::{PlainReply, told_by};
+use testkit::plain_list::reply::{PlainReply, plain_reply};
 
 /// A call on a table of numbers.
 #[derive(Clone, Copy)]
@@ -44,15 +44,15 @@ pub fn calls<A: Allocator + Copy>(
 }
 
 /// Returns the replies with numbers in place of values. `Err`: no memory.
-pub fn told_by_all(
+pub fn plain_replies(
     alloc: Global,
     replies: &[Reply<Box<u64>>],
 ) -> Result<Vec<PlainReply>, AllocError> {
-    let mut told = Vec::with_capacity(alloc, replies.len())?;
+    let mut plain = Vec::with_capacity(alloc, replies.len())?;
     for reply in replies {
-        told.push(told_by(reply))?;
+        plain.push(plain_reply(reply))?;
     }
-    Ok(told)
+    Ok(plain)
 }
 
 /// Makes the calls under the law of numbers, and returns the replies. `Err`: the calls, if the memory for the replies was refused.
@@ -78,38 +78,38 @@ fn run<B: AloneTable<Box<u64>, NumberLaw>>(
     steps: &[Step],
 ) -> Result<Vec<PlainReply>, AllocError> {
     match run_numbers(alloc, table, calls(alloc, alloc, steps)?) {
-        Ok(replies) => told_by_all(alloc, replies.as_slice()),
+        Ok(replies) => plain_replies(alloc, replies.as_slice()),
         Err(_) => Err(AllocError),
     }
 }
 
 /// Takes the steps on this table, and returns whether it gives the expected answers.
-fn tells<B: AloneTable<Box<u64>, NumberLaw>>(
+fn answers_as<B: AloneTable<Box<u64>, NumberLaw>>(
     alloc: Global,
     table: &mut B,
     steps: &[Step],
     expected: &[PlainReply],
 ) -> bool {
     match run(alloc, table, steps) {
-        Ok(told) => told.as_slice() == expected,
+        Ok(replies) => replies.as_slice() == expected,
         Err(_) => false,
     }
 }
 
 /// Asserts that a new table of each kind gives the expected answers: the plain list, the raw table, and tables over shards.
-fn assert_told(rt: &impl Abort, alloc: Global, steps: &[Step], expected: &[PlainReply]) {
-    assert!(rt; tells(alloc, &mut PlainList::new(alloc), steps, expected));
-    assert!(rt; tells(alloc, &mut HeldRawTable::new(alloc), steps, expected));
-    assert!(rt; tells_over_shards(alloc, steps, expected));
+fn assert_replies(rt: &impl Abort, alloc: Global, steps: &[Step], expected: &[PlainReply]) {
+    assert!(rt; answers_as(alloc, &mut PlainList::new(alloc), steps, expected));
+    assert!(rt; answers_as(alloc, &mut HeldRawTable::new(alloc), steps, expected));
+    assert!(rt; answers_as_over_shards(alloc, steps, expected));
 }
 
 /// Returns whether new tables over one, two, four, eight and sixteen shards all give the expected answers.
-fn tells_over_shards(alloc: Global, steps: &[Step], expected: &[PlainReply]) -> bool {
-    tells(alloc, &mut one_shard(alloc), steps, expected)
-        && tells(alloc, &mut two_shards(alloc), steps, expected)
-        && tells(alloc, &mut four_shards(alloc), steps, expected)
-        && tells(alloc, &mut eight_shards(alloc), steps, expected)
-        && tells(alloc, &mut sixteen_shards(alloc), steps, expected)
+fn answers_as_over_shards(alloc: Global, steps: &[Step], expected: &[PlainReply]) -> bool {
+    answers_as(alloc, &mut one_shard(alloc), steps, expected)
+        && answers_as(alloc, &mut two_shards(alloc), steps, expected)
+        && answers_as(alloc, &mut four_shards(alloc), steps, expected)
+        && answers_as(alloc, &mut eight_shards(alloc), steps, expected)
+        && answers_as(alloc, &mut sixteen_shards(alloc), steps, expected)
 }
 
 const STEPS: [Step; 7] = [
@@ -122,7 +122,7 @@ const STEPS: [Step; 7] = [
     Step::Len,
 ];
 
-const TOLD: [PlainReply; 7] = [
+const REPLIES: [PlainReply; 7] = [
     PlainReply::Placed(1),
     PlainReply::Found(1, 1),
     PlainReply::Some(1),
@@ -133,12 +133,12 @@ const TOLD: [PlainReply; 7] = [
 ];
 
 #[test]
-fn calls_are_told_what_a_list_tells(rt: HostRuntime) {
-    assert_told(&rt, rt.alloc(), STEPS.as_slice(), TOLD.as_slice());
+fn calls_answer_as_a_list(rt: HostRuntime) {
+    assert_replies(&rt, rt.alloc(), STEPS.as_slice(), REPLIES.as_slice());
 }
 
 /// Takes the step on a list of numbers, and returns the answer. `Err`: no memory.
-pub fn list_tells(list: &mut Vec<u64>, step: Step) -> Result<PlainReply, AllocError> {
+pub fn list_reply(list: &mut Vec<u64>, step: Step) -> Result<PlainReply, AllocError> {
     match step {
         Step::Insert(number) => {
             if list.contains(&number) {
@@ -169,7 +169,7 @@ fn draw(numbers: &mut SplitMix64) -> Step {
 }
 
 #[test]
-fn generated_calls_are_told_what_a_list_tells(rt: HostRuntime) -> Result<(), Fail> {
+fn generated_calls_answer_as_a_list(rt: HostRuntime) -> Result<(), Fail> {
     let mut numbers = SplitMix64::seed_from_u64(7);
     let mut list = Vec::new(rt.alloc());
     let mut steps = Vec::new(rt.alloc());
@@ -177,8 +177,8 @@ fn generated_calls_are_told_what_a_list_tells(rt: HostRuntime) -> Result<(), Fai
     for _ in 0..1000 {
         let step = draw(&mut numbers);
         steps.push(step)?;
-        expected.push(list_tells(&mut list, step)?)?;
+        expected.push(list_reply(&mut list, step)?)?;
     }
-    assert_told(&rt, rt.alloc(), steps.as_slice(), expected.as_slice());
+    assert_replies(&rt, rt.alloc(), steps.as_slice(), expected.as_slice());
     Ok(())
 }

@@ -25,16 +25,16 @@ fn are_alike<const SHARDS: usize>(
     )
 }
 
-/// Inserts the number by `insert_alone`, and asserts that the answer is `told` and the tables are alike after it. `Err`: no memory.
-fn assert_told<const SHARDS: usize>(
+/// Inserts the number by `insert_alone`, and asserts that the answer is `expected` and the tables are alike after it. `Err`: no memory.
+fn assert_insert<const SHARDS: usize>(
     rt: &impl Abort,
     shows: &mut Numbers<SHARDS, Global>,
     places: &Numbers<SHARDS, Global>,
     alloc: Global,
     number: u64,
-    told: InsertEnd,
+    expected: InsertEnd,
 ) -> Result<(), AllocError> {
-    assert_eq!(rt; show(shows, alloc, number), told, "{number}");
+    assert_eq!(rt; show(shows, alloc, number), expected, "{number}");
     assert!(rt; are_alike(shows, places, alloc)?, "{number}");
     Ok(())
 }
@@ -50,8 +50,8 @@ fn assert_shows_as_placed<const SHARDS: usize>(
 ) -> Result<(), AllocError> {
     for number in 0..numbers {
         assert!(rt; insert(&mut places, alloc, number) == InsertEnd::Placed);
-        assert_told(rt, &mut shows, &places, alloc, number, InsertEnd::Placed)?;
-        assert_told(rt, &mut shows, &places, alloc, number, InsertEnd::Found)?;
+        assert_insert(rt, &mut shows, &places, alloc, number, InsertEnd::Placed)?;
+        assert_insert(rt, &mut shows, &places, alloc, number, InsertEnd::Found)?;
     }
     assert!(rt; holds(&shows, numbers));
     Ok(())

@@ -9,7 +9,7 @@ use table_cell::Low;
 use table_terms::law::hash_number;
 use testkit::counting::asked;
 use testkit::counting::asked::Numbered;
-use testkit::counting::numbers::{count_first, told_by};
+use testkit::counting::numbers::{count_first, insert_end};
 pub(crate) use testkit::counting::numbers::{InsertEnd, Inserts, Numbers};
 
 /// A table of boxed numbers over `SHARDS` shards.
@@ -27,7 +27,7 @@ where
 {
     let number = value.deref().number();
     let (eq, hash_fn) = (asked::same::<T::Target>, asked::hash::<T::Target>);
-    told_by(table.insert(rt, hash, value, eq, hash_fn), number)
+    insert_end(table.insert(rt, hash, value, eq, hash_fn), number)
 }
 
 /// A table of boxed numbers, each under its own hash, over any number of shards and any allocator.

@@ -13,7 +13,7 @@ const NUMBERS: u64 = 17;
 /// How many requests make an insert fail if they are refused: the block of each number, and six for the first generation of each shard. The
 /// six are its marks, its words, its own block, the words for later generations, the room to take those generations out, and the block of
 /// these words and this room. A refused growth changes no answer, since the number was placed before.
-const TOLD: u64 = NUMBERS + 2 * 6;
+const REFUSED: u64 = NUMBERS + 2 * 6;
 
 /// Inserts the numbers while the request after the first `passing` ones is refused, and asserts that each block is freed in the end.
 /// Returns how many inserts were refused, or `None` after a wrong answer.
@@ -25,13 +25,13 @@ fn refused<R: Wait + Abort + AllocGlobal>(rt: &R, passing: u64) -> Option<u64> {
         table: &table,
         alloc,
     };
-    let told = refused_inserts(rt, &numbers, NUMBERS);
+    let count = refused_inserts(rt, &numbers, NUMBERS);
     drop(table);
     assert_same(rt, memory.given_back(), memory.granted());
-    told
+    count
 }
 
 #[test]
 fn each_request_refused_in_turn(rt: HostRuntime) {
-    assert_same(&rt, refused_in_turn(&rt, 60, refused), Some(TOLD));
+    assert_same(&rt, refused_in_turn(&rt, 60, refused), Some(REFUSED));
 }

@@ -23,7 +23,7 @@ fn a_million_numbers_of_four_threads(rt: HostRuntime) {
         table: &table,
         alloc,
     };
-    let told = fill_at_once(&rt, &numbers, alloc, PARTS.as_slice());
-    assert_same(&rt, told, Tally::of(MILLION, 0));
+    let tally = fill_at_once(&rt, &numbers, alloc, PARTS.as_slice());
+    assert_same(&rt, tally, Tally::of(MILLION, 0));
     assert_same(&rt, seen(&numbers, MILLION), those_below(MILLION));
 }

@@ -23,8 +23,8 @@ fn filled<R: Wait + Abort>(rt: &R, alloc: Global, drops: &Drops) -> Result<Table
     let table = eight(alloc);
     let mut placed = 0u64;
     for number in 0..VALUES {
-        let told = insert_at(rt, &table, hash_number(number), drops.counting(number)?);
-        placed = placed.wrapping_add(u64::from(told == InsertEnd::Placed));
+        let answer = insert_at(rt, &table, hash_number(number), drops.counting(number)?);
+        placed = placed.wrapping_add(u64::from(answer == InsertEnd::Placed));
     }
     assert!(rt; placed == VALUES);
     Ok(table)

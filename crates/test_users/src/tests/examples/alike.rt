@@ -6,7 +6,7 @@ use lock_free_hashtable::InPlace;
 use lock_free_hashtable::alone::Reply;
 use std::process::Abort;
 use std::test::Fail;
-use testkit::plain_list::reply::{PlainReply, told_by};
+use testkit::plain_list::reply::{PlainReply, plain_reply};
 
 /// The words `LOW`, `SECOND`, `THIRD` and `HIGH` belong to the shards 0, 1, 2 and 3.
 const LOW: u64 = 7;
@@ -30,7 +30,7 @@ const ASKS: [Ask; 10] = [
     Ask::Count,
 ];
 
-const TOLD: [PlainReply; 10] = [
+const REPLIES: [PlainReply; 10] = [
     PlainReply::Len(0),
     PlainReply::None,
     PlainReply::Placed(LOW),
@@ -43,18 +43,18 @@ const TOLD: [PlainReply; 10] = [
     PlainReply::Len(4),
 ];
 
-fn assert_told(rt: &impl Abort, replies: &[Reply<InPlace<u64>>]) {
-    assert_same(rt, replies.len(), TOLD.len());
-    for (reply, told) in replies.iter().zip(TOLD) {
-        assert_same(rt, told_by(reply), told);
+fn assert_replies(rt: &impl Abort, replies: &[Reply<InPlace<u64>>]) {
+    assert_same(rt, replies.len(), REPLIES.len());
+    for (reply, expected) in replies.iter().zip(REPLIES) {
+        assert_same(rt, plain_reply(reply), expected);
     }
 }
 
 #[test]
 fn four_shards_tell_what_one_table_tells(rt: HostRuntime) -> Result<(), Fail> {
     let both: Both = ask_both(rt.alloc(), ASKS.as_slice())?;
-    assert_told(&rt, both.told.one.as_slice());
-    assert_told(&rt, both.told.other.as_slice());
+    assert_replies(&rt, both.told.one.as_slice());
+    assert_replies(&rt, both.told.other.as_slice());
     assert_same(&rt, both.raw.len_alone(), 4);
     assert_same(&rt, both.shards.len_alone(), 4);
     Ok(())

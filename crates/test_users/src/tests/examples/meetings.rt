@@ -16,7 +16,7 @@ struct Case {
     finds: (bool, bool),
 }
 
-/// Runs `insert_and_meet` on a new table, and asserts what its calls return. `Err` means no memory.
+/// Runs `insert_and_meet` on a new table, and asserts what its calls return. `Err`: no memory.
 fn check(rt: &impl Abort, alloc: Global, case: &Case) -> Result<(), Fail> {
     assert!(rt; case.words.is_power_of_two());
     let (table, seat) = NumberTable::new(alloc, case.words)?;

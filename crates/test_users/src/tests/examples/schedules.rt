@@ -36,7 +36,7 @@ const EVENTS: [Event; 14] = [
 const CALLS: [u64; 4] = [1, 4, 2, 3];
 
 /// Returns whether a finished call has its expected reply.
-fn is_told(finished: &Finished) -> bool {
+fn has_reply(finished: &Finished) -> bool {
     match &finished.reply {
         Reply::None => finished.call == 1,
         Reply::Refused(value) => finished.call == 4 && *value == 40,
@@ -47,12 +47,12 @@ fn is_told(finished: &Finished) -> bool {
 }
 
 #[test]
-fn calls_are_told_what_a_list_answers(rt: HostRuntime) -> Result<(), Fail> {
+fn calls_answer_as_a_list(rt: HostRuntime) -> Result<(), Fail> {
     let replies = run_as_list(rt.alloc(), &EVENTS)?;
     assert_same(&rt, replies.len(), CALLS.len());
     for (finished, call) in replies.iter().zip(CALLS.iter()) {
         assert_same(&rt, finished.call, *call);
-        assert!(rt; is_told(finished), "at {call}");
+        assert!(rt; has_reply(finished), "at {call}");
     }
     Ok(())
 }

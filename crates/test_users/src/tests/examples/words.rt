@@ -13,7 +13,7 @@ use std::alloc::Global;
 use std::process::Abort;
 use std::test::Fail;
 
-/// Inserts the word, and asserts that it is found and that the table then has `entries` entries. `Err` means no memory.
+/// Inserts the word, and asserts that it is found and that the table then has `entries` entries. `Err`: no memory.
 fn assert_found(
     rt: &impl Abort,
     alloc: Global,
@@ -44,7 +44,7 @@ fn words_are_found(rt: HostRuntime) -> Result<(), Fail> {
     Ok(())
 }
 
-/// Inserts two words, and asserts that the first is found and that the table then has `entries` entries. `Err` means no memory.
+/// Inserts two words, and asserts that the first is found and that the table then has `entries` entries. `Err`: no memory.
 fn assert_first_found(
     rt: &impl Abort,
     alloc: Global,
@@ -75,7 +75,7 @@ fn the_first_of_two_words_is_found(rt: HostRuntime) -> Result<(), Fail> {
     Ok(())
 }
 
-/// Inserts the word into a table of any kind, and asserts that it is found. `Err` means no memory.
+/// Inserts the word into a table of any kind, and asserts that it is found. `Err`: no memory.
 fn assert_found_in<B: KeepsApart<Box<u64>, Words>>(
     rt: &impl Abort,
     alloc: Global,
@@ -94,7 +94,7 @@ fn assert_found_in<B: KeepsApart<Box<u64>, Words>>(
     Ok(())
 }
 
-/// Inserts two words, and one of them again, and asserts that each is found. `Err` means no memory.
+/// Inserts two words, and one of them again, and asserts that each is found. `Err`: no memory.
 fn assert_finds_words<B: KeepsApart<Box<u64>, Words>>(
     rt: &impl Abort,
     alloc: Global,

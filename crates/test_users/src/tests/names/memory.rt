@@ -56,7 +56,7 @@ fn refused_after(rt: &impl Abort, alloc: Global, granted: u64) -> Option<u32> {
     None
 }
 
-/// Refuses each request in turn, and returns the number of the refused text of each run. `Err` means no memory for the list.
+/// Refuses each request in turn, and returns the number of the refused text of each run. `Err`: no memory for the list.
 fn refused_in_turn(rt: &impl Abort, alloc: Global) -> Result<Vec<u32>, AllocError> {
     (0..ENOUGH)
         .map_while(|granted: u64| refused_after(rt, alloc, granted))

@@ -28,7 +28,7 @@ fn interner_of_first<'a>(
     interner
 }
 
-/// Returns a text of `LONG` bytes. `Err` means no memory.
+/// Returns a text of `LONG` bytes. `Err`: no memory.
 fn long_text(alloc: Global) -> Result<String, AllocError> {
     let mut text = String::new(alloc);
     for _ in 0..LONG {

@@ -13,7 +13,7 @@ use std::thread;
 
 const TEXTS: [&str; 8] = ["a", "b", "c", "d", "e", "f", "g", "h"];
 
-/// Interns the texts, and returns their numbers in that order. `Err` means no memory.
+/// Interns the texts, and returns their numbers in that order. `Err`: no memory.
 fn numbers_of_texts(
     rt: &impl Abort,
     alloc: Global,
@@ -26,7 +26,7 @@ fn numbers_of_texts(
     Ok(numbers)
 }
 
-/// Makes a table of eight words, and returns it with its first seat. `Err` means no memory.
+/// Makes a table of eight words, and returns it with its first seat. `Err`: no memory.
 fn table_of_eight(alloc: Global) -> Result<(NumberTable<Global>, Seat), AllocError>
     ensures { IfOk result (λ r. IsSeatOf r.0 r.1) }
 {

@@ -56,7 +56,7 @@ fn numbers_follow_first_appearance(rt: HostRuntime) {
     assert_same(&rt, text_of(&interner, u32::MAX), None);
 }
 
-/// Interns a long text, and then the same text with one more byte. Asserts that they get two numbers. `Err` means no memory.
+/// Interns a long text, and then the same text with one more byte. Asserts that they get two numbers. `Err`: no memory.
 fn intern_long(rt: &impl Abort, alloc: Global) -> Result<(), AllocError> {
     let mut text = String::new(alloc);
     for _ in 0..LONG {
@@ -71,7 +71,7 @@ fn intern_long(rt: &impl Abort, alloc: Global) -> Result<(), AllocError> {
     Ok(())
 }
 
-/// Interns the decimal numbers below `MANY`, and asserts their numbers. Returns the interner. `Err` means no memory.
+/// Interns the decimal numbers below `MANY`, and asserts their numbers. Returns the interner. `Err`: no memory.
 fn intern_many(rt: &impl Abort, alloc: Global) -> Result<Interner, Fail> {
     let mut interner = Interner::new(alloc);
     for n in 0..MANY {
@@ -81,7 +81,7 @@ fn intern_many(rt: &impl Abort, alloc: Global) -> Result<Interner, Fail> {
     Ok(interner)
 }
 
-/// Asserts that each decimal number below `MANY` still has its number. `Err` means no memory.
+/// Asserts that each decimal number below `MANY` still has its number. `Err`: no memory.
 fn ask_many(rt: &impl Abort, alloc: Global, interner: &Interner) -> Result<(), Fail> {
     for n in 0..MANY {
         let text = format!(in alloc; "{n}")?;

@@ -26,7 +26,7 @@ const MOST: u32 = 20;
 /// How often the words are counted. The least time is taken, since other work on the machine only adds to it.
 const TRIES: u32 = 4;
 
-/// Adds a line with one word. The bits of `bits` choose its parts. `Err` means no memory.
+/// Adds a line with one word. The bits of `bits` choose its parts. `Err`: no memory.
 fn push_word(text: &mut String, parts: [&str; 2], bits: u32) -> Result<(), Fail> {
     for place in 0..LENGTH {
         text.push_str(parts[(bits >> place & 1) as usize])?;
@@ -35,7 +35,7 @@ fn push_word(text: &mut String, parts: [&str; 2], bits: u32) -> Result<(), Fail>
     Ok(())
 }
 
-/// Returns all words of these parts, each on a line. `Err` means no memory.
+/// Returns all words of these parts, each on a line. `Err`: no memory.
 fn all_words(heap: Global, parts: [&str; 2]) -> Result<String, Fail> {
     let mut text = String::new(heap);
     for bits in 0..COUNT {

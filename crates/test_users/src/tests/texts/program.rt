@@ -72,7 +72,7 @@ const CALLED: &[&[u8]] = &[b"tool_text", b"words", b"file"];
 
 /// Runs the program while the request after the first `granted` ones for the memory of its arguments is refused. Returns 1 if the program
 /// reports it, and asserts that it writes no output then. Otherwise returns 0, and asserts that the run writes its output.
-fn told_after(rt: &(impl Abort + Threads + Sync), heap: Global, granted: u64) -> u64 {
+fn reports_after(rt: &(impl Abort + Threads + Sync), heap: Global, granted: u64) -> u64 {
     let memory = Refusing::new(heap, Rule::new(0, usize::MAX, granted, 1));
     let called = Called {
         arguments: CALLED,
@@ -91,11 +91,11 @@ fn told_after(rt: &(impl Abort + Threads + Sync), heap: Global, granted: u64) ->
 const ENOUGH: u64 = 20;
 
 #[test]
-fn want_of_memory_for_the_arguments_is_told(rt: HostRuntime) {
-    let mut told = 0u64;
+fn refused_memory_for_the_arguments_is_reported(rt: HostRuntime) {
+    let mut reports = 0u64;
     for granted in 0..ENOUGH {
-        told = told.saturating_add(told_after(&rt, rt.alloc(), granted));
+        reports = reports.saturating_add(reports_after(&rt, rt.alloc(), granted));
     }
     // Each of the three arguments takes memory, and so does the list of them.
-    assert!(rt; 4 <= told && told < ENOUGH, "{told}");
+    assert!(rt; 4 <= reports && reports < ENOUGH, "{reports}");
 }

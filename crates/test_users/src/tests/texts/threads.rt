@@ -21,8 +21,8 @@ const PIECES: [usize; 5] = [1, 2, 3, 7, 100];
 /// How a run is split: the number of threads, and the number of bytes after which a piece ends, at the end of its line.
 type Split = (&'static str, usize);
 
-/// Runs the tool by this number of threads over the input. `words` are the arguments after the number of threads. Returns the status. `Err`
-/// means no memory.
+/// Runs the tool by this number of threads over the input. `words` are the arguments after the number of threads. Returns the status.
+/// `Err`: no memory.
 fn run_split<
     'w,
     R: Threads + AllocGlobal + Sync,
@@ -45,7 +45,7 @@ fn run_split<
     Ok(run_into(host, all.as_slice(), input, output, messages))
 }
 
-/// Runs the tool over the input, split as `split` says. Returns what it printed, and its status. `Err` means no memory.
+/// Runs the tool over the input, split as `split` says. Returns what it printed, and its status. `Err`: no memory.
 fn run_of<R: Threads + AllocGlobal + Sync, A: Allocator + Copy + Send + Sync, I: Read + Drop>(
     rt: &R,
     alloc: A,
@@ -76,7 +76,7 @@ fn run_of<R: Threads + AllocGlobal + Sync, A: Allocator + Copy + Send + Sync, I:
     })
 }
 
-/// Asserts the output, the messages and the status of the tool over the input, for each split. `Err` means no memory.
+/// Asserts the output, the messages and the status of the tool over the input, for each split. `Err`: no memory.
 fn assert_splits(
     rt: &(impl Abort + Threads + AllocGlobal + Sync),
     tool: &str,
@@ -151,7 +151,7 @@ fn the_first_line_that_is_no_text_is_named_in_a_later_piece(rt: HostRuntime) -> 
     assert_splits(&rt, WORDS, input, (b"", "words: line 6 is not UTF-8\n", 2))
 }
 
-/// Asserts the output, the messages and the status of a row of `RUNS`, run by several threads. `Err` means no memory.
+/// Asserts the output, the messages and the status of a row of `RUNS`, run by several threads. `Err`: no memory.
 fn assert_row(
     rt: &(impl Abort + Threads + AllocGlobal + Sync),
     row: &super::files::Row,
@@ -244,7 +244,7 @@ fn deduped_of(bytes: usize) -> &'static [u8] {
     }
 }
 
-/// Asserts what `dedup` writes if the read after the first `given` ones fails. `Err` means no memory.
+/// Asserts what `dedup` writes if the read after the first `given` ones fails. `Err`: no memory.
 fn assert_given(
     rt: &(impl Abort + Threads + AllocGlobal + Sync),
     split: Split,
@@ -302,7 +302,7 @@ impl Write for Full {
     }
 }
 
-/// Asserts the messages and the status of a tool whose output fails with the error `then` after three bytes. `Err` means no memory.
+/// Asserts the messages and the status of a tool whose output fails with the error `then` after three bytes. `Err`: no memory.
 fn assert_full(
     rt: &(impl Abort + Threads + AllocGlobal + Sync),
     tool: &str,
@@ -355,7 +355,7 @@ fn is_refused_after(
     Ok(memory.refusals_left() == 0)
 }
 
-/// Refuses each request of a run in turn. Returns how many requests a run makes. `Err` means no memory.
+/// Refuses each request of a run in turn. Returns how many requests a run makes. `Err`: no memory.
 fn requests_of(
     rt: &(impl Abort + Threads + AllocGlobal + Sync),
     tool: &str,
@@ -381,7 +381,7 @@ fn each_request_is_refused_in_turn(rt: HostRuntime) -> Result<(), Fail> {
 /// How many lines are drawn.
 const DRAWN: u64 = 400;
 
-/// Returns drawn lines of up to three letters each. The seed determines them. `Err` means no memory.
+/// Returns drawn lines of up to three letters each. The seed determines them. `Err`: no memory.
 fn drawn_lines(heap: Global, seed: u64) -> Result<Vec<u8>, Fail> {
     let mut text = Vec::new(heap);
     let mut state = seed;
@@ -395,7 +395,7 @@ fn drawn_lines(heap: Global, seed: u64) -> Result<Vec<u8>, Fail> {
     Ok(text)
 }
 
-/// Adds up to three letters, which the number determines. `Err` means no memory.
+/// Adds up to three letters, which the number determines. `Err`: no memory.
 fn push_letters(text: &mut Vec<u8>, number: u64) -> Result<(), Fail> {
     let mut rest = number / 4;
     for _letter in 0..number % 4 {
@@ -405,7 +405,7 @@ fn push_letters(text: &mut Vec<u8>, number: u64) -> Result<(), Fail> {
     Ok(())
 }
 
-/// Returns the lines of the text without those that equal an earlier line. It compares each line with all before it. `Err` means no memory.
+/// Returns the lines of the text without those that equal an earlier line. It compares each line with all before it. `Err`: no memory.
 fn plain_dedup(heap: Global, text: &[u8]) -> Result<Vec<u8>, Fail> {
     let mut kept: Vec<&[u8]> = Vec::new(heap);
     let mut written = Vec::new(heap);

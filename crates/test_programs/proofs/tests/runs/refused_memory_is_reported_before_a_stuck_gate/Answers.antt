@@ -1,5 +1,5 @@
 use Rattle.std.proofs.Crossing as global
-use Rattle.test_programs.proofs.tests.runs.want_of_memory_is_told_before_a_gate_that_is_stuck.Goals as goal
+use Rattle.test_programs.proofs.tests.runs.refused_memory_is_reported_before_a_stuck_gate.Goals as goal
 
 -- any thread may give a block back, since it goes back to the program's memory
 pub run_under-requires-frees-A-Allocator : goal.run_under-requires-frees-A-Allocator
