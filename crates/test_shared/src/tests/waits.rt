@@ -57,6 +57,7 @@ fn assert_waits<R: Abort + Threads + Wait + Sync>(rt: &R, alloc: Global) {
     };
     assert_same(rt, fill(rt, &growing.table, 0..GROWS), Tally::of(GROWS, 0));
     assert_same(rt, at_once(rt, alloc, 2, &growing), Tally::of(2, 0));
+    assert_same(rt, growing.signs.went_alone(), 0);
     assert_same(
         rt,
         seen(&growing.table, GROWS.wrapping_add(2)),

@@ -1,6 +1,6 @@
 //! Requests for memory that wait for one another.
-use std::hint;
 use std::sync::atomic::{AtomicU64, Ordering};
+use std::thread;
 
 /// Pairs of the first requests: neither request of a pair is granted before the other one has come.
 #[derive(Drop)]
@@ -30,13 +30,13 @@ impl Pairs {
         }
     }
 
-    /// Returns whether a request comes after the one of this turn, within `looks` looks.
+    /// Returns whether a request comes after the one of this turn, within `looks` looks. It yields after each look.
     fn comes(&self, turn: u64) -> bool {
         for _look in 0..self.looks {
             if self.come.load(Ordering::SeqCst).wrapping_sub(turn) > 1 {
                 return true;
             }
-            hint::spin_loop();
+            thread::yield_now();
         }
         false
     }

@@ -83,8 +83,8 @@ impl<'w, 'm> Place<'w, 'm> {
         run_alone(rt, self.ground, number, ask, self.signs)
     }
 
-    /// Runs two calls with these numbers at once, and returns the milestones of each. `Err`: a fault, or a request that went on without the
-    /// other.
+    /// Runs two calls with these numbers at once, and returns the milestones of each. `Err`: a fault, or a thread that went on without the
+    /// other one.
     fn run_both<R: Threads + Wait + Sync>(
         &self,
         rt: &R,
@@ -97,7 +97,7 @@ impl<'w, 'm> Place<'w, 'm> {
             || run_alone(rt, self.ground, numbers.0, asks.0, self.signs),
             || self.run_second(rt, numbers.1, asks.1, meeting),
         );
-        if self.ground.memory.went_alone() != 0 {
+        if self.ground.memory.went_alone() != 0 || self.signs.went_alone() != 0 {
             return Err(ReplayFault::Alone);
         }
         Ok((one?, other?))
