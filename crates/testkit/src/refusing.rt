@@ -139,6 +139,11 @@ impl<B: Allocator> Refusing<B> {
         self.rule.refused.load(Ordering::SeqCst)
     }
 
+    /// Makes the next `2 * pairs` counted requests that are granted meet in pairs. No request may be waiting.
+    pub fn pair(&self, pairs: u64) {
+        self.rule.pairs.begin(pairs);
+    }
+
     /// Returns how many requests went on without the other one of their pair.
     pub fn went_alone(&self) -> u64 {
         self.rule.pairs.alone()

@@ -11,7 +11,7 @@ use std::rt::Clock;
 use std::thread::Threads;
 use std::time::Instant;
 use testkit::refusing::{Refusing, Rule};
-use testkit_rounds::drawn::{Plan, Stop};
+use testkit_rounds::drawn::{End, Plan, Stop};
 use testkit_rounds::{Kind, Round, RoundFault};
 
 /// The status of rounds without a fault.
@@ -101,7 +101,8 @@ fn run_plan<R: Threads + Clock + Sync, O: Write>(
     Ok(())
 }
 
-/// Runs the rounds of a plan, writes their sum every minute, and returns it. `Err`: a round had a fault, or the clock or the output failed.
+/// Runs the rounds of a plan, and returns their sum. If the plan counts minutes, it writes the sum every minute. `Err`: a round had a fault, or
+/// the clock or the output failed.
 fn run_each<R: Threads + Clock + Sync, O: Write>(
     rt: &R,
     alloc: Global,
@@ -117,7 +118,7 @@ fn run_each<R: Threads + Clock + Sync, O: Write>(
     let mut reported = 0u64;
     for seed in plan.first_seed..u64::MAX {
         let minutes = start.elapsed(rt)?.as_secs() / MINUTE;
-        if reported < minutes {
+        if reported < minutes && matches!(plan.end, End::Minutes(_)) {
             writeln!(output, "minute {minutes}: {sum}")?;
             reported = minutes;
         }

@@ -1,9 +1,12 @@
 //! The common start of threads.
-use std::hint;
 use std::sync::atomic::{AtomicU64, Ordering};
+use std::{hint, thread};
 
 /// How often a thread looks for the others before it begins without them.
 const LOOKS: u64 = 1 << 22;
+
+/// How many looks a thread takes before it lets another thread run first.
+const LOOKS_TO_YIELD: u64 = 64;
 
 /// A start at which threads wait for one another.
 #[derive(Drop)]
@@ -24,11 +27,15 @@ impl Start {
     /// Notes that one more thread has come. Waits until all have come, or until it has looked `LOOKS` times.
     pub(crate) fn wait(&self) {
         self.come.fetch_add(1, Ordering::SeqCst);
-        for _look in 0..LOOKS {
+        for look in 0..LOOKS {
             if self.threads <= self.come.load(Ordering::SeqCst) {
                 return;
             }
-            hint::spin_loop();
+            if look % LOOKS_TO_YIELD == 0 {
+                thread::yield_now();
+            } else {
+                hint::spin_loop();
+            }
         }
     }
 }

@@ -19,8 +19,8 @@ const MESSAGES: u64 = 64;
 /// How many numbers a thread places before each message.
 const NUMBERS: u64 = 20;
 
-/// How often the other thread looks for each message.
-const LOOKS: u32 = 1_000_000;
+/// How often the other thread looks for each message. It yields after each look.
+const LOOKS: u32 = 1 << 26;
 
 /// What is known of a set, as one thread sends it to another.
 #[derive(Drop)]

@@ -9,6 +9,7 @@ use std::process::Abort;
 use std::sync::Wait;
 use std::thread::Threads;
 use testkit::counting::tally::{Work, at_once};
+use testkit::refusing::handover::MOST_LOOKS;
 use testkit::refusing::{Refusing, Rule};
 
 /// Threads that insert numbers into a set, each the numbers of its part. A thread without a part looks up entries by their numbers.
@@ -130,15 +131,17 @@ fn assert_placed_once<R: Threads + Wait + Abort + Sync>(
     assert_same(rt, at_once(rt, alloc, 2, &filling), Tally::of(1, 1));
 }
 
-/// Checks that one of two threads places a number. Both have probed and have a chunk for their slot, of 32 values of eight bytes, before
-/// either offers its value, unless one has waited too long.
+/// Checks that one of two threads places a number. Both have probed and request a chunk for their slot, of 32 values of eight bytes,
+/// before either offers its value.
 #[test]
 fn one_of_two_threads_places_a_number(rt: HostRuntime) {
-    let rule = Rule::new(256, 256, 0, 0).paired(u64::MAX, 10_000);
+    let rule = Rule::new(256, 256, 0, 0).paired(0, MOST_LOOKS);
     let heap = Refusing::new(rt.alloc(), rule);
     for number in 0u64..500 {
         let set = set_with(&rt, &heap, 0);
+        heap.pair(1);
         assert_placed_once(&rt, rt.alloc(), &set, number);
+        assert_same(&rt, heap.went_alone(), 0);
         assert_same(&rt, set.get(&number), Some(&number));
         assert_same(&rt, set.len(), 1);
         drop(set);
@@ -159,14 +162,16 @@ fn one_of_two_threads_places_each_number(rt: HostRuntime) {
     assert_none_out(&rt, &heap);
 }
 
-/// Checks that two threads that find a set full grow it, and that the next generation then has the numbers of both.
+/// Checks that two threads that find a set full grow it, and that the next generation then has the numbers of both. Both request memory
+/// for a growth before either shows one.
 #[test]
 fn two_threads_grow_a_full_set(rt: HostRuntime) {
     for _round in 0..200 {
-        let rule = Rule::new(512, usize::MAX, 0, 0).paired(u64::MAX, 10_000);
+        let rule = Rule::new(512, usize::MAX, 0, 0).paired(0, MOST_LOOKS);
         let heap = Refusing::new(rt.alloc(), rule);
         let set = full_set(&rt, &heap);
         heap.refuse(0, 0);
+        heap.pair(1);
         let parts = [(32, 33), (33, 34)];
         let filling = Filling {
             set: &set,
@@ -175,6 +180,7 @@ fn two_threads_grow_a_full_set(rt: HostRuntime) {
         };
         let tally = at_once(&rt, rt.alloc(), 2, &filling);
         assert_same(&rt, tally, Tally::of(2, 0));
+        assert_same(&rt, heap.went_alone(), 0);
         assert_has(&rt, &mut set.handle(), 34);
         drop(set);
         assert_none_out(&rt, &heap);

@@ -1,11 +1,14 @@
 //! Requests for memory that wait for one another.
 use std::sync::atomic::{AtomicU64, Ordering};
-use std::thread;
+use std::{hint, thread};
+
+/// How often a request looks for the other one before it yields after each look. A wait of fewer looks is short on a loaded machine, too.
+const SPINS: u64 = 1 << 15;
 
 /// Pairs of the first requests: neither request of a pair is granted before the other one has come.
 #[derive(Drop)]
 pub(crate) struct Pairs {
-    pairs: u64,
+    pairs: AtomicU64,
     looks: u64,
     come: AtomicU64,
     alone: AtomicU64,
@@ -15,28 +18,39 @@ impl Pairs {
     /// Makes `pairs` pairs. The first request of a pair looks at most `looks` times for the second one before it goes on alone.
     pub(crate) fn new(pairs: u64, looks: u64) -> Pairs {
         Pairs {
-            pairs,
+            pairs: AtomicU64::new(pairs),
             looks,
             come: AtomicU64::new(0),
             alone: AtomicU64::new(0),
         }
     }
 
+    /// Makes `pairs` pairs of the next requests. No request may be waiting.
+    pub(crate) fn begin(&self, pairs: u64) {
+        self.pairs.store(pairs, Ordering::SeqCst);
+        self.come.store(0, Ordering::SeqCst);
+    }
+
     /// Waits for the second request of a pair, if this is the first one.
     pub(crate) fn meet(&self) {
         let turn = self.come.fetch_add(1, Ordering::SeqCst);
-        if turn / 2 < self.pairs && turn % 2 == 0 && !self.comes(turn) {
+        let is_first = turn / 2 < self.pairs.load(Ordering::SeqCst) && turn % 2 == 0;
+        if is_first && !self.comes(turn) {
             self.alone.fetch_add(1, Ordering::SeqCst);
         }
     }
 
-    /// Returns whether a request comes after the one of this turn, within `looks` looks. It yields after each look.
+    /// Returns whether a request comes after the one of this turn, within `looks` looks.
     fn comes(&self, turn: u64) -> bool {
-        for _look in 0..self.looks {
+        for look in 0..self.looks {
             if self.come.load(Ordering::SeqCst).wrapping_sub(turn) > 1 {
                 return true;
             }
-            thread::yield_now();
+            if look < SPINS {
+                hint::spin_loop();
+            } else {
+                thread::yield_now();
+            }
         }
         false
     }

@@ -11,7 +11,7 @@ const NONE: u64 = u64::MAX;
 const SLEEP: u64 = 5;
 
 /// How many looks of a held request take the place of one look of a thread. A thread sleeps between two looks, and a request can't.
-const YIELDS: u64 = 1 << 10;
+const YIELDS: u64 = 1 << 14;
 
 /// A turn after those of all schedules. Once it has begun, no thread waits.
 const ENDED: u64 = 1 << 62;

@@ -1,5 +1,5 @@
 //! Runs drawn rounds.
-use super::plan::Plan;
+use super::plan::{End, Plan};
 use super::stop::Stop;
 use super::sum::Sum;
 use crate::{Round, run_round};
@@ -54,7 +54,8 @@ fn run_plan<R: Threads + Wait + Sync + Clock, O: Write>(
     Ok(())
 }
 
-/// Runs the rounds of a plan, and writes their sum every minute. Returns how many there were. `Err`: a fault, or a failed clock or output.
+/// Runs the rounds of a plan, and returns how many there were. If the plan counts minutes, it writes their sum every minute. `Err`: a fault,
+/// or a failed clock or output.
 fn count_rounds<R: Threads + Wait + Sync + Clock, O: Write>(
     rt: &R,
     alloc: Global,
@@ -66,7 +67,7 @@ fn count_rounds<R: Threads + Wait + Sync + Clock, O: Write>(
     let mut reported = 0u64;
     for seed in plan.first_seed..u64::MAX {
         let minutes = start.elapsed(rt)?.as_secs() / MINUTE;
-        if reported < minutes {
+        if reported < minutes && matches!(plan.end, End::Minutes(_)) {
             writeln!(output, "minute {minutes}: {sum}")?;
             reported = minutes;
         }
