@@ -1,5 +1,4 @@
 //! The events that calls take in their phases.
-use crate::script::Script;
 use table_core::call::Phase;
 use table_core::event::Event;
 
@@ -35,46 +34,15 @@ pub fn answers_of(event: Event) -> Answers {
     }
 }
 
-/// Returns whether an insert or a look-up in this phase can take the event if the lock is free for it.
-pub fn takes(phase: Phase, event: Event) -> bool {
-    match event {
-        Event::Share { .. } => phase == Phase::WantShared,
-        Event::Own { .. } => phase == Phase::WantOwned,
-        Event::Free { .. } => releases(phase),
-        Event::Load { .. } => phase == Phase::Shared || phase == Phase::LookLoad,
-        Event::Read { .. } => phase == Phase::Probe || phase == Phase::LookProbe,
-        Event::Put { .. } => phase == Phase::AtEmpty,
-        Event::Add { .. } => phase == Phase::Placed,
-        Event::Size { .. } => phase == Phase::AskSize,
-        Event::Check { .. } => phase == Phase::Owned,
-        Event::Copy { .. } | Event::Show { .. } => phase == Phase::Building,
-        _ => false,
-    }
-}
-
-/// Returns whether an insert in this phase releases its lock.
-fn releases(phase: Phase) -> bool {
-    matches!(
-        phase,
-        Phase::LeaveOk
-            | Phase::LeaveGrow
-            | Phase::LeaveRefused
-            | Phase::LeaveOwned
-            | Phase::LeaveFailed
-    )
-}
-
-/// Returns the event of a step, by the phases of its call before and after it, with the last answers of the closures. Returns `None` if the
-/// call had ended before the step.
-pub fn event_taken(
-    call: u64,
-    before: Phase,
-    after: Phase,
-    script: &Script,
-    granted: bool,
-) -> Option<Event> {
-    let accepted = script.accepted();
-    match before {
+/// Returns the event by which an insert or a look-up leaves this phase, with these answers. A growth that is being built copies an entry if
+/// `copies`. Returns `None` if the call has ended.
+pub fn event_of(call: u64, phase: Phase, copies: bool, answers: Answers) -> Option<Event> {
+    let Answers {
+        accepted,
+        hash,
+        granted,
+    } = answers;
+    match phase {
         Phase::WantShared => Some(Event::Share { call }),
         Phase::Shared | Phase::LookLoad => Some(Event::Load { call }),
         Phase::Probe | Phase::LookProbe => Some(Event::Read { call, accepted }),
@@ -87,12 +55,19 @@ pub fn event_taken(
         Phase::AskSize => Some(Event::Size { call }),
         Phase::WantOwned => Some(Event::Own { call }),
         Phase::Owned => Some(Event::Check { call, granted }),
-        Phase::Building if after == Phase::Building => Some(Event::Copy {
-            call,
-            hash: script.hash(),
-        }),
+        Phase::Building if copies => Some(Event::Copy { call, hash }),
         Phase::Building => Some(Event::Show { call }),
-        _ if releases(before) => Some(Event::Free { call }),
+        Phase::LeaveOk
+        | Phase::LeaveGrow
+        | Phase::LeaveRefused
+        | Phase::LeaveOwned
+        | Phase::LeaveFailed => Some(Event::Free { call }),
         _ => None,
     }
+}
+
+/// Returns whether an insert or a look-up in this phase can take the event if the lock is free for it.
+pub fn takes(phase: Phase, event: Event) -> bool {
+    let copies = matches!(event, Event::Copy { .. });
+    event_of(event.call(), phase, copies, answers_of(event)) == Some(event)
 }

@@ -14,17 +14,11 @@ pub enum ReplayFault {
     },
     /// The states of this call in the table and in the machine differ: it is in another phase or at another bucket, or only one of them
     /// blocks it.
-    State {
-        call: u64,
-    },
+    State(u64),
     /// This call didn't take the step that the schedule names.
-    Step {
-        call: u64,
-    },
+    Step(u64),
     /// The closures of this call were called with other entries than its steps name, or more or less often.
-    Asked {
-        call: u64,
-    },
+    Asked(u64),
     /// A call didn't end within the steps that it has, a milestone is missing, or growths copied fewer entries than were rehearsed.
     Unfinished,
     /// The lengths of the table and of the machine differ.
@@ -45,4 +39,9 @@ pub(crate) fn granted<T, E: Drop>(asked: Result<T, E>) -> Result<T, ReplayFault>
         Ok(there) => Ok(there),
         Err(_refused) => Err(ReplayFault::NoMemory),
     }
+}
+
+/// Checks that this holds. `Err`: this fault, since it doesn't.
+pub(crate) fn check(holds: bool, fault: ReplayFault) -> Result<(), ReplayFault> {
+    if holds { Ok(()) } else { Err(fault) }
 }

@@ -1,12 +1,9 @@
 //! Runs a schedule of calls on a running table, and compares what each step returns with what the machine of `table_core` returns.
 #![tactic(auto)]
 
-pub mod course;
-pub mod drawn;
 mod events;
 pub mod fault;
 pub mod item;
-mod machine;
 mod program;
 mod replay;
 mod running;

@@ -1,6 +1,6 @@
 //! Replays random schedules, as many as the arguments ask for.
-use crate::drawn::first_fault;
-use crate::whole_calls::interleaved;
+use crate::schedules::{first_fault, run_seed};
+use crate::whole_calls::interleaved::run_interleaved;
 use std::alloc::Global;
 use std::convert::AsStr;
 use std::io::Write;
@@ -33,7 +33,24 @@ pub fn run_replays<R: Threads + Wait + Sync, S: AsStr, O: Write, M: Write>(
         );
         return BAD;
     };
-    replay_seeds(rt, alloc, seeds, first_seed, output, messages)
+    let stepped = first_fault(first_seed, seeds, |seed: u64| run_seed(alloc, seed));
+    if let Some((seed, fault)) = stepped {
+        let _ = writeln!(messages, "seed {seed}: {fault:?}");
+        return BAD;
+    }
+    let whole = first_fault(
+        first_seed,
+        seeds,
+        |seed: u64| run_interleaved(rt, alloc, seed),
+    );
+    if let Some((seed, fault)) = whole {
+        let _ = writeln!(messages, "seed {seed}, whole calls: {fault:?}");
+        return BAD;
+    }
+    match writeln!(output, "{seeds} schedules agree") {
+        Ok(()) => WELL,
+        Err(_error) => BAD,
+    }
 }
 
 /// Parses the number of seeds and the first seed. Returns `None` for other words.
@@ -49,27 +66,4 @@ fn parse_words<S: AsStr>(words: &[S]) -> Option<(u64, u64)> {
 /// Parses a word as a number. Returns `None` if it isn't one.
 fn parse_word<S: AsStr>(word: &S) -> Option<u64> {
     word.as_str().parse::<u64>().ok()
-}
-
-/// Replays the schedules of `seeds` seeds from `first_seed` on, and returns the status.
-fn replay_seeds<R: Threads + Wait + Sync, O: Write, M: Write>(
-    rt: &R,
-    alloc: Global,
-    seeds: u64,
-    first_seed: u64,
-    output: &mut O,
-    messages: &mut M,
-) -> u8 {
-    if let Some((seed, fault)) = first_fault(alloc, first_seed, seeds) {
-        let _ = writeln!(messages, "seed {seed}: {fault:?}");
-        return BAD;
-    }
-    if let Some((seed, fault)) = interleaved::first_fault(rt, alloc, first_seed, seeds) {
-        let _ = writeln!(messages, "seed {seed}, whole calls: {fault:?}");
-        return BAD;
-    }
-    match writeln!(output, "{seeds} schedules agree") {
-        Ok(()) => WELL,
-        Err(_error) => BAD,
-    }
 }

@@ -2,19 +2,28 @@
 ghost use Rattle.std.specs.Prelude.{◌≡◌};
 ghost use Rattle.table_terms.specs.Capacities.{IsFirstCapacity};
 
-use crate::events::event_taken;
-use crate::fault::{ReplayFault, granted};
+use crate::events::{Answers, event_of};
+use crate::fault::{ReplayFault, check, granted};
 use crate::item::{Item, Said};
-use crate::machine::{Machine, said_to};
-use crate::running::{Calls, Schedule, Stepped, Table, Took};
+use crate::running::{Stepped, Table, Took};
 use crate::schedules::Ask;
 use crate::script::Script;
 use std::alloc::Global;
 use table_core::call::{CallState, Phase};
 use table_core::event::Event;
 use table_core::reply::{Finished, Reply};
+use table_core::state::State;
 use table_shared::LockFreeRawTable;
 use testkit::refusing::{Refusing, Rule};
+
+/// The replay's own calls of the machine have numbers from this one on, far from those of a schedule.
+const OWN_CALLS: u64 = 1 << 32;
+
+/// The maximum number of reads of a walk.
+const READS: u64 = 1 << 12;
+
+/// How many of a call's requests for memory are granted first, and how many of the next are refused.
+pub type Refusals = (u64, u64);
 
 /// Makes a table without a generation. Its first generation will have `first` buckets.
 pub(crate) fn new_table(memory: &Refusing<Global>, first: u64) -> Table<'_>
@@ -26,29 +35,6 @@ pub(crate) fn new_table(memory: &Refusing<Global>, first: u64) -> Table<'_>
 /// Returns a rule under which any request for memory can be refused.
 pub(crate) fn any_request() -> Rule {
     Rule::new(0, usize::MAX, 0, 0)
-}
-
-/// Runs a schedule on a table whose memory has this rule, and on the machine. `Err`: the first fault.
-pub(crate) fn run_schedule<S: Schedule>(
-    alloc: Global,
-    first: u64,
-    rule: Rule,
-    script: &Script,
-    schedule: &mut S,
-) -> Result<(), ReplayFault>
-    requires { IsFirstCapacity first }
-{
-    let memory = Refusing::new(alloc, rule);
-    let table = new_table(&memory, first);
-    let mut replay = Replay::new(Ground::new(alloc, first, &memory, &table), script);
-    let mut calls = Calls::new(
-        alloc,
-        &table,
-        |new: &Item, entry: &Item| script.says(new.class, entry),
-        |entry: &Item| script.rehashes(entry),
-        |entry: &Item| script.seeks(entry),
-    );
-    calls.run(&mut replay, schedule)
 }
 
 /// A table, its memory, and the capacity of its first generation.
@@ -75,6 +61,16 @@ impl<'a, 'm> Ground<'a, 'm> {
             first,
             memory,
             table,
+        }
+    }
+
+    /// Returns the number of buckets of all generations of the table. Each generation has twice as many as the one before.
+    pub(crate) fn buckets(self) -> u64 {
+        match self.table.current(&mut self.table.note()) {
+            Some(current) => (current.generation.capacity() as u64)
+                .saturating_mul(2)
+                .saturating_sub(self.first),
+            None => 0,
         }
     }
 }
@@ -110,12 +106,12 @@ struct Call {
 pub struct Replay<'a, 'm> {
     pub(crate) ground: Ground<'a, 'm>,
     pub(crate) script: &'a Script,
-    machine: Machine,
+    machine: State,
     calls: Vec<Call>,
     /// The numbers of all calls that have begun, with the lengths and walks that only the machine runs.
     numbers: Vec<u64>,
-    /// The number of calls that haven't ended.
-    going: u64,
+    /// The number of the replay's own next call of the machine.
+    own: u64,
     /// The index of the call that takes a step.
     stepping: usize,
     /// How many requests were still to be refused before that step.
@@ -123,17 +119,17 @@ pub struct Replay<'a, 'm> {
 }
 
 impl<'a, 'm> Replay<'a, 'm> {
-    /// Makes a replay without calls, on a table without a generation.
-    fn new(ground: Ground<'a, 'm>, script: &'a Script) -> Self
+    /// Makes a replay without calls, on a table without a generation. No rule refuses the machine's requests for memory.
+    pub(crate) fn new(ground: Ground<'a, 'm>, script: &'a Script) -> Self
         requires { IsFirstCapacity ground.first }
     {
         Replay {
             ground,
             script,
-            machine: Machine::new(ground.alloc, ground.first),
+            machine: State::with_first_capacity(ground.alloc, ground.first),
             calls: Vec::new(ground.alloc),
             numbers: Vec::new(ground.alloc),
-            going: 0,
+            own: OWN_CALLS,
             stepping: 0,
             refusals: 0,
         }
@@ -144,93 +140,65 @@ impl<'a, 'm> Replay<'a, 'm> {
         self.calls.len()
     }
 
-    /// Begins the next call. Its number is its index. `Err`: no memory.
-    pub(crate) fn begin(&mut self, ask: Ask) -> Result<Turn, ReplayFault> {
-        let number = self.calls.len() as u64;
+    /// Begins the next call. Its number, and that of its value, is its index. `Err`: no memory.
+    pub(crate) fn begin_next(&mut self, ask: Ask) -> Result<Turn, ReplayFault> {
+        let call = self.calls.len() as u64;
         match ask {
-            Ask::Insert(class, hash) => self.insert(
-                number,
-                Item {
-                    number,
-                    class,
-                    hash,
-                },
-            ),
-            Ask::Lookup(class, hash) => self.lookup(number, class, hash),
+            Ask::Insert(class, hash) => {
+                let value = call;
+                self.begin(Event::Insert { call, value, hash }, class)
+            }
+            Ask::Lookup(class, hash) => self.begin(Event::Lookup { call, hash }, class),
         }
     }
 
-    /// Begins an insert. The table skips it if its number or its value was used before. `Err`: no memory.
-    pub(crate) fn insert(&mut self, number: u64, item: Item) -> Result<Turn, ReplayFault> {
-        let (value, hash) = (item.number, item.hash);
-        self.machine.take(Event::Insert {
-            call: number,
-            value,
-            hash,
-        })?;
-        let call = Call {
-            number,
-            value: Some(value),
-            class: item.class,
-            state: CallState::insert(hash),
-            said: None,
+    /// Begins the call of this event. An insert has a value of this class, and a look-up looks for it. A length or a walk runs only on the
+    /// machine. The table skips a call whose number or value was used before. `Err`: no memory.
+    pub(crate) fn begin(&mut self, event: Event, class: u64) -> Result<Turn, ReplayFault> {
+        self.take(event)?;
+        let number = event.call();
+        let (value, hash, state) = match event {
+            Event::Insert { value, hash, .. } => (Some(value), hash, CallState::insert(hash)),
+            Event::Lookup { hash, .. } => (None, hash, CallState::lookup(hash)),
+            _ => {
+                granted(self.numbers.push(number))?;
+                return Ok(Turn::Nothing);
+            }
         };
-        let value = granted(Box::new(self.ground.alloc, item))?;
-        self.add(call, Turn::Insert(value))
-    }
-
-    /// Begins a look-up of a class. The table skips it if its number was used before. `Err`: no memory.
-    pub(crate) fn lookup(
-        &mut self,
-        number: u64,
-        class: u64,
-        hash: u64,
-    ) -> Result<Turn, ReplayFault> {
-        self.machine.take(Event::Lookup { call: number, hash })?;
-        let call = Call {
-            number,
-            value: None,
-            class,
-            state: CallState::lookup(hash),
-            said: None,
-        };
-        self.add(call, Turn::Lookup(hash))
-    }
-
-    /// Adds a call, and returns the turn by which it begins. If its number or its value was used before, adds nothing and returns
-    /// `Turn::Nothing`. `Err`: no memory.
-    fn add(&mut self, call: Call, turn: Turn) -> Result<Turn, ReplayFault> {
-        if self.is_used(&call) {
+        if self.is_used(number, value) {
             return Ok(Turn::Nothing);
         }
-        granted(self.numbers.push(call.number))?;
+        granted(self.numbers.push(number))?;
+        let call = Call {
+            number,
+            value,
+            class,
+            state,
+            said: None,
+        };
         granted(self.calls.push(call))?;
-        self.going = self.going.wrapping_add(1);
-        Ok(turn)
+        let Some(number) = value else {
+            return Ok(Turn::Lookup(hash));
+        };
+        let item = Item {
+            number,
+            class,
+            hash,
+        };
+        Ok(Turn::Insert(granted(Box::new(self.ground.alloc, item))?))
     }
 
-    /// Returns whether another call has the number of this one, or another insert its value.
-    fn is_used(&self, call: &Call) -> bool {
-        for other in &self.calls {
-            if call.value.is_some() && other.value == call.value {
-                return true;
-            }
-        }
-        self.numbers.contains(&call.number)
+    /// Returns whether a call has this number, or an insert this value.
+    fn is_used(&self, number: u64, value: Option<u64>) -> bool {
+        let same_value = |other: &Call| value.is_some() && other.value == value;
+        self.numbers.contains(&number) || self.calls.iter().any(same_value)
     }
 
-    /// Begins a length or a walk, on the machine only. `Err`: no memory.
-    pub(crate) fn begin_whole(&mut self, event: Event) -> Result<Turn, ReplayFault> {
-        self.machine.take(event)?;
-        granted(self.numbers.push(event.call()))?;
-        Ok(Turn::Nothing)
-    }
-
-    /// Returns the index of the call with this number, if the table has it.
-    pub(crate) fn place_of(&self, number: u64) -> Option<usize> {
+    /// Returns the index and the state of the call with this number, if the table has it.
+    pub(crate) fn find(&self, number: u64) -> Option<(usize, CallState)> {
         for (index, call) in self.calls.iter().enumerate() {
             if call.number == number {
-                return Some(index);
+                return Some((index, call.state));
             }
         }
         None
@@ -238,34 +206,29 @@ impl<'a, 'm> Replay<'a, 'm> {
 
     /// Returns the phase of the call at this index. Returns `Done` if there is none.
     pub(crate) fn phase_at(&self, index: usize) -> Phase {
-        match self.calls.get(index) {
-            Some(call) => call.state.phase,
-            None => Phase::Done,
-        }
+        let call = self.calls.get(index);
+        call.map_or(Phase::Done, |call: &Call| call.state.phase)
     }
 
     /// Returns whether all calls have ended.
     pub(crate) fn all_ended(&self) -> bool {
-        self.going == 0
+        self.calls.iter().all(|call: &Call| call.said.is_some())
     }
 
     /// Returns a turn in which the call at this index takes a step. With `Manner::Given` its closures give these answers. Refusals that are
     /// left from before apply to its requests for memory.
     pub(crate) fn step(&mut self, index: usize, accepted: bool, hash: u64) -> Turn {
-        let class = match self.calls.get(index) {
-            Some(call) => call.class,
-            None => 0,
-        };
+        let call = self.calls.get(index);
+        let class = call.map_or(0, |call: &Call| call.class);
         self.script.begin(accepted, hash, class);
         self.stepping = index;
         self.refusals = self.ground.memory.refusals_left();
         Turn::Step(index)
     }
 
-    /// Returns a turn in which the call at this index takes a step. Its first `passing` requests for memory are granted, and the next
-    /// `refused` ones are refused.
-    pub(crate) fn step_refused(&mut self, index: usize, passing: u64, refused: u64) -> Turn {
-        self.ground.memory.refuse(passing, refused);
+    /// Returns a turn in which the call at this index takes a step, with these refusals.
+    pub(crate) fn step_refused(&mut self, index: usize, refusals: Refusals) -> Turn {
+        self.ground.memory.refuse(refusals.0, refusals.1);
         // If the table calls no closure, the event says yes. If the machine has to ask about an entry there, it accepts it and differs from
         // the table.
         self.step(index, true, 0)
@@ -274,12 +237,16 @@ impl<'a, 'm> Replay<'a, 'm> {
     /// Gives the machine the event of the step that the table has taken, and compares the reply, the state and the length. `Err`: they
     /// differ, or no memory.
     pub(crate) fn follow(&mut self, stepped: Stepped) -> Result<(), ReplayFault> {
-        let granted = self.ground.memory.refusals_left() == self.refusals;
+        let answers = Answers {
+            accepted: self.script.accepted(),
+            hash: self.script.hash(),
+            granted: self.ground.memory.refusals_left() == self.refusals,
+        };
         let Some(call) = self.calls.get(self.stepping) else {
             return Ok(());
         };
-        let (before, after) = (call.state.phase, stepped.state.phase);
-        match event_taken(call.number, before, after, self.script, granted) {
+        let copies = stepped.state.phase == Phase::Building;
+        match event_of(call.number, call.state.phase, copies, answers) {
             Some(event) => {
                 self.follow_by(event, stepped)?;
                 self.compare_length()
@@ -288,67 +255,52 @@ impl<'a, 'm> Replay<'a, 'm> {
         }
     }
 
-    /// Gives the machine this event, which the table has taken, and compares the reply and the state. `Err`: they differ, or no memory.
+    /// Records a step that the table has taken, and gives the machine its event. Compares the reply and the state. `Err`: they differ, or no
+    /// memory.
     pub(crate) fn follow_by(&mut self, event: Event, stepped: Stepped) -> Result<(), ReplayFault> {
-        self.note(stepped);
-        let finished = self.take(event)?;
-        let call = event.call();
-        compare(call, stepped.took, &finished)?;
-        self.compare_state(call, stepped.state)
+        if let Some(call) = self.calls.get_mut(self.stepping) {
+            call.state = stepped.state;
+            if let Took::Ended(said) = stepped.took {
+                call.said = Some(said);
+            }
+        }
+        self.compare_step(event, stepped.took, stepped.state)
     }
 
-    /// Checks that the machine doesn't take an event that the call at this index can't take on the table. `Err`: it takes the event, or no
-    /// memory.
-    pub(crate) fn follow_blocked(
+    /// Gives the machine this event. Checks that its call then has this state, and the same reply from the table and from the machine, or
+    /// none from both. `Err`: it hasn't, or no memory.
+    pub(crate) fn compare_step(
         &mut self,
-        index: usize,
         event: Event,
-    ) -> Result<Turn, ReplayFault> {
-        if let Some(call) = self.calls.get(index) {
-            let blocked = Stepped {
-                took: Took::Blocked,
-                state: call.state,
-            };
-            self.stepping = index;
-            self.follow_by(event, blocked)?;
-        }
-        Ok(Turn::Nothing)
+        took: Took,
+        state: CallState,
+    ) -> Result<(), ReplayFault> {
+        let call = event.call();
+        let table = match took {
+            Took::Ended(said) => Some(said),
+            Took::Moved | Took::Blocked => None,
+        };
+        let machine = match self.take(event)? {
+            Some(finished) if finished.call == call => Said::of_reply(&finished.reply),
+            _ => None,
+        };
+        same_reply(call, table, machine)?;
+        let same = self.machine.state_of(call) == Some(state);
+        check(same, ReplayFault::State(call))
     }
 
     /// Gives the machine this event, and returns the call that finishes by it. Compares the reply of a length or a walk with the table.
     /// `Err`: they differ, or no memory.
     pub(crate) fn take(&mut self, event: Event) -> Result<Option<Finished>, ReplayFault> {
-        let finished = self.machine.take(event)?;
+        let finished = granted(self.machine.step(event))?;
         compare_whole(self.ground.table, &finished)?;
         Ok(finished)
     }
 
-    /// Records the result of the last step in its call.
-    fn note(&mut self, stepped: Stepped) {
-        if let Some(call) = self.calls.get_mut(self.stepping) {
-            call.state = stepped.state;
-            if let Took::Ended(said) = stepped.took {
-                call.said = Some(said);
-                self.going = self.going.wrapping_sub(1);
-            }
-        }
-    }
-
-    /// Checks that the call with this number has this state in the machine. `Err`: it has another one.
-    fn compare_state(&self, call: u64, state: CallState) -> Result<(), ReplayFault> {
-        if self.machine.state_of(call) == Some(state) {
-            return Ok(());
-        }
-        Err(ReplayFault::State { call })
-    }
-
     /// Checks that the call of this number, which is also its index, ended with this reply. `Err`: it didn't.
     pub(crate) fn compare_end(&self, call: u64, said: Said) -> Result<(), ReplayFault> {
-        let machine = match self.calls.get(call as usize) {
-            Some(call) => call.said,
-            None => None,
-        };
-        same_reply(call, Some(said), machine)
+        let ended = self.calls.get(call as usize);
+        same_reply(call, Some(said), ended.and_then(|call: &Call| call.said))
     }
 
     /// Ends the schedule, and compares the length, the entries and the buckets of the table and of the machine. `Err`: they differ, or no
@@ -363,59 +315,49 @@ impl<'a, 'm> Replay<'a, 'm> {
     /// memory.
     pub(crate) fn compare_walk(&mut self) -> Result<(), ReplayFault> {
         self.compare_length()?;
-        let walked = self.machine.walk()?;
-        if walked.is_none() {
-            return Err(ReplayFault::Walk);
-        }
-        compare_whole(self.ground.table, &walked)
+        self.run_own(Event::Walk { call: self.own }, ReplayFault::Walk)
     }
 
     /// Checks that the table and the machine have the same length now. `Err`: they differ, or no memory.
     fn compare_length(&mut self) -> Result<(), ReplayFault> {
-        if self.machine.length()? == Some(self.ground.table.len() as u64) {
-            return Ok(());
+        self.run_own(Event::Len { call: self.own }, ReplayFault::Length)
+    }
+
+    /// Runs one of the replay's own lengths or walks, which begins by this event, and compares its reply with the table. `Err`: they
+    /// differ, or no memory, or this fault, since the call doesn't end.
+    fn run_own(&mut self, begins: Event, endless: ReplayFault) -> Result<(), ReplayFault> {
+        let call = begins.call();
+        self.own = self.own.wrapping_add(1);
+        self.take(begins)?;
+        let loaded = self.take(Event::Load { call })?;
+        let mut finished = loaded.or(self.take(Event::Size { call })?);
+        for _read in 0..READS {
+            if finished.is_some() {
+                return Ok(());
+            }
+            finished = self.take(Event::Read {
+                call,
+                accepted: false,
+            })?;
         }
-        Err(ReplayFault::Length)
+        Err(endless)
     }
 
     /// Checks that the table and the machine have the same number of buckets. `Err`: they differ.
     pub(crate) fn compare_buckets(&self) -> Result<(), ReplayFault> {
-        if self.machine.buckets() == buckets(self.ground.table, self.ground.first) {
-            return Ok(());
-        }
-        Err(ReplayFault::Buckets)
+        let same = self.machine.buckets() == self.ground.buckets();
+        check(same, ReplayFault::Buckets)
     }
-}
-
-/// Returns the number of buckets of all generations of a table. Each generation has twice as many as the one before.
-pub(crate) fn buckets(table: &Table<'_>, first: u64) -> u64 {
-    match table.current(&mut table.note()) {
-        Some(current) => (current.generation.capacity() as u64)
-            .saturating_mul(2)
-            .saturating_sub(first),
-        None => 0,
-    }
-}
-
-/// Checks that the call has the same reply from the table and from the machine, or none from both. `Err`: the replies differ.
-fn compare(call: u64, took: Took, finished: &Option<Finished>) -> Result<(), ReplayFault> {
-    let table = match took {
-        Took::Ended(said) => Some(said),
-        Took::Moved | Took::Blocked => None,
-    };
-    same_reply(call, table, said_to(call, finished))
 }
 
 /// Checks that the two replies to the call are the same. `Err`: they differ.
 fn same_reply(call: u64, table: Option<Said>, machine: Option<Said>) -> Result<(), ReplayFault> {
-    if table == machine {
-        return Ok(());
-    }
-    Err(ReplayFault::Reply {
+    let fault = ReplayFault::Reply {
         call,
         table,
         machine,
-    })
+    };
+    check(table == machine, fault)
 }
 
 /// Checks that a length or a walk has the same reply from the machine as from the table. `Err`: the replies differ.
@@ -424,8 +366,8 @@ fn compare_whole(table: &Table<'_>, finished: &Option<Finished>) -> Result<(), R
         return Ok(());
     };
     match &finished.reply {
-        Reply::Len(length) if *length != table.len() as u64 => Err(ReplayFault::Length),
-        Reply::Walk(entries) if !shows(table, entries.as_slice()) => Err(ReplayFault::Walk),
+        Reply::Len(length) => check(*length == table.len() as u64, ReplayFault::Length),
+        Reply::Walk(entries) => check(shows(table, entries.as_slice()), ReplayFault::Walk),
         _ => Ok(()),
     }
 }

@@ -1,13 +1,15 @@
 //! Calls on a running table, which take one step at a time.
+ghost use Rattle.table_terms.specs.Capacities.{IsFirstCapacity};
 ghost use Rattle.testkit_replay.specs.Running.{IsReady, MayGo};
 
 use crate::fault::ReplayFault;
 use crate::item::{Item, Said};
-use crate::replay::{Replay, Turn};
+use crate::replay::{Ground, Replay, Turn, new_table};
+use crate::script::Script;
 use std::alloc::Global;
 use table_core::call::CallState;
 use table_shared::{InsertCall, LockFreeRawTable, LookupCall, Progress};
-use testkit::refusing::Refusing;
+use testkit::refusing::{Refusing, Rule};
 
 /// A table of the values of a schedule. Its requests for memory can be refused.
 pub type Table<'m> = LockFreeRawTable<Box<Item>, &'m Refusing<Global>>;
@@ -40,14 +42,23 @@ pub trait Schedule {
 }
 
 /// A call that runs one step at a time.
-pub enum Steps<'a, 'm, E: Fn(&Item, &Item) -> bool, H: Fn(&Item) -> u64, F: Fn(&Item) -> bool> {
+pub enum Steps<'a, 'm, E, H, F> {
     Insert(InsertCall<'a, Box<Item>, &'m Refusing<Global>, E, H>),
     Lookup(LookupCall<'a, Box<Item>, &'m Refusing<Global>, F>),
 }
 
-impl<'a, 'm, E: Fn(&Item, &Item) -> bool, H: Fn(&Item) -> u64, F: Fn(&Item) -> bool> Steps<
-    'a,
-    'm,
+impl<E: Drop, H: Drop, F: Drop> Drop for Steps<'_, '_, E, H, F> {
+    fn drop(self) {
+        match self {
+            Steps::Insert(_call) => (),
+            Steps::Lookup(_call) => (),
+        }
+    }
+}
+
+impl<E: Fn(&Item, &Item) -> bool, H: Fn(&Item) -> u64, F: Fn(&Item) -> bool> Steps<
+    '_,
+    '_,
     E,
     H,
     F,
@@ -59,32 +70,11 @@ impl<'a, 'm, E: Fn(&Item, &Item) -> bool, H: Fn(&Item) -> u64, F: Fn(&Item) -> b
         ensures may_go { MayGo E.IsAlwaysCallable H.IsAlwaysCallable F.IsAlwaysCallable E.Fn
             self.new }
     {
-        match self {
-            Steps::Insert(call) => {
-                let took = took_insert(&call.advance());
-                Stepped {
-                    took,
-                    state: call.state(),
-                }
-            }
-            Steps::Lookup(call) => {
-                let took = took_lookup(call.advance());
-                Stepped {
-                    took,
-                    state: call.state(),
-                }
-            }
-        }
-    }
-}
-
-impl<E: Fn(&Item, &Item) -> bool, H: Fn(&Item) -> u64, F: Fn(&Item) -> bool> Drop
-    for Steps<'_, '_, E, H, F> {
-    fn drop(self) {
-        match self {
-            Steps::Insert(_call) => (),
-            Steps::Lookup(_call) => (),
-        }
+        let (took, state) = match self {
+            Steps::Insert(call) => (took_insert(&call.advance()), call.state()),
+            Steps::Lookup(call) => (took_lookup(call.advance()), call.state()),
+        };
+        Stepped { took, state }
     }
 }
 
@@ -107,13 +97,8 @@ fn took_lookup(progress: Progress<Option<&Item>>) -> Took {
 }
 
 /// The calls of a schedule, in the order in which they began, and the closures that they call.
-pub struct Calls<
-    'a,
-    'm,
-    E: Fn(&Item, &Item) -> bool + Copy,
-    H: Fn(&Item) -> u64 + Copy,
-    F: Fn(&Item) -> bool + Copy,
-> {
+#[derive(Drop)]
+pub struct Calls<'a, 'm, E, H, F> {
     table: &'a Table<'m>,
     eq: E,
     hash_fn: H,
@@ -128,23 +113,6 @@ impl<
     H: Fn(&Item) -> u64 + Copy,
     F: Fn(&Item) -> bool + Copy,
 > Calls<'a, 'm, E, H, F> {
-    /// Makes an empty list of calls. Its calls will run on this table with these closures.
-    pub fn new(alloc: Global, table: &'a Table<'m>, eq: E, hash_fn: H, test: F) -> Self
-        requires eq_callable { E.IsAlwaysCallable eq }
-        requires hash_callable { H.IsAlwaysCallable hash_fn }
-        requires test_callable { F.IsAlwaysCallable test }
-        ensures ready { IsReady E.IsAlwaysCallable H.IsAlwaysCallable F.IsAlwaysCallable E.Fn
-            result }
-    {
-        Calls {
-            table,
-            eq,
-            hash_fn,
-            test,
-            begun: Vec::new(alloc),
-        }
-    }
-
     /// Runs the turns of a schedule to its end. `Err`: the first fault.
     pub fn run<S: Schedule>(
         &mut self,
@@ -156,8 +124,15 @@ impl<
     {
         for _turn in 0..u64::MAX {
             match schedule.next(replay)? {
-                Turn::Insert(value) => self.insert(value)?,
-                Turn::Lookup(hash) => self.lookup(hash)?,
+                Turn::Insert(value) => {
+                    let (table, hash) = (self.table, value.hash);
+                    let call = InsertCall::new(table, hash, value, self.eq, self.hash_fn);
+                    self.add(Steps::Insert(call))?
+                }
+                Turn::Lookup(hash) => {
+                    let call = LookupCall::new(self.table, hash, self.test);
+                    self.add(Steps::Lookup(call))?
+                }
                 Turn::Step(index) => schedule.hear(replay, self.advance(index)?)?,
                 Turn::Nothing => (),
                 Turn::End => return Ok(()),
@@ -166,30 +141,15 @@ impl<
         Err(ReplayFault::Unfinished)
     }
 
-    /// Begins an insert of this value. `Err`: no memory.
-    fn insert(&mut self, value: Box<Item>) -> Result<(), ReplayFault>
+    /// Begins this call. `Err`: no memory.
+    fn add(&mut self, call: Steps<'a, 'm, E, H, F>) -> Result<(), ReplayFault>
         requires ready { IsReady E.IsAlwaysCallable H.IsAlwaysCallable F.IsAlwaysCallable E.Fn
             self.old }
+        requires may_go { MayGo E.IsAlwaysCallable H.IsAlwaysCallable F.IsAlwaysCallable E.Fn call }
         ensures ready { IsReady E.IsAlwaysCallable H.IsAlwaysCallable F.IsAlwaysCallable E.Fn
             self.new }
     {
-        let hash = value.hash;
-        let call = InsertCall::new(self.table, hash, value, self.eq, self.hash_fn);
-        match self.begun.push(Steps::Insert(call)) {
-            Ok(()) => Ok(()),
-            Err(_refused) => Err(ReplayFault::NoMemory),
-        }
-    }
-
-    /// Begins a look-up of a hash. `Err`: no memory.
-    fn lookup(&mut self, hash: u64) -> Result<(), ReplayFault>
-        requires ready { IsReady E.IsAlwaysCallable H.IsAlwaysCallable F.IsAlwaysCallable E.Fn
-            self.old }
-        ensures ready { IsReady E.IsAlwaysCallable H.IsAlwaysCallable F.IsAlwaysCallable E.Fn
-            self.new }
-    {
-        let call = LookupCall::new(self.table, hash, self.test);
-        match self.begun.push(Steps::Lookup(call)) {
+        match self.begun.push(call) {
             Ok(()) => Ok(()),
             Err(_refused) => Err(ReplayFault::NoMemory),
         }
@@ -209,18 +169,25 @@ impl<
     }
 }
 
-impl<
-    E: Fn(&Item, &Item) -> bool + Copy,
-    H: Fn(&Item) -> u64 + Copy,
-    F: Fn(&Item) -> bool + Copy,
-> Drop for Calls<'_, '_, E, H, F> {
-    fn drop(self) {
-        let Calls {
-            table: _,
-            eq: _eq,
-            hash_fn: _hash_fn,
-            test: _test,
-            begun: _begun,
-        } = self;
-    }
+/// Runs a schedule on a table whose memory has this rule, and on the machine. `Err`: the first fault.
+pub(crate) fn run_schedule<S: Schedule>(
+    alloc: Global,
+    first: u64,
+    rule: Rule,
+    script: &Script,
+    schedule: &mut S,
+) -> Result<(), ReplayFault>
+    requires { IsFirstCapacity first }
+{
+    let memory = Refusing::new(alloc, rule);
+    let table = new_table(&memory, first);
+    let mut replay = Replay::new(Ground::new(alloc, first, &memory, &table), script);
+    let mut calls = Calls {
+        table: &table,
+        eq: |new: &Item, entry: &Item| script.says(new.class, entry),
+        hash_fn: |entry: &Item| script.rehashes(entry),
+        test: |entry: &Item| script.seeks(entry),
+        begun: Vec::new(alloc),
+    };
+    calls.run(&mut replay, schedule)
 }

@@ -1,8 +1,14 @@
-//! Schedules of calls: random ones, and schedules in which two calls interrupt each other.
-use crate::fault::ReplayFault;
-use crate::replay::{Replay, Turn};
-use crate::running::{Schedule, Stepped, Took};
-use crate::script::Script;
+//! Schedules of calls that take one step at a time: random ones, two calls that interrupt each other, and given events.
+ghost use Rattle.table_terms.specs.Capacities.{IsFirstCapacity};
+
+use crate::events::{answers_of, takes};
+use crate::fault::{ReplayFault, check, granted};
+use crate::replay::{Refusals, Replay, Turn, any_request};
+use crate::running::{Schedule, Stepped, Took, run_schedule};
+use crate::script::{Manner, Script};
+use std::alloc::Global;
+use table_core::call::Phase;
+use table_core::event::Event;
 
 /// The number of steps within which a call, or the last calls of a schedule, must end.
 const STEPS: u64 = 1000;
@@ -36,254 +42,311 @@ fn draw_ask(script: &Script, lookups: bool) -> Ask {
     }
 }
 
-/// Which calls take steps, and how long.
+/// A leg of a schedule. A call has an index: its place among those that have begun.
 #[derive(Clone, Copy)]
-enum Goal {
-    /// One call takes steps as long as it moves.
-    Stop,
-    /// All calls take steps in turn, each until it is blocked or ends.
-    AllEnd,
+pub(crate) enum Leg {
+    /// The next call begins.
+    Begin(Ask),
+    /// The call at this index takes a step, with these refusals.
+    Step(usize, Refusals),
+    /// The call at this index takes steps as long as it moves, at most so many.
+    Run(usize, u64),
+    /// All calls take steps in turn, from the one at this index on, each until it is blocked or ends. They end within so many steps.
+    RunAll(usize, u64),
+    /// This event happens. If a call begins by it, its value, or what it looks for, is of this class.
+    Event(Event, u64),
+    /// The numbers of buckets are compared.
+    Buckets,
 }
 
-/// A series of steps: its goal, the index of the call that takes the next one, and the maximum number of steps left.
-#[derive(Clone, Copy)]
-pub(crate) struct Way {
-    goal: Goal,
-    index: usize,
-    left: u64,
-}
-
-impl Way {
-    /// Makes a way on which all calls run to their ends, from the call at this index on, in at most `left` steps.
-    fn to_ends(index: usize, left: u64) -> Way {
-        Way {
-            goal: Goal::AllEnd,
-            index,
-            left,
-        }
-    }
-
-    /// Returns whether there are more steps. `Err`: no step is left, and a call hasn't ended.
-    fn goes_on(&self, replay: &Replay<'_, '_>) -> Result<bool, ReplayFault> {
-        match self.goal {
-            Goal::Stop => Ok(self.left != 0),
-            Goal::AllEnd if replay.all_ended() => Ok(false),
-            Goal::AllEnd if self.left == 0 => Err(ReplayFault::Unfinished),
-            Goal::AllEnd => Ok(true),
-        }
-    }
-
-    /// Takes the result of a step. After a blocked step or the last one of a call, a `Stop` is over, and an `AllEnd` goes on with the next
-    /// of the `begun` calls.
-    fn hear(&mut self, took: Took, begun: usize) {
-        self.left = self.left.saturating_sub(1);
-        if took == Took::Moved {
-            return;
-        }
-        if let Goal::Stop = self.goal {
-            self.left = 0;
-        }
-        self.index = self.index.saturating_add(1);
-        if begun <= self.index {
-            self.index = 0;
-        }
-    }
-}
-
-/// A way without steps.
-const ARRIVED: Way = Way {
-    goal: Goal::Stop,
-    index: 0,
-    left: 0,
-};
-
-/// A plot: it decides which calls begin, and on which ways they take steps.
-pub(crate) trait Plot {
-    /// Returns the next turn, once the last way has no step left. It can set a new way, which starts after this turn. `Err`: a fault.
-    fn advance(&mut self, replay: &mut Replay<'_, '_>, way: &mut Way) -> Result<Turn, ReplayFault>;
-}
-
-/// The schedule of a plot. It takes all steps of a way before it asks the plot for the next turn.
+/// A schedule of legs: what is left of the current one, and those after it.
 #[derive(Drop)]
-pub(crate) struct Plotted<P: Plot> {
-    plot: P,
-    way: Way,
+pub(crate) struct Legs<'l> {
+    current: Leg,
+    after: &'l [Leg],
 }
 
-impl<P: Plot> Plotted<P> {
-    /// Makes the schedule of this plot.
-    pub(crate) fn new(plot: P) -> Plotted<P> {
-        Plotted { plot, way: ARRIVED }
+impl Legs<'_> {
+    /// Goes on to the next leg, and returns the turn by which it begins. `Err`: a fault.
+    fn go_on(&mut self, replay: &mut Replay<'_, '_>) -> Result<Turn, ReplayFault> {
+        let Some((leg, after)) = self.after.split_first() else {
+            return replay.end();
+        };
+        self.after = after;
+        self.current = *leg;
+        match *leg {
+            Leg::Begin(ask) => replay.begin_next(ask),
+            Leg::Step(index, refusals) => Ok(replay.step_refused(index, refusals)),
+            Leg::Run(..) | Leg::RunAll(..) => Ok(Turn::Nothing),
+            Leg::Event(event, class) => follow_event(replay, event, class),
+            Leg::Buckets => {
+                replay.compare_buckets()?;
+                Ok(Turn::Nothing)
+            }
+        }
     }
 }
 
-impl<P: Plot> Schedule for Plotted<P> {
+impl Schedule for Legs<'_> {
     fn next(&mut self, replay: &mut Replay<'_, '_>) -> Result<Turn, ReplayFault> {
-        if self.way.goes_on(replay)? {
-            return Ok(replay.step_refused(self.way.index, 0, 0));
+        match self.current {
+            Leg::Run(index, steps) if steps != 0 => Ok(replay.step_refused(index, (0, 0))),
+            Leg::RunAll(_, 0) if !replay.all_ended() => Err(ReplayFault::Unfinished),
+            Leg::RunAll(index, _) if !replay.all_ended() => Ok(replay.step_refused(index, (0, 0))),
+            _ => self.go_on(replay),
         }
-        self.way = ARRIVED;
-        self.plot.advance(replay, &mut self.way)
     }
 
     fn hear(&mut self, replay: &mut Replay<'_, '_>, stepped: Stepped) -> Result<(), ReplayFault> {
-        self.way.hear(stepped.took, replay.begun());
+        let moved = stepped.took == Took::Moved;
+        self.current = match self.current {
+            Leg::Event(event, _) => return hear_event(replay, event, stepped),
+            Leg::Run(index, steps) if moved => Leg::Run(index, steps.saturating_sub(1)),
+            Leg::Run(index, _) => Leg::Run(index, 0),
+            Leg::RunAll(index, steps) => {
+                let next = index.saturating_add(usize::from(!moved));
+                let index = next.checked_rem(replay.begun()).unwrap_or(0);
+                Leg::RunAll(index, steps.saturating_sub(1))
+            }
+            leg => leg,
+        };
         replay.follow(stepped)
     }
 }
 
-/// The stage of a random schedule.
-#[derive(Clone, Copy)]
-enum Stage {
-    /// The number of values that are still to be inserted, one after the other.
-    Fill(u64),
-    /// The number of calls that are still to begin.
-    Begin(u64),
-    /// The number of random steps that are still to be taken.
-    Wander(u64),
-    /// All calls run to their ends.
-    Finish,
-    Over,
+/// Adds a call that runs to its end. `Err`: no memory.
+fn add_whole(legs: &mut Vec<Leg>, index: usize, ask: Ask) -> Result<(), ReplayFault> {
+    granted(legs.push(Leg::Begin(ask)))?;
+    granted(legs.push(Leg::RunAll(index, STEPS)))
 }
 
-/// A random schedule. Two to five calls on a table of up to 40 entries take steps in random order, and then run to their ends. If
-/// `refuses`, a request for memory may be refused in one of four random steps.
-#[derive(Drop)]
-pub(crate) struct Drawn<'s> {
-    script: &'s Script,
+/// Draws a schedule. Two to five calls on a table of up to 40 entries take steps in random order, and then run to their ends. If
+/// `refuses`, a request for memory may be refused in one of four random steps. `Err`: no memory.
+pub(crate) fn draw_legs(
+    alloc: Global,
+    script: &Script,
     refuses: bool,
-    stage: Stage,
-    /// The index of the first call that takes random steps.
-    first: usize,
+) -> Result<Vec<Leg>, ReplayFault> {
+    let mut legs = Vec::new(alloc);
+    let filled = script.draw(41) as usize;
+    for index in 0..filled {
+        add_whole(&mut legs, index, draw_ask(script, false))?;
+    }
+    let calls = script.draw(4).saturating_add(2);
+    draw_calls(&mut legs, script, calls)?;
+    draw_steps(&mut legs, script, (filled, calls), refuses)?;
+    granted(legs.push(Leg::RunAll(filled, STEPS)))?;
+    Ok(legs)
 }
 
-impl<'s> Drawn<'s> {
-    /// Makes the schedule that is drawn from this script.
-    pub(crate) fn new(script: &'s Script, refuses: bool) -> Drawn<'s> {
-        Drawn {
-            script,
-            refuses,
-            stage: Stage::Fill(script.draw(41)),
-            first: 0,
-        }
+/// Draws so many calls that begin. `Err`: no memory.
+fn draw_calls(legs: &mut Vec<Leg>, script: &Script, calls: u64) -> Result<(), ReplayFault> {
+    for _call in 0..calls {
+        granted(legs.push(Leg::Begin(draw_ask(script, true))))?;
     }
+    Ok(())
+}
 
-    /// Draws one of the last calls, and returns the turn in which it takes a step.
-    fn wander(&self, replay: &mut Replay<'_, '_>) -> Turn {
-        let calls = replay.begun().saturating_sub(self.first) as u64;
-        let index = self.first.saturating_add(self.script.draw(calls) as usize);
-        if self.refuses && self.script.draw(4) == 0 {
-            replay.step_refused(index, self.script.draw(6), 1)
+/// Draws the random steps of these calls: the index of the first, and their number. `Err`: no memory.
+fn draw_steps(
+    legs: &mut Vec<Leg>,
+    script: &Script,
+    calls: (usize, u64),
+    refuses: bool,
+) -> Result<(), ReplayFault> {
+    for _step in 0..script.draw(300) {
+        let index = calls.0.saturating_add(script.draw(calls.1) as usize);
+        let refusals = if refuses && script.draw(4) == 0 {
+            (script.draw(6), 1)
         } else {
-            replay.step_refused(index, 0, 0)
-        }
-    }
-}
-
-impl Plot for Drawn<'_> {
-    fn advance(&mut self, replay: &mut Replay<'_, '_>, way: &mut Way) -> Result<Turn, ReplayFault> {
-        match self.stage {
-            Stage::Fill(0) => {
-                self.first = replay.begun();
-                self.stage = Stage::Begin(self.script.draw(4).saturating_add(2));
-                Ok(Turn::Nothing)
-            }
-            Stage::Fill(left) => {
-                self.stage = Stage::Fill(left.saturating_sub(1));
-                *way = Way::to_ends(replay.begun(), STEPS);
-                replay.begin(draw_ask(self.script, false))
-            }
-            Stage::Begin(0) => {
-                self.stage = Stage::Wander(self.script.draw(300));
-                Ok(Turn::Nothing)
-            }
-            Stage::Begin(left) => {
-                self.stage = Stage::Begin(left.saturating_sub(1));
-                replay.begin(draw_ask(self.script, true))
-            }
-            Stage::Wander(0) => {
-                self.stage = Stage::Finish;
-                Ok(Turn::Nothing)
-            }
-            Stage::Wander(left) => {
-                self.stage = Stage::Wander(left.saturating_sub(1));
-                Ok(self.wander(replay))
-            }
-            Stage::Finish => {
-                self.stage = Stage::Over;
-                *way = Way::to_ends(self.first, STEPS);
-                Ok(Turn::Nothing)
-            }
-            Stage::Over => replay.end(),
-        }
-    }
-}
-
-/// A schedule of an insert for each of these hashes, and then two calls. The class of an insert is its index. The first call takes up to
-/// `steps.0` steps, and then the second up to `steps.1`. After that the calls run to their ends, each in turn until it is blocked or ends.
-/// The calls then have the rest of `most` steps in all to end.
-#[derive(Drop)]
-pub(crate) struct Cut<'c> {
-    hashes: &'c [u64],
-    asks: (Ask, Ask),
-    steps: (u64, u64),
-    most: u64,
-    /// The number of ways that have begun after the inserts.
-    part: u64,
-}
-
-impl<'c> Cut<'c> {
-    pub(crate) fn new(
-        hashes: &'c [u64],
-        asks: (Ask, Ask),
-        steps: (u64, u64),
-        most: u64,
-    ) -> Cut<'c> {
-        Cut {
-            hashes,
-            asks,
-            steps,
-            most,
-            part: 0,
-        }
-    }
-
-    /// Returns the next way of the two calls, or `None` after the last one.
-    fn next_way(&mut self) -> Option<Way> {
-        let first = self.hashes.len();
-        let (ahead, second_ahead) = self.steps;
-        let (goal, index, left) = match self.part {
-            0 => (Goal::Stop, first, ahead),
-            1 => (Goal::Stop, first.saturating_add(1), second_ahead),
-            2 => (
-                Goal::AllEnd,
-                first,
-                self.most.saturating_sub(ahead).saturating_sub(second_ahead),
-            ),
-            _ => return None,
+            (0, 0)
         };
-        self.part = self.part.saturating_add(1);
-        Some(Way { goal, index, left })
+        granted(legs.push(Leg::Step(index, refusals)))?;
+    }
+    Ok(())
+}
+
+/// Two calls that interrupt each other, after an insert for each of these hashes. The class of such an insert is its index. The first call
+/// takes up to `steps.0` steps, and then the second up to `steps.1`. After that the calls run to their ends, each in turn until it is
+/// blocked or ends. The calls have `most` steps in all to end.
+#[derive(Clone, Copy)]
+pub struct Cut<'c> {
+    pub hashes: &'c [u64],
+    pub asks: (Ask, Ask),
+    pub steps: (u64, u64),
+    pub most: u64,
+}
+
+impl Cut<'_> {
+    /// Returns the legs of the calls. `Err`: no memory.
+    pub(crate) fn legs(&self, alloc: Global) -> Result<Vec<Leg>, ReplayFault> {
+        let mut legs = Vec::new(alloc);
+        for (index, hash) in self.hashes.iter().enumerate() {
+            add_whole(&mut legs, index, Ask::Insert(index as u64, *hash))?;
+        }
+        let (first, (one, other)) = (self.hashes.len(), self.steps);
+        let rest = self.most.saturating_sub(one).saturating_sub(other);
+        let last = [
+            Leg::Begin(self.asks.0),
+            Leg::Begin(self.asks.1),
+            Leg::Run(first, one),
+            Leg::Run(first.saturating_add(1), other),
+            Leg::RunAll(first, rest),
+        ];
+        granted(legs.extend_from_slice(&last))?;
+        Ok(legs)
     }
 }
 
-impl Plot for Cut<'_> {
-    fn advance(&mut self, replay: &mut Replay<'_, '_>, way: &mut Way) -> Result<Turn, ReplayFault> {
-        let begun = replay.begun();
-        if let Some(hash) = self.hashes.get(begun) {
-            *way = Way::to_ends(begun, STEPS);
-            return replay.begin(Ask::Insert(begun as u64, *hash));
-        }
-        match begun.saturating_sub(self.hashes.len()) {
-            0 => replay.begin(self.asks.0),
-            1 => replay.begin(self.asks.1),
-            _ => match self.next_way() {
-                Some(next) => {
-                    *way = next;
-                    Ok(Turn::Nothing)
-                }
-                None => replay.end(),
-            },
+/// Returns the legs of these events, by calls of these classes. `Err`: no memory.
+fn event_legs(
+    alloc: Global,
+    events: &[Option<Event>],
+    classes: &[(u64, u64)],
+) -> Result<Vec<Leg>, ReplayFault> {
+    let mut legs = Vec::new(alloc);
+    for event in events {
+        let leg = match event {
+            Some(event) => Leg::Event(*event, class_of(*event, classes)),
+            None => Leg::Buckets,
+        };
+        granted(legs.push(leg))?;
+    }
+    Ok(legs)
+}
+
+/// Returns the class that is given to the call of this event. If none is, returns the number of the value of an insert, or 0.
+fn class_of(event: Event, classes: &[(u64, u64)]) -> u64 {
+    for (call, class) in classes {
+        if *call == event.call() {
+            return *class;
         }
     }
+    match event {
+        Event::Insert { value, .. } => value,
+        _ => 0,
+    }
+}
+
+/// Follows an event. If its call has begun and isn't on the table, only the machine takes the event. If the call can't take it there, the
+/// machine mustn't either. `Err`: a fault.
+fn follow_event(
+    replay: &mut Replay<'_, '_>,
+    event: Event,
+    class: u64,
+) -> Result<Turn, ReplayFault> {
+    if let Event::Insert { .. }
+    | Event::Lookup { .. }
+    | Event::Len { .. }
+    | Event::Walk { .. } = event
+    {
+        return replay.begin(event, class);
+    }
+    let Some((index, state)) = replay.find(event.call()) else {
+        replay.take(event)?;
+        return Ok(Turn::Nothing);
+    };
+    if !takes(state.phase, event) {
+        replay.compare_step(event, Took::Blocked, state)?;
+        return Ok(Turn::Nothing);
+    }
+    let answers = answers_of(event);
+    let refused = u64::from(!answers.granted);
+    replay.ground.memory.refuse(0, refused);
+    Ok(replay.step(index, answers.accepted, answers.hash))
+}
+
+/// Takes the result of the step that is this event. `Err`: the machine does something else, or the step is another one.
+fn hear_event(
+    replay: &mut Replay<'_, '_>,
+    event: Event,
+    stepped: Stepped,
+) -> Result<(), ReplayFault> {
+    replay.follow_by(event, stepped)?;
+    let copied = stepped.state.phase == Phase::Building;
+    let fault = ReplayFault::Step(event.call());
+    match event {
+        Event::Copy { .. } => check(copied, fault),
+        Event::Show { .. } => check(!copied, fault),
+        _ => Ok(()),
+    }
+}
+
+/// What a replay runs. The table starts without a generation.
+#[derive(Clone, Copy)]
+pub enum Course<'c> {
+    /// A schedule that is drawn from the seed: see `draw_legs`.
+    Drawn {
+        refuses: bool,
+    },
+    /// Two calls that interrupt each other.
+    Cut(Cut<'c>),
+    /// These events in order. At a `None` the numbers of buckets are compared. `classes` names calls by their numbers, and gives each the
+    /// class of its value, or of what it looks for. If it doesn't name an insert, the number of the value is its class; if it doesn't name
+    /// a look-up, the class is 0.
+    Events {
+        events: &'c [Option<Event>],
+        classes: &'c [(u64, u64)],
+    },
+}
+
+/// Runs a course on a table and on the machine. The first generations of both have `first` buckets. Closures answer in this manner, and
+/// random numbers come from the seed. `Err`: the first fault.
+pub fn run_course(
+    alloc: Global,
+    first: u64,
+    manner: Manner,
+    seed: u64,
+    course: Course<'_>,
+) -> Result<(), ReplayFault>
+    requires { IsFirstCapacity first }
+{
+    let script = Script::new(manner, seed);
+    let legs = match course {
+        Course::Drawn { refuses } => draw_legs(alloc, &script, refuses)?,
+        Course::Cut(cut) => cut.legs(alloc)?,
+        Course::Events { events, classes } => event_legs(alloc, events, classes)?,
+    };
+    let mut legs = Legs {
+        current: Leg::Run(0, 0),
+        after: legs.as_slice(),
+    };
+    run_schedule(alloc, first, any_request(), &script, &mut legs)
+}
+
+/// Returns the capacity of the first generation of a table whose schedule is drawn from a seed.
+pub(crate) fn drawn_capacity() -> u64
+    ensures { IsFirstCapacity result }
+{
+    16
+}
+
+/// Runs the schedule of a seed. Half of the seeds have careless closures, and half have requests for memory refused. `Err`: the first
+/// fault.
+pub fn run_seed(alloc: Global, seed: u64) -> Result<(), ReplayFault> {
+    let manner = if seed % 2 == 0 {
+        Manner::Lawful
+    } else {
+        Manner::Careless
+    };
+    let refuses = seed % 4 >= 2;
+    let course = Course::Drawn { refuses };
+    run_course(alloc, drawn_capacity(), manner, seed, course)
+}
+
+/// Runs `seeds` seeds from `first_seed` on by `run`. Returns the first seed that has a fault, with that fault.
+pub fn first_fault<F: Fn(u64) -> Result<(), ReplayFault>>(
+    first_seed: u64,
+    seeds: u64,
+    run: F,
+) -> Option<(u64, ReplayFault)>
+    requires { F.IsAlwaysCallable run }
+{
+    for index in 0..seeds {
+        let seed = first_seed.wrapping_add(index);
+        if let Err(fault) = run(seed) {
+            return Some((seed, fault));
+        }
+    }
+    None
 }

@@ -7,24 +7,21 @@ ghost use Rattle.table_terms.specs.Capacities.{IsFirstCapacity};
 pub mod interleaved;
 mod interleaving;
 pub mod meeting;
-mod retrace;
 pub mod trace;
 mod whole;
 
 use crate::fault::{ReplayFault, granted};
 use crate::item::Said;
-use crate::replay::{Ground, any_request, new_table, run_schedule};
+pub use crate::replay::Refusals;
+use crate::replay::{Ground, any_request, new_table};
+use crate::running::run_schedule;
 use crate::schedules::Ask;
 use crate::script::{Manner, Script};
-use crate::whole_calls::retrace::Retrace;
-use crate::whole_calls::trace::Milestone;
+use crate::whole_calls::trace::{Milestone, Retrace};
 use crate::whole_calls::whole::run_plan;
 use std::alloc::Global;
 use std::sync::Wait;
 use testkit::refusing::{Refusing, Rule};
-
-/// How many of a call's requests for memory are granted first, and how many of the next are refused.
-pub type Refusals = (u64, u64);
 
 /// A whole call that doesn't run inside another one (a top call), and its refusals.
 pub type Top = (Ask, Refusals);
@@ -62,25 +59,21 @@ pub fn run_whole<R: Wait>(
     let table = new_table(&memory, first);
     let ground = Ground::new(alloc, first, &memory, &table);
     let milestones = run_plan(rt, ground, &Script::new(manner, seed), plan)?;
-    follow(alloc, first, any_request(), milestones.as_slice())?;
-    replies_in(alloc, milestones.as_slice())
+    repeat(alloc, first, any_request(), milestones.as_slice())
 }
 
-/// Repeats a trace on a table whose memory has this rule, and on the machine. `Err`: the first fault.
-fn follow(
+/// Repeats a trace on a table whose memory has this rule, and on the machine. Returns the number and the reply of each call, in the order
+/// in which the calls ended. `Err`: the first fault.
+fn repeat(
     alloc: Global,
     first: u64,
     rule: Rule,
     milestones: &[Milestone],
-) -> Result<(), ReplayFault>
+) -> Result<Vec<(u64, Said)>, ReplayFault>
     requires { IsFirstCapacity first }
 {
     let script = Script::new(Manner::Given, 0);
-    run_schedule(alloc, first, rule, &script, &mut Retrace::new(milestones))
-}
-
-/// Returns the replies of the calls, in the order in which they ended. `Err`: no memory.
-fn replies_in(alloc: Global, milestones: &[Milestone]) -> Result<Vec<(u64, Said)>, ReplayFault> {
+    run_schedule(alloc, first, rule, &script, &mut Retrace::new(milestones))?;
     let mut replies = Vec::new(alloc);
     for milestone in milestones {
         if let Milestone::Ended(call, said) = milestone {

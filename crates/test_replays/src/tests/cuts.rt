@@ -1,10 +1,9 @@
 //! Two calls that interrupt each other.
 use std::alloc::Global;
 use std::process::Abort;
-use testkit_replay::course::{Course, run_course};
 use testkit_replay::fault::ReplayFault;
-use testkit_replay::schedules::Ask;
 use testkit_replay::schedules::Ask::{Insert, Lookup};
+use testkit_replay::schedules::{Ask, Course, Cut, run_course};
 use testkit_replay::script::Manner;
 
 /// The hashes of the entries, and the two calls.
@@ -33,13 +32,13 @@ const MOST: u64 = 400;
 
 /// Runs the calls of a start. First the first call takes `steps.0` steps, and then the second `steps.1`. `Err`: the first fault.
 fn cut(alloc: Global, start: &Start, steps: (u64, u64)) -> Result<(), ReplayFault> {
-    let course = Course::Cut {
+    let cut = Cut {
         hashes: start.0,
         asks: start.1,
         steps,
         most: MOST,
     };
-    run_course(alloc, 16, Manner::Lawful, 0, course)
+    run_course(alloc, 16, Manner::Lawful, 0, Course::Cut(cut))
 }
 
 /// Asserts that the calls of a start do what the machine does, however many steps the first takes ahead.

@@ -7,7 +7,7 @@ use std::test::Fail;
 use table_core::event::Event;
 use table_terms::capacity::is_first_capacity;
 use testkit::schedules::worked::{Row, SCHEDULES, lines_of};
-use testkit_replay::course::{Course, run_course};
+use testkit_replay::schedules::{Course, run_course};
 use testkit_replay::script::Manner;
 use tool_commands::events::{ScheduleLine, parse_schedule_line};
 

@@ -5,14 +5,14 @@
 //! one, which is repeated on the machine.
 ghost use Rattle.table_terms.specs.Capacities.{IsFirstCapacity};
 
-use crate::fault::{ReplayFault, granted};
+use crate::fault::{ReplayFault, check, granted};
 use crate::item::Said;
 use crate::replay::{Ground, any_request, new_table};
 use crate::schedules::Ask;
 use crate::script::{Manner, Script};
 use crate::whole_calls::trace::{Milestone, Sight};
-use crate::whole_calls::whole::{Inside, Lock, Whole, run_alone, run_plan};
-use crate::whole_calls::{Plan, Tops, follow, replies_in};
+use crate::whole_calls::whole::{Inside, Lock, Scene, run_alone, run_plan};
+use crate::whole_calls::{Plan, Tops, repeat};
 use std::alloc::Global;
 use std::sync::Wait;
 use std::thread;
@@ -34,110 +34,21 @@ pub enum Meeting {
 }
 
 impl Meeting {
-    /// Returns the rule of the memory. It names the requests that can be refused, or wait for another one.
-    fn rule(self) -> Rule {
+    /// Returns the rule of the memory. It names the requests that can be refused. At a bucket so many pairs of them wait for each other.
+    fn rule(self, pairs: u64) -> Rule {
         match self {
-            Meeting::Bucket => Rule::new(BLOCK, BLOCK, 0, 0),
+            Meeting::Bucket => Rule::new(BLOCK, BLOCK, 0, 0).paired(pairs, MOST_LOOKS),
             Meeting::Lock => any_request(),
-        }
-    }
-
-    /// Returns the number of pairs of requests that wait for each other.
-    fn pairs(self) -> u64 {
-        match self {
-            Meeting::Bucket => 1,
-            Meeting::Lock => 0,
         }
     }
 }
 
 impl Inside for Handover {
     /// Hands over when a growth first calls the hash closure.
-    fn run<R: Wait>(&self, _whole: &Whole<'_, '_, '_, R>, lock: Lock) {
+    fn run<R: Wait>(&self, _rt: &R, _scene: &Scene<'_, '_>, lock: Lock) {
         if lock == Lock::Alone {
             self.hand_over();
         }
-    }
-}
-
-/// A table, and the signs that the two threads that call it give each other.
-#[derive(Clone, Copy)]
-struct Place<'w, 'm> {
-    ground: Ground<'w, 'm>,
-    signs: &'w Handover,
-}
-
-impl<'w, 'm> Place<'w, 'm> {
-    /// Runs the second call, which has this number, and returns its milestones. If the two calls meet at the lock, it first waits for the
-    /// growth of the first. `Err`: a fault.
-    fn run_second<R: Wait>(
-        &self,
-        rt: &R,
-        number: u64,
-        ask: Ask,
-        meeting: Meeting,
-    ) -> Result<Vec<Milestone>, ReplayFault> {
-        if meeting == Meeting::Lock {
-            self.signs.take_over();
-        }
-        run_alone(rt, self.ground, number, ask, self.signs)
-    }
-
-    /// Runs two calls with these numbers at once, and returns the milestones of each. `Err`: a fault, or a thread that went on without the
-    /// other one.
-    fn run_both<R: Threads + Wait + Sync>(
-        &self,
-        rt: &R,
-        numbers: (u64, u64),
-        meeting: Meeting,
-        asks: (Ask, Ask),
-    ) -> Result<(Vec<Milestone>, Vec<Milestone>), ReplayFault> {
-        let (one, other) = thread::join(
-            rt,
-            || run_alone(rt, self.ground, numbers.0, asks.0, self.signs),
-            || self.run_second(rt, numbers.1, asks.1, meeting),
-        );
-        if self.ground.memory.went_alone() != 0 || self.signs.went_alone() != 0 {
-            return Err(ReplayFault::Alone);
-        }
-        Ok((one?, other?))
-    }
-
-    /// Runs these calls one after the other, and then the two at once. Returns their milestones in an order in which they may have
-    /// happened. `Err`: a fault.
-    fn run_all<R: Threads + Wait + Sync>(
-        &self,
-        rt: &R,
-        tops: Tops<'_>,
-        meeting: Meeting,
-        asks: (Ask, Ask),
-    ) -> Result<Vec<Milestone>, ReplayFault> {
-        let plan = Plan::Worked { tops, inside: &[] };
-        let mut milestones = run_plan(rt, self.ground, &Script::new(Manner::Lawful, 0), plan)?;
-        let calls = tops.filled.saturating_add(tops.then.len() as u64);
-        let numbers = (calls, calls.saturating_add(1));
-        let (one, other) = self.run_both(rt, numbers, meeting, asks)?;
-        let (one, other) = (one.as_slice(), other.as_slice());
-        match meeting {
-            Meeting::Lock => weave_at_lock(&mut milestones, numbers.1, one, other)?,
-            Meeting::Bucket => {
-                let first_wins = self.is_before(numbers.0, numbers.1);
-                weave_at_bucket(&mut milestones, numbers, first_wins, one, other)?
-            }
-        }
-        let sight = Sight::of(self.ground.table, self.ground.first);
-        add_all(&mut milestones, &[Milestone::Saw(sight)])?;
-        Ok(milestones)
-    }
-
-    /// Returns whether a walk meets the value of call `one` before that of call `other`, or neither.
-    fn is_before(&self, one: u64, other: u64) -> bool {
-        for entry in self.ground.table.iter() {
-            if entry.number == one || entry.number == other {
-                return entry.number == one;
-            }
-        }
-        true
     }
 }
 
@@ -153,75 +64,100 @@ pub fn run_meeting<R: Threads + Wait + Sync>(
 ) -> Result<Vec<(u64, Said)>, ReplayFault>
     requires { IsFirstCapacity first }
 {
-    let memory = Refusing::new(alloc, meeting.rule().paired(meeting.pairs(), MOST_LOOKS));
+    let memory = Refusing::new(alloc, meeting.rule(1));
     let table = new_table(&memory, first);
-    let signs = Handover::new();
-    let place = Place {
-        ground: Ground::new(alloc, first, &memory, &table),
-        signs: &signs,
+    let ground = Ground::new(alloc, first, &memory, &table);
+    let plan = Plan::Worked { tops, inside: &[] };
+    let mut milestones = run_plan(rt, ground, &Script::new(Manner::Lawful, 0), plan)?;
+    let one = tops.filled.saturating_add(tops.then.len() as u64);
+    let pair = Pair {
+        ground,
+        meeting,
+        numbers: (one, one.saturating_add(1)),
     };
-    let milestones = place.run_all(rt, tops, meeting, asks)?;
-    follow(alloc, first, meeting.rule(), milestones.as_slice())?;
-    replies_in(alloc, milestones.as_slice())
+    let (one, other) = pair.run(rt, asks)?;
+    pair.weave(&mut milestones, one.as_slice(), other.as_slice())?;
+    granted(milestones.push(Milestone::Saw(Sight::of(ground))))?;
+    repeat(alloc, first, meeting.rule(0), milestones.as_slice())
 }
 
-/// Adds the milestones of two inserts that met at an empty bucket. Both come to it, then the winner goes on to its end, and then the loser.
-/// `Err`: a call has no milestones, or no memory.
-fn weave_at_bucket(
-    milestones: &mut Vec<Milestone>,
+/// Two calls with these numbers that meet on a table.
+#[derive(Clone, Copy)]
+struct Pair<'w, 'm> {
+    ground: Ground<'w, 'm>,
+    meeting: Meeting,
     numbers: (u64, u64),
-    first_wins: bool,
-    one: &[Milestone],
-    other: &[Milestone],
-) -> Result<(), ReplayFault> {
-    let (one_began, one) = split_began(one)?;
-    let (other_began, other) = split_began(other)?;
-    let (one_comes, other_comes) = (Milestone::AtEmpty(numbers.0), Milestone::AtEmpty(numbers.1));
-    add_all(
-        milestones,
-        &[one_began, other_began, one_comes, other_comes],
-    )?;
-    let (winner, loser) = if first_wins {
-        (one, other)
-    } else {
-        (other, one)
-    };
-    add_all(milestones, winner)?;
-    add_all(milestones, loser)
 }
 
-/// Adds the milestones of two calls that met at the lock. The second, which has this number, begins when the growth of the first asks for
-/// its first hash. It waits there, and goes on once the first has ended. `Err`: a call has no milestones, or no memory.
-fn weave_at_lock(
-    milestones: &mut Vec<Milestone>,
-    second: u64,
-    one: &[Milestone],
-    other: &[Milestone],
-) -> Result<(), ReplayFault> {
-    let (began, after) = split_began(other)?;
-    let mut waits = false;
-    for milestone in one {
-        add_all(milestones, &[*milestone])?;
-        if !waits && matches!(milestone, Milestone::Hashed(_, _, _)) {
-            add_all(milestones, &[began, Milestone::Waits(second)])?;
-            waits = true;
+impl Pair<'_, '_> {
+    /// Runs the two calls at once, and returns the milestones of each. If they meet at the lock, the second waits for the growth of the
+    /// first before it begins. `Err`: a fault, or a thread that went on without the other one.
+    fn run<R: Threads + Wait + Sync>(
+        self,
+        rt: &R,
+        asks: (Ask, Ask),
+    ) -> Result<(Vec<Milestone>, Vec<Milestone>), ReplayFault> {
+        let signs = Handover::new();
+        let (one, other) = thread::join(
+            rt,
+            || run_alone(rt, self.ground, self.numbers.0, asks.0, &signs),
+            || {
+                if self.meeting == Meeting::Lock {
+                    signs.take_over();
+                }
+                run_alone(rt, self.ground, self.numbers.1, asks.1, &signs)
+            },
+        );
+        let alone = self.ground.memory.went_alone() != 0 || signs.went_alone() != 0;
+        check(!alone, ReplayFault::Alone)?;
+        Ok((one?, other?))
+    }
+
+    /// Adds the milestones of both calls in an order in which they may have happened. Two inserts both come to their empty bucket, then the
+    /// winner goes on to its end, and then the loser. At the lock the second call begins when the growth of the first asks for its first
+    /// hash. It waits there, and goes on once the first has ended. `Err`: a milestone is missing, or no memory.
+    fn weave(
+        self,
+        milestones: &mut Vec<Milestone>,
+        one: &[Milestone],
+        other: &[Milestone],
+    ) -> Result<(), ReplayFault> {
+        let (first, second) = self.numbers;
+        let missing = ReplayFault::Unfinished;
+        let is_hash = |milestone: &Milestone| matches!(milestone, Milestone::Hashed(..));
+        let ahead = match self.meeting {
+            Meeting::Bucket => 0,
+            Meeting::Lock => one.iter().position(is_hash).ok_or(missing)?,
+        };
+        let (one_before, one) = one
+            .split_at_checked(ahead.saturating_add(1))
+            .ok_or(missing)?;
+        let (other_began, other) = other.split_at_checked(1).ok_or(missing)?;
+        granted(milestones.extend_from_slice(one_before))?;
+        granted(milestones.extend_from_slice(other_began))?;
+        if self.meeting == Meeting::Lock {
+            granted(milestones.push(Milestone::Waits(second)))?;
+        } else {
+            let both = [Milestone::AtEmpty(first), Milestone::AtEmpty(second)];
+            granted(milestones.extend_from_slice(&both))?;
         }
+        let (winner, loser) = if self.meeting == Meeting::Lock || self.first_wins() {
+            (one, other)
+        } else {
+            (other, one)
+        };
+        granted(milestones.extend_from_slice(winner))?;
+        granted(milestones.extend_from_slice(loser))
     }
-    add_all(milestones, after)
-}
 
-/// Splits the milestones of a call into its beginning and the rest. `Err`: there are none.
-fn split_began(milestones: &[Milestone]) -> Result<(Milestone, &[Milestone]), ReplayFault> {
-    match milestones.split_first() {
-        Some((began, after)) => Ok((*began, after)),
-        None => Err(ReplayFault::Unfinished),
+    /// Returns whether a walk meets the value of the first call before that of the second, or neither.
+    fn first_wins(self) -> bool {
+        let (first, second) = self.numbers;
+        for entry in self.ground.table.iter() {
+            if entry.number == first || entry.number == second {
+                return entry.number == first;
+            }
+        }
+        true
     }
-}
-
-/// Adds these milestones. `Err`: no memory.
-fn add_all(milestones: &mut Vec<Milestone>, more: &[Milestone]) -> Result<(), ReplayFault> {
-    for milestone in more {
-        granted(milestones.push(*milestone))?;
-    }
-    Ok(())
 }

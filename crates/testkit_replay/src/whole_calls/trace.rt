@@ -1,10 +1,13 @@
-//! Traces: what happens while whole calls run, in order.
-use crate::fault::ReplayFault;
+//! Traces: what happens while whole calls run, in order, and the schedule that repeats a trace step by step.
+use crate::fault::{ReplayFault, check};
 use crate::item::Said;
-use crate::running::Table;
+use crate::replay::{Ground, Replay, Turn};
+use crate::running::{Schedule, Stepped, Took};
 use crate::schedules::Ask;
-use std::alloc::Global;
-use std::cell::{Cell, RefCell};
+use table_core::call::Phase;
+
+/// The maximum number of steps that a call takes from one milestone to the next.
+const STEPS: u64 = 1000;
 
 /// What a table shows: its length, its number of buckets, and a number that is made of its entries in order.
 #[derive(Clone, Copy, PartialEq)]
@@ -15,18 +18,18 @@ pub struct Sight {
 }
 
 impl Sight {
-    /// Returns what the table shows now. Its first generation has `first` buckets.
-    pub fn of(table: &Table<'_>, first: u64) -> Sight {
+    /// Returns what the table of this ground shows now.
+    pub(crate) fn of(ground: Ground<'_, '_>) -> Sight {
         let mut entries = 0u64;
-        for entry in table.iter() {
+        for entry in ground.table.iter() {
             entries = entries
                 .wrapping_mul(1_000_003)
                 .wrapping_add(entry.number)
                 .wrapping_add(1);
         }
         Sight {
-            length: table.len() as u64,
-            buckets: crate::replay::buckets(table, first),
+            length: ground.table.len() as u64,
+            buckets: ground.buckets(),
             entries,
         }
     }
@@ -53,61 +56,99 @@ pub enum Milestone {
     Ended(u64, Said),
 }
 
-/// A record of what has happened.
+/// A schedule of milestones: those that are left, in order.
 #[derive(Drop)]
-pub struct Trace {
-    milestones: RefCell<Vec<Milestone>>,
-    begun: Cell<u64>,
-    /// The last fault of the trace itself, or of a call inside a closure.
-    fault: Cell<Option<ReplayFault>>,
+pub(crate) struct Retrace<'t> {
+    left: &'t [Milestone],
+    /// The number of steps that are left for the first milestone.
+    steps: u64,
 }
 
-impl Trace {
-    /// Makes an empty trace. `begun` calls have begun before it.
-    pub fn new(alloc: Global, begun: u64) -> Trace {
-        Trace {
-            milestones: RefCell::new(Vec::new(alloc)),
-            begun: Cell::new(begun),
-            fault: Cell::new(None),
+impl<'t> Retrace<'t> {
+    pub(crate) fn new(milestones: &'t [Milestone]) -> Retrace<'t> {
+        Retrace {
+            left: milestones,
+            steps: STEPS,
         }
     }
 
-    /// Adds a milestone. If there is no memory, the trace has a fault.
-    pub fn note(&self, milestone: Milestone) {
-        let noted = match self.milestones.try_borrow_mut() {
-            Ok(mut milestones) => milestones.push(milestone).is_ok(),
-            Err(_used) => false,
+    /// Removes the first milestone, which was reached.
+    fn pass(&mut self) {
+        self.left = self.left.get(1..).unwrap_or(&[]);
+        self.steps = STEPS;
+    }
+}
+
+/// Returns the call that takes the next step to a milestone, and what its closures answer. Returns `None` if the milestone is reached.
+fn step_to(replay: &Replay<'_, '_>, milestone: Milestone) -> Option<(u64, bool, u64)> {
+    let (call, phase) = match milestone {
+        Milestone::Asked(call, _, accepted) => return Some((call, accepted, 0)),
+        Milestone::Hashed(call, _, hash) => return Some((call, true, hash)),
+        Milestone::Waits(call) => return Some((call, true, 0)),
+        Milestone::AtEmpty(call) => (call, Phase::AtEmpty),
+        Milestone::Ended(call, _) => (call, Phase::Done),
+        _ => return None,
+    };
+    (replay.phase_at(call as usize) != phase).then_some((call, true, 0))
+}
+
+/// Does what a milestone asks for once it is reached: begins a call, sets refusals, or compares. `Err`: a difference, or no memory.
+fn reach(replay: &mut Replay<'_, '_>, milestone: Milestone) -> Result<Turn, ReplayFault> {
+    match milestone {
+        Milestone::Began(ask) => return replay.begin_next(ask),
+        Milestone::Refuses(passing, refused) => replay.ground.memory.refuse(passing, refused),
+        Milestone::Saw(sight) => {
+            check(sight == Sight::of(replay.ground), ReplayFault::Sight)?;
+            replay.compare_walk()?
+        }
+        Milestone::Ended(call, said) => replay.compare_end(call, said)?,
+        _ => (),
+    }
+    Ok(Turn::Nothing)
+}
+
+/// Returns whether a step with this result passes a milestone: a closure was called with the entry that it names, or the call was blocked,
+/// since another one holds the lock. `met` is the entry with which a closure was called. `Err`: the step doesn't lead to the milestone.
+fn passes(milestone: Milestone, took: Took, met: Option<u64>) -> Result<bool, ReplayFault> {
+    let moved = took == Took::Moved && met.is_none();
+    let goes_on = took != Took::Blocked && met.is_none();
+    let (passes, leads, fault) = match milestone {
+        Milestone::Asked(call, entry, _) | Milestone::Hashed(call, entry, _) => (
+            met == Some(entry),
+            moved,
+            ReplayFault::Asked(call),
+        ),
+        Milestone::AtEmpty(call) => (false, moved, ReplayFault::Asked(call)),
+        Milestone::Ended(call, _) => (false, goes_on, ReplayFault::Asked(call)),
+        Milestone::Waits(call) => (took == Took::Blocked, false, ReplayFault::Step(call)),
+        _ => return Ok(false),
+    };
+    check(passes || leads, fault)?;
+    Ok(passes)
+}
+
+impl Schedule for Retrace<'_> {
+    fn next(&mut self, replay: &mut Replay<'_, '_>) -> Result<Turn, ReplayFault> {
+        let Some(milestone) = self.left.first() else {
+            return replay.end();
         };
-        if !noted {
-            self.fault.set(Some(ReplayFault::NoMemory));
-        }
+        let Some((call, accepted, hash)) = step_to(replay, *milestone) else {
+            self.pass();
+            return reach(replay, *milestone);
+        };
+        check(self.steps != 0, ReplayFault::Unfinished)?;
+        self.steps = self.steps.saturating_sub(1);
+        Ok(replay.step(call as usize, accepted, hash))
     }
 
-    /// Adds the milestone of a call that begins, and returns its number.
-    pub fn begin(&self, ask: Ask) -> u64 {
-        self.note(Milestone::Began(ask));
-        let call = self.begun.get();
-        self.begun.set(call.wrapping_add(1));
-        call
-    }
-
-    /// Records the fault of a call inside a closure, if it has one.
-    pub fn keep(&self, ended: Result<(), ReplayFault>) {
-        if let Err(fault) = ended {
-            self.fault.set(Some(fault));
+    fn hear(&mut self, replay: &mut Replay<'_, '_>, stepped: Stepped) -> Result<(), ReplayFault> {
+        replay.follow(stepped)?;
+        let Some(milestone) = self.left.first() else {
+            return Ok(());
+        };
+        if passes(*milestone, stepped.took, replay.script.take_met())? {
+            self.pass();
         }
-    }
-
-    /// Returns all milestones. `Err`: the trace has a fault.
-    pub fn into_milestones(self) -> Result<Vec<Milestone>, ReplayFault> {
-        let Trace {
-            milestones,
-            begun: _,
-            fault,
-        } = self;
-        match fault.get() {
-            Some(fault) => Err(fault),
-            None => Ok(milestones.into_inner()),
-        }
+        Ok(())
     }
 }
