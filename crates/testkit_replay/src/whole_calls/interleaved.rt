@@ -17,8 +17,8 @@ use std::alloc::Global;
 use std::cell::Cell;
 use std::sync::Wait;
 use std::sync::atomic::{AtomicU64, Ordering};
-use std::thread;
 use std::thread::Threads;
+use std::{hint, thread};
 use testkit::refusing::{Refusing, Rule, Turns};
 
 /// The number of calls that each thread makes.
@@ -27,11 +27,11 @@ const CALLS: u64 = 20;
 /// The number of times that a thread checks whether its turn has begun. That takes at most twenty seconds if no turn begins.
 const LOOKS: u64 = 4000;
 
-/// How often the watcher compares what the table shows with what was rehearsed for a call that waits.
-const SIGHTS: u64 = 1 << 20;
+/// How often the watcher compares what the table shows with what was rehearsed for a call that waits. It yields after each look.
+const SIGHTS: u64 = 1 << 24;
 
-/// How often the watcher yields after that, so that the call comes to its lock.
-const QUIET_YIELDS: u64 = 50;
+/// How often the watcher spins after that, so that the call comes to its lock.
+const QUIET_SPINS: u64 = 2_000;
 
 /// The entries that growths copy while both threads run: those that were rehearsed, and how many were copied so far.
 #[derive(Drop)]
@@ -186,8 +186,8 @@ impl<R: Wait> Player<'_, '_, R> {
         }
     }
 
-    /// Waits for the turn of this stop, and until the table shows what was rehearsed for it. Yields `QUIET_YIELDS` times, and begins the
-    /// next turn.
+    /// Waits for the turn of this stop, and until the table shows what was rehearsed for it. Gives the call the time to come to its lock,
+    /// and begins the next turn.
     fn watch(&self, stop: Stop) {
         self.wait(Some(stop.turn));
         for _look in 0..SIGHTS {
@@ -196,9 +196,10 @@ impl<R: Wait> Player<'_, '_, R> {
             }
             thread::yield_now();
         }
-        for _quiet in 0..QUIET_YIELDS {
-            thread::yield_now();
+        for _quiet in 0..QUIET_SPINS {
+            hint::spin_loop();
         }
+        thread::yield_now();
         self.compare(stop);
         self.turns().pass();
     }
