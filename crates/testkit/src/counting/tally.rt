@@ -64,14 +64,14 @@ pub fn at_once<R: Threads + Wait + Sync, W: Work + Sync>(
     threads: usize,
     work: &W,
 ) -> Tally {
-    let answer = thread::map_indices(
+    let tallies = thread::map_indices(
         rt,
         alloc,
         threads,
         &|thread: usize| work.work(rt, thread as u64),
     );
-    match answer {
-        Ok(answer) => sum(answer.as_slice()),
+    match tallies {
+        Ok(tallies) => sum(tallies.as_slice()),
         Err(_) => Tally::NONE.with(InsertEnd::Wrong),
     }
 }
