@@ -34,8 +34,8 @@ pub fn answers_of(event: Event) -> Answers {
     }
 }
 
-/// Returns the event by which an insert or a look-up leaves this phase, with these answers. A growth that is being built copies an entry if
-/// `copies`. Returns `None` if the call has ended.
+/// Returns the event that an insert or a look-up in this phase takes next, with these answers. A growth that is being built copies an entry
+/// if `copies`. Returns `None` if the call has ended.
 pub fn event_of(call: u64, phase: Phase, copies: bool, answers: Answers) -> Option<Event> {
     let Answers {
         accepted,

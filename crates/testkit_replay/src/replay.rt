@@ -22,7 +22,7 @@ const OWN_CALLS: u64 = 1 << 32;
 /// The maximum number of reads of a walk.
 const READS: u64 = 1 << 12;
 
-/// How many of a call's requests for memory are granted first, and how many of the next are refused.
+/// How many requests for memory are granted first, and how many of the next are refused.
 pub type Refusals = (u64, u64);
 
 /// Makes a table without a generation. Its first generation will have `first` buckets.
@@ -324,7 +324,7 @@ impl<'a, 'm> Replay<'a, 'm> {
     }
 
     /// Runs one of the replay's own lengths or walks, which begins by this event, and compares its reply with the table. `Err`: they
-    /// differ, or no memory, or this fault, since the call doesn't end.
+    /// differ, or no memory, or this fault, since the call doesn't end by a reply of its kind.
     fn run_own(&mut self, begins: Event, endless: ReplayFault) -> Result<(), ReplayFault> {
         let call = begins.call();
         self.own = self.own.wrapping_add(1);
@@ -333,14 +333,14 @@ impl<'a, 'm> Replay<'a, 'm> {
         let mut finished = loaded.or(self.take(Event::Size { call })?);
         for _read in 0..READS {
             if finished.is_some() {
-                return Ok(());
+                break;
             }
             finished = self.take(Event::Read {
                 call,
                 accepted: false,
             })?;
         }
-        Err(endless)
+        check(has_reply(begins, &finished), endless)
     }
 
     /// Checks that the table and the machine have the same number of buckets. `Err`: they differ.
@@ -369,6 +369,18 @@ fn compare_whole(table: &Table<'_>, finished: &Option<Finished>) -> Result<(), R
         Reply::Len(length) => check(*length == table.len() as u64, ReplayFault::Length),
         Reply::Walk(entries) => check(shows(table, entries.as_slice()), ReplayFault::Walk),
         _ => Ok(()),
+    }
+}
+
+/// Returns whether a length or a walk that began by this event has finished by a reply of its kind.
+fn has_reply(begins: Event, finished: &Option<Finished>) -> bool {
+    let Some(finished) = finished else {
+        return false;
+    };
+    match begins {
+        Event::Len { .. } => matches!(&finished.reply, Reply::Len(_)),
+        Event::Walk { .. } => matches!(&finished.reply, Reply::Walk(_)),
+        _ => false,
     }
 }
 

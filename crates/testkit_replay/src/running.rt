@@ -141,7 +141,7 @@ impl<
         Err(ReplayFault::Unfinished)
     }
 
-    /// Begins this call. `Err`: no memory.
+    /// Adds this call, which has begun. `Err`: no memory.
     fn add(&mut self, call: Steps<'a, 'm, E, H, F>) -> Result<(), ReplayFault>
         requires ready { IsReady E.IsAlwaysCallable H.IsAlwaysCallable F.IsAlwaysCallable E.Fn
             self.old }

@@ -168,7 +168,7 @@ fn draw_steps(
 
 /// Two calls that interrupt each other, after an insert for each of these hashes. The class of such an insert is its index. The first call
 /// takes up to `steps.0` steps, and then the second up to `steps.1`. After that the calls run to their ends, each in turn until it is
-/// blocked or ends. The calls have `most` steps in all to end.
+/// blocked or ends. The calls then have the rest of `most` steps to end.
 #[derive(Clone, Copy)]
 pub struct Cut<'c> {
     pub hashes: &'c [u64],
@@ -314,7 +314,7 @@ pub fn run_course(
     run_schedule(alloc, first, any_request(), &script, &mut legs)
 }
 
-/// Returns the capacity of the first generation of a table whose schedule is drawn from a seed.
+/// Returns the capacity of the first generation in schedules and interleavings that are drawn.
 pub(crate) fn drawn_capacity() -> u64
     ensures { IsFirstCapacity result }
 {

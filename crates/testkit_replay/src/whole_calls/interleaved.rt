@@ -2,7 +2,6 @@
 //!
 //! Each thread compares its calls with the rehearsal: the entries with which closures are called, the replies, and what the table shows at
 //! its stops.
-
 use crate::fault::{ReplayFault, check};
 use crate::item::Item;
 use crate::replay::{Ground, any_request, new_table};
@@ -245,7 +244,7 @@ fn play<R: Threads + Wait + Sync>(
     ground: Ground<'_, '_>,
     rehearsal: &Rehearsal<'_>,
 ) -> Result<(), ReplayFault> {
-    let (first, second) = (
+    let (one, other) = (
         rehearsal.running.stops.as_slice(),
         rehearsal.waiting.stops.as_slice(),
     );
@@ -254,18 +253,18 @@ fn play<R: Threads + Wait + Sync>(
         rehearsed: rehearsal.copied.as_slice(),
         count: AtomicU64::new(0),
     };
-    let ((first, second), watcher) = thread::join(
+    let ((one, other), watcher) = thread::join(
         rt,
         || {
             thread::join(
                 rt,
-                || play_as(rt, ground, &copies, first),
-                || play_as(rt, ground, &copies, second),
+                || play_as(rt, ground, &copies, one),
+                || play_as(rt, ground, &copies, other),
             )
         },
         || play_as(rt, ground, &copies, watched),
     );
-    if let Some(fault) = first.or(second).or(watcher) {
+    if let Some(fault) = one.or(other).or(watcher) {
         return Err(fault);
     }
     check(ground.memory.turns().missed() == 0, ReplayFault::Alone)?;

@@ -25,7 +25,8 @@ pub(crate) struct Stop {
     pub(crate) call: u64,
     pub(crate) milestone: Milestone,
     pub(crate) sight: Option<Sight>,
-    /// Whether the thread ends the turn. It then waits for turn `resumes`. If there is none, it goes on to a lock, or has no more stops.
+    /// Whether the thread ends the turn. It then waits for turn `resumes`. If there is none, it goes on to a lock, to its end, or to the
+    /// watcher's next stop.
     pub(crate) ends_turn: bool,
     pub(crate) resumes: Option<u64>,
 }

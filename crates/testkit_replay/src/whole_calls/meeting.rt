@@ -69,11 +69,11 @@ pub fn run_meeting<R: Threads + Wait + Sync>(
     let ground = Ground::new(alloc, first, &memory, &table);
     let plan = Plan::Worked { tops, inside: &[] };
     let mut milestones = run_plan(rt, ground, &Script::new(Manner::Lawful, 0), plan)?;
-    let one = tops.filled.saturating_add(tops.then.len() as u64);
+    let calls = tops.filled.saturating_add(tops.then.len() as u64);
     let pair = Pair {
         ground,
         meeting,
-        numbers: (one, one.saturating_add(1)),
+        numbers: (calls, calls.saturating_add(1)),
     };
     let (one, other) = pair.run(rt, asks)?;
     pair.weave(&mut milestones, one.as_slice(), other.as_slice())?;
