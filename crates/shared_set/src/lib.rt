@@ -1,4 +1,4 @@
-//! A set of values that threads share, and that grows.
+//! A growing set that threads share: handles, what each knows, walks, accounts.
 #![tactic(auto)]
 
 mod account;

@@ -1,4 +1,4 @@
-//! Heap blocks that live as long as a home, and buckets that hold the addresses of blocks.
+//! Heap blocks that live as long as a home, and the buckets and words that name them.
 #![tactic(auto)]
 
 mod bucket;

@@ -1,4 +1,4 @@
-//! Memory for values that never move, in chunks that double, and the numbers of its slots.
+//! Memory for values that never move, in chunks that double: numbered slots, rights to them, receipts.
 #![tactic(auto)]
 
 mod chunk;

@@ -1,4 +1,4 @@
-//! Tests of the hash tables and the sets of one owner, over several of their modules at once.
+//! Tests of single-owner tables and sets: answers, calls of closures, growth, walks, drops.
 #![tactic(auto)]
 
 #[cfg(test)]

@@ -1,4 +1,4 @@
-//! Tests of the program's commands, over streams in memory.
+//! Tests of the commands of `tablerun`, over streams in memory.
 #![tactic(auto)]
 
 #[cfg(test)]

@@ -1,4 +1,4 @@
-//! Tests of the table that threads share.
+//! Tests of the raw table that threads share: growth, lost exchanges, lengths, drops.
 #![tactic(auto)]
 
 #[cfg(test)]

@@ -1,4 +1,4 @@
-//! Tests of a symbol table that threads share.
+//! Tests of `SharedInterner`: symbols, texts, walks, threads.
 #![tactic(auto)]
 
 #[cfg(test)]

@@ -1,4 +1,4 @@
-//! Tests of a set that threads share.
+//! Tests of `SharedSet`: threads, messages, keys, accounts, refused memory.
 #![tactic(auto)]
 
 #[cfg(test)]

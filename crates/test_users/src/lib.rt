@@ -1,4 +1,4 @@
-//! Tests of the interner, the tools over text, and the examples.
+//! Tests of the interner, `words`, `dedup`, memo tables, and the examples.
 #![tactic(auto)]
 
 #[cfg(test)]

@@ -1,4 +1,4 @@
-//! Runs a tool over files or its input: `tool_text words` counts words, `tool_text dedup` writes each different line once.
+//! Runs `words` or `dedup` of `tool_lines` over files or its input.
 #![tactic(auto)]
 
 use std::process::ExitCode;
