@@ -139,9 +139,14 @@ impl<B: Allocator> Refusing<B> {
         self.rule.refused.load(Ordering::SeqCst)
     }
 
-    /// Makes the next `2 * pairs` counted requests that are granted meet in pairs. No request may be waiting.
+    /// Makes the next `2 * pairs` counted requests that are granted meet in pairs. No other thread may make a request meanwhile.
     pub fn pair(&self, pairs: u64) {
         self.rule.pairs.begin(pairs);
+    }
+
+    /// Returns how many pairs of requests met.
+    pub fn pairs_met(&self) -> u64 {
+        self.rule.pairs.met()
     }
 
     /// Returns how many requests went on without the other one of their pair.

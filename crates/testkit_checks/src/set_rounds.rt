@@ -101,8 +101,8 @@ fn run_plan<R: Threads + Clock + Sync, O: Write>(
     Ok(())
 }
 
-/// Runs the rounds of a plan, and returns their sum. If the plan counts minutes, it writes the sum every minute. `Err`: a round had a fault, or
-/// the clock or the output failed.
+/// Runs the rounds of a plan, and returns their sum. Writes the sum every minute if the plan ends after minutes. `Err`: a round had a fault,
+/// or the clock or the output failed.
 fn run_each<R: Threads + Clock + Sync, O: Write>(
     rt: &R,
     alloc: Global,

@@ -4,7 +4,8 @@
 //!     tool_checks replays [SCHEDULES [FIRST-SEED]]    replays drawn schedules on a table beside the machine of all schedules:
 //!                                                     of stepped calls, and of whole calls on two threads
 //!     tool_checks stress [MINUTES [FIRST-SEED]]       runs drawn rounds, in which threads give values to one table at once,
-//!                                                     and accounts for each value; it says each minute what they came to
+//!                                                     and accounts for each value; with MINUTES it says each minute what they
+//!                                                     came to
 //!     tool_checks stress set [MINUTES [FIRST-SEED]]   runs drawn rounds, in which threads insert lists of numbers into one set;
 //!                                                     each number comes out at the set's end or comes back
 //!     tool_checks bench list                          the names of what is measured

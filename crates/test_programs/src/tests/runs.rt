@@ -208,8 +208,8 @@ fn failed_jobs_are_named(rt: HostRuntime) -> Result<(), Fail> {
     Ok(())
 }
 
-/// How often the first request of a pair looks for the second.
-const LOOKS: u64 = 20_000;
+/// How often the first request of a pair looks for the second. It yields after some of these looks.
+const LOOKS: u64 = (1 << 15) + 100;
 
 /// Checks that the program runs its jobs under its gate. A first request for the memory of a value waits for a second. The test makes one,
 /// and the first insert of a worker the next. The first insert of the other worker then waits for a fourth request, which the gate holds

@@ -4,6 +4,7 @@ use std::alloc::Global;
 use std::process::Abort;
 use std::sync::Wait;
 use std::sync::atomic::{AtomicU64, Ordering};
+use std::thread;
 use std::thread::Threads;
 use table_cell::Low;
 use table_terms::law::hash_number;
@@ -199,8 +200,8 @@ impl<'m> Work for Looked<'m> {
         if thread == 0 {
             self.begun.store(1, Ordering::SeqCst);
         } else {
-            look_for(&self.begun);
-            tally.other = self.look();
+            let waited = u64::from(!look_for(&self.begun));
+            tally.other = waited.wrapping_add(self.look());
         }
         tally.with(self.table.insert(rt, thread))
     }
@@ -264,6 +265,7 @@ impl Watched {
             if self.done.load(Ordering::SeqCst) == 2 {
                 break;
             }
+            thread::yield_now();
         }
         missed
     }

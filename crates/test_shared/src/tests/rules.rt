@@ -127,7 +127,7 @@ fn neither_of_a_pair_is_answered_first(rt: HostRuntime) {
         || asks_in_pairs(&heap, &other, &one),
     );
     let all_met = met == (true, true) && heap.went_alone() == 0;
-    assert!(rt; all_met);
+    assert!(rt; all_met && heap.pairs_met() == PAIRS - 1);
 }
 
 #[test]
@@ -136,5 +136,19 @@ fn the_first_of_a_pair_goes_on_alone(rt: HostRuntime) {
     for alone in [1u64, 1, 2, 2, 2, 2] {
         let granted = grants(&heap, 16) && grants(&heap, 8);
         assert_same(&rt, [u64::from(granted), heap.went_alone()], [1, alone]);
+    }
+}
+
+#[test]
+fn pairs_begin_again(rt: HostRuntime) {
+    let heap = Refusing::new(rt.alloc(), Rule::new(8, 8, 0, 0).paired(0, 10));
+    for alone in [0u64, 1, 2] {
+        let granted = grants(&heap, 8) && grants(&heap, 8) && grants(&heap, 8);
+        assert_same(
+            &rt,
+            [u64::from(granted), heap.pairs_met(), heap.went_alone()],
+            [1, 0, alone],
+        );
+        heap.pair(1);
     }
 }

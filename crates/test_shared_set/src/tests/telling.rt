@@ -78,13 +78,14 @@ fn wait<'p, 's, 'h>(room: &'p Place<'s, 'h>) -> Option<&'p Message<'s, 'h>> {
     None
 }
 
-/// Waits for each message and hears it. Returns how many messages came and had all their numbers found.
+/// Waits for each message and hears it, until one doesn't come. Returns how many messages came and had all their numbers found.
 fn hear(places: &[Place<'_, '_>]) -> u64 {
     let mut found = 0u64;
     for (at, room) in places.iter().enumerate() {
-        if let Some(message) = wait(room)
-            && finds(message, at as u64)
-        {
+        let Some(message) = wait(room) else {
+            break;
+        };
+        if finds(message, at as u64) {
             found = found.wrapping_add(1);
         }
     }

@@ -131,8 +131,8 @@ fn assert_placed_once<R: Threads + Wait + Abort + Sync>(
     assert_same(rt, at_once(rt, alloc, 2, &filling), Tally::of(1, 1));
 }
 
-/// Checks that one of two threads places a number. Both have probed and request a chunk for their slot, of 32 values of eight bytes,
-/// before either offers its value.
+/// Checks that one of two threads places a number. Both probe, and request a chunk for their slot, of 32 values of eight bytes, before
+/// either offers its value.
 #[test]
 fn one_of_two_threads_places_a_number(rt: HostRuntime) {
     let rule = Rule::new(256, 256, 0, 0).paired(0, MOST_LOOKS);
@@ -141,7 +141,7 @@ fn one_of_two_threads_places_a_number(rt: HostRuntime) {
         let set = set_with(&rt, &heap, 0);
         heap.pair(1);
         assert_placed_once(&rt, rt.alloc(), &set, number);
-        assert_same(&rt, heap.went_alone(), 0);
+        assert_same(&rt, (heap.pairs_met(), heap.went_alone()), (number + 1, 0));
         assert_same(&rt, set.get(&number), Some(&number));
         assert_same(&rt, set.len(), 1);
         drop(set);
@@ -163,7 +163,7 @@ fn one_of_two_threads_places_each_number(rt: HostRuntime) {
 }
 
 /// Checks that two threads that find a set full grow it, and that the next generation then has the numbers of both. Both request memory
-/// for a growth before either shows one.
+/// for a generation before either shows one, and then both request the next chunk of slots.
 #[test]
 fn two_threads_grow_a_full_set(rt: HostRuntime) {
     for _round in 0..200 {
@@ -171,7 +171,7 @@ fn two_threads_grow_a_full_set(rt: HostRuntime) {
         let heap = Refusing::new(rt.alloc(), rule);
         let set = full_set(&rt, &heap);
         heap.refuse(0, 0);
-        heap.pair(1);
+        heap.pair(2);
         let parts = [(32, 33), (33, 34)];
         let filling = Filling {
             set: &set,
@@ -180,7 +180,7 @@ fn two_threads_grow_a_full_set(rt: HostRuntime) {
         };
         let tally = at_once(&rt, rt.alloc(), 2, &filling);
         assert_same(&rt, tally, Tally::of(2, 0));
-        assert_same(&rt, heap.went_alone(), 0);
+        assert_same(&rt, (heap.pairs_met(), heap.went_alone()), (2, 0));
         assert_has(&rt, &mut set.handle(), 34);
         drop(set);
         assert_none_out(&rt, &heap);

@@ -2,8 +2,8 @@
 use std::sync::atomic::{AtomicU64, Ordering};
 use std::thread;
 
-/// How often a thread looks for another one before it goes on without it. It yields after each look. So this takes seconds at least, and
-/// longer while other threads are running.
+/// How often a thread looks for another one before it goes on without it. A thread that waits so long yields between looks. So this takes
+/// seconds at least, and longer while other threads are running.
 pub const MOST_LOOKS: u64 = 1 << 25;
 
 /// How many more looks give another thread the time to come to a lock.

@@ -23,7 +23,8 @@ use testkit::refusing::{Refusing, Rule, Turns};
 /// The number of calls that each thread makes.
 const CALLS: u64 = 20;
 
-/// The number of times that a thread checks whether its turn has begun. That takes at most twenty seconds if no turn begins.
+/// The number of times that a thread checks whether its turn has begun. It sleeps between two checks, so that it waits some twenty seconds
+/// for a turn that doesn't begin.
 const LOOKS: u64 = 4000;
 
 /// How often the watcher compares what the table shows with what was rehearsed for a call that waits. It yields after each look.

@@ -54,8 +54,8 @@ fn run_plan<R: Threads + Wait + Sync + Clock, O: Write>(
     Ok(())
 }
 
-/// Runs the rounds of a plan, and returns how many there were. If the plan counts minutes, it writes their sum every minute. `Err`: a fault,
-/// or a failed clock or output.
+/// Runs the rounds of a plan, and returns how many there were. Writes their sum every minute if the plan ends after minutes. `Err`: a fault, or
+/// a failed clock or output.
 fn count_rounds<R: Threads + Wait + Sync + Clock, O: Write>(
     rt: &R,
     alloc: Global,
