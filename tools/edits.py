@@ -384,10 +384,9 @@ def try_all(trials, is_built):
     if not is_built:
         for trial in trials:
             trial.prove()
-    size = lambda trial: sum(file.stat().st_size for file in (trial.top / "crates" / trial.crate).glob("**/*.antt"))
-    # several crates side by side, those with the most proofs first
+    # several crates side by side, those with the most edits first
     with concurrent.futures.ThreadPoolExecutor(max_workers=len(os.sched_getaffinity(0))) as pool:
-        found = list(pool.map(Trial.run, sorted(trials, key=size, reverse=True)))
+        found = list(pool.map(Trial.run, sorted(trials, key=lambda trial: len(trial.edits), reverse=True)))
     return {name: result for one in found for name, result in one.items()}
 
 

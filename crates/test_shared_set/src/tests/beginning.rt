@@ -2,11 +2,8 @@
 use super::caller::{
     Numbers, Tally, assert_has, assert_none_out, assert_same, counted, fill, set_with,
 };
-use demo_examples::beginning::begin_and_ask;
 use shared_set::Settled;
-use std::alloc::AllocError;
 use std::process::Abort;
-use testkit::refusing::{Refusing, Rule};
 
 /// How many numbers the set has at each call of `begin_with`. It grows in between.
 const COUNTS: [u64; 5] = [0, 1, 5, 300, 2000];
@@ -46,19 +43,4 @@ fn new_handles_find_what_they_begin_with(rt: HostRuntime) {
         Settled::More(values) => assert_same(&rt, values.len() as u64, from),
     }
     assert_none_out(&rt, &heap);
-}
-
-/// Checks that a set that begins with a number has it, and that a refused request leaves no memory allocated.
-#[test]
-fn a_set_that_begins_with_a_number_has_it(rt: HostRuntime) {
-    let mut refused = 0u64;
-    for granted in 0..40u64 {
-        let heap = Refusing::new(rt.alloc(), Rule::new(0, usize::MAX, granted, 1));
-        match begin_and_ask(&heap, 7) {
-            Ok(has) => assert!(&rt; has),
-            Err(AllocError) => refused = refused.wrapping_add(1),
-        }
-        assert_none_out(&rt, &heap);
-    }
-    assert!(&rt; 3 < refused && refused < 40, "{refused}");
 }

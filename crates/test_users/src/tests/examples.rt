@@ -1,7 +1,9 @@
 //! Tests of the examples in `demo_examples`, and of the memo table in `tool_lines`.
+mod accounts;
 mod alike;
 mod answers;
 mod batches;
+mod beginning;
 mod lines;
 mod meetings;
 mod memory;
