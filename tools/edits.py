@@ -9,15 +9,17 @@ that stands once in the file. With --all those of crates/NAME/must-fail/, which 
 every crate's are. N (1 unless said) is how many jobs a check has; several crates are tried side by side.
 
 A copy of the crate is edited in each function that has an edit, and these functions are checked once. The others lose their bodies there,
-and are what they promise: the crate is proved without the edits. An edit is refused where a goal of its own function fails. Two edits of a
-function, and those whose function only calls one that isn't proved, wait for a later round. Whatever a round leaves open is tried alone, over
-all bodies, and judged then by the whole crate. An edit that is proved, or that the prover never judged, is told by name. The last line is
-`N passed, M failed`: N edits were refused. The status is 0 only where M is 0.
+and are what they promise: the crate is proved without the edits. An edit is refused where a goal of its own function fails. A second edit of
+a function is tried on a twin of the function, under another name. Beside it stands an unedited twin, and the edit counts as refused only if
+no goal of that one fails. A second edit waits for a later round if the function is a method of a trait or its proof is written whole. So does
+an edit of several functions, and one whose function fails only because it calls one that isn't proved. Whatever a round leaves open is tried
+alone, over all bodies, and judged then by the whole crate. An edit that is proved, or that the prover never judged, is told by name. The last
+line is `N passed, M failed`: N edits were refused. The status is 0 only where M is 0.
 
-With --witness each round has a witness: a function of the crate that has no edit and keeps its body, one with written answers if there is
-one. The round counts only if the witness is proved in it. So what refuses an edit is the edit, and not the copy that it is tried in.
-Otherwise its edits are tried alone, in the crate as it was proved. A crate whose functions with clauses all have edits has no witness, and
-has the last round of --control in its place.
+With --witness each round that isn't one of an edit tried alone has a witness: a function of the crate that has no edit and keeps its body, one
+with written answers if there is one. The round counts only if the witness is proved in it. So what refuses an edit is the edit, and not the
+copy that it is tried in. Otherwise its edits are tried alone, in the crate as it was proved. A crate whose functions with clauses all have
+edits has no witness, and has the last round of --control in its place.
 
 With --built the libraries are those that `rt ci` has just proved and built of this very checkout, and nothing is proved but the copies.
 Otherwise each crate is proved and built first, in its own folder, which keeps what is proved in out/, and its rounds begin with that.
@@ -47,6 +49,7 @@ sys.dont_write_bytecode = True
 from modules.bodies import bodies_in, empty, head_of
 from modules.crates import TOP, below, listed, require_listed
 from modules.edit_files import Edit, edits_of, pairs_of
+from modules.twins import add_twin, can_have_twin
 
 PARTS = ("src", "specs", "proofs")
 # A line of a check that says what is wrong at a place, and one that says whether a function is proved.
@@ -103,7 +106,7 @@ class Checked:
 
     def names_of(self, edit):
         """The prover's names of the functions of an edit, and of their closures."""
-        return [name for name in self.verdicts if any(it.named.fullmatch(name) for it in edit.functions)]
+        return [name for it in edit.functions for name in it.names_in(self.verdicts)]
 
     def goals_of(self, names):
         """The lines by which functions fail for themselves, and not only since another one isn't proved."""
@@ -173,7 +176,7 @@ def words_of(top, crate, jobs):
         *(word for name, library in libraries.items() for word in ("--extern", f"{name}={library}")),
         *(word for folder in inside for word in ("-L", f"dependency={folder}")),
         *("--antt-project", str(kit / "rattle/logic/antt-project.json"), "--logic-built", str(kit / "logic_built")),
-        *("--links", f"{crate}=", "--jobs", str(jobs), "--incremental", "out/incremental"),
+        *("--links", f"{crate}=", "--jobs", str(jobs)),
     ]
 
 
@@ -186,14 +189,13 @@ def copy_of(top, crate, room):
     kept = top / "crates" / crate / "out/incremental"
     if kept.is_dir():
         shutil.copytree(kept, room / "kept")
-    else:
-        (folder / "out/incremental").mkdir(parents=True)
     return folder
 
 
 def renew(source, folder, kept, edits, names):
     """Makes the crate's copy ready for a round: the sources with these edits alone, over what is proved of the crate. But for an edit that
-    is tried alone only the functions with an edit have a body and a proof, of those that the prover names so."""
+    is tried alone only the functions with an edit have a body and a proof, of those that the prover names so. It returns the edits: one that is
+    tried on a twin has the twin as its function."""
     for part in ("src", "proofs"):
         shutil.rmtree(folder / part, ignore_errors=True)
         if (source / part).is_dir():
@@ -202,18 +204,25 @@ def renew(source, folder, kept, edits, names):
         shutil.rmtree(folder / "out/incremental", ignore_errors=True)
         # a check puts new files in the place of old ones, and writes into none
         shutil.copytree(kept, folder / "out/incremental", copy_function=os.link)
-    changed = {place: text for edit in edits for place, text in edit.lines.items()}
+    changed = {place: text for edit in edits if not edit.twin for place, text in edit.lines.items()}
     for file in {file for file, _ in changed}:
         lines = (folder / file).read_text().split("\n")
         (folder / file).write_text("\n".join(changed.get((file, at), line) for at, line in enumerate(lines)))
     if not edits[0].is_alone:
         empty(folder, [it for edit in edits for it in edit.functions], names)
+    return [dataclasses.replace(edit, functions=[add_twin(source, folder, edit)]) if edit.twin else edit for edit in edits]
 
 
 def asked_for(edits, functions):
     """The flags that ask for the functions of these edits, and none where an edit is tried alone: then the whole crate is judged."""
-    names = [name for name in functions if any(it.named.fullmatch(name) for edit in edits for it in edit.functions)]
+    names = dict.fromkeys(name for edit in edits for it in edit.functions for name in asked_of(it, edit.twin, functions))
     return [] if edits[0].is_alone else ["--allow-holes", *(word for name in names for word in ("--only", name))]
+
+
+def asked_of(function, twin, functions):
+    """The prover's names of a function, or those of its twin."""
+    names = function.names_in(functions)
+    return [re.sub(rf"(?<=::){function.name}$", twin, name) for name in names] if twin else names
 
 
 def witness_of(folder, edits, functions):
@@ -226,7 +235,7 @@ def witness_of(folder, edits, functions):
     for path in sorted(folder.glob("src/**/*.rt")):
         lines = path.read_text().split("\n")
         for function, opening, last in bodies_in(folder.name, str(path.relative_to(folder)), lines):
-            names = [it for it in functions if function.named.fullmatch(it)]
+            names = function.names_in(functions)
             if not names or edited & set(names) or calls.search("\n".join(lines[opening + 1 : last])):
                 continue
             proofs = [file for name in names for file in folder.joinpath("proofs", *name.split("::")[1:]).glob("*.antt")]
@@ -270,23 +279,27 @@ def judge_alone(checked, edit):
     return True, f"refused: {edit.name}: {next(filter(None, reasons))[:300]}"
 
 
-def judge_together(checked, edits, witness):
+def judge_together(checked, edits, witnesses):
     """Those edits of a round that are surely refused, each with what to say. It marks those that are to be tried alone."""
     unread = [edit for edit in edits if any(it.is_unread() and is_inside(it, edit) for it in checked.told)]
     edited = {name for edit in edits for name in checked.names_of(edit)}
     # where a function fails that has no edit, an edit reaches further than its own
-    reached = checked.goals_of([name for name in checked.verdicts if name not in edited])
-    fails = [] if witness is None or checked.keeps(witness) else [f"{witness.name} isn't proved"]
+    reached = checked.goals_of([name for name in checked.verdicts if name not in edited and "_twin_" not in name])
+    fails = [f"{it.name} isn't proved" for it in witnesses if not it.twin and not checked.keeps(it)]
     if unread or reached or fails or not checked.is_judged():
-        print("".join(f"a function without an edit fails: {line[:300]}\n" for line in [*reached, *fails][:1]), end="")
+        why = [*reached, *fails, *checked.lines[-1:]][: 0 if unread else 1]
+        print("".join(f"the round doesn't count: {line[:300]}\n" for line in why), end="")
         for edit in unread or edits:
             edit.is_alone = True
         return {}
-    reasons = {edit.name: own_goal(checked, edit) for edit in edits}
+    # what fails in an unedited twin, too, says nothing of an edit
+    doubtful = {it.twin_of() for it in witnesses if it.twin and own_goal(checked, it)}
+    reasons = {edit.name: None if edit.twin_of() in doubtful else own_goal(checked, edit) for edit in edits}
     for edit in edits:
         waits = any("it calls" in checked.verdicts[name] for name in checked.names_of(edit)) and any(reasons.values())
-        edit.is_alone = not reasons[edit.name] and not waits
-    return {name: (True, f"refused: {name}: {reason[:300]}") for name, reason in reasons.items() if reason}
+        edit.is_alone = not reasons[edit.name] and (edit.twin_of() in doubtful or not waits)
+    where = {edit.name: " in a twin:" if edit.twin else "" for edit in edits}
+    return {name: (True, f"refused: {name}:{where[name]} {reason[:300]}") for name, reason in reasons.items() if reason}
 
 
 def judge_control(checked, edits):
@@ -295,8 +308,9 @@ def judge_control(checked, edits):
     return {name: (False, f"NOT PROVED without {name}: {said}"[:300]) for name, said in verdicts.items()}
 
 
-def one_round(edits):
-    """Edits that can be tried together: one of each function's name and of each line. One that must be alone is, and comes last."""
+def one_round(edits, twins):
+    """The edits of the next round. The first edit of each function and line is tried in place, and a further one on a twin, if `twins` names it.
+    One that must be tried alone makes a round of its own, after the others."""
     first, *_ = ordered = sorted(edits, key=lambda it: it.is_alone)
     if first.is_alone:
         return [first]
@@ -306,7 +320,18 @@ def one_round(edits):
         if not edit.is_alone and not places & taken:
             chosen.append(edit)
             taken |= places
+        elif not edit.is_alone and edit.name in twins:
+            chosen.append(edit.on_twin(len(chosen)))
     return chosen
+
+
+def witnesses_of(edits, witness):
+    """What stands beside the edits of a round: the witness, and an unedited twin of each function that has a twin."""
+    if edits[0].is_alone:
+        return []
+    edited = {it.functions[0]: it for it in edits if it.twin}
+    twins = [dataclasses.replace(it, name=f"the unedited twin of {it.functions[0].name}", lines={}) for it in edited.values()]
+    return [*[witness] * (witness is not None), *(it.on_twin(len(edits) + at) for at, it in enumerate(twins))]
 
 
 # The crates in turn.
@@ -315,26 +340,34 @@ def one_round(edits):
 def rounds_of(trial):
     """Tries the edits of a proved crate. It yields, of each round, the check, what it was of, and the edits that are settled."""
     top, crate, edits = trial.top, trial.crate, trial.edits
+    source = top / "crates" / crate
     words, functions = words_of(top, crate, trial.jobs), functions_of(top, crate)
-    witness = witness_of(top / "crates" / crate, edits, functions) if trial.has_witness else None
+    # a crate that keeps no proofs keeps none here: to write them takes longer than a later round would gain
+    if (source / "out/incremental").is_dir():
+        words += ["--incremental", "out/incremental"]
+    witness = witness_of(source, edits, functions) if trial.has_witness else None
+    twins = {it.name for it in edits if can_have_twin(source, it)}
     has_control = trial.has_control or (trial.has_witness and witness is None)
     unedited = [dataclasses.replace(it, lines={}) for it in edits if has_control and not it.is_alone]
     with tempfile.TemporaryDirectory(prefix="edits-") as room:
         folder = copy_of(top, crate, pathlib.Path(room))
 
         def checked_with(tried):
-            renew(top / "crates" / crate, folder, pathlib.Path(room) / "kept", tried, functions)
-            return check(folder, [*words, *asked_for(tried, functions)])
+            asked = asked_for(tried, functions)
+            placed = renew(source, folder, pathlib.Path(room) / "kept", tried, functions)
+            return check(folder, [*words, *asked]), placed
 
         while edits:
-            tried = one_round(edits)
+            tried = one_round(edits, twins)
+            checked, placed = checked_with([*tried, *witnesses_of(tried, witness)])
+            placed, witnesses = placed[: len(tried)], placed[len(tried) :]
             is_alone = tried[0].is_alone
-            checked = checked_with(tried if is_alone or witness is None else [*tried, witness])
-            settled = {tried[0].name: judge_alone(checked, tried[0])} if is_alone else judge_together(checked, tried, witness)
-            edits = [it for it in edits if it.name not in settled]
+            settled = {tried[0].name: judge_alone(checked, tried[0])} if is_alone else judge_together(checked, placed, witnesses)
+            alone = {it.name for it in placed if it.is_alone}
+            edits = [dataclasses.replace(it, is_alone=it.is_alone or it.name in alone) for it in edits if it.name not in settled]
             yield checked, f"{len(tried)} tried, {len(settled)} settled", settled
         if unedited:
-            checked = checked_with(unedited)
+            checked, _ = checked_with(unedited)
             unproved = judge_control(checked, unedited)
             yield checked, f"without {len(unedited)} edits, {len(unproved)} not proved", unproved
 
@@ -391,11 +424,14 @@ def try_all(trials, is_built):
 
 
 def made_edits(texts):
-    """Of four edits of different functions one as it is, and one each that changes nothing, can't be typed and doesn't apply."""
+    """The first of four edits, twice; an edit of its function that changes nothing; and one each of the others that changes nothing, can't be
+    typed, or doesn't apply."""
     pairs = [pairs_of(text)[0] for text in texts]
     form = "file: {}\nold: {}\nnew: {}\n".format
     return {
         "meant": texts[0],
+        "meant_again": texts[0],
+        "meant_same": form(pairs[0][0], pairs[0][1], f"/* the same */ {pairs[0][1]}"),
         "same": form(pairs[1][0], pairs[1][1], f"/* the same */ {pairs[1][1]}"),
         "untyped": form(pairs[2][0], pairs[2][1], f"{pairs[2][1]} + no_such_name"),
         "unapplied": form(pairs[3][0], f"no such text {pairs[3][1]}", pairs[3][1]),
@@ -404,8 +440,11 @@ def made_edits(texts):
 
 def self_test(jobs):
     """Tries made edits over a copy of the crate `table_terms`, and returns whether each is told as it must be."""
-    texts = [file.read_text() for part in ("edits", "must-fail") for file in sorted((TOP / "crates/table_terms" / part).glob("*.edit"))]
-    wanted = {"meant": "refused: ", "same": "EDIT PROVED ", "untyped": "BAD EDIT ", "unapplied": "BAD EDIT "}
+    # the first has a function with written answers, of which a twin can be made
+    names = ("hash_number_folds_a_quarter_down", "bits_of_hash_are_the_lowest", "first_bucket_is_in_the_first_half", "is_same_of_a_u16_is_always_true")
+    texts = [(TOP / f"crates/table_terms/edits/{name}.edit").read_text() for name in names]
+    refused, proved, bad = "refused: ", "EDIT PROVED ", "BAD EDIT "
+    wanted = {"meant": refused, "meant_again": refused, "meant_same": proved, "same": proved, "untyped": bad, "unapplied": bad}
     with tempfile.TemporaryDirectory(prefix="edits-") as room:
         top = pathlib.Path(room)
         shutil.copytree(TOP / "crates/table_terms", top / "crates/table_terms", ignore=shutil.ignore_patterns("*.edit"))
@@ -415,7 +454,7 @@ def self_test(jobs):
             (top / f"crates/table_terms/edits/{name}.edit").write_text(text)
         results = try_all([trial_of(top, "table_terms", ("edits",), jobs)], False)
     names = {name: results[f"table_terms/{name}.edit"] for name in wanted}
-    wrong = [name for name, (is_refused, line) in names.items() if not line.startswith(wanted[name]) or is_refused != (name == "meant")]
+    wrong = [it for it, (is_refused, line) in names.items() if not line.startswith(wanted[it]) or is_refused != (wanted[it] == refused)]
     print(f"self-test FAILED: {' '.join(wrong)}" if wrong else "self-test ok", flush=True)
     return not wrong
 

@@ -14,25 +14,48 @@ class BadEdit(Exception):
 
 @dataclasses.dataclass(frozen=True)
 class Function:
-    """A function: its lines in its file, from 1, and how the prover's names for it and for its closures read."""
+    """A function: its lines in its file, from 1, and how the prover's names for it and for its closures read. `holder` is the number, from 0, of
+    the line of its impl or trait, or None. `is_of_trait` says whether a trait names the function."""
 
     file: str
     first: int
     last: int
     named: re.Pattern
+    name: str
+    holder: int | None
+    is_of_trait: bool
 
     def holds(self, file, line):
         return file == self.file and self.first <= line <= self.last
 
+    def names_in(self, functions):
+        """Those of the prover's names of functions that are its own and those of its closures."""
+        return [name for name in functions if self.named.fullmatch(name)]
+
+    def renamed(self, name):
+        """The same function under another name."""
+        named = re.sub(rf"\b{self.name}(?=\||::\\S)", name, self.named.pattern)
+        return dataclasses.replace(self, named=re.compile(named), name=name)
+
 
 @dataclasses.dataclass
 class Edit:
-    """An edit: the lines that it changes, by file and number from 0, and the functions that they stand in."""
+    """An edit: the lines that it changes, by file and number from 0, and the functions that they stand in. One that is tried on a twin of its
+    function has the twin's name."""
 
     name: str
     lines: dict
     functions: list
     is_alone: bool
+    twin: str = ""
+
+    def on_twin(self, number):
+        """The same edit, to be tried on a twin of its function."""
+        return dataclasses.replace(self, twin=f"{self.functions[0].name}_twin_{number}")
+
+    def twin_of(self):
+        """The file and the name of the function whose twin it is tried on, or None."""
+        return (self.functions[0].file, self.twin.rpartition("_twin_")[0]) if self.twin else None
 
 
 def indent(line):
@@ -64,20 +87,64 @@ def without_brackets(text):
     return text
 
 
+def bracketed(text):
+    """What stands in the angle brackets that a text begins with, and what follows them. The first is empty where it begins with no bracket."""
+    depth = 0
+    for at, letter in enumerate(text):
+        depth += (letter == "<") - (letter == ">")
+        if not depth:
+            return text[1:at], text[at + 1 :] if at else text
+    return "", text
+
+
+def listed_types(text):
+    """The types of a list with commas."""
+    depth, types = 0, [""]
+    for letter in text:
+        depth += (letter in "<([") - (letter in ">)]")
+        types[-1] += letter if letter != "," or depth else ""
+        types += [""] * (letter == "," and not depth)
+    return [it.strip() for it in types if it.strip()]
+
+
+def name_of_type(text, parameters):
+    """How the prover names a type within another name, as a pattern. A parameter has no name there."""
+    if text in parameters:
+        return ""
+    if text.startswith("("):
+        return f"Tuple{len(listed_types(text[1:-1]))}"
+    name, rest = re.fullmatch(r"(\w*)(.*)", text).groups()
+    if not name or bracketed(rest)[1]:
+        return {"&": "Ref"}.get(text[0], "") + r"\w*"
+    return name[0].upper() + name[1:]
+
+
+def names_of_arguments(header):
+    """How the prover names the arguments of the trait that an impl is of, as a pattern."""
+    declared, rest = bracketed(header.strip().removeprefix("unsafe ").removeprefix("impl").replace("->", ""))
+    parameters = [it.split(":")[0].strip().removeprefix("const ") for it in listed_types(declared)]
+    arguments, _ = bracketed(re.sub(r"^\s*[\w:]+", "", rest))
+    return "".join(name_of_type(it, parameters) for it in listed_types(arguments))
+
+
+def head_at(lines, number):
+    """The text from a line to the next one that a brace ends."""
+    last = next(at for at in range(number, len(lines)) if lines[at].endswith("{"))
+    return " ".join(lines[number : last + 1])
+
+
 def owner_of(lines, number):
     """How the prover names the impl or the trait that begins at a line, as a pattern."""
-    last = next(at for at in range(number, len(lines)) if lines[at].endswith("{"))
-    whole = " ".join(lines[number : last + 1])
+    whole = head_at(lines, number)
     parts = re.split(r"\bwhere\b|\{", without_brackets(whole))[0].split(" for ")
     names = [re.findall(r"\w+", part) for part in parts]
     if "trait" in names[0]:
         return names[0][names[0].index("trait") + 1]
-    # an impl of an alias has the names of its parameters behind it; one of a trait has those of the type, of what it is of, and of
-    # the trait in one, and behind them that of the type that the trait is for; one of Drop has the name of the type alone
+    # an impl of an alias has the names of its parameters behind it; one of a trait has the names of the type, of its arguments, of the trait and
+    # of the trait's arguments in one; one of Drop has the name of the type alone
     if len(names) == 1 or names[0][-1] == "Drop":
         return rf"{names[-1][-1]}(?:\+\w+)*"
-    of = re.match(r"\s*impl \w+<(\w+)> for", whole)
-    named = rf"{names[1][-1]}\w*{names[0][-1]}" + (of[1][0].upper() + of[1][1:] if of else r"\w*")
+    named = rf"{names[1][-1]}\w*{names[0][-1]}{names_of_arguments(whole)}"
     return {"&": r"Ref\w*", "[": r"\w*", "(": r"\w*"}.get(parts[1].strip()[0], "") + named
 
 
@@ -93,14 +160,15 @@ def function_at(crate, file, lines, at):
     if first is None:
         return None
     name, holder = ITEM.match(lines[first])[2], item_around(lines, first, ("impl", "trait"))
-    module = rf"{crate}::{module_of(file)}"
+    module, path, is_of_trait = rf"{crate}::{module_of(file)}", name, False
     if holder is not None:
         # the prover names a method by the module of its type, which may be another than that of its impl
-        module, name = rf"{crate}::(?:\w+::)*?", f"{owner_of(lines, holder)}::{name}"
+        module, path = rf"{crate}::(?:\w+::)*?", f"{owner_of(lines, holder)}::{name}"
+        is_of_trait = ITEM.match(lines[holder])[1] == "trait" or " for " in without_brackets(head_at(lines, holder)).split(" where ")[0]
     last = end_of(lines, first)
     while lines[first - 1].strip().startswith(("#[", "///")):
         first -= 1
-    return Function(file, first + 1, last + 1, re.compile(rf"{module}(?:{name}|fn::{name}::\S+)"))
+    return Function(file, first + 1, last + 1, re.compile(rf"{module}(?:{path}|fn::{path}::\S+)"), name, holder, is_of_trait)
 
 
 def pairs_of(text):
