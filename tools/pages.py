@@ -7,6 +7,7 @@ It writes the parts of pages that follow from the sources:
 - docs/PROMISES.md: the signature of each call, without the bounds that stand above the first section;
 - docs/STATUS.md: the table of sizes;
 - docs/ARCHITECTURE.md: the tables of crates, one for each kind, the lowest layer first;
+- docs/NAMES.md: the types and traits of each crate;
 - each block below a line that ends in 'the whole of `FILE`:'.
 
 With --check it writes nothing, and ends by 1 where a part isn't what it would write. Either way it says so and ends by 1 where
@@ -446,6 +447,25 @@ def crate_tables():
     return "\n\n".join(tables)
 
 
+# a type, a trait or an alias that begins at the margin, so outside an impl
+DECLARED = re.compile(r"^(?:pub(?:\([^)]*\))? )?(?:unsafe )?(?:struct|enum|trait|type) (\w+)", re.M)
+# a name that more crates have says nothing of where it is from
+NAMED_AT_MOST = 3
+
+
+def declared_in(crate):
+    """The names of the types and traits that a crate declares."""
+    return {name for file in files_below(crate, "src", ".rt") for name in DECLARED.findall(file.read_text())}
+
+
+def names():
+    """The types and traits of each crate that declares any, the lowest crate first."""
+    declared = {crate: declared_in(crate) for crate, _ in crates()}
+    counts = collections.Counter(name for found in declared.values() for name in found)
+    rows = {crate: sorted(name for name in found if counts[name] <= NAMED_AT_MOST) for crate, found in declared.items()}
+    return "\n".join(f"- `{crate}`: {', '.join(found)}" for crate, found in rows.items() if found)
+
+
 # The pages
 
 
@@ -467,7 +487,7 @@ def with_quotes(text):
 def written_pages():
     """Each page that the tool writes to, as it should be, and what is wrong with what is hand-written."""
     promises = Promises((DOCS / "PROMISES.md").read_text())
-    parts = {"sizes": sizes(), "crates": crate_tables()}
+    parts = {"sizes": sizes(), "crates": crate_tables(), "names": names()}
     pages = {}
     for page in PAGES:
         text = promises.text() if page.name == "PROMISES.md" else page.read_text()
