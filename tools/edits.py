@@ -228,7 +228,7 @@ def asked_of(function, twin, functions):
 def witness_of(folder, edits, functions):
     """An edit that changes nothing, of a function without an edit that calls none with one: the one with the shortest written answers, or else
     the shortest of those with an `ensures` and no answers. A proof that is written whole doesn't serve, since it may name what the others lose."""
-    edited = {name for name in functions for edit in edits for it in edit.functions if it.named.fullmatch(name)}
+    edited = {name for edit in edits for it in edit.functions for name in it.names_in(functions)}
     # what calls a function that has an edit isn't proved beside it
     calls = re.compile(r"\b(" + "|".join(sorted({name.rpartition("::")[2] for name in edited})) + r")\b(::<.*>)?\(")
     found = []
@@ -282,9 +282,10 @@ def judge_alone(checked, edit):
 def judge_together(checked, edits, witnesses):
     """Those edits of a round that are surely refused, each with what to say. It marks those that are to be tried alone."""
     unread = [edit for edit in edits if any(it.is_unread() and is_inside(it, edit) for it in checked.told)]
-    edited = {name for edit in edits for name in checked.names_of(edit)}
-    # where a function fails that has no edit, an edit reaches further than its own
-    reached = checked.goals_of([name for name in checked.verdicts if name not in edited and "_twin_" not in name])
+    unedited = [it for it in witnesses if it.twin]
+    own = {name for edit in [*edits, *unedited] for name in checked.names_of(edit)}
+    # where a function fails that has no edit and is no twin, an edit reaches further than its own
+    reached = checked.goals_of([name for name in checked.verdicts if name not in own])
     fails = [f"{it.name} isn't proved" for it in witnesses if not it.twin and not checked.keeps(it)]
     if unread or reached or fails or not checked.is_judged():
         why = [*reached, *fails, *checked.lines[-1:]][: 0 if unread else 1]
@@ -292,8 +293,8 @@ def judge_together(checked, edits, witnesses):
         for edit in unread or edits:
             edit.is_alone = True
         return {}
-    # what fails in an unedited twin, too, says nothing of an edit
-    doubtful = {it.twin_of() for it in witnesses if it.twin and own_goal(checked, it)}
+    # where an unedited twin fails too, or isn't judged, an edit of the twin's function is in doubt
+    doubtful = {it.twin_of() for it in unedited if own_goal(checked, it) or not checked.names_of(it)}
     reasons = {edit.name: None if edit.twin_of() in doubtful else own_goal(checked, edit) for edit in edits}
     for edit in edits:
         waits = any("it calls" in checked.verdicts[name] for name in checked.names_of(edit)) and any(reasons.values())
@@ -441,10 +442,11 @@ def made_edits(texts):
 def self_test(jobs):
     """Tries made edits over a copy of the crate `table_terms`, and returns whether each is told as it must be."""
     # the first has a function with written answers, of which a twin can be made
-    names = ("hash_number_folds_a_quarter_down", "bits_of_hash_are_the_lowest", "first_bucket_is_in_the_first_half", "is_same_of_a_u16_is_always_true")
+    names = ("hash_number_folds_a_quarter_down", "bits_of_hash_are_the_lowest", "first_bucket_is_in_the_first_half", "next_bucket_runs_past_the_end")
     texts = [(TOP / f"crates/table_terms/edits/{name}.edit").read_text() for name in names]
     refused, proved, bad = "refused: ", "EDIT PROVED ", "BAD EDIT "
-    wanted = {"meant": refused, "meant_again": refused, "meant_same": proved, "same": proved, "untyped": bad, "unapplied": bad}
+    on_twin = f"{refused}table_terms/meant_again.edit: in a twin: "
+    wanted = {"meant": refused, "meant_again": on_twin, "meant_same": proved, "same": proved, "untyped": bad, "unapplied": bad}
     with tempfile.TemporaryDirectory(prefix="edits-") as room:
         top = pathlib.Path(room)
         shutil.copytree(TOP / "crates/table_terms", top / "crates/table_terms", ignore=shutil.ignore_patterns("*.edit"))
@@ -454,7 +456,7 @@ def self_test(jobs):
             (top / f"crates/table_terms/edits/{name}.edit").write_text(text)
         results = try_all([trial_of(top, "table_terms", ("edits",), jobs)], False)
     names = {name: results[f"table_terms/{name}.edit"] for name in wanted}
-    wrong = [it for it, (is_refused, line) in names.items() if not line.startswith(wanted[it]) or is_refused != (wanted[it] == refused)]
+    wrong = [it for it, (is_refused, line) in names.items() if not line.startswith(wanted[it]) or is_refused != line.startswith(refused)]
     print(f"self-test FAILED: {' '.join(wrong)}" if wrong else "self-test ok", flush=True)
     return not wrong
 
