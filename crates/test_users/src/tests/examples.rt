@@ -9,6 +9,7 @@ mod meetings;
 mod memory;
 mod schedules;
 mod shared;
+mod telling;
 mod words;
 
 use super::assert_same;
