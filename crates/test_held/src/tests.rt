@@ -5,7 +5,6 @@ mod drops;
 mod growth;
 mod memory;
 mod pairs;
-mod refusals;
 mod runs;
 mod sets;
 mod values;

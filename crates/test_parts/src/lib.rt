@@ -8,6 +8,8 @@ mod chain;
 #[cfg(test)]
 mod numbered;
 #[cfg(test)]
+mod same;
+#[cfg(test)]
 mod seats;
 #[cfg(test)]
 mod slab;

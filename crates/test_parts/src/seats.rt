@@ -2,9 +2,9 @@
 ghost use Rattle.std.specs.Prelude.{All, IfOk};
 ghost use Rattle.seated.specs.Tables.{IsSeatOf};
 
+use crate::same::assert_same;
 use seated::{NumberAnswer, NumberTable, Seat};
 use std::alloc::{AllocError, Allocator, Global};
-use std::fmt::Debug;
 use std::num::NonZeroU64;
 use std::process::Abort;
 use std::test::Fail;
@@ -12,13 +12,8 @@ use std::thread;
 use std::thread::Threads;
 use testkit::refusing::{Refusing, Rule};
 
-/// Asserts that `got` equals `expected`.
-fn assert_same<X: PartialEq + Debug + Drop>(rt: &impl Abort, got: X, expected: X) {
-    assert_eq!(rt; got, expected);
-}
-
 /// The numbers below 128 for which a seat got each answer. Bit n of a word is set for the number n.
-#[derive(Clone, Copy, Drop, PartialEq, Eq, Debug)]
+#[derive(Clone, Copy)]
 struct AnswerBits {
     placed: u128,
     found: u128,
@@ -109,17 +104,6 @@ fn insert_each(
     ensures { IsSeatOf table.entry.now result }
 {
     for &n in numbers {
-        insert_new(rt, table, &mut seat, n);
-    }
-    seat
-}
-
-/// Inserts 1 to `last`, in order, none of which is in the table. Returns the seat.
-fn insert_all(rt: &impl Abort, table: &NumberTable<Global>, mut seat: Seat, last: u64) -> Seat
-    requires { IsSeatOf table.now seat }
-    ensures { IsSeatOf table.entry.now result }
-{
-    for n in 1..=last {
         insert_new(rt, table, &mut seat, n);
     }
     seat
@@ -302,8 +286,9 @@ fn every_word_was_handed_in(rt: HostRuntime) -> Result<(), Fail> {
 #[test]
 fn tables_of_other_sizes_are_filled(rt: HostRuntime) -> Result<(), Fail> {
     for count in SIZES {
+        let numbers: Vec<u64> = (1..(count as u64).saturating_add(1)).collect(rt.alloc())?;
         let (table, seat) = table_of(&rt, rt.alloc(), count)?;
-        let mut seat = insert_all(&rt, &table, seat, count as u64);
+        let mut seat = insert_each(&rt, &table, seat, numbers.as_slice());
         assert_full(&rt, &table, &mut seat, 3 * 8192);
         assert_filled(&rt, table.close(seat).as_slice(), count as u64);
     }

@@ -1,7 +1,6 @@
 //! Tests of the machine of all schedules, and of stepped and whole calls.
 mod cuts;
 mod decisions;
-mod drawn;
 mod drops;
 mod events;
 mod interleaved;

@@ -11,11 +11,12 @@ mod turns;
 use crate::refusing::lot::Lot;
 use crate::refusing::pairs::Pairs;
 pub use crate::refusing::turns::Turns;
-use std::alloc::{AllocError, Allocator};
+use std::alloc::{AllocError, Allocator, Global};
 use std::sync::atomic::{AtomicU64, Ordering};
 use table_cell::Low;
 
 /// Which requests for memory are refused. A rule counts the requests of `least` to `most` bytes. All others are granted.
+#[derive(Drop)]
 pub struct Rule {
     least: usize,
     most: usize,
@@ -119,6 +120,14 @@ pub struct Refusing<B: Allocator> {
     rule: Rule,
 }
 
+/// Such an allocator over the global one.
+pub type Heap = Refusing<Global>;
+
+/// Makes an allocator that grants each request and counts its blocks.
+pub fn counted(alloc: Global) -> Heap {
+    Refusing::new(alloc, Rule::new(0, usize::MAX, 0, 0))
+}
+
 impl<B: Allocator> Refusing<B> {
     /// Makes an allocator that passes requests on to `inner`, unless the rule refuses them.
     pub fn new(inner: B, rule: Rule) -> Refusing<B>
@@ -192,20 +201,7 @@ impl<B: Allocator> Refusing<B> {
 
 impl<B: Allocator> Drop for Refusing<B> {
     fn drop(self) {
-        let Self {
-            inner: _,
-            rule: Rule {
-                least: _,
-                most: _,
-                passing: _,
-                refused: _,
-                lot: _,
-                pairs: _,
-                turns: _,
-                granted: _,
-                given_back: _,
-            },
-        } = self;
+        let Self { inner: _, rule: _ } = self;
     }
 }
 

@@ -13,7 +13,6 @@ use crate::measures::sharded::{HeldShards, SharedShards};
 use crate::measures::shared::{SharedNumbers, check_shared, measure_shared};
 use crate::measures::texts::{check_interner, measure_interner};
 use lock_free_hashtable::atomic_value::InPlace;
-use shared_interner::SharedInterner;
 use std::convert::AsStr;
 use std::fs::Files;
 use std::io;
@@ -52,7 +51,7 @@ pub fn check_all<R: Print + Threads + Wait + Sync + AllocGlobal>(rt: &R) -> io::
     check_shared::<SharedSetKeys, R>(rt, SHARED_SET)?;
     check_shared::<SharedShards<InPlace<u64>>, R>(rt, SHARED_SHARDS)?;
     check_shared::<SharedSetRecords, R>(rt, RECORDS)?;
-    check_texts::<SharedInterner, R>(rt, TEXTS)?;
+    check_texts(rt, TEXTS)?;
     check_seats(rt)?;
     check_schedules(rt)?;
     check_interner(rt)
@@ -70,8 +69,8 @@ pub fn run_bench<R: Print + Eprint + Clock + Files + Threads + Wait + Sync + All
             "{HELD}\n{HELD_IN_PLACE}\n{HELD_SET}\n{HELD_SHARDS}\n{SHARED}\n{SHARED_IN_PLACE}\n{SHARED_SET}\n\
             {SHARED_SHARDS}\n{RECORDS}\n{TEXTS}\nseats\ncore\ninterner"
         ),
-        [name, group] => measure(rt, name.as_str(), group.as_str()),
-        [name, group, threads] => measure_threads(
+        [name, group] => measure(rt, name.as_str(), group.as_str(), None),
+        [name, group, threads] => measure(
             rt,
             name.as_str(),
             group.as_str(),
@@ -81,44 +80,33 @@ pub fn run_bench<R: Print + Eprint + Clock + Files + Threads + Wait + Sync + All
     }
 }
 
-/// Runs a group of the measurements with this name. `Err`: the name or the group is unknown, or a measurement failed.
+/// Runs a group of the measurements with this name, with `threads` threads if they are shared sets. `Err`: the name or the group is
+/// unknown, it takes no such number of threads, or a measurement failed.
 fn measure<R: Print + Eprint + Clock + Files + Threads + Wait + Sync + AllocGlobal>(
-    rt: &R,
-    name: &str,
-    group: &str,
-) -> io::Result<()> {
-    let report = Report { name };
-    match name {
-        HELD => measure_held::<NumberSet<Box<u64>>, R>(rt, &report, group),
-        HELD_IN_PLACE => measure_held::<NumberSet<InPlace<u64>>, R>(rt, &report, group),
-        HELD_SET => measure_held::<HeldSetKeys<InPlace<u64>>, R>(rt, &report, group),
-        HELD_SHARDS => measure_held::<HeldShards<InPlace<u64>>, R>(rt, &report, group),
-        "seats" => measure_seats(rt, &report, group),
-        "core" => measure_schedules(rt, &report, group),
-        "interner" => measure_interner(rt, &report, group),
-        TEXTS => measure_texts::<SharedInterner, R>(rt, &report, group),
-        _ => measure_threads(rt, name, group, None),
-    }
-}
-
-/// Runs `measure_shared` with the type of set that has this name. `Err`: the name is unknown, or that call failed.
-fn measure_threads<R: Print + Eprint + Clock + Files + Threads + Wait + Sync + AllocGlobal>(
     rt: &R,
     name: &str,
     group: &str,
     threads: Option<&str>,
 ) -> io::Result<()> {
     let report = Report { name };
-    match name {
-        SHARED => measure_shared::<SharedNumbers<Box<u64>>, R>(rt, &report, group, threads),
-        SHARED_IN_PLACE => measure_shared::<SharedNumbers<InPlace<u64>>, R>(
+    match (name, threads) {
+        (HELD, None) => measure_held::<NumberSet<Box<u64>>, R>(rt, &report, group),
+        (HELD_IN_PLACE, None) => measure_held::<NumberSet<InPlace<u64>>, R>(rt, &report, group),
+        (HELD_SET, None) => measure_held::<HeldSetKeys<InPlace<u64>>, R>(rt, &report, group),
+        (HELD_SHARDS, None) => measure_held::<HeldShards<InPlace<u64>>, R>(rt, &report, group),
+        (SHARED, _) => measure_shared::<SharedNumbers<Box<u64>>, R>(rt, &report, group, threads),
+        (SHARED_IN_PLACE, _) => measure_shared::<SharedNumbers<InPlace<u64>>, R>(
             rt, &report, group, threads,
         ),
-        SHARED_SET => measure_shared::<SharedSetKeys, R>(rt, &report, group, threads),
-        SHARED_SHARDS => measure_shared::<SharedShards<InPlace<u64>>, R>(
+        (SHARED_SET, _) => measure_shared::<SharedSetKeys, R>(rt, &report, group, threads),
+        (SHARED_SHARDS, _) => measure_shared::<SharedShards<InPlace<u64>>, R>(
             rt, &report, group, threads,
         ),
-        RECORDS => measure_shared::<SharedSetRecords, R>(rt, &report, group, threads),
+        (RECORDS, _) => measure_shared::<SharedSetRecords, R>(rt, &report, group, threads),
+        (TEXTS, None) => measure_texts(rt, &report, group),
+        ("seats", None) => measure_seats(rt, &report, group),
+        ("core", None) => measure_schedules(rt, &report, group),
+        ("interner", None) => measure_interner(rt, &report, group),
         _ => refuse_words(rt),
     }
 }

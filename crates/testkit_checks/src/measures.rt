@@ -3,7 +3,6 @@ pub mod handles;
 pub mod held;
 pub mod interning;
 mod memory;
-pub mod naming;
 pub mod numbers;
 pub mod records;
 pub mod report;

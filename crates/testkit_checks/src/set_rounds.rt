@@ -10,9 +10,9 @@ use std::io::Write;
 use std::rt::Clock;
 use std::thread::Threads;
 use std::time::Instant;
-use testkit::refusing::{Refusing, Rule};
+use testkit::refusing::Refusing;
 use testkit_rounds::drawn::{End, Plan, Stop};
-use testkit_rounds::{Kind, Round, RoundFault};
+use testkit_rounds::{Round, RoundFault};
 
 /// The status of rounds without a fault.
 const WELL: u8 = 0;
@@ -22,9 +22,6 @@ const BAD: u8 = 1;
 
 /// The seconds of a minute.
 const MINUTE: u64 = 60;
-
-/// One request in this number is refused, on average, if memory is refused.
-const REFUSED_ONE_IN: u64 = 6;
 
 /// How many numbers came out, were found and were refused.
 #[derive(Clone, Copy)]
@@ -158,7 +155,7 @@ fn run_round<R: Threads + Sync>(
     alloc: Global,
     round: Round,
 ) -> Result<Option<Counts>, RoundFault> {
-    let heap = Refusing::new(alloc, rule_of(round));
+    let heap = Refusing::new(alloc, round.rule());
     let lists = lists_of(alloc, round)?;
     let mut left = count_each(alloc, round, &lists)?;
     let came = match insert_lists(rt, alloc, &heap, lists) {
@@ -172,28 +169,11 @@ fn run_round<R: Threads + Sync>(
     Ok(came)
 }
 
-/// Returns the rule by which requests for the set's memory are refused.
-fn rule_of(round: Round) -> Rule {
-    let refused = match round.kind {
-        Kind::Refused => u64::MAX,
-        _ => 0,
-    };
-    Rule::new(0, usize::MAX, 0, refused).drawn(round.seed, REFUSED_ONE_IN)
-}
-
-/// Returns the first number of a thread's list.
-fn first_of(round: Round, thread: u64) -> u64 {
-    match round.kind {
-        Kind::Equal => 0,
-        _ => thread.wrapping_mul(round.each / 2),
-    }
-}
-
 /// Returns a list for each thread. Neighbouring lists share half of their numbers, or all lists are the same. `Err`: memory was refused.
 fn lists_of(alloc: Global, round: Round) -> Result<Vec<Vec<u64>>, AllocError> {
     let mut lists = Vec::new(alloc);
     for thread in 0..round.threads {
-        let first = first_of(round, thread);
+        let first = round.first_of(thread);
         lists.push((first..first.saturating_add(round.each)).collect(alloc)?)?;
     }
     Ok(lists)

@@ -17,9 +17,10 @@ pub enum ReplayFault {
     State(u64),
     /// This call didn't take the step that the schedule names.
     Step(u64),
-    /// The closures of this call were called with other entries than its steps name, or more or less often.
+    /// This whole call called its closures with other entries than in the rehearsal, or more or less often. Or it had another reply.
     Asked(u64),
-    /// A call didn't end within the steps that it has, a milestone is missing, or growths copied fewer entries than were rehearsed.
+    /// A call didn't end within the steps that it has, calls are left that can't begin, or growths copied fewer entries or requested less than
+    /// was rehearsed.
     Unfinished,
     /// The lengths of the table and of the machine differ.
     Length,
@@ -27,14 +28,14 @@ pub enum ReplayFault {
     Walk,
     /// The table and the machine have different numbers of buckets.
     Buckets,
-    /// The table has another length, other buckets or other entries than were noted for this moment.
+    /// The table has another length, other buckets or other entries than were rehearsed for this moment.
     Sight,
     /// A thread that had to wait for another one went on without it.
     Alone,
 }
 
-/// Returns the result of a request of the replay itself for memory. `Err`: it was refused.
-pub(crate) fn granted<T, E: Drop>(asked: Result<T, E>) -> Result<T, ReplayFault> {
+/// Returns the result of a request for memory that no call makes. `Err`: it was refused.
+pub fn granted<T, E: Drop>(asked: Result<T, E>) -> Result<T, ReplayFault> {
     match asked {
         Ok(there) => Ok(there),
         Err(_refused) => Err(ReplayFault::NoMemory),

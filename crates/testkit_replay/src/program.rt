@@ -1,6 +1,7 @@
 //! Replays random schedules, as many as the arguments ask for.
+use crate::fault::ReplayFault;
 use crate::schedules::{first_fault, run_seed};
-use crate::whole_calls::interleaved::run_interleaved;
+use crate::whole_calls::run_interleaved;
 use std::alloc::Global;
 use std::convert::AsStr;
 use std::io::Write;
@@ -33,24 +34,21 @@ pub fn run_replays<R: Threads + Wait + Sync, S: AsStr, O: Write, M: Write>(
         );
         return BAD;
     };
-    let stepped = first_fault(first_seed, seeds, |seed: u64| run_seed(alloc, seed));
-    if let Some((seed, fault)) = stepped {
+    let faulty = first_fault(first_seed, seeds, |seed: u64| run_both(rt, alloc, seed));
+    if let Some((seed, fault)) = faulty {
         let _ = writeln!(messages, "seed {seed}: {fault:?}");
-        return BAD;
-    }
-    let whole = first_fault(
-        first_seed,
-        seeds,
-        |seed: u64| run_interleaved(rt, alloc, seed),
-    );
-    if let Some((seed, fault)) = whole {
-        let _ = writeln!(messages, "seed {seed}, whole calls: {fault:?}");
         return BAD;
     }
     match writeln!(output, "{seeds} schedules agree") {
         Ok(()) => WELL,
         Err(_error) => BAD,
     }
+}
+
+/// Replays the schedule of stepped calls and that of whole calls of a seed. `Err`: the first fault.
+fn run_both<R: Threads + Wait + Sync>(rt: &R, alloc: Global, seed: u64) -> Result<(), ReplayFault> {
+    run_seed(alloc, seed)?;
+    run_interleaved(rt, alloc, seed)
 }
 
 /// Parses the number of seeds and the first seed. Returns `None` for other words.

@@ -4,7 +4,7 @@ ghost use Rattle.table_terms.specs.Capacities.{IsFirstCapacity};
 
 use crate::events::{Answers, event_of};
 use crate::fault::{ReplayFault, check, granted};
-use crate::item::{Item, Said};
+use crate::item::{Item, Said, reply_of_machine};
 use crate::running::{Stepped, Table, Took};
 use crate::schedules::Ask;
 use crate::script::Script;
@@ -71,6 +71,16 @@ impl<'a, 'm> Ground<'a, 'm> {
                 .saturating_mul(2)
                 .saturating_sub(self.first),
             None => 0,
+        }
+    }
+
+    /// Returns whether less than half of the buckets are set after one more insert. It then doesn't grow the table.
+    pub(crate) fn has_room(self) -> bool {
+        match self.table.current(&mut self.table.note()) {
+            Some(current) => {
+                self.table.len().saturating_add(1) < current.generation.capacity() / 2
+            }
+            None => false,
         }
     }
 }
@@ -281,7 +291,7 @@ impl<'a, 'm> Replay<'a, 'm> {
             Took::Moved | Took::Blocked => None,
         };
         let machine = match self.take(event)? {
-            Some(finished) if finished.call == call => Said::of_reply(&finished.reply),
+            Some(finished) if finished.call == call => reply_of_machine(&finished.reply),
             _ => None,
         };
         same_reply(call, table, machine)?;
@@ -295,12 +305,6 @@ impl<'a, 'm> Replay<'a, 'm> {
         let finished = granted(self.machine.step(event))?;
         compare_whole(self.ground.table, &finished)?;
         Ok(finished)
-    }
-
-    /// Checks that the call of this number, which is also its index, ended with this reply. `Err`: it didn't.
-    pub(crate) fn compare_end(&self, call: u64, said: Said) -> Result<(), ReplayFault> {
-        let ended = self.calls.get(call as usize);
-        same_reply(call, Some(said), ended.and_then(|call: &Call| call.said))
     }
 
     /// Ends the schedule, and compares the length, the entries and the buckets of the table and of the machine. `Err`: they differ, or no

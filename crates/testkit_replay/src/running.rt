@@ -3,7 +3,7 @@ ghost use Rattle.table_terms.specs.Capacities.{IsFirstCapacity};
 ghost use Rattle.testkit_replay.specs.Running.{IsReady, MayGo};
 
 use crate::fault::ReplayFault;
-use crate::item::{Item, Said};
+use crate::item::{Item, Said, reply_of_insert, reply_of_lookup};
 use crate::replay::{Ground, Replay, Turn, new_table};
 use crate::script::Script;
 use std::alloc::Global;
@@ -83,7 +83,7 @@ fn took_insert(progress: &Progress<Result<(&Item, Option<Box<Item>>), Box<Item>>
     match progress {
         Progress::Moved => Took::Moved,
         Progress::Blocked => Took::Blocked,
-        Progress::Done(reply) => Took::Ended(Said::of_insert(reply)),
+        Progress::Done(reply) => Took::Ended(reply_of_insert(reply)),
     }
 }
 
@@ -92,7 +92,7 @@ fn took_lookup(progress: Progress<Option<&Item>>) -> Took {
     match progress {
         Progress::Moved => Took::Moved,
         Progress::Blocked => Took::Blocked,
-        Progress::Done(reply) => Took::Ended(Said::of_lookup(reply)),
+        Progress::Done(reply) => Took::Ended(reply_of_lookup(reply)),
     }
 }
 

@@ -1,4 +1,4 @@
-//! Schedules of calls that take one step at a time: random ones, two calls that interrupt each other, and given events.
+//! Schedules of calls that take one step at a time: random ones, and given ones.
 ghost use Rattle.table_terms.specs.Capacities.{IsFirstCapacity};
 
 use crate::events::{answers_of, takes};
@@ -44,7 +44,7 @@ fn draw_ask(script: &Script, lookups: bool) -> Ask {
 
 /// A leg of a schedule. A call has an index: its place among those that have begun.
 #[derive(Clone, Copy)]
-pub(crate) enum Leg {
+pub enum Leg {
     /// The next call begins.
     Begin(Ask),
     /// The call at this index takes a step, with these refusals.
@@ -114,19 +114,15 @@ impl Schedule for Legs<'_> {
     }
 }
 
-/// Adds a call that runs to its end. `Err`: no memory.
-fn add_whole(legs: &mut Vec<Leg>, index: usize, ask: Ask) -> Result<(), ReplayFault> {
+/// Adds a call that runs to its end. `index` is its index. `Err`: no memory.
+pub fn add_whole(legs: &mut Vec<Leg>, index: usize, ask: Ask) -> Result<(), ReplayFault> {
     granted(legs.push(Leg::Begin(ask)))?;
     granted(legs.push(Leg::RunAll(index, STEPS)))
 }
 
 /// Draws a schedule. Two to five calls on a table of up to 40 entries take steps in random order, and then run to their ends. If
 /// `refuses`, a request for memory may be refused in one of four random steps. `Err`: no memory.
-pub(crate) fn draw_legs(
-    alloc: Global,
-    script: &Script,
-    refuses: bool,
-) -> Result<Vec<Leg>, ReplayFault> {
+fn draw_legs(alloc: Global, script: &Script, refuses: bool) -> Result<Vec<Leg>, ReplayFault> {
     let mut legs = Vec::new(alloc);
     let filled = script.draw(41) as usize;
     for index in 0..filled {
@@ -164,68 +160,6 @@ fn draw_steps(
         granted(legs.push(Leg::Step(index, refusals)))?;
     }
     Ok(())
-}
-
-/// Two calls that interrupt each other, after an insert for each of these hashes. The class of such an insert is its index. The first call
-/// takes up to `steps.0` steps, and then the second up to `steps.1`. After that the calls run to their ends, each in turn until it is
-/// blocked or ends. The calls then have the rest of `most` steps to end.
-#[derive(Clone, Copy)]
-pub struct Cut<'c> {
-    pub hashes: &'c [u64],
-    pub asks: (Ask, Ask),
-    pub steps: (u64, u64),
-    pub most: u64,
-}
-
-impl Cut<'_> {
-    /// Returns the legs of the calls. `Err`: no memory.
-    pub(crate) fn legs(&self, alloc: Global) -> Result<Vec<Leg>, ReplayFault> {
-        let mut legs = Vec::new(alloc);
-        for (index, hash) in self.hashes.iter().enumerate() {
-            add_whole(&mut legs, index, Ask::Insert(index as u64, *hash))?;
-        }
-        let (first, (one, other)) = (self.hashes.len(), self.steps);
-        let rest = self.most.saturating_sub(one).saturating_sub(other);
-        let last = [
-            Leg::Begin(self.asks.0),
-            Leg::Begin(self.asks.1),
-            Leg::Run(first, one),
-            Leg::Run(first.saturating_add(1), other),
-            Leg::RunAll(first, rest),
-        ];
-        granted(legs.extend_from_slice(&last))?;
-        Ok(legs)
-    }
-}
-
-/// Returns the legs of these events, by calls of these classes. `Err`: no memory.
-fn event_legs(
-    alloc: Global,
-    events: &[Option<Event>],
-    classes: &[(u64, u64)],
-) -> Result<Vec<Leg>, ReplayFault> {
-    let mut legs = Vec::new(alloc);
-    for event in events {
-        let leg = match event {
-            Some(event) => Leg::Event(*event, class_of(*event, classes)),
-            None => Leg::Buckets,
-        };
-        granted(legs.push(leg))?;
-    }
-    Ok(legs)
-}
-
-/// Returns the class that is given to the call of this event. If none is, returns the number of the value of an insert, or 0.
-fn class_of(event: Event, classes: &[(u64, u64)]) -> u64 {
-    for (call, class) in classes {
-        if *call == event.call() {
-            return *class;
-        }
-    }
-    match event {
-        Event::Insert { value, .. } => value,
-        _ => 0,
-    }
 }
 
 /// Follows an event. If its call has begun and isn't on the table, only the machine takes the event. If the call can't take it there, the
@@ -272,50 +206,20 @@ fn hear_event(
     }
 }
 
-/// What a replay runs. The table starts without a generation.
-#[derive(Clone, Copy)]
-pub enum Course<'c> {
-    /// A schedule that is drawn from the seed: see `draw_legs`.
-    Drawn {
-        refuses: bool,
-    },
-    /// Two calls that interrupt each other.
-    Cut(Cut<'c>),
-    /// These events in order. At a `None` the numbers of buckets are compared. `classes` names calls by their numbers, and gives each the
-    /// class of its value, or of what it looks for. If it doesn't name an insert, the number of the value is its class; if it doesn't name
-    /// a look-up, the class is 0.
-    Events {
-        events: &'c [Option<Event>],
-        classes: &'c [(u64, u64)],
-    },
-}
-
-/// Runs a course on a table and on the machine. The first generations of both have `first` buckets. Closures answer in this manner, and
-/// random numbers come from the seed. `Err`: the first fault.
-pub fn run_course(
-    alloc: Global,
-    first: u64,
-    manner: Manner,
-    seed: u64,
-    course: Course<'_>,
-) -> Result<(), ReplayFault>
+/// Runs these legs on a table and on the machine, both without a generation at first. The first generations of both have `first` buckets.
+/// Closures answer by the script. `Err`: the first fault.
+pub fn run_legs(alloc: Global, first: u64, script: &Script, legs: &[Leg]) -> Result<(), ReplayFault>
     requires { IsFirstCapacity first }
 {
-    let script = Script::new(manner, seed);
-    let legs = match course {
-        Course::Drawn { refuses } => draw_legs(alloc, &script, refuses)?,
-        Course::Cut(cut) => cut.legs(alloc)?,
-        Course::Events { events, classes } => event_legs(alloc, events, classes)?,
-    };
     let mut legs = Legs {
         current: Leg::Run(0, 0),
-        after: legs.as_slice(),
+        after: legs,
     };
-    run_schedule(alloc, first, any_request(), &script, &mut legs)
+    run_schedule(alloc, first, any_request(), script, &mut legs)
 }
 
 /// Returns the capacity of the first generation in schedules and interleavings that are drawn.
-pub(crate) fn drawn_capacity() -> u64
+pub fn drawn_capacity() -> u64
     ensures { IsFirstCapacity result }
 {
     16
@@ -329,9 +233,9 @@ pub fn run_seed(alloc: Global, seed: u64) -> Result<(), ReplayFault> {
     } else {
         Manner::Careless
     };
-    let refuses = seed % 4 >= 2;
-    let course = Course::Drawn { refuses };
-    run_course(alloc, drawn_capacity(), manner, seed, course)
+    let script = Script::new(manner, seed);
+    let legs = draw_legs(alloc, &script, seed % 4 >= 2)?;
+    run_legs(alloc, drawn_capacity(), &script, legs.as_slice())
 }
 
 /// Runs `seeds` seeds from `first_seed` on by `run`. Returns the first seed that has a fault, with that fault.

@@ -1,51 +1,107 @@
-//! Whole inserts and look-ups on a running table, with other whole calls inside their closures.
+//! Whole inserts and look-ups on a running table: of one thread, with other whole calls inside their closures, or of two threads.
 //!
-//! A trace notes in order what happens. It is then repeated step by step on another table and on the machine. Each closure must be called
-//! with the same entry at the same step, and each call must have the same reply.
+//! The calls of a plan are first rehearsed by stepped calls beside the machine. They are then repeated by whole calls on another table. There
+//! each closure must be called with the same entry at the same stop, each call must have the same reply, and the table must show the same at each stop at which one thread runs, and at the end.
 ghost use Rattle.table_terms.specs.Capacities.{IsFirstCapacity};
 
-pub mod interleaved;
-mod interleaving;
-pub mod meeting;
-pub mod trace;
-mod whole;
+mod player;
+mod rehearsal;
+mod stops;
 
-use crate::fault::{ReplayFault, granted};
+use crate::fault::ReplayFault;
 use crate::item::Said;
 pub use crate::replay::Refusals;
 use crate::replay::{Ground, any_request, new_table};
 use crate::running::run_schedule;
-use crate::schedules::Ask;
+use crate::schedules::{Ask, drawn_capacity};
 use crate::script::{Manner, Script};
-use crate::whole_calls::trace::{Milestone, Retrace};
-use crate::whole_calls::whole::run_plan;
+use crate::whole_calls::player::play;
+use crate::whole_calls::rehearsal::Rehearsal;
 use std::alloc::Global;
+use std::mem::swap;
 use std::sync::Wait;
-use testkit::refusing::{Refusing, Rule};
+use std::thread::Threads;
+use testkit::refusing::Refusing;
+
+/// The number of calls of each thread in an interleaving that is drawn.
+const CALLS: u64 = 20;
+
+/// The number of times that a thread checks whether its turn has begun. It sleeps between two checks, so that it waits some twenty seconds
+/// for a turn that doesn't begin.
+const LOOKS: u64 = 4000;
 
 /// A whole call that doesn't run inside another one (a top call), and its refusals.
 pub type Top = (Ask, Refusals);
 
-/// Whole calls, one after the other.
+/// The moment in a call at which other calls begin, the first of its kind.
+#[derive(Clone, Copy, PartialEq)]
+pub enum Moment {
+    /// When a closure is called. The other calls run inside it.
+    InClosure,
+    /// When it has read an empty bucket, and requests the block of its value. The other calls run on another thread.
+    AtBucket,
+    /// When its growth asks for a hash. The other calls run on another thread.
+    InGrowth,
+}
+
+/// Top calls, one after the other, and the other calls that begin in the last of them.
 #[derive(Clone, Copy)]
-pub struct Tops<'c> {
+pub struct Worked<'c> {
     /// The number of inserts that come first. The class and the hash of each are the number of its call. None of their requests is refused.
     pub filled: u64,
     pub then: &'c [Top],
+    pub moment: Moment,
+    pub others: &'c [Ask],
+}
+
+impl Worked<'_> {
+    /// Returns the call with this number and its refusals, if there is one.
+    pub(crate) fn at(self, number: u64) -> Option<Top> {
+        if number < self.filled {
+            return Some((Ask::Insert(number, number), (0, 0)));
+        }
+        let index = number.saturating_sub(self.filled) as usize;
+        match self.then.get(index) {
+            Some(top) => Some(*top),
+            None => {
+                let other = self.others.get(index.saturating_sub(self.then.len()))?;
+                Some((*other, (0, 0)))
+            }
+        }
+    }
 }
 
 /// The calls that run on a table. It starts without a generation.
 #[derive(Clone, Copy)]
 pub enum Plan<'c> {
-    /// `tops` random calls, with random calls inside their closures. If `refuses`, some requests for memory are refused.
-    Drawn { tops: u64, refuses: bool },
-    /// These calls. The calls of `inside` run inside the first closure that the last of them calls.
-    Worked { tops: Tops<'c>, inside: &'c [Ask] },
+    /// So many random calls of each of two threads, which take random turns.
+    Turns(u64),
+    /// `tops` random calls of one thread, with random calls inside their closures. If `refuses`, some requests for memory are refused.
+    Nested { tops: u64, refuses: bool },
+    /// These calls.
+    Worked(Worked<'c>),
 }
 
-/// Runs the whole calls of a plan, and repeats them on the machine. Returns the number and the reply of each call, in the order in which
-/// the calls end. `Err`: the first fault.
-pub fn run_whole<R: Wait>(
+impl Plan<'_> {
+    /// Returns how many top calls each of the two threads makes.
+    pub(crate) fn tops(self) -> (u64, u64) {
+        match self {
+            Plan::Turns(calls) => (calls, calls),
+            Plan::Nested { tops, .. } => (tops, 0),
+            Plan::Worked(worked) => {
+                let tops = worked.filled.saturating_add(worked.then.len() as u64);
+                match worked.moment {
+                    Moment::InClosure => (tops, 0),
+                    _ => (tops, worked.others.len() as u64),
+                }
+            }
+        }
+    }
+}
+
+/// Rehearses the calls of a plan beside the machine, and repeats them by whole calls. Returns the number and the reply of each call, in the
+/// order in which the calls end. `Err`: the first fault.
+pub fn run_whole<R: Threads + Wait + Sync>(
     rt: &R,
     alloc: Global,
     first: u64,
@@ -55,30 +111,24 @@ pub fn run_whole<R: Wait>(
 ) -> Result<Vec<(u64, Said)>, ReplayFault>
     requires { IsFirstCapacity first }
 {
-    let memory = Refusing::new(alloc, any_request());
+    let script = Script::new(manner, seed);
+    let mut rehearsal = Rehearsal::new(alloc, &script, plan);
+    run_schedule(alloc, first, any_request(), &script, &mut rehearsal)?;
+    let memory = Refusing::new(alloc, any_request().in_turns(LOOKS));
     let table = new_table(&memory, first);
-    let ground = Ground::new(alloc, first, &memory, &table);
-    let milestones = run_plan(rt, ground, &Script::new(manner, seed), plan)?;
-    repeat(alloc, first, any_request(), milestones.as_slice())
+    play(rt, Ground::new(alloc, first, &memory, &table), &rehearsal)?;
+    let mut ended = Vec::new(alloc);
+    swap(&mut ended, &mut rehearsal.ended);
+    Ok(ended)
 }
 
-/// Repeats a trace on a table whose memory has this rule, and on the machine. Returns the number and the reply of each call, in the order
-/// in which the calls ended. `Err`: the first fault.
-fn repeat(
+/// Runs the interleaving of a seed, of whole calls of two threads. `Err`: the first fault.
+pub fn run_interleaved<R: Threads + Wait + Sync>(
+    rt: &R,
     alloc: Global,
-    first: u64,
-    rule: Rule,
-    milestones: &[Milestone],
-) -> Result<Vec<(u64, Said)>, ReplayFault>
-    requires { IsFirstCapacity first }
-{
-    let script = Script::new(Manner::Given, 0);
-    run_schedule(alloc, first, rule, &script, &mut Retrace::new(milestones))?;
-    let mut replies = Vec::new(alloc);
-    for milestone in milestones {
-        if let Milestone::Ended(call, said) = milestone {
-            granted(replies.push((*call, *said)))?;
-        }
-    }
-    Ok(replies)
+    seed: u64,
+) -> Result<(), ReplayFault> {
+    let plan = Plan::Turns(CALLS);
+    let _ended = run_whole(rt, alloc, drawn_capacity(), Manner::Lawful, seed, plan)?;
+    Ok(())
 }

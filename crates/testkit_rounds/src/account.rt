@@ -6,7 +6,7 @@ use crate::{Round, RoundFault};
 use std::alloc::Global;
 
 /// How many values of a round without a fault had which fate. Each value that a thread inserted has one fate.
-#[derive(Clone, Copy, Debug, PartialEq, Eq)]
+#[derive(Clone, Copy, Debug)]
 pub struct Account {
     /// Values that are entries at the end.
     pub placed: u64,

@@ -16,7 +16,7 @@ use account::account_for;
 use closures::Whims;
 pub use fault::RoundFault;
 use lock_free_hashtable::raw::{LockFreeRawTable, is_first_capacity};
-pub use round::{FIRST_CAPACITIES, KINDS, Kind, Round, THREADS};
+pub use round::{Kind, Round};
 use start::Start;
 use std::alloc::Global;
 use std::sync::Wait;

@@ -2,8 +2,6 @@
 use crate::value::Given;
 use rand_core::{Rng, SeedableRng};
 use rand_xoshiro::SplitMix64;
-use std::fmt;
-use std::fmt::{Display, Formatter};
 use table_terms::law::hash_number;
 use testkit::refusing::Rule;
 
@@ -11,7 +9,7 @@ use testkit::refusing::Rule;
 const REFUSED_ONE_IN: u64 = 6;
 
 /// The kinds of drawn rounds.
-pub const KINDS: [Kind; 5] = [
+const KINDS: [Kind; 5] = [
     Kind::Overlapping,
     Kind::Equal,
     Kind::Beside,
@@ -20,16 +18,16 @@ pub const KINDS: [Kind; 5] = [
 ];
 
 /// The numbers of threads of drawn rounds.
-pub const THREADS: [u64; 3] = [2, 4, 8];
+const THREADS: [u64; 3] = [2, 4, 8];
 
 /// The first capacities of the tables of drawn rounds.
-pub const FIRST_CAPACITIES: [usize; 4] = [16, 32, 256, 4096];
+const FIRST_CAPACITIES: [usize; 4] = [16, 32, 256, 4096];
 
 /// A drawn round draws one of these bounds, and then its number of values up to that bound.
 const SIZES: [u64; 7] = [1, 10, 100, 1000, 10_000, 100_000, 1_000_000];
 
 /// Which values the threads of a round insert, and how.
-#[derive(Clone, Copy, Debug, PartialEq, Eq)]
+#[derive(Clone, Copy, Debug, PartialEq)]
 pub enum Kind {
     /// Each thread shares half of its classes with the next one.
     Overlapping,
@@ -43,20 +41,8 @@ pub enum Kind {
     Refused,
 }
 
-impl Display for Kind {
-    fn fmt<W: fmt::Write>(&self, f: &mut Formatter<W>) -> fmt::Result {
-        match *self {
-            Kind::Overlapping => write!(f, "overlapping values"),
-            Kind::Equal => write!(f, "equal values"),
-            Kind::Beside => write!(f, "look-ups beside"),
-            Kind::Careless => write!(f, "careless closures"),
-            Kind::Refused => write!(f, "refused memory"),
-        }
-    }
-}
-
 /// A round of threads that insert values into one table.
-#[derive(Clone, Copy, Debug, PartialEq, Eq)]
+#[derive(Clone, Copy, Debug)]
 pub struct Round {
     pub kind: Kind,
     pub threads: u64,
@@ -91,6 +77,14 @@ impl Round {
         self.threads.saturating_mul(self.each)
     }
 
+    /// Returns the class of a thread's first value. Each thread shares half of its classes with the next one, or all have the same.
+    pub fn first_of(&self, thread: u64) -> u64 {
+        match self.kind {
+            Kind::Equal => 0,
+            _ => thread.wrapping_mul(self.each / 2),
+        }
+    }
+
     /// Returns whether the closures keep a law.
     pub(crate) fn is_lawful(&self) -> bool {
         self.kind != Kind::Careless
@@ -100,12 +94,8 @@ impl Round {
     pub(crate) fn given(&self, id: u64) -> Given {
         let thread = id.checked_div(self.each).unwrap_or(0);
         let place = id.checked_rem(self.each).unwrap_or(0);
-        let first = match self.kind {
-            Kind::Equal => 0,
-            _ => thread.wrapping_mul(self.each / 2),
-        };
         Given {
-            class: first.wrapping_add(place),
+            class: self.first_of(thread).wrapping_add(place),
             id,
         }
     }
@@ -141,8 +131,8 @@ impl Round {
         }
     }
 
-    /// Returns the rule by which requests for the table's memory are refused.
-    pub(crate) fn rule(&self) -> Rule {
+    /// Returns the rule by which requests for memory are refused.
+    pub fn rule(&self) -> Rule {
         Rule::new(0, usize::MAX, 0, self.refusals()).drawn(self.seed, REFUSED_ONE_IN)
     }
 }

@@ -3,7 +3,7 @@ use std::alloc::{AllocError, Global};
 use std::sync::atomic::{AtomicU64, Ordering};
 
 /// What identifies a value. It is equal to the values of its class, and has its own id.
-#[derive(Clone, Copy, Debug, PartialEq, Eq)]
+#[derive(Clone, Copy, PartialEq)]
 pub(crate) struct Given {
     pub class: u64,
     pub id: u64,

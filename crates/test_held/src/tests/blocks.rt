@@ -5,7 +5,7 @@ use std::alloc::{AllocError, Global};
 use std::process::Abort;
 use std::test::Fail;
 use table_held::raw::IntoIter;
-use testkit::refusing::{Refusing, Rule};
+use testkit::refusing::{Heap, Refusing, Rule, counted};
 
 /// The number of entries of a table, and how many blocks it holds at least: one for each entry, and two for each generation.
 const TABLES: [(u64, u64); 6] = [(0, 0), (1, 3), (7, 9), (8, 12), (20, 26), (40, 48)];
@@ -28,18 +28,18 @@ const REFUSED: [(usize, usize, u64); 9] = [
 ];
 
 /// A table of pairs over an allocator that counts blocks.
-type Counted<'a> = Pairs<&'a Refusing<Global>>;
+type HeapPairs<'a> = Pairs<&'a Heap>;
 
 /// The owning iterator of such a table.
-type Values<'a> = IntoIter<Box<Pair>, &'a Refusing<Global>>;
+type Values<'a> = IntoIter<Box<Pair>, &'a Heap>;
 
 /// Makes a table with the pairs `(number, number)` of the numbers below `entries`. `Err`: no memory for a pair.
 fn table_of<'a>(
     rt: &impl Abort,
-    heap: &'a Refusing<Global>,
+    heap: &'a Heap,
     alloc: Global,
     entries: u64,
-) -> Result<Counted<'a>, AllocError> {
+) -> Result<HeapPairs<'a>, AllocError> {
     let mut pairs = Pairs::of(heap, alloc);
     for number in 0..entries {
         pairs.assert_end(rt, number, End::Placed)?;
@@ -47,13 +47,8 @@ fn table_of<'a>(
     Ok(pairs)
 }
 
-/// Makes a heap that refuses nothing.
-fn ample(alloc: Global) -> Refusing<Global> {
-    Refusing::new(alloc, Rule::new(0, 0, 0, 0))
-}
-
 /// Asserts how many blocks the heap has granted, and how many of them were freed.
-fn assert_blocks(rt: &impl Abort, heap: &Refusing<Global>, granted: u64, given_back: u64) {
+fn assert_blocks(rt: &impl Abort, heap: &Heap, granted: u64, given_back: u64) {
     assert_same(
         rt,
         (heap.granted(), heap.given_back()),
@@ -62,14 +57,14 @@ fn assert_blocks(rt: &impl Abort, heap: &Refusing<Global>, granted: u64, given_b
 }
 
 /// Drops the owner, and asserts that the heap had at least `least` blocks in use before and has none after.
-fn assert_gives_back<T: Drop>(rt: &impl Abort, heap: &Refusing<Global>, owner: T, least: u64) {
+fn assert_gives_back<T: Drop>(rt: &impl Abort, heap: &Heap, owner: T, least: u64) {
     assert!(rt; heap.granted().saturating_sub(heap.given_back()) >= least);
     drop(owner);
     assert_same(rt, heap.given_back(), heap.granted());
 }
 
 /// Takes `taken` values out, and asserts that at least one block is freed for each.
-fn take(rt: &impl Abort, heap: &Refusing<Global>, values: &mut Values<'_>, taken: u64) {
+fn take(rt: &impl Abort, heap: &Heap, values: &mut Values<'_>, taken: u64) {
     let before = heap.given_back();
     for _value in 0..taken {
         assert!(rt; values.next().is_some());
@@ -79,7 +74,7 @@ fn take(rt: &impl Abort, heap: &Refusing<Global>, values: &mut Values<'_>, taken
 
 /// Takes `taken` of the `entries` values out, drops the rest, and asserts that each block is freed. `Err`: no memory for a pair.
 fn assert_taken(rt: &impl Abort, alloc: Global, entries: u64, taken: u64) -> Result<(), Fail> {
-    let heap = ample(alloc);
+    let heap = counted(alloc);
     let mut values = table_of(rt, &heap, alloc, entries)?.table.into_iter();
     assert!(rt; heap.granted().saturating_sub(heap.given_back()) >= entries);
     take(rt, &heap, &mut values, taken);
@@ -101,7 +96,7 @@ fn assert_refused_once(rt: &impl Abort, alloc: Global, rule: Rule) -> Result<(),
 
 /// Asserts that a table of `entries` entries holds at least `blocks` blocks, and that its end frees all. `Err`: no memory for a pair.
 fn assert_end_of(rt: &impl Abort, alloc: Global, entries: u64, blocks: u64) -> Result<(), Fail> {
-    let heap = ample(alloc);
+    let heap = counted(alloc);
     let table = table_of(rt, &heap, alloc, entries)?;
     assert_gives_back(rt, &heap, table, blocks);
     Ok(())

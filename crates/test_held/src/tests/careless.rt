@@ -5,6 +5,7 @@ use std::alloc::{AllocError, Global};
 use std::ops::Range;
 use std::process::Abort;
 use std::test::Fail;
+use testkit::counting::numbers::count_first;
 
 /// Pairs that are inserted in this order, the answer to each insert, and how often it calls `eq`.
 const INSERT_ASKS: [(Pair, PairAnswer, u64); 3] = [
@@ -47,29 +48,26 @@ fn filled(
     Ok(pairs)
 }
 
-/// Returns the word in which the bit of this number is set, or 0 if the number is above 63.
-fn bit_of(number: u64) -> u64 {
-    match u32::try_from(number) {
-        Ok(place) => 1u64.checked_shl(place).unwrap_or(0),
-        Err(_) => 0,
-    }
-}
-
-/// Asserts that the second parts of the entries are the numbers whose bits are set in `expected`, each once.
-fn assert_numbers(rt: &impl Abort, pairs: Pairs, expected: u64) {
-    let (mut count, mut bits) = (0u32, 0u64);
+/// Asserts that the second parts of the entries are the numbers below `count`, each once. `Err`: no memory.
+fn assert_numbers(
+    rt: &impl Abort,
+    pairs: Pairs,
+    alloc: Global,
+    count: u64,
+) -> Result<(), AllocError> {
+    let mut numbers = Vec::new(alloc);
     for pair in pairs.table {
-        count = count.wrapping_add(1);
-        bits |= bit_of(pair.1);
+        numbers.push(pair.1)?;
     }
-    assert_same(rt, (count, bits), (expected.count_ones(), expected));
+    assert_same(rt, count_first(numbers), (count, count));
+    Ok(())
 }
 
 #[test]
 fn one_place_for_all_in_growth(rt: HostRuntime) -> Result<(), Fail> {
-    let pairs = filled(&rt, &hashing(Hashing::Fixed(0)), rt.alloc(), 1..9)?;
+    let pairs = filled(&rt, &hashing(Hashing::Fixed(0)), rt.alloc(), 0..8)?;
     pairs.assert_size(&rt, 8, 32);
-    assert_numbers(&rt, pairs, 0b1_1111_1110);
+    assert_numbers(&rt, pairs, rt.alloc(), 8)?;
     Ok(())
 }
 
@@ -78,7 +76,7 @@ fn another_place_at_each_call(rt: HostRuntime) -> Result<(), Fail> {
     let closures = hashing(Hashing::Anew);
     let pairs = filled(&rt, &closures, rt.alloc(), 0..40)?;
     assert!(rt; closures.hash_asks() > 0);
-    assert_numbers(&rt, pairs, (1 << 40) - 1);
+    assert_numbers(&rt, pairs, rt.alloc(), 40)?;
     Ok(())
 }
 

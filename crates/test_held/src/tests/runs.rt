@@ -6,14 +6,10 @@ use rand_xoshiro::SplitMix64;
 use std::alloc::{AllocError, Allocator, Global};
 use std::process::Abort;
 use std::test::Fail;
+use table_held::AtomicValue;
 use table_held::runs::AloneTable;
-use table_held::{AtomicValue, InPlace};
 use table_terms::law::PairLaw;
-use testkit::plain_list::PlainList;
-use testkit::refusing::{Refusing, Rule};
-
-/// A plain list of pairs.
-type PairList = PlainList<InPlace<Pair>>;
+use testkit::refusing::{Heap, Refusing, Rule, counted};
 
 /// Hashes. Some have the same first bucket, and some have the same bits 32 to 39, which an entry keeps.
 const HASHES: [u64; 7] = [0, 1, 15, 16, 1 << 32, 1 << 40, u64::MAX];
@@ -59,21 +55,26 @@ fn place<T: AtomicValue<Target = Pair>, B: AloneTable<T, PairLaw>>(
     }
 }
 
-/// Returns the pair that a look-up in the list finds.
-fn listed(list: &PairList, pair: Pair) -> Option<Pair> {
-    AloneTable::<InPlace<Pair>, PairLaw>::lookup_alone(
-        list,
-        pair.0,
-        |entry: &Pair| *entry == pair,
-    ).copied()
+/// Appends the pair to the list unless the list has it, and returns the answer. `Err`: no memory.
+fn list_answer(list: &mut Vec<Pair>, pair: Pair) -> Result<PairAnswer, AllocError> {
+    if list.contains(&pair) {
+        return Ok(PairAnswer::Found(pair, pair));
+    }
+    list.push(pair)?;
+    Ok(PairAnswer::Placed(pair))
 }
 
 /// Inserts the pair into the list too, unless the table refused it, and returns whether the table's answer is right. The table may
-/// refuse the pair if a request was refused and the list has no equal pair.
-fn agrees(list: &mut PairList, pair: Pair, answer: PairAnswer, refused: bool) -> bool {
+/// refuse the pair if a request was refused and the list doesn't have it. `Err`: no memory.
+fn agrees(
+    list: &mut Vec<Pair>,
+    pair: Pair,
+    answer: PairAnswer,
+    refused: bool,
+) -> Result<bool, AllocError> {
     match answer {
-        PairAnswer::Refused(back) => refused && back == pair && listed(list, pair).is_none(),
-        _ => answer == place(list, InPlace(pair)),
+        PairAnswer::Refused(back) => Ok(refused && back == pair && !list.contains(&pair)),
+        _ => Ok(answer == list_answer(list, pair)?),
     }
 }
 
@@ -86,7 +87,7 @@ fn assert_same_pairs(rt: &impl Abort, one: &[Pair], other: &[Pair]) {
 #[derive(Drop)]
 struct Both<A: Allocator + Copy> {
     pairs: Pairs<A>,
-    list: PairList,
+    list: Vec<Pair>,
     alloc: Global,
 }
 
@@ -94,36 +95,30 @@ impl<A: Allocator + Copy> Both<A> {
     fn new(table_alloc: A, alloc: Global) -> Self {
         Both {
             pairs: Pairs::of(table_alloc, alloc),
-            list: PairList::new(alloc),
+            list: Vec::new(alloc),
             alloc,
         }
     }
 
     /// Inserts the pair into both, and asserts that the answers agree and the table has grown if it must. `Err`: no memory.
-    fn insert(&mut self, rt: &impl Abort, heap: &Refusing<Global>, pair: Pair) -> Result<(), Fail> {
+    fn insert(&mut self, rt: &impl Abort, heap: &Heap, pair: Pair) -> Result<(), Fail> {
         let before = heap.refusals_left();
         let capacity = self.pairs.table.capacity_alone();
         let answer = self.pairs.insert(pair)?;
         let refused = heap.refusals_left() < before;
-        assert!(rt; agrees(&mut self.list, pair, answer, refused));
+        assert!(rt; agrees(&mut self.list, pair, answer, refused)?);
         self.assert_grown(rt, capacity, refused);
         Ok(())
     }
 
     /// Asserts that the table has grown beyond `capacity` if at least half of that many buckets are set and no request was refused.
     fn assert_grown(&self, rt: &impl Abort, capacity: usize, refused: bool) {
-        let wanted = 2 * (self.length() as u128) >= capacity as u128;
+        let wanted = 2 * (self.list.len() as u128) >= capacity as u128;
         assert!(rt; refused || !wanted || self.pairs.table.capacity_alone() > capacity);
     }
 
     fn lookup(&self, rt: &impl Abort, pair: Pair) {
-        self.pairs
-            .assert_shown_at(rt, pair.0, pair, listed(&self.list, pair));
-    }
-
-    /// Returns how many entries the list has.
-    fn length(&self) -> usize {
-        self.list.values().len()
+        self.pairs.assert_shown(rt, pair, self.list.contains(&pair));
     }
 
     fn count(&self, rt: &impl Abort) {
@@ -131,16 +126,14 @@ impl<A: Allocator + Copy> Both<A> {
             self.pairs.table.len_alone(),
             self.pairs.table.is_empty_alone(),
         );
-        assert_same(rt, counted, (self.length(), self.length() == 0));
+        assert_same(rt, counted, (self.list.len(), self.list.is_empty()));
     }
 
     fn walk(&self, rt: &impl Abort) -> Result<(), Fail> {
         let mut walked = walk(&self.pairs, self.alloc)?;
         walked.sort_unstable();
         let mut expected = Vec::new(self.alloc);
-        for value in self.list.values() {
-            expected.push(value.0)?;
-        }
+        expected.extend_from_slice(&self.list)?;
         expected.sort_unstable();
         assert_same_pairs(rt, walked.as_slice(), expected.as_slice());
         Ok(())
@@ -150,12 +143,12 @@ impl<A: Allocator + Copy> Both<A> {
     fn insert_at_last(
         &mut self,
         rt: &impl Abort,
-        heap: &Refusing<Global>,
+        heap: &Heap,
         pair: Pair,
         tries: u64,
     ) -> Result<(), Fail> {
         for _tried in 0..tries {
-            if listed(&self.list, pair).is_none() {
+            if !self.list.contains(&pair) {
                 self.insert(rt, heap, pair)?;
             }
         }
@@ -176,7 +169,7 @@ fn walk<A: Allocator + Copy>(pairs: &Pairs<A>, alloc: Global) -> Result<Vec<Pair
 
 /// Makes `calls` calls that the seed draws, and asserts that the table and the list agree. `Err`: no memory.
 fn run_drawn(rt: &impl Abort, alloc: Global, seed: u64, calls: u64) -> Result<(), Fail> {
-    let heap = Refusing::new(alloc, Rule::new(0, 0, 0, 0));
+    let heap = counted(alloc);
     let mut numbers = SplitMix64::seed_from_u64(seed);
     let mut both = Both::new(&heap, alloc);
     for _call in 0..calls {

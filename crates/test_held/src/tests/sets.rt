@@ -8,8 +8,8 @@ mod steps;
 
 ghost use Rattle.std.specs.Iterator.{IsFinite};
 
+use super::assert_same;
 use std::alloc::{AllocError, Allocator, Global};
-use std::fmt::Debug;
 use std::process::Abort;
 use table_sets::{AtomicValue, HeldSet, Inserted, NumberLaw, SetLaw, Shown, TextLaw};
 use testkit::counting::numbers::InsertEnd;
@@ -71,11 +71,6 @@ fn shown_end<T: AtomicValue<Target = u64>>(shown: Shown<&u64, T>, number: u64) -
         Shown::Refused(back) if *back.deref() == number => InsertEnd::Refused,
         _ => InsertEnd::Wrong,
     }
-}
-
-/// Asserts that `got` equals `expected`.
-fn assert_same<X: PartialEq + Debug + Drop>(rt: &impl Abort, got: X, expected: X) {
-    assert_eq!(rt; got, expected);
 }
 
 /// Returns the sum of the numbers that an iterator by reference yields.

@@ -21,7 +21,7 @@ impl Drop for Counting {
 }
 
 /// What a bucket shows: that it is vacant, owns its block or names it, and with the block its hash bits and value.
-#[derive(PartialEq, Eq, Debug, Clone, Copy, Drop)]
+#[derive(PartialEq, Debug, Clone, Copy)]
 enum Seen {
     Vacant,
     Own(u8, u64),

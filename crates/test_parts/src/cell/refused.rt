@@ -9,7 +9,7 @@ use table_cell::{Bucket, Home, Low, Missed, Refusal};
 use testkit::refusing::{Refusing, Rule};
 
 /// What became of a value: it was placed, or it was returned.
-#[derive(PartialEq, Eq, Debug, Clone, Copy, Drop)]
+#[derive(PartialEq, Debug, Clone, Copy)]
 enum Fared {
     Placed,
     Taken(u64),

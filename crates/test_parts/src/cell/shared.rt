@@ -10,19 +10,7 @@ use std::test::Fail;
 use std::thread;
 use std::thread::Threads;
 use table_cell::{Bucket, Home, Missed};
-
-/// A number that counts its drops.
-struct Counting {
-    number: u64,
-    drops: Arc<AtomicU64>,
-}
-
-impl Drop for Counting {
-    fn drop(self) {
-        let Counting { number: _, drops } = self;
-        drops.fetch_add(1, SeqCst);
-    }
-}
+use testkit::counting::Counting;
 
 /// One bucket with its home.
 struct One {
@@ -33,7 +21,7 @@ struct One {
 }
 
 /// What became of a thread's value, and the number that the bucket then shows.
-#[derive(PartialEq, Eq, Debug, Clone, Copy, Drop)]
+#[derive(Clone, Copy)]
 enum Fared {
     Placed(u64),
     Taken(u64),
@@ -56,7 +44,7 @@ impl One {
         match self.bucket.as_ref().place(
             &self.home,
             self.alloc,
-            Counting { number, drops },
+            Counting::new(number, drops),
             3,
             &mut note,
         ) {

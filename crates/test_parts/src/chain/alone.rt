@@ -1,7 +1,8 @@
 //! One thread appends values to a chain: until it is full, while memory is refused, and to its end.
 ghost use Rattle.test_parts.specs.Known.{Knows};
 
-use super::counting::{Fared, Numbers, Seen, assert_same, made, push};
+use super::counting::{Fared, Numbers, Seen, made, push};
+use crate::same::assert_same;
 use std::alloc::Global;
 use std::sync::Arc;
 use std::sync::atomic::AtomicU64;

@@ -3,26 +3,11 @@ ghost use Rattle.std.specs.Prelude.{◌≡◌, ◌<◌, IfSome};
 ghost use Rattle.table_chain.specs.History.{Stands};
 ghost use Rattle.test_parts.specs.Known.{Knows};
 
-use std::fmt::Debug;
-use std::process::Abort;
 use std::sync::Arc;
 use std::sync::atomic::AtomicU64;
-use std::sync::atomic::Ordering::SeqCst;
 use table_cell::Low;
 use table_chain::{Chain, Follows, Showing, Token};
-
-/// A number that counts its drops.
-pub struct Counting {
-    pub number: u64,
-    pub drops: Arc<AtomicU64>,
-}
-
-impl Drop for Counting {
-    fn drop(self) {
-        let Counting { number: _, drops } = self;
-        drops.fetch_add(1, SeqCst);
-    }
-}
+use testkit::counting::Counting;
 
 /// The rule of a chain in which any value may follow any other.
 pub struct Any;
@@ -38,7 +23,7 @@ pub type Numbers<A> = Chain<Counting, Any, A>;
 pub type Seen = Token<Counting, Any>;
 
 /// What became of a value. `Shown` has the number that the slot shows. `Other` has that number, and then the number that was returned.
-#[derive(PartialEq, Eq, Debug, Clone, Copy, Drop)]
+#[derive(PartialEq, Debug, Clone, Copy)]
 pub enum Fared {
     Shown(u64),
     Other(u64, u64),
@@ -57,17 +42,12 @@ impl Fared {
     }
 }
 
-/// Asserts that `got` equals `expected`.
-pub fn assert_same<X: PartialEq + Debug + Drop>(rt: &impl Abort, got: X, expected: X) {
-    assert_eq!(rt; got, expected);
-}
-
 /// Makes a chain of four slots that begins with the number 7. `None` means that memory was refused.
 pub fn made<A: Low + Copy>(alloc: A, drops: Arc<AtomicU64>) -> Option<Numbers<A>>
     ensures slots { IfSome result (λ c. c.slots ≡ 4) }
     ensures first { IfSome result (λ c. (g : _) × Stands c.start 0 g) }
 {
-    Chain::new(alloc, 4, Counting { number: 7, drops }).ok()
+    Chain::new(alloc, 4, Counting::new(7, drops)).ok()
 }
 
 /// Offers the number to the second slot by `show`. Returns what became of it.
@@ -76,7 +56,7 @@ pub fn show<A: Low + Copy>(chain: &Numbers<A>, number: u64, drops: Arc<AtomicU64
     requires first { (g : _) × Stands chain.now.start 0 g }
 {
     let mut seen = chain.start();
-    Fared::of(chain.show(&mut seen, 1, Counting { number, drops }))
+    Fared::of(chain.show(&mut seen, 1, Counting::new(number, drops)))
 }
 
 /// Offers the number to the slot after the newest value. Returns what became of it, or `Full` if there is no such slot.
@@ -92,7 +72,7 @@ pub fn push<A: Low + Copy>(
     let slots = chain.slots();
     let (newest, _value) = chain.newest(seen, 0);
     if newest + 1 < slots {
-        Fared::of(chain.show(seen, newest + 1, Counting { number, drops }))
+        Fared::of(chain.show(seen, newest + 1, Counting::new(number, drops)))
     } else {
         Fared::Full
     }

@@ -4,7 +4,7 @@ ghost use mathlib.Core.List.{IsPrefix};
 ghost use Rattle.table_chain.specs.History.{Stands};
 ghost use Rattle.test_parts.specs.Rising.{Sees};
 
-use super::counting::assert_same;
+use crate::same::assert_same;
 use std::alloc::Global;
 use std::test::Fail;
 use table_chain::{Chain, Follows, Showing, Token};

@@ -1,5 +1,6 @@
 //! Two threads show a value in the same slot.
-use super::counting::{Fared, assert_same, made, show};
+use super::counting::{Fared, made, show};
+use crate::same::assert_same;
 use std::alloc::Global;
 use std::sync::Arc;
 use std::sync::atomic::AtomicU64;

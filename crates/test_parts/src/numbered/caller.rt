@@ -4,15 +4,15 @@ ghost use Rattle.table_slab.specs.Held.{IsRightTo};
 ghost use Rattle.table_numbered.specs.Words.{IsNumber};
 
 use super::laws::Fours;
+use crate::same::assert_same;
 use std::alloc::AllocError;
-use std::fmt::Debug;
 use std::process::Abort;
 use table_cell::Low;
 use table_numbered::{Judged, NumberedGeneration, Placing, SameAs};
 use table_slab::{Right, Run, Slab};
 
 /// The call that a row makes with its number.
-#[derive(Clone, Copy, Drop)]
+#[derive(Clone, Copy)]
 pub(crate) enum By {
     /// Places the number in a slot of its own.
     Put,
@@ -27,7 +27,7 @@ pub(crate) enum By {
 }
 
 /// How a call ended. A number that was placed or found comes with the number of its slot.
-#[derive(PartialEq, Eq, Debug, Clone, Copy, Drop)]
+#[derive(PartialEq, Debug, Clone, Copy)]
 pub(crate) enum CallEnd {
     Placed(u64),
     Found(u64),
@@ -42,11 +42,6 @@ pub(crate) enum CallEnd {
 
 /// A call, its number, and how it should end.
 pub(crate) type Row = (By, u64, CallEnd);
-
-/// Asserts that `got` equals `expected`.
-pub(crate) fn assert_same<X: PartialEq + Debug + Drop>(rt: &impl Abort, got: X, expected: X) {
-    assert_eq!(rt; got, expected);
-}
 
 /// Makes a generation of `buckets` buckets. `Err`: no memory, or `buckets` isn't 1, 2, 4 or 8.
 pub(crate) fn made<A: Low + Copy>(

@@ -1,8 +1,9 @@
 //! Growth: the next generation carries the entries, and the old one is closed.
 ghost use Rattle.std.specs.Prelude.{◌≡◌, IfOk};
 
-use super::caller::{By, CallEnd, Numbers, Row, assert_same, made};
+use super::caller::{By, CallEnd, Numbers, Row, made};
 use super::laws::Fours;
+use crate::same::assert_same;
 use std::alloc::{AllocError, Global};
 use std::process::Abort;
 use std::test::Fail;

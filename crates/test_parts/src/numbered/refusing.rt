@@ -1,6 +1,7 @@
 //! A slab and a generation whose requests for memory are refused.
-use super::caller::{CallEnd, Numbers, assert_same, made};
+use super::caller::{CallEnd, Numbers, made};
 use super::growing::grown;
+use crate::same::assert_same;
 use std::alloc::Global;
 use std::process::Abort;
 use table_slab::Slab;

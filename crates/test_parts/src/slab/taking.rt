@@ -1,27 +1,21 @@
 //! Threads that take numbers of one slab.
 use super::numbers::numbers;
-use std::alloc::Global;
+use std::alloc::{AllocError, Global};
 use std::test::Fail;
 use std::thread::{Threads, join};
 use table_slab::{Run, Slab};
+use testkit::counting::numbers::count_first;
 
 /// How many numbers a thread takes one by one: enough for two threads to meet at the counter.
 const MANY: usize = 20_000;
 
-/// Returns whether these are the numbers from 0 on, each once, in any order.
-fn are_all(taken: [Vec<u64>; 2]) -> bool {
-    let [mut all, others] = taken;
-    if all.extend_from_slice(&others).is_err() || all.sort().is_err() {
-        return false;
-    }
-    let mut next = 0u64;
-    for number in all {
-        if number != next {
-            return false;
-        }
-        next = next.wrapping_add(1);
-    }
-    true
+/// How many numbers two such threads take.
+const ALL: u64 = 40_000;
+
+/// Returns the numbers of both threads. `Err`: no memory.
+fn both(mut one: Vec<u64>, other: Vec<u64>) -> Result<Vec<u64>, AllocError> {
+    one.extend_from_slice(&other)?;
+    Ok(one)
 }
 
 /// Takes a number of each of `count` runs, and gives the rest of each run back to the slab. Returns the numbers.
@@ -40,22 +34,6 @@ fn one_of_each_run(slab: &Slab<u64, Global>, alloc: Global, count: usize) -> Vec
     found
 }
 
-/// Returns whether these numbers are all different.
-fn are_distinct(taken: [Vec<u64>; 2]) -> bool {
-    let [mut all, others] = taken;
-    if all.extend_from_slice(&others).is_err() || all.sort().is_err() {
-        return false;
-    }
-    let mut last = None;
-    for number in all {
-        if last == Some(number) {
-            return false;
-        }
-        last = Some(number);
-    }
-    true
-}
-
 #[test]
 fn two_threads_take_each_number_once(rt: HostRuntime) -> Result<(), Fail> {
     let slab = Slab::new(rt.alloc(), 0)?;
@@ -66,7 +44,7 @@ fn two_threads_take_each_number_once(rt: HostRuntime) -> Result<(), Fail> {
         move || numbers(shared, alloc, MANY),
     );
     assert_eq!(rt; [one.len(), other.len()], [MANY, MANY]);
-    assert!(rt; are_all([one, other]));
+    assert_eq!(rt; count_first(both(one, other)?), (ALL, ALL));
     Ok(())
 }
 
@@ -80,6 +58,9 @@ fn two_threads_return_runs_and_take_each_number_once(rt: HostRuntime) -> Result<
         move || one_of_each_run(shared, alloc, 300),
     );
     assert_eq!(rt; [one.len(), other.len()], [300, 300]);
-    assert!(rt; are_distinct([one, other]));
+    let mut all = both(one, other)?;
+    all.sort_unstable();
+    all.dedup();
+    assert_eq!(rt; all.len(), 600);
     Ok(())
 }

@@ -1,12 +1,12 @@
 //! Two calls that interrupt each other.
 use std::alloc::Global;
 use std::process::Abort;
-use testkit_replay::fault::ReplayFault;
+use testkit_replay::fault::{ReplayFault, granted};
 use testkit_replay::schedules::Ask::{Insert, Lookup};
-use testkit_replay::schedules::{Ask, Course, Cut, run_course};
-use testkit_replay::script::Manner;
+use testkit_replay::schedules::{Ask, Leg, add_whole, drawn_capacity, run_legs};
+use testkit_replay::script::{Manner, Script};
 
-/// The hashes of the entries, and the two calls.
+/// The hashes of the entries, and the two calls. The class of an entry is its index.
 type Start = (&'static [u64], (Ask, Ask));
 
 const STARTS: [Start; 5] = [
@@ -30,15 +30,26 @@ const AHEAD: u64 = 24;
 /// The maximum number of steps of both calls together.
 const MOST: u64 = 400;
 
-/// Runs the calls of a start. First the first call takes `steps.0` steps, and then the second `steps.1`. `Err`: the first fault.
+/// Runs the calls of a start. First the first call takes up to `steps.0` steps, and then the second up to `steps.1`. After that each in turn
+/// runs until it is blocked or ends. `Err`: the first fault.
 fn cut(alloc: Global, start: &Start, steps: (u64, u64)) -> Result<(), ReplayFault> {
-    let cut = Cut {
-        hashes: start.0,
-        asks: start.1,
-        steps,
-        most: MOST,
-    };
-    run_course(alloc, 16, Manner::Lawful, 0, Course::Cut(cut))
+    let (hashes, asks) = *start;
+    let mut legs = Vec::new(alloc);
+    for (index, hash) in hashes.iter().enumerate() {
+        add_whole(&mut legs, index, Insert(index as u64, *hash))?;
+    }
+    let (first, (one, other)) = (hashes.len(), steps);
+    let rest = MOST.saturating_sub(one).saturating_sub(other);
+    let last = [
+        Leg::Begin(asks.0),
+        Leg::Begin(asks.1),
+        Leg::Run(first, one),
+        Leg::Run(first.saturating_add(1), other),
+        Leg::RunAll(first, rest),
+    ];
+    granted(legs.extend_from_slice(&last))?;
+    let script = Script::new(Manner::Lawful, 0);
+    run_legs(alloc, drawn_capacity(), &script, legs.as_slice())
 }
 
 /// Asserts that the calls of a start do what the machine does, however many steps the first takes ahead.

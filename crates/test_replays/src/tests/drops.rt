@@ -12,33 +12,25 @@ use testkit::refusing::{Refusing, Rule};
 
 type Table<'a> = LockFreeRawTable<Box<Counting>, &'a Refusing<Global>>;
 
-/// An insert of a number into a table that has the numbers below `entries`. Each number is its own hash, and the first generation has 16
-/// buckets.
-struct Course {
-    entries: u64,
-    number: u64,
-    /// The number that another insert places once this one has come to an empty bucket, by its third step.
-    meanwhile: Option<u64>,
-    /// How many of its requests for memory are granted before those that are refused.
-    passing: u64,
-    /// How many requests are refused.
-    refused: u64,
-    /// The number of the step that places its value.
-    placed_at: u64,
-    /// The number of its last step.
-    ended_at: u64,
+/// An insert of a number into a table that has other entries. Each number is its own hash, and the first generation has 16 buckets. It is
+/// given by:
+/// - The number of entries. They are the numbers below it.
+/// - The number that is inserted.
+/// - The number that another insert places once this one has come to an empty bucket, by its third step.
+/// - How many of its requests for memory are granted before those that are refused, and how many are refused.
+/// - The numbers of the step that places its value and of its last step.
+type Course = (u64, u64, Option<u64>, (u64, u64), (u64, u64));
+
+/// Returns the number of entries other than the value of this insert. Another value was placed meanwhile if `joined`.
+fn entries_with(course: &Course, joined: bool) -> u64 {
+    let (entries, ..) = *course;
+    entries.wrapping_add(u64::from(joined))
 }
 
-impl Course {
-    /// Returns the number of other entries. Another value was placed meanwhile if `joined`.
-    fn entries_with(&self, joined: bool) -> u64 {
-        self.entries.wrapping_add(u64::from(joined))
-    }
-
-    /// Returns whether another entry is equal to its value.
-    fn knows(&self, joined: bool) -> bool {
-        self.number < self.entries || (joined && self.meanwhile == Some(self.number))
-    }
+/// Returns whether another entry is equal to the value of this insert.
+fn knows(course: &Course, joined: bool) -> bool {
+    let (entries, number, meanwhile, ..) = *course;
+    number < entries || (joined && meanwhile == Some(number))
 }
 
 /// A step that is never taken.
@@ -52,105 +44,25 @@ const TO_EMPTY: u64 = 3;
 
 const COURSES: [Course; 10] = [
     // It makes the first generation in seven steps. In seven more it places its value and ends.
-    Course {
-        entries: 0,
-        number: 0,
-        meanwhile: None,
-        passing: 0,
-        refused: 0,
-        placed_at: 11,
-        ended_at: 14,
-    },
+    (0, 0, None, (0, 0), (11, 14)),
     // It places its value, and there is no growth.
-    Course {
-        entries: 1,
-        number: 1,
-        meanwhile: None,
-        passing: 0,
-        refused: 0,
-        placed_at: 4,
-        ended_at: 7,
-    },
+    (1, 1, None, (0, 0), (4, 7)),
     // It places its value, and copies eight entries.
-    Course {
-        entries: 7,
-        number: 7,
-        meanwhile: None,
-        passing: 0,
-        refused: 0,
-        placed_at: 4,
-        ended_at: 19,
-    },
+    (7, 7, None, (0, 0), (4, 19)),
     // The first generation is refused.
-    Course {
-        entries: 0,
-        number: 0,
-        meanwhile: None,
-        passing: 0,
-        refused: 1,
-        placed_at: NEVER,
-        ended_at: 6,
-    },
+    (0, 0, None, (0, 1), (NEVER, 6)),
     // The block of its value is refused.
-    Course {
-        entries: 1,
-        number: 1,
-        meanwhile: None,
-        passing: 0,
-        refused: 1,
-        placed_at: NEVER,
-        ended_at: 5,
-    },
+    (1, 1, None, (0, 1), (NEVER, 5)),
     // It places its value, and growth is refused.
-    Course {
-        entries: 7,
-        number: 7,
-        meanwhile: None,
-        passing: 1,
-        refused: 1,
-        placed_at: 4,
-        ended_at: 10,
-    },
+    (7, 7, None, (1, 1), (4, 10)),
     // It finds an equal entry.
-    Course {
-        entries: 1,
-        number: 0,
-        meanwhile: None,
-        passing: 0,
-        refused: 0,
-        placed_at: NEVER,
-        ended_at: 5,
-    },
+    (1, 0, None, (0, 0), (NEVER, 5)),
     // It loses its exchange to an equal number.
-    Course {
-        entries: 1,
-        number: 1,
-        meanwhile: Some(1),
-        passing: 0,
-        refused: 0,
-        placed_at: NEVER,
-        ended_at: 6,
-    },
+    (1, 1, Some(1), (0, 0), (NEVER, 6)),
     // It loses its exchange to another number with the same first bucket, and is placed in the next bucket.
-    Course {
-        entries: 1,
-        number: 1,
-        meanwhile: Some(17),
-        passing: 0,
-        refused: 0,
-        placed_at: 6,
-        ended_at: 9,
-    },
+    (1, 1, Some(17), (0, 0), (6, 9)),
     // Each bucket is set. It copies 16 entries, places its value, and copies 17.
-    Course {
-        entries: 16,
-        number: 16,
-        meanwhile: None,
-        passing: 0,
-        refused: 0,
-        placed_at: 43,
-        ended_at: 67,
-    },
+    (16, 16, None, (0, 0), (43, 67)),
 ];
 
 /// Takes `times` steps, and returns whether the last of them ended the call.
@@ -219,9 +131,10 @@ fn give_up_after<R: Wait + Abort>(
     course: &Course,
     steps: u64,
 ) {
+    let (_, number, _, _, (_, ended_at)) = *course;
     let mut call = InsertCall::new(
         table,
-        course.number,
+        number,
         value,
         |a: &Counting, b: &Counting| a.number == b.number,
         |a: &Counting| a.number,
@@ -234,12 +147,7 @@ fn give_up_after<R: Wait + Abort>(
     if before < steps {
         ended = advance_times(&mut call, steps.wrapping_sub(before));
     }
-    assert_count(
-        rt,
-        u64::from(ended),
-        u64::from(steps == course.ended_at),
-        steps,
-    );
+    assert_count(rt, u64::from(ended), u64::from(steps == ended_at), steps);
 }
 
 /// Returns the number that another insert places meanwhile, in a box, if this insert takes enough steps for that. `Err`: no memory.
@@ -249,7 +157,8 @@ fn other_of(
     steps: u64,
     drops: &Arc<AtomicU64>,
 ) -> Result<Option<Box<Counting>>, AllocError> {
-    match course.meanwhile {
+    let (_, _, meanwhile, ..) = *course;
+    match meanwhile {
         Some(number) if TO_EMPTY <= steps => Ok(Some(Box::new(
             alloc,
             Counting::new(number, drops.clone()?),
@@ -288,25 +197,26 @@ fn give_up_and_go_on<R: Wait + Abort>(
     counts: (&Arc<AtomicU64>, &Arc<AtomicU64>),
 ) -> Result<bool, AllocError> {
     let (drops, others) = counts;
+    let (entries, number, _, (passing, refused), (placed_at, _)) = *course;
     let table: Table<'_> = LockFreeRawTable::new(memory);
-    fill(rt, alloc, &table, memory, course.entries, others)?;
-    memory.refuse(course.passing, course.refused);
+    fill(rt, alloc, &table, memory, entries, others)?;
+    memory.refuse(passing, refused);
     let other = other_of(alloc, course, steps, others)?;
     let joined = other.is_some();
-    let value = Box::new(alloc, Counting::new(course.number, drops.clone()?))?;
+    let value = Box::new(alloc, Counting::new(number, drops.clone()?))?;
     give_up_after(rt, &table, value, other, course, steps);
     memory.refuse(0, 0);
-    let placed = course.placed_at <= steps;
+    let placed = placed_at <= steps;
     assert_count(rt, drops.load(Ordering::SeqCst), u64::from(!placed), steps);
-    let known = placed || course.knows(joined);
+    let known = placed || knows(course, joined);
     assert_count(
         rt,
-        u64::from(contains(&table, course.number)),
+        u64::from(contains(&table, number)),
         u64::from(known),
         steps,
     );
-    let next = Counting::new(course.entries.wrapping_add(1), others.clone()?);
-    let there = course.entries_with(joined).wrapping_add(u64::from(placed));
+    let next = Counting::new(entries.wrapping_add(1), others.clone()?);
+    let there = entries_with(course, joined).wrapping_add(u64::from(placed));
     assert_goes_on(rt, &table, Box::new(alloc, next)?, there, steps);
     Ok(joined)
 }
@@ -324,7 +234,7 @@ fn assert_given_up<R: Wait + Abort>(
     let others = Arc::new(alloc, AtomicU64::new(0))?;
     let joined = give_up_and_go_on(rt, alloc, &memory, course, steps, (&drops, &others))?;
     assert_count(rt, drops.load(Ordering::SeqCst), 1, steps);
-    let there = course.entries_with(joined).wrapping_add(1);
+    let there = entries_with(course, joined).wrapping_add(1);
     assert_count(rt, others.load(Ordering::SeqCst), there, steps);
     assert_count(rt, memory.given_back(), memory.granted(), steps);
     Ok(())
@@ -333,7 +243,8 @@ fn assert_given_up<R: Wait + Abort>(
 #[test]
 fn inserts_that_are_given_up(rt: HostRuntime) -> Result<(), Fail> {
     for course in &COURSES {
-        for steps in 0..course.ended_at.wrapping_add(1) {
+        let (_, _, _, _, (_, ended_at)) = *course;
+        for steps in 0..ended_at.wrapping_add(1) {
             assert_given_up(&rt, rt.alloc(), course, steps)?;
         }
     }

@@ -10,39 +10,31 @@ type Table = LockFreeRawTable<InPlace<u64>>;
 /// The number of hashes that are tried: more than a table has lanes.
 const HASHES: u64 = 64;
 
+/// Returns whether the value and the entry are equal.
+fn same(value: &u64, entry: &u64) -> bool {
+    *value == *entry
+}
+
+/// Returns the entry, which is its own hash.
+fn own(entry: &u64) -> u64 {
+    *entry
+}
+
 /// Returns whether an insert of this hash is blocked at its first step.
 fn is_kept_out(table: &Table, hash: u64) -> bool {
-    let mut call = InsertCall::new(
-        table,
-        hash,
-        InPlace(hash),
-        |a: &u64, b: &u64| *a == *b,
-        |a: &u64| *a,
-    );
+    let mut call = InsertCall::new(table, hash, InPlace(hash), same, own);
     matches!(call.advance(), Progress::Blocked)
 }
 
 /// Returns whether an insert of this hash that holds its lock blocks the insert that makes the first generation, and whether that then
 /// blocks an insert of this hash.
 fn excludes(table: &Table, hash: u64) -> bool {
-    let mut growing = InsertCall::new(
-        table,
-        1,
-        InPlace(1),
-        |a: &u64, b: &u64| *a == *b,
-        |a: &u64| *a,
-    );
+    let mut growing = InsertCall::new(table, 1, InPlace(1), same, own);
     // It takes its lock, finds no generation, and releases the lock.
     growing.advance();
     growing.advance();
     growing.advance();
-    let mut placing = InsertCall::new(
-        table,
-        hash,
-        InPlace(hash),
-        |a: &u64, b: &u64| *a == *b,
-        |a: &u64| *a,
-    );
+    let mut placing = InsertCall::new(table, hash, InPlace(hash), same, own);
     placing.advance();
     let waits = matches!(growing.advance(), Progress::Blocked);
     drop(placing);

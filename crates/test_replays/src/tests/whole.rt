@@ -2,14 +2,14 @@
 use std::alloc::Global;
 use std::process::Abort;
 use std::sync::Wait;
+use std::thread::Threads;
 use table_terms::capacity::is_first_capacity;
-use testkit_replay::fault::ReplayFault;
 use testkit_replay::item::Said;
-use testkit_replay::item::Said::{Absent, Found, Placed, Refused, Shown};
+use testkit_replay::item::Said::{Found, None as Absent, Placed, Refused, Some as Shown};
 use testkit_replay::schedules::Ask;
 use testkit_replay::schedules::Ask::{Insert, Lookup};
 use testkit_replay::script::Manner;
-use testkit_replay::whole_calls::{Plan, Refusals, Top, Tops, run_whole};
+use testkit_replay::whole_calls::{Moment, Plan, Refusals, Top, Worked, run_whole};
 
 /// The number of seeds for each first capacity.
 const SEEDS: u64 = 200;
@@ -21,7 +21,7 @@ const TOPS: u64 = 40;
 const GRANTED: Refusals = (0, 0);
 
 /// The first request is refused.
-pub(crate) const REFUSED: Refusals = (0, 1);
+const REFUSED: Refusals = (0, 1);
 
 /// The block of a value is granted, and the growth after it is refused.
 const GROWTH_REFUSED: Refusals = (1, 1);
@@ -87,16 +87,19 @@ const ROWS: [Row; 6] = [
     ),
 ];
 
-/// Asserts that the first `filled` calls placed their values, and that the others have the expected replies.
-pub(crate) fn assert_replies(
-    rt: &impl Abort,
-    run: Result<Vec<(u64, Said)>, ReplayFault>,
-    filled: u64,
+/// Asserts that the calls of a plan do what the machine does. The first of them placed their values, and the others have the expected
+/// replies.
+pub(crate) fn assert_worked<R: Abort + Threads + Wait + Sync>(
+    rt: &R,
+    alloc: Global,
+    worked: Worked<'_>,
     expected: &[(u64, Said)],
 ) {
+    assert!(rt; is_first_capacity(16));
+    let run = run_whole(rt, alloc, 16, Manner::Lawful, 0, Plan::Worked(worked));
     let replies = run.expect(rt, "no fault");
     let (first, then) = replies
-        .split_at_checked(filled as usize)
+        .split_at_checked(worked.filled as usize)
         .expect(rt, "the first calls");
     for (call, reply) in first.iter().enumerate() {
         assert_eq!(rt; *reply, (call as u64, Placed(call as u64)));
@@ -104,33 +107,27 @@ pub(crate) fn assert_replies(
     assert_eq!(rt; then, expected);
 }
 
-/// Asserts that the calls of a row have its replies, and that the machine gives the same.
-fn assert_row<R: Abort + Wait>(rt: &R, alloc: Global, row: &Row) {
-    let (filled, then, inside, expected) = *row;
-    let plan = Plan::Worked {
-        tops: Tops { filled, then },
-        inside,
-    };
-    assert!(rt; is_first_capacity(16));
-    let run = run_whole(rt, alloc, 16, Manner::Lawful, 0, plan);
-    assert_replies(rt, run, filled, expected);
-}
-
 #[test]
 fn whole_calls_that_are_worked(rt: HostRuntime) {
-    for row in &ROWS {
-        assert_row(&rt, rt.alloc(), row);
+    for (filled, then, others, expected) in ROWS {
+        let worked = Worked {
+            filled,
+            then,
+            moment: Moment::InClosure,
+            others,
+        };
+        assert_worked(&rt, rt.alloc(), worked, expected);
     }
 }
 
 /// Asserts that the calls of a seed do what the machine does. Half of the seeds have careless closures, and half have requests refused.
-fn assert_seed<R: Abort + Wait>(rt: &R, alloc: Global, first: u64, seed: u64) {
+fn assert_seed<R: Abort + Threads + Wait + Sync>(rt: &R, alloc: Global, first: u64, seed: u64) {
     let manner = if seed % 2 == 0 {
         Manner::Lawful
     } else {
         Manner::Careless
     };
-    let plan = Plan::Drawn {
+    let plan = Plan::Nested {
         tops: TOPS,
         refuses: seed % 4 >= 2,
     };

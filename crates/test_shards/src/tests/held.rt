@@ -1,6 +1,6 @@
 //! Tests of single-owner tables over shards.
 mod drops;
-mod makers;
+pub(crate) mod makers;
 mod millions;
 mod numbers;
 mod refusals;

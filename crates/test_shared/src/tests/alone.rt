@@ -13,6 +13,8 @@ const NUMBERS: u64 = 2000;
 fn a_table_without_entries(rt: HostRuntime) {
     let table: Boxed<Global> = Boxed::new(rt.alloc(), rt.alloc(), Lawful::Spread);
     assert_same(&rt, seen(&table, 0), those_below(0));
+    assert_same(&rt, table.size(), [0, 0, 0]);
+    assert!(rt; table.table.into_iter().next().is_none());
 }
 
 /// Inserts the numbers, and returns the tally of the answers. A number that a look-up finds before its insert counts as `Wrong`.

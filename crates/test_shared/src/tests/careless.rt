@@ -8,7 +8,7 @@ use std::sync::atomic::{AtomicU64, Ordering};
 use std::test::Fail;
 use std::thread::Threads;
 use testkit::counting::asked::Asked;
-use testkit::counting::numbers::InsertEnd;
+use testkit::counting::numbers::{InsertEnd, count_first};
 use testkit::counting::tally::{Tally, Work, at_once};
 
 /// How many numbers each thread inserts.
@@ -101,18 +101,8 @@ impl<'a> Work for Giving<'a> {
     }
 }
 
-/// Returns how many different numbers below `ALL` are among these.
-fn count_given(mut numbers: Vec<u64>) -> u64 {
-    numbers.sort_unstable();
-    let (mut given, mut least) = (0u64, 0u64);
-    for number in numbers.as_slice() {
-        given = given.wrapping_add(u64::from(least <= *number && *number < ALL));
-        least = number.wrapping_add(1);
-    }
-    given
-}
-
-/// Asserts that the table has `placed` entries, and that the owning iterator yields as many inserted numbers, each once. `Err`: no memory.
+/// Asserts that the table has `placed` entries, and that the owning iterator yields as many inserted numbers, each once. `placed` is 1 or
+/// `ALL`. `Err`: no memory.
 fn assert_handed<R: Abort>(
     rt: &R,
     table: LockFreeRawTable<Box<u64>>,
@@ -121,11 +111,14 @@ fn assert_handed<R: Abort>(
 ) -> Result<(), AllocError> {
     let counted = table.len() as u64;
     let numbers = handed(table, alloc)?;
-    assert_same(
-        rt,
-        [counted, numbers.len() as u64, count_given(numbers)],
-        [placed, placed, placed],
-    );
+    let one = numbers.first().copied().unwrap_or(ALL);
+    let (shown, first) = count_first(numbers);
+    let given = if placed == 1 {
+        u64::from(one < ALL)
+    } else {
+        first
+    };
+    assert_same(rt, [counted, shown, given], [placed; 3]);
     Ok(())
 }
 

@@ -38,42 +38,22 @@ const PAIRS: [(u64, u64); 9] = [
     (15, 16),
 ];
 
-/// Pairs of numbers, each of which two threads insert at once, and the equality and hash of the numbers. The first `refused` requests of
-/// growth are refused. In the end `placed` numbers are placed, and the current generation has `buckets` buckets.
-struct Meeting {
-    lawful: Lawful,
-    pairs: &'static [(u64, u64)],
-    refused: u64,
-    placed: u64,
-    buckets: u64,
-}
+/// Pairs of the numbers below 10. The first and the last pair are of equal numbers.
+const EQUAL_AT_LAST: [(u64, u64); 6] = [(0, 0), (1, 2), (3, 4), (5, 6), (7, 8), (9, 9)];
 
-/// One number of the last pair takes the last vacant bucket, and the insert of the other grows the table.
-const AT_THE_LAST_BUCKET: Meeting = Meeting {
-    lawful: Lawful::ByFives,
-    pairs: &PAIRS,
-    refused: 8,
-    placed: 17,
-    buckets: 64,
-};
+/// The equality and hash of numbers, pairs of numbers that two threads insert at once, and how many requests of growth are refused at
+/// first. Then how many numbers are placed in the end, and how many buckets the current generation has.
+type Meeting = (Lawful, &'static [(u64, u64)], u64, u64, u64);
 
-/// The same, but both probes reach the last vacant bucket at their end, so the loser has met every bucket.
-const AT_THE_END_OF_THE_WAY: Meeting = Meeting {
-    lawful: Lawful::FromTheFirst,
-    pairs: &PAIRS,
-    refused: 8,
-    placed: 17,
-    buckets: 64,
-};
+/// One number of the last pair takes the last vacant bucket, and the insert of the other grows the table. In the second meeting both probes
+/// reach this bucket at their end, so the loser has met every bucket.
+const AT_THE_LAST_BUCKET: [Meeting; 2] = [
+    (Lawful::ByFives, &PAIRS, 8, 17, 64),
+    (Lawful::FromTheFirst, &PAIRS, 8, 17, 64),
+];
 
 /// One insert of the last pair finds the other's number. Both then try to grow the table, and one of them is refused.
-const FOUND_BY_THE_LOSER: Meeting = Meeting {
-    lawful: Lawful::ByFives,
-    pairs: &[(0, 0), (1, 2), (3, 4), (5, 6), (7, 8), (9, 9)],
-    refused: 3,
-    placed: 10,
-    buckets: 32,
-};
+const FOUND_BY_THE_LOSER: Meeting = (Lawful::ByFives, &EQUAL_AT_LAST, 3, 10, 32);
 
 /// Asserts that the table reports and an iterator yields `entries` entries, and that the current generation has `buckets` buckets.
 fn assert_size<R: Abort, A: Low + Copy>(rt: &R, table: &Boxed<A>, entries: u64, buckets: u64) {
@@ -96,42 +76,40 @@ fn offer_all<R: Threads + Wait + Sync>(
 }
 
 /// Asserts that the meeting ends as it says, on a table with a first generation and no entry. The block of its first value is refused.
-fn assert_meets<R: Abort + Threads + Wait + Sync>(rt: &R, alloc: Global, meeting: &Meeting) {
-    let pairs = meeting.pairs.len() as u64;
+fn assert_meets<R: Abort + Threads + Wait + Sync>(rt: &R, alloc: Global, meeting: Meeting) {
+    let (lawful, offers, refused, placed, buckets) = meeting;
+    let pairs = offers.len() as u64;
     let growth = Refusing::new(alloc, Rule::new(BLOCK + 1, usize::MAX, 0, 0));
     let heap = Refusing::new(
         &growth,
         Rule::new(BLOCK, BLOCK, 0, 1).paired(pairs, MOST_LOOKS),
     );
-    let table: Boxed<&Memory<'_>> = Boxed::new(&heap, alloc, meeting.lawful);
+    let table: Boxed<&Memory<'_>> = Boxed::new(&heap, alloc, lawful);
     assert_insert(rt, &table, 0, InsertEnd::Refused);
     assert_same(rt, seen(&table, 0), those_below(0));
     assert_size(rt, &table, 0, 16);
-    growth.refuse(0, meeting.refused);
-    let tally = offer_all(rt, &table, alloc, meeting.pairs);
-    let found = (2 * pairs).wrapping_sub(meeting.placed);
-    assert_same(rt, tally, Tally::of(meeting.placed, found));
+    growth.refuse(0, refused);
+    let tally = offer_all(rt, &table, alloc, offers);
+    let found = pairs.wrapping_mul(2).wrapping_sub(placed);
+    assert_same(rt, tally, Tally::of(placed, found));
     assert_same(rt, [heap.went_alone(), growth.refusals_left()], [0, 0]);
-    assert_size(rt, &table, meeting.placed, meeting.buckets);
-    assert_same(
-        rt,
-        seen(&table, meeting.placed),
-        those_below(meeting.placed),
-    );
+    assert_size(rt, &table, placed, buckets);
+    assert_same(rt, seen(&table, placed), those_below(placed));
 }
 
 #[test]
 fn the_loser_at_the_last_bucket_is_placed(rt: HostRuntime) {
-    for _again in 0..10u32 {
-        assert_meets(&rt, rt.alloc(), &AT_THE_LAST_BUCKET);
-        assert_meets(&rt, rt.alloc(), &AT_THE_END_OF_THE_WAY);
+    for meeting in AT_THE_LAST_BUCKET {
+        for _again in 0..10u32 {
+            assert_meets(&rt, rt.alloc(), meeting);
+        }
     }
 }
 
 #[test]
 fn growth_comes_after_what_a_loser_found(rt: HostRuntime) {
     for _again in 0..10u32 {
-        assert_meets(&rt, rt.alloc(), &FOUND_BY_THE_LOSER);
+        assert_meets(&rt, rt.alloc(), FOUND_BY_THE_LOSER);
     }
 }
 

@@ -1,5 +1,5 @@
 //! Tests of exchanges that surely fail: two threads request blocks for one empty bucket, and no request is granted before both are made.
-use super::countings::{Counted, opened, paired};
+use super::countings::{Counted, Countings, opened, paired};
 use super::numbers::{assert_same, walk_length};
 use std::alloc::{AllocError, Global};
 use std::process::Abort;
@@ -42,6 +42,25 @@ impl<'a, 'm> Work for Offer<'a, 'm> {
     }
 }
 
+/// Returns a word in which the bit of each number below 64 is set that a walk over the table returns.
+fn entries_of(table: &Countings<'_>) -> u64 {
+    let mut bits = 0u64;
+    for entry in table.iter() {
+        bits |= 1u64.wrapping_shl(entry.number as u32);
+    }
+    bits
+}
+
+/// Asserts that a walk over the table returns both numbers, 0 and this one, if both were placed, and otherwise one of them.
+fn assert_entries(rt: &impl Abort, table: &Countings<'_>, number: u64, placed: u64) {
+    let entries = entries_of(table);
+    let both = 1 | 1u64.wrapping_shl(number as u32);
+    assert!(rt;
+        entries == both || (placed == 1 && entries & both == entries),
+        "{entries}"
+    );
+}
+
 /// Inserts 0 and another number at one empty bucket at once, and asserts that the meeting ends as it says. `Err`: no memory.
 fn assert_met<R: Abort + Threads + Wait + Sync>(
     rt: &R,
@@ -72,6 +91,7 @@ fn assert_met<R: Abort + Threads + Wait + Sync>(
         ],
         [0, blocks, 1, placed, placed, found.wrapping_add(1)],
     );
+    assert_entries(rt, &table, number, placed);
     drop(table);
     assert_same(
         rt,

@@ -1,7 +1,10 @@
-//! Tests of the allocator `Refusing`: requests that it refuses at random or after a call of `refuse`, and requests that wait in pairs.
+//! Tests of the allocator `Refusing`: which requests it refuses, at random or by number, what it passes on to the allocator below, and
+//! requests that wait in pairs.
 use super::numbers::assert_same;
 use std::alloc::{AllocError, Allocator, Global};
+use std::process::Abort;
 use std::sync::atomic::{AtomicU64, Ordering};
+use std::test::Fail;
 use std::thread;
 use testkit::refusing::handover::MOST_LOOKS;
 use testkit::refusing::{Refusing, Rule};
@@ -25,6 +28,67 @@ const PAIRS: u64 = 200;
 fn grants<A: Allocator + Copy>(alloc: A, bytes: usize) -> bool {
     let block: Result<Vec<u8, A>, AllocError> = Vec::with_capacity(alloc, bytes);
     block.is_ok()
+}
+
+/// How many requests of 8 to 16 bytes a rule lets pass, and how many it refuses then. Then requests in order: the size of each, and whether
+/// it is granted. Requests of other sizes are granted and not counted.
+const BY_NUMBER: [(u64, u64, &[(usize, bool)]); 2] = [
+    (
+        2,
+        3,
+        &[
+            (8, true),
+            (16, true),
+            (8, false),
+            (16, false),
+            (12, false),
+            (8, true),
+            (16, true),
+        ],
+    ),
+    (
+        1,
+        1,
+        &[
+            (7, true),
+            (17, true),
+            (8, true),
+            (7, true),
+            (17, true),
+            (16, false),
+            (7, true),
+            (17, true),
+            (8, true),
+        ],
+    ),
+];
+
+/// Makes the requests in order, and asserts of each whether it is granted.
+fn assert_grants<A: Allocator + Copy>(rt: &impl Abort, alloc: A, requests: &[(usize, bool)]) {
+    for (bytes, is_granted) in requests {
+        assert!(rt;
+            grants(alloc, *bytes) == *is_granted,
+            "a request of {bytes}"
+        );
+    }
+}
+
+#[test]
+fn the_first_of_a_size_pass_and_the_next_are_refused(rt: HostRuntime) {
+    for (passing, refused, requests) in BY_NUMBER {
+        let heap = Refusing::new(rt.alloc(), Rule::new(8, 16, passing, refused));
+        assert_grants(&rt, &heap, requests);
+    }
+}
+
+#[test]
+fn a_refusal_below_is_passed_on(rt: HostRuntime) -> Result<(), Fail> {
+    let below = Refusing::new(rt.alloc(), Rule::new(8, 8, 0, 1));
+    let heap = Refusing::new(&below, Rule::new(8, 8, 1, 0));
+    assert_grants(&rt, &heap, [(8, false), (8, true)].as_slice());
+    let block = Box::new(&heap, [5u32, 6])?;
+    assert!(rt; *block == [5, 6]);
+    Ok(())
 }
 
 /// Makes `requests` requests, and returns how many of them are refused.
@@ -74,34 +138,21 @@ fn a_lot_refuses_no_more_than_the_rule(rt: HostRuntime) {
     );
 }
 
-/// The arguments of a call of `refuse`, and whether each of the next requests of 8 bytes is granted.
-const ANSWERS: [(u64, u64, &[bool]); 4] = [
-    (0, 0, &[true, true]),
-    (1, 2, &[true, false, false, true]),
-    (0, 3, &[false, false]),
-    (0, 0, &[true, true]),
+/// The arguments of a call of `refuse`, and then requests: the size of each, and whether it is granted.
+const ANSWERS: [(u64, u64, &[(usize, bool)]); 4] = [
+    (0, 0, &[(8, true), (8, true)]),
+    (1, 2, &[(8, true), (8, false), (8, false), (8, true)]),
+    (0, 3, &[(8, false), (8, false)]),
+    (0, 0, &[(8, true), (8, true)]),
 ];
-
-/// Makes requests of 8 bytes. Returns how many of them are granted or refused as `answers` says.
-fn count_answered(heap: &Refusing<Global>, answers: &[bool]) -> u64 {
-    let mut answered = 0u64;
-    for granted in answers {
-        answered = answered.wrapping_add(u64::from(grants(heap, 8) == *granted));
-    }
-    answered
-}
 
 #[test]
 fn requests_are_refused_from_now_on(rt: HostRuntime) {
     let heap = Refusing::new(rt.alloc(), Rule::new(8, 8, 0, 0));
-    for (passing, refused, answers) in ANSWERS {
+    for (passing, refused, requests) in ANSWERS {
         heap.refuse(passing, refused);
-        let left = heap.refusals_left();
-        assert_same(
-            &rt,
-            [left, count_answered(&heap, answers)],
-            [refused, answers.len() as u64],
-        );
+        assert_same(&rt, heap.refusals_left(), refused);
+        assert_grants(&rt, &heap, requests);
     }
 }
 

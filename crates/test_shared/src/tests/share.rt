@@ -144,16 +144,3 @@ fn a_shared_table_shows_and_hands_out_each_value_once(rt: HostRuntime) -> Result
     }
     Ok(())
 }
-
-/// Returns whether the table has no generation, and neither kind of iterator yields anything.
-fn has_nothing(table: LockFreeRawTable<Box<u64>>) -> bool {
-    let has_none = table.is_empty() && table.current(&mut table.note()).is_none();
-    let shows_none = table.iter().next().is_none();
-    let hands_none = table.into_iter().next().is_none();
-    has_none && shows_none && hands_none
-}
-
-#[test]
-fn a_new_table_has_no_generation(rt: HostRuntime) {
-    assert!(rt; has_nothing(LockFreeRawTable::new(rt.alloc())));
-}

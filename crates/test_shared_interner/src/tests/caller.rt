@@ -3,20 +3,13 @@ use shared_interner::{SharedInterner, Symbol};
 use std::alloc::{AllocError, Global};
 use std::fmt::Debug;
 use std::process::Abort;
-use testkit::refusing::{Refusing, Rule};
-
-pub(crate) type Heap = Refusing<Global>;
+pub(crate) use testkit::refusing::{Heap, counted};
 
 pub(crate) type Interner<'h> = SharedInterner<&'h Heap>;
 
 /// Asserts that `got` equals `expected`.
 pub(crate) fn assert_same<X: PartialEq + Debug + Drop>(rt: &impl Abort, got: X, expected: X) {
     assert_eq!(rt; got, expected);
-}
-
-/// Makes an allocator that grants each request and counts its blocks.
-pub(crate) fn counted(alloc: Global) -> Heap {
-    Refusing::new(alloc, Rule::new(0, usize::MAX, 0, 0))
 }
 
 /// Makes an empty interner with room for `room` texts.

@@ -2,15 +2,12 @@
 ghost use Rattle.std.specs.Prelude.{◌≡◌};
 
 use shared_set::{Handle, Inserted, SharedSet};
-use std::alloc::Global;
 use std::fmt::Debug;
 use std::process::Abort;
 use table_terms::law::NumberLaw;
 pub(crate) use testkit::counting::numbers::InsertEnd;
 pub(crate) use testkit::counting::tally::Tally;
-use testkit::refusing::{Refusing, Rule};
-
-pub(crate) type Heap = Refusing<Global>;
+pub(crate) use testkit::refusing::{Heap, counted};
 
 /// A set of numbers.
 pub(crate) type Numbers<'h> = SharedSet<u64, NumberLaw, &'h Heap>;
@@ -21,11 +18,6 @@ pub(crate) type Numbering<'s, 'h> = Handle<'s, u64, NumberLaw, &'h Heap>;
 /// Asserts that `got` equals `expected`.
 pub(crate) fn assert_same<X: PartialEq + Debug + Drop>(rt: &impl Abort, got: X, expected: X) {
     assert_eq!(rt; got, expected);
-}
-
-/// Makes an allocator that grants each request and counts its blocks.
-pub(crate) fn counted(alloc: Global) -> Heap {
-    Refusing::new(alloc, Rule::new(0, usize::MAX, 0, 0))
 }
 
 /// Makes an empty set with room for `room` entries.

@@ -4,7 +4,6 @@ mod alike;
 mod answers;
 mod batches;
 mod beginning;
-mod lines;
 mod meetings;
 mod memory;
 mod schedules;

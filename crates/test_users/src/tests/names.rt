@@ -1,7 +1,6 @@
 //! Tests of the interner.
 mod memory;
 mod order;
-mod seats;
 mod texts;
 
 use super::assert_same;

@@ -8,6 +8,7 @@ mod streams;
 mod texts;
 mod threads;
 
+use super::{Ended, assert_ended, assert_same};
 use std::alloc::{Allocator, Global};
 use std::io;
 use std::io::{ErrorKind, Read, Write};
@@ -31,14 +32,6 @@ const HELP: &str =
 Without a FILE, or where FILE is -, standard input is read. After -- each word is a FILE.
 N threads, from 1 to 64, read in large pieces, and write what one thread writes.
 ";
-
-/// What a run printed, and its status.
-#[derive(Drop)]
-struct Ended {
-    status: u8,
-    output: Vec<u8>,
-    messages: Vec<u8>,
-}
 
 /// The tool that counts words.
 const WORDS: &str = "words";
@@ -71,90 +64,118 @@ impl TextFiles for Shelf {
     }
 }
 
-/// Runs the program of this host with these arguments over the input. Returns the status.
-fn run_into<R: Threads + Sync, A: Allocator + Copy + Send + Sync, I: Read + Drop, O: Write>(
+/// How a run is split: the number of threads, as an argument, and the number of bytes after which a piece ends, at the end of its line. An
+/// empty number stands for a run without the argument `--threads`.
+type Split = (&'static str, usize);
+
+/// The split of a run without `--threads`. Its pieces are as long as those of the program.
+const ALONE: Split = ("", PIECE);
+
+/// Numbers of threads, as arguments. The empty one stands for a run without `--threads`.
+const THREADS: [&str; 5] = ["", "1", "2", "3", "8"];
+
+/// Numbers of bytes after which a piece ends, at the end of its line.
+const PIECES: [usize; 6] = [1, 2, 3, 7, 100, PIECE];
+
+/// Returns these arguments, with `--threads` and the number after the first one. An empty number adds nothing. `Err`: no memory.
+fn with_threads<'w>(
+    heap: Global,
+    words: &[&'w str],
+    threads: &'w str,
+) -> Result<Vec<&'w str>, Fail> {
+    let mut all = Vec::new(heap);
+    let [tool, names @ ..] = words else {
+        return Ok(all);
+    };
+    all.push(*tool)?;
+    if !threads.is_empty() {
+        all.push("--threads")?;
+        all.push(threads)?;
+    }
+    all.extend_from_slice(names)?;
+    Ok(all)
+}
+
+/// Runs the program of this host with these arguments, and with this number of threads after the first one, over the input. Returns the
+/// status. `Err`: no memory for the arguments.
+fn run_into<
+    'w,
+    R: Threads + AllocGlobal + Sync,
+    A: Allocator + Copy + Send + Sync,
+    I: Read + Drop,
+    O: Write,
+>(
     host: &Host<'_, R, Shelf, A>,
-    words: &[&str],
+    threads: &'w str,
+    words: &[&'w str],
     input: I,
     output: &mut O,
     messages: &mut Vec<u8>,
-) -> u8 {
-    run_over(host, words, input, output, messages)
+) -> Result<u8, Fail> {
+    let all = with_threads(host.rt.alloc(), words, threads)?;
+    Ok(run_over(host, all.as_slice(), input, output, messages))
 }
 
-/// Returns a host with these files and this memory. Its pieces are as long as those of the program.
-fn host_of<'a, R, A>(rt: &'a R, files: &'a Shelf, alloc: A) -> Host<'a, R, Shelf, A> {
-    Host {
-        rt,
-        files,
-        alloc,
-        piece: PIECE,
-    }
-}
-
-/// Runs the tool of this name over the input, and writes to `output`. Returns the status and the messages.
-fn run_writing<R: Threads + Sync, I: Read + Drop, O: Write>(
+/// Runs the tool of this name over the input, and writes to `output`. Returns the status and the messages. `Err`: no memory.
+fn run_writing<R: Threads + AllocGlobal + Sync, I: Read + Drop, O: Write>(
     rt: &R,
-    heap: Global,
+    (threads, piece): Split,
     tool: &str,
     input: I,
     output: &mut O,
-) -> (u8, Vec<u8>) {
-    let mut messages = Vec::new(heap);
-    let status = run_into(
-        &host_of(rt, &EMPTY_SHELF, heap),
-        &[tool],
-        input,
-        output,
-        &mut messages,
-    );
-    (status, messages)
+) -> Result<(u8, Vec<u8>), Fail> {
+    let host = Host {
+        rt,
+        files: &EMPTY_SHELF,
+        alloc: rt.alloc(),
+        piece,
+    };
+    let mut messages = Vec::new(rt.alloc());
+    let status = run_into(&host, threads, &[tool], input, output, &mut messages)?;
+    Ok((status, messages))
 }
 
-/// Runs the program with these arguments over the files and the input. Returns what it printed, and its status.
-fn run_files<R: Threads + Sync>(
+/// Runs the program with these arguments over the files and the input. Its memory comes from `alloc`. Returns what it printed, and its
+/// status. `Err`: no memory.
+fn run<R: Threads + AllocGlobal + Sync, A: Allocator + Copy + Send + Sync, I: Read + Drop>(
     rt: &R,
-    heap: Global,
-    shelf: &Shelf,
+    alloc: A,
+    files: &Shelf,
+    (threads, piece): Split,
+    words: &[&str],
+    input: I,
+) -> Result<Ended, Fail> {
+    let host = Host {
+        rt,
+        files,
+        alloc,
+        piece,
+    };
+    let (mut output, mut messages) = (Vec::new(rt.alloc()), Vec::new(rt.alloc()));
+    let status = run_into(&host, threads, words, input, &mut output, &mut messages)?;
+    Ok(Ended {
+        status,
+        output,
+        messages,
+    })
+}
+
+/// Asserts the output, the messages and the status of a run over the files and the input, for each split. `Err`: no memory.
+fn assert_splits(
+    rt: &(impl Abort + Threads + AllocGlobal + Sync),
+    files: &Shelf,
     words: &[&str],
     input: &[u8],
-) -> Ended {
-    let (mut output, mut messages) = (Vec::new(heap), Vec::new(heap));
-    let status = run_into(
-        &host_of(rt, shelf, heap),
-        words,
-        input,
-        &mut output,
-        &mut messages,
-    );
-    Ended {
-        status,
-        output,
-        messages,
+    wanted: (&[u8], &str, u8),
+) -> Result<(), Fail> {
+    let (output, messages, status) = wanted;
+    for threads in THREADS {
+        for piece in PIECES {
+            let ended = run(rt, rt.alloc(), files, (threads, piece), words, input)?;
+            assert_ended(rt, &ended, output, messages, status);
+        }
     }
-}
-
-/// Runs the tool of this name over the input. Its memory comes from `alloc`. Returns what it printed, and its status.
-fn run_on<R: Threads + Sync, A: Allocator + Copy + Send + Sync, I: Read + Drop>(
-    rt: &R,
-    heap: Global,
-    tool: &str,
-    alloc: A,
-    input: I,
-) -> Ended {
-    let (mut output, mut messages) = (Vec::new(heap), Vec::new(heap));
-    let status = run_into(
-        &host_of(rt, &EMPTY_SHELF, alloc),
-        &[tool],
-        input,
-        &mut output,
-        &mut messages,
-    );
-    Ended {
-        status,
-        output,
-        messages,
-    }
+    Ok(())
 }
 
 /// Returns `count` different lines. Each is a number, padded with hyphens to `bytes` bytes. `Err`: no memory.
@@ -165,21 +186,4 @@ fn numbered_lines(heap: Global, count: u64, bytes: usize) -> Result<String, Fail
         text.push_str(line.as_str())?;
     }
     Ok(text)
-}
-
-/// Asserts that these bytes were written.
-fn assert_bytes(rt: &impl Abort, got: &[u8], expected: &[u8]) {
-    assert_eq!(rt; got, expected);
-}
-
-/// Asserts what a run printed, and its status.
-fn assert_ended(rt: &impl Abort, ended: &Ended, output: &[u8], messages: &str, status: u8) {
-    assert_bytes(rt, ended.output.as_slice(), output);
-    assert_bytes(rt, ended.messages.as_slice(), messages.as_bytes());
-    assert_status(rt, ended.status, status);
-}
-
-/// Asserts the status of a run.
-fn assert_status(rt: &impl Abort, got: u8, expected: u8) {
-    assert_eq!(rt; got, expected);
 }

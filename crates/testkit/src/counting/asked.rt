@@ -1,6 +1,6 @@
 //! Values that are compared and hashed by a number, and answers of the closures that compare and hash them.
 use crate::counting::Counting;
-use std::num::NonZeroU32;
+use std::num::{NonZeroU32, NonZeroU64};
 use table_terms::law::hash_number;
 
 /// A target with a number. Tests put values with such targets into tables.
@@ -15,9 +15,22 @@ impl Numbered for u64 {
     }
 }
 
+impl Numbered for u32 {
+    fn number(&self) -> u64 {
+        u64::from(*self)
+    }
+}
+
 impl Numbered for u16 {
     fn number(&self) -> u64 {
         u64::from(*self)
+    }
+}
+
+/// The value 1 has number 0.
+impl Numbered for NonZeroU64 {
+    fn number(&self) -> u64 {
+        self.get().wrapping_sub(1)
     }
 }
 

@@ -8,7 +8,7 @@ use std::thread::Threads;
 use table_generations::atomic_value::AtomicValue;
 
 /// The outcome of an insert.
-#[derive(Clone, Copy, Debug, PartialEq, Eq)]
+#[derive(Clone, Copy, Debug, PartialEq)]
 pub enum InsertEnd {
     /// The number was inserted.
     Placed,

@@ -6,7 +6,7 @@ use std::thread;
 use std::thread::Threads;
 
 /// How many inserts had which outcome.
-#[derive(Clone, Copy, Debug, PartialEq, Eq)]
+#[derive(Clone, Copy, Debug, PartialEq)]
 pub struct Tally {
     pub placed: u64,
     pub found: u64,

@@ -6,12 +6,12 @@ use crate::measures::tasks::Task;
 use shared_set::{Handle, Inserted, SharedSet};
 use std::alloc::{AllocError, Global};
 use std::sync::Wait;
-use table_terms::law::NumberLaw;
+use table_terms::law::{NumberLaw, SetLaw};
 
 /// A `SharedSet` of numbers.
 pub type SharedSetKeys = SharedSet<u64, NumberLaw>;
 
-impl Empty for SharedSetKeys {
+impl<V, L: SetLaw<V>> Empty for SharedSet<V, L> {
     fn empty(alloc: Global) -> Result<Self, AllocError> {
         SharedSet::new(alloc)
     }

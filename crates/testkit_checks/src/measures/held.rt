@@ -3,7 +3,7 @@
 use crate::measures::memory::{print_bytes, resident_bytes};
 use crate::measures::numbers::{ABSENT, COUNT, Empty, KeySet, spread, turn};
 use crate::measures::report::Report;
-use crate::measures::sizes::{Largest, measure_sizes};
+use crate::measures::sizes::measure_sizes;
 use crate::measures::tasks::{HeldSets, Sets, Task};
 use std::io;
 use std::marker::PhantomData;
@@ -13,40 +13,12 @@ use std::time::Instant;
 /// A power of two. Its multiples collide under a hash whose low bits depend only on the low bits of a key.
 const STEP: u64 = 1 << 16;
 
-/// A row of keys: 0, 1, 2, .. times a step.
-#[derive(Clone, Copy)]
-enum Row {
-    /// The keys 0, 1, 2, ..
-    InOrder,
-    /// The multiples of `STEP`.
-    InSteps,
-}
+/// The step from a key of a row to the next one, and the names of the measurements of inserts and hits. The first key is 0.
+type Row = (u64, &'static str, &'static str);
 
-impl Row {
-    /// Returns the step from a key to the next one.
-    fn step(self) -> u64 {
-        match self {
-            Row::InOrder => 1,
-            Row::InSteps => STEP,
-        }
-    }
+const IN_ORDER: Row = (1, "seq_ins1", "seq_hit1");
 
-    /// Returns the name of the measurement of inserts.
-    fn inserts(self) -> &'static str {
-        match self {
-            Row::InOrder => "seq_ins1",
-            Row::InSteps => "step_ins1",
-        }
-    }
-
-    /// Returns the name of the measurement of hits.
-    fn hits(self) -> &'static str {
-        match self {
-            Row::InOrder => "seq_hit1",
-            Row::InSteps => "step_hit1",
-        }
-    }
-}
+const IN_STEPS: Row = (STEP, "step_ins1", "step_hit1");
 
 /// Runs a group of measurements of a single-owner set. `Err`: the group is unknown, or a measurement failed.
 pub fn measure_held<S: KeySet + Empty + Drop, R: Print + Eprint + Clock + Files + AllocGlobal>(
@@ -60,27 +32,26 @@ pub fn measure_held<S: KeySet + Empty + Drop, R: Print + Eprint + Clock + Files 
     };
     match group {
         "one" => sets.with_empty(&Spread { rt, report })?,
-        "1e8" => sets.with_empty(&Largest { rt, report })?,
         _ => measure_rows(rt, report, group, &sets),
     }
 }
 
 /// Runs a group of measurements of rows of keys, or of fewer or more keys than a million. `Err`: an unknown group, or a failed measurement.
-pub(crate) fn measure_rows<S: Sets, R: Print + Eprint + Clock>(
+pub(crate) fn measure_rows<S: Sets, R: Print + Eprint + Clock + Files + AllocGlobal>(
     rt: &R,
     report: &Report<'_>,
     group: &str,
     sets: &S,
 ) -> io::Result<()> {
     let row = match group {
-        "seq" => Row::InOrder,
-        "step" => Row::InSteps,
+        "seq" => IN_ORDER,
+        "step" => IN_STEPS,
         _ => return measure_sizes(rt, report, group, sets),
     };
     sets.with_empty(&InRow { rt, report, row })?
 }
 
-/// The task that measures spread keys.
+/// The task that measures spread keys in an empty set: inserts, resident bytes, hits and misses. `Err`: a wrong count or an I/O error.
 #[derive(Drop)]
 pub(crate) struct Spread<'a, R> {
     pub(crate) rt: &'a R,
@@ -90,12 +61,27 @@ pub(crate) struct Spread<'a, R> {
 impl<'a, R: Print + Clock + Files + AllocGlobal> Task for Spread<'a, R> {
     type Answer = io::Result<()>;
 
-    fn run<K: KeySet>(&self, keys: &mut K) -> io::Result<()> {
-        measure_one(self.rt, self.report, keys)
+    fn run<K: KeySet>(&self, set: &mut K) -> io::Result<()> {
+        let (rt, report) = (self.rt, self.report);
+        let before = resident_bytes(rt)?;
+
+        let start = Instant::now(rt)?;
+        let placed = insert_spread(set, 0, COUNT);
+        report.time(rt, "a_ins1", start, placed, COUNT, COUNT)?;
+
+        print_bytes(rt, report, "g_rss", before, COUNT)?;
+
+        let start = Instant::now(rt)?;
+        let hits = count_spread(set, 0, 0);
+        report.time(rt, "b_hit1", start, hits, COUNT, COUNT)?;
+
+        let start = Instant::now(rt)?;
+        let found = count_spread(set, 0, ABSENT);
+        report.time(rt, "c_miss1", start, found, 0, COUNT)
     }
 }
 
-/// The task that measures a row of keys.
+/// The task that measures a row of keys in an empty set: inserts and hits. `Err`: a wrong count or an I/O error.
 #[derive(Drop)]
 struct InRow<'a, R> {
     rt: &'a R,
@@ -106,50 +92,18 @@ struct InRow<'a, R> {
 impl<'a, R: Print + Clock> Task for InRow<'a, R> {
     type Answer = io::Result<()>;
 
-    fn run<K: KeySet>(&self, keys: &mut K) -> io::Result<()> {
-        measure_row(self.rt, self.report, self.row, keys)
+    fn run<K: KeySet>(&self, set: &mut K) -> io::Result<()> {
+        let (rt, report) = (self.rt, self.report);
+        let (step, inserts, hits) = self.row;
+
+        let start = Instant::now(rt)?;
+        let placed = insert_row(set, step);
+        report.time(rt, inserts, start, placed, COUNT, COUNT)?;
+
+        let start = Instant::now(rt)?;
+        let found = count_row(set, step);
+        report.time(rt, hits, start, found, COUNT, COUNT)
     }
-}
-
-/// Measures spread keys in an empty set: inserts, resident bytes, hits and misses. `Err`: a wrong count or an I/O error.
-fn measure_one<R: Print + Clock + Files + AllocGlobal, S: KeySet>(
-    rt: &R,
-    report: &Report<'_>,
-    set: &mut S,
-) -> io::Result<()> {
-    let before = resident_bytes(rt)?;
-
-    let start = Instant::now(rt)?;
-    let placed = insert_spread(set, 0, COUNT);
-    report.time(rt, "a_ins1", start, placed, COUNT, COUNT)?;
-
-    print_bytes(rt, report, "g_rss", before, COUNT)?;
-
-    let start = Instant::now(rt)?;
-    let hits = count_spread(set, 0, 0);
-    report.time(rt, "b_hit1", start, hits, COUNT, COUNT)?;
-
-    let start = Instant::now(rt)?;
-    let found = count_spread(set, 0, ABSENT);
-    report.time(rt, "c_miss1", start, found, 0, COUNT)
-}
-
-/// Measures a row of keys in an empty set: inserts and hits. `Err`: a wrong count or an I/O error.
-fn measure_row<R: Print + Clock, S: KeySet>(
-    rt: &R,
-    report: &Report<'_>,
-    row: Row,
-    set: &mut S,
-) -> io::Result<()> {
-    let step = row.step();
-
-    let start = Instant::now(rt)?;
-    let placed = insert_row(set, step);
-    report.time(rt, row.inserts(), start, placed, COUNT, COUNT)?;
-
-    let start = Instant::now(rt)?;
-    let found = count_row(set, step);
-    report.time(rt, row.hits(), start, found, COUNT, COUNT)
 }
 
 /// Runs each workload once on a single-owner set, without a clock, and prints counts. `Err`: memory was refused, or the output failed.
@@ -157,7 +111,7 @@ pub fn check_held<S: KeySet + Empty + Drop, R: Print + AllocGlobal>(
     rt: &R,
     name: &str,
 ) -> io::Result<()> {
-    let (placed, hits, found) = count_once(&mut S::empty(rt.alloc())?);
+    let (placed, hits, found) = Once {}.run(&mut S::empty(rt.alloc())?);
     let misses = COUNT.saturating_sub(found);
     println!(rt; "{name} spread: {placed} placed, {hits} hits, {misses} misses")?;
 
@@ -168,11 +122,19 @@ pub fn check_held<S: KeySet + Empty + Drop, R: Print + AllocGlobal>(
     println!(rt; "{name} in steps of {STEP}: {placed} placed, {hits} hits")
 }
 
-/// Inserts the spread keys into an empty set. Returns how many were placed, how many are entries then, and how many absent keys are.
-pub(crate) fn count_once<S: KeySet>(set: &mut S) -> (u64, u64, u64) {
-    let placed = insert_spread(set, 0, COUNT);
-    let hits = count_spread(set, 0, 0);
-    (placed, hits, count_spread(set, 0, ABSENT))
+/// The task that inserts the spread keys into an empty set. The answer is how many were placed, how many are entries then, and how many
+/// absent keys are.
+#[derive(Drop)]
+pub(crate) struct Once {}
+
+impl Task for Once {
+    type Answer = (u64, u64, u64);
+
+    fn run<K: KeySet>(&self, keys: &mut K) -> (u64, u64, u64) {
+        let placed = insert_spread(keys, 0, COUNT);
+        let hits = count_spread(keys, 0, 0);
+        (placed, hits, count_spread(keys, 0, ABSENT))
+    }
 }
 
 /// Inserts `count` spread keys, from the index `from` on. Returns how many were placed.

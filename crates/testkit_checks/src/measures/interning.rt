@@ -1,10 +1,10 @@
-//! Measurements of interners that threads share: a million different texts, and words that come again and again.
+//! Measurements of the interner that threads share: a million different texts, and words that come again and again.
 
 use crate::measures::memory::{print_bytes, resident_bytes};
-use crate::measures::naming::{Naming, SharedTexts, TextTask};
-use crate::measures::numbers::{COUNT, Empty, spread, total, turn};
+use crate::measures::numbers::{COUNT, spread, total, turn};
 use crate::measures::report::{Report, expect, refuse_words};
 use crate::measures::work::{MOST, part_for};
+use shared_interner::{Names, SharedInterner, Symbol};
 use std::alloc::{AllocError, Global};
 use std::rt::{Clock, Files};
 use std::thread::Threads;
@@ -24,7 +24,7 @@ enum Job {
     New,
     /// Each thread interns all texts, which are known. Each begins at another text.
     Known,
-    /// Each thread checks that each number has its text, in the order of `Known`.
+    /// Each thread checks that each symbol has its text, in the order of `Known`.
     Back,
     /// Each thread interns a million words, of which 50,000 are different. A word is new the first time.
     Words,
@@ -51,24 +51,24 @@ impl Job {
     }
 }
 
-/// The texts of a measurement, and their numbers.
+/// The texts of a measurement, and their symbols.
 #[derive(Drop)]
 struct Lists {
     /// Different texts.
     texts: Vec<String>,
     /// The same texts, in the order of look-ups.
     turned: Vec<String>,
-    /// The numbers of the texts in `turned`.
-    numbers: Vec<u64>,
+    /// The symbols of the texts in `turned`.
+    symbols: Vec<Symbol>,
 }
 
 impl Lists {
-    /// Makes a million names, whose numbers aren't known yet. `Err`: memory was refused.
+    /// Makes a million names, whose symbols aren't known yet. `Err`: memory was refused.
     fn of_names(alloc: Global) -> Result<Lists, AllocError> {
         Ok(Lists {
             texts: texts_of(alloc, "name", COUNT)?,
             turned: turned_texts(alloc)?,
-            numbers: Vec::new(alloc),
+            symbols: Vec::new(alloc),
         })
     }
 
@@ -77,13 +77,17 @@ impl Lists {
         Ok(Lists {
             texts: texts_of(alloc, "word", WORDS)?,
             turned: Vec::new(alloc),
-            numbers: Vec::new(alloc),
+            symbols: Vec::new(alloc),
         })
     }
 }
 
 /// Makes `count` texts: the beginning, followed by 0, 1, 2, .. `Err`: memory was refused.
-fn texts_of(alloc: Global, beginning: &str, count: u64) -> Result<Vec<String>, AllocError> {
+pub(crate) fn texts_of(
+    alloc: Global,
+    beginning: &str,
+    count: u64,
+) -> Result<Vec<String>, AllocError> {
     let mut texts = Vec::new(alloc);
     for index in 0..count {
         texts.push(format!(in alloc; "{beginning}{index}")?)?;
@@ -102,37 +106,39 @@ fn turned_texts(alloc: Global) -> Result<Vec<String>, AllocError> {
 }
 
 /// Runs a group of measurements of a shared interner. `Err`: the group is unknown, or a measurement failed.
-pub fn measure_texts<
-    S: SharedTexts + Empty + Sync + Drop,
-    R: Print + Eprint + Clock + Files + Threads + Sync + AllocGlobal,
->(rt: &R, report: &Report<'_>, group: &str) -> io::Result<()> {
+pub fn measure_texts<R: Print + Eprint + Clock + Files + Threads + Sync + AllocGlobal>(
+    rt: &R,
+    report: &Report<'_>,
+    group: &str,
+) -> io::Result<()> {
     match group {
-        "txt" => measure_names::<S, R>(rt, report, 1),
-        "txt4" => measure_names::<S, R>(rt, report, MOST),
+        "txt" => measure_names(rt, report, 1),
+        "txt4" => measure_names(rt, report, MOST),
         "words" => {
             let lists = Lists::of_words(rt.alloc())?;
-            measure_words::<S, R>(rt, report, &lists, 1)?;
-            measure_words::<S, R>(rt, report, &lists, MOST)
+            measure_words(rt, report, &lists, 1)?;
+            measure_words(rt, report, &lists, MOST)
         }
         _ => refuse_words(rt),
     }
 }
 
 /// Measures names with this number of threads: interning new ones, bytes per entry without its text, interning known ones, and checking the
-/// texts of numbers. Checks all numbers once before that is timed. `Err`: a wrong count or an I/O error.
-fn measure_names<
-    S: SharedTexts + Empty + Sync + Drop,
-    R: Print + Clock + Files + Threads + Sync + AllocGlobal,
->(rt: &R, report: &Report<'_>, threads: u64) -> io::Result<()> {
+/// texts of symbols. Checks all symbols once before that is timed. `Err`: a wrong count or an I/O error.
+fn measure_names<R: Print + Clock + Files + Threads + Sync + AllocGlobal>(
+    rt: &R,
+    report: &Report<'_>,
+    threads: u64,
+) -> io::Result<()> {
     let mut lists = Lists::of_names(rt.alloc())?;
-    let set = S::empty(rt.alloc())?;
+    let set = SharedInterner::new(rt.alloc())?;
     let before = resident_bytes(rt)?.saturating_add(TEXT_BYTES);
     time_job(rt, report, &set, &lists, Job::New, threads)?;
-    expect(set.count(), COUNT)?;
+    expect(set.len(), COUNT)?;
     let name = format!(in rt.alloc(); "t_rss{threads}")?;
     print_bytes(rt, report, name.as_str(), before, COUNT)?;
 
-    lists.numbers = list_numbers(rt.alloc(), &set, lists.turned.as_slice())?;
+    lists.symbols = list_symbols(rt.alloc(), &set, lists.turned.as_slice())?;
     expect(
         count_job(rt, rt.alloc(), &set, &lists, Job::Back, 1)?,
         COUNT,
@@ -142,20 +148,22 @@ fn measure_names<
 }
 
 /// Measures words with this number of threads, in a new interner. `Err`: a wrong count or an I/O error.
-fn measure_words<
-    S: SharedTexts + Empty + Sync + Drop,
-    R: Print + Clock + Threads + Sync + AllocGlobal,
->(rt: &R, report: &Report<'_>, lists: &Lists, threads: u64) -> io::Result<()> {
-    let set = S::empty(rt.alloc())?;
+fn measure_words<R: Print + Clock + Threads + Sync + AllocGlobal>(
+    rt: &R,
+    report: &Report<'_>,
+    lists: &Lists,
+    threads: u64,
+) -> io::Result<()> {
+    let set = SharedInterner::new(rt.alloc())?;
     time_job(rt, report, &set, lists, Job::Words, threads)?;
-    expect(set.count(), WORDS)
+    expect(set.len(), WORDS)
 }
 
 /// Times the job with this number of threads, and prints the result. `Err`: a wrong count or an I/O error.
-fn time_job<S: SharedTexts + Sync, R: Print + Clock + Threads + Sync + AllocGlobal>(
+fn time_job<R: Print + Clock + Threads + Sync + AllocGlobal>(
     rt: &R,
     report: &Report<'_>,
-    set: &S,
+    set: &SharedInterner,
     lists: &Lists,
     job: Job,
     threads: u64,
@@ -168,10 +176,10 @@ fn time_job<S: SharedTexts + Sync, R: Print + Clock + Threads + Sync + AllocGlob
 }
 
 /// Does the job with this number of threads. Returns how many calls succeeded. `Err`: memory for the threads was refused.
-fn count_job<S: SharedTexts + Sync, R: Threads + Sync>(
+fn count_job<R: Threads + Sync>(
     rt: &R,
     alloc: Global,
-    set: &S,
+    set: &SharedInterner,
     lists: &Lists,
     job: Job,
     threads: u64,
@@ -183,19 +191,20 @@ fn count_job<S: SharedTexts + Sync, R: Threads + Sync>(
         threads as usize,
         &|worker: usize| {
             let from = count.wrapping_mul(worker as u64);
-            set.by_thread(&Part {
+            let part = Part {
                 job,
                 lists,
                 from,
                 count,
-            })
+            };
+            part.run(&mut set.names())
         },
     )?;
     Ok(total(counts.as_slice()))
 }
 
 /// The part of a job that one thread does. It begins at index `from`. If the texts are new, it interns `count` of them.
-#[derive(Clone, Copy)]
+#[derive(Drop)]
 struct Part<'a> {
     job: Job,
     lists: &'a Lists,
@@ -203,139 +212,117 @@ struct Part<'a> {
     count: u64,
 }
 
-/// The answer is how many calls succeeded.
-impl<'a> TextTask for Part<'a> {
-    type Answer = u64;
-
-    fn run<N: Naming>(&self, naming: &mut N) -> u64 {
+impl Part<'_> {
+    /// Does the part. Returns how many calls succeeded.
+    fn run(&self, names: &mut Names<'_>) -> u64 {
         let texts = self.lists.texts.as_slice();
         match self.job {
-            Job::New => count_new(naming, texts, self.from, self.count),
-            Job::Known => count_known(naming, self.lists, self.from),
-            Job::Back => count_back(naming, self.lists, self.from),
-            Job::Words => count_words(naming, texts, self.from),
+            Job::New => count_new(names, texts, self.from, self.count),
+            Job::Known => count_known(names, self.lists, self.from),
+            Job::Back => count_back(names, self.lists, self.from),
+            Job::Words => count_words(names, texts, self.from),
         }
     }
 }
 
-/// Interns `count` texts, from index `from` on. Returns how many got a number.
-fn count_new<N: Naming>(naming: &mut N, texts: &[String], from: u64, count: u64) -> u64 {
+/// Interns `count` texts, from index `from` on. Returns how many got a symbol.
+fn count_new(names: &mut Names<'_>, texts: &[String], from: u64, count: u64) -> u64 {
     let mut named = 0u64;
     for index in 0..count {
         let at = from.wrapping_add(index);
-        named = named.wrapping_add(u64::from(is_named(naming, texts, at)));
+        named = named.wrapping_add(u64::from(is_named(names, texts, at)));
     }
     named
 }
 
-/// Interns a million drawn words, from draw `from` on. Returns how many got a number.
-fn count_words<N: Naming>(naming: &mut N, texts: &[String], from: u64) -> u64 {
+/// Interns a million drawn words, from draw `from` on. Returns how many got a symbol.
+fn count_words(names: &mut Names<'_>, texts: &[String], from: u64) -> u64 {
     let mut named = 0u64;
     for index in 0..COUNT {
         let at = spread(from.wrapping_add(index)) % WORDS;
-        named = named.wrapping_add(u64::from(is_named(naming, texts, at)));
+        named = named.wrapping_add(u64::from(is_named(names, texts, at)));
     }
     named
 }
 
-/// Interns the text of this index. Returns whether it got a number.
-fn is_named<N: Naming>(naming: &mut N, texts: &[String], index: u64) -> bool {
+/// Interns the text of this index. Returns whether it got a symbol.
+fn is_named(names: &mut Names<'_>, texts: &[String], index: u64) -> bool {
     match texts.get(index as usize) {
-        Some(text) => naming.number_of(text.as_str()).is_some(),
+        Some(text) => names.intern(text.as_str()).is_ok(),
         None => false,
     }
 }
 
-/// Interns all known texts, from index `from` on. Returns how many got their listed number.
-fn count_known<N: Naming>(naming: &mut N, lists: &Lists, from: u64) -> u64 {
+/// Interns all known texts, from index `from` on. Returns how many got their listed symbol.
+fn count_known(names: &mut Names<'_>, lists: &Lists, from: u64) -> u64 {
     let mut known = 0u64;
     for index in 0..COUNT {
         let at = from.wrapping_add(index) % COUNT;
-        known = known.wrapping_add(u64::from(is_known(naming, lists, at)));
+        known = known.wrapping_add(u64::from(is_known(names, lists, at)));
     }
     known
 }
 
-/// Interns the known text of this index. Returns whether it got its listed number.
-fn is_known<N: Naming>(naming: &mut N, lists: &Lists, index: u64) -> bool {
+/// Interns the known text of this index. Returns whether it got its listed symbol.
+fn is_known(names: &mut Names<'_>, lists: &Lists, index: u64) -> bool {
     let at = index as usize;
-    match (lists.turned.get(at), lists.numbers.get(at)) {
-        (Some(text), Some(number)) => match naming.number_of(text.as_str()) {
-            Some(given) => given == *number,
-            None => false,
+    match (lists.turned.get(at), lists.symbols.get(at)) {
+        (Some(text), Some(symbol)) => match names.intern(text.as_str()) {
+            Ok(given) => given == *symbol,
+            Err(_) => false,
         },
         _ => false,
     }
 }
 
-/// Checks all listed numbers, from index `from` on. Returns how many have their text.
-fn count_back<N: Naming>(naming: &mut N, lists: &Lists, from: u64) -> u64 {
+/// Checks all listed symbols, from index `from` on. Returns how many have their text.
+fn count_back(names: &mut Names<'_>, lists: &Lists, from: u64) -> u64 {
     let mut back = 0u64;
     for index in 0..COUNT {
         let at = from.wrapping_add(index) % COUNT;
-        back = back.wrapping_add(u64::from(is_back(naming, lists, at)));
+        back = back.wrapping_add(u64::from(is_back(names, lists, at)));
     }
     back
 }
 
-/// Returns whether the listed number of this index has its text.
-fn is_back<N: Naming>(naming: &mut N, lists: &Lists, index: u64) -> bool {
+/// Returns whether the listed symbol of this index has its text.
+fn is_back(names: &mut Names<'_>, lists: &Lists, index: u64) -> bool {
     let at = index as usize;
-    match (lists.turned.get(at), lists.numbers.get(at)) {
-        (Some(text), Some(number)) => naming.is_text(*number, text.as_str()),
+    match (lists.turned.get(at), lists.symbols.get(at)) {
+        (Some(text), Some(symbol)) => names.text(*symbol) == Some(text.as_str()),
         _ => false,
     }
 }
 
-/// The task that lists the numbers of texts.
-#[derive(Drop)]
-struct Listed<'a> {
+/// Interns these texts, and returns their symbols. `Err`: memory was refused.
+fn list_symbols(
     alloc: Global,
-    texts: &'a [String],
-}
-
-impl<'a> TextTask for Listed<'a> {
-    type Answer = Result<Vec<u64>, AllocError>;
-
-    fn run<N: Naming>(&self, naming: &mut N) -> Result<Vec<u64>, AllocError> {
-        let mut numbers = Vec::new(self.alloc);
-        for text in self.texts {
-            let Some(number) = naming.number_of(text.as_str()) else {
-                return Err(AllocError);
-            };
-            numbers.push(number)?;
-        }
-        Ok(numbers)
-    }
-}
-
-/// Interns these texts, and returns their numbers. `Err`: memory was refused.
-fn list_numbers<S: SharedTexts>(
-    alloc: Global,
-    set: &S,
+    set: &SharedInterner,
     texts: &[String],
-) -> Result<Vec<u64>, AllocError> {
-    set.by_thread(&Listed { alloc, texts })
+) -> Result<Vec<Symbol>, AllocError> {
+    let mut names = set.names();
+    let mut symbols = Vec::new(alloc);
+    for text in texts {
+        symbols.push(names.intern(text.as_str())?)?;
+    }
+    Ok(symbols)
 }
 
 /// Does each job once by four threads, without a clock, and prints counts. `Err`: memory was refused, or the output failed.
-pub fn check_texts<S: SharedTexts + Empty + Sync + Drop, R: Print + Threads + Sync + AllocGlobal>(
-    rt: &R,
-    name: &str,
-) -> io::Result<()> {
+pub fn check_texts<R: Print + Threads + Sync + AllocGlobal>(rt: &R, name: &str) -> io::Result<()> {
     let alloc = rt.alloc();
     let mut lists = Lists::of_names(alloc)?;
-    let set = S::empty(alloc)?;
+    let set = SharedInterner::new(alloc)?;
     let named = count_job(rt, alloc, &set, &lists, Job::New, MOST)?;
-    let count = set.count();
+    let count = set.len();
     println!(rt; "{name} by four: {named} named, {count} texts")?;
 
-    lists.numbers = list_numbers(alloc, &set, lists.turned.as_slice())?;
+    lists.symbols = list_symbols(alloc, &set, lists.turned.as_slice())?;
     let known = count_job(rt, alloc, &set, &lists, Job::Known, MOST)?;
     let back = count_job(rt, alloc, &set, &lists, Job::Back, MOST)?;
     println!(rt; "{name} by four: {known} known, {back} back")?;
 
-    let words = S::empty(alloc)?;
+    let words = SharedInterner::new(alloc)?;
     let named = count_job(
         rt,
         alloc,
@@ -344,6 +331,6 @@ pub fn check_texts<S: SharedTexts + Empty + Sync + Drop, R: Print + Threads + Sy
         Job::Words,
         MOST,
     )?;
-    let count = words.count();
+    let count = words.len();
     println!(rt; "{name} by four: {named} words named, {count} texts")
 }

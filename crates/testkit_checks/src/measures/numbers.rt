@@ -2,10 +2,11 @@
 ghost use Rattle.std.specs.Prelude.{◌≡◌, ◌<◌};
 ghost use Rattle.testkit_checks.specs.Numbers.{index_of_turn};
 
-use lock_free_hashtable::atomic_value::{AtomicValue, InPlace};
 use lock_free_hashtable::raw::HeldRawTable;
 use std::alloc::{AllocError, Global};
 use table_terms::law::{NumberLaw, hash_number};
+use testkit::counting::asked::{hash, same};
+use testkit::counting::made::Made;
 
 /// The number of keys of a measurement.
 pub const COUNT: u64 = 1_000_000;
@@ -56,28 +57,10 @@ pub trait KeySet {
     fn contains(&mut self, number: u64) -> bool;
 }
 
-/// A value of a table whose target is a number.
-pub trait NumberValue: AtomicValue<Target = u64> {
-    /// Makes the value of this number. `Err`: memory was refused.
-    fn of(alloc: Global, number: u64) -> Result<Self, AllocError>;
-}
-
-impl NumberValue for Box<u64> {
-    fn of(alloc: Global, number: u64) -> Result<Self, AllocError> {
-        Ok(Box::new(alloc, number)?)
-    }
-}
-
-impl NumberValue for InPlace<u64> {
-    fn of(_alloc: Global, number: u64) -> Result<Self, AllocError> {
-        Ok(InPlace(number))
-    }
-}
-
 /// A table of numbers.
 pub trait NumberTable {
     /// The type of the values.
-    type Value: NumberValue;
+    type Value: Made<Target = u64>;
 
     /// Makes an empty table.
     fn empty(alloc: Global) -> Self;
@@ -108,9 +91,9 @@ impl<T: NumberTable> Empty for Numbers<T> {
 
 impl<T: HeldTable> KeySet for Numbers<T> {
     fn insert(&mut self, number: u64) -> bool {
-        match T::Value::of(self.alloc, number) {
-            Ok(value) => self.table.place(number, value),
-            Err(_) => false,
+        match T::Value::made(self.alloc, number) {
+            Some(value) => self.table.place(number, value),
+            None => false,
         }
     }
 
@@ -119,20 +102,10 @@ impl<T: HeldTable> KeySet for Numbers<T> {
     }
 }
 
-/// Returns whether two numbers are equal. Tables call it as `eq`.
-pub(crate) fn is_same(new: &u64, entry: &u64) -> bool {
-    *new == *entry
-}
-
-/// Returns the hash of a number. Tables call it as `hash_fn`.
-pub(crate) fn hash_of(entry: &u64) -> u64 {
-    hash_number(*entry)
-}
-
 /// A raw table as a set of numbers, stored as `V`.
 pub type NumberSet<V> = Numbers<HeldRawTable<V>>;
 
-impl<V: NumberValue> NumberTable for HeldRawTable<V> {
+impl<V: Made<Target = u64>> NumberTable for HeldRawTable<V> {
     type Value = V;
 
     fn empty(alloc: Global) -> Self {
@@ -145,14 +118,9 @@ impl<V: NumberValue> NumberTable for HeldRawTable<V> {
     }
 }
 
-impl<V: NumberValue> HeldTable for HeldRawTable<V> {
+impl<V: Made<Target = u64>> HeldTable for HeldRawTable<V> {
     fn place(&mut self, number: u64, value: V) -> bool {
-        let placed = self.insert_alone::<NumberLaw, _, _>(
-            hash_number(number),
-            value,
-            is_same,
-            hash_of,
-        );
+        let placed = self.insert_alone::<NumberLaw, _, _>(hash_number(number), value, same, hash);
         matches!(placed, Ok((_, None)))
     }
 }

@@ -1,16 +1,15 @@
 //! A `SharedSet` of records of three numbers. The first number is the key, and the other two follow from it.
 
-use crate::measures::numbers::{Empty, KeySet};
+use crate::measures::numbers::KeySet;
 use crate::measures::shared::SharedKeys;
 use crate::measures::tasks::Task;
 use shared_set::{Handle, Inserted, SharedSet};
-use std::alloc::{AllocError, Global};
 use std::sync::Wait;
 use table_sets::{Law, SetLaw};
 use table_terms::law::hash_number;
 
 /// A record of 24 bytes.
-#[derive(Clone, Copy, Drop)]
+#[derive(Clone, Copy)]
 pub struct Record {
     key: u64,
     next: u64,
@@ -58,12 +57,6 @@ impl SetLaw<Record> for RecordLaw {
 
 /// A `SharedSet` of records.
 pub type SharedSetRecords = SharedSet<Record, RecordLaw>;
-
-impl Empty for SharedSetRecords {
-    fn empty(alloc: Global) -> Result<Self, AllocError> {
-        SharedSet::new(alloc)
-    }
-}
 
 impl<'a> KeySet for Handle<'a, Record, RecordLaw> {
     fn insert(&mut self, number: u64) -> bool {

@@ -28,7 +28,7 @@ pub(crate) fn expect(count: u64, wanted: u64) -> io::Result<()>
 }
 
 /// The name under which measurements are printed.
-#[derive(Clone, Copy)]
+#[derive(Drop)]
 pub struct Report<'a> {
     pub name: &'a str,
 }

@@ -1,13 +1,14 @@
 //! `HeldSet` as a table of numbers.
 
-use crate::measures::numbers::{HeldTable, NumberTable, NumberValue, Numbers};
+use crate::measures::numbers::{HeldTable, NumberTable, Numbers};
 use std::alloc::Global;
 use table_sets::{HeldSet, Inserted, NumberLaw};
+use testkit::counting::made::Made;
 
 /// A `HeldSet` as a set of numbers, stored as `V`.
 pub type HeldSetKeys<V> = Numbers<HeldSet<V, NumberLaw>>;
 
-impl<V: NumberValue> NumberTable for HeldSet<V, NumberLaw> {
+impl<V: Made<Target = u64>> NumberTable for HeldSet<V, NumberLaw> {
     type Value = V;
 
     fn empty(alloc: Global) -> Self {
@@ -19,7 +20,7 @@ impl<V: NumberValue> NumberTable for HeldSet<V, NumberLaw> {
     }
 }
 
-impl<V: NumberValue> HeldTable for HeldSet<V, NumberLaw> {
+impl<V: Made<Target = u64>> HeldTable for HeldSet<V, NumberLaw> {
     fn place(&mut self, _number: u64, value: V) -> bool {
         matches!(self.insert(value), Inserted::Placed)
     }

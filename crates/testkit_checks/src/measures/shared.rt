@@ -1,11 +1,8 @@
 //! Measurements of sets that threads share, with one thread to four.
 
-use crate::measures::held::{Spread, count_once, count_spread, insert_spread, measure_rows};
-use crate::measures::numbers::{
-    COUNT, Empty, KeySet, NumberTable, NumberValue, Numbers, hash_of, is_same, total,
-};
+use crate::measures::held::{Once, Spread, count_spread, insert_spread, measure_rows};
+use crate::measures::numbers::{COUNT, Empty, KeySet, NumberTable, Numbers, total};
 use crate::measures::report::{Report, refuse_words};
-use crate::measures::sizes::Largest;
 use crate::measures::tasks::{Sets, Task};
 use crate::measures::work::{MOST, ROUNDS, SAME, Work, part_for};
 use std::alloc::{AllocError, Global};
@@ -17,6 +14,8 @@ use std::time::Instant;
 use std::{io, thread};
 use table_shared::LockFreeRawTable;
 use table_terms::law::hash_number;
+use testkit::counting::asked::{hash, same};
+use testkit::counting::made::Made;
 
 /// A set of numbers that threads share.
 pub trait SharedKeys {
@@ -40,7 +39,7 @@ struct ByThread<'a, T, R> {
 impl<'a, T: SharedTable, R: Wait> KeySet for ByThread<'a, T, R> {
     fn insert(&mut self, number: u64) -> bool {
         let (keys, rt) = (self.keys, self.rt);
-        T::Value::of(keys.alloc, number).is_ok_and(|value| keys.table.place(rt, number, value))
+        T::Value::made(keys.alloc, number).is_some_and(|value| keys.table.place(rt, number, value))
     }
 
     fn contains(&mut self, number: u64) -> bool {
@@ -71,7 +70,7 @@ impl<'a, S: SharedKeys + Empty + Drop, R: Wait + AllocGlobal> Sets for SharedSet
 /// A shared raw table as a set of numbers, stored as `V`.
 pub type SharedNumbers<V> = Numbers<LockFreeRawTable<V>>;
 
-impl<V: NumberValue + Send + Sync> NumberTable for LockFreeRawTable<V> {
+impl<V: Made<Target = u64> + Send + Sync> NumberTable for LockFreeRawTable<V> {
     type Value = V;
 
     fn empty(alloc: Global) -> Self {
@@ -84,9 +83,9 @@ impl<V: NumberValue + Send + Sync> NumberTable for LockFreeRawTable<V> {
     }
 }
 
-impl<V: NumberValue + Send + Sync> SharedTable for LockFreeRawTable<V> {
+impl<V: Made<Target = u64> + Send + Sync> SharedTable for LockFreeRawTable<V> {
     fn place<R: Wait>(&self, rt: &R, number: u64, value: V) -> bool {
-        let placed = self.insert(rt, hash_number(number), value, is_same, hash_of);
+        let placed = self.insert(rt, hash_number(number), value, same, hash);
         matches!(placed, Ok((_, None)))
     }
 }
@@ -102,10 +101,6 @@ pub fn measure_shared<
             let set = S::empty(rt.alloc())?;
             set.by_thread(rt, &Spread { rt, report })?;
             time_work(rt, report, &set, Work::Hits, MOST)
-        }
-        ("1e8", None) => {
-            let set = S::empty(rt.alloc())?;
-            set.by_thread(rt, &Largest { rt, report })
         }
         ("same", _) => measure_work::<R, S>(rt, report, Work::Same, threads),
         ("ins", _) => measure_work::<R, S>(rt, report, Work::Inserts, threads),
@@ -215,18 +210,6 @@ impl Task for Part {
             Work::Inserts => insert_spread(keys, self.from, self.keys),
             Work::Hits => count_spread(keys, self.from, 0),
         }
-    }
-}
-
-/// The task that counts spread keys once, in an empty set.
-#[derive(Drop)]
-struct Once {}
-
-impl Task for Once {
-    type Answer = (u64, u64, u64);
-
-    fn run<K: KeySet>(&self, keys: &mut K) -> (u64, u64, u64) {
-        count_once(keys)
     }
 }
 

@@ -23,7 +23,7 @@ const SIZE_1E7: Size = (10_000_000, 1, ["ins_1e7", "hit_1e7", "miss_1e7"]);
 const LARGEST: u64 = 100_000_000;
 
 /// Runs the group of measurements for a number of keys, such as `1e4`. `Err`: the group is unknown, or a measurement failed.
-pub(crate) fn measure_sizes<S: Sets, R: Print + Eprint + Clock>(
+pub(crate) fn measure_sizes<S: Sets, R: Print + Eprint + Clock + Files + AllocGlobal>(
     rt: &R,
     report: &Report<'_>,
     group: &str,
@@ -33,6 +33,7 @@ pub(crate) fn measure_sizes<S: Sets, R: Print + Eprint + Clock>(
         "1e4" => measure_size(rt, report, &SIZE_1E4, sets),
         "1e5" => measure_size(rt, report, &SIZE_1E5, sets),
         "1e7" => measure_size(rt, report, &SIZE_1E7, sets),
+        "1e8" => sets.with_empty(&Largest { rt, report })?,
         _ => refuse_words(rt),
     }
 }
@@ -125,40 +126,33 @@ fn look_all<S: KeySet>(set: &mut S, keys: u64, further: u64) -> u64 {
     found
 }
 
-/// The task that measures a hundred million spread keys.
+/// The task that measures a hundred million spread keys in an empty set: inserts, resident bytes, hits and misses. `Err`: a wrong count or
+/// an I/O error.
 #[derive(Drop)]
-pub(crate) struct Largest<'a, R> {
-    pub(crate) rt: &'a R,
-    pub(crate) report: &'a Report<'a>,
+struct Largest<'a, R> {
+    rt: &'a R,
+    report: &'a Report<'a>,
 }
 
 impl<'a, R: Print + Clock + Files + AllocGlobal> Task for Largest<'a, R> {
     type Answer = io::Result<()>;
 
     fn run<K: KeySet>(&self, set: &mut K) -> io::Result<()> {
-        measure_largest(self.rt, self.report, set)
+        let (rt, report) = (self.rt, self.report);
+        let before = resident_bytes(rt)?;
+
+        let start = Instant::now(rt)?;
+        let placed = insert_spread(set, 0, LARGEST);
+        report.time(rt, "ins_1e8", start, placed, LARGEST, LARGEST)?;
+
+        print_bytes(rt, report, "rss_1e8", before, LARGEST)?;
+
+        let start = Instant::now(rt)?;
+        let hits = look_all(set, LARGEST, 0);
+        report.time(rt, "hit_1e8", start, hits, LARGEST, LARGEST)?;
+
+        let start = Instant::now(rt)?;
+        let found = look_all(set, LARGEST, ABSENT);
+        report.time(rt, "miss_1e8", start, found, 0, LARGEST)
     }
-}
-
-/// Measures a hundred million spread keys in an empty set: inserts, resident bytes, hits and misses. `Err`: a wrong count or an I/O error.
-fn measure_largest<R: Print + Clock + Files + AllocGlobal, S: KeySet>(
-    rt: &R,
-    report: &Report<'_>,
-    set: &mut S,
-) -> io::Result<()> {
-    let before = resident_bytes(rt)?;
-
-    let start = Instant::now(rt)?;
-    let placed = insert_spread(set, 0, LARGEST);
-    report.time(rt, "ins_1e8", start, placed, LARGEST, LARGEST)?;
-
-    print_bytes(rt, report, "rss_1e8", before, LARGEST)?;
-
-    let start = Instant::now(rt)?;
-    let hits = look_all(set, LARGEST, 0);
-    report.time(rt, "hit_1e8", start, hits, LARGEST, LARGEST)?;
-
-    let start = Instant::now(rt)?;
-    let found = look_all(set, LARGEST, ABSENT);
-    report.time(rt, "miss_1e8", start, found, 0, LARGEST)
 }

@@ -1,8 +1,9 @@
 //! Measurements of the single-owner interner: numbers of new texts, numbers of known texts, and texts of numbers.
 
+use crate::measures::interning::texts_of;
 use crate::measures::report::{Report, refuse_words};
 use interner::Interner;
-use std::alloc::{AllocError, Global};
+use std::alloc::Global;
 use std::io;
 use std::num::NonZeroU32;
 use std::rt::Clock;
@@ -41,7 +42,7 @@ fn measure_texts<R: Print + Clock + AllocGlobal>(
     size: &Size,
 ) -> io::Result<()> {
     let (count, rounds, [new, known, back]) = *size;
-    let texts = texts_of(rt.alloc(), count)?;
+    let texts = texts_of(rt.alloc(), "name", u64::from(count))?;
 
     let start = Instant::now(rt)?;
     let given = count_new(rt.alloc(), texts.as_slice(), rounds);
@@ -60,21 +61,12 @@ fn measure_texts<R: Print + Clock + AllocGlobal>(
 
 /// Interns ten thousand texts twice, reads them by their numbers, and prints the counts. `Err`: memory was refused, or the output failed.
 pub fn check_interner<R: Print + AllocGlobal>(rt: &R) -> io::Result<()> {
-    let texts = texts_of(rt.alloc(), 10_000)?;
+    let texts = texts_of(rt.alloc(), "name", 10_000)?;
     let mut interner = Interner::new(rt.alloc());
     let new = intern_all(&mut interner, texts.as_slice());
     let known = intern_all(&mut interner, texts.as_slice());
     let back = texts_back(&interner, 10_000);
     println!(rt; "interner: {new} new, {known} known, {back} back")
-}
-
-/// Makes the texts name0, name1, .. `Err`: memory was refused.
-fn texts_of(alloc: Global, count: u32) -> Result<Vec<String>, AllocError> {
-    let mut texts = Vec::new(alloc);
-    for index in 0..count {
-        texts.push(format!(in alloc; "name{index}")?)?;
-    }
-    Ok(texts)
 }
 
 /// Interns the texts. Returns how many of them get the number of their place, from 1 on.

@@ -11,7 +11,7 @@ const SMALL: u64 = 10_000;
 const LARGE: u64 = 1_000_000;
 
 /// When no more rounds begin.
-#[derive(Clone, Copy, Debug, PartialEq, Eq)]
+#[derive(Clone, Copy)]
 pub enum End {
     /// After this number of rounds.
     Rounds(u64),
@@ -20,7 +20,7 @@ pub enum End {
 }
 
 /// The rounds of the seeds from the first one on, each with `most` values at most.
-#[derive(Clone, Copy, Debug, PartialEq, Eq)]
+#[derive(Clone, Copy)]
 pub struct Plan {
     pub end: End,
     pub first_seed: u64,

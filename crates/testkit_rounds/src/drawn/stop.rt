@@ -4,7 +4,7 @@ use std::fmt::{Display, Formatter};
 use std::{fmt, io};
 
 /// The reason to end rounds early.
-#[derive(Debug, Drop)]
+#[derive(Drop)]
 pub enum Stop {
     /// A round had a fault.
     Fault(Round, RoundFault),

@@ -8,8 +8,8 @@ use std::alloc::{AllocError, Global};
 use std::process::Abort;
 use std::test::Fail;
 use testkit::counting::numbers::{InsertEnd, refused_in_turn};
-use testkit::plain_list::reply::PlainReply;
 use testkit::refusing::{Refusing, Rule};
+use testkit::reply::PlainReply;
 
 /// How many runs are made. Each grants one request more than the run before, and refuses the next one.
 const RUNS: u64 = 100;
@@ -130,7 +130,8 @@ fn assert_replies_or_refused(
 }
 
 /// Makes the inserts by one list of calls while the request after the first `passing` ones is refused, and asserts that the answers are
-/// right. If the memory for the replies is refused, it asserts that all calls are returned. `Err`: no memory for the test itself.
+/// right. The first request is the one for the replies: if it is refused, asserts that all calls are returned and the table is empty.
+/// `Err`: no memory for the test itself.
 fn assert_run(
     rt: &impl Abort,
     alloc: Global,
@@ -150,7 +151,7 @@ fn assert_run(
                 steps.as_slice(),
                 replies.as_slice(),
             )?;
-            assert!(rt; table.len_alone() == placed);
+            assert!(rt; passing != 0 && table.len_alone() == placed);
         }
         Err(back) => assert!(rt; passing == 0 && back.len() == 18 && table.len_alone() == 0),
     }

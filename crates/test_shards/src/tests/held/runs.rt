@@ -8,8 +8,7 @@ use std::alloc::{AllocError, Allocator, Global};
 use std::process::Abort;
 use std::test::Fail;
 use table_terms::law::{NumberLaw, hash_number};
-use testkit::plain_list::PlainList;
-use testkit::plain_list::reply::{PlainReply, plain_reply};
+use testkit::reply::{PlainReply, plain_reply};
 
 /// A call on a table of numbers.
 #[derive(Clone, Copy)]
@@ -96,9 +95,8 @@ fn answers_as<B: AloneTable<Box<u64>, NumberLaw>>(
     }
 }
 
-/// Asserts that a new table of each kind gives the expected answers: the plain list, the raw table, and tables over shards.
+/// Asserts that a new table of each kind gives the expected answers: the raw table, and tables over shards.
 fn assert_replies(rt: &impl Abort, alloc: Global, steps: &[Step], expected: &[PlainReply]) {
-    assert!(rt; answers_as(alloc, &mut PlainList::new(alloc), steps, expected));
     assert!(rt; answers_as(alloc, &mut HeldRawTable::new(alloc), steps, expected));
     assert!(rt; answers_as_over_shards(alloc, steps, expected));
 }

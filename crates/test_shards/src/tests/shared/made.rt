@@ -1,15 +1,10 @@
 //! Functions that make new tables, one for each number of shards. Each number is a power of two, as `new` requires.
 ghost use Rattle.table_terms.specs.Capacities.{IsFirstCapacity};
 
-use lock_free_hashtable::sharded::{HeldShardedTable, ShardedLockFreeRawTable};
+use lock_free_hashtable::sharded::ShardedLockFreeRawTable;
 use std::alloc::Global;
 use table_generations::atomic_value::AtomicValue;
 use testkit::refusing::Refusing;
-
-/// Makes a single-owner table over eight shards.
-pub(crate) fn eight_held(alloc: Global) -> HeldShardedTable<Box<u64>, 8> {
-    HeldShardedTable::new(alloc)
-}
 
 /// Makes a table over eight shards.
 pub(crate) fn eight<T: AtomicValue>(alloc: Global) -> ShardedLockFreeRawTable<T, 8> {

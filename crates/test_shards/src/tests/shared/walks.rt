@@ -1,7 +1,8 @@
 //! Tests of look-ups and iterators with a thousand numbers over eight shards.
-use super::made::{eight, eight_held};
+use super::made::eight;
 use super::numbers::{InsertEnd, Inserts, Sharded, Table, assert_handed};
 use crate::tests::assert_same;
+use crate::tests::held::makers::eight_shards;
 use lock_free_hashtable::sharded::{HeldShardedTable, Share};
 use std::alloc::{AllocError, Global};
 use std::process::Abort;
@@ -47,7 +48,7 @@ fn what_is_inserted_is_walked_and_handed_out_once(rt: HostRuntime) -> Result<(),
 
 /// Makes a single-owner table of the numbers below `NUMBERS`. `Err`: no memory.
 fn held(alloc: Global) -> Result<HeldShardedTable<Box<u64>, 8>, AllocError> {
-    let mut table = eight_held(alloc);
+    let mut table = eight_shards(alloc);
     for number in 0..NUMBERS {
         let value = Box::new(alloc, number)?;
         let _told = table.place_alone::<NumberLaw, _, _>(hash_number(number), value, &same, &hash);

@@ -6,7 +6,7 @@ use lock_free_hashtable::InPlace;
 use lock_free_hashtable::alone::Reply;
 use std::process::Abort;
 use std::test::Fail;
-use testkit::plain_list::reply::{PlainReply, plain_reply};
+use testkit::reply::{PlainReply, plain_reply};
 
 /// The words `LOW`, `SECOND`, `THIRD` and `HIGH` belong to the shards 0, 1, 2 and 3.
 const LOW: u64 = 7;

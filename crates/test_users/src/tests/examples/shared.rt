@@ -1,14 +1,15 @@
 //! A caller that doesn't know the kind of its tables shares them, while every request for memory is refused.
+ghost use Rattle.std.specs.Iterator.{IsFinite};
+
 use super::assert_same;
 use demo_examples::held::Words;
 use demo_examples::shared::share_both;
-use lock_free_hashtable::sharded::{HeldShardedTable, ShardedLockFreeRawTable};
-use lock_free_hashtable::{HeldRawTable, InPlace, LockFreeRawTable};
-use std::alloc::Global;
+use lock_free_hashtable::sharded::HeldShardedTable;
+use lock_free_hashtable::{HeldRawTable, InPlace};
 use std::process::Abort;
-use testkit::refusing::{Refusing, Rule};
+use testkit::refusing::{Heap, counted};
 
-type Memory<'a> = &'a Refusing<Global>;
+type Memory<'a> = &'a Heap;
 
 /// How many words the first table has.
 const WORDS: u64 = 40;
@@ -16,10 +17,8 @@ const WORDS: u64 = 40;
 /// Each word adds itself and this number to a sum, so that the sum also counts the words.
 const COUNTED: u64 = 1 << 32;
 
-/// Makes an allocator that counts its requests, and grants them until `refuse` is called.
-fn memory(alloc: Global) -> Refusing<Global> {
-    Refusing::new(alloc, Rule::new(0, usize::MAX, 0, 0))
-}
+/// That sum for the words of the first table. The words themselves have the sum 780.
+const SUM: u64 = WORDS * COUNTED + 780;
 
 /// Makes a raw table of the words below `words`.
 fn raw<'a>(memory: Memory<'a>, words: u64) -> HeldRawTable<InPlace<u64>, Memory<'a>> {
@@ -48,36 +47,21 @@ fn sharded<'a>(memory: Memory<'a>, words: u64) -> HeldShardedTable<InPlace<u64>,
     table
 }
 
-/// Returns the sum of the words of a raw table, plus `COUNTED` for each word.
-fn sum_of_raw(table: &LockFreeRawTable<InPlace<u64>, Memory<'_>>) -> u64 {
+/// Returns the sum of the words that an iterator yields, plus `COUNTED` for each word.
+fn sum_of<'a, I: Iterator<Item = &'a u64> + Drop>(walk: I) -> u64
+    requires can { I.can_next walk }
+    requires ends { IsFinite (I.remaining walk) }
+{
     let mut sum = 0u64;
-    for word in table {
+    for word in walk {
         sum = sum.wrapping_add(COUNTED).wrapping_add(*word);
-    }
-    sum
-}
-
-/// Returns the sum of the words of a table over shards, plus `COUNTED` for each word.
-fn sum_of_shards(table: &ShardedLockFreeRawTable<InPlace<u64>, 2, Memory<'_>>) -> u64 {
-    let mut sum = 0u64;
-    for word in table {
-        sum = sum.wrapping_add(COUNTED).wrapping_add(*word);
-    }
-    sum
-}
-
-/// Returns the sum of the words below `words`, plus `COUNTED` for each word.
-fn sum_below(words: u64) -> u64 {
-    let mut sum = 0u64;
-    for word in 0..words {
-        sum = sum.wrapping_add(COUNTED).wrapping_add(word);
     }
     sum
 }
 
 /// Asserts the sums of the two shared tables, and that no request was made after the first `granted` ones.
 fn assert_shared(rt: &impl Abort, memory: Memory<'_>, granted: u64, sums: [u64; 2]) {
-    assert_same(rt, sums, [sum_below(WORDS), sum_below(0)]);
+    assert_same(rt, sums, [SUM, 0]);
     assert_same(
         rt,
         [memory.granted(), memory.refusals_left()],
@@ -87,22 +71,22 @@ fn assert_shared(rt: &impl Abort, memory: Memory<'_>, granted: u64, sums: [u64; 
 
 #[test]
 fn raw_tables_are_shared_without_memory(rt: HostRuntime) {
-    let memory = memory(rt.alloc());
+    let memory = counted(rt.alloc());
     let (one, other) = (raw(&memory, WORDS), raw(&memory, 0));
     let granted = memory.granted();
     memory.refuse(0, u64::MAX);
     let (one, other) = share_both(one, other);
-    let sums = [sum_of_raw(&one), sum_of_raw(&other)];
+    let sums = [sum_of((&one).into_iter()), sum_of((&other).into_iter())];
     assert_shared(&rt, &memory, granted, sums);
 }
 
 #[test]
 fn tables_over_shards_are_shared_without_memory(rt: HostRuntime) {
-    let memory = memory(rt.alloc());
+    let memory = counted(rt.alloc());
     let (one, other) = (sharded(&memory, WORDS), sharded(&memory, 0));
     let granted = memory.granted();
     memory.refuse(0, u64::MAX);
     let (one, other) = share_both(one, other);
-    let sums = [sum_of_shards(&one), sum_of_shards(&other)];
+    let sums = [sum_of((&one).into_iter()), sum_of((&other).into_iter())];
     assert_shared(&rt, &memory, granted, sums);
 }

@@ -1,7 +1,7 @@
 //! The requests for memory that an interner makes, and their order.
 use super::{assert_same, text_of};
 use interner::{Interner, Refused};
-use std::alloc::{AllocError, Global};
+use std::alloc::Global;
 use std::process::Abort;
 use std::test::Fail;
 use testkit::refusing::{Refusing, Rule};
@@ -26,15 +26,6 @@ fn interner_of_first<'a>(
         assert!(rt; interner.intern_alone(text).is_ok());
     }
     interner
-}
-
-/// Returns a text of `LONG` bytes. `Err`: no memory.
-fn long_text(alloc: Global) -> Result<String, AllocError> {
-    let mut text = String::new(alloc);
-    for _ in 0..LONG {
-        text.push('x')?;
-    }
-    Ok(text)
 }
 
 /// Interns the text while the request of a size in this range is refused. Returns how many requests the text was granted before it.
@@ -63,7 +54,7 @@ fn granted_before(
 /// Checks that the interner requests the room of the vector first, then the bytes of the text, and the table's block last.
 #[test]
 fn room_then_the_text_then_the_table(rt: HostRuntime) -> Result<(), Fail> {
-    let text = long_text(rt.alloc())?;
+    let text = "x".repeat(rt.alloc(), LONG)?;
     for (place, sizes) in ORDER.iter().enumerate() {
         let granted = granted_before(&rt, rt.alloc(), text.as_str(), *sizes);
         assert_same(&rt, granted, place as u64);

@@ -58,10 +58,7 @@ fn numbers_follow_first_appearance(rt: HostRuntime) {
 
 /// Interns a long text, and then the same text with one more byte. Asserts that they get two numbers. `Err`: no memory.
 fn intern_long(rt: &impl Abort, alloc: Global) -> Result<(), AllocError> {
-    let mut text = String::new(alloc);
-    for _ in 0..LONG {
-        text.push('x')?;
-    }
+    let mut text = "x".repeat(alloc, LONG)?;
     let mut interner = Interner::new(alloc);
     assert_same(rt, intern(rt, &mut interner, text.as_str()), 1);
     text.push('y')?;

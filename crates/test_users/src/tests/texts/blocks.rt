@@ -1,6 +1,5 @@
 //! Tools read their input and write their output a block at a time, so they make few calls of the system.
-use super::{DEDUP, WORDS, assert_status, numbered_lines, run_writing};
-use std::alloc::Global;
+use super::{ALONE, DEDUP, WORDS, assert_same, numbered_lines, run_writing};
 use std::cell::Cell;
 use std::io;
 use std::io::{Read, Write};
@@ -57,7 +56,12 @@ impl Write for CountedWrites<'_> {
 }
 
 /// Asserts that a tool makes at most one read for each block of input, and one write for each block of output and of input, plus three.
-fn assert_by_blocks(rt: &(impl Abort + Threads + Sync), heap: Global, tool: &str, text: &str) {
+/// `Err`: no memory.
+fn assert_by_blocks(
+    rt: &(impl Abort + Threads + AllocGlobal + Sync),
+    tool: &str,
+    text: &str,
+) -> Result<(), Fail> {
     let (reads, writes, written) = (Cell::new(0), Cell::new(0), Cell::new(0));
     let input = CountedReads {
         rest: text.as_bytes(),
@@ -67,18 +71,19 @@ fn assert_by_blocks(rt: &(impl Abort + Threads + Sync), heap: Global, tool: &str
         calls: &writes,
         bytes: &written,
     };
-    let (status, _) = run_writing(rt, heap, tool, input, &mut output);
-    assert_status(rt, status, 0);
+    let (status, _) = run_writing(rt, ALONE, tool, input, &mut output)?;
+    assert_same(rt, status, 0);
     assert!(rt; written.get() >= text.len());
     assert!(rt; reads.get() <= text.len() / READ + 3);
     assert!(rt; writes.get() <= written.get() / WRITTEN + text.len() / READ + 3);
+    Ok(())
 }
 
 #[test]
 fn input_and_output_go_by_blocks(rt: HostRuntime) -> Result<(), Fail> {
     let text = numbered_lines(rt.alloc(), LINES, 100)?;
     for tool in [WORDS, DEDUP] {
-        assert_by_blocks(&rt, rt.alloc(), tool, text.as_str());
+        assert_by_blocks(&rt, tool, text.as_str())?;
     }
     Ok(())
 }

@@ -1,7 +1,6 @@
 //! Words that collide under a simple hash, as an attacker may choose them.
-use super::{WORDS, assert_status, run_on};
+use super::{ALONE, EMPTY_SHELF, WORDS, assert_same, run};
 use std::alloc::Global;
-use std::io;
 use std::process::Abort;
 use std::test::Fail;
 use std::thread::Threads;
@@ -44,32 +43,31 @@ fn all_words(heap: Global, parts: [&str; 2]) -> Result<String, Fail> {
     Ok(text)
 }
 
-/// Returns how long it takes to count these words, and asserts that all are counted. `Err` means that the clock can't be read.
-fn time_of<R: Clock + Abort + Threads + Sync>(
+/// Returns how long it takes to count these words, and asserts that all are counted. `Err`: no memory, or the clock can't be read.
+fn time_of<R: Clock + Abort + Threads + AllocGlobal + Sync>(
     rt: &R,
-    heap: Global,
     text: &str,
-) -> io::Result<Duration> {
+) -> Result<Duration, Fail> {
     let start = Instant::now(rt)?;
-    let ended = run_on(rt, heap, WORDS, heap, text.as_bytes());
+    let input = text.as_bytes();
+    let ended = run(rt, rt.alloc(), &EMPTY_SHELF, ALONE, &[WORDS], input)?;
     let end = Instant::now(rt)?;
     let lines = ended.output.as_slice().iter();
     let count = lines.filter(|byte| **byte == b'\n').count();
-    assert_status(rt, ended.status, 0);
+    assert_same(rt, ended.status, 0);
     assert!(rt; count == COUNT as usize);
     Ok(end.saturating_duration_since(start))
 }
 
-/// Returns the least times of `TRIES` counts of each of two texts. `Err` means that the clock can't be read.
-fn least_times_of<R: Clock + Abort + Threads + Sync>(
+/// Returns the least times of `TRIES` counts of each of two texts. `Err`: no memory, or the clock can't be read.
+fn least_times_of<R: Clock + Abort + Threads + AllocGlobal + Sync>(
     rt: &R,
-    heap: Global,
     one: &str,
     other: &str,
-) -> io::Result<(Duration, Duration)> {
-    let mut least = (time_of(rt, heap, one)?, time_of(rt, heap, other)?);
+) -> Result<(Duration, Duration), Fail> {
+    let mut least = (time_of(rt, one)?, time_of(rt, other)?);
     for _again in 1..TRIES {
-        let (by_one, by_other) = (time_of(rt, heap, one)?, time_of(rt, heap, other)?);
+        let (by_one, by_other) = (time_of(rt, one)?, time_of(rt, other)?);
         least = (least.0.min(by_one), least.1.min(by_other));
     }
     Ok(least)
@@ -79,12 +77,7 @@ fn least_times_of<R: Clock + Abort + Threads + Sync>(
 fn words_that_collide_under_a_simple_hash_cost_no_more(rt: HostRuntime) -> Result<(), Fail> {
     let plain = all_words(rt.alloc(), PLAIN)?;
     let colliding = all_words(rt.alloc(), COLLIDING)?;
-    let (by_plain, by_colliding) = least_times_of(
-        &rt,
-        rt.alloc(),
-        plain.as_str(),
-        colliding.as_str(),
-    )?;
+    let (by_plain, by_colliding) = least_times_of(&rt, plain.as_str(), colliding.as_str())?;
     assert!(rt; by_colliding.as_nanos() <= by_plain.as_nanos().saturating_mul(u128::from(MOST)));
     Ok(())
 }

@@ -1,11 +1,9 @@
 //! Runs of the tools over named files.
-use super::{HELP, Shelf, assert_ended, run_files};
-use std::alloc::Global;
-use std::process::Abort;
-use std::thread::Threads;
+use super::{ALONE, HELP, Shelf, USAGE, assert_ended, assert_splits, run};
+use std::test::Fail;
 
 /// Two files without a last line break, one that isn't UTF-8, an empty one, and two whose names are options.
-pub(super) const SHELF: Shelf = Shelf {
+const SHELF: Shelf = Shelf {
     files: &[
         ("one", b"b a\nb"),
         ("two", b"b\nc"),
@@ -17,10 +15,10 @@ pub(super) const SHELF: Shelf = Shelf {
 };
 
 /// The arguments of a run over the input `b d` and a line break, its output, its messages and its status.
-pub(super) type Row = (&'static [&'static str], &'static str, &'static str, u8);
+type Row = (&'static [&'static str], &'static str, &'static str, u8);
 
 /// The end of a file ends its last line, so the next file begins a new one.
-pub(super) const RUNS: [Row; 17] = [
+const RUNS: [Row; 13] = [
     (&["words", "one"], "1 b 2\n2 a 1\n", "", 0),
     (&["words", "one", "two"], "1 b 3\n2 a 1\n3 c 1\n", "", 0),
     (&["dedup", "one", "two"], "b a\nb\nc\n", "", 0),
@@ -51,22 +49,49 @@ pub(super) const RUNS: [Row; 17] = [
         1,
     ),
     (&["dedup", "--", "-h"], "s\n", "", 0),
+];
+
+#[test]
+fn files_are_read_in_their_order(rt: HostRuntime) -> Result<(), Fail> {
+    for (words, written, said, status) in RUNS {
+        let wanted = (written.as_bytes(), said, status);
+        assert_splits(&rt, &SHELF, words, b"b d\n", wanted)?;
+    }
+    Ok(())
+}
+
+/// Arguments with numbers of threads, right and wrong ones, and those that ask for help, and what their runs print.
+const ARGUMENTS: [Row; 17] = [
+    (&["words", "--threads", "2"], "1 b 1\n2 d 1\n", "", 0),
+    (
+        &["dedup", "--threads", "64", "two", "-"],
+        "b\nc\nb d\n",
+        "",
+        0,
+    ),
+    (&["dedup", "--threads", "01", "two"], "b\nc\n", "", 0),
+    (&["dedup", "--threads", "3", "--", "--help"], "h\n", "", 0),
+    (&["dedup", "--threads", "3", "--help"], "h\n", "", 0),
+    (&["words", "--threads"], "", USAGE, 2),
+    (&["words", "--threads", "0"], "", USAGE, 2),
+    (&["words", "--threads", "65"], "", USAGE, 2),
+    (&["words", "--threads", "two"], "", USAGE, 2),
+    (&["words", "--threads", ""], "", USAGE, 2),
+    (&["words", "--threads", "+2"], "", USAGE, 2),
+    (&["words", "--threads", "--", "two"], "", USAGE, 2),
+    (&["--threads", "2", "words"], "", USAGE, 2),
     (&["--help"], HELP, "", 0),
     (&["-h"], HELP, "", 0),
     (&["words", "--help"], HELP, "", 0),
     (&["dedup", "-h"], HELP, "", 0),
 ];
 
-/// Asserts the output, the messages and the status of a run over the files.
-fn assert_runs(rt: &(impl Abort + Threads + Sync), heap: Global, row: &Row) {
-    let (words, written, said, status) = *row;
-    let ended = run_files(rt, heap, &SHELF, words, b"b d\n");
-    assert_ended(rt, &ended, written.as_bytes(), said, status);
-}
-
 #[test]
-fn files_are_read_in_their_order(rt: HostRuntime) {
-    for row in &RUNS {
-        assert_runs(&rt, rt.alloc(), row);
+fn arguments_ask_for_help_or_a_number_of_threads(rt: HostRuntime) -> Result<(), Fail> {
+    for (words, written, said, status) in ARGUMENTS {
+        let input = b"b d\n".as_slice();
+        let ended = run(&rt, rt.alloc(), &SHELF, ALONE, words, input)?;
+        assert_ended(&rt, &ended, written.as_bytes(), said, status);
     }
+    Ok(())
 }

@@ -1,11 +1,11 @@
 //! The arguments of the program.
-use super::{Ended, HELP, Shelf, USAGE, assert_ended, host_of};
+use super::{Ended, HELP, Shelf, USAGE, assert_ended};
 use std::alloc::{Allocator, Global};
 use std::process::Abort;
 use std::thread::Threads;
 use testkit::refusing::{Refusing, Rule};
 use testkit::streams::Called;
-use tool_lines::program::run_program;
+use tool_lines::program::{Host, PIECE, run_program};
 
 /// The arguments of a run, its output, its messages and its status.
 type Row = (&'static [&'static [u8]], &'static str, &'static str, u8);
@@ -39,14 +39,14 @@ fn run_called<R: Threads + Sync, A: Allocator + Copy>(
     called: &Called<A>,
     input: &[u8],
 ) -> Ended {
+    let host = Host {
+        rt,
+        files: &SHELF,
+        alloc: heap,
+        piece: PIECE,
+    };
     let (mut output, mut messages) = (Vec::new(heap), Vec::new(heap));
-    let status = run_program(
-        called,
-        &host_of(rt, &SHELF, heap),
-        input,
-        &mut output,
-        &mut messages,
-    );
+    let status = run_program(called, &host, input, &mut output, &mut messages);
     Ended {
         status,
         output,

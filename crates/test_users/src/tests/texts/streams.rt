@@ -1,6 +1,5 @@
 //! Readers and writers that fail, and lines that are written before the tool reads on.
-use super::{DEDUP, WORDS, assert_bytes, assert_ended, assert_status, run_on, run_writing};
-use std::alloc::Global;
+use super::{ALONE, DEDUP, EMPTY_SHELF, Split, WORDS, assert_ended, assert_same, run, run_writing};
 use std::cell::RefCell;
 use std::fmt::Debug;
 use std::io;
@@ -10,68 +9,85 @@ use std::test::Fail;
 use std::thread::Threads;
 use testkit::streams::Failing;
 
-const INPUT: &[u8] = b"one\ntwo\none\n\nthree\ntwo";
+pub(super) const INPUT: &[u8] = b"one\ntwo\none\n\nthree\ntwo";
 
-/// Returns what `dedup` has written after it has read this many bytes of the input.
+/// What `dedup` writes for the input.
+pub(super) const DEDUPED: &[u8] = b"one\ntwo\n\nthree\n";
+
+/// Returns what `dedup` writes for the whole lines among the first `bytes` bytes of the input.
 fn deduped_of(bytes: usize) -> &'static [u8] {
     match bytes {
         0..=3 => b"",
         4..=7 => b"one\n",
         8..=12 => b"one\ntwo\n",
         13..=18 => b"one\ntwo\n\n",
-        _ => b"one\ntwo\n\nthree\n",
+        _ => DEDUPED,
     }
 }
 
-/// Asserts what `dedup` writes if the first `given` reads succeed and the next one fails. `fails` says whether the next one is made.
-fn assert_given(
-    rt: &(impl Abort + Threads + Sync),
-    heap: Global,
+/// How many bytes a reader gives at a call, and how many calls `dedup` by one thread makes for the 22 bytes of the input, besides interrupted
+/// ones. The last call finds the end of the input, and no call follows it.
+const CALLS: [(usize, u64); 4] = [(1, 23), (2, 12), (7, 5), (100, 2)];
+
+/// Asserts what `dedup` writes, for each split, if the read after the first `given` ones fails. A read gives `at_once` bytes. `Err`: no
+/// memory.
+fn assert_fails_after(
+    rt: &(impl Abort + Threads + AllocGlobal + Sync),
     at_once: usize,
-    given: usize,
-    fails: bool,
-) {
-    let input = Failing::new(INPUT, at_once, given as u64).interrupted();
-    let ended = run_on(rt, heap, DEDUP, heap, input);
-    let wanted = deduped_of(given.saturating_mul(at_once));
-    let (messages, status) = if fails {
-        ("dedup: read failed\n", 1)
-    } else {
-        ("", 0)
-    };
-    assert_ended(rt, &ended, wanted, messages, status);
+    given: u64,
+) -> Result<(), Fail> {
+    let wanted = deduped_of((given as usize).saturating_mul(at_once));
+    for split in [ALONE, ("2", 1), ("3", 5), ("8", 100)] {
+        let input = Failing::new(INPUT, at_once, given).interrupted();
+        let ended = run(rt, rt.alloc(), &EMPTY_SHELF, split, &[DEDUP], input)?;
+        assert_ended(rt, &ended, wanted, "dedup: read failed\n", 1);
+    }
+    Ok(())
 }
 
-/// How many bytes a reader gives at a call, and how many calls `dedup` makes for the 22 bytes of the input, besides interrupted ones. The
-/// last call finds the end of the input, and no call follows it.
-const CALLS: [(usize, usize); 4] = [(1, 23), (2, 12), (7, 5), (100, 2)];
-
-/// Asserts what `dedup` writes if each of `calls` reads fails in turn. A read gives `at_once` bytes.
+/// Asserts what `dedup` writes if each of `calls` reads fails in turn, and that by one thread it makes no more. A read gives `at_once`
+/// bytes. `Err`: no memory.
 fn fail_at_each_call(
-    rt: &(impl Abort + Threads + Sync),
-    heap: Global,
+    rt: &(impl Abort + Threads + AllocGlobal + Sync),
     at_once: usize,
-    calls: usize,
-) {
-    for given in 0..=calls {
-        assert_given(rt, heap, at_once, given, given < calls);
+    calls: u64,
+) -> Result<(), Fail> {
+    for given in 0..calls {
+        assert_fails_after(rt, at_once, given)?;
     }
+    let input = Failing::new(INPUT, at_once, calls).interrupted();
+    let ended = run(rt, rt.alloc(), &EMPTY_SHELF, ALONE, &[DEDUP], input)?;
+    assert_ended(rt, &ended, DEDUPED, "", 0);
+    Ok(())
 }
 
 #[test]
-fn a_reader_that_fails_at_each_call(rt: HostRuntime) {
+fn a_reader_that_fails_at_each_call(rt: HostRuntime) -> Result<(), Fail> {
     for (at_once, calls) in CALLS {
-        fail_at_each_call(&rt, rt.alloc(), at_once, calls);
+        fail_at_each_call(&rt, at_once, calls)?;
     }
+    Ok(())
+}
+
+/// Asserts that `words` writes nothing if the read after the first `given` ones fails. `Err`: no memory.
+fn assert_writes_no_words(
+    rt: &(impl Abort + Threads + AllocGlobal + Sync),
+    given: u64,
+) -> Result<(), Fail> {
+    for split in [ALONE, ("3", 4)] {
+        let input = Failing::new(INPUT, 7, given).interrupted();
+        let ended = run(rt, rt.alloc(), &EMPTY_SHELF, split, &[WORDS], input)?;
+        assert_ended(rt, &ended, b"", "words: read failed\n", 1);
+    }
+    Ok(())
 }
 
 #[test]
-fn words_of_a_reader_that_fails_are_not_written(rt: HostRuntime) {
+fn words_of_a_reader_that_fails_are_not_written(rt: HostRuntime) -> Result<(), Fail> {
     for given in 0..5 {
-        let input = Failing::new(INPUT, 7, given).interrupted();
-        let ended = run_on(&rt, rt.alloc(), WORDS, rt.alloc(), input);
-        assert_ended(&rt, &ended, b"", "words: read failed\n", 1);
+        assert_writes_no_words(&rt, given)?;
     }
+    Ok(())
 }
 
 /// A writer that takes `room` bytes and then fails with the error `then`.
@@ -96,46 +112,56 @@ impl Write for Full {
     }
 }
 
-/// Asserts the message and the status of a tool whose output takes `room` bytes.
+/// Asserts the messages and the status of a tool that writes the output of its run over the input to `output`. `Err`: no memory.
 fn assert_fills(
-    rt: &(impl Abort + Threads + Sync),
-    heap: Global,
-    tool: &str,
-    room: usize,
+    rt: &(impl Abort + Threads + AllocGlobal + Sync),
+    (tool, split): (&str, Split),
+    mut output: Full,
     message: &str,
-) {
-    let then = ErrorKind::StorageFull;
-    let (status, messages) = run_writing(rt, heap, tool, INPUT, &mut Full { room, then });
-    assert_bytes(rt, messages.as_slice(), message.as_bytes());
-    assert_status(rt, status, if message.is_empty() { 0 } else { 1 });
+    wanted: u8,
+) -> Result<(), Fail> {
+    let (status, messages) = run_writing(rt, split, tool, INPUT, &mut output)?;
+    assert_same(rt, messages.as_slice(), message.as_bytes());
+    assert_same(rt, status, wanted);
+    Ok(())
 }
 
-/// Tools, how many bytes their output takes, and their messages.
-const FULL: [(&str, usize, &str); 6] = [
-    (DEDUP, 0, "dedup: write failed\n"),
-    (DEDUP, 14, "dedup: write failed\n"),
-    (DEDUP, 15, ""),
-    (WORDS, 0, "words: write failed\n"),
-    (WORDS, 25, "words: write failed\n"),
-    (WORDS, 26, ""),
+/// Tools, the splits of their runs, how many bytes their output takes before it fails, their messages and statuses.
+const FULL: [(&str, Split, usize, &str, u8); 8] = [
+    (DEDUP, ALONE, 0, "dedup: write failed\n", 1),
+    (DEDUP, ALONE, 14, "dedup: write failed\n", 1),
+    (DEDUP, ALONE, 15, "", 0),
+    (DEDUP, ("3", 4), 3, "dedup: write failed\n", 1),
+    (WORDS, ALONE, 0, "words: write failed\n", 1),
+    (WORDS, ALONE, 25, "words: write failed\n", 1),
+    (WORDS, ALONE, 26, "", 0),
+    (WORDS, ("3", 4), 3, "words: write failed\n", 1),
 ];
 
 #[test]
-fn a_writer_that_is_full(rt: HostRuntime) {
-    for (tool, room, message) in FULL {
-        assert_fills(&rt, rt.alloc(), tool, room, message);
+fn a_writer_that_is_full(rt: HostRuntime) -> Result<(), Fail> {
+    for (tool, split, room, message, status) in FULL {
+        let then = ErrorKind::StorageFull;
+        assert_fills(&rt, (tool, split), Full { room, then }, message, status)?;
     }
+    Ok(())
 }
 
+/// Tools, and the splits of their runs.
+const RUNS: [(&str, Split); 4] = [
+    (WORDS, ALONE),
+    (DEDUP, ALONE),
+    (WORDS, ("3", 4)),
+    (DEDUP, ("3", 4)),
+];
+
 #[test]
-fn where_the_reader_has_gone_there_is_no_message(rt: HostRuntime) {
-    for tool in [WORDS, DEDUP] {
+fn where_the_reader_has_gone_there_is_no_message(rt: HostRuntime) -> Result<(), Fail> {
+    for (tool, split) in RUNS {
         let then = ErrorKind::BrokenPipe;
-        let mut output = Full { room: 3, then };
-        let (status, messages) = run_writing(&rt, rt.alloc(), tool, INPUT, &mut output);
-        assert!(rt; messages.is_empty());
-        assert_status(&rt, status, 1);
+        assert_fills(&rt, (tool, split), Full { room: 3, then }, "", 1)?;
     }
+    Ok(())
 }
 
 /// Returns the error of a log that is in use.
@@ -209,30 +235,31 @@ const BY_HALVES: (&[&[u8]], &[usize]) = (
     &[0, 4, 9, 15],
 );
 
-/// Asserts how many bytes `dedup` has written before each call of a reader that gives these pieces.
+/// Asserts how many bytes `dedup` has written before each call of a reader that gives these pieces. `Err`: no memory.
 fn assert_written_before(
-    rt: &(impl Abort + Threads + Sync),
-    heap: Global,
+    rt: &(impl Abort + Threads + AllocGlobal + Sync),
     pieces: &[&[u8]],
     before: &[usize],
-) {
-    let written = RefCell::new(Vec::new(heap));
-    let seen = RefCell::new(Vec::new(heap));
+) -> Result<(), Fail> {
+    let written = RefCell::new(Vec::new(rt.alloc()));
+    let seen = RefCell::new(Vec::new(rt.alloc()));
     let input = Watching {
         pieces,
         written: &written,
         seen: &seen,
     };
     let mut output = Shown { written: &written };
-    let (status, _) = run_writing(rt, heap, DEDUP, input, &mut output);
-    assert_status(rt, status, 0);
+    let (status, _) = run_writing(rt, ALONE, DEDUP, input, &mut output)?;
+    assert_same(rt, status, 0);
     assert_holds(rt, &seen, before);
-    assert_holds(rt, &written, b"one\ntwo\n\nthree\n".as_slice());
+    assert_holds(rt, &written, DEDUPED);
+    Ok(())
 }
 
 #[test]
-fn a_line_is_there_when_the_next_is_asked_for(rt: HostRuntime) {
+fn a_line_is_there_when_the_next_is_asked_for(rt: HostRuntime) -> Result<(), Fail> {
     for (pieces, before) in [BY_LINES, BY_HALVES] {
-        assert_written_before(&rt, rt.alloc(), pieces, before);
+        assert_written_before(&rt, pieces, before)?;
     }
+    Ok(())
 }

@@ -1,11 +1,9 @@
 //! Texts, and what the tools write for them.
-use super::{DEDUP, EMPTY_SHELF, USAGE, WORDS, assert_ended, run_files, run_on};
-use std::alloc::Global;
-use std::process::Abort;
-use std::thread::Threads;
+use super::{ALONE, DEDUP, EMPTY_SHELF, USAGE, WORDS, assert_ended, assert_splits, run};
+use std::test::Fail;
 
 /// Texts, and what `words` writes.
-pub(super) const TEXTS: [(&str, &str); 8] = [
+const TEXTS: [(&str, &str); 8] = [
     ("", ""),
     (" \t\n\r\u{c}\n", ""),
     ("a", "1 a 1\n"),
@@ -20,7 +18,7 @@ pub(super) const TEXTS: [(&str, &str); 8] = [
 ];
 
 /// Inputs that aren't UTF-8, and the message, which names the line.
-pub(super) const NO_TEXT: [(&[u8], &str); 4] = [
+const NO_TEXT: [(&[u8], &str); 4] = [
     (b"\xff", "words: line 1 is not UTF-8\n"),
     (b"a b\nc \xc3\n", "words: line 2 is not UTF-8\n"),
     (b"\xe8\xaa\n\x9e", "words: line 1 is not UTF-8\n"),
@@ -28,7 +26,7 @@ pub(super) const NO_TEXT: [(&[u8], &str); 4] = [
 ];
 
 /// Inputs, and what `dedup` writes.
-pub(super) const LINES: [(&[u8], &[u8]); 8] = [
+const LINES: [(&[u8], &[u8]); 8] = [
     (b"", b""),
     (b"\n", b"\n"),
     (b"a", b"a\n"),
@@ -39,38 +37,29 @@ pub(super) const LINES: [(&[u8], &[u8]); 8] = [
     (b"a\n\0\n\0\0\na\0\n\0", b"a\n\0\n\0\0\na\0\n"),
 ];
 
-/// Asserts what the tool writes for the input, and that it has no message and ends with status 0.
-fn assert_writes(
-    rt: &(impl Abort + Threads + Sync),
-    heap: Global,
-    tool: &str,
-    input: &[u8],
-    output: &[u8],
-) {
-    let ended = run_on(rt, heap, tool, heap, input);
-    assert_ended(rt, &ended, output, "", 0);
-}
-
 #[test]
-fn words_are_counted_in_the_order_of_first_appearance(rt: HostRuntime) {
+fn words_are_counted_in_the_order_of_first_appearance(rt: HostRuntime) -> Result<(), Fail> {
     for (input, output) in TEXTS {
-        assert_writes(&rt, rt.alloc(), WORDS, input.as_bytes(), output.as_bytes());
+        let wanted = (output.as_bytes(), "", 0);
+        assert_splits(&rt, &EMPTY_SHELF, &[WORDS], input.as_bytes(), wanted)?;
     }
+    Ok(())
 }
 
 #[test]
-fn each_different_line_is_written_once(rt: HostRuntime) {
+fn each_different_line_is_written_once(rt: HostRuntime) -> Result<(), Fail> {
     for (input, output) in LINES {
-        assert_writes(&rt, rt.alloc(), DEDUP, input, output);
+        assert_splits(&rt, &EMPTY_SHELF, &[DEDUP], input, (output, "", 0))?;
     }
+    Ok(())
 }
 
 #[test]
-fn a_line_that_is_no_text_is_named(rt: HostRuntime) {
+fn a_line_that_is_no_text_is_named(rt: HostRuntime) -> Result<(), Fail> {
     for (input, message) in NO_TEXT {
-        let ended = run_on(&rt, rt.alloc(), WORDS, rt.alloc(), input);
-        assert_ended(&rt, &ended, b"", message, 2);
+        assert_splits(&rt, &EMPTY_SHELF, &[WORDS], input, (b"", message, 2))?;
     }
+    Ok(())
 }
 
 /// Arguments that name no tool.
@@ -84,15 +73,12 @@ const NO_TOOL: [&[&str]; 7] = [
     &["help"],
 ];
 
-/// Asserts that a run with these arguments writes nothing but the usage.
-fn assert_refused(rt: &(impl Abort + Threads + Sync), heap: Global, words: &[&str]) {
-    let ended = run_files(rt, heap, &EMPTY_SHELF, words, b"a");
-    assert_ended(rt, &ended, b"", USAGE, 2);
-}
-
 #[test]
-fn words_that_name_no_tool_are_refused(rt: HostRuntime) {
+fn words_that_name_no_tool_are_refused(rt: HostRuntime) -> Result<(), Fail> {
     for words in NO_TOOL {
-        assert_refused(&rt, rt.alloc(), words);
+        let input = b"a".as_slice();
+        let ended = run(&rt, rt.alloc(), &EMPTY_SHELF, ALONE, words, input)?;
+        assert_ended(&rt, &ended, b"", USAGE, 2);
     }
+    Ok(())
 }

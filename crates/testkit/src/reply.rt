@@ -4,7 +4,7 @@ use table_generations::atomic_value::AtomicValue;
 use table_held::runs::Reply;
 
 /// What a call returns: a `Reply` with the target in place of each value.
-#[derive(Clone, Copy, Debug, PartialEq, Eq)]
+#[derive(Clone, Copy, Debug, PartialEq)]
 pub enum PlainReply {
     Placed(u64),
     Found(u64, u64),

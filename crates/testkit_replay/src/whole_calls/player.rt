@@ -1,31 +1,19 @@
-//! Whole calls of two threads on one table, in the order of an interleaving.
+//! Whole calls on one table, of one thread or of two, in the order that was rehearsed.
 //!
 //! Each thread compares its calls with the rehearsal: the entries with which closures are called, the replies, and what the table shows at
 //! its stops.
-use crate::fault::{ReplayFault, check};
-use crate::item::Item;
-use crate::replay::{Ground, any_request, new_table};
-use crate::running::run_schedule;
-use crate::schedules::{Ask, drawn_capacity};
-use crate::script::{Manner, Script};
-use crate::whole_calls::interleaving::{Copied, Rehearsal, Stop};
-use crate::whole_calls::meeting::BLOCK;
-use crate::whole_calls::trace::{Milestone, Sight};
-use crate::whole_calls::whole::run_call;
-use std::alloc::Global;
+use crate::fault::{ReplayFault, check, granted};
+use crate::item::{Item, Said, reply_of_insert, reply_of_lookup};
+use crate::replay::Ground;
+use crate::schedules::Ask;
+use crate::whole_calls::rehearsal::Rehearsal;
+use crate::whole_calls::stops::{Copied, Milestone, Sight, Stop};
 use std::cell::Cell;
 use std::sync::Wait;
 use std::sync::atomic::{AtomicU64, Ordering};
 use std::thread::Threads;
 use std::{hint, thread};
-use testkit::refusing::{Refusing, Rule, Turns};
-
-/// The number of calls that each thread makes.
-const CALLS: u64 = 20;
-
-/// The number of times that a thread checks whether its turn has begun. It sleeps between two checks, so that it waits some twenty seconds
-/// for a turn that doesn't begin.
-const LOOKS: u64 = 4000;
+use testkit::refusing::Turns;
 
 /// How often the watcher compares what the table shows with what was rehearsed for a call that waits. It yields after each look.
 const SIGHTS: u64 = 1 << 24;
@@ -33,11 +21,71 @@ const SIGHTS: u64 = 1 << 24;
 /// How often the watcher spins after that, so that the call comes to its lock.
 const QUIET_SPINS: u64 = 2_000;
 
+/// Runs a whole call, and returns its reply. Its equality closure answers by `says`, which is given the number of the value that the table
+/// passes, or of a look-up. Its hash closure answers by `rehashes`. `Err`: no memory for its value.
+fn run_call<R: Wait, S: Fn(u64, &Item) -> bool, H: Fn(&Item) -> u64>(
+    rt: &R,
+    ground: Ground<'_, '_>,
+    number: u64,
+    ask: Ask,
+    says: S,
+    rehashes: H,
+) -> Result<Said, ReplayFault>
+    requires says_callable { S.IsAlwaysCallable says }
+    requires rehashes_callable { H.IsAlwaysCallable rehashes }
+{
+    match ask {
+        Ask::Insert(class, hash) => {
+            let item = Item {
+                number,
+                class,
+                hash,
+            };
+            let value = granted(Box::new(ground.alloc, item))?;
+            let eq = |new: &Item, entry: &Item| says(new.number, entry);
+            let reply = ground.table.insert(rt, hash, value, eq, rehashes);
+            Ok(reply_of_insert(&reply))
+        }
+        Ask::Lookup(_class, hash) => {
+            let test = |entry: &Item| says(number, entry);
+            Ok(reply_of_lookup(ground.table.lookup(hash, test)))
+        }
+    }
+}
+
 /// The entries that growths copy while both threads run: those that were rehearsed, and how many were copied so far.
 #[derive(Drop)]
 struct Copies<'p> {
     rehearsed: &'p [Copied],
     count: AtomicU64,
+}
+
+/// What runs inside the closures of a whole call.
+trait Inside {
+    /// Runs inside a closure of a whole call.
+    fn run<R: Wait>(&self, player: &Player<'_, '_, R>);
+}
+
+/// Nothing runs inside closures.
+#[derive(Clone, Copy)]
+struct Nothing;
+
+impl Inside for Nothing {
+    fn run<R: Wait>(&self, _player: &Player<'_, '_, R>) {}
+}
+
+/// The calls run whose stops come next. What this holds runs inside their closures.
+#[derive(Clone, Copy)]
+struct Deeper<I: Inside>(I);
+
+impl<I: Inside> Inside for Deeper<I> {
+    fn run<R: Wait>(&self, player: &Player<'_, '_, R>) {
+        for _stop in player.stops {
+            if !player.play_next(&self.0) {
+                return;
+            }
+        }
+    }
 }
 
 /// A thread that makes these stops, with the place of the next one, and its first fault.
@@ -51,29 +99,18 @@ struct Player<'p, 'm, R: Wait> {
     fault: Cell<Option<ReplayFault>>,
 }
 
-/// Returns the fault of a call that has come to this milestone instead of the rehearsed one.
-fn difference(call: u64, rehearsed: Option<Milestone>, milestone: Milestone) -> ReplayFault {
-    match (rehearsed, milestone) {
-        (Some(Milestone::Ended(_, machine)), Milestone::Ended(_, table)) => ReplayFault::Reply {
-            call,
-            table: Some(table),
-            machine: Some(machine),
-        },
-        _ => ReplayFault::Asked(call),
-    }
-}
-
 impl<R: Wait> Player<'_, '_, R> {
-    /// Returns the next stop.
+    /// Returns the next stop. Returns `None` if there is none, or if all waiting was ended.
     fn peek(&self) -> Option<Stop> {
+        if self.turns().has_ended() {
+            return None;
+        }
         self.stops.get(self.place.get()).copied()
     }
 
-    /// Returns the next stop, and moves past it.
-    fn take(&self) -> Option<Stop> {
-        let stop = self.peek();
+    /// Moves past the next stop.
+    fn pass(&self) {
         self.place.set(self.place.get().saturating_add(1));
-        stop
     }
 
     /// Returns the turns that the threads take.
@@ -96,17 +133,15 @@ impl<R: Wait> Player<'_, '_, R> {
         }
     }
 
-    /// Takes the next stop, which must have this milestone, and compares what the table shows there. Waits if the stop says so.
+    /// Moves past the next stop, which must have this milestone, and compares what the table shows there. Waits if the stop says so.
     fn arrive(&self, call: u64, milestone: Milestone) {
-        if self.turns().has_ended() {
-            return;
-        }
-        match self.take() {
+        match self.peek() {
             Some(stop) if stop.milestone == milestone => {
+                self.pass();
                 self.compare(stop);
                 self.leave(stop);
             }
-            stop => self.fail(difference(call, stop.map(|stop| stop.milestone), milestone)),
+            _ => self.fail(ReplayFault::Asked(call)),
         }
     }
 
@@ -133,30 +168,43 @@ impl<R: Wait> Player<'_, '_, R> {
         let Some(next) = self.peek() else {
             return;
         };
-        if matches!(next.milestone, Milestone::AtEmpty(_)) {
-            self.take();
+        if matches!(next.milestone, Milestone::AtEmpty) {
+            self.pass();
             if let Some(turn) = next.resumes {
                 self.turns().hold_next(turn);
             }
         }
     }
 
-    /// Returns whether an entry is of this class. The thread first makes its stop there.
-    fn says(&self, call: u64, class: u64, entry: &Item) -> bool {
-        let accepted = class == entry.class;
+    /// Returns whether the call accepts an entry, as was rehearsed. The thread first makes its stop there, and its calls inside this closure.
+    fn says<I: Inside>(&self, call: u64, entry: &Item, inside: &I) -> bool {
+        let accepted = match self.peek() {
+            Some(stop) => matches!(stop.milestone, Milestone::Asked(_, _, true)),
+            None => false,
+        };
         self.arrive(call, Milestone::Asked(call, entry.number, accepted));
+        inside.run(self);
         accepted
     }
 
-    /// Returns the hash of an entry. The thread first makes its stop there, or compares the copy if it has no such stop.
-    fn rehashes(&self, call: u64, entry: &Item) -> u64 {
-        match self.peek() {
-            Some(stop) if matches!(stop.milestone, Milestone::Hashed(..)) => {
-                self.arrive(call, Milestone::Hashed(call, entry.number, entry.hash))
+    /// Returns the hash of an entry, as was rehearsed. The thread first makes its stop there, and its calls inside this closure. If it has no
+    /// such stop, it compares the copy.
+    fn rehashes<I: Inside>(&self, call: u64, entry: &Item, inside: &I) -> u64 {
+        let hash = match self.peek() {
+            Some(
+                Stop {
+                    milestone: Milestone::Hashed(_, _, hash),
+                    ..
+                },
+            ) => hash,
+            _ => {
+                self.copy(call, entry);
+                return entry.hash;
             }
-            _ => self.copy(call, entry),
-        }
-        entry.hash
+        };
+        self.arrive(call, Milestone::Hashed(call, entry.number, hash));
+        inside.run(self);
+        hash
     }
 
     /// Compares an entry that a growth copies with the rehearsal, while both threads run.
@@ -175,15 +223,26 @@ impl<R: Wait> Player<'_, '_, R> {
         }
     }
 
-    /// Runs this call from its first stop to its end.
-    fn play(&self, call: u64, ask: Ask) {
-        self.arrive(call, Milestone::Began(ask));
-        let says = |number: u64, class: u64, entry: &Item| self.says(number, class, entry);
-        let rehashes = |entry: &Item| self.rehashes(call, entry);
+    /// Runs the call that begins at the next stop, if one does, to its end. `inside` runs in its closures. Returns whether a call ran.
+    fn play_next<I: Inside>(&self, inside: &I) -> bool {
+        let Some(stop) = self.peek() else {
+            return false;
+        };
+        let Milestone::Began(ask, refusals) = stop.milestone else {
+            return false;
+        };
+        let call = stop.call;
+        self.arrive(call, stop.milestone);
+        if let Some((passing, refused)) = refusals {
+            self.ground.memory.refuse(passing, refused);
+        }
+        let says = |number: u64, entry: &Item| self.says(number, entry, inside);
+        let rehashes = |entry: &Item| self.rehashes(call, entry, inside);
         match run_call(self.rt, self.ground, call, ask, says, rehashes) {
             Ok(said) => self.arrive(call, Milestone::Ended(call, said)),
             Err(fault) => self.fail(fault),
         }
+        true
     }
 
     /// Waits for the turn of this stop, and until the table shows what was rehearsed for it. Gives the call the time to come to its lock,
@@ -204,18 +263,28 @@ impl<R: Wait> Player<'_, '_, R> {
         self.turns().pass();
     }
 
+    /// Makes the next stop, if it is the watcher's, or plays the call that begins there. Returns whether there was one.
+    fn go_on(&self) -> bool {
+        match self.peek() {
+            Some(stop) if matches!(stop.milestone, Milestone::Waits) => {
+                self.pass();
+                self.watch(stop);
+                true
+            }
+            _ => self.play_next(&Deeper(Deeper(Nothing))),
+        }
+    }
+
     /// Makes all stops, and returns the first fault.
     fn run(&self) -> Option<ReplayFault> {
         self.wait(self.peek().map(|stop| stop.turn));
-        for stop in self.stops {
-            if self.turns().has_ended() {
+        for _stop in self.stops {
+            if !self.go_on() {
                 break;
             }
-            match stop.milestone {
-                Milestone::Began(ask) => self.play(stop.call, ask),
-                Milestone::Waits(_) => self.watch(*stop),
-                _ => (),
-            }
+        }
+        if let Some(stop) = self.peek() {
+            self.fail(ReplayFault::Asked(stop.call));
         }
         self.fault.get()
     }
@@ -239,8 +308,9 @@ fn play_as<R: Wait>(
     player.run()
 }
 
-/// Runs an interleaving on a table. `Err`: the fault of a thread, a missed turn, or fewer copied entries than were rehearsed.
-fn play<R: Threads + Wait + Sync>(
+/// Runs what was rehearsed on a table, and compares what the table shows at the end. `Err`: the fault of a thread, a missed turn, fewer copied
+/// entries or requests than were rehearsed, or another table.
+pub(crate) fn play<R: Threads + Wait + Sync>(
     rt: &R,
     ground: Ground<'_, '_>,
     rehearsal: &Rehearsal<'_>,
@@ -268,24 +338,11 @@ fn play<R: Threads + Wait + Sync>(
     if let Some(fault) = one.or(other).or(watcher) {
         return Err(fault);
     }
-    check(ground.memory.turns().missed() == 0, ReplayFault::Alone)?;
+    let turns = ground.memory.turns();
+    check(turns.missed() == 0, ReplayFault::Alone)?;
     let copied = copies.count.load(Ordering::SeqCst);
-    let all = copied == rehearsal.copied.len() as u64;
-    check(all, ReplayFault::Unfinished)
-}
-
-/// Draws an interleaving from a seed, rehearses it beside the machine, and runs it by whole calls of two threads. `Err`: a closure is called
-/// with another entry than in the rehearsal, or a reply or what the table shows is different.
-pub fn run_interleaved<R: Threads + Wait + Sync>(
-    rt: &R,
-    alloc: Global,
-    seed: u64,
-) -> Result<(), ReplayFault> {
-    let first = drawn_capacity();
-    let script = Script::new(Manner::Lawful, seed);
-    let mut rehearsal = Rehearsal::new(alloc, &script, CALLS);
-    run_schedule(alloc, first, any_request(), &script, &mut rehearsal)?;
-    let memory = Refusing::new(alloc, Rule::new(BLOCK, BLOCK, 0, 0).in_turns(LOOKS));
-    let table = new_table(&memory, first);
-    play(rt, Ground::new(alloc, first, &memory, &table), &rehearsal)
+    let all = copied == rehearsal.copied.len() as u64 && !turns.holds_next();
+    check(all, ReplayFault::Unfinished)?;
+    let same = rehearsal.end == Some(Sight::of(ground));
+    check(same, ReplayFault::Sight)
 }

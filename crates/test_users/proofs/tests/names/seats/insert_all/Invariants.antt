@@ -1,5 +1,0 @@
-use Rattle.seated.specs.Tables.{IsSeatOf}
-use Rattle.test_users.proofs.tests.names.seats.insert_all.Given as goal
-
-abbrev pub invariant-loop-n : goal.invariant-loop-n
-invariant-loop-n l = IsSeatOf l.table l.seat
