@@ -1,13 +1,11 @@
 //! The calls of workers and of gates, made by one thread.
-ghost use Rattle.std.specs.Prelude.{IfOk};
-ghost use Rattle.seated.specs.Tables.{IsSeatOf};
 ghost use Rattle.table_shared.specs.Stepped.{MayStep};
 
 use super::assert_same;
 use lock_free_hashtable::raw::{LockFreeRawTable, Low};
 use lock_free_hashtable::stepped::InsertCall;
-use seated::{NumberTable, Seat};
-use std::alloc::{AllocError, Global};
+use seated::NumberTable;
+use std::alloc::Global;
 use std::cell::Cell;
 use std::process::Abort;
 use std::sync::Wait;
@@ -201,21 +199,12 @@ fn a_walk_shows_what_is_not_counted_yet(rt: HostRuntime) -> Result<(), Fail> {
     Ok(())
 }
 
-fn table_of(
-    rt: &impl Abort,
-    alloc: Global,
-    count: usize,
-) -> Result<(NumberTable<Global>, Seat), AllocError>
-    ensures { IfOk result (λ r. IsSeatOf r.0 r.1) }
-{
-    assert!(rt; count.is_power_of_two());
-    NumberTable::new(alloc, count)
-}
-
 #[test]
 fn seats_in_one_thread_are_stuck(rt: HostRuntime) -> Result<(), Fail> {
     let gate = MeetingGate::new(1000);
-    let (table, seat) = table_of(&rt, rt.alloc(), 1024)?;
+    let words: usize = 1024;
+    assert!(&rt; words.is_power_of_two());
+    let (table, seat) = NumberTable::new(rt.alloc(), words)?;
     let Ok((first, second)) = table.split(seat) else {
         unreachable!()
     };
