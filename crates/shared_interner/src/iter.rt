@@ -16,8 +16,8 @@ use std::marker::Model;
 use table_cell::Low;
 use table_sets::TextLaw;
 
-/// An iterator over the texts of an interner, each with its symbol. It returns each text that was known when it was made, and of the texts
-/// that threads intern meanwhile some.
+/// An iterator over the texts of an interner, each with its symbol. It returns each text that was known when it was made, and perhaps
+/// texts that threads intern meanwhile.
 ///
 /// A contract sees which interner it is of, what was known when it was made, and what is known by now.
 #[derive(Drop)]

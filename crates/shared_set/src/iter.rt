@@ -24,8 +24,8 @@ use table_cell::Low;
 use table_numbered::{SetLaw, Token};
 
 /// An iterator over the entries of a set, each with its number. It stays with the generation that was the newest when it was made, and
-/// reads each bucket when it comes to it. So it returns each entry that was known when it was made, and of the entries that threads
-/// place meanwhile some.
+/// reads each bucket when it comes to it. So it returns each entry that was known when it was made, and perhaps entries that
+/// threads place meanwhile.
 ///
 /// A contract sees which set it is of, what was known when it was made, what is known by now, the bucket that comes next, and how many
 /// buckets are left.

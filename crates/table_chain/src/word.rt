@@ -73,7 +73,7 @@ pub(crate) fn publish<G, F: Follows<G>, A: Allocator>(
     Err(Lost { found, right })
 }
 
-/// Ends the chain before the slot by one exchange, unless a value stands there. Answers whether none does.
+/// Ends the chain before the slot by one exchange, unless a value is in the slot. Returns false if one is.
 pub(crate) fn close<G, F: Follows<G>>(
     word: &SlotWord<G, F>,
     seen: &mut Token<G, F>,

@@ -105,8 +105,8 @@ impl<V, L: SetLaw<V>, A: Low + Copy> NumberedGeneration<V, L, A> {
         Judged::Spent
     }
 
-    /// Shows what is sought, with its number, or None: then no entry is it that its caller knew of. It takes no memory and
-    /// changes nothing but what is known.
+    /// Returns the entry that is sought, with its number. `None`: no entry that the caller knew matches. It requests no memory, and
+    /// changes only what the caller knows.
     pub fn seek<'a, S: Sought<V, L>>(
         &self,
         slab: &'a Slab<V, A>,

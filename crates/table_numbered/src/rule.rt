@@ -10,7 +10,7 @@ pub struct SetRule<V, L> {
     of: PhantomData<(V, L)>,
 }
 
-/// That a generation's history has come so far.
+/// A prefix of a generation's history that its holder has observed. It has no bytes.
 pub type Token<V, L> = Seen<Event<Stored<Numbered<V>>>, u64, SetRule<V, L>>;
 
 /// A bucket: 0 is empty, 1 is closed, and an entry has its mark in the upper half and its number in the lower one.

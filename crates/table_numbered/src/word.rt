@@ -9,7 +9,7 @@ const SPREADING: u64 = 0xD134_2543_DE82_EF95;
 /// Two to the power of 32.
 pub(crate) const HALF: u64 = 4294967296;
 
-/// Returns the upper half of the hash, spread over 64 bits.
+/// Returns the mark of the hash: the upper half of the product of the hash and `SPREADING` modulo 2^64.
 pub(crate) fn mark_of_hash(hash: u64) -> u64
     ensures mark { result ≡ mark_of hash }
     ensures small { result < 2 ^ 32 }

@@ -1,6 +1,6 @@
-//! The lock of a table, striped: an insert takes the stripe of its hash, and a growth takes all stripes.
+//! The lock of a table, which has lanes: an insert takes the lane of its hash, and a growth takes all lanes.
 //!
-//! A guard carries, for contracts, the table that it belongs to. The guard of a growth is proved to hold every stripe.
+//! A guard carries, for contracts, the table that it belongs to. The guard of a growth is proved to hold every lane.
 ghost use Rattle.std.specs.Prelude.{◌≡◌, ◌<◌, IfSome};
 ghost use Rattle.table_shared.specs.Lanes.{AreFourFrom};
 
@@ -14,10 +14,10 @@ use std::sync::{RwLock, RwLockReadGuard, RwLockWriteGuard, Wait};
 use table_cell::Home;
 use table_generations::atomic_value::AtomicValue;
 
-/// The number of stripes ("lanes") of a table's lock. It is a power of two.
+/// The number of lanes of a table's lock. It is a power of two.
 const LANES: usize = 8;
 
-/// One stripe of a table's lock, padded to 64 bytes, the size of a cache line. Two stripes share a line only if the table does
+/// One lane of a table's lock, padded to 64 bytes, the size of a cache line. Two lanes share a line only if the table does
 /// not begin at the start of one.
 #[derive(Drop)]
 struct Lane {
@@ -31,7 +31,7 @@ const _: () = prove!(size_of::<Lane>() == 64);
 const _: () = prove!(LANES == 8);
 
 impl Lane {
-    /// Makes a stripe that nobody holds.
+    /// Makes a lane that nobody holds.
     fn new() -> Lane {
         Lane {
             lock: RwLock::new(()),
@@ -40,14 +40,14 @@ impl Lane {
     }
 }
 
-/// A readers-writer lock in stripes. A reader takes only the stripe of a hash, so that inserts of different hashes seldom write
-/// to one cache line. A writer takes every stripe, in order.
+/// A readers-writer lock in lanes. A reader takes only the lane of a hash, so that inserts of different hashes seldom write
+/// to one cache line. A writer takes every lane, in order.
 #[derive(Drop)]
 pub(crate) struct Locks {
     lanes: [Lane; LANES],
 }
 
-/// A guard of one stripe of a table's lock, held shared.
+/// A guard of one lane of a table's lock, held shared.
 #[derive(Drop)]
 pub(crate) struct SharedLock<'a> {
     guard: RwLockReadGuard<'a, ()>,
@@ -62,7 +62,7 @@ impl<'a> Model for SharedLock<'a> {
     ghost view = { λ l. record { home = l.of.value.id } };
 }
 
-/// A guard of one stripe, held exclusively.
+/// A guard of one lane, held exclusively.
 #[derive(Drop)]
 struct OneLane<'a> {
     guard: RwLockWriteGuard<'a, ()>,
@@ -77,7 +77,7 @@ impl<'a> Model for OneLane<'a> {
     ghost view = { λ l. record { number = l.number.value } };
 }
 
-/// Guards of four stripes in a row, held exclusively.
+/// Guards of four lanes in a row, held exclusively.
 #[derive(Drop)]
 struct Four<'a> {
     one: OneLane<'a>,
@@ -86,7 +86,7 @@ struct Four<'a> {
     four: OneLane<'a>,
 }
 
-/// Guards of all stripes of one table, held exclusively.
+/// Guards of all lanes of one table, held exclusively.
 #[derive(Drop)]
 pub(crate) struct OwnedLock<'a> {
     low: Four<'a>,
@@ -106,20 +106,20 @@ impl<'a> Model for OwnedLock<'a> {
 }
 
 impl Locks {
-    /// Makes stripes that nobody holds.
+    /// Makes lanes that nobody holds.
     pub(crate) fn new() -> Locks {
         Locks {
             lanes: array::from_fn(|_lane| Lane::new()),
         }
     }
 
-    /// Returns the stripe of a hash, by its low bits, in which consecutive hashes differ.
+    /// Returns the lane of a hash, by its low bits, in which consecutive hashes differ.
     #[inline(always)]
     fn lane(&self, hash: u64) -> &RwLock<()> {
         &self.lanes[hash as usize & (LANES - 1)].lock
     }
 
-    /// Takes the stripe of this hash, shared, for the table of this home. Waits while a writer holds it.
+    /// Takes the lane of this hash, shared, for the table of this home. Waits while a writer holds it.
     #[inline(always)]
     fn lock_shared<R: Wait>(&self, rt: &R, hash: u64, home: &Home) -> SharedLock<'_>
         ensures { result.home ≡ home.now.id }
@@ -130,7 +130,7 @@ impl Locks {
         }
     }
 
-    /// Takes the stripe of this hash, shared, for the table of this home, if no writer holds it now.
+    /// Takes the lane of this hash, shared, for the table of this home, if no writer holds it now.
     fn try_lock_shared(&self, hash: u64, home: &Home) -> Option<SharedLock<'_>>
         ensures { IfSome result (λ l. l.home ≡ home.now.id) }
     {
@@ -140,7 +140,7 @@ impl Locks {
         })
     }
 
-    /// Takes the stripe of this number exclusively. Waits while anybody holds it.
+    /// Takes the lane of this number exclusively. Waits while anybody holds it.
     fn own_lane<R: Wait>(&self, rt: &R, number: u64) -> OneLane<'_>
         ensures { result.number ≡ number }
     {
@@ -150,7 +150,7 @@ impl Locks {
         }
     }
 
-    /// Takes the stripe of this number exclusively, if nobody holds it now.
+    /// Takes the lane of this number exclusively, if nobody holds it now.
     fn try_own_lane(&self, number: u64) -> Option<OneLane<'_>>
         ensures { IfSome result (λ l. l.number ≡ number) }
     {
@@ -160,7 +160,7 @@ impl Locks {
         })
     }
 
-    /// Takes four stripes exclusively, in order, from number `first` on. Waits for everybody who holds one.
+    /// Takes four lanes exclusively, in order, from number `first` on. Waits for everybody who holds one.
     fn own_four<R: Wait>(&self, rt: &R, first: u64) -> Four<'_>
         requires { first < 5 }
         ensures { AreFourFrom first result }
@@ -173,7 +173,7 @@ impl Locks {
         }
     }
 
-    /// Takes four stripes exclusively, from number `first` on, if nobody holds any of them now.
+    /// Takes four lanes exclusively, from number `first` on, if nobody holds any of them now.
     fn try_own_four(&self, first: u64) -> Option<Four<'_>>
         requires { first < 5 }
         ensures { IfSome result (AreFourFrom first) }
@@ -186,7 +186,7 @@ impl Locks {
         })
     }
 
-    /// Takes all stripes exclusively, for the table of this home. Waits for everybody who holds one.
+    /// Takes all lanes exclusively, for the table of this home. Waits for everybody who holds one.
     fn own<R: Wait>(&self, rt: &R, home: &Home) -> OwnedLock<'_>
         ensures { result.home ≡ home.now.id }
     {
@@ -197,7 +197,7 @@ impl Locks {
         }
     }
 
-    /// Takes all stripes exclusively, for the table of this home, if nobody holds any of them now.
+    /// Takes all lanes exclusively, for the table of this home, if nobody holds any of them now.
     fn try_own(&self, home: &Home) -> Option<OwnedLock<'_>>
         ensures { IfSome result (λ l. l.home ≡ home.now.id) }
     {
@@ -210,7 +210,7 @@ impl Locks {
 }
 
 impl<T: AtomicValue, A: Allocator + Copy> LockFreeRawTable<T, A> {
-    /// Takes the stripe of this hash, shared. Waits while a writer holds it.
+    /// Takes the lane of this hash, shared. Waits while a writer holds it.
     #[inline(always)]
     pub(crate) fn lock_shared<R: Wait>(&self, rt: &R, hash: u64) -> SharedLock<'_>
         ensures { result.home ≡ self.now.home }
@@ -218,21 +218,21 @@ impl<T: AtomicValue, A: Allocator + Copy> LockFreeRawTable<T, A> {
         self.locks.lock_shared(rt, hash, &self.home)
     }
 
-    /// Takes the stripe of this hash, shared, if no writer holds it now.
+    /// Takes the lane of this hash, shared, if no writer holds it now.
     pub(crate) fn try_lock_shared(&self, hash: u64) -> Option<SharedLock<'_>>
         ensures { IfSome result (λ l. l.home ≡ self.now.home) }
     {
         self.locks.try_lock_shared(hash, &self.home)
     }
 
-    /// Takes all stripes of the table exclusively. Waits for everybody who holds one.
+    /// Takes all lanes of the table exclusively. Waits for everybody who holds one.
     pub(crate) fn own<R: Wait>(&self, rt: &R) -> OwnedLock<'_>
         ensures { result.home ≡ self.now.home }
     {
         self.locks.own(rt, &self.home)
     }
 
-    /// Takes all stripes of the table exclusively, if nobody holds any of them now.
+    /// Takes all lanes of the table exclusively, if nobody holds any of them now.
     pub(crate) fn try_own(&self) -> Option<OwnedLock<'_>>
         ensures { IfSome result (λ l. l.home ≡ self.now.home) }
     {

@@ -28,7 +28,7 @@ use table_terms::capacity::FIRST_CAPACITY;
 /// One counter for the whole table counts the entries. Growth copies every entry while nothing is added, so the current
 /// generation has all of them.
 ///
-/// A hash should vary in all 64 bits: a probe and the choice of the lock stripe begin at the low bits, and bits 32 to 39 let a
+/// A hash should vary in all 64 bits: a probe and the choice of the lock lane begin at the low bits, and bits 32 to 39 let a
 /// probe skip most calls of `eq`. For a number call `table_terms::law::hash_number`. A product with an odd number isn't enough,
 /// since multiples of 2^16 share its low 16 bits.
 pub struct LockFreeRawTable<T: AtomicValue, A: Allocator + Copy = Global> {

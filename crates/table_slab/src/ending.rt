@@ -69,7 +69,7 @@ pub(crate) fn all_shared<T, A: Low + Copy>(
 }
 
 impl<T, A: Low + Copy> Ending<T, A> {
-    /// Moves the value out that this number holds for good. It is for a number that it wasn't called with before.
+    /// Moves the value of this number out of the slab. Call it once for each number.
     pub fn take_out(&mut self, number: u64, standing: &Standing<T, A>) -> T
         requires number { StandsAt self.old.slab number standing.now }
         requires left { IsLeft self.old number }

@@ -47,6 +47,7 @@ impl<T: AtomicValue, A: Allocator + Copy> Later<T, A> {
         ensures within { IfSome result (λ s. index < length self.now.words.items) }
         ensures there { IfSome result (λ s. HoldsAt (λ w. w ≡ s) self.now.words.items index) }
     {
+        // Only the contract uses it.
         let _home = home;
         let word = self.words.get(index)?;
         Some(Slot::of(self.alloc, word))
