@@ -449,7 +449,7 @@ def crate_tables():
 
 # a type, a trait or an alias that begins at the margin, so outside an impl
 DECLARED = re.compile(r"^(?:pub(?:\([^)]*\))? )?(?:unsafe )?(?:struct|enum|trait|type) (\w+)", re.M)
-# a name that more crates have says nothing of where it is from
+# a name that more crates have, tests aside, says nothing of where it is from
 NAMED_AT_MOST = 3
 
 
@@ -461,7 +461,7 @@ def declared_in(crate):
 def names():
     """The types and traits of each crate that declares any, the lowest crate first."""
     declared = {crate: declared_in(crate) for crate, _ in crates()}
-    counts = collections.Counter(name for found in declared.values() for name in found)
+    counts = collections.Counter(name for crate, found in declared.items() if kind_of(crate) != "Tests" for name in found)
     rows = {crate: sorted(name for name in found if counts[name] <= NAMED_AT_MOST) for crate, found in declared.items()}
     return "\n".join(f"- `{crate}`: {', '.join(found)}" for crate, found in rows.items() if found)
 
