@@ -158,8 +158,8 @@ impl<'a, V, L: SetLaw<V>, A: Low + Copy> Handle<'a, V, L, A> {
     /// Inserts the value, unless an entry is the same.
     ///
     /// `Placed`: no entry that was placed before it is the same, and the receipt is of this set and of the entry. `Found`: the entry that is
-    /// returned is the same. `Refused`: no entry known to this handle is the same, and it has read the buckets of the value's probe
-    /// up to an empty or closed one, or to the last.
+    /// returned is the same. `Refused`: no entry known to this handle is the same, and the handle has read the buckets of the
+    /// value's probe up to an empty or closed one, or to the last.
     pub fn insert(&mut self, value: V) -> Inserted<'a, V>
         ensures known { KnowsMore self.old self.new }
         ensures told { Inserts L.same L.hash_of value self.old.history self.new.history result }

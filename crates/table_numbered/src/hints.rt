@@ -87,7 +87,7 @@ fn load<V, L: SetLaw<V>>(hint: &Bucket<V, L>, seen: &mut Token<V, L>) -> u64
     ensures taken { NamesTaken result seen.new.log }
 {
     let word = hint.load_hint(seen);
-    // Learning from a copy of itself changes nothing. Its contract gives `reached`.
+    // Learning from a copy of itself changes nothing. The contract of `learn` gives `reached`.
     let known = seen.again();
     seen.learn(&known);
     word

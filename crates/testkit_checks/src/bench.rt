@@ -80,7 +80,7 @@ pub fn run_bench<R: Print + Eprint + Clock + Files + Threads + Wait + Sync + All
     }
 }
 
-/// Runs a group of the measurements with this name, with `threads` threads if they are shared sets. `Err`: the name or the group is
+/// Runs a group of the measurements with this name, with `threads` threads if it names a shared set. `Err`: the name or the group is
 /// unknown, it takes no such number of threads, or a measurement failed.
 fn measure<R: Print + Eprint + Clock + Files + Threads + Wait + Sync + AllocGlobal>(
     rt: &R,

@@ -19,8 +19,8 @@ pub enum ReplayFault {
     Step(u64),
     /// This whole call called its closures with other entries than in the rehearsal, or more or less often. Or it had another reply.
     Asked(u64),
-    /// A call didn't end within the steps that it has, calls are left that can't begin, or growths copied fewer entries or requested less than
-    /// was rehearsed.
+    /// A call didn't end within the steps that it has, calls are left that can't begin, growths copied fewer entries than were rehearsed, or a
+    /// request that was to be held wasn't made.
     Unfinished,
     /// The lengths of the table and of the machine differ.
     Length,
@@ -30,11 +30,11 @@ pub enum ReplayFault {
     Buckets,
     /// The table has another length, other buckets or other entries than were rehearsed for this moment.
     Sight,
-    /// A thread that had to wait for another one went on without it.
+    /// A thread that had to wait for another one went on without it, or the moment of a plan never came.
     Alone,
 }
 
-/// Returns the result of a request for memory that no call makes. `Err`: it was refused.
+/// Returns the result of a request for memory that no call on the table makes. `Err`: it was refused.
 pub fn granted<T, E: Drop>(asked: Result<T, E>) -> Result<T, ReplayFault> {
     match asked {
         Ok(there) => Ok(there),

@@ -1,7 +1,8 @@
 //! Whole inserts and look-ups on a running table: of one thread, with other whole calls inside their closures, or of two threads.
 //!
 //! The calls of a plan are first rehearsed by stepped calls beside the machine. They are then repeated by whole calls on another table. There
-//! each closure must be called with the same entry at the same stop, each call must have the same reply, and the table must show the same at each stop at which one thread runs, and at the end.
+//! each closure must be called with the same entry at the same stop, and each call must have the same reply. The table must show the same at
+//! the end and, if no other thread runs, at each stop but those at which a request is held.
 ghost use Rattle.table_terms.specs.Capacities.{IsFirstCapacity};
 
 mod player;

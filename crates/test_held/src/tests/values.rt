@@ -65,7 +65,7 @@ fn bits_of(table: HeldRawTable<Arc<u16>>) -> (u64, u64) {
     (values, bits)
 }
 
-/// Checks the number of each kind of value. That of a value that isn't zero is one less.
+/// Checks the number of each kind of value. The number of a `NonZeroU64` or a `NonZeroU32` is one less than the value.
 #[test]
 fn values_show_their_targets(rt: HostRuntime) -> Result<(), Fail> {
     assert_target(&rt, &Box::new(rt.alloc(), 7u16)?, 7);
@@ -92,7 +92,7 @@ fn a_hundred_boxes_and_ten_shared_values(rt: HostRuntime) -> Result<(), Fail> {
     Ok(())
 }
 
-/// Checks numbers of 32 bits. A value that isn't zero has a number that is one less.
+/// Checks values of 32 bits. The number of a `NonZeroU32` is one less than the value.
 #[test]
 fn narrow_numbers_are_found(rt: HostRuntime) -> Result<(), Fail> {
     let mut table: HeldRawTable<NonZeroU32> = HeldRawTable::new(rt.alloc());

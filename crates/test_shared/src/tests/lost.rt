@@ -51,7 +51,7 @@ fn entries_of(table: &Countings<'_>) -> u64 {
     bits
 }
 
-/// Asserts that a walk over the table returns both numbers, 0 and this one, if both were placed, and otherwise one of them.
+/// Asserts that a walk over the table returns 0 and this number if both were placed, and otherwise no other number than these.
 fn assert_entries(rt: &impl Abort, table: &Countings<'_>, number: u64, placed: u64) {
     let entries = entries_of(table);
     let both = 1 | 1u64.wrapping_shl(number as u32);

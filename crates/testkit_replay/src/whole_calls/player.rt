@@ -309,7 +309,7 @@ fn play_as<R: Wait>(
 }
 
 /// Runs what was rehearsed on a table, and compares what the table shows at the end. `Err`: the fault of a thread, a missed turn, fewer copied
-/// entries or requests than were rehearsed, or another table.
+/// entries or requests than were rehearsed, or a table that shows something else.
 pub(crate) fn play<R: Threads + Wait + Sync>(
     rt: &R,
     ground: Ground<'_, '_>,

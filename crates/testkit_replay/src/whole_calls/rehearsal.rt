@@ -20,7 +20,8 @@ const CLASSES: u64 = 30;
 /// The most calls that run at once on a thread, each but the first inside a closure of the one before.
 const DEPTH: usize = 3;
 
-/// A call that has begun: its index, what it was asked to do, and its reply if it has taken its last step. It ends once the calls inside its last closure have ended.
+/// A call that has begun: its index, what it was asked to do, and its reply if it has taken its last step. It ends once the calls inside its
+/// last closure have ended.
 #[derive(Clone, Copy)]
 struct Open {
     place: usize,
