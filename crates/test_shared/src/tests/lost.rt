@@ -42,23 +42,22 @@ impl<'a, 'm> Work for Offer<'a, 'm> {
     }
 }
 
-/// Returns a word in which the bit of each number below 64 is set that a walk over the table returns.
-fn entries_of(table: &Countings<'_>) -> u64 {
-    let mut bits = 0u64;
+/// Returns how many of the entries that a walk over the table returns have this number.
+fn count_of(table: &Countings<'_>, number: u64) -> u64 {
+    let mut count = 0u64;
     for entry in table.iter() {
-        bits |= 1u64.wrapping_shl(entry.number as u32);
+        if entry.number == number {
+            count = count.wrapping_add(1);
+        }
     }
-    bits
+    count
 }
 
-/// Asserts that a walk over the table returns 0 and this number if both were placed, and otherwise no other number than these.
+/// Asserts that a walk over the table returns 0 and this number once each if both were placed, and otherwise one of them once.
 fn assert_entries(rt: &impl Abort, table: &Countings<'_>, number: u64, placed: u64) {
-    let entries = entries_of(table);
-    let both = 1 | 1u64.wrapping_shl(number as u32);
-    assert!(rt;
-        entries == both || (placed == 1 && entries & both == entries),
-        "{entries}"
-    );
+    let (zeros, others) = (count_of(table, 0), count_of(table, number));
+    assert!(rt; zeros <= 1 && others <= 1);
+    assert_same(rt, zeros.wrapping_add(others), placed);
 }
 
 /// Inserts 0 and another number at one empty bucket at once, and asserts that the meeting ends as it says. `Err`: no memory.
