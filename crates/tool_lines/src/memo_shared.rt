@@ -3,7 +3,7 @@ ghost use Rattle.std.specs.Prelude.{◌≡◌, ◌+◌, ◌-◌, ◌*◌, ◌/�
 ghost use Rattle.tool_lines.specs.Fibonacci.{fibonacci_word};
 
 use crate::memo::{Answer, doubled};
-use shared_set::{Handle, Inserted, SharedSet};
+use shared_set::{Handle, SharedSet};
 use std::alloc::{AllocError, Global};
 use table_cell::Low;
 use table_sets::{ByField, NumberLaw, OfField};
@@ -47,10 +47,9 @@ impl<'a, A: Low + Copy> Solver<'a, A> {
 
     /// Stores a result, unless a thread has stored it. An `Err` means that memory was refused.
     fn keep(&mut self, kept: Answer) -> Result<(), AllocError> {
-        match self.answers.insert(kept) {
-            Inserted::Placed(_, _, _) => Ok(()),
-            Inserted::Found(_, _, _) => Ok(()),
-            Inserted::Refused(_) => Err(AllocError),
+        match self.answers.insert(kept).entry() {
+            Ok(_) => Ok(()),
+            Err(_) => Err(AllocError),
         }
     }
 

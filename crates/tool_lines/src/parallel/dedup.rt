@@ -4,7 +4,7 @@ use crate::faults::Fault;
 use crate::line_set::HashedLine;
 use crate::parallel::hashed_lines::hash_lines;
 use crate::parallel::line_part::LinePart;
-use crate::parallel::share::Share;
+use crate::parallel::portion::Portion;
 use std::alloc::{AllocError, Allocator};
 use std::io::Write;
 use std::thread;
@@ -102,14 +102,14 @@ impl<A: Allocator + Copy + Send + Sync> RoundLines<A> {
         self.write_round(lines.as_slice(), output)
     }
 
-    /// Lets each part take its share of the lines, by a thread of its own.
+    /// Lets each part take its portion of the lines, by a thread of its own.
     fn split_round<R: Threads + Sync>(&mut self, rt: &R, pieces: &[Vec<HashedLine<'_>, A>]) {
         let parts = self.parts.len();
         thread::for_each_mut(
             rt,
             self.parts.as_mut_slice(),
             parts.max(1),
-            &|number, part| part.take_round(Share { number, parts }, pieces),
+            &|number, part| part.take_round(Portion { number, parts }, pieces),
         );
     }
 }

@@ -28,10 +28,7 @@ fn first_line(text: &[u8]) -> Option<(&[u8], &[u8])>
     ensures shorter { IfSome result (λ cut. length cut.1.now < length text.now) }
     ensures none { IfNone result (lines_of text.now ≡ []) }
 {
-    match cut_line(text) {
-        Some((line, behind)) => Some((line, behind)),
-        None => None,
-    }
+    cut_line(text)
 }
 
 /// Splits the text after its first line, whose line break is left out. Returns `None` if the text is empty.

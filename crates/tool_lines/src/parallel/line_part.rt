@@ -1,7 +1,7 @@
 //! The lines of one part.
 use crate::line_set::HashedLine;
 use crate::parallel::kept_lines::KeptLines;
-use crate::parallel::share::Share;
+use crate::parallel::portion::Portion;
 use std::alloc::{AllocError, Allocator};
 
 /// The lines of one part that were met, and which lines of the last round are new.
@@ -29,19 +29,19 @@ impl<A: Allocator + Copy> LinePart<A> {
         self.news = None;
     }
 
-    /// Takes its share of the lines of each piece.
-    pub fn take_round(&mut self, share: Share, pieces: &[Vec<HashedLine<'_>, A>]) {
-        self.news = self.new_in_round(share, pieces).ok();
+    /// Takes its portion of the lines of each piece.
+    pub fn take_round(&mut self, portion: Portion, pieces: &[Vec<HashedLine<'_>, A>]) {
+        self.news = self.new_in_round(portion, pieces).ok();
     }
 
     fn new_in_round(
         &mut self,
-        share: Share,
+        portion: Portion,
         pieces: &[Vec<HashedLine<'_>, A>],
     ) -> Result<Vec<Vec<usize, A>, A>, AllocError> {
         let mut news = Vec::with_capacity(self.alloc, pieces.len())?;
         for piece in pieces {
-            let new = self.new_in_piece(share, piece.as_slice())?;
+            let new = self.new_in_piece(portion, piece.as_slice())?;
             news.push(new)?;
         }
         Ok(news)
@@ -49,12 +49,12 @@ impl<A: Allocator + Copy> LinePart<A> {
 
     fn new_in_piece(
         &mut self,
-        share: Share,
+        portion: Portion,
         lines: &[HashedLine<'_>],
     ) -> Result<Vec<usize, A>, AllocError> {
         let mut new = Vec::new(self.alloc);
         for (at, line) in lines.iter().enumerate() {
-            if share.has(line.hash) && !self.met.seen_before(*line)? {
+            if portion.has(line.hash) && !self.met.seen_before(*line)? {
                 new.push(at)?;
             }
         }

@@ -3,7 +3,7 @@ use crate::faults::Fault;
 use crate::line_set::HashedLine;
 use crate::parallel::hashed_words::{HashedWord, HashedWords};
 use crate::parallel::kept_lines::KeptLines;
-use crate::parallel::share::Share;
+use crate::parallel::portion::Portion;
 use std::alloc::{AllocError, Allocator};
 
 /// The different words of one part, in the order of first appearance.
@@ -45,38 +45,38 @@ impl<A: Allocator + Copy> WordPart<A> {
         self.counts.len()
     }
 
-    /// Counts its share of the words of the pieces. The texts have `before` words before these pieces.
-    pub fn take_round(&mut self, share: Share, before: u64, pieces: &[HashedWords<'_, A>]) {
-        self.fault = match self.count_round(share, before, pieces) {
+    /// Counts its portion of the words of the pieces. The texts have `before` words before these pieces.
+    pub fn take_round(&mut self, portion: Portion, before: u64, pieces: &[HashedWords<'_, A>]) {
+        self.fault = match self.count_round(portion, before, pieces) {
             Ok(()) => None,
             Err(fault) => Some(fault),
         };
     }
 
-    /// Counts its share of the words of the pieces.
+    /// Counts its portion of the words of the pieces.
     fn count_round(
         &mut self,
-        share: Share,
+        portion: Portion,
         before: u64,
         pieces: &[HashedWords<'_, A>],
     ) -> Result<(), Fault> {
         let mut before = before;
         for piece in pieces {
-            self.count_piece(share, before, piece.words.as_slice())?;
+            self.count_piece(portion, before, piece.words.as_slice())?;
             before = before.saturating_add(piece.words.len() as u64);
         }
         Ok(())
     }
 
-    /// Counts its share of the words of a piece.
+    /// Counts its portion of the words of a piece.
     fn count_piece(
         &mut self,
-        share: Share,
+        portion: Portion,
         before: u64,
         words: &[HashedWord<'_>],
     ) -> Result<(), Fault> {
         for (index, word) in words.iter().enumerate() {
-            if share.has(word.hash) {
+            if portion.has(word.hash) {
                 self.count(*word, before.saturating_add(index as u64))?;
             }
         }

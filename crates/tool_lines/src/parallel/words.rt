@@ -1,7 +1,7 @@
 //! The tool `words` by several threads.
 use crate::faults::Fault;
 use crate::parallel::hashed_words::{HashedWords, hash_words};
-use crate::parallel::share::Share;
+use crate::parallel::portion::Portion;
 use crate::parallel::word_part::{CountedWord, WordPart};
 use std::alloc::{AllocError, Allocator};
 use std::io::Write;
@@ -40,8 +40,8 @@ impl<A: Allocator + Copy> RoundWords<A> {
         self.breaks = 0;
     }
 
-    /// Returns the fault of the parts that comes first, if they have one.
-    fn fault_of_parts(&self) -> Result<(), Fault> {
+    /// Returns the first fault of a part, if one has a fault, or else whether they have too many different words.
+    fn check_parts(&self) -> Result<(), Fault> {
         let mut different = 0usize;
         for part in &self.parts {
             if let Some(fault) = part.fault {
@@ -148,14 +148,14 @@ fn up_to_fault<'a, 'p, A: Allocator>(pieces: &'a [HashedWords<'p, A>]) -> &'a [H
 }
 
 impl<A: Allocator + Copy + Send + Sync> RoundWords<A> {
-    /// Lets each part count its share of the words, by a thread of its own.
+    /// Lets each part count its portion of the words, by a thread of its own.
     fn split_round<R: Threads + Sync>(&mut self, rt: &R, pieces: &[HashedWords<'_, A>]) {
         let (parts, before) = (self.parts.len(), self.before);
         thread::for_each_mut(
             rt,
             self.parts.as_mut_slice(),
             parts.max(1),
-            &|number, part| part.take_round(Share { number, parts }, before, pieces),
+            &|number, part| part.take_round(Portion { number, parts }, before, pieces),
         );
     }
 
@@ -174,7 +174,7 @@ impl<A: Allocator + Copy + Send + Sync> RoundWords<A> {
         )?;
         let taken = up_to_fault(hashed.as_slice());
         self.split_round(rt, taken);
-        self.fault_of_parts()?;
+        self.check_parts()?;
         self.pass(taken)
     }
 }
