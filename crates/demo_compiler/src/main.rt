@@ -4,11 +4,10 @@
 ghost use Rattle.std.specs.Prelude.{◌≡◌};
 
 use shared_interner::{Names, SharedInterner};
-use shared_set::{Handle, Inserted, MetBy, SharedSet};
+use shared_set::{Handle, SharedSet};
 use std::alloc::{AllocError, Global};
-use std::sync::Arc;
 use std::{io, thread};
-use table_sets::{ByField, NumberLaw, OfField, OfParts, OfTarget};
+use table_sets::{ByField, NumberLaw, OfField, OfParts};
 
 /// An operator with the numbers of its operands, or 'n' with the symbol of a name and 0.
 type Shape = (char, u64, u64);
@@ -30,23 +29,23 @@ impl ByField for Node {
     }
 }
 
-/// The nodes, of which no two have one shape.
-type Nodes = SharedSet<Arc<Node>, OfTarget<OfField<OfParts<NumberLaw>>>>;
+/// The law of nodes: two are equal if their shapes are.
+type ByShape = OfField<OfParts<NumberLaw>>;
 
 /// A node with its number.
-type Numbered<'a> = (u64, &'a Arc<Node>);
+type Numbered<'a> = (u64, &'a Node);
 
 /// What one thread builds nodes by.
 #[derive(Drop)]
 struct Builder<'a> {
     names: Names<'a>,
-    nodes: Handle<'a, Arc<Node>, OfTarget<OfField<OfParts<NumberLaw>>>>,
+    nodes: Handle<'a, Node, ByShape>,
     alloc: Global,
 }
 
 impl<'a> Builder<'a> {
     /// Makes a builder for a thread.
-    fn new(names: &'a SharedInterner, nodes: &'a Nodes, alloc: Global) -> Self {
+    fn new(names: &'a SharedInterner, nodes: &'a SharedSet<Node, ByShape>, alloc: Global) -> Self {
         Builder {
             names: names.names(),
             nodes: nodes.handle(),
@@ -56,14 +55,12 @@ impl<'a> Builder<'a> {
 
     /// Returns the node of this shape. If there is none yet, a node with this text becomes it.
     fn node(&mut self, shape: Shape, text: String) -> Result<Numbered<'a>, AllocError> {
-        if let Some(known) = self.nodes.seek(&MetBy { key: &shape }) {
-            return Ok(known);
-        }
-        let node = Arc::new(self.alloc, Node { shape, text })?;
-        match self.nodes.insert(node) {
-            Inserted::Placed(number, entry, _) => Ok((number, entry)),
-            Inserted::Found(number, entry, _) => Ok((number, entry)),
-            Inserted::Refused(_) => Err(AllocError),
+        let got = self
+            .nodes
+            .get_or_insert_with(&shape, || Node { shape, text });
+        match got.entry() {
+            Ok(numbered) => Ok(numbered),
+            Err(_) => Err(AllocError),
         }
     }
 
@@ -98,7 +95,7 @@ impl<'a> Builder<'a> {
 fn main(rt: HostRuntime) -> io::Result<()> {
     let alloc = rt.alloc();
     let names = SharedInterner::new(alloc)?;
-    let nodes: Nodes = SharedSet::new(alloc)?;
+    let nodes: SharedSet<Node, ByShape> = SharedSet::new(alloc)?;
     let (here, there) = thread::join(
         &rt,
         || Builder::new(&names, &nodes, alloc).build('+', "tax"),

@@ -26,7 +26,7 @@ fn main(rt: HostRuntime) -> io::Result<()> {
     println!(rt; "different words: {}", interner.len())?;
     println!(rt; "both lines end with one word: {}", here == there)?;
     if let Some(symbol) = here
-        && let Some(word) = interner.names().text(symbol)
+        && let Some(word) = interner.text(symbol)
     {
         println!(rt; "the word: {word}")?;
     }

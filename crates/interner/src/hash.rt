@@ -13,8 +13,8 @@ pub trait TextHash {
         ensures { result ≡ hash_of text.now };
 }
 
-/// The polynomial hash with factor 31: starts at 0, and for each byte multiplies by 31 and adds the byte, modulo 2^64. Somebody
-/// who chooses the texts can choose many with one hash.
+/// The polynomial hash with factor 31: starts at 0, and for each byte multiplies by 31 and adds the byte, modulo 2^64. Short texts
+/// have small hashes, so that more texts are compared byte by byte. Somebody who chooses the texts can choose many with one hash.
 #[derive(Clone, Copy)]
 pub struct Times31;
 
@@ -32,7 +32,7 @@ impl TextHash for Times31 {
     }
 }
 
-/// A hash in which each bit depends on each byte, for texts that others choose.
+/// A hash that spreads texts over all 64 bits. It has no secret: somebody who chooses the texts can still compute texts with one hash.
 #[derive(Clone, Copy)]
 pub struct Mixed;
 

@@ -45,7 +45,8 @@ impl<A: Low + Copy> SharedInterner<A> {
         }
     }
 
-    /// Makes an empty interner that has buckets for this many texts before it grows. A refused request leaves nothing.
+    /// Makes an empty interner for this many texts: it has twice as many buckets, in a power of two, and 16 at least. `Err`: memory was
+    /// refused, or there are more than 2^31 texts. It leaves nothing.
     pub fn with_capacity(alloc: A, texts: usize) -> Result<Self, AllocError>
         ensures empty { IfOk result (λ s. IsEmpty s.start) }
         ensures none { IfOk result (λ s. s.known ≡ []) }

@@ -7,6 +7,7 @@ ghost use Rattle.shared_set.specs.Walks.{Begins};
 ghost use Rattle.shared_interner.specs.Symbols.{number_of};
 ghost use Rattle.shared_interner.specs.Walks.{WalksOn, NeverTwice, GivesNamed, GivesAllOf};
 
+use crate::interning::SharedInterner;
 use crate::names::{KnownNames, Names};
 use crate::symbol::Symbol;
 use crate::text::Text;
@@ -83,5 +84,19 @@ impl<'a, A: Low + Copy> Names<'a, A> {
         Iter {
             entries: self.handle.iter(),
         }
+    }
+}
+
+impl<A: Low + Copy> SharedInterner<A> {
+    /// Returns an iterator over texts, each with its symbol, as a new handle does. It returns each text that `begin_with` was given, and no
+    /// symbol twice. It takes no lock and does not allocate, and threads can intern meanwhile.
+    pub fn iter(&self) -> Iter<'_, A>
+        ensures of { result.of ≡ self.now.of }
+        ensures apart { NeverTwice result }
+        ensures named { GivesNamed result }
+        ensures all { GivesAllOf self.now.known result }
+    {
+        let mut names = self.names();
+        names.iter()
     }
 }

@@ -4,6 +4,8 @@ ghost use Rattle.std.specs.Int.NonZero.{non_zero_u32_get};
 ghost use Rattle.shared_interner.specs.Symbols.{number_of};
 
 use std::num::NonZeroU32;
+use table_held::Law;
+use table_sets::{NumberLaw, SetLaw, hash_number};
 
 /// What stands for a text of one `SharedInterner`. It has four bytes. Symbols are ordered by their numbers.
 #[derive(Clone, Copy, PartialEq, Eq, PartialOrd, Ord, Hash, Debug, Drop)]
@@ -53,5 +55,26 @@ impl Symbol {
             Some(number) => Some(Symbol { number }),
             None => None,
         }
+    }
+}
+
+impl Law<Symbol> for NumberLaw {
+    ghost use Rattle.table_terms.specs.Laws.{same_by_number, hash_by_number, number_lawful};
+    ghost use Rattle.shared_interner.specs.Symbols.{number_of};
+
+    ghost same = { same_by_number number_of };
+
+    ghost hash_of = { hash_by_number number_of };
+
+    ghost lawful = { number_lawful number_of };
+}
+
+impl SetLaw<Symbol> for NumberLaw {
+    fn is_same(one: &Symbol, other: &Symbol) -> bool {
+        one.number() == other.number()
+    }
+
+    fn hash(target: &Symbol) -> u64 {
+        hash_number(target.number())
     }
 }

@@ -5,7 +5,7 @@ use crate::short::ShortText;
 use std::alloc::{AllocError, Allocator, Global};
 use std::marker::Model;
 use table_held::Law;
-use table_sets::texts::hash_text;
+use table_sets::texts::{hash_bytes, hash_text};
 use table_sets::{KeyLaw, SetLaw, TextLaw};
 
 /// Where the bytes of a text lie: in the value itself if they are few, and else in a block.
@@ -92,7 +92,7 @@ impl<A: Allocator> SetLaw<Text<A>> for TextLaw {
     }
 
     fn hash(target: &Text<A>) -> u64 {
-        hash_text(target.as_str())
+        hash_bytes(target.as_bytes())
     }
 }
 

@@ -6,7 +6,7 @@ use Rattle.table_numbered.specs.Words.{mark_of, numbered, of_value}
 use Rattle.table_numbered.specs.declared.event.Numbered.{Numbered}
 use Rattle.table_numbered.specs.declared.event.Stored.TheVariants.{Entry}
 use Rattle.table_numbered.specs.History.{History, event, HasSize, IsEntry}
-use Rattle.table_numbered.specs.Generations.{HasRoom, IsSpent}
+use Rattle.table_numbered.specs.Generations.{HasRoom, HasNoRoom}
 use Rattle.table_numbered.specs.Generations as generation
 use Rattle.table_numbered.proofs.Histories.{size_is}
 use Rattle.shared_set.specs.declared.insert.Attempt.{Attempt}
@@ -54,8 +54,8 @@ module _ {V : Type 0} (same : V → V → Bool) (hash : V → ℕ) where
   pub bucket_in : (n : ℕ) (v : V) (log : History (Numbered V)) → HasSize n log → HasRoom (same v) n (mark_of (hash v)) log → HasBucket same hash v log
   bucket_in n v log size it = subst (λ (m : ℕ). HasRoom (same v) m (mark_of (hash v)) log) (sym (size_is n log size)) it
 
-  pub no_bucket_in : (n : ℕ) (v : V) (log : History (Numbered V)) → HasSize n log → IsSpent (same v) n (mark_of (hash v)) log → HasNoBucket same hash v log
-  no_bucket_in n v log size it = subst (λ (m : ℕ). IsSpent (same v) m (mark_of (hash v)) log) (sym (size_is n log size)) it
+  pub no_bucket_in : (n : ℕ) (v : V) (log : History (Numbered V)) → HasSize n log → HasNoRoom (same v) n (mark_of (hash v)) log → HasNoBucket same hash v log
+  no_bucket_in n v log size it = subst (λ (m : ℕ). HasNoRoom (same v) m (mark_of (hash v)) log) (sym (size_is n log size)) it
 
   -- what an insert answers of a value that is the same one, by what was known before
   pub inserts_after : (r : Inserted V) (v w : V) (old mid new : History (Numbered V)) → w ≡ v → Keeps old mid → Inserts same hash w mid new r → Inserts same hash v old new r

@@ -1,9 +1,10 @@
 -- What an insert answers.
-use Rattle.std.specs.Prelude.{◌≡◌, ℕ, ◌++◌, ◌⊎◌, Bool, [], ◌∷◌, Some}
+use Rattle.std.specs.Prelude.{◌≡◌, ℕ, ◌++◌, ◌⊎◌, Bool, [], ◌∷◌, Some, Result, Ok, Err}
+use Rattle.std.specs.Borrow.{Bor}
 use Rattle.table_slab.specs.Held.{IsReceiptFor}
 use Rattle.table_numbered.specs.Words.{mark_of, numbered, of_value}
 use Rattle.table_numbered.specs.History.{History, event, size_of, IsEntry, NonePasses}
-use Rattle.table_numbered.specs.Generations.{Passes, HasRoom, IsSpent}
+use Rattle.table_numbered.specs.Generations.{Passes, HasRoom, HasNoRoom}
 use Rattle.table_numbered.specs.declared.event.Numbered.{Numbered}
 use Rattle.table_numbered.specs.declared.event.Stored.TheVariants.{Entry}
 use Rattle.shared_set.specs.declared.insert.Attempt.{Attempt}
@@ -28,7 +29,7 @@ module _ {V : Type 0} (same : V → V → Bool) (hash : V → ℕ) where
 
   -- on its way v passes others' entries, in all buckets or in those before a closed one
   abbrev pub HasNoBucket : V → History (Numbered V) → Type 0
-  HasNoBucket v log = IsSpent (same v) (size_of log) (mark_of (hash v)) log
+  HasNoBucket v log = HasNoRoom (same v) (size_of log) (mark_of (hash v)) log
 
   -- the way of v is known to its end: no entry there is the same
   abbrev pub IsProbed : V → History (Numbered V) → Type 0
@@ -51,6 +52,12 @@ module _ {V : Type 0} (same : V → V → Bool) (hash : V → ℕ) where
   abbrev pub Attempts : V → History (Numbered V) → History (Numbered V) → Attempt V → Type 0
   Attempts v old new (attempt.Done it) = Inserts v old new it
   Attempts v old new (attempt.Full back) = (back ≡ v) × NonePasses (of_value (same v)) (IsEntry new) × HasNoBucket v new
+
+-- the entry that was placed or found, or the value that was refused
+abbrev pub HasEntry : {V : Type 0} → Inserted V → Result (ℕ × Bor V) V → Type 0
+HasEntry (inserted.Placed k e r) result = result ≡ Ok (k, e)
+HasEntry (inserted.Found k e back) result = result ≡ Ok (k, e)
+HasEntry (inserted.Refused back) result = result ≡ Err back
 
 module _ {V : Type 0} (g : SharedView) where
   -- what was placed has a receipt: it is of this set, of the number and of the entry that is shown

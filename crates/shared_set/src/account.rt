@@ -50,7 +50,8 @@ impl<V, L: SetLaw<V>, A: Low + Copy> Model for Account<V, L, A> {
 }
 
 impl<V, L: SetLaw<V>, A: Low + Copy> Account<V, L, A> {
-    /// Adds a receipt of an entry that the handle knows, and all that the handle knows. The handle is of the same set.
+    /// Adds the receipt, and learns what the handle knows. Receipt and handle are of the account's set, and the handle knows the receipt's
+    /// entry, as it does after its own insert.
     pub fn add(&mut self, receipt: Receipt<V>, by: &Handle<'_, V, L, A>)
         requires handle { by.now.of ≡ self.old.of }
         requires receipt { receipt.slab ≡ self.old.of.slab }
@@ -68,7 +69,7 @@ impl<V, L: SetLaw<V>, A: Low + Copy> Account<V, L, A> {
         self.count += 1;
     }
 
-    /// Adds what the handle knows to what is known. The handle is of the same set.
+    /// Learns what the handle knows. The handle is of the account's set.
     pub fn learn(&mut self, by: &Handle<'_, V, L, A>)
         requires { by.now.of ≡ self.old.of }
         ensures of { self.new.of ≡ self.old.of }
@@ -139,7 +140,7 @@ impl<V, L: SetLaw<V>, A: Low + Copy> Account<V, L, A> {
         }
     }
 
-    /// Shows that no two receipts are of one entry.
+    /// States that no two receipts are of one entry. Nothing happens.
     pub fn apart(&mut self)
         ensures same { self.new ≡ self.old }
         ensures apart { DifferByNumber self.old.placed }

@@ -19,7 +19,8 @@ impl<V, L: SetLaw<V>, A: Low + Copy> Known<V, L, A> {
 }
 
 impl<'a, V, L: SetLaw<V>, A: Low + Copy> Handle<'a, V, L, A> {
-    /// States the same of the entries known to this handle. Nothing happens.
+    /// States that no two entries known to this handle are the same or have one number, and that the numbers are below 2^32 - 2. Nothing
+    /// happens.
     pub fn apart(&self)
         ensures entries { AreApart L.same self.now.history }
         ensures values { OneValue self.now.history }

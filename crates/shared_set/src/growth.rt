@@ -129,12 +129,8 @@ impl<V, L: SetLaw<V>, A: Low + Copy> SharedSet<V, L, A> {
         if let Some(seen) = self.look_ahead(cursor) {
             return Some(seen);
         }
-        let Some(next) = self.next_of(stage, cursor.entries.again()) else {
-            return None;
-        };
-        let Some(seen) = self.show_next(cursor, next) else {
-            return None;
-        };
+        let next = self.next_of(stage, cursor.entries.again())?;
+        let seen = self.show_next(cursor, next)?;
         self.begin.store(cursor.slot + 1, SeqCst);
         Some(seen)
     }

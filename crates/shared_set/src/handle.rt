@@ -153,7 +153,7 @@ impl<'a, V, L: SetLaw<V>, A: Low + Copy> Handle<'a, V, L, A> {
 }
 
 impl<V, L: SetLaw<V>, A: Low + Copy> Drop for Handle<'_, V, L, A> {
-    /// Gives the numbers that are left back, and adds what this handle placed to what the set counts.
+    /// Gives the rest of its run of numbers back, and adds what this handle placed to what the set counts. A spare number stays unused.
     fn drop(self) {
         let Handle {
             set,

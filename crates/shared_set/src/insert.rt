@@ -1,7 +1,7 @@
 //! Inserts.
 ghost use Rattle.std.specs.Prelude.{◌≡◌};
 ghost use Rattle.shared_set.specs.Known.{KnowsMore};
-ghost use Rattle.shared_set.specs.Inserting.{Inserts, InsertsHere, Attempts, HasReceipt, HasReceiptHere};
+ghost use Rattle.shared_set.specs.Inserting.{Inserts, InsertsHere, Attempts, HasEntry, HasReceipt, HasReceiptHere};
 ghost use Rattle.shared_set.specs.Supplies.{IsVacant};
 
 use crate::handle::Handle;
@@ -10,7 +10,7 @@ use std::alloc::Allocator;
 use std::cmp::{max, min};
 use std::sync::atomic::Ordering::SeqCst;
 use table_cell::Low;
-use table_numbered::{Judged, Placing, SameAs, SetLaw};
+use table_numbered::{Placing, ProbeEnd, SameAs, SetLaw};
 use table_slab::{Receipt, Right};
 
 /// How an insert ended.
@@ -22,6 +22,20 @@ pub enum Inserted<'a, V> {
     Found(u64, &'a V, V),
     /// There is no memory, or no number or generation is left. The value is returned.
     Refused(V),
+}
+
+impl<'a, V: Drop> Inserted<'a, V> {
+    /// Returns the entry with its number, whether it is new or was found. `Err` returns the value that was refused. A value that was not
+    /// placed for an entry that was found is dropped.
+    pub fn entry(self) -> Result<(u64, &'a V), V>
+        ensures { HasEntry self.entry result }
+    {
+        match self {
+            Inserted::Placed(number, entry, _) => Ok((number, entry)),
+            Inserted::Found(number, entry, _) => Ok((number, entry)),
+            Inserted::Refused(value) => Err(value),
+        }
+    }
 }
 
 /// How an insert into one generation ended.
@@ -104,12 +118,12 @@ impl<'a, V, L: SetLaw<V>, A: Low + Copy> Handle<'a, V, L, A> {
         let set = self.set;
         let generation = self.stage.generation();
         let sought = SameAs { target: &value };
-        match generation.judge(&set.slab, &mut self.cursor.entries, &sought) {
-            Judged::Found(number, entry) => {
+        match generation.probe(&set.slab, &mut self.cursor.entries, &sought) {
+            ProbeEnd::Found(number, entry) => {
                 return Attempt::Done(Inserted::Found(number, entry, value));
             }
-            Judged::Spent => return Attempt::Full(value),
-            Judged::Vacant => {}
+            ProbeEnd::Full => return Attempt::Full(value),
+            ProbeEnd::Vacant => {}
         }
         let most = max(1, min(LONGEST_RUN, generation.buckets() / 64)) as u64;
         match self.supply.fetch(&set.slab, most) {
@@ -118,10 +132,18 @@ impl<'a, V, L: SetLaw<V>, A: Low + Copy> Handle<'a, V, L, A> {
         }
     }
 
-    /// Makes sure that a stage is behind the one of this handle. Returns false if memory was refused, or no slot is left.
-    fn grow(&self) -> bool {
+    /// Makes sure that a stage is behind the one of this handle, which learns of it. Returns false if memory was refused, or no slot is left.
+    fn grow(&mut self) -> bool
+        ensures { self.new ≡ self.old }
+    {
         let set = self.set;
-        set.grow(&self.cursor, self.stage).is_some()
+        match set.grow(&self.cursor, self.stage) {
+            Some(seen) => {
+                self.cursor.stages.learn(&seen);
+                true
+            }
+            None => false,
+        }
     }
 
     /// Inserts the value in the newest generation.

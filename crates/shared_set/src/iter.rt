@@ -126,3 +126,17 @@ impl<'a, V, L: SetLaw<V>, A: Low + Copy> Handle<'a, V, L, A> {
         }
     }
 }
+
+impl<V, L: SetLaw<V>, A: Low + Copy> SharedSet<V, L, A> {
+    /// Returns an iterator over the entries of the newest generation, each with its number, as a new handle does. It returns each entry that
+    /// `begin_with` was given, and none twice. It takes no lock and does not allocate, and threads can insert meanwhile.
+    pub fn iter(&self) -> Iter<'_, V, L, A>
+        ensures of { result.of ≡ self.now.of }
+        ensures apart { NeverTwice result }
+        ensures entries { GivesEntries result }
+        ensures all { GivesAllOf self.now.known result }
+    {
+        let mut handle = self.handle();
+        handle.iter()
+    }
+}

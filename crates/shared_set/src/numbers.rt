@@ -3,9 +3,11 @@ ghost use Rattle.std.specs.Prelude.{◌≡◌, true, false, MatchOption, IfSome}
 ghost use Rattle.table_numbered.specs.Words.{numbered};
 ghost use Rattle.table_numbered.specs.History.{IsEntry};
 ghost use Rattle.table_numbered.specs.Walking.{IsTaken};
-ghost use Rattle.shared_set.specs.Known.{KnowsMore};
+ghost use Rattle.shared_set.specs.Known.{KnowsMore, Later};
+ghost use Rattle.shared_set.specs.Apart.{IsApart};
 
 use crate::handle::Handle;
+use crate::set::SharedSet;
 use table_cell::Low;
 use table_numbered::SetLaw;
 
@@ -55,5 +57,19 @@ impl<'a, V, L: SetLaw<V>, A: Low + Copy> Handle<'a, V, L, A> {
         } else {
             None
         }
+    }
+}
+
+impl<V, L: SetLaw<V>, A: Low + Copy> SharedSet<V, L, A> {
+    /// Returns the entry of this number, which it has for good, as a new handle does. `None` means that no entry that `begin_with` was given
+    /// has the number.
+    pub fn entry(&self, number: u64) -> Option<&V>
+        ensures finds { Later self.now.known (λ log. IsApart L.same log
+            × MatchOption result (IsTaken log number → ⊥) (λ e. IsEntry log (numbered number e.now))) }
+    {
+        let mut handle = self.handle();
+        let found = handle.entry(number);
+        handle.apart();
+        found
     }
 }

@@ -32,7 +32,7 @@ use std::sync::atomic::Ordering::SeqCst;
 use std::sync::atomic::{AtomicBool, AtomicU64, AtomicUsize};
 use table_cell::Low;
 use table_chain::Chain;
-use table_numbered::{NumberedGeneration, SetLaw, Token};
+use table_numbered::{KeyLaw, NumberedGeneration, SetLaw, Token};
 use table_slab::Slab;
 
 /// How many stages a set may have: from one bucket to 2^32.
@@ -88,8 +88,10 @@ impl<V, L: SetLaw<V>, A: Low + Copy> SharedSet<V, L, A> {
         SharedSet::with_buckets(alloc, LEAST_BUCKETS)
     }
 
-    /// Makes an empty set that has buckets for this many entries before it grows: twice as many, in a power of two, and 16 at least. A refused
-    /// request leaves nothing.
+    /// Makes an empty set for this many entries: it has twice as many buckets, in a power of two, and 16 at least. One handle can place that
+    /// many before the set grows. Each further handle may use up to 64 numbers that it doesn't place, so that the set grows earlier.
+    ///
+    /// `Err`: memory was refused, or there are more than 2^31 entries. It leaves nothing.
     pub fn with_capacity(alloc: A, entries: usize) -> Result<Self, AllocError>
         ensures empty { IfOk result (λ s. IsEmpty s.start) }
         ensures none { IfOk result (λ s. s.known ≡ []) }
@@ -132,7 +134,7 @@ impl<V, L: SetLaw<V>, A: Low + Copy> SharedSet<V, L, A> {
 
     /// Returns the number of values that were placed, as far as handles have counted them. A handle counts its first value before that
     /// insert returns, then 2, 4, 8, 16 and 32 values at a time, then 64 at a time, and the rest when it is dropped. `insert` of the set
-    /// itself counts its value before it returns.
+    /// itself counts its value before it returns. While the set has no handle this is the number of its entries.
     pub fn len(&self) -> u64 {
         self.placed.load(SeqCst)
     }
@@ -210,7 +212,8 @@ impl<V, L: SetLaw<V>, A: Low + Copy> SharedSet<V, L, A> {
         }
     }
 
-    /// Returns a handle, by which one thread calls the set. It knows each entry that `begin_with` was last given.
+    /// Returns a handle, by which one thread calls the set. It knows each entry that `begin_with` was last given. One handle for all calls of
+    /// a thread is quicker than a call on the set each time, which makes a handle of its own.
     pub fn handle(&self) -> Handle<'_, V, L, A>
         ensures of { result.of ≡ self.now.of }
         ensures keeps { Keeps self.now.known result.history }
@@ -299,6 +302,18 @@ impl<V, L: SetLaw<V>, A: Low + Copy> SharedSet<V, L, A> {
     {
         let mut handle = self.handle();
         let found = handle.get(target);
+        handle.apart();
+        found
+    }
+
+    /// Returns an entry that meets the key, as a new handle does. `None` means that no entry that `begin_with` was given meets it.
+    pub fn get_by_key<K>(&self, key: &K) -> Option<&V>
+    where
+        L: KeyLaw<K, V>,
+        ensures finds { Later self.now.known (λ log. IsApart L.same log × Gets (L.meets key.now) (IsEntry log) result) }
+    {
+        let mut handle = self.handle();
+        let found = handle.get_by_key(key);
         handle.apart();
         found
     }

@@ -72,7 +72,7 @@ impl<V, A: Low + Copy> Supply<V, A> {
         Ok(next)
     }
 
-    /// Gives the numbers that are left back to the slab.
+    /// Gives the rest of the run back to the slab. The spare number stays unused.
     pub(crate) fn give_back(self, slab: &Slab<V, A>)
         requires { IsSupplyOf slab.now self }
     {

@@ -5,11 +5,11 @@ use Rattle.table_cell.specs.Words.{WordView, word_view}
 use Rattle.table_cell.specs.Contents.{IsMarked, Reads, content_of}
 use Rattle.table_cell.specs.declared.bucket.Entry.{Entry}
 use Rattle.table_cell.specs.declared.bucket.Mark.{Mark}
-use Rattle.table_cell.specs.declared.bucket.Mark.TheVariants.{Vacant, Own, Named}
+use Rattle.table_cell.specs.declared.bucket.Mark.TheVariants.{Unmarked, Own, Named}
 
 module _ {A T : Type 0} where
   pub reads : (m : Mark) (w : WordView A (Entry T)) → IsMarked m w → Reads (content_of m w.value) m
-  reads Vacant w i = refl
+  reads Unmarked w i = refl
   reads (Own bits) w i = (i.1, ap (content_of (Own bits)) i.2, i.3)
   reads (Named bits) w i = (i.1, ap (content_of (Named bits)) i.2, i.3)
 

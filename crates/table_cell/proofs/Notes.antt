@@ -25,7 +25,7 @@ module _ (R : RattleType) where
 
   -- the note once it knows k: it speaks of the same word
   abbrev pub knowing : Note.Denot → Option R.Denot → Note.Denot
-  knowing n k = record { mark = n.mark; of = n.of; known = k }
+  knowing n k = record { marker = n.marker; of = n.of; known = k }
 
   abbrev pub the_note : Marked
   the_note = record { row = Note; mark = InMemory; owns = λ n. learnt R n.of n.known; is = λ n vs. refl }

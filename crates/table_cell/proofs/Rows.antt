@@ -8,7 +8,7 @@ use Rattle.table_cell.specs.Contents.{vacant, IsMarked, content_of, bucket_of}
 use Rattle.table_cell.specs.Rows.{RowView, content_at, contents_of, AreMarked, WordLies, bucket_at, row_of, IsRow}
 use Rattle.table_cell.specs.declared.bucket.Entry.{Entry}
 use Rattle.table_cell.specs.declared.bucket.Mark.{Mark}
-use Rattle.table_cell.specs.declared.bucket.Mark.TheVariants.{Vacant, Own, Named}
+use Rattle.table_cell.specs.declared.bucket.Mark.TheVariants.{Unmarked, Own, Named}
 
 module _ {A T : Type 0} where
   -- there are as many buckets as marks
@@ -68,14 +68,14 @@ module _ {A T : Type 0} where
   content_set (n ∷ ms) (v ∷ ws) (suc i) m w are = ap (λ ps. content_of n v.value ∷ ps) (content_set ms ws i m w are.1)
 
   -- marks of vacant buckets agree with words that are null
-  pub marked-vacant : (n : ℕ) (ws : List (WordView A (Entry T))) → length ws ≡ n → All (IsMarked Vacant) ws → AreMarked (replicate n Vacant) ws
+  pub marked-vacant : (n : ℕ) (ws : List (WordView A (Entry T))) → length ws ≡ n → All (IsMarked Unmarked) ws → AreMarked (replicate n Unmarked) ws
   marked-vacant zero [] long all = tt
   marked-vacant zero (w ∷ ws) long all = absurd (omega arith)
   marked-vacant (suc n) [] long all = absurd (omega arith)
-  marked-vacant (suc n) (w ∷ ws) long all = (All-head (IsMarked Vacant) w ws all, marked-vacant n ws (omega arith) (All-tail (IsMarked Vacant) w ws all))
+  marked-vacant (suc n) (w ∷ ws) long all = (All-head (IsMarked Unmarked) w ws all, marked-vacant n ws (omega arith) (All-tail (IsMarked Unmarked) w ws all))
 
   -- and such buckets are vacant
-  pub contents-vacant : (n : ℕ) (ws : List (WordView A (Entry T))) → length ws ≡ n → contents_of (replicate n Vacant) ws ≡ replicate n vacant
+  pub contents-vacant : (n : ℕ) (ws : List (WordView A (Entry T))) → length ws ≡ n → contents_of (replicate n Unmarked) ws ≡ replicate n vacant
   contents-vacant zero ws long = refl
   contents-vacant (suc n) [] long = absurd (omega arith)
   contents-vacant (suc n) (w ∷ ws) long = ap (λ ps. vacant ∷ ps) (contents-vacant n ws (omega arith))
@@ -94,7 +94,7 @@ module _ {A T : Type 0} where
       rw (lies.0, lies.1, named, ← content_read ms ws i m w are low is at) refl
 
   -- where the mark says so, the bucket is vacant
-  pub vacant_shows : (ms : List Mark) (ws : List (WordView A (Entry T))) (i : ℕ) (m : Mark) → AreMarked ms ws → i < length ms → m ≡ slice_index_or ms i m → m ≡ Vacant
+  pub vacant_shows : (ms : List Mark) (ws : List (WordView A (Entry T))) (i : ℕ) (m : Mark) → AreMarked ms ws → i < length ms → m ≡ slice_index_or ms i m → m ≡ Unmarked
       → content_at (contents_of ms ws) i ≡ vacant
   vacant_shows [] ws i m are lt is null = absurd (omega arith)
   vacant_shows (n ∷ ms) [] i m are lt is null = absurd are
@@ -102,12 +102,12 @@ module _ {A T : Type 0} where
   vacant_shows (n ∷ ms) (v ∷ ws) (suc i) m are lt is null = vacant_shows ms ws i m are.1 (omega arith) is null
 
   -- where it says something else, the bucket is set
-  set_holds : (m : Mark) (w : WordView A (Entry T)) → IsMarked m w → m ≢ Vacant → content_of m w.value ≢ vacant
-  set_holds Vacant w marked set = absurd (set refl)
+  set_holds : (m : Mark) (w : WordView A (Entry T)) → IsMarked m w → m ≢ Unmarked → content_of m w.value ≢ vacant
+  set_holds Unmarked w marked set = absurd (set refl)
   set_holds (Own bits) w (own, e, is, same) set = λ none. (let held : content_of (Own bits) (Some e) ≡ vacant = rw is at none in cc)
   set_holds (Named bits) w (named, e, is, same) set = λ none. (let held : content_of (Named bits) (Some e) ≡ vacant = rw is at none in cc)
 
-  pub set_shows : (ms : List Mark) (ws : List (WordView A (Entry T))) (i : ℕ) (m : Mark) → AreMarked ms ws → i < length ms → m ≡ slice_index_or ms i m → m ≢ Vacant
+  pub set_shows : (ms : List Mark) (ws : List (WordView A (Entry T))) (i : ℕ) (m : Mark) → AreMarked ms ws → i < length ms → m ≡ slice_index_or ms i m → m ≢ Unmarked
       → content_at (contents_of ms ws) i ≢ vacant
   set_shows [] ws i m are lt is set = absurd (omega arith)
   set_shows (n ∷ ms) [] i m are lt is set = absurd are

@@ -17,19 +17,19 @@ use Rattle.table_cell.proofs.Values.{Mark, void, alone, marker_data}
 abbrev pub token : Val
 token = alone void
 
-abbrev only_mark : Shape
-only_mark = record { name = []; args = []; types = []; fields = Mark RawPtr ∷ [] }
+abbrev only_marker : Shape
+only_marker = record { name = []; args = []; types = []; fields = Mark RawPtr ∷ [] }
 
 abbrev MarkAlone : RattleType
-MarkAlone = Struct only_mark
+MarkAlone = Struct only_marker
 
 abbrev pub InMemory : List Val → Fml
 InMemory = MarkAlone.own_val (record {}, tt)
 
 module _ {M : Type 1} {𝓤 : Ura M} (𝓛 : Logic 𝓤) where
-  pub mark_of_nothing : ent 𝓤 (emp 𝓤) (sem 𝓛 (InMemory (token ∷ [])))
-  mark_of_nothing = qed 𝓛 [] ∵ nothing ! $ use0 𝓛 (‵ ((Mark RawPtr).own_val (record {}) (void ∷ []))) (marker_data 𝓛 RawPtr) $ fjoin ! $
-      feq_i ! _ (token ∷ []) _ refl $ fjoin ! $ fpack ! (Valss only_mark.fields) (within only_mark (record {}, tt) (token ∷ [])) (void ∷ [], tt) $ done !
+  pub marker_of_nothing : ent 𝓤 (emp 𝓤) (sem 𝓛 (InMemory (token ∷ [])))
+  marker_of_nothing = qed 𝓛 [] ∵ nothing ! $ use0 𝓛 (‵ ((Mark RawPtr).own_val (record {}) (void ∷ []))) (marker_data 𝓛 RawPtr) $ fjoin ! $
+      feq_i ! _ (token ∷ []) _ refl $ fjoin ! $ fpack ! (Valss only_marker.fields) (within only_marker (record {}, tt) (token ∷ [])) (void ∷ [], tt) $ done !
 
 -- what is owned beside the mark is left
 module _ {M : Type 1} {𝓤 : Ura M} {𝓛 : Logic 𝓤} where

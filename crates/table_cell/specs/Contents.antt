@@ -63,7 +63,7 @@ module _ {T : Type 0} where
 
   -- a mark has the bits of the entry that the bucket shows
   abbrev pub Reads : Content T → Mark → Type 0
-  Reads c mark.Vacant = c ≡ vacant
+  Reads c mark.Unmarked = c ≡ vacant
   Reads c (mark.Own bits) = (e : Entry T) × (c ≡ own e) × (e.bits ≡ bits)
   Reads c (mark.Named bits) = (e : Entry T) × (c ≡ named e) × (e.bits ≡ bits)
 
@@ -86,7 +86,7 @@ module _ {T : Type 0} where
 
   -- what a mark beside the known value of a word says
   abbrev pub content_of : Mark → Option (Entry T) → Content T
-  content_of mark.Vacant v = vacant
+  content_of mark.Unmarked v = vacant
   content_of (mark.Own bits) None = vacant
   content_of (mark.Own bits) (Some e) = own e
   content_of (mark.Named bits) None = vacant
@@ -110,6 +110,6 @@ module _ {A T : Type 0} where
 
   -- the mark beside a word agrees with it: a vacant word owns what it will be set to
   abbrev pub IsMarked : Mark → WordView A (Entry T) → Type 0
-  IsMarked mark.Vacant w = (w.value ≡ None) × (w.owning ≡ true)
+  IsMarked mark.Unmarked w = (w.value ≡ None) × (w.owning ≡ true)
   IsMarked (mark.Own bits) w = (w.owning ≡ true) × (e : Entry T) × (w.value ≡ Some e) × (e.bits ≡ bits)
   IsMarked (mark.Named bits) w = (w.owning ≡ false) × (e : Entry T) × (w.value ≡ Some e) × (e.bits ≡ bits)

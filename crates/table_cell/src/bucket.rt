@@ -27,8 +27,8 @@ impl<T> Homed for Entry<T> {
 /// The mark of a bucket. It is stored apart from the word, so that a probe that skips the bucket follows no pointer.
 #[derive(Clone, Copy)]
 pub enum Mark {
-    /// The word is null, or was set through `&`.
-    Vacant,
+    /// The word is null, or a thread set it through `&`.
+    Unmarked,
     /// The word owns the block of an entry with these bits.
     Own(u8),
     /// The word names the block of an entry with these bits, and another bucket owns it.
@@ -107,7 +107,7 @@ impl<T: Drop, A: Allocator + Copy> Bucket<T, A> {
         ensures vacant { result.content ≡ vacant }
     {
         Bucket {
-            mark: Mark::Vacant,
+            mark: Mark::Unmarked,
             word: Word::new(alloc, home),
         }
     }
@@ -144,7 +144,7 @@ impl<T: Drop, A: Allocator + Copy> Bucket<T, A> {
             Err(refused) => return Err(Refusal::NoMemory(refused.value.value)),
         };
         match self.mark {
-            Mark::Vacant => {
+            Mark::Unmarked => {
                 *self = Bucket {
                     mark: Mark::Own(bits),
                     word: Word::own(home, LooseBlock::of(block)),
@@ -195,7 +195,7 @@ impl<T: Drop, A: Allocator + Copy> Bucket<T, A> {
                 Box::into_inner(self.word.into_block(closed).into_box(alloc)).value,
             ),
             Mark::Named(_) => None,
-            Mark::Vacant => Some(
+            Mark::Unmarked => Some(
                 Box::into_inner(self.word.into_block_if_set(closed, note)?.into_box(alloc)).value,
             ),
         }
@@ -233,7 +233,7 @@ impl<T: Drop, A: Allocator + Copy> Bucket<T, A> {
                 word: Word::own(home, self.word.into_block(closed)),
             },
             Mark::Named(_) => Bucket::new(&alloc, home),
-            Mark::Vacant => match self.word.into_block_if_set(closed, note) {
+            Mark::Unmarked => match self.word.into_block_if_set(closed, note) {
                 Some(block) => Bucket::owning(home, block),
                 None => Bucket::new(&alloc, home),
             },
@@ -249,13 +249,13 @@ impl<'a, T: Drop, A: Allocator + Copy> BucketRef<'a, T, A> {
         self.mark
     }
 
-    /// Returns a bucket that names the entry of this one, or `None` if this one is vacant. Follows no pointer.
+    /// Returns a bucket that names the entry of this one, or `None` if this one was not set through `&mut`. Follows no pointer.
     pub fn naming(&self, alloc: A) -> Option<Bucket<T, A>>
         requires { self.now.from ≡ alloc }
         ensures { result ≡ option_map (bucket alloc self.now.home) (naming self.now.content) }
     {
         let mark = match self.mark {
-            Mark::Vacant => return None,
+            Mark::Unmarked => return None,
             Mark::Own(bits) => Mark::Named(bits),
             Mark::Named(bits) => Mark::Named(bits),
         };
@@ -278,7 +278,7 @@ impl<'a, T: Drop, A: Allocator + Copy> BucketRef<'a, T, A> {
             × Keeps note.old.known note.new.known) }
     {
         let name = match self.mark {
-            Mark::Vacant => self.word.name_if_set(note)?,
+            Mark::Unmarked => self.word.name_if_set(note)?,
             _ => self.word.name(),
         };
         Some(Word::of_name(name, &alloc))
@@ -299,7 +299,7 @@ impl<'a, T: Drop, A: Allocator + Copy> BucketRef<'a, T, A> {
         ensures { option_copied result ≡ shown self.now.content }
     {
         match self.mark {
-            Mark::Vacant => None,
+            Mark::Unmarked => None,
             _ => Some(self.word.name().get(home)),
         }
     }
@@ -323,7 +323,7 @@ impl<'a, T: Drop, A: Allocator + Copy> BucketRef<'a, T, A> {
             ((option_copied result ≡ note.new.known) × Keeps note.old.known note.new.known) }
     {
         match self.mark {
-            Mark::Vacant => Some(self.word.name_if_set(note)?.get(home)),
+            Mark::Unmarked => Some(self.word.name_if_set(note)?.get(home)),
             _ => Some(self.word.name().get(home)),
         }
     }
@@ -353,7 +353,7 @@ impl<'a, T: Drop, A: Low + Copy> BucketRef<'a, T, A> {
             Ok(block) => block,
             Err(refused) => return Err(Missed::NoMemory(refused.value.value)),
         };
-        if !matches!(self.mark, Mark::Vacant) {
+        if !matches!(self.mark, Mark::Unmarked) {
             return Err(Missed::Taken(Box::into_inner(block).value, self.word.name().get(home)));
         }
         match self.word.offer(home, LooseBlock::of(block), note) {

@@ -10,7 +10,7 @@ use std::marker::{Model, PhantomData, Send, Sync};
 ///
 /// It is not dropped. `close` ends it, and then each block goes to the owner of the right to it.
 pub struct Home {
-    mark: PhantomData<*const u8>,
+    marker: PhantomData<*const u8>,
     pub ghost id: { ℕ },
 }
 
@@ -23,22 +23,24 @@ impl Model for Home {
 impl Home {
     /// Makes a home with no block.
     pub fn new() -> Home {
-        Home { mark: PhantomData }
+        Home {
+            marker: PhantomData,
+        }
     }
 
     /// Ends the home. No block of it is read any more.
     pub fn close(self) -> Closed
         ensures { result.id ≡ self.id }
     {
-        let Home { mark } = self;
-        Closed { mark }
+        let Home { marker } = self;
+        Closed { marker }
     }
 }
 
 /// Evidence that a home has ended.
 #[derive(Drop)]
 pub struct Closed {
-    mark: PhantomData<*const u8>,
+    marker: PhantomData<*const u8>,
     pub ghost id: { ℕ },
 }
 

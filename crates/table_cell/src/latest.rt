@@ -14,7 +14,7 @@ use std::ptr::null_mut;
 use std::sync::atomic::AtomicPtr;
 use std::sync::atomic::Ordering::SeqCst;
 
-/// A word that holds the block that was published last: null, or the address of a block that a `Word` holds.
+/// A word that names the block that was published last: null, or the address of a block that a `Word` holds.
 ///
 /// It owns nothing. A block that it named stays alive as long as its home, also after another block is published. Any thread may
 /// call it at any time.
@@ -50,11 +50,13 @@ impl<T: Homed, A: Allocator> Latest<T, A> {
     pub fn note(&self) -> Note<()>
         ensures { (result.of ≡ self.now.id) × (result.known ≡ None) }
     {
-        Note { mark: PhantomData }
+        Note {
+            marker: PhantomData,
+        }
     }
 
-    /// Publishes the block to which this word was set through `&`. `_seen` is a note that knows what the word was set to. The
-    /// note returned knows that a block was published. Loads the word, and then does one store.
+    /// Publishes the block that `word` names, to which a thread set it through `&`. `_seen` is a note that knows what the word was
+    /// set to. The note returned knows that a block was published. Loads `word`, and then stores its address here.
     pub fn show(&self, word: &Word<T, A>, _seen: &Note<T>) -> Note<()>
         requires unset { word.now.value ≡ None }
         requires home { word.now.home ≡ self.now.home }
@@ -65,7 +67,9 @@ impl<T: Homed, A: Allocator> Latest<T, A> {
     {
         let at = unsafe { word.inner.load::<Brand>(SeqCst) };
         unsafe { self.inner.store::<Brand>(at, SeqCst) };
-        Note { mark: PhantomData }
+        Note {
+            marker: PhantomData,
+        }
     }
 
     /// Returns the name of the block that was published last, or `None` if none was. The note then knows that one was; with such

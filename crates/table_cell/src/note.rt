@@ -11,7 +11,7 @@ use std::marker::{Model, PhantomData, Send, Sync};
 /// takes no bytes.
 #[derive(Drop)]
 pub struct Note<T> {
-    pub(crate) mark: PhantomData<*const T>,
+    pub(crate) marker: PhantomData<*const T>,
     pub ghost of: { ℕ },
     pub ghost known: { Option T } by { coded_option T.code },
 }

@@ -58,7 +58,7 @@ impl<T: Drop, A: Allocator + Copy> Row<T, A> {
         let mut marks = Vec::with_capacity(alloc, capacity)?;
         let mut words = Vec::with_capacity(alloc, capacity)?;
         for _made in 0..capacity {
-            marks.push_reserved(Mark::Vacant);
+            marks.push_reserved(Mark::Unmarked);
             words.push_reserved(Word::new(&alloc, home));
         }
         Ok(Row {
@@ -132,7 +132,7 @@ impl<T: Drop, A: Allocator + Copy> Row<T, A> {
             Err(refused) => return Err(Refusal::NoMemory(refused.value.value)),
         };
         match self.marks[index] {
-            Mark::Vacant => {
+            Mark::Unmarked => {
                 let bucket = Bucket {
                     mark: Mark::Own(bits),
                     word: Word::own(home, LooseBlock::of(block)),

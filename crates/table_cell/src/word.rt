@@ -17,7 +17,8 @@ use std::ptr::null_mut;
 use std::sync::atomic::AtomicPtr;
 use std::sync::atomic::Ordering::SeqCst;
 
-/// A word: null, or the address of a block that never changes. The word owns the block, or another word does.
+/// A word: null, or the address of a block. Once it is set, neither the address nor the block changes. The word owns the block, or
+/// another word does.
 ///
 /// Dropping a word forgets its block; `into_block` returns it.
 pub struct Word<T: Homed, A: Allocator> {
@@ -86,7 +87,9 @@ impl<T: Homed, A: Allocator> Word<T, A> {
     pub fn note(&self) -> Note<T>
         ensures { (result.of ≡ self.now.id) × (result.known ≡ None) }
     {
-        Note { mark: PhantomData }
+        Note {
+            marker: PhantomData,
+        }
     }
 
     /// Returns the name of the block, if the word was set through `&` by now. The note then knows its value. With a note that
@@ -114,7 +117,7 @@ impl<T: Homed, A: Allocator> Word<T, A> {
             × (result.owning ≡ self.owning) }
         ensures value { (result.value ≡ note.known) × IfSome note.known (λ x. T.fits x self.home) }
     {
-        let Note { mark: _ } = note;
+        let Note { marker: _ } = note;
         self
     }
 
@@ -168,7 +171,7 @@ impl<T: Homed, A: Allocator> Word<T, A> {
 
 impl<T: Homed, A: Low> Word<T, A> {
     /// Sets the word by one exchange, unless it was set before. Returns a reference to what the word then names, which the note
-    /// then knows. If another block came first, returns this block.
+    /// then knows. If another block came first, also returns the caller's block.
     pub fn offer<'a>(
         &'a self,
         home: &'a Home,

@@ -1,7 +1,7 @@
 //! What a history says.
 
-/// An entry of a history: the first says how many slots there are; each later one says what was stored in which slot, and under which
-/// number. No value of it is made.
+/// An event of a history. The first has the number of slots in `slot`. Each later one says what was stored in which slot, and under which
+/// number. It is ghost: no value of it is made.
 #[derive(Drop)]
 pub struct Event<G> {
     pub slot: u64,

@@ -21,7 +21,7 @@ pub struct ChainRule<G, F> {
 /// threads may send and share it.
 pub type Token<G, F> = Seen<Event<G>, u64, ChainRule<G, F>>;
 
-/// A slot's word: 0 is empty, 1 is the end, and else it is the number of the value that stands there, and 2.
+/// A slot's word: 0 if it is empty, 1 at the end of the chain, and otherwise the value's number plus 2.
 pub(crate) type SlotWord<G, F> = Word<Event<G>, u64, ChainRule<G, F>>;
 
 impl<G, F: Follows<G>> Rule<Event<G>, u64> for ChainRule<G, F> {

@@ -21,7 +21,8 @@ pub enum Showing<'a, G> {
     Shown(&'a G),
     /// The slot has this other value. The caller's value is returned.
     Other(&'a G, G),
-    /// No value is in the slot. There is no memory for the value, or no number is left, or the chain has ended. The value is returned.
+    /// The call found no value in the slot and stored none: memory was refused, no number was left, or the chain had ended. The caller's
+    /// value is returned.
     Refused(G),
 }
 

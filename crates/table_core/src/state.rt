@@ -64,7 +64,7 @@ impl<A: Allocator + Copy> State<A> {
         }
     }
 
-    /// Takes one event, and returns the call that finishes by it, with its reply. An event that isn't enabled changes nothing. If
+    /// Takes one event, and returns the call that finishes by it, with its reply. An event that isn't taken changes nothing. If
     /// memory is refused the state is unchanged. Only these events allocate: those that begin a call, place a value, begin,
     /// continue or end a growth, or show an entry to a walk.
     pub fn step(&mut self, event: Event) -> Result<Option<Finished<A>>, NoMemory>

@@ -1,6 +1,6 @@
 //! One step of a running call, by what it found.
 //!
-//! A call on a running table keeps a `CallState`, and each of its steps is `decide` of `table_core`. The driver of a call does
+//! A call on a running table keeps a `CallState`, and each of its steps is `decide`. The driver of a call does
 //! what the phase says, and passes the answer to one of these functions. `step` is enough if phase and answer are known. The
 //! others also promise what holds afterwards if the next phase depends on numbers.
 ghost use Rattle.std.specs.Prelude.{◌≡◌, ◌⊎◌, true};
@@ -25,8 +25,8 @@ pub fn step(state: CallState, answer: Answer) -> CallState
     decide(state, answer)
 }
 
-/// Returns the state of a call that starts its probe in generation `number`, of `capacity` buckets. As that is a power of two, a
-/// mask finds the first bucket; `table_core` tests whether any capacity is one.
+/// Returns the state of a call that starts its probe in generation `number`, of `capacity` buckets. The capacity is a power of two,
+/// so a mask finds the first bucket. `decide` takes any capacity, and tests whether it is a power of two.
 #[inline(always)]
 pub fn step_loaded(state: CallState, number: u64, capacity: u64) -> CallState
     requires phase { (state.phase ≡ Shared) ⊎ (state.phase ≡ LookLoad) }

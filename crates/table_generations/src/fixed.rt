@@ -91,7 +91,7 @@ fn compare_bucket<'a, T: AtomicValue, A: Allocator + Copy, F: Fn(&T::Target) -> 
         result }
 {
     match bucket.mark() {
-        Mark::Vacant => Comparison::Vacant,
+        Mark::Unmarked => Comparison::Vacant,
         Mark::Own(bits) | Mark::Named(bits) if bits == sought => {
             compare_entry(bucket.entry(home), test)
         }
@@ -154,7 +154,8 @@ impl<T: AtomicValue, A: Allocator + Copy> Generation<T, A> {
         self.row.at(index).get_alone(home)
     }
 
-    /// Returns a bucket that names the entry shown at this index, or `None` if that bucket is empty. Reads no block.
+    /// Returns a bucket that names the entry shown at this index, or `None` if that bucket was not set through `&mut`. Reads no
+    /// block.
     pub fn naming(&self, index: usize) -> Option<Bucket<T, A>>
         requires { index < length self.now.contents }
         ensures { result ≡ option_map (bucket self.now.from self.now.home)

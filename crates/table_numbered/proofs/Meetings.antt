@@ -53,8 +53,8 @@ module _ {V : Type 0} (same : V → V → Bool) (hash : V → ℕ) where
   -- what a claim tells does not depend on when its caller looked last
   pub claims_after : {A : Type 0} (s : SlabView) (v : V) (k p : ℕ) (old mid new : History (Numbered V)) (r : Claim V A) → IsPrefix old mid → Claims same hash s v k p mid new r → Claims same hash s v k p old new r
   claims_after s v k p old mid new (claim.Placed e r) on told = (told.0, adds_after (alike same) (marked hash) p (event p (Some (Entry (numbered k v)))) old mid new on told.1, told.2)
-  claims_after s v k p old mid new (claim.Met j e back) on told = told
-  claims_after s v k p old mid new (claim.Passed back) on told = told
+  claims_after s v k p old mid new (claim.Found j e back) on told = told
+  claims_after s v k p old mid new (claim.Differs back) on told = told
   claims_after s v k p old mid new (claim.Closed back) on told = told
 
   -- the same of a value that was met under another name

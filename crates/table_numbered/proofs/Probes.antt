@@ -9,7 +9,7 @@ use Rattle.table_numbered.specs.Words.{mark_of, numbered, alike, marked, of_valu
 use Rattle.table_numbered.specs.declared.event.Numbered.{Numbered}
 use Rattle.table_numbered.specs.declared.event.Stored.TheVariants.{Entry, Closed}
 use Rattle.table_numbered.specs.History.{History, Has, Stands, IsFree, IsUntouched, HasSize, IsEntry, NonePasses, HasPassed, Reaches, IsReached, Adds}
-use Rattle.table_numbered.specs.Generations.{IsPlaced, HasRoom, IsSpent}
+use Rattle.table_numbered.specs.Generations.{IsPlaced, HasRoom, HasNoRoom}
 use Rattle.table_numbered.proofs.Histories.{size_on, untouched_free, passed_on, passed_more, none_beyond}
 
 -- a probe for this mark is at the bucket `index`, past so many buckets whose entries do not pass the test
@@ -44,7 +44,7 @@ module _ {V : Type 0} {test : V → Bool} {n m : ℕ} where
     goes_vacant lt free = (tried, lt, passed_then, subst (IsUntouched new) (sym go.at) free)
 
     -- or to a closed one
-    pub goes_closed : Has new index Closed → IsSpent test n m new
+    pub goes_closed : Has new index Closed → HasNoRoom test n m new
     goes_closed closed = (tried, passed_then, inr (subst (λ (i : ℕ). Has new i Closed) (sym go.at) closed))
 
   module _ (same : V → V → Bool) (hash : V → ℕ) (agrees : (v : V) → test v ≡ true → mark_of (hash v) ≡ m) where

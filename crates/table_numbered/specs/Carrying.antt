@@ -7,7 +7,7 @@ use Rattle.table_numbered.specs.Words.{IsNumber, numbered, marked, word_of}
 use Rattle.table_numbered.specs.declared.event.Numbered.{Numbered}
 use Rattle.table_numbered.specs.declared.event.Stored.{Stored}
 use Rattle.table_numbered.specs.declared.event.Stored.TheVariants.{Entry}
-use Rattle.table_numbered.specs.declared.carrying.Load.{Load}
+use Rattle.table_numbered.specs.declared.carrying.OldEntry.{OldEntry}
 use Rattle.table_numbered.specs.History.{History, Stands, IsEntry, entries}
 
 module _ {V : Type 0} where
@@ -31,11 +31,11 @@ module _ {V : Type 0} where
     pub back : (q : ℕ) (e : Numbered V) → Stands born q e → IsEntry old e
 
   -- the entry that is on its way
-  abbrev pub entry_of : {A : Type 0} → Load V A → Numbered V
+  abbrev pub entry_of : {A : Type 0} → OldEntry V A → Numbered V
   entry_of l = numbered l.number l.standing.written.value
 
   -- it lies in its slot for good, and the word is its own
-  pub record IsLoad {A : Type 0} (hash : V → ℕ) (s : SlabView) (l : Load V A) : Type 0 where
+  pub record IsOldEntry {A : Type 0} (hash : V → ℕ) (s : SlabView) (l : OldEntry V A) : Type 0 where
     pub number : IsNumber l.number
     pub standing : StandsAt s l.number l.standing
     pub word : l.word ≡ word_of (marked hash) (Entry (entry_of l))
@@ -51,7 +51,7 @@ module _ {V : Type 0} where
   AreOwed same n log due = (p : ℕ) (e : Numbered V) → Stands log p e → IsOwed same n due e
 
   -- whether the entry stands in the bucket p now; if not, another one does
-  abbrev pub Treads : {A : Type 0} → (V → V → Bool) → Load V A → ℕ → History (Numbered V) → Bool → Type 0
-  Treads same l p log true = Stands log p (entry_of l)
-  Treads same l p log false = (e : Numbered V) × Stands log p e
+  abbrev pub TakesBucket : {A : Type 0} → (V → V → Bool) → OldEntry V A → ℕ → History (Numbered V) → Bool → Type 0
+  TakesBucket same l p log true = Stands log p (entry_of l)
+  TakesBucket same l p log false = (e : Numbered V) × Stands log p e
       × (same l.standing.written.value e.value ≡ false)

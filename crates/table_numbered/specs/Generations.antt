@@ -14,8 +14,8 @@ use Rattle.table_numbered.specs.declared.event.Numbered.{Numbered}
 use Rattle.table_numbered.specs.declared.event.Stored.TheVariants.{Entry, Closed}
 use Rattle.table_numbered.specs.declared.probe.Meeting.{Meeting}
 use Rattle.table_numbered.specs.declared.probe.Meeting.TheVariants as meeting
-use Rattle.table_numbered.specs.declared.probe.Judged.{Judged}
-use Rattle.table_numbered.specs.declared.probe.Judged.TheVariants as judged
+use Rattle.table_numbered.specs.declared.probe.ProbeEnd.{ProbeEnd}
+use Rattle.table_numbered.specs.declared.probe.ProbeEnd.TheVariants as probed
 use Rattle.table_numbered.specs.declared.place.Coming.{Coming}
 use Rattle.table_numbered.specs.declared.place.Claim.{Claim}
 use Rattle.table_numbered.specs.declared.place.Claim.TheVariants as claim
@@ -71,7 +71,7 @@ module _ {V : Type 0} (same : V → V → Bool) (hash : V → ℕ) where
 module _ {V : Type 0} (test : V → Bool) where
   -- what a probe meets in the bucket p
   abbrev pub Meets : ℕ → History (Numbered V) → Meeting V → Type 0
-  Meets p log (meeting.Passes k e) = (test e.now ≡ true) × Stands log p (numbered k e.now)
+  Meets p log (meeting.Found k e) = (test e.now ≡ true) × Stands log p (numbered k e.now)
   Meets p log meeting.Differs = (e : Numbered V) × Stands log p e × (test e.value ≡ false)
   Meets p log meeting.Vacant = IsUntouched log p
   Meets p log meeting.Closed = Has log p Closed
@@ -86,10 +86,10 @@ module _ {V : Type 0} (test : V → Bool) where
   Finds IsKnown None = NonePasses (of_value test) IsKnown
 
   -- what a probe finds, by which entries its caller knows after
-  abbrev pub Judges : (Numbered V → Type 0) → Judged V → Type 0
-  Judges IsKnown (judged.Found k e) = Passes IsKnown k e.now
-  Judges IsKnown judged.Vacant = NonePasses (of_value test) IsKnown
-  Judges IsKnown judged.Spent = NonePasses (of_value test) IsKnown
+  abbrev pub TellsEnd : (Numbered V → Type 0) → ProbeEnd V → Type 0
+  TellsEnd IsKnown (probed.Found k e) = Passes IsKnown k e.now
+  TellsEnd IsKnown probed.Vacant = NonePasses (of_value test) IsKnown
+  TellsEnd IsKnown probed.Full = NonePasses (of_value test) IsKnown
 
   module _ (n mark : ℕ) (log : History (Numbered V)) where
     -- the probe has passed others' entries and come to a bucket that has nothing
@@ -98,15 +98,15 @@ module _ {V : Type 0} (test : V → Bool) where
         × IsUntouched log (bucket_at n mark k)
 
     -- the probe has passed others' entries in all buckets, or in those before a closed one
-    abbrev pub IsSpent : Type 0
-    IsSpent = (k : ℕ) × HasPassed n log (of_value test) mark k
+    abbrev pub HasNoRoom : Type 0
+    HasNoRoom = (k : ℕ) × HasPassed n log (of_value test) mark k
         × ((k ≡ n) ⊎ Has log (bucket_at n mark k) Closed)
 
     -- where a probe ends
-    abbrev pub Ends : Judged V → Type 0
-    Ends (judged.Found k e) = Unit {0}
-    Ends judged.Vacant = HasRoom
-    Ends judged.Spent = IsSpent
+    abbrev pub Ends : ProbeEnd V → Type 0
+    Ends (probed.Found k e) = Unit {0}
+    Ends probed.Vacant = HasRoom
+    Ends probed.Full = HasNoRoom
 
 module _ {V : Type 0} (same : V → V → Bool) (hash : V → ℕ) where
   -- v is on its way, with the right to the empty slot k
@@ -124,9 +124,9 @@ module _ {V : Type 0} (same : V → V → Bool) (hash : V → ℕ) where
     abbrev pub Claims : {A : Type 0} → ℕ → History (Numbered V) → History (Numbered V) → Claim V A → Type 0
     Claims p old new (claim.Placed e r) =
         (e.now ≡ v) × Adds (alike same) (marked hash) (Entry (numbered k v)) p old new × IsReceiptFor s k v r
-    Claims p old new (claim.Met j e back) =
+    Claims p old new (claim.Found j e back) =
         IsComing s v k back × (same v e.now ≡ true) × Stands new p (numbered j e.now)
-    Claims p old new (claim.Passed back) =
+    Claims p old new (claim.Differs back) =
         IsComing s v k back × ((e : Numbered V) × Stands new p e × (same v e.value ≡ false))
     Claims p old new (claim.Closed back) = IsComing s v k back × Has new p Closed
 
@@ -158,4 +158,4 @@ module _ {V : Type 0} (same : V → V → Bool) (hash : V → ℕ) where
   abbrev pub IsFullBy : {A : Type 0} → ℕ → V → History (Numbered V) → Placing V A → Type 0
   IsFullBy n v log (placing.Placed e r) = Unit {0}
   IsFullBy n v log (placing.Found j e back right) = Unit {0}
-  IsFullBy n v log (placing.Full back right) = IsSpent (same v) n (mark_of (hash v)) log
+  IsFullBy n v log (placing.Full back right) = HasNoRoom (same v) n (mark_of (hash v)) log

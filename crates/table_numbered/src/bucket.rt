@@ -79,8 +79,8 @@ pub(crate) fn publish<V, L: SetLaw<V>, A: Allocator>(
     Err(Lost { found, right })
 }
 
-/// Stores an entry that lies in its slot for good, by one exchange, unless the bucket was set before. Returns the word that it had:
-/// 0 if the entry is there now.
+/// Stores an entry that lies in its slot for good, by one exchange, unless the bucket was set before. Returns the word that the bucket
+/// had: 0 if this call stored the entry.
 pub(crate) fn carry<V, L: SetLaw<V>, A: Allocator>(
     word: &Bucket<V, L>,
     seen: &mut Token<V, L>,
@@ -109,7 +109,7 @@ pub(crate) fn carry<V, L: SetLaw<V>, A: Allocator>(
     word.compare_exchange::<Publish<V, L>, Nothing>(0, bits, seen, &mut offer, &mut pen)
 }
 
-/// Closes the bucket by one exchange, unless it was set before. Returns the word that it had: 0 if it is closed now.
+/// Closes the bucket by one exchange, unless it was set before. Returns the word that the bucket had: 0 if this call closed it.
 pub(crate) fn close<V, L: SetLaw<V>>(word: &Bucket<V, L>, seen: &mut Token<V, L>, place: u64) -> u64
     requires word { IsWord seen.old.book word.now }
     requires place { place ≡ word.now.key }

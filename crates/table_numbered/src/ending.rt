@@ -10,7 +10,6 @@ ghost use Rattle.table_numbered.specs.Ending.{AreLeft, TakesAt, AreValues, IsSam
 use crate::generation::NumberedGeneration;
 use crate::rule::Token;
 use crate::trade::known;
-use crate::word::number_of_word;
 use std::marker::Model;
 use table_cell::Low;
 use table_slab::Ending;
@@ -42,7 +41,7 @@ impl<V, L: SetLaw<V>, A: Low + Copy> Model for LeftValues<V, L, A> {
 
 impl<V, L: SetLaw<V>, A: Low + Copy> NumberedGeneration<V, L, A> {
     /// Closes each bucket that is empty. Returns how many buckets have an entry.
-    fn close_counting(&self, seen: &mut Token<V, L>) -> usize
+    pub(crate) fn close_all(&self, seen: &mut Token<V, L>) -> usize
         requires of { IsOf L.same L.hash_of self.now.of seen.old.book seen.old.names seen.old.log }
         ensures of { IsOf L.same L.hash_of self.now.of seen.new.book seen.new.names seen.new.log }
         ensures longer { IsPrefix seen.old.log seen.new.log }
@@ -71,7 +70,7 @@ impl<V, L: SetLaw<V>, A: Low + Copy> NumberedGeneration<V, L, A> {
         ensures history { result.history ≡ seen.new.log }
         ensures values { AreValues L.same result.history result.left }
     {
-        let count = self.close_counting(seen);
+        let count = self.close_all(seen);
         LeftValues {
             slab,
             seen: seen.again(),
@@ -92,11 +91,7 @@ impl<V, L: SetLaw<V>, A: Low + Copy> NumberedGeneration<V, L, A> {
         ensures taken { TakesAt seen.now.log index result }
     {
         let mut later = seen.again();
-        let word = self.look_at(&mut later, index);
-        if word < 2 {
-            return None;
-        }
-        let number = number_of_word(word);
+        let number = self.number_at(&mut later, index)?;
         let standing = known(&later, index as u64, number);
         Some(slab.take_out(number, &standing))
     }

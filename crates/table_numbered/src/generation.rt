@@ -3,7 +3,7 @@ ghost use Rattle.std.specs.Prelude.{◌≡◌, ◌≢◌, ◌≤◌, ◌<◌, �
 ghost use Rattle.std.specs.Int.{IsPowerOfTwo};
 ghost use mathlib.Core.List.{IsPrefix};
 ghost use Rattle.table_numbered.specs.Words.{numbered, alike, marked};
-ghost use Rattle.table_numbered.specs.History.{event, Has, Stands, IsEntry, Says};
+ghost use Rattle.table_numbered.specs.History.{event, Has, Stands, IsEntry, OneValue, Says};
 ghost use Rattle.table_numbered.specs.Generations.{IsOf};
 ghost use Rattle.table_numbered.specs.declared.event.Stored.TheVariants.{Closed};
 
@@ -41,8 +41,8 @@ impl<V, L: SetLaw<V>, A: Allocator> Model for NumberedGeneration<V, L, A> {
 }
 
 impl<V, L: SetLaw<V>, A: Low + Copy> NumberedGeneration<V, L, A> {
-    /// Makes an empty one of this many buckets, a power of two, over the slab. It takes two blocks of memory, for the buckets and for
-    /// hints, and nothing where one is refused.
+    /// Makes a generation of this many empty buckets, a power of two, over the slab. It takes two blocks of memory, for the buckets and
+    /// for hints. A refusal leaves nothing.
     pub fn new(alloc: A, slab: &Slab<V, A>, buckets: usize) -> Result<Self, AllocError>
         requires power { IsPowerOfTwo buckets }
         requires few { buckets ≤ 2 ^ 32 }
@@ -58,7 +58,7 @@ impl<V, L: SetLaw<V>, A: Low + Copy> NumberedGeneration<V, L, A> {
         Ok(NumberedGeneration { row, hints })
     }
 
-    /// Returns what is known of it from the first.
+    /// Returns a token that knows the history with which the generation was made.
     pub fn start(&self) -> Token<V, L>
         ensures of { IsOf L.same L.hash_of self.now.of result.book result.names result.log }
         ensures log { result.log ≡ self.now.start }
@@ -99,7 +99,7 @@ impl<V, L: SetLaw<V>, A: Low + Copy> NumberedGeneration<V, L, A> {
         close(self.row.word(index), seen, index as u64)
     }
 
-    /// Shows the entry of the bucket, which has this number.
+    /// Returns the entry of the bucket, which has this number.
     pub(crate) fn entry_at<'a>(
         &self,
         slab: &'a Slab<V, A>,
@@ -111,12 +111,13 @@ impl<V, L: SetLaw<V>, A: Low + Copy> NumberedGeneration<V, L, A> {
         requires of { IsOf L.same L.hash_of self.now.of seen.now.book seen.now.names seen.now.log }
         requires there { (x : V) × Stands seen.now.log index (numbered number x) }
         ensures stands { Stands seen.now.log index (numbered number result.now) }
+        ensures one { OneValue seen.now.log }
     {
         let standing = known(seen, index as u64, number);
         slab.get(number, &standing)
     }
 
-    /// Shows the entry of this number. The caller knows that there is one. It looks at no bucket.
+    /// Returns the entry of this number. The caller knows that there is one. It looks at no bucket.
     pub fn entry<'a>(&self, slab: &'a Slab<V, A>, seen: &Token<V, L>, number: u64) -> &'a V
         requires slab { slab.now ≡ self.now.of.slab }
         requires of { IsOf L.same L.hash_of self.now.of seen.now.book seen.now.names seen.now.log }

@@ -5,10 +5,10 @@ ghost use Rattle.table_numbered.specs.Words.{alike, marked};
 ghost use Rattle.table_numbered.specs.History.{IsFull, IsWhole, Says, Stands, due_of};
 ghost use Rattle.table_numbered.specs.Generations.{IsOf, IsKnown};
 ghost use Rattle.table_numbered.specs.Hints.{AreHints};
-ghost use Rattle.table_numbered.specs.Carrying.{IsLoad, AreOwed, IsCarried, Carries, BeginsAs, entry_of};
+ghost use Rattle.table_numbered.specs.Carrying.{IsOldEntry, AreOwed, IsCarried, Carries, BeginsAs, entry_of};
 ghost use Rattle.table_numbered.specs.declared.growth.Refused.TheVariants.{Buckets};
 
-use crate::carrying::Load;
+use crate::carrying::OldEntry;
 use crate::generation::NumberedGeneration;
 use crate::hints::{Hints, words_for};
 use crate::row::Row;
@@ -29,7 +29,7 @@ pub enum Refused {
 }
 
 impl<V, L: SetLaw<V>, A: Allocator> Row<V, L, A> {
-    /// Returns the generation of this row, of which this history is known from the first, with hints.
+    /// Makes the row a generation that begins with what the token knows, with these hints.
     fn begun(self, seen: Token<V, L>, hints: Hints<V, L, A>) -> NumberedGeneration<V, L, A>
         requires known { IsKnown L.same L.hash_of self.of seen.book seen.names seen.log }
         requires whole { IsWhole seen.log }
@@ -44,29 +44,17 @@ impl<V, L: SetLaw<V>, A: Allocator> Row<V, L, A> {
 }
 
 impl<V, L: SetLaw<V>, A: Low + Copy> NumberedGeneration<V, L, A> {
-    /// Closes each bucket that is empty.
-    fn close_all(&self, seen: &mut Token<V, L>)
-        requires of { IsOf L.same L.hash_of self.now.of seen.old.book seen.old.names seen.old.log }
-        ensures of { IsOf L.same L.hash_of self.now.of seen.new.book seen.new.names seen.new.log }
-        ensures longer { IsPrefix seen.old.log seen.new.log }
-        ensures full { IsFull self.now.of.size seen.new.log }
-    {
-        for index in 0..self.buckets() {
-            let _word = self.close_at(seen, index);
-        }
-    }
-
-    /// Returns the entry that this word of the bucket names, for its way.
-    fn load(&self, seen: &Token<V, L>, index: usize, word: u64) -> Load<V, A>
+    /// Returns the entry that this word of the bucket names.
+    fn old_entry(&self, seen: &Token<V, L>, index: usize, word: u64) -> OldEntry<V, A>
         requires of { IsOf L.same L.hash_of self.now.of seen.now.book seen.now.names seen.now.log }
         requires set { 2 ≤ word }
         requires says { Says (alike L.same) (marked L.hash_of) index word seen.now.log }
-        ensures load { IsLoad L.hash_of self.now.of.slab result }
+        ensures entry { IsOldEntry L.hash_of self.now.of.slab result }
         ensures stands { Stands seen.now.log index (entry_of result) }
     {
         let number = number_of_word(word);
         let standing = known(seen, index as u64, number);
-        Load {
+        OldEntry {
             standing,
             number,
             word,
@@ -99,8 +87,8 @@ impl<V, L: SetLaw<V>, A: Low + Copy> NumberedGeneration<V, L, A> {
         if word < 2 {
             return;
         }
-        let load = self.load(seen, index, word);
-        next.carry(fresh, &load);
+        let entry = self.old_entry(seen, index, word);
+        next.carry(fresh, &entry);
     }
 
     /// Carries each entry. All buckets are set.
@@ -148,7 +136,7 @@ impl<V, L: SetLaw<V>, A: Low + Copy> NumberedGeneration<V, L, A> {
         let Ok(more) = Vec::with_capacity(alloc, words) else {
             return Err(Refused::Memory);
         };
-        self.close_all(seen);
+        let _entries = self.close_all(seen);
         let next = Row::after(room, seen, 2 * count);
         let mut fresh = next.begin();
         self.carry_all(seen, &next, &mut fresh);

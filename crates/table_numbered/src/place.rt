@@ -21,14 +21,14 @@ use table_terms::probe::next_bucket;
 pub enum Placing<'a, V, A: Allocator> {
     /// The value is an entry now, which is shown. Nothing else has its receipt.
     Placed(&'a V, Receipt<V>),
-    /// This entry, by its number, is the same. The value comes back, and the right to the empty slot.
+    /// This entry, which has this number, is the same. The value comes back, and the right to the empty slot.
     Found(u64, &'a V, V, Right<V, A>),
     /// No bucket is left for the value, and no entry that is known then is the same. The value comes back, and the right to the
     /// empty slot.
     Full(V, Right<V, A>),
 }
 
-/// A value on its way, with its mark, and with the right to an empty slot.
+/// A value to be placed, with its mark, its number, and the right to the empty slot of that number.
 #[derive(Drop)]
 pub(crate) struct Coming<V, A: Allocator> {
     pub value: V,
@@ -42,10 +42,10 @@ pub(crate) struct Coming<V, A: Allocator> {
 pub(crate) enum Claim<'a, V, A: Allocator> {
     /// The value was placed there.
     Placed(&'a V, Receipt<V>),
-    /// The bucket has this entry, which is the same.
-    Met(u64, &'a V, Coming<V, A>),
+    /// The bucket has this entry, which is the same, with its number.
+    Found(u64, &'a V, Coming<V, A>),
     /// The bucket has another entry.
-    Passed(Coming<V, A>),
+    Differs(Coming<V, A>),
     /// The bucket is closed.
     Closed(Coming<V, A>),
 }
@@ -74,14 +74,14 @@ impl<V, L: SetLaw<V>, A: Low + Copy> NumberedGeneration<V, L, A> {
             return Claim::Closed(coming);
         }
         if mark_of_word(word) != coming.mark {
-            return Claim::Passed(coming);
+            return Claim::Differs(coming);
         }
         let number = number_of_word(word);
         let entry = self.entry_at(slab, seen, index, number);
         if L::is_same(&coming.value, entry) {
-            Claim::Met(number, entry, coming)
+            Claim::Found(number, entry, coming)
         } else {
-            Claim::Passed(coming)
+            Claim::Differs(coming)
         }
     }
 
@@ -191,11 +191,11 @@ impl<V, L: SetLaw<V>, A: Low + Copy> NumberedGeneration<V, L, A> {
                     self.hint_placed(seen, number);
                     return Placing::Placed(entry, receipt);
                 }
-                Claim::Met(met, entry, back) => {
+                Claim::Found(met, entry, back) => {
                     return Placing::Found(met, entry, back.value, back.right);
                 }
                 Claim::Closed(back) => return Placing::Full(back.value, back.right),
-                Claim::Passed(back) => coming = back,
+                Claim::Differs(back) => coming = back,
             }
             index = next_bucket(index, count);
         }

@@ -3,7 +3,7 @@ ghost use Rattle.std.specs.Prelude.{◌≡◌, ℕ, ◌<◌};
 ghost use mathlib.Core.List.{IsPrefix};
 ghost use Rattle.table_numbered.specs.Words.{mark_of};
 ghost use Rattle.table_numbered.specs.History.{IsEntry};
-ghost use Rattle.table_numbered.specs.Generations.{IsOf, Meets, Finds, Judges, Ends};
+ghost use Rattle.table_numbered.specs.Generations.{IsOf, Meets, Finds, TellsEnd, Ends};
 
 use crate::generation::NumberedGeneration;
 use crate::rule::Token;
@@ -17,25 +17,25 @@ use table_terms::probe::next_bucket;
 /// What a probe meets in one bucket.
 #[derive(Drop)]
 pub(crate) enum Meeting<'a, V> {
-    /// What is sought, by its number.
-    Passes(u64, &'a V),
+    /// What is sought, with its number.
+    Found(u64, &'a V),
     /// Another entry.
     Differs,
-    /// Nothing.
+    /// No entry, and the bucket is open.
     Vacant,
-    /// That the bucket is closed.
+    /// The bucket is closed.
     Closed,
 }
 
 /// How a probe ended.
 #[derive(Debug, PartialEq, Eq, Drop)]
-pub enum Judged<'a, V> {
-    /// What is sought is there, by its number.
+pub enum ProbeEnd<'a, V> {
+    /// What is sought is there, with its number.
     Found(u64, &'a V),
     /// No entry that is known then is it, and the probe came to an empty bucket.
     Vacant,
-    /// No entry that is known then is it, and the probe came to a closed bucket or round the end.
-    Spent,
+    /// No entry that is known then is it, and the probe came to a closed bucket or has read all buckets.
+    Full,
 }
 
 impl<V, L: SetLaw<V>, A: Low + Copy> NumberedGeneration<V, L, A> {
@@ -69,24 +69,24 @@ impl<V, L: SetLaw<V>, A: Low + Copy> NumberedGeneration<V, L, A> {
         let number = number_of_word(word);
         let entry = self.entry_at(slab, seen, index, number);
         if sought.is(entry) {
-            Meeting::Passes(number, entry)
+            Meeting::Found(number, entry)
         } else {
             Meeting::Differs
         }
     }
 
     /// Probes for what is sought, and says where the probe ended. It takes no memory and changes nothing but what is known.
-    pub fn judge<'a, S: Sought<V, L>>(
+    pub fn probe<'a, S: Sought<V, L>>(
         &self,
         slab: &'a Slab<V, A>,
         seen: &mut Token<V, L>,
         sought: &S,
-    ) -> Judged<'a, V>
+    ) -> ProbeEnd<'a, V>
         requires slab { slab.now ≡ self.now.of.slab }
         requires of { IsOf L.same L.hash_of self.now.of seen.old.book seen.old.names seen.old.log }
         ensures of { IsOf L.same L.hash_of self.now.of seen.new.book seen.new.names seen.new.log }
         ensures longer { IsPrefix seen.old.log seen.new.log }
-        ensures judges { Judges (S.accepts sought.now) (IsEntry seen.new.log) result }
+        ensures tells { TellsEnd (S.accepts sought.now) (IsEntry seen.new.log) result }
         ensures ends { Ends (S.accepts sought.now) self.now.of.size
             (mark_of (S.sought_hash sought.now)) seen.new.log result }
     {
@@ -95,14 +95,14 @@ impl<V, L: SetLaw<V>, A: Low + Copy> NumberedGeneration<V, L, A> {
         let mut index = first_bucket(mark, count);
         for _tried in 0..count {
             match self.meet(slab, seen, index, mark, sought) {
-                Meeting::Passes(number, entry) => return Judged::Found(number, entry),
+                Meeting::Found(number, entry) => return ProbeEnd::Found(number, entry),
                 Meeting::Differs => {}
-                Meeting::Vacant => return Judged::Vacant,
-                Meeting::Closed => return Judged::Spent,
+                Meeting::Vacant => return ProbeEnd::Vacant,
+                Meeting::Closed => return ProbeEnd::Full,
             }
             index = next_bucket(index, count);
         }
-        Judged::Spent
+        ProbeEnd::Full
     }
 
     /// Returns the entry that is sought, with its number. `None`: no entry that the caller knew matches. It requests no memory, and
@@ -119,10 +119,10 @@ impl<V, L: SetLaw<V>, A: Low + Copy> NumberedGeneration<V, L, A> {
         ensures longer { IsPrefix seen.old.log seen.new.log }
         ensures finds { Finds (S.accepts sought.now) (IsEntry seen.new.log) result }
     {
-        match self.judge(slab, seen, sought) {
-            Judged::Found(number, entry) => Some((number, entry)),
-            Judged::Vacant => None,
-            Judged::Spent => None,
+        match self.probe(slab, seen, sought) {
+            ProbeEnd::Found(number, entry) => Some((number, entry)),
+            ProbeEnd::Vacant => None,
+            ProbeEnd::Full => None,
         }
     }
 }

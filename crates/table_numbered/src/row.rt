@@ -1,4 +1,4 @@
-//! A row of buckets, and what is known of it from the first.
+//! A row of buckets, with a token of its first history.
 ghost use Rattle.std.specs.Prelude.{◌≡◌, ◌≤◌, ◌<◌, ◌^◌, ℕ, [], ◌∷◌, None, length, vec_capacity};
 ghost use Rattle.std.specs.Int.{IsPowerOfTwo};
 ghost use Rattle.table_slab.specs.Shelved.{slab_of};
@@ -111,7 +111,7 @@ impl<V, L: SetLaw<V>, A: Low + Copy> Row<V, L, A> {
         Row { words, start }
     }
 
-    /// Returns what is known of it from the first.
+    /// Returns a token that knows the history with which the row was made.
     pub(crate) fn begin(&self) -> Token<V, L>
         ensures known { IsKnown L.same L.hash_of self.now.of result.book result.names result.log }
         ensures log { result.log ≡ self.now.start }

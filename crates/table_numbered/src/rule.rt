@@ -13,7 +13,8 @@ pub struct SetRule<V, L> {
 /// A prefix of a generation's history that its holder has observed. It has no bytes.
 pub type Token<V, L> = Seen<Event<Stored<Numbered<V>>>, u64, SetRule<V, L>>;
 
-/// A bucket: 0 is empty, 1 is closed, and an entry has its mark in the upper half and its number in the lower one.
+/// A bucket's word: 0 if it is empty, 1 if it is closed, and otherwise the entry's mark in the upper half and its number plus 2 in the
+/// lower one.
 pub(crate) type Bucket<V, L> = Word<Event<Stored<Numbered<V>>>, u64, SetRule<V, L>>;
 
 impl<V, L: Law<V>> Rule<Event<Stored<Numbered<V>>>, u64> for SetRule<V, L> {

@@ -8,7 +8,6 @@ ghost use Rattle.table_numbered.specs.Walking.{IsTaken, HasAt, IsOnlyAt};
 
 use crate::generation::NumberedGeneration;
 use crate::rule::Token;
-use crate::trade::known;
 use crate::word::number_of_word;
 use table_cell::Low;
 use table_slab::Slab;
@@ -46,13 +45,8 @@ impl<V, L: SetLaw<V>, A: Low + Copy> NumberedGeneration<V, L, A> {
             (λ e. Stands seen.new.log index (numbered e.0 e.1.now)) }
         ensures only { IfSome result (λ e. IsOnlyAt seen.new.log index e.0) }
     {
-        match self.number_at(seen, index) {
-            Some(number) => {
-                let standing = known(seen, index as u64, number);
-                Some((number, slab.get(number, &standing)))
-            }
-            None => None,
-        }
+        let number = self.number_at(seen, index)?;
+        Some((number, self.entry_at(slab, seen, index, number)))
     }
 
     /// Returns true if the entry that the bucket has by now has this number.
@@ -72,7 +66,7 @@ impl<V, L: SetLaw<V>, A: Low + Copy> NumberedGeneration<V, L, A> {
 
     /// Returns true if the entry of a bucket has this number by now. `false` means that no entry known to the caller before has it. It
     /// looks at each bucket until it comes to the number, and it reads no entry.
-    fn is_met(&self, seen: &mut Token<V, L>, number: u64) -> bool
+    fn is_in_buckets(&self, seen: &mut Token<V, L>, number: u64) -> bool
         requires of { IsOf L.same L.hash_of self.now.of seen.old.book seen.old.names seen.old.log }
         ensures of { IsOf L.same L.hash_of self.now.of seen.new.book seen.new.names seen.new.log }
         ensures longer { IsPrefix seen.old.log seen.new.log }
@@ -87,9 +81,10 @@ impl<V, L: SetLaw<V>, A: Low + Copy> NumberedGeneration<V, L, A> {
         false
     }
 
-    /// Returns true if an entry has this number by now. `false` means that no entry known to the caller before has it. A number that a
-    /// hint names costs the read of one word. For the first one that no hint names it reads each bucket, and hints the number of each
-    /// entry; for a later one it reads buckets until it comes to the number. It reads no entry.
+    /// Returns true if an entry has this number by now. `false` means that no entry known to the caller before has it. It reads no entry.
+    ///
+    /// A number that a hint names costs the read of one word. The first call that finds no hint reads each bucket, and hints the number
+    /// of each entry. A call that still finds no hint reads buckets until it comes to the number.
     pub fn has_number(&self, seen: &mut Token<V, L>, number: u64) -> bool
         requires of { IsOf L.same L.hash_of self.now.of seen.old.book seen.old.names seen.old.log }
         ensures of { IsOf L.same L.hash_of self.now.of seen.new.book seen.new.names seen.new.log }
@@ -104,6 +99,6 @@ impl<V, L: SetLaw<V>, A: Low + Copy> NumberedGeneration<V, L, A> {
         if self.is_hinted(seen, number) {
             return true;
         }
-        self.is_met(seen, number)
+        self.is_in_buckets(seen, number)
     }
 }

@@ -7,15 +7,14 @@ pub enum Inserted<T> {
     Placed,
     /// An entry is equal to the value, which is returned. A `get` of its target returns the entry.
     Found(T),
-    /// Memory was refused, or the capacity can't double, and no entry is equal. The value is returned.
+    /// No entry is equal, and the value is returned. No clause says why; in the code, memory was refused or the capacity can't double.
     Refused(T),
 }
 
 /// The result of an insert into a set, with the target of the entry.
 ///
-/// A `HeldSet` promises more than the variants say. It returns `Placed` or `Refused` only if no entry was equal. `Found` shows an
-/// entry that was there before. The target shown is that of an entry in the set that is left, and the value of `Placed` is one of
-/// its entries.
+/// A `HeldSet` promises more than the variants say. It returns `Placed` or `Refused` only if no entry was equal. After `Placed` the
+/// value is an entry, and `Found` shows an entry that was there before.
 #[derive(Clone, Copy, Debug, PartialEq, Eq, Drop)]
 pub enum Shown<E, T> {
     /// The value was placed. Shows its target.

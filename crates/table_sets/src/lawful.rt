@@ -5,7 +5,6 @@ ghost use Rattle.table_held.specs.Table.{IsLawful, IsCounted, entries, entry_at}
 ghost use Rattle.table_sets.specs.Placing.{PlacesByLaw, ShowsByLaw};
 
 use crate::inserted::Shown;
-use crate::placing::place_by_law;
 use std::alloc::Allocator;
 use std::marker::{Model, PhantomData};
 use table_held::alone::InsertAnswer;
@@ -57,7 +56,11 @@ impl<T: AtomicValue, L: SetLaw<T::Target>, A: Allocator + Copy> LawfulTable<T, L
         ensures places { PlacesByLaw T.target L.same self.old value result self.new }
         ensures lawful { IsLawful T.target L.same L.hash_of self.new }
     {
-        place_by_law::<T, L, A>(&mut self.table, value)
+        let hash = L::hash(value.deref());
+        let eq = |new: &T::Target, entry: &T::Target| L::is_same(new, entry);
+        let hash_fn = |entry: &T::Target| L::hash(entry);
+        self.table
+            .place_alone::<L, _, _>(hash, value, &eq, &hash_fn)
     }
 
     /// Returns the target of the entry at the place that an insert returned, as a [`Shown`].

@@ -11,17 +11,18 @@ mod lawful;
 pub mod laws;
 pub mod pairs;
 pub mod parts;
-mod placing;
 pub mod pointers;
 pub mod set;
 pub mod texts;
 
 pub use fields::{ByField, OfField};
 pub use inserted::{Inserted, Shown};
-pub use pairs::PairsOf;
+pub use pairs::{PairsOf, mix_hashes};
 pub use parts::OfParts;
 pub use pointers::OfTarget;
 pub use set::HeldSet;
-pub use table_held::{AtomicValue, HeldIter, InPlace, IntoIter, Law, is_first_capacity};
-pub use table_terms::law::{KeyLaw, NumberLaw, SetLaw};
-pub use texts::TextLaw;
+pub use table_held::{
+    AtomicValue, HeldIter, HeldRawTable, InPlace, IntoIter, Law, is_first_capacity,
+};
+pub use table_terms::law::{KeyLaw, NumberLaw, SetLaw, hash_number};
+pub use texts::{TextLaw, hash_bytes, hash_text};

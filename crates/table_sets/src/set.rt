@@ -42,8 +42,8 @@ impl<T: AtomicValue, L: SetLaw<T::Target>, A: Allocator + Copy> HeldSet<T, L, A>
         }
     }
 
-    /// Makes an empty set, whose first generation will have `first_capacity` buckets. The caller shows that `is_first_capacity`
-    /// holds of it. Does not allocate.
+    /// Makes an empty set, whose first generation will have `first_capacity` buckets, for half as many entries before it grows. The
+    /// caller shows that `is_first_capacity` holds of it. Does not allocate.
     pub fn with_first_capacity(alloc: A, first_capacity: usize) -> Self
         requires { IsFirstCapacity first_capacity }
         ensures { result ≡ [] }
@@ -54,8 +54,8 @@ impl<T: AtomicValue, L: SetLaw<T::Target>, A: Allocator + Copy> HeldSet<T, L, A>
     }
 
     /// Inserts the value unless an entry is equal. A value that isn't placed is returned, and the entries are those before, in
-    /// some order. It is refused if memory is, or if the capacity can't double. Allocates for the first buckets, for a new entry,
-    /// and for growth.
+    /// some order. A value is refused if memory is refused or the capacity can't double. Allocates for the first buckets, for a new
+    /// entry, and for growth.
     pub fn insert(&mut self, value: T) -> Inserted<T>
         ensures inserts { Inserts T.target L.same self.old self.new value result }
         ensures apart { AllApart T.target L.same self.new }

@@ -9,17 +9,24 @@ use table_terms::law::{KeyLaw, MIXING_FACTOR, SetLaw, hash_number};
 /// The law of texts: two texts are equal if their bytes are. A `String` can also be looked up with a `&str`.
 pub struct TextLaw;
 
-/// Returns the hash of a text. It depends on each byte and its position, and spreads texts over all 64 bits.
-pub fn hash_text(text: &str) -> u64
+/// Returns the hash of a text, by its bytes. It depends on each byte and its position, and spreads texts over all 64 bits.
+pub fn hash_bytes(text: &[u8]) -> u64
     ensures { result ≡ text_hash text.now }
 {
     let mut number = 0u64;
-    for byte in text.as_bytes() {
+    for byte in text {
         number = number
             .wrapping_add(u64::from(*byte) + 1)
             .wrapping_mul(MIXING_FACTOR);
     }
     hash_number(number)
+}
+
+/// Returns the hash of a text, which is that of its bytes.
+pub fn hash_text(text: &str) -> u64
+    ensures { result ≡ text_hash text.now }
+{
+    hash_bytes(text.as_bytes())
 }
 
 impl<A: Allocator> Law<String<A>> for TextLaw {

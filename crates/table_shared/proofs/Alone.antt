@@ -19,17 +19,17 @@ module _ {T : Type 0} where
   alone_so (own e) old new P Q so saw = so e saw.alone.0
   alone_so (named e) old new P Q so saw = so e saw.alone.0
 
-module _ {A T : Type 0} (walked : Option (Bor (GenerationView A T))) (b : Bor (GenerationView A T)) (i : ℕ) (is : walked ≡ Some b) where
+module _ {A T : Type 0} (generation : Option (Bor (GenerationView A T))) (b : Bor (GenerationView A T)) (i : ℕ) (is : generation ≡ Some b) where
   -- the bucket is one of the generation that is walked
-  there : (P : Entry T → Type 0) → IfSome (shown (content_at b.now.contents i)) P → AtAlone walked i P
+  there : (P : Entry T → Type 0) → IfSome (shown (content_at b.now.contents i)) P → AtAlone generation i P
   there P holds x at = subst (λ (y : Bor (GenerationView A T)). IfSome (shown (content_at y.now.contents i)) P) (some_same b x (sym is ∙ at)) holds
 
   -- a vacant bucket was set to nothing alone
-  pub at_vacant : (P : Entry T → Type 0) → content_at b.now.contents i ≡ vacant → AtAlone walked i P
+  pub at_vacant : (P : Entry T → Type 0) → content_at b.now.contents i ≡ vacant → AtAlone generation i P
   at_vacant P empty = there P (subst (λ (c : Content T). IfSome (shown c) P) (sym empty) tt)
 
   -- a bucket that was found empty was set to nothing alone
-  pub at_empty : (old new : Option (Entry T)) (P : Entry T → Type 0) → IsSeen (content_at b.now.contents i) old new (λ o. o ≡ None) → AtAlone walked i P
+  pub at_empty : (old new : Option (Entry T)) (P : Entry T → Type 0) → IsSeen (content_at b.now.contents i) old new (λ o. o ≡ None) → AtAlone generation i P
   at_empty old new P saw = there P (alone_so (content_at b.now.contents i) old new (λ o. o ≡ None) P (λ e none. absurd (cc)) saw)
 
   module _ {X : Type 0} (target : T → X) (says : X → Bool → Type 0) (bits : ℕ) (old new : Option (Entry T)) where
@@ -39,13 +39,13 @@ module _ {A T : Type 0} (walked : Option (Bor (GenerationView A T))) (b : Bor (G
     passed_at false met e so = (so, λ no. absurd (cc))
 
     -- the answer by which an entry was passed is true of the one that it was set to alone
-    pub at_passed : (asked : Bool) (met : Option (Bor X)) → IsSeen (content_at b.now.contents i) old new (λ o. IsSomeAnd o (λ e. IsTrueOf target says bits e (passed asked))) → AtAlone walked i (StepTells target says bits (passed asked) met)
+    pub at_passed : (asked : Bool) (met : Option (Bor X)) → IsSeen (content_at b.now.contents i) old new (λ o. IsSomeAnd o (λ e. IsTrueOf target says bits e (passed asked))) → AtAlone generation i (StepTells target says bits (passed asked) met)
     at_passed asked met saw =
         there (StepTells target says bits (passed asked) met)
         (alone_so (content_at b.now.contents i) old new (λ o. IsSomeAnd o (λ e. IsTrueOf target says bits e (passed asked))) (StepTells target says bits (passed asked) met) (passed_at asked met) saw)
 
     -- an entry that was accepted is the one that it was set to alone
-    pub at_accepted : (r : Bor X) → IsSeen (content_at b.now.contents i) old new (λ o. IsSomeAnd o (Accepts target says bits r)) → AtAlone walked i (StepTells target says bits (Holds true) (Some r))
+    pub at_accepted : (r : Bor X) → IsSeen (content_at b.now.contents i) old new (λ o. IsSomeAnd o (Accepts target says bits r)) → AtAlone generation i (StepTells target says bits (Holds true) (Some r))
     at_accepted r saw =
         there (StepTells target says bits (Holds true) (Some r))
         (alone_so (content_at b.now.contents i) old new (λ o. IsSomeAnd o (Accepts target says bits r)) (StepTells target says bits (Holds true) (Some r)) (λ e so. (so.0, λ _. ap Some so.1)) saw)
@@ -53,9 +53,9 @@ module _ {A T : Type 0} (walked : Option (Bor (GenerationView A T))) (b : Bor (G
   -- so it is where the closure was asked of a value that is the one given
   module _ {X E : Type 0} (target : T → X) (says : SharedFn E (Bor X × (Bor X × Unit {0})) Bool) (eq : E) (value given : T) (same : value ≡ given) (bits : ℕ) (old new : Option (Entry T)) where
     pub passed_given : (asked : Bool) (met : Option (Bor X)) → IsSeen (content_at b.now.contents i) old new (λ o. IsSomeAnd o (λ e. IsTrueOf target (FnReturnsAtPair says eq (target value)) bits e (passed asked)))
-        → AtAlone walked i (StepTells target (FnReturnsAtPair says eq (target given)) bits (passed asked) met)
-    passed_given asked met saw = subst (λ v. AtAlone walked i (StepTells target (FnReturnsAtPair says eq (target v)) bits (passed asked) met)) same (at_passed target (FnReturnsAtPair says eq (target value)) bits old new asked met saw)
+        → AtAlone generation i (StepTells target (FnReturnsAtPair says eq (target given)) bits (passed asked) met)
+    passed_given asked met saw = subst (λ v. AtAlone generation i (StepTells target (FnReturnsAtPair says eq (target v)) bits (passed asked) met)) same (at_passed target (FnReturnsAtPair says eq (target value)) bits old new asked met saw)
 
     pub accepted_given : (r : Bor X) → IsSeen (content_at b.now.contents i) old new (λ o. IsSomeAnd o (Accepts target (FnReturnsAtPair says eq (target value)) bits r))
-        → AtAlone walked i (StepTells target (FnReturnsAtPair says eq (target given)) bits (Holds true) (Some r))
-    accepted_given r saw = subst (λ v. AtAlone walked i (StepTells target (FnReturnsAtPair says eq (target v)) bits (Holds true) (Some r))) same (at_accepted target (FnReturnsAtPair says eq (target value)) bits old new r saw)
+        → AtAlone generation i (StepTells target (FnReturnsAtPair says eq (target given)) bits (Holds true) (Some r))
+    accepted_given r saw = subst (λ v. AtAlone generation i (StepTells target (FnReturnsAtPair says eq (target v)) bits (Holds true) (Some r))) same (at_accepted target (FnReturnsAtPair says eq (target value)) bits old new r saw)

@@ -17,8 +17,8 @@ use Rattle.table_core.specs.RunningPhases.{Nothing, Inserts, Meets, AtBucket, Ho
 use Rattle.table_core.specs.RunningSteps.{Starting, Passing, Leaving, passed}
 use Rattle.table_shared.specs.declared.insert.between.Carried.{Carried}
 use Rattle.table_shared.specs.declared.insert.between.Carried.TheVariants.{Gone, Value, Own, Met}
-use Rattle.table_shared.specs.declared.insert.between.Held.{Held}
-use Rattle.table_shared.specs.declared.insert.between.Held.TheVariants as lock
+use Rattle.table_shared.specs.declared.insert.between.HeldLock.{HeldLock}
+use Rattle.table_shared.specs.declared.insert.between.HeldLock.TheVariants as lock
 use Rattle.table_shared.specs.Between.{IsBetween, Loads}
 use Rattle.table_shared.specs.Carried.{reach_of, value_in, own_in, lock_of, table_in, Wants}
 use Rattle.table_shared.specs.Growths.{GrowthView}
@@ -75,13 +75,13 @@ leaves_begun LeaveFailed m = refl
 leaves_begun _ m = absurd m
 
 -- nor is one that wants a lock
-wants_begun : (p : Phase) (h : Held) → Wants p (lock_of h) → is_done p ≡ false
+wants_begun : (p : Phase) (h : HeldLock) → Wants p (lock_of h) → is_done p ≡ false
 wants_begun WantShared h w = refl
 wants_begun WantOwned h w = refl
 wants_begun _ h w = absurd w
 
 -- the lock that is wanted can be taken
-pub wants_fits : (s : CallState) (h : Held) → Wants s.phase (lock_of h) → fits s.phase s Taken ≡ true
+pub wants_fits : (s : CallState) (h : HeldLock) → Wants s.phase (lock_of h) → fits s.phase s Taken ≡ true
 wants_fits s h w = fits_in s.phase w
   where
     fits_in : (p : Phase) → Wants p (lock_of h) → fits p s Taken ≡ true
@@ -131,11 +131,11 @@ begun_phase hash s t is e = ap (λ (u : CallState). u.phase) (e ∙ ap (λ (u : 
 pub begun_outcome : (hash : ℕ) (s t : CallState) → s ≡ insert_start hash → t ≡ decided s.phase s Taken → t.outcome ≡ Pending
 begun_outcome hash s t is e = ap (λ (u : CallState). u.outcome) (e ∙ ap (λ (u : CallState). decided u.phase u Taken) is)
 
-module _ {A V X : Type 0} {home : ℕ} {target : V → X} {given : V} {s : CallState} {walked : Option (Bor (GenerationView A V))}
-    {growth : Option (GrowthView V)} {carried : Carried V (Bor X)} {held : Held} (b : IsBetween home target given s walked growth carried held) where
+module _ {A V X : Type 0} {home : ℕ} {target : V → X} {given : V} {s : CallState} {generation : Option (Bor (GenerationView A V))}
+    {growth : Option (GrowthView V)} {carried : Carried V (Bor X)} {held : HeldLock} (b : IsBetween home target given s generation growth carried held) where
   -- the same of a state whose parts are written out
-  pub spelt_out : (t : CallState) → t ≡ s → IsBetween home target given t walked growth carried held
-  spelt_out t is = subst (λ (u : CallState). IsBetween home target given u walked growth carried held) (sym is) b
+  pub spelt_out : (t : CallState) → t ≡ s → IsBetween home target given t generation growth carried held
+  spelt_out t is = subst (λ (u : CallState). IsBetween home target given u generation growth carried held) (sym is) b
 
   -- an insert that isn't over carries something
   pub carries : (p : Phase) → s.phase ≡ p → is_done p ≡ false → carried ≢ Gone
@@ -147,7 +147,7 @@ module _ {A V X : Type 0} {home : ℕ} {target : V → X} {given : V} {s : CallS
   pub leaves_carries : Leaves s.phase → carried ≢ Gone
   leaves_carries leaves = carries s.phase refl (leaves_begun s.phase leaves)
 
-  pub wants_carries : (h : Held) → Wants s.phase (lock_of h) → carried ≢ Gone
+  pub wants_carries : (h : HeldLock) → Wants s.phase (lock_of h) → carried ≢ Gone
   wants_carries h wants = carries s.phase refl (wants_begun s.phase h wants)
 
   -- an insert that can meet an entry carries its value
@@ -161,7 +161,7 @@ module _ {A V X : Type 0} {home : ℕ} {target : V → X} {given : V} {s : CallS
   keeps_lock p at = b.locks ∙ ap lock_in at
 
   -- the bucket of an insert is one of the generation that it walks
-  pub within : (x : Bor (GenerationView A V)) → walked ≡ Some x → AtBucket s.phase → s.index < length x.now.contents
+  pub within : (x : Bor (GenerationView A V)) → generation ≡ Some x → AtBucket s.phase → s.index < length x.now.contents
   within x is at = subst (λ (n : ℕ). s.index < n) (sym (b.counts x is)) (index_within s (b.stands at))
 
   -- what an insert carries, that goes to another phase
@@ -181,10 +181,10 @@ module _ {A V X : Type 0} {home : ℕ} {target : V → X} {given : V} {s : CallS
   }
 
   -- an insert that goes to another phase
-  pub goes : (p q : Phase) (t : CallState) (making : Option (GrowthView V)) (bearing : Carried V (Bor X)) (holding : Held) → s.phase ≡ p → t ≡ to q s → Leads p q → Bears q bearing
-      → lock_of holding ≡ lock_in q → ForSome (table_in holding) (λ h. h ≡ home) → (q ≡ Building → making ≢ None) → ForSome making (λ g. g.home ≡ home) → IsBetween home target given t walked making bearing holding
+  pub goes : (p q : Phase) (t : CallState) (making : Option (GrowthView V)) (bearing : Carried V (Bor X)) (holding : HeldLock) → s.phase ≡ p → t ≡ to q s → Leads p q → Bears q bearing
+      → lock_of holding ≡ lock_in q → ForSome (table_in holding) (λ h. h ≡ home) → (q ≡ Building → making ≢ None) → ForSome making (λ g. g.home ≡ home) → IsBetween home target given t generation making bearing holding
   goes p q t making bearing holding at is leads bears locks of_table builds grows =
-      subst (λ (u : CallState). IsBetween home target given u walked making bearing holding) (sym is) (record {
+      subst (λ (u : CallState). IsBetween home target given u generation making bearing holding) (sym is) (record {
         inserts = leads.inserts;
         hopes = λ x. b.hopes (subst Hopes (sym at) (leads.hopes x));
         stands = λ x. b.stands (subst AtBucket (sym at) (leads.stands x));
@@ -203,10 +203,10 @@ module _ {A V X : Type 0} {home : ℕ} {target : V → X} {given : V} {s : CallS
       })
 
   -- an insert that takes the lock that it wants
-  pub takes : (t : CallState) (holding : Held) → Wants s.phase (lock_of holding) → ForSome (table_in holding) (λ h. h ≡ home) → t ≡ decided s.phase s Taken → IsBetween home target given t walked growth carried holding
+  pub takes : (t : CallState) (holding : HeldLock) → Wants s.phase (lock_of holding) → ForSome (table_in holding) (λ h. h ≡ home) → t ≡ decided s.phase s Taken → IsBetween home target given t generation growth carried holding
   takes t holding wants of_table is = takes_in s.phase refl wants is
     where
-      takes_in : (p : Phase) → s.phase ≡ p → Wants p (lock_of holding) → t ≡ decided p s Taken → IsBetween home target given t walked growth carried holding
+      takes_in : (p : Phase) → s.phase ≡ p → Wants p (lock_of holding) → t ≡ decided p s Taken → IsBetween home target given t generation growth carried holding
       takes_in WantShared at w e = goes WantShared Shared t growth carried holding at e (search rules) (bears WantShared Shared at refl refl) w of_table (λ x. absurd (cc)) b.grows
       takes_in WantOwned at w e = goes WantOwned Owned t growth carried holding at e (search rules) (bears WantOwned Owned at refl refl) w of_table (λ x. absurd (cc)) b.grows
       takes_in _ at w e = absurd w
@@ -217,15 +217,15 @@ module _ {A V X : Type 0} {home : ℕ} {target : V → X} {given : V} {s : CallS
 
   -- an insert that keeps what it carries, and holds its lock still
   pub goes_on : (p q : Phase) (t : CallState) (making : Option (GrowthView V)) → s.phase ≡ p → t ≡ to q s → Leads p q → is_done p ≡ false → reached p s.outcome ≡ reached q s.outcome → lock_in p ≡ lock_in q
-      → (q ≡ Building → making ≢ None) → ForSome making (λ g. g.home ≡ home) → IsBetween home target given t walked making carried held
+      → (q ≡ Building → making ≢ None) → ForSome making (λ g. g.home ≡ home) → IsBetween home target given t generation making carried held
   goes_on p q t making at is leads begun same lock builds grows = goes p q t making carried held at is leads (bears p q at begun same) (keeps_lock p at ∙ lock) b.of_table builds grows
 
   -- an insert that stands at an empty bucket
-  pub finds_empty : (t : CallState) → s.phase ≡ Probe → t ≡ to AtEmpty s → IsBetween home target given t walked growth carried held
+  pub finds_empty : (t : CallState) → s.phase ≡ Probe → t ≡ to AtEmpty s → IsBetween home target given t generation growth carried held
   finds_empty t at is = goes_on Probe AtEmpty t growth at is (search rules) refl refl refl (λ e. absurd (cc)) b.grows
 
   -- an insert that passes an entry
-  pub passes : (t : CallState) → Meets s.phase → Passing s t → IsBetween home target given t walked growth carried held
+  pub passes : (t : CallState) → Meets s.phase → Passing s t → IsBetween home target given t generation growth carried held
   passes t meets passing = record {
     inserts = passing.inserts;
     hopes = λ _. passing.pending;
@@ -249,9 +249,9 @@ module _ {A V X : Type 0} {home : ℕ} {target : V → X} {given : V} {s : CallS
   passes_probed t asked at takes = passes_entry s t asked (subst Meets (sym at) tt) (b.stands (subst AtBucket (sym at) tt)) (b.hopes (subst Hopes (sym at) tt)) takes
 
   -- an insert that accepts an entry keeps its target beside the value
-  pub accepts : (t : CallState) (r : Bor X) (v : V) → Meets s.phase → t ≡ finds_entry LeaveOk s → v ≡ given → IsBetween home target given t walked growth (Met r v) held
+  pub accepts : (t : CallState) (r : Bor X) (v : V) → Meets s.phase → t ≡ finds_entry LeaveOk s → v ≡ given → IsBetween home target given t generation growth (Met r v) held
   accepts t r v meets is from =
-      subst (λ (u : CallState). IsBetween home target given u walked growth (Met r v) held) (sym is) (record {
+      subst (λ (u : CallState). IsBetween home target given u generation growth (Met r v) held) (sym is) (record {
         inserts = refl;
         hopes = λ x. absurd x;
         stands = λ x. absurd x;
@@ -279,7 +279,7 @@ module _ {A V X : Type 0} {home : ℕ} {target : V → X} {given : V} {s : CallS
   }
 
   -- an insert whose value is in the bucket
-  pub wins : (t : CallState) (r : Bor X) → s.phase ≡ AtEmpty → t ≡ to Placed s → r.now ≡ target given → IsBetween home target given t walked growth (Own r) held
+  pub wins : (t : CallState) (r : Bor X) → s.phase ≡ AtEmpty → t ≡ to Placed s → r.now ≡ target given → IsBetween home target given t generation growth (Own r) held
   wins t r at is own =
       goes AtEmpty Placed t growth (Own r) held at is (search rules)
       (record {
@@ -291,13 +291,13 @@ module _ {A V X : Type 0} {home : ℕ} {target : V → X} {given : V} {s : CallS
       (keeps_lock AtEmpty at) b.of_table (λ e. absurd (cc)) b.grows
 
   -- an insert whose memory was refused has its value again
-  pub has_back : (t : CallState) (v : V) → s.phase ≡ AtEmpty → t ≡ to LeaveRefused s → v ≡ given → IsBetween home target given t walked growth (Value v) held
+  pub has_back : (t : CallState) (v : V) → s.phase ≡ AtEmpty → t ≡ to LeaveRefused s → v ≡ given → IsBetween home target given t generation growth (Value v) held
   has_back t v at is from =
       goes AtEmpty LeaveRefused t growth (Value v) held at is (search rules)
       (bears_value LeaveRefused v refl (b.hopes (subst Hopes (sym at) tt)) from) (keeps_lock AtEmpty at) b.of_table (λ e. absurd (cc)) b.grows
 
   -- an insert that lost its exchange stands where it stood, and has its value again
-  pub loses : (v : V) → s.phase ≡ AtEmpty → v ≡ given → IsBetween home target given s walked growth (Value v) held
+  pub loses : (v : V) → s.phase ≡ AtEmpty → v ≡ given → IsBetween home target given s generation growth (Value v) held
   loses v at from =
       goes AtEmpty AtEmpty s growth (Value v) held at (subst (λ (p : Phase). s ≡ to p s) at refl) (search rules)
       (bears_value AtEmpty v refl (b.hopes (subst Hopes (sym at) tt)) from) (keeps_lock AtEmpty at) b.of_table (λ e. absurd (cc)) b.grows
@@ -350,9 +350,9 @@ module _ {A V X : Type 0} {home : ℕ} {target : V → X} {given : V} {s : CallS
   loads (Some g) t at into = starts t into.number g at (into.insert at) into.starting into.homes
 
   -- an insert that counts its value
-  pub counts_value : (t : CallState) → s.phase ≡ Placed → t ≡ record s { phase = LeaveOk; outcome = New s.index } → IsBetween home target given t walked growth carried held
+  pub counts_value : (t : CallState) → s.phase ≡ Placed → t ≡ record s { phase = LeaveOk; outcome = New s.index } → IsBetween home target given t generation growth carried held
   counts_value t at is =
-      subst (λ (u : CallState). IsBetween home target given u walked growth carried held) (sym is) (record {
+      subst (λ (u : CallState). IsBetween home target given u generation growth carried held) (sym is) (record {
         inserts = refl;
         hopes = λ x. absurd x;
         stands = λ x. absurd x;
@@ -371,17 +371,17 @@ module _ {A V X : Type 0} {home : ℕ} {target : V → X} {given : V} {s : CallS
       })
 
   -- an insert that has asked for the size
-  pub asks_size : (t : CallState) → s.phase ≡ AskSize → (t ≡ to Done s) ⊎ (t ≡ to WantOwned s) → IsBetween home target given t walked growth carried held
+  pub asks_size : (t : CallState) → s.phase ≡ AskSize → (t ≡ to Done s) ⊎ (t ≡ to WantOwned s) → IsBetween home target given t generation growth carried held
   asks_size t at (inl is) = goes_on AskSize Done t growth at is (search rules) refl refl refl (λ e. absurd (cc)) b.grows
   asks_size t at (inr is) = goes_on AskSize WantOwned t growth at is (search rules) refl refl refl (λ e. absurd (cc)) b.grows
 
   -- an insert that begins no growth
-  pub begins_none : (t : CallState) → s.phase ≡ Owned → (t ≡ to LeaveOwned s) ⊎ (t ≡ to LeaveFailed s) → IsBetween home target given t walked growth carried held
+  pub begins_none : (t : CallState) → s.phase ≡ Owned → (t ≡ to LeaveOwned s) ⊎ (t ≡ to LeaveFailed s) → IsBetween home target given t generation growth carried held
   begins_none t at (inl is) = goes_on Owned LeaveOwned t growth at is (search rules) refl refl refl (λ e. absurd (cc)) b.grows
   begins_none t at (inr is) = goes_on Owned LeaveFailed t growth at is (search rules) refl refl refl (λ e. absurd (cc)) b.grows
 
   -- an insert that releases its lock
-  pub lets_go : (t : CallState) → Leaves s.phase → Leaving s t → IsBetween home target given t walked growth carried lock.Nothing
+  pub lets_go : (t : CallState) → Leaves s.phase → Leaving s t → IsBetween home target given t generation growth carried lock.Nothing
   lets_go t leaves leaving = record {
     inserts = leaving.inserts;
     hopes = leaving.pending;
@@ -401,13 +401,13 @@ module _ {A V X : Type 0} {home : ℕ} {target : V → X} {given : V} {s : CallS
   }
 
   -- an insert with an outcome releases its lock, and asks for the size
-  pub leaves_to_ask : (t : CallState) → s.phase ≡ LeaveOk → t ≡ to AskSize s → IsBetween home target given t walked growth carried lock.Nothing
+  pub leaves_to_ask : (t : CallState) → s.phase ≡ LeaveOk → t ≡ to AskSize s → IsBetween home target given t generation growth carried lock.Nothing
   leaves_to_ask t at is =
       goes LeaveOk AskSize t growth carried lock.Nothing at is (search rules)
       (bears LeaveOk AskSize at refl refl) refl (λ x e. absurd (cc)) (λ e. absurd (cc)) b.grows
 
 -- an insert that has taken its first lock
-pub begins_shared : {A V X : Type 0} (home : ℕ) (target : V → X) (given v : V) (hash : ℕ) (s t : CallState) (holding : Held) → s ≡ insert_start hash → v ≡ given → lock_of holding ≡ Shares → ForSome (table_in holding) (λ h. h ≡ home) → t ≡ decided s.phase s Taken
+pub begins_shared : {A V X : Type 0} (home : ℕ) (target : V → X) (given v : V) (hash : ℕ) (s t : CallState) (holding : HeldLock) → s ≡ insert_start hash → v ≡ given → lock_of holding ≡ Shares → ForSome (table_in holding) (λ h. h ≡ home) → t ≡ decided s.phase s Taken
     → IsBetween {A = A} home target given t None None (Value v) holding
 begins_shared {A} home target given v hash s t holding is from shares of_table e =
     takes (subst (λ (u : CallState). IsBetween {A = A} home target given u None None (Value v) lock.Nothing) (sym is) (begins {A = A} home target given v hash from)) t holding

@@ -12,9 +12,9 @@ use Rattle.table_shared.specs.Reads.{Takes}
 use Rattle.table_shared.proofs.Looked.{some_same}
 use Rattle.table_shared.proofs.Takes.{looks_past_entry}
 
-module _ {A V : Type 0} {home : ℕ} {s : CallState} {walked : Option (Bor (GenerationView A V))} (b : IsLooking home s walked) where
+module _ {A V : Type 0} {home : ℕ} {s : CallState} {generation : Option (Bor (GenerationView A V))} (b : IsLooking home s generation) where
   -- a look-up that passes an entry
-  pub look_passes : (t : CallState) (asked : Bool) → s.phase ≡ LookProbe → Takes s t (passed asked) → IsLooking home t walked
+  pub look_passes : (t : CallState) (asked : Bool) → s.phase ≡ LookProbe → Takes s t (passed asked) → IsLooking home t generation
   look_passes t asked at takes =
       let past = looks_past_entry s t asked at (b.stands at) takes in
       record {
@@ -27,7 +27,7 @@ module _ {A V : Type 0} {home : ℕ} {s : CallState} {walked : Option (Bor (Gene
       }
 
   -- a look-up that ends
-  pub look_ends : (t : CallState) → t.phase ≡ Done → t.capacity ≡ s.capacity → IsLooking home t walked
+  pub look_ends : (t : CallState) → t.phase ≡ Done → t.capacity ≡ s.capacity → IsLooking home t generation
   look_ends t over same = record {
     looks = subst Looks (sym over) refl;
     pending = λ begun. absurd (begun over);

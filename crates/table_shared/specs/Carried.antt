@@ -14,23 +14,23 @@ use Rattle.table_core.specs.RunningPhases.{Nothing as ReachedNothing, Own as Rea
 use Rattle.table_shared.specs.declared.insert.between.Carried.{Carried}
 use Rattle.table_shared.specs.declared.insert.between.Carried.TheVariants.{Gone, Value, Own, Met}
 use Rattle.table_shared.specs.declared.insert.between.Asking.{Asking}
-use Rattle.table_shared.specs.declared.insert.between.Held.{Held}
-use Rattle.table_shared.specs.declared.insert.between.Held.TheVariants as held
+use Rattle.table_shared.specs.declared.insert.between.HeldLock.{HeldLock}
+use Rattle.table_shared.specs.declared.insert.between.HeldLock.TheVariants as held
 
 -- the lock that is held
-abbrev pub lock_of : Held → Lock
+abbrev pub lock_of : HeldLock → Lock
 lock_of held.Nothing = Free
 lock_of (held.Shared guard) = Shares
-lock_of (held.Alone guard) = Owns
+lock_of (held.Owned guard) = Owns
 
 -- the table whose lock is held, by its home
-abbrev pub table_in : Held → Option ℕ
+abbrev pub table_in : HeldLock → Option ℕ
 table_in held.Nothing = None
 table_in (held.Shared guard) = Some guard.home
-table_in (held.Alone guard) = Some guard.home
+table_in (held.Owned guard) = Some guard.home
 
 -- the lock that a guard of this kind holds, if there is a guard
-abbrev pub held_by : {G : Type 0} → (G → Held) → Option G → Held
+abbrev pub held_by : {G : Type 0} → (G → HeldLock) → Option G → HeldLock
 held_by kind None = held.Nothing
 held_by kind (Some guard) = kind guard
 

@@ -114,7 +114,7 @@ module _ {T X : Type 0} where
 -- this holds of the entry that the bucket of this index was set to alone, in the generation that is
 -- walked
 abbrev pub AtAlone : {A T : Type 0} → Option (Bor (GenerationView A T)) → ℕ → (Entry T → Type 0) → Type 0
-AtAlone walked index P = ForSome walked (λ g. IfSome (shown (content_at g.now.contents index)) P)
+AtAlone generation index P = ForSome generation (λ g. IfSome (shown (content_at g.now.contents index)) P)
 
 -- a call has asked for the size
 abbrev pub AsksSize : CallState → CallState → Type 0

@@ -37,7 +37,7 @@ module _ {T A E H X : Type 0} {g : Ghosts T X} (says : SharedFn E (Bor X × (Bor
 
   -- what its answer tells of the entry that the bucket where it stood was set to alone
   abbrev pub TellsAlone : Inserting T A E H X g → Answer → Inserting T A E H X g → Type 0
-  TellsAlone old a new = AtAlone old.walked old.state.index (StepTells g.target (FnReturnsAtPair says old.asking.eq (g.target old.asking.given.value)) (bits_of old.state.hash) a (met_in new.carried))
+  TellsAlone old a new = AtAlone old.generation old.state.index (StepTells g.target (FnReturnsAtPair says old.asking.eq (g.target old.asking.given.value)) (bits_of old.state.hash) a (met_in new.carried))
 
   -- an insert has taken a step, or none and is as it was
   abbrev pub TriesStep : Inserting T A E H X g → Option Answer → Inserting T A E H X g → Type 0

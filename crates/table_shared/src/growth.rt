@@ -1,23 +1,20 @@
 //! The next generation of a shared table while it is built.
-ghost use Rattle.std.specs.Prelude.{◌≡◌, IfOk, IsSome, MatchOption, length};
+ghost use Rattle.std.specs.Prelude.{◌≡◌, IfOk, length};
 ghost use Rattle.std.specs.Option.{option_map};
 ghost use Rattle.std.specs.Box.{box_allocator};
 ghost use Rattle.std.specs.Fn.{FnReturnsAt};
 ghost use Rattle.std.specs.Int.{IsPowerOfTwo};
-ghost use Rattle.std.specs.Option.{IsSomeAnd};
 ghost use Rattle.table_shared.specs.Lineages.{IsOpen, names_of, words_of};
-ghost use Rattle.table_shared.specs.Growths.{IsFresh, AreNamed, CopiesNext, PassedAll, growth_of};
+ghost use Rattle.table_shared.specs.Growths.{IsFresh, AreNamed, CopiesNext, growth_of};
 
 pub(crate) mod ahead;
 pub(crate) mod begin;
 
 use crate::lineage::later::Later;
-use crate::lineage::slot::{Published, Slot};
-use crate::locks::OwnedLock;
-use crate::shown::Shown;
+use crate::lineage::slot::Slot;
 use std::alloc::{AllocError, Allocator};
 use std::marker::Model;
-use table_cell::{Bucket, Home, Low, Note};
+use table_cell::{Bucket, Home, Note};
 use table_generations::atomic_value::AtomicValue;
 use table_generations::fixed::Generation;
 
@@ -108,7 +105,7 @@ impl<'a, T: AtomicValue, A: Allocator + Copy> Growth<'a, T, A> {
     }
 
     /// Moves the generation into its block, and returns it with the slot through which it is to be published.
-    fn into_block(self) -> (Slot<'a, Generation<T, A>, A>, Box<Generation<T, A>, A>)
+    pub(crate) fn into_block(self) -> (Slot<'a, Generation<T, A>, A>, Box<Generation<T, A>, A>)
         ensures built { result.1.value.contents ≡ self.entry.built }
         ensures fits { (result.1.value.home ≡ self.entry.home) × IsPowerOfTwo (length result.1.value.contents) }
         ensures open { IsOpen self.entry.home result.0.from result.0 }
@@ -123,26 +120,5 @@ impl<'a, T: AtomicValue, A: Allocator + Copy> Growth<'a, T, A> {
         } = self;
         drop(Box::replace(&mut block, built));
         (slot, block)
-    }
-}
-
-impl<'a, T: AtomicValue, A: Low + Copy> Growth<'a, T, A> {
-    /// Publishes the generation that was built. The caller holds all locks of the table.
-    pub(crate) fn show(
-        self,
-        _held: &OwnedLock<'_>,
-        shown: &Shown<T, A>,
-    ) -> Published<Generation<T, A>, A>
-        requires lock { _held.now.home ≡ self.home }
-        requires whole { PassedAll self }
-        requires home { shown.now.home ≡ self.home }
-        ensures since { (result.latest ≡ shown.now.id) × IsSome result.since }
-        ensures word { result.word ≡ self.entry.word }
-        ensures shows { MatchOption result.back (IsSomeAnd result.holds (λ g. g.contents ≡ self.entry.built))
-            (λ g. g.contents ≡ self.entry.built) }
-    {
-        let home = self.home;
-        let (slot, block) = self.into_block();
-        shown.publish(slot, home, block)
     }
 }

@@ -10,7 +10,7 @@ ghost use Rattle.table_shared.specs.Inserts.{Answers, Places, Finds, GivesBack};
 pub(crate) mod between;
 mod steps;
 
-use crate::insert::between::{Asking, Carried, Held, Inserting};
+use crate::insert::between::{Asking, Carried, HeldLock, Inserting};
 use crate::locks::SharedLock;
 use crate::probe::{Caller, Matched, Put, Putting, Read, Reading};
 use crate::table::LockFreeRawTable;
@@ -101,9 +101,8 @@ impl<T: AtomicValue, A: Low + Copy> LockFreeRawTable<T, A> {
                 }
                 Read::Passed(next, _) => {
                     if next.phase != Phase::Probe {
-                        let walked = Some(generation);
                         let carried = Carried::Value(value);
-                        return self.go_on(rt, next, walked, carried, Some(guard), asking);
+                        return self.go_on(rt, next, Some(generation), carried, Some(guard), asking);
                     }
                     let on = spelt(next, Phase::Probe, number, Outcome::Pending);
                     state = on;
@@ -127,7 +126,7 @@ impl<T: AtomicValue, A: Low + Copy> LockFreeRawTable<T, A> {
         asking: Asking<T, E, H>,
     ) -> Result<(&'a T::Target, Option<T>), T>
         requires { StandsIn self.now.home E.IsAlwaysCallable H.IsAlwaysCallable T.target E.Fn asking
-            state AtEmpty number Pending generation (Carried.Value value) (Held.Shared guard) }
+            state AtEmpty number Pending generation (Carried.Value value) (HeldLock.Shared guard) }
         ensures { Answers T.target (FnReturnsAtPair E.Fn asking.eq (T.target asking.given.value))
             asking.given.value result }
     {
@@ -172,7 +171,7 @@ impl<T: AtomicValue, A: Low + Copy> LockFreeRawTable<T, A> {
         asking: Asking<T, E, H>,
     ) -> Result<(&'a T::Target, Option<T>), T>
         requires { StandsIn self.now.home E.IsAlwaysCallable H.IsAlwaysCallable T.target E.Fn asking
-            state LeaveOk number outcome generation carried (Held.Shared guard) }
+            state LeaveOk number outcome generation carried (HeldLock.Shared guard) }
         ensures { Answers T.target (FnReturnsAtPair E.Fn asking.eq (T.target asking.given.value))
             asking.given.value result }
     {
@@ -192,13 +191,13 @@ impl<T: AtomicValue, A: Low + Copy> LockFreeRawTable<T, A> {
         &'a self,
         rt: &R,
         state: CallState,
-        walked: Option<&'a Generation<T, A>>,
+        generation: Option<&'a Generation<T, A>>,
         carried: Carried<T, &'a T::Target>,
         guard: Option<SharedLock<'a>>,
         asking: Asking<T, E, H>,
     ) -> Result<(&'a T::Target, Option<T>), T>
         requires { Onward self.now.home E.IsAlwaysCallable H.IsAlwaysCallable T.target E.Fn asking
-            state walked carried (held_by Held.Shared guard) }
+            state generation carried (held_by HeldLock.Shared guard) }
         ensures { Answers T.target (FnReturnsAtPair E.Fn asking.eq (T.target asking.given.value))
             asking.given.value result }
     {
@@ -213,8 +212,8 @@ impl<T: AtomicValue, A: Low + Copy> LockFreeRawTable<T, A> {
         } = state;
         let (target, value) = carried.into_parts();
         self.go_on_by_parts(
-            rt, phase, hash, number, capacity, index, seen, outcome, walked, target, value, guard,
-            asking,
+            rt, phase, hash, number, capacity, index, seen, outcome, generation, target, value,
+            guard, asking,
         )
     }
 
@@ -231,21 +230,21 @@ impl<T: AtomicValue, A: Low + Copy> LockFreeRawTable<T, A> {
         index: u64,
         seen: u64,
         outcome: Outcome,
-        walked: Option<&'a Generation<T, A>>,
+        generation: Option<&'a Generation<T, A>>,
         target: Option<&'a T::Target>,
         value: Option<T>,
         guard: Option<SharedLock<'a>>,
         asking: Asking<T, E, H>,
     ) -> Result<(&'a T::Target, Option<T>), T>
         requires { Onward self.now.home E.IsAlwaysCallable H.IsAlwaysCallable T.target E.Fn asking
-            (state_by phase hash number capacity index seen outcome) walked
-            (carried_by target value) (held_by Held.Shared guard) }
+            (state_by phase hash number capacity index seen outcome) generation
+            (carried_by target value) (held_by HeldLock.Shared guard) }
         ensures { Answers T.target (FnReturnsAtPair E.Fn asking.eq (T.target asking.given.value))
             asking.given.value result }
     {
         let held = match guard {
-            Some(guard) => Held::Shared(guard),
-            None => Held::Nothing,
+            Some(guard) => HeldLock::Shared(guard),
+            None => HeldLock::Nothing,
         };
         let call = Inserting {
             table: self,
@@ -258,7 +257,7 @@ impl<T: AtomicValue, A: Low + Copy> LockFreeRawTable<T, A> {
                 seen,
                 outcome,
             },
-            walked,
+            generation,
             growth: None,
             carried: Carried::of_parts(target, value),
             held,

@@ -4,7 +4,6 @@
 //! word holds that is set once. Look-ups and inserts take the current generation from [`LockFreeRawTable::current`].
 #![tactic(auto)]
 
-mod apart;
 mod ending;
 mod growth;
 mod insert;
@@ -12,6 +11,7 @@ mod iter;
 mod lineage;
 mod locks;
 mod lookup;
+mod padding;
 mod probe;
 mod shown;
 mod size;

@@ -22,7 +22,7 @@ const LANES: usize = 8;
 #[derive(Drop)]
 struct Lane {
     lock: RwLock<()>,
-    behind: [u64; 5],
+    padding: [u64; 5],
 }
 
 const _: () = prove!(size_of::<Lane>() == 64);
@@ -35,7 +35,7 @@ impl Lane {
     fn new() -> Lane {
         Lane {
             lock: RwLock::new(()),
-            behind: [0; 5],
+            padding: [0; 5],
         }
     }
 }

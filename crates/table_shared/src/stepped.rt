@@ -10,7 +10,7 @@ ghost use Rattle.table_core.specs.RunningPhases.{Other, reached_by};
 ghost use Rattle.table_shared.specs.Inserts.{Answers, told_by};
 ghost use Rattle.table_shared.specs.Stepped.{MayStep, Advances, MayBlock, IfMoved, IfBlocked, IfEnded, found_by, accepted_in};
 
-use crate::insert::between::{Asking, Carried, Held, Inserting};
+use crate::insert::between::{Asking, Carried, HeldLock, Inserting};
 use crate::lookup::steps::Looking;
 use crate::table::LockFreeRawTable;
 use std::alloc::Allocator;
@@ -78,10 +78,10 @@ where
         let call = Inserting {
             table,
             state: CallState::insert(hash),
-            walked: None,
+            generation: None,
             growth: None,
             carried: Carried::Value(value),
-            held: Held::Nothing,
+            held: HeldLock::Nothing,
             asking: Asking { given, eq, hash_fn },
         };
         InsertCall { call }

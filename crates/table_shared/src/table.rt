@@ -8,9 +8,9 @@ ghost use Rattle.table_core.specs.RunningSteps.{Went};
 ghost use Rattle.table_shared.specs.Between.{Loads};
 ghost use Rattle.table_shared.specs.Lineages.{AreOfHome, IsNumber, LastIsBare, shown_in};
 
-use crate::apart::Apart;
 use crate::lineage::Lineage;
 use crate::locks::Locks;
+use crate::padding::Padding;
 use crate::shown::Shown;
 use crate::size::Size;
 use std::alloc::{Allocator, Global};
@@ -37,11 +37,11 @@ pub struct LockFreeRawTable<T: AtomicValue, A: Allocator + Copy = Global> {
     pub(crate) lineage: Lineage<T, A>,
     pub(crate) shown: Shown<T, A>,
     /// The locks and the size, which each insert writes, lie between this padding and the next.
-    before: Apart,
+    before: Padding,
     /// Held shared while a value is placed and counted, and exclusively while a generation is built.
     pub(crate) locks: Locks,
     pub(crate) size: Size,
-    behind: Apart,
+    after: Padding,
     pub(crate) alloc: A,
 }
 
@@ -116,10 +116,10 @@ impl<T: AtomicValue, A: Allocator + Copy> LockFreeRawTable<T, A> {
             home,
             lineage,
             shown,
-            before: Apart::new(),
+            before: Padding::new(),
             locks: Locks::new(),
             size: Size::new(size),
-            behind: Apart::new(),
+            after: Padding::new(),
             alloc,
         }
     }
@@ -227,7 +227,7 @@ impl<T: AtomicValue, A: Allocator + Copy> IntoIterator for LockFreeRawTable<T, A
             before: _,
             locks: _,
             size: _,
-            behind: _,
+            after: _,
             alloc: _,
         } = self;
         let closed = home.close();
@@ -246,7 +246,7 @@ impl<T: AtomicValue, A: Allocator + Copy> Drop for LockFreeRawTable<T, A> {
             before: _,
             locks: _,
             size: _,
-            behind: _,
+            after: _,
             alloc: _,
         } = self;
         lineage.drop_values(&home.close());

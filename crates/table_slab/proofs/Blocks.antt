@@ -52,7 +52,7 @@ use Rattle.core.proofs.alloc.Calls.{Al, token, seen, answer_val, Answered, takes
 use Rattle.core.proofs.slots.Leases.{uncapped, block_ty, block_size, block_align, P}
 use Rattle.std_alloc.proofs.RawLayout.{as_raw, as_written}
 use Rattle.std_alloc.proofs.RcSteps.{Good}
-use Rattle.table_cell.proofs.Tokens.{InMemory, mark_of_nothing}
+use Rattle.table_cell.proofs.Tokens.{InMemory, marker_of_nothing}
 use Rattle.table_cell.proofs.Values.{void}
 use Rattle.table_slab.specs.Kept.{row_owns, deed_owns}
 use Rattle.table_slab.specs.contracts.rights.Rooms as Rooms
@@ -65,7 +65,7 @@ use Rattle.table_slab.proofs.Rows.{Opened, opened, closed}
 -- ---- values without bytes
 module _ {M : Type 1} {𝓤 : Ura M} {𝓛 : Logic 𝓤} {K : Type 0} {Γ : List (Item 𝓤)} {G : Goal 𝓤 𝓛.H} where
   pub token_owns : K → {F : Fml} → Step K 𝓛 (‵ (fsep (InMemory (token_val ∷ [])) F) ∷ Γ) G (‵ F ∷ Γ) G
-  token_owns t = step (λ next. use0 𝓛 (‵ (InMemory (token_val ∷ []))) (mark_of_nothing 𝓛) $ fjoin t $ next)
+  token_owns t = step (λ next. use0 𝓛 (‵ (InMemory (token_val ∷ []))) (marker_of_nothing 𝓛) $ fjoin t $ next)
 
 -- local k before something is put there, what may be put there, and after
 module _ {M : Type 1} {𝓤 : Ura M} (H : Heap 𝓤) (Ev : Env 𝓤 H) (k : ℕ) where

@@ -71,17 +71,17 @@ impl<T> Counter<T> {
         }
     }
 
-    /// Hands out slots in a row, up to `most`, of those below the offset `end`: the returned ones, or else the next ones. `None`:
-    /// neither are there.
+    /// Hands out slots in a row, up to `most`, of those below the offset `end`: the returned ones, or else the next ones. `None` means
+    /// that no such slot is left.
     pub(crate) fn next(&self, most: u64, end: u64) -> Option<Handed<T>>
         ensures some { IfSome result (λ h. (0 < h.count) × (h.count ≤ most)) }
         ensures within { IfSome result (λ h. (h.offset + h.count ≤ end) × (h.offset + h.count ≤ length self.now.1)) }
         ensures rooms { IfSome result (λ h. h.rooms.names ≡ part self.now.1 h.offset h.count) }
     {
         let end = min(end, self.count);
-        match self.next_back(most, end) {
+        match self.take_returned(most, end) {
             Some(handed) => Some(handed),
-            None => self.next_below(most, end),
+            None => self.take_next(most, end),
         }
     }
 
@@ -97,7 +97,7 @@ impl<T> Counter<T> {
 
     /// Hands out the returned slots. `None`: there are none, there are more than `most`, one of them isn't below the offset `end`, or
     /// another thread took them meanwhile.
-    fn next_back(&self, most: u64, end: u64) -> Option<Handed<T>>
+    fn take_returned(&self, most: u64, end: u64) -> Option<Handed<T>>
         ensures some { IfSome result (λ h. (0 < h.count) × (h.count ≤ most)) }
         ensures within { IfSome result (λ h. h.offset + h.count ≤ end) }
         ensures rooms { IfSome result (λ h. h.rooms.names ≡ part self.now.1 h.offset h.count) }
@@ -135,9 +135,9 @@ impl<T> Counter<T> {
         Some(rights(offer.into_gain(), old))
     }
 
-    /// Hands out the next slots, up to `most`, of those below the offset `end`, of which all are there. Returns `None` if all of
-    /// those are handed out. It tries again each time that another thread takes slots meanwhile.
-    fn next_below(&self, most: u64, end: u64) -> Option<Handed<T>>
+    /// Hands out the next slots below the offset `end`, at most `most` of them. `None` means that all of them are handed out, or that
+    /// `most` is 0. It tries again each time that another thread takes slots meanwhile.
+    fn take_next(&self, most: u64, end: u64) -> Option<Handed<T>>
         requires { end ≤ length self.now.1 }
         ensures some { IfSome result (λ h. (0 < h.count) × (h.count ≤ most)) }
         ensures within { IfSome result (λ h. h.offset + h.count ≤ end) }

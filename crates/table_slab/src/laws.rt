@@ -8,25 +8,25 @@ use crate::site::Site;
 use crate::slab::{Right, Standing};
 use std::alloc::Allocator;
 
-/// Shows that a slot holds one value for good.
+/// States that a slot holds one value for good.
 pub fn same_value<T>(_one: &Written<T>, _other: &Written<T>)
     requires { _one.now.of ≡ _other.now.of }
     ensures { _one.now.value ≡ _other.now.value }
 {}
 
-/// Shows that a word holds one value for good.
+/// States that a word holds one value for good.
 pub fn same_site<X>(_one: &Site<X>, _other: &Site<X>)
     ensures { _one.now.cell ≡ _other.now.cell → _one.now.value ≡ _other.now.value }
 {}
 
-/// Shows that two rights are of different slots.
+/// States that two rights are of different slots.
 pub fn rooms_apart<T>(_one: &mut Room<T>, _other: &mut Room<T>)
     ensures { (_one.new ≡ _one.old) × (_other.new ≡ _other.old)
         × (_one.old.of ≢ _other.old.of) }
 {}
 
 impl<T, A: Allocator> Right<T, A> {
-    /// Shows that two rights are to different numbers of a slab.
+    /// States that two rights are to different numbers of a slab.
     pub fn apart(&mut self, other: &mut Right<T, A>)
         ensures same { (self.new ≡ self.old) × (other.new ≡ other.old) }
         ensures apart { (s : SlabView) (m n : ℕ) → IsRightTo s m self.old → IsRightTo s n other.old → m ≢ n }
@@ -37,7 +37,7 @@ impl<T, A: Allocator> Right<T, A> {
 }
 
 impl<T> Receipt<T> {
-    /// Shows that two receipts of one slab are of different numbers.
+    /// States that two receipts of one slab are of different numbers.
     pub fn apart(&mut self, _other: &mut Receipt<T>)
         requires slab { self.old.slab ≡ _other.old.slab }
         ensures same { (self.new ≡ self.old) × (_other.new ≡ _other.old) }
@@ -46,7 +46,7 @@ impl<T> Receipt<T> {
 }
 
 impl<T> Receipts<T> {
-    /// Shows that no two of the receipts are of one number.
+    /// States that no two of the receipts are of one number.
     pub fn apart(&mut self)
         ensures same { self.new ≡ self.old }
         ensures apart { AreDistinct self.old.entries }
@@ -54,7 +54,7 @@ impl<T> Receipts<T> {
 }
 
 impl<T, A: Allocator> Standing<T, A> {
-    /// Shows that a number holds one value for good.
+    /// States that a number holds one value for good.
     pub fn agree(&self, other: &Standing<T, A>)
         requires { (s : SlabView) × (n : ℕ) × StandsAt s n self.now × StandsAt s n other.now }
         ensures { self.now.written.value ≡ other.now.written.value }

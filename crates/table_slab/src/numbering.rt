@@ -34,9 +34,9 @@ pub fn number_at(bits: u32, place: u32, offset: u64) -> u64
     chunk_len(bits, place) - chunk_len(bits, 0) + offset
 }
 
-/// Returns how many slots of the chunk at this place are handed out, from its first one on: those with numbers below
+/// Returns how many slots of the chunk at this place may be handed out, from its first one on: those with numbers below
 /// `2 ^ 32 - 2`.
-pub(crate) fn used_len(bits: u32, place: u32) -> u64
+pub(crate) fn usable_len(bits: u32, place: u32) -> u64
     requires { bits + place < 32 }
     ensures within { result ≤ chunk_len bits place }
     ensures small { (number offset : ℕ) → IsAt bits number place offset → offset < result → IsSmall number }

@@ -6,7 +6,7 @@ ghost use Rattle.table_slab.specs.Runs.{IsRunOf};
 ghost use Rattle.table_slab.specs.Slabs.{SlabView};
 
 use crate::chunk::Chunk;
-use crate::numbering::{number_at, used_len, where_is};
+use crate::numbering::{number_at, usable_len, where_is};
 use crate::rights::Rooms;
 use crate::site::Site;
 use crate::slab::{Right, Slab};
@@ -158,7 +158,7 @@ impl<T, A: Low + Copy> Slab<T, A> {
         ensures of { IfOk result (λ o. IfSome o (λ r. IsRunOf self.now r)) }
     {
         let site = self.made(place)?;
-        let len = used_len(self.bits(), place);
+        let len = usable_len(self.bits(), place);
         let Some(handed) = self.chunk(place, &site).next(want, len) else {
             return Ok(None);
         };

@@ -243,7 +243,7 @@ impl<T, A: Low + Copy> Slab<T, A> {
 }
 
 impl<T, A: Low + Copy> Drop for Slab<T, A> {
-    /// Gives back the memory. It drops no value: who ends the slab takes the values out before.
+    /// Frees the memory. Values that are still in slots are forgotten, not dropped: `end` leads to them.
     fn drop(self) {
         let Slab {
             bits: _,

@@ -8,18 +8,18 @@ use crate::fixed::Generation;
 use std::alloc::Allocator;
 use table_cell::{BucketRef, Closed, Home, Mark, Row};
 
-/// Returns 1 for a bucket that is set, and 0 for an empty one.
+/// Returns 1 for a bucket that was set through `&mut`, and 0 for any other.
 fn count_one<T: AtomicValue, A: Allocator + Copy>(bucket: &BucketRef<'_, T, A>) -> usize
     ensures counted { result ≡ length (shown_entries (bucket.now.content ∷ [])) }
     ensures one { result ≤ 1 }
 {
     match bucket.mark() {
-        Mark::Vacant => 0,
+        Mark::Unmarked => 0,
         _ => 1,
     }
 }
 
-/// Returns the number of buckets that are set.
+/// Returns the number of buckets that were set through `&mut`.
 fn count_set<T: AtomicValue, A: Allocator + Copy>(row: &Row<T, A>) -> usize
     ensures { result ≡ length (shown_entries row.now.contents) }
 {

@@ -51,7 +51,7 @@ fn look_at_bucket<'a, T: AtomicValue, A: Allocator + Copy>(
         (λ o. Tells sought o result) }
 {
     match bucket.mark() {
-        Mark::Vacant => match bucket.get(home, note) {
+        Mark::Unmarked => match bucket.get(home, note) {
             Some(entry) => look_at_entry(entry, sought),
             None => Look::Vacant,
         },

@@ -35,7 +35,7 @@ impl<T: AtomicValue, A: Allocator + Copy> Model for IntoIter<T, A> {
 
 impl<T: AtomicValue, A: Allocator + Copy> IntoIter<T, A> {
     /// Returns an iterator over the values that buckets of these generations own: first the current one, then those in the vector, then
-    /// those in blocks. Allocates nothing.
+    /// those in blocks. `left` is the number of these values. Allocates nothing.
     pub fn of_generations(
         closed: Closed,
         current: Generation<T, A>,

@@ -89,10 +89,10 @@ impl<T: AtomicValue, A: Low + Copy> LockFreeRawTable<T, A> {
     /// Publishes the generation that was built, which is the current one from then on. The caller holds all locks of the table.
     pub(crate) fn show(
         &self,
-        held: &OwnedLock<'_>,
+        _held: &OwnedLock<'_>,
         growth: Growth<'_, T, A>,
     ) -> Published<Generation<T, A>, A>
-        requires lock { held.now.home ≡ self.now.home }
+        requires lock { _held.now.home ≡ self.now.home }
         requires home { growth.home ≡ self.now.home }
         requires whole { PassedAll growth }
         ensures since { (result.latest ≡ self.now.latest) × IsSome result.since }
@@ -101,6 +101,7 @@ impl<T: AtomicValue, A: Low + Copy> LockFreeRawTable<T, A> {
             (IsSomeAnd result.holds (λ g. g.contents ≡ growth.entry.built))
             (λ g. g.contents ≡ growth.entry.built) }
     {
-        growth.show(held, &self.shown)
+        let (slot, block) = growth.into_block();
+        self.shown.publish(slot, &self.home, block)
     }
 }

@@ -65,10 +65,10 @@ impl<T, R> Carried<T, R> {
 
 /// The lock that a call holds.
 #[derive(Drop)]
-pub(crate) enum Held<'a> {
+pub(crate) enum HeldLock<'a> {
     Nothing,
     Shared(SharedLock<'a>),
-    Alone(OwnedLock<'a>),
+    Owned(OwnedLock<'a>),
 }
 
 /// The closures of an insert, and for contracts the value that was handed in.
@@ -84,12 +84,12 @@ pub(crate) struct Asking<T, E, H> {
 pub(crate) struct Inserting<'a, T: AtomicValue, A: Low + Copy, E, H> {
     pub(crate) table: &'a LockFreeRawTable<T, A>,
     pub(crate) state: CallState,
-    pub(crate) walked: Option<&'a Generation<T, A>>,
+    pub(crate) generation: Option<&'a Generation<T, A>>,
     pub(crate) growth: Option<Growth<'a, T, A>>,
     pub(crate) carried: Carried<T, &'a T::Target>,
-    pub(crate) held: Held<'a>,
+    pub(crate) held: HeldLock<'a>,
     pub(crate) asking: Asking<T, E, H>,
-    ghost between: { IsBetween table.now.home T.target asking.given.value state walked growth
+    ghost between: { IsBetween table.now.home T.target asking.given.value state generation growth
         carried held },
 }
 
@@ -100,7 +100,7 @@ impl<'a, T: AtomicValue, A: Low + Copy, E, H> Inserting<'a, T, A, E, H> {
         if self.state.phase != Phase::Placed {
             return;
         }
-        if let Held::Shared(guard) = &self.held {
+        if let HeldLock::Shared(guard) = &self.held {
             let _counted = self.table.count(guard, self.state);
         }
     }

@@ -12,7 +12,7 @@ ghost use Rattle.table_shared.specs.Inserts.{Answers};
 ghost use Rattle.table_shared.specs.Steps.{Steps, Stays, TellsAlone, Ends, TriesStep};
 
 use crate::growth::begin::Wanted;
-use crate::insert::between::{Carried, Held, Inserting};
+use crate::insert::between::{Carried, HeldLock, Inserting};
 use crate::probe::{Matched, Put, Read, Stepping};
 use crate::table::LockFreeRawTable;
 use std::mem;
@@ -28,7 +28,7 @@ where
     H: Fn(&T::Target) -> u64,
 {
     /// Takes the lock that the phase asks for.
-    fn take(&mut self, held: Held<'a>) -> Answer
+    fn take(&mut self, held: HeldLock<'a>) -> Answer
         requires wanted { Wants self.old.state.phase (lock_of held) }
         requires lock { ForSome (table_in held) (λ home. home ≡ self.old.table.now.home) }
         ensures { Steps E.Fn self.old result self.new }
@@ -44,8 +44,8 @@ where
         ensures { Steps E.Fn self.old result self.new }
     {
         let table: &'a LockFreeRawTable<T, A> = self.table;
-        let (walked, state, answer) = table.load(self.state);
-        self.walked = walked;
+        let (generation, state, answer) = table.load(self.state);
+        self.generation = generation;
         self.state = state;
         answer
     }
@@ -89,7 +89,7 @@ where
         ensures alone { TellsAlone E.Fn self.old result self.new }
     {
         let table: &'a LockFreeRawTable<T, A> = self.table;
-        let Some(generation) = self.walked else {
+        let Some(generation) = self.generation else {
             unreachable!()
         };
         let Carried::Value(value) = &self.carried else {
@@ -118,7 +118,7 @@ where
         ensures alone { result ≢ MemoryRefused → TellsAlone E.Fn self.old result self.new }
     {
         let table: &'a LockFreeRawTable<T, A> = self.table;
-        let Some(generation) = self.walked else {
+        let Some(generation) = self.generation else {
             unreachable!()
         };
         let Carried::Value(value) = mem::replace(&mut self.carried, Carried::Gone) else {
@@ -158,7 +158,7 @@ where
         requires phase { self.old.state.phase ≡ Placed }
         ensures { Steps E.Fn self.old result self.new }
     {
-        let Held::Shared(guard) = &self.held else {
+        let HeldLock::Shared(guard) = &self.held else {
             unreachable!()
         };
         self.state = self.table.count(guard, self.state);
@@ -181,7 +181,7 @@ where
         ensures { Steps E.Fn self.old result self.new }
     {
         let table: &'a LockFreeRawTable<T, A> = self.table;
-        let Held::Alone(held) = &self.held else {
+        let HeldLock::Owned(held) = &self.held else {
             unreachable!()
         };
         match table.begin(held) {
@@ -215,7 +215,7 @@ where
             self.state = step(self.state, Answer::Copied);
             return Answer::Copied;
         }
-        let Held::Alone(held) = &self.held else {
+        let HeldLock::Owned(held) = &self.held else {
             unreachable!()
         };
         let _published = self.table.show(held, growth);
@@ -232,7 +232,7 @@ where
         let Some(mut growth) = self.growth.take() else {
             unreachable!()
         };
-        let Held::Alone(held) = &self.held else {
+        let HeldLock::Owned(held) = &self.held else {
             unreachable!()
         };
         self.state = growth.copy_rest(held, self.state, &self.asking.hash_fn);
@@ -249,7 +249,7 @@ where
             _ => false,
         };
         let answer = released(self.state.phase, still_current);
-        self.held = Held::Nothing;
+        self.held = HeldLock::Nothing;
         self.state = step_released(self.state, still_current);
         answer
     }
@@ -289,8 +289,8 @@ where
         let hash = self.state.hash;
         match self.state.phase {
             Phase::Done => None,
-            Phase::WantShared => Some(self.take(Held::Shared(table.try_lock_shared(hash)?))),
-            Phase::WantOwned => Some(self.take(Held::Alone(table.try_own()?))),
+            Phase::WantShared => Some(self.take(HeldLock::Shared(table.try_lock_shared(hash)?))),
+            Phase::WantOwned => Some(self.take(HeldLock::Owned(table.try_own()?))),
             _ => Some(self.turn()),
         }
     }
@@ -305,8 +305,8 @@ where
         let table: &'a LockFreeRawTable<T, A> = self.table;
         let hash = self.state.hash;
         match self.state.phase {
-            Phase::WantShared => self.take(Held::Shared(table.lock_shared(rt, hash))),
-            Phase::WantOwned => self.take(Held::Alone(table.own(rt))),
+            Phase::WantShared => self.take(HeldLock::Shared(table.lock_shared(rt, hash))),
+            Phase::WantOwned => self.take(HeldLock::Owned(table.own(rt))),
             _ => self.turn(),
         }
     }

@@ -24,9 +24,9 @@ use table_generations::fixed::Generation;
 pub(crate) struct Looking<'a, T: AtomicValue, A: Allocator + Copy, F> {
     table: &'a LockFreeRawTable<T, A>,
     pub(crate) state: CallState,
-    walked: Option<&'a Generation<T, A>>,
+    generation: Option<&'a Generation<T, A>>,
     pub(crate) test: F,
-    ghost between: { IsLooking table.now.home state walked },
+    ghost between: { IsLooking table.now.home state generation },
 }
 
 impl<'a, T: AtomicValue, A: Allocator + Copy, F: Fn(&T::Target) -> bool> Looking<'a, T, A, F> {
@@ -37,7 +37,7 @@ impl<'a, T: AtomicValue, A: Allocator + Copy, F: Fn(&T::Target) -> bool> Looking
         Looking {
             table,
             state: CallState::lookup(hash),
-            walked: None,
+            generation: None,
             test,
         }
     }
@@ -50,8 +50,8 @@ impl<'a, T: AtomicValue, A: Allocator + Copy, F: Fn(&T::Target) -> bool> Looking
         ensures same { self.new.test ≡ self.old.test }
     {
         let table: &'a LockFreeRawTable<T, A> = self.table;
-        let (walked, state, answer) = table.load(self.state);
-        self.walked = walked;
+        let (generation, state, answer) = table.load(self.state);
+        self.generation = generation;
         self.state = state;
         answer
     }
@@ -64,13 +64,13 @@ impl<'a, T: AtomicValue, A: Allocator + Copy, F: Fn(&T::Target) -> bool> Looking
         ensures found { IfSome result.1 (λ r. (self.new.state.phase ≡ Done)
             × FnReturnsAt F.Fn self.old.test r.now true) }
         ensures tells { found_by result.1 ≡ reached_by self.new.state.outcome }
-        ensures alone { AtAlone self.old.walked self.old.state.index
+        ensures alone { AtAlone self.old.generation self.old.state.index
             (StepTells T.target (FnReturnsAt F.Fn self.old.test) (bits_of self.old.state.hash)
             result.0 result.1) }
         ensures same { self.new.test ≡ self.old.test }
     {
         let table: &'a LockFreeRawTable<T, A> = self.table;
-        let Some(generation) = self.walked else {
+        let Some(generation) = self.generation else {
             unreachable!()
         };
         let mut note = generation.note_at(self.state.index as usize);

@@ -2,12 +2,12 @@
 use logbook::{Gain, Plain, Play, Rule, Seen};
 use std::marker::PhantomData;
 
-/// An entry of the log. It is ghost: no value of it is made.
+/// An event of the log. It is ghost: no value of it is made.
 #[derive(Drop)]
 pub enum Event {
     /// This many slots were handed out, from the next one on.
     Taken(u64),
-    /// The second word was set, and names the returned slots from then on.
+    /// The word `back` was set, and names the returned slots from then on.
     Left(u64),
 }
 

@@ -36,7 +36,7 @@ fn look_at(home: &Home, bucket: &Bucket<u64, Global>) -> Seen
         None => 0,
     };
     match bucket.as_ref().mark() {
-        Mark::Vacant => Seen::Vacant,
+        Mark::Unmarked => Seen::Vacant,
         Mark::Own(bits) => Seen::Own(bits, value),
         Mark::Named(bits) => Seen::Named(bits, value),
     }

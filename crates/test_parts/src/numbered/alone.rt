@@ -25,8 +25,8 @@ fn assert_calls(
 /// Calls of a generation of eight buckets. An insert that finds its value returns the slot, which the next value takes. Numbers 4 to 7 have
 /// one mark.
 const EIGHT: [Row; 15] = [
-    (By::Judge, 0, CallEnd::Vacant),
-    (By::Judge, u64::MAX, CallEnd::Vacant),
+    (By::Probe, 0, CallEnd::Vacant),
+    (By::Probe, u64::MAX, CallEnd::Vacant),
     (By::Show, 5, CallEnd::Missed),
     (By::Put, 5, CallEnd::Placed(0)),
     (By::PutOrNext, 5, CallEnd::Placed(1)),
@@ -36,10 +36,10 @@ const EIGHT: [Row; 15] = [
     (By::Put, 4, CallEnd::Placed(2)),
     (By::Put, 1, CallEnd::Placed(3)),
     (By::Put, 6, CallEnd::Found(1)),
-    (By::Judge, 4, CallEnd::Found(2)),
-    (By::Judge, 6, CallEnd::Found(1)),
-    (By::Judge, 1, CallEnd::Found(3)),
-    (By::Judge, 7, CallEnd::Vacant),
+    (By::Probe, 4, CallEnd::Found(2)),
+    (By::Probe, 6, CallEnd::Found(1)),
+    (By::Probe, 1, CallEnd::Found(3)),
+    (By::Probe, 7, CallEnd::Vacant),
 ];
 
 #[test]
@@ -54,7 +54,7 @@ const TWO: [Row; 6] = [
     (By::Put, 2, CallEnd::Placed(1)),
     (By::Put, 9, CallEnd::Full),
     (By::Put, 1, CallEnd::Found(0)),
-    (By::Judge, 9, CallEnd::Spent),
+    (By::Probe, 9, CallEnd::Full),
     (By::Show, 9, CallEnd::Missed),
 ];
 

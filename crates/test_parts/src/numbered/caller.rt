@@ -8,7 +8,7 @@ use crate::same::assert_same;
 use std::alloc::AllocError;
 use std::process::Abort;
 use table_cell::Low;
-use table_numbered::{Judged, NumberedGeneration, Placing, SameAs};
+use table_numbered::{NumberedGeneration, Placing, ProbeEnd, SameAs};
 use table_slab::{Right, Run, Slab};
 
 /// The call that a row makes with its number.
@@ -19,7 +19,7 @@ pub(crate) enum By {
     /// Places the number. If it is returned, places the number after it in the slot that was returned.
     PutOrNext,
     /// Probes for the number.
-    Judge,
+    Probe,
     /// Looks the number up, and reads the entry once more by the number of its slot.
     Show,
     /// Asks whether an entry has this number.
@@ -34,7 +34,6 @@ pub(crate) enum CallEnd {
     Full,
     NoSlot,
     Vacant,
-    Spent,
     Shown(u64),
     Missed,
     Has(bool),
@@ -118,13 +117,13 @@ impl<'a, A: Low + Copy> Numbers<'a, A> {
     }
 
     /// Probes for the number.
-    pub(crate) fn judge(&self, number: u64) -> CallEnd {
+    pub(crate) fn probe(&self, number: u64) -> CallEnd {
         let mut seen = self.set.start();
         let sought = SameAs { target: &number };
-        match self.set.judge(self.slab, &mut seen, &sought) {
-            Judged::Found(slot, _entry) => CallEnd::Found(slot),
-            Judged::Vacant => CallEnd::Vacant,
-            Judged::Spent => CallEnd::Spent,
+        match self.set.probe(self.slab, &mut seen, &sought) {
+            ProbeEnd::Found(slot, _entry) => CallEnd::Found(slot),
+            ProbeEnd::Vacant => CallEnd::Vacant,
+            ProbeEnd::Full => CallEnd::Full,
         }
     }
 
@@ -143,7 +142,7 @@ impl<'a, A: Low + Copy> Numbers<'a, A> {
         match by {
             By::Put => self.put(number),
             By::PutOrNext => self.put_or_next(number),
-            By::Judge => self.judge(number),
+            By::Probe => self.probe(number),
             By::Show => self.show(number),
             By::Has => CallEnd::Has(self.set.has_number(&mut self.set.start(), number)),
         }

@@ -22,7 +22,7 @@ const BEFORE: [Row; 9] = [
     (By::Has, u64::MAX, CallEnd::Has(false)),
     (By::Put, 9, CallEnd::Placed(2)),
     (By::Has, 2, CallEnd::Has(true)),
-    (By::Judge, 6, CallEnd::Vacant),
+    (By::Probe, 6, CallEnd::Vacant),
 ];
 
 /// The next generation has each entry by its number. A new number is placed there.
@@ -31,10 +31,10 @@ const NEXT: [Row; 12] = [
     (By::Has, 1, CallEnd::Has(true)),
     (By::Has, 2, CallEnd::Has(true)),
     (By::Has, 3, CallEnd::Has(false)),
-    (By::Judge, 4, CallEnd::Found(0)),
-    (By::Judge, 5, CallEnd::Found(1)),
-    (By::Judge, 9, CallEnd::Found(2)),
-    (By::Judge, 6, CallEnd::Vacant),
+    (By::Probe, 4, CallEnd::Found(0)),
+    (By::Probe, 5, CallEnd::Found(1)),
+    (By::Probe, 9, CallEnd::Found(2)),
+    (By::Probe, 6, CallEnd::Vacant),
     (By::Put, 6, CallEnd::Placed(3)),
     (By::Has, 3, CallEnd::Has(true)),
     (By::Has, u64::MAX, CallEnd::Has(false)),
@@ -43,8 +43,8 @@ const NEXT: [Row; 12] = [
 
 /// The old generation finds its entries, and takes no new one.
 const CLOSED: [Row; 4] = [
-    (By::Judge, 5, CallEnd::Found(1)),
-    (By::Judge, 6, CallEnd::Spent),
+    (By::Probe, 5, CallEnd::Found(1)),
+    (By::Probe, 6, CallEnd::Full),
     (By::Put, 6, CallEnd::Full),
     (By::Show, 6, CallEnd::Missed),
 ];

@@ -26,7 +26,7 @@ fn story(heap: &Refusing<Global>) -> Option<CallEnd> {
         set: &next,
         slab: &slab,
     };
-    Some(new.judge(1))
+    Some(new.probe(1))
 }
 
 /// How many requests are granted before one is refused, and what `story` then returns. A slab makes two requests, for its cells and for

@@ -65,7 +65,8 @@ fn assert_once(
     assert_same(rt, met, pairs.len());
 }
 
-/// Asserts that a walk returns each text once that was known when it began, and no other text twice. `Err`: no memory.
+/// Asserts that a walk returns each text once that was known when it began, and no other text twice, and that a walk of the interner then
+/// returns each text. `Err`: no memory.
 fn assert_walk(
     rt: &impl Abort,
     alloc: Global,
@@ -76,6 +77,11 @@ fn assert_walk(
     let pairs = walked(rt, alloc, interner, texts, known)?;
     let symbols = symbols_of(alloc, interner, texts)?;
     assert_once(rt, pairs.as_slice(), texts, symbols.as_slice(), known);
+    let mut all = Vec::new(alloc);
+    for pair in interner.iter() {
+        all.push(pair)?;
+    }
+    assert_once(rt, all.as_slice(), texts, symbols.as_slice(), texts.len());
     Ok(())
 }
 

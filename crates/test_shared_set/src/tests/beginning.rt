@@ -3,7 +3,10 @@ use super::caller::{
     Numbers, Tally, assert_has, assert_none_out, assert_same, counted, fill, set_with,
 };
 use shared_set::Settled;
+use std::alloc::{AllocError, Global};
 use std::process::Abort;
+use std::test::Fail;
+use testkit::counting::numbers::count_first;
 
 /// How many numbers the set has at each call of `begin_with`. It grows in between.
 const COUNTS: [u64; 5] = [0, 1, 5, 300, 2000];
@@ -27,14 +30,32 @@ fn assert_begins(rt: &impl Abort, set: &Numbers<'_>, end: u64) {
     assert_same(rt, (set.contains(&end), set.len()), (false, end));
 }
 
+/// Asserts that a walk over the set returns each number below `end` once, with the number by which it is found. `Err`: no memory.
+fn assert_walked(
+    rt: &impl Abort,
+    alloc: Global,
+    set: &Numbers<'_>,
+    end: u64,
+) -> Result<(), AllocError> {
+    let mut values = Vec::new(alloc);
+    for (number, value) in set.iter() {
+        assert_same(rt, set.entry(number), Some(value));
+        values.push(*value)?;
+    }
+    assert_same(rt, count_first(values), (end, end));
+    assert_same(rt, set.entry(u64::MAX), None);
+    Ok(())
+}
+
 #[test]
-fn new_handles_find_what_they_begin_with(rt: HostRuntime) {
+fn new_handles_find_what_they_begin_with(rt: HostRuntime) -> Result<(), Fail> {
     let heap = counted(rt.alloc());
     let mut set = set_with(&rt, &heap, 0);
     let mut from = 0;
     for end in COUNTS {
         begin(&rt, &mut set, from, end);
         assert_begins(&rt, &set, end);
+        assert_walked(&rt, rt.alloc(), &set, end)?;
         from = end;
     }
     let account = set.account();
@@ -43,4 +64,5 @@ fn new_handles_find_what_they_begin_with(rt: HostRuntime) {
         Settled::More(values) => assert_same(&rt, values.len() as u64, from),
     }
     assert_none_out(&rt, &heap);
+    Ok(())
 }

@@ -66,6 +66,22 @@ pub(crate) fn seek_or_insert(
     ended(answer, value)
 }
 
+/// Gets the entry that meets the key, or inserts the value if one is given. Returns how the call ended, with the entry's number; `Err` if no
+/// value was made.
+pub(crate) fn try_to_insert(
+    handle: &mut Numbering<'_, '_>,
+    key: u32,
+    value: Option<u64>,
+) -> Result<(InsertEnd, Option<u64>), u32> {
+    let made = value.ok_or(key);
+    let answer = handle.get_or_try_insert_with(&Short { number: key }, || made)?;
+    Ok(match answer.entry() {
+        Ok((number, entry)) if *entry == u64::from(key) => (InsertEnd::Found, Some(number)),
+        Ok(_) => (InsertEnd::Wrong, None),
+        Err(_value) => (InsertEnd::Refused, None),
+    })
+}
+
 /// How many keys are placed first.
 const MANY: u64 = 1000;
 
@@ -124,4 +140,30 @@ fn a_target_may_be_the_key(rt: HostRuntime) {
         heap.refuse(0, refused);
         assert_same(&rt, seek_or_insert(&mut handle, 7), expected);
     }
+}
+
+/// Keys, the values to insert if any is made, how many requests are refused, and how the call ends.
+const TRIES: [(u32, Option<u64>, u64, Result<(InsertEnd, Option<u64>), u32>); 6] = [
+    (7, None, 0, Err(7)),
+    (7, Some(7), 1, Ok((InsertEnd::Refused, None))),
+    (7, None, 0, Err(7)),
+    (7, Some(7), 0, Ok((InsertEnd::Found, Some(0)))),
+    (7, None, u64::MAX, Ok((InsertEnd::Found, Some(0)))),
+    (8, None, u64::MAX, Err(8)),
+];
+
+/// Checks that nothing is inserted if no value is made, and that an entry that meets the key is found without memory and without a value.
+#[test]
+fn a_value_may_fail_to_be_made(rt: HostRuntime) {
+    let heap = counted(rt.alloc());
+    let set = set_with(&rt, &heap, 0);
+    let mut handle = set.handle();
+    for (key, value, refused, expected) in TRIES {
+        heap.refuse(0, refused);
+        assert_same(&rt, try_to_insert(&mut handle, key, value), expected);
+    }
+    assert_same(&rt, set.get_by_key(&Short { number: 7 }), Some(&7));
+    assert_same(&rt, set.get_by_key(&Short { number: 8 }), None);
+    drop(handle);
+    assert_same(&rt, set.len(), 1);
 }

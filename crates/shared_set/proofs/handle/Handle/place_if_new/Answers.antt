@@ -6,79 +6,79 @@ use Rattle.shared_set.proofs.Keeping.{one_set, knows_trans, at_shown, at_more}
 use Rattle.shared_set.proofs.Placing.{knows_longer, bucket_in, no_bucket_in, here_after}
 use Rattle.shared_set.proofs.handle.Handle.place_if_new.Goals as goal
 
-pub judge-requires-clause-slab : goal.judge-requires-clause-slab
-judge-requires-clause-slab g c = let i = c.self.invariant in let k = c.self.inside.cursor in let s = c.self.inside.stage.now in
+pub probe-requires-clause-slab : goal.probe-requires-clause-slab
+probe-requires-clause-slab g c = let i = c.self.invariant in let k = c.self.inside.cursor in let s = c.self.inside.stage.now in
     ap (λ (x : SharedView). x.slab) (one_set c.set.view_is)
     ∙ (sym (at_shown g.L.Law.same g.L.Law.hash_of c.self.inside.set.now.of k.slot k.stages.book k.stages.names k.stages.log k.entries.book k.entries.names k.entries.log s i.shown i.at).0
     ∙ ap (λ (v : GenerationView g.row.V.Denot). v.of.slab) (sym c.generation-generation.ensures))
 
-pub judge-requires-clause-of : goal.judge-requires-clause-of
-judge-requires-clause-of g c = let i = c.self.invariant in let k = c.self.inside.cursor in let s = c.self.inside.stage.now in
+pub probe-requires-clause-of : goal.probe-requires-clause-of
+probe-requires-clause-of g c = let i = c.self.invariant in let k = c.self.inside.cursor in let s = c.self.inside.stage.now in
     subst (λ (v : GenerationView g.row.V.Denot). IsOf g.L.Law.same g.L.Law.hash_of v.of k.entries.book k.entries.names k.entries.log) (sym c.generation-generation.ensures)
     (at_shown g.L.Law.same g.L.Law.hash_of c.self.inside.set.now.of k.slot k.stages.book k.stages.names k.stages.log k.entries.book k.entries.names k.entries.log s i.shown i.at).1
 
 pub invariant_of-self : goal.invariant_of-self
-invariant_of-self g c = let i = c.self.invariant in let k = c.self.inside.cursor in let s = c.self.inside.stage.now in let n = c.judge.new.seen in record {
+invariant_of-self g c = let i = c.self.invariant in let k = c.self.inside.cursor in let s = c.self.inside.stage.now in let n = c.probe.new.seen in record {
   at = at_more g.L.Law.same g.L.Law.hash_of c.self.inside.set.now.of k.slot k.stages.book k.stages.names k.stages.log k.entries.book k.entries.names k.entries.log n.book n.names n.log s i.shown
-      (subst (λ (v : GenerationView g.row.V.Denot). IsOf g.L.Law.same g.L.Law.hash_of v.of n.book n.names n.log) c.generation-generation.ensures c.judge.ensures.of) i.at;
+      (subst (λ (v : GenerationView g.row.V.Denot). IsOf g.L.Law.same g.L.Law.hash_of v.of n.book n.names n.log) c.generation-generation.ensures c.probe.ensures.of) i.at;
   shown = i.shown;
   supply = i.supply;
 }
 
-pub invariant_of-self-in-Spent : goal.invariant_of-self-in-Spent
-invariant_of-self-in-Spent g c = let i = c.self.invariant in let k = c.self.inside.cursor in let s = c.self.inside.stage.now in let n = c.judge.new.seen in record {
+pub invariant_of-self-in-Full : goal.invariant_of-self-in-Full
+invariant_of-self-in-Full g c = let i = c.self.invariant in let k = c.self.inside.cursor in let s = c.self.inside.stage.now in let n = c.probe.new.seen in record {
   at = at_more g.L.Law.same g.L.Law.hash_of c.self.inside.set.now.of k.slot k.stages.book k.stages.names k.stages.log k.entries.book k.entries.names k.entries.log n.book n.names n.log s i.shown
-      (subst (λ (v : GenerationView g.row.V.Denot). IsOf g.L.Law.same g.L.Law.hash_of v.of n.book n.names n.log) c.generation-generation.ensures c.judge.ensures.of) i.at;
+      (subst (λ (v : GenerationView g.row.V.Denot). IsOf g.L.Law.same g.L.Law.hash_of v.of n.book n.names n.log) c.generation-generation.ensures c.probe.ensures.of) i.at;
   shown = i.shown;
   supply = i.supply;
 }
 
 pub invariant_of-self-in-Ok : goal.invariant_of-self-in-Ok
-invariant_of-self-in-Ok g c = let i = c.self.invariant in let k = c.self.inside.cursor in let s = c.self.inside.stage.now in let n = c.judge.new.seen in record {
+invariant_of-self-in-Ok g c = let i = c.self.invariant in let k = c.self.inside.cursor in let s = c.self.inside.stage.now in let n = c.probe.new.seen in record {
   at = at_more g.L.Law.same g.L.Law.hash_of c.self.inside.set.now.of k.slot k.stages.book k.stages.names k.stages.log k.entries.book k.entries.names k.entries.log n.book n.names n.log s i.shown
-      (subst (λ (v : GenerationView g.row.V.Denot). IsOf g.L.Law.same g.L.Law.hash_of v.of n.book n.names n.log) c.generation-generation.ensures c.judge.ensures.of) i.at;
+      (subst (λ (v : GenerationView g.row.V.Denot). IsOf g.L.Law.same g.L.Law.hash_of v.of n.book n.names n.log) c.generation-generation.ensures c.probe.ensures.of) i.at;
   shown = i.shown;
   supply = subst (λ (x : SharedView). IsSupplyOf x.slab c.fetch.new.self) (one_set c.set.view_is) c.fetch.ensures.rest;
 }
 
 pub invariant_of-self-in-Err : goal.invariant_of-self-in-Err
-invariant_of-self-in-Err g c = let i = c.self.invariant in let k = c.self.inside.cursor in let s = c.self.inside.stage.now in let n = c.judge.new.seen in record {
+invariant_of-self-in-Err g c = let i = c.self.invariant in let k = c.self.inside.cursor in let s = c.self.inside.stage.now in let n = c.probe.new.seen in record {
   at = at_more g.L.Law.same g.L.Law.hash_of c.self.inside.set.now.of k.slot k.stages.book k.stages.names k.stages.log k.entries.book k.entries.names k.entries.log n.book n.names n.log s i.shown
-      (subst (λ (v : GenerationView g.row.V.Denot). IsOf g.L.Law.same g.L.Law.hash_of v.of n.book n.names n.log) c.generation-generation.ensures c.judge.ensures.of) i.at;
+      (subst (λ (v : GenerationView g.row.V.Denot). IsOf g.L.Law.same g.L.Law.hash_of v.of n.book n.names n.log) c.generation-generation.ensures c.probe.ensures.of) i.at;
   shown = i.shown;
   supply = subst (λ (x : SharedView). IsSupplyOf x.slab c.fetch.new.self) (one_set c.set.view_is) c.fetch.ensures.rest;
 }
 
 pub returns-in-Found-clause-known : goal.returns-in-Found-clause-known
-returns-in-Found-clause-known g c = knows_longer c.self.inside.set.now.of c.args.self.now c.self.inside.cursor.entries.log c.judge.new.seen.log c.self.view_is c.judge.ensures.longer
+returns-in-Found-clause-known g c = knows_longer c.self.inside.set.now.of c.args.self.now c.self.inside.cursor.entries.log c.probe.new.seen.log c.self.view_is c.probe.ensures.longer
 
 pub returns-in-Found-clause-told : goal.returns-in-Found-clause-told
-returns-in-Found-clause-told g c = (refl, c.in-Found.ensures.judges)
+returns-in-Found-clause-told g c = (refl, c.in-Found.ensures.tells)
 
-pub returns-in-Spent-clause-known : goal.returns-in-Spent-clause-known
-returns-in-Spent-clause-known g c = knows_longer c.self.inside.set.now.of c.args.self.now c.self.inside.cursor.entries.log c.judge.new.seen.log c.self.view_is c.judge.ensures.longer
+pub returns-in-Full-clause-known : goal.returns-in-Full-clause-known
+returns-in-Full-clause-known g c = knows_longer c.self.inside.set.now.of c.args.self.now c.self.inside.cursor.entries.log c.probe.new.seen.log c.self.view_is c.probe.ensures.longer
 
-pub returns-in-Spent-clause-told : goal.returns-in-Spent-clause-told
-returns-in-Spent-clause-told g c = (
+pub returns-in-Full-clause-told : goal.returns-in-Full-clause-told
+returns-in-Full-clause-told g c = (
   refl,
-  c.in-Spent.ensures.judges,
-  no_bucket_in g.L.Law.same g.L.Law.hash_of c.generation-generation.result.now.of.size c.args.value c.judge.new.seen.log c.judge.ensures.of.2 c.in-Spent.ensures.ends,
+  c.in-Full.ensures.tells,
+  no_bucket_in g.L.Law.same g.L.Law.hash_of c.generation-generation.result.now.of.size c.args.value c.probe.new.seen.log c.probe.ensures.of.2 c.in-Full.ensures.ends,
 )
 
 pub returns-in-Err-clause-known : goal.returns-in-Err-clause-known
-returns-in-Err-clause-known g c = knows_longer c.self.inside.set.now.of c.args.self.now c.self.inside.cursor.entries.log c.judge.new.seen.log c.self.view_is c.judge.ensures.longer
+returns-in-Err-clause-known g c = knows_longer c.self.inside.set.now.of c.args.self.now c.self.inside.cursor.entries.log c.probe.new.seen.log c.self.view_is c.probe.ensures.longer
 
 pub returns-in-Err-clause-told : goal.returns-in-Err-clause-told
 returns-in-Err-clause-told g c = (
   refl,
-  c.in-Vacant.ensures.judges,
-  bucket_in g.L.Law.same g.L.Law.hash_of c.generation-generation.result.now.of.size c.args.value c.judge.new.seen.log c.judge.ensures.of.2 c.in-Vacant.ensures.ends,
+  c.in-Vacant.ensures.tells,
+  bucket_in g.L.Law.same g.L.Law.hash_of c.generation-generation.result.now.of.size c.args.value c.probe.new.seen.log c.probe.ensures.of.2 c.in-Vacant.ensures.ends,
 )
 
 pub returns-in-Ok-clause-known : goal.returns-in-Ok-clause-known
-returns-in-Ok-clause-known g c = knows_trans c.args.self.now (known_view c.self.inside.set.now.of c.judge.new.seen.log) c.place.new.self
-    (knows_longer c.self.inside.set.now.of c.args.self.now c.self.inside.cursor.entries.log c.judge.new.seen.log c.self.view_is c.judge.ensures.longer) c.place.ensures.known
+returns-in-Ok-clause-known g c = knows_trans c.args.self.now (known_view c.self.inside.set.now.of c.probe.new.seen.log) c.place.new.self
+    (knows_longer c.self.inside.set.now.of c.args.self.now c.self.inside.cursor.entries.log c.probe.new.seen.log c.self.view_is c.probe.ensures.longer) c.place.ensures.known
 
 pub returns-in-Ok-clause-told : goal.returns-in-Ok-clause-told
-returns-in-Ok-clause-told g c = here_after g.L.Law.same g.L.Law.hash_of c.place.result c.args.value c.args.value c.args.self.now.history c.judge.new.seen.log c.place.new.self.history refl
-    (knows_longer c.self.inside.set.now.of c.args.self.now c.self.inside.cursor.entries.log c.judge.new.seen.log c.self.view_is c.judge.ensures.longer).1 c.place.ensures.told
+returns-in-Ok-clause-told g c = here_after g.L.Law.same g.L.Law.hash_of c.place.result c.args.value c.args.value c.args.self.now.history c.probe.new.seen.log c.place.new.self.history refl
+    (knows_longer c.self.inside.set.now.of c.args.self.now c.self.inside.cursor.entries.log c.probe.new.seen.log c.self.view_is c.probe.ensures.longer).1 c.place.ensures.told

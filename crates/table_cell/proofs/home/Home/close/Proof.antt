@@ -17,7 +17,7 @@ use denote.Triple.Walked.{Stays, stay_dropped, ends_at}
 use Rattle.core.proofs.alloc.Calls.{Goes-blank}
 use Rattle.std.proofs.raw_atomic.Walks.{proved_at}
 use Rattle.table_cell.proofs.Walks.{begins}
-use Rattle.table_cell.proofs.Tokens.{token, InMemory, mark_of_nothing, beside_mark}
+use Rattle.table_cell.proofs.Tokens.{token, InMemory, marker_of_nothing, beside_mark}
 use Rattle.table_cell.specs.contracts.home.Home as home
 use Rattle.table_cell.specs.contracts.home.Home.close as f
 use Rattle.table_cell.proofs.home.Home.close.Statement.{statement}
@@ -33,8 +33,8 @@ close_spec 𝓤 𝓛 𝓜 𝓡 wired = let c = f.clauses 𝓛 𝓜.mem 𝓡.retu
     begins ! code.function (λ i. is i ++ []) $ alloc_all ! (λ l. pass_all ! refl ((tt, (tt, tt)), tt) $ lft_end ! tt $
     sets ! (of_opd ! (get_in ! (fld ! refl (stop !)) (sub ! 0 refl (whole !)))) refl (tt, tt) $
     sets ! (agg ! (and_then ! (get ! refl) (no_more !))) refl (tt, (tt, tt)) $ returns ! (look_at ! 0 refl) $ free_all ! refl $
-    suffices ! _ (ends_at 𝓛 f.ended ended c y token (record { mark = record {}; id = y.0.3.0.id }) (tt, tt) (tt, tt)) $
+    suffices ! _ (ends_at 𝓛 f.ended ended c y token (record { marker = record {}; id = y.0.3.0.id }) (tt, tt) (tt, tt)) $
     -- [that it has ended; nothing; the tokens; nothing]
-    use0 𝓛 (‵ (InMemory (token ∷ []))) (mark_of_nothing 𝓛) $ fjoin ! $ use0 𝓛 (raw (fact 𝓤 Same)) (fact_i 𝓤 Same (emp 𝓤) refl) $ nothing ! $ nothing ! $ fjoin ! $
+    use0 𝓛 (‵ (InMemory (token ∷ []))) (marker_of_nothing 𝓛) $ fjoin ! $ use0 𝓛 (raw (fact 𝓤 Same)) (fact_i 𝓤 Same (emp 𝓤) refl) $ nothing ! $ nothing ! $ fjoin ! $
     -- [nothing of a home; that the two are the same; that it has ended; nothing; the tokens]
     move ! (0 ∷ 2 ∷ []) $ join ! $ keep ! (3 ∷ 0 ∷ 1 ∷ []) $ join ! $ join ! $ done !)))

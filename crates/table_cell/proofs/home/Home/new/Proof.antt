@@ -9,7 +9,7 @@ use base.Fml.{ftrue}
 use denote.Triple.Entry.{alive}
 use denote.Triple.Walked.{ends_at}
 use Rattle.std.proofs.raw_atomic.Walks.{proved}
-use Rattle.table_cell.proofs.Tokens.{token, InMemory, mark_of_nothing}
+use Rattle.table_cell.proofs.Tokens.{token, InMemory, marker_of_nothing}
 use Rattle.table_cell.specs.contracts.home.Home.new as f
 use Rattle.table_cell.proofs.home.Home.new.Statement.{statement}
 use Rattle.table_cell.proofs.home.Home.new.Code as code
@@ -23,6 +23,6 @@ new_spec 𝓤 𝓛 𝓜 𝓡 wired = let c = f.clauses 𝓛 𝓜.mem 𝓡.return
     sets ! (agg ! (no_more !)) refl (tt, tt) $
     sets ! (agg ! (and_then ! (get ! refl) (no_more !))) refl (tt, (tt, tt)) $
     returns ! (look_at ! 0 refl) $ free_all ! refl $
-    suffices ! _ (ends_at 𝓛 f.ended tt c ((κs, qs, bounds, a, tt), asked) token (record { mark = record {}; id = life }) tt tt) $
+    suffices ! _ (ends_at 𝓛 f.ended tt c ((κs, qs, bounds, a, tt), asked) token (record { marker = record {}; id = life }) tt tt) $
     -- [the lifetime; the tokens, of no parameter; what is asked, which is nothing]
-    use0 𝓛 (‵ (InMemory (token ∷ []))) (mark_of_nothing 𝓛) $ fjoin ! $ move ! (1 ∷ []) $ split ! $ move ! (1 ∷ 2 ∷ []) $ join ! $ move ! (1 ∷ 0 ∷ []) $ join ! $ join ! $ done !)))
+    use0 𝓛 (‵ (InMemory (token ∷ []))) (marker_of_nothing 𝓛) $ fjoin ! $ move ! (1 ∷ []) $ split ! $ move ! (1 ∷ 2 ∷ []) $ join ! $ move ! (1 ∷ 0 ∷ []) $ join ! $ join ! $ done !)))

@@ -38,7 +38,7 @@ use Rattle.std.proofs.raw_atomic.Calls.{seq_cst, stored, has_stored}
 use Rattle.table_cell.specs.contracts.latest.Latest as latest
 use Rattle.table_cell.proofs.Lasts as lasts
 use Rattle.table_cell.proofs.Notes.{Note}
-use Rattle.table_cell.proofs.Tokens.{token, InMemory, mark_of_nothing}
+use Rattle.table_cell.proofs.Tokens.{token, InMemory, marker_of_nothing}
 use Rattle.table_cell.specs.contracts.latest.Latest.show.{ended, clauses}
 use Rattle.table_cell.specs.contracts.latest.Latest.show.Key.{name as #self}
 use Rattle.table_cell.proofs.latest.Latest.show.Statement.{statement}
@@ -93,11 +93,11 @@ show_spec 𝓤 𝓛 𝓜 𝓡 wired T A L LA f fd g d dd homed alloc glued =
     -- [the call; what is owed; κw's token; T's token; the other tokens; nothing]
     Calls-last ! (fm 𝓛 𝓜 𝓡) (stored ends) (and_then ! (get ! refl) (and_then ! (get ! refl) (and_then ! (get ! refl) (no_more !)))) (λ u. has_stored ! ends (
     lands_last ! refl (tt, tt) $ exec ! 𝓣.C 𝓣.Λ Ev (after 3 fn.body) (at_ret Ev Post) $ fsplit3 ! $ move ! (0 ∷ 1 ∷ 3 ∷ []) $ use3 𝓛 (later (‵ (flft κ q))) (comes_back 𝓛 𝓜 𝓡 κ α q r) $ await ! tt $
-    let new : (Note unit).Denot = record { mark = record {}; of = i; known = lasts.shown } in let Told : Type 0 = IsSome lasts.shown in
+    let new : (Note unit).Denot = record { marker = record {}; of = i; known = lasts.shown } in let Told : Type 0 = IsSome lasts.shown in
     -- [κ's token; what the new note knows; κw's token; T's token; the other tokens; nothing]
     move ! (3 ∷ 4 ∷ []) $ join ! $ move ! (3 ∷ 0 ∷ []) $ join ! $ move ! (1 ∷ 0 ∷ []) $ join ! $ move ! (1 ∷ []) $
     sets ! (agg ! (no_more !)) refl (tt, tt) $ sets ! (agg ! (and_then ! (get ! refl) (no_more !))) refl (tt, (tt, tt)) $
-    use0 𝓛 (‵ (InMemory (token ∷ []))) (mark_of_nothing 𝓛) $ fjoin ! $
+    use0 𝓛 (‵ (InMemory (token ∷ []))) (marker_of_nothing 𝓛) $ fjoin ! $
     use0 𝓛 (raw (fact 𝓤 Told)) (fact_i 𝓤 Told (emp 𝓤) refl) $ use0 𝓛 (raw (fact 𝓤 (i ≡ i))) (fact_i 𝓤 (i ≡ i) (emp 𝓤) refl) $ join ! $
     nothing ! $ nothing ! $ fjoin ! $ nothing ! $ fjoin ! $ nothing ! $ fjoin ! $
     returns ! (look_at ! 0 refl) $ free_all ! refl $ keep ! (3 ∷ 0 ∷ 2 ∷ 1 ∷ []) $ by ! (leaves 𝓛 En hs c z token new (tt, (tt, (tt, tt))) (tt, (tt, (tt, tt))))))))))))))))))

@@ -14,7 +14,7 @@ invariant_of-bucket g c = is_own c.args.bits c.of.result.from c.args.home.now.id
 pub put-requires-clause-vacant : goal.put-requires-clause-vacant
 put-requires-clause-vacant g c =
     let below = within_marks c.args.index c.self.invariant c.self.view_is c.requires.within in
-    rw (← c.self.view_is) (vacant_shows c.self.inside.marks.items c.self.inside.words.items c.args.index c.index.result.now c.self.invariant.marked below c.index.ensures c.in-Vacant.is)
+    rw (← c.self.view_is) (vacant_shows c.self.inside.marks.items c.self.inside.words.items c.args.index c.index.result.now c.self.invariant.marked below c.index.ensures c.in-Unmarked.is)
 
 pub put-requires-clause-lies : goal.put-requires-clause-lies
 put-requires-clause-lies g c = (
@@ -22,13 +22,13 @@ put-requires-clause-lies g c = (
   ap (λ w. w.from) c.own.ensures ∙ c.of.ensures.1 ∙ c.in-Ok.ensures.allocator ∙ ap (λ r. r.from) c.self.view_is,
 )
 
-pub returns-in-Vacant-clause-vacant : goal.returns-in-Vacant-clause-vacant
-returns-in-Vacant-clause-vacant g c =
+pub returns-in-Unmarked-clause-vacant : goal.returns-in-Unmarked-clause-vacant
+returns-in-Unmarked-clause-vacant g c =
     let below = within_marks c.args.index c.self.invariant c.self.view_is c.requires.within in
-    rw (← c.self.view_is) (vacant_shows c.self.inside.marks.items c.self.inside.words.items c.args.index c.index.result.now c.self.invariant.marked below c.index.ensures c.in-Vacant.is)
+    rw (← c.self.view_is) (vacant_shows c.self.inside.marks.items c.self.inside.words.items c.args.index c.index.result.now c.self.invariant.marked below c.index.ensures c.in-Unmarked.is)
 
-pub returns-in-Vacant-clause-placed : goal.returns-in-Vacant-clause-placed
-returns-in-Vacant-clause-placed g c =
+pub returns-in-Unmarked-clause-placed : goal.returns-in-Unmarked-clause-placed
+returns-in-Unmarked-clause-placed g c =
     let is : content_of (Own c.args.bits) c.own.result.value ≡ own c.of.result.value = ap (λ w. content_of (Own c.args.bits) w.value) c.own.ensures in
     c.put.ensures.put ∙ rw (is, c.of.ensures.0, c.in-Ok.ensures.ok) refl
 
@@ -38,6 +38,6 @@ returns-in_default-clause-refused g c =
       refl,
       (
         ap (λ e. e.value) (c.into_inner.ensures ∙ c.in-Ok.ensures.ok),
-        rw (← c.self.view_is) (set_shows c.self.inside.marks.items c.self.inside.words.items c.args.index c.index.result.now c.self.invariant.marked below c.index.ensures c.in_default.not-Vacant),
+        rw (← c.self.view_is) (set_shows c.self.inside.marks.items c.self.inside.words.items c.args.index c.index.result.now c.self.invariant.marked below c.index.ensures c.in_default.not-Unmarked),
       ),
     )

@@ -4,7 +4,7 @@ use Rattle.table_generations.proofs.fixed.shared.look_at_bucket.Goals as goal
 
 pub returns-in-Some-clause-seen : goal.returns-in-Some-clause-seen
 returns-in-Some-clause-seen g c =
-    let empty : c.args.bucket.now.content ≡ vacant = rw c.in-Vacant.is at c.mark.ensures in
+    let empty : c.args.bucket.now.content ≡ vacant = rw c.in-Unmarked.is at c.mark.ensures in
     let saw = rw empty at c.in-Some.ensures.shared in
     rw empty (record { alone = tt; shared = (rw (← saw.0) c.look_at_entry.ensures, saw.1) })
 

@@ -9,4 +9,4 @@ pub get-requires : goal.get-requires
 get-requires g c = subst (λ (s : SlabView). StandsAt s c.args.number c.known-standing.result) (c.requires.of.1 ∙ sym c.requires.slab) c.known-standing.ensures.of
 
 pub returns : goal.returns
-returns g c = record { stands = subst (λ (x : g.row.V.Denot). Stands c.args.seen.now.log c.args.index (numbered c.args.number x)) (sym c.get.ensures) c.known-standing.ensures.value }
+returns g c = record { stands = subst (λ (x : g.row.V.Denot). Stands c.args.seen.now.log c.args.index (numbered c.args.number x)) (sym c.get.ensures) c.known-standing.ensures.value; one = c.known-standing.ensures.one }

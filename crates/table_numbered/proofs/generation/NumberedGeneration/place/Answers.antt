@@ -52,7 +52,7 @@ returns-clause-full g c = (c.loop-claimed._claimed, c.loop-claimed.invariant.goe
 pub loop-claimed-preserved : goal.loop-claimed-preserved
 loop-claimed-preserved g c = let inv = c.loop-claimed.invariant in let e = c.claim.ensures in
     let told = claims_of g.L.Law.same g.L.Law.hash_of c.args.self.now.of.slab c.loop-claimed.coming.value c.args.value c.loop-claimed.coming.number c.args.number c.loop-claimed.index c.loop-claimed.seen.log c.claim.new.seen.log c.claim.result inv.coming.value inv.coming.number e.told in
-    let met = rw c.in-Passed.is at told in record {
+    let met = rw c.in-Differs.is at told in record {
       coming = met.0;
       of = e.of;
       longer = prefix_trans c.args.seen.now.log c.loop-claimed.seen.log c.claim.new.seen.log inv.longer e.longer;

@@ -1,7 +1,7 @@
 use Rattle.std.proofs.Common.{◌≡◌, ◌-◌, Some, None}
 use Rattle.table_core.specs.declared.call.Phase.TheVariants.{Probe}
 use Rattle.table_shared.specs.declared.insert.between.Carried.TheVariants.{Value}
-use Rattle.table_shared.specs.declared.insert.between.Held.TheVariants as held
+use Rattle.table_shared.specs.declared.insert.between.HeldLock.TheVariants as held
 use Rattle.table_shared.specs.Between.{IsBetween}
 use Rattle.table_shared.proofs.table.LockFreeRawTable.insert.Given as goal
 

@@ -4,7 +4,7 @@ use Rattle.table_core.specs.Calls.{stands_at_bucket}
 use Rattle.table_core.specs.declared.call.CallState.{CallState}
 use Rattle.table_core.specs.declared.call.Outcome.TheVariants.{New}
 use Rattle.table_shared.specs.declared.insert.between.Carried.{Carried}
-use Rattle.table_shared.specs.declared.insert.between.Held.TheVariants as held
+use Rattle.table_shared.specs.declared.insert.between.HeldLock.TheVariants as held
 use Rattle.table_shared.specs.Between.{Onward}
 use Rattle.table_shared.proofs.Between.{accepts, counts_value, has_back, passes, shares_on, spelt_out, wins, within}
 use Rattle.table_shared.proofs.table.LockFreeRawTable.place.Goals.{in-Refused, in-Passed, in-Met}

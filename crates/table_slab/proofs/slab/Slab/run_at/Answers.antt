@@ -7,9 +7,9 @@ use Rattle.table_slab.proofs.slab.Slab.run_at.Goals as goal
 pub returns-clause-of : goal.returns-clause-of
 returns-clause-of g c = λ some.
     let at : IsAt c.args.self.now.bits c.number_at.result c.args.place c.in-Some.handed.offset = subst (λ (b : ℕ). IsAt b c.number_at.result c.args.place c.in-Some.handed.offset) c.bits-2.ensures c.number_at.ensures.at in
-    let upto : c.used_len-len.result ≤ chunk_len c.args.self.now.bits c.args.place = subst (λ (b : ℕ). c.used_len-len.result ≤ chunk_len b c.args.place) c.bits.ensures c.used_len-len.ensures.within in
-    let small : (n o : ℕ) → IsAt c.args.self.now.bits n c.args.place o → o < c.used_len-len.result → IsSmall n = subst (λ (b : ℕ). (n o : ℕ) → IsAt b n c.args.place o → o < c.used_len-len.result → IsSmall n) c.bits.ensures c.used_len-len.ensures.small in
-    let within : c.in-Some.handed.offset + c.in-Some.handed.count ≤ c.used_len-len.result = omega (arith, c.in-Some.ensures.within) in
+    let upto : c.usable_len-len.result ≤ chunk_len c.args.self.now.bits c.args.place = subst (λ (b : ℕ). c.usable_len-len.result ≤ chunk_len b c.args.place) c.bits.ensures c.usable_len-len.ensures.within in
+    let small : (n o : ℕ) → IsAt c.args.self.now.bits n c.args.place o → o < c.usable_len-len.result → IsSmall n = subst (λ (b : ℕ). (n o : ℕ) → IsAt b n c.args.place o → o < c.usable_len-len.result → IsSmall n) c.bits.ensures c.usable_len-len.ensures.small in
+    let within : c.in-Some.handed.offset + c.in-Some.handed.count ≤ c.usable_len-len.result = omega (arith, c.in-Some.ensures.within) in
     record {
       site = c.in_ok-site.site;
       offset = c.in-Some.handed.offset;

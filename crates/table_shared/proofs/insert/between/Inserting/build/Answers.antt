@@ -12,7 +12,7 @@ unreachable-requires g c = c.args.self.now.between.builds c.requires.phase (sym 
 
 pub show-published-requires : goal.show-published-requires
 show-published-requires g c = record {
-  lock = c.args.self.now.between.of_table c.in-Alone.held.home (ap table_in c.in-Alone.is);
+  lock = c.args.self.now.between.of_table c.in-Owned.held.home (ap table_in c.in-Owned.is);
   home = c.copy_next.ensures.home ∙ c.args.self.now.between.grows c.in-Some.growth (sym c.in-Some.ensures.value);
   whole = (rw c.if-copy_next.false at c.copy_next.ensures.copies).1;
 }

@@ -45,4 +45,4 @@ pub returns-in-Begun : goal.returns-in-Begun
 returns-in-Begun g c = carries_on g.E.Fn _ _ _ c.step-self-in-Begun.ensures.went (carries c.args.self.now.between Owned c.requires.phase refl) refl refl
 
 pub begin-requires : goal.begin-requires
-begin-requires g c = record { lock = c.args.self.now.between.of_table c.in-Alone.held.home (ap table_in c.in-Alone.is) }
+begin-requires g c = record { lock = c.args.self.now.between.of_table c.in-Owned.held.home (ap table_in c.in-Owned.is) }

@@ -8,4 +8,4 @@ unreachable-requires g c = c.args.self.now.between.builds c.requires.phase (sym 
 pub copy_rest-self-requires-clause-lock : goal.copy_rest-self-requires-clause-lock
 copy_rest-self-requires-clause-lock g c =
     let b = c.args.self.now.between in
-    b.of_table c.in-Alone.held.home (ap table_in c.in-Alone.is) ∙ sym (b.grows c.in-Some.growth (sym c.in-Some.ensures.value))
+    b.of_table c.in-Owned.held.home (ap table_in c.in-Owned.is) ∙ sym (b.grows c.in-Some.growth (sym c.in-Some.ensures.value))

@@ -74,7 +74,7 @@ pub returns-in-Won-clause-steps : goal.returns-in-Won-clause-steps
 returns-in-Won-clause-steps g c = steps_unmet g.E.Fn _ _ _ c.in-Won.ensures.puts.0 (λ e. absurd (cc)) refl (ap met_in (sym c.in-Value.ensures.value)) tt
 
 pub returns-in-Won-clause-alone : goal.returns-in-Won-clause-alone
-returns-in-Won-clause-alone g c = λ _. at_vacant c.args.self.now.walked c.in-Some.generation c.args.self.now.state.index c.in-Some.is _ c.in-Won.ensures.tells.0
+returns-in-Won-clause-alone g c = λ _. at_vacant c.args.self.now.generation c.in-Some.generation c.args.self.now.state.index c.in-Some.is _ c.in-Won.ensures.tells.0
 
 pub returns-in-Refused-clause-steps : goal.returns-in-Refused-clause-steps
 returns-in-Refused-clause-steps g c = steps_unmet g.E.Fn _ _ _ c.in-Refused.ensures.puts.0 (λ e. absurd (cc)) refl (ap met_in (sym c.in-Value.ensures.value)) tt
@@ -88,7 +88,7 @@ returns-in-Passed-clause-steps g c = steps_again g.E.Fn c.args.self.now _ _ _ re
 pub returns-in-Passed-clause-alone : goal.returns-in-Passed-clause-alone
 returns-in-Passed-clause-alone g c =
     let i = c.args.self.now in
-    λ _. rw c.pass.ensures.answer (passed_given i.walked c.in-Some.generation i.state.index c.in-Some.is g.T.AtomicValue.target g.E.Fn i.asking.eq c.in-Value.value i.asking.given.value (i.between.stems c.in-Value.value (ap value_in (sym c.in-Value.ensures.value))) (bits_of i.state.hash) _ _ c.in-Passed.asked (met_in c.pass.new.self.carried) c.in-Passed.ensures.tells)
+    λ _. rw c.pass.ensures.answer (passed_given i.generation c.in-Some.generation i.state.index c.in-Some.is g.T.AtomicValue.target g.E.Fn i.asking.eq c.in-Value.value i.asking.given.value (i.between.stems c.in-Value.value (ap value_in (sym c.in-Value.ensures.value))) (bits_of i.state.hash) _ _ c.in-Passed.asked (met_in c.pass.new.self.carried) c.in-Passed.ensures.tells)
 
 pub returns-in-Met-clause-steps : goal.returns-in-Met-clause-steps
 returns-in-Met-clause-steps g c = steps_again g.E.Fn c.args.self.now _ _ _ refl refl (ap (λ v. Value v) c.in-Met.ensures.puts.2 ∙ c.in-Value.ensures.value) c.keep.ensures.steps
@@ -96,4 +96,4 @@ returns-in-Met-clause-steps g c = steps_again g.E.Fn c.args.self.now _ _ _ refl 
 pub returns-in-Met-clause-alone : goal.returns-in-Met-clause-alone
 returns-in-Met-clause-alone g c =
     let i = c.args.self.now in
-    λ _. rw (c.keep.ensures.answer, c.keep.ensures.kept) (accepted_given i.walked c.in-Some.generation i.state.index c.in-Some.is g.T.AtomicValue.target g.E.Fn i.asking.eq c.in-Value.value i.asking.given.value (i.between.stems c.in-Value.value (ap value_in (sym c.in-Value.ensures.value))) (bits_of i.state.hash) _ _ c.in-Met.target c.in-Met.ensures.tells)
+    λ _. rw (c.keep.ensures.answer, c.keep.ensures.kept) (accepted_given i.generation c.in-Some.generation i.state.index c.in-Some.is g.T.AtomicValue.target g.E.Fn i.asking.eq c.in-Value.value i.asking.given.value (i.between.stems c.in-Value.value (ap value_in (sym c.in-Value.ensures.value))) (bits_of i.state.hash) _ _ c.in-Met.target c.in-Met.ensures.tells)

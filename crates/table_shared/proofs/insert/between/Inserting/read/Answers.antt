@@ -60,14 +60,14 @@ pub returns-in-Empty-clause-steps : goal.returns-in-Empty-clause-steps
 returns-in-Empty-clause-steps g c = carries_on g.E.Fn _ _ _ c.in-Empty.ensures.reads.went (carries c.args.self.now.between Probe c.requires.phase refl) refl refl
 
 pub returns-in-Empty-clause-alone : goal.returns-in-Empty-clause-alone
-returns-in-Empty-clause-alone g c = at_empty c.args.self.now.walked c.in-Some.generation c.args.self.now.state.index c.in-Some.is _ _ _ c.in-Empty.ensures.seen
+returns-in-Empty-clause-alone g c = at_empty c.args.self.now.generation c.in-Some.generation c.args.self.now.state.index c.in-Some.is _ _ _ c.in-Empty.ensures.seen
 
 pub returns-in-Passed-clause-alone : goal.returns-in-Passed-clause-alone
 returns-in-Passed-clause-alone g c =
     let i = c.args.self.now in
-    rw c.pass.ensures.answer (passed_given i.walked c.in-Some.generation i.state.index c.in-Some.is g.T.AtomicValue.target g.E.Fn i.asking.eq c.in-Value.value i.asking.given.value (i.between.stems c.in-Value.value (ap value_in c.in-Value.is)) (bits_of i.state.hash) _ _ c.in-Passed.asked (met_in c.pass.new.self.carried) c.in-Passed.ensures.seen)
+    rw c.pass.ensures.answer (passed_given i.generation c.in-Some.generation i.state.index c.in-Some.is g.T.AtomicValue.target g.E.Fn i.asking.eq c.in-Value.value i.asking.given.value (i.between.stems c.in-Value.value (ap value_in c.in-Value.is)) (bits_of i.state.hash) _ _ c.in-Passed.asked (met_in c.pass.new.self.carried) c.in-Passed.ensures.seen)
 
 pub returns-in-Met-clause-alone : goal.returns-in-Met-clause-alone
 returns-in-Met-clause-alone g c =
     let i = c.args.self.now in
-    rw (c.keep.ensures.answer, c.keep.ensures.kept) (accepted_given i.walked c.in-Some.generation i.state.index c.in-Some.is g.T.AtomicValue.target g.E.Fn i.asking.eq c.in-Value.value i.asking.given.value (i.between.stems c.in-Value.value (ap value_in c.in-Value.is)) (bits_of i.state.hash) _ _ c.in-Met.target c.in-Met.ensures.seen)
+    rw (c.keep.ensures.answer, c.keep.ensures.kept) (accepted_given i.generation c.in-Some.generation i.state.index c.in-Some.is g.T.AtomicValue.target g.E.Fn i.asking.eq c.in-Value.value i.asking.given.value (i.between.stems c.in-Value.value (ap value_in c.in-Value.is)) (bits_of i.state.hash) _ _ c.in-Met.target c.in-Met.ensures.seen)
