@@ -58,7 +58,7 @@ impl<'a> Builder<'a> {
         let got = self
             .nodes
             .get_or_insert_with(&shape, || Node { shape, text });
-        match got.entry() {
+        match got.into_entry() {
             Ok(numbered) => Ok(numbered),
             Err(_) => Err(AllocError),
         }

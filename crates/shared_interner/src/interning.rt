@@ -45,8 +45,8 @@ impl<A: Low + Copy> SharedInterner<A> {
         }
     }
 
-    /// Makes an empty interner for this many texts: it has twice as many buckets, in a power of two, and 16 at least. `Err`: memory was
-    /// refused, or there are more than 2^31 texts. It leaves nothing.
+    /// Makes an empty interner for this many texts: it has twice as many buckets, rounded up to a power of two, and 16 at least. `Err`: memory
+    /// was refused, or `texts` is above 2^31. It leaves nothing.
     pub fn with_capacity(alloc: A, texts: usize) -> Result<Self, AllocError>
         ensures empty { IfOk result (λ s. IsEmpty s.start) }
         ensures none { IfOk result (λ s. s.known ≡ []) }

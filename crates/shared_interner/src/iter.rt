@@ -2,7 +2,7 @@
 ghost use Rattle.std.specs.Prelude.{◌≡◌};
 ghost use Rattle.std.specs.Iterator.{at_most};
 ghost use Rattle.table_numbered.specs.Walking.{IsTaken};
-ghost use Rattle.shared_set.specs.Known.{KnowsMore, known_view};
+ghost use Rattle.shared_set.specs.Known.{Keeps, KnowsMore, known_view};
 ghost use Rattle.shared_set.specs.Walks.{Begins};
 ghost use Rattle.shared_interner.specs.Symbols.{number_of};
 ghost use Rattle.shared_interner.specs.Walks.{WalksOn, NeverTwice, GivesNamed, GivesAllOf};
@@ -92,6 +92,7 @@ impl<A: Low + Copy> SharedInterner<A> {
     /// symbol twice. It takes no lock and does not allocate, and threads can intern meanwhile.
     pub fn iter(&self) -> Iter<'_, A>
         ensures of { result.of ≡ self.now.of }
+        ensures keeps { Keeps self.now.known result.history }
         ensures apart { NeverTwice result }
         ensures named { GivesNamed result }
         ensures all { GivesAllOf self.now.known result }

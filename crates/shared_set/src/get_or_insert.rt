@@ -21,12 +21,12 @@ pub enum GotOrInserted<'a, V> {
 
 impl<'a, V: Drop> GotOrInserted<'a, V> {
     /// Returns the entry with its number, whether it is new or was there before. `Err` returns the value that was refused.
-    pub fn entry(self) -> Result<(u64, &'a V), V>
+    pub fn into_entry(self) -> Result<(u64, &'a V), V>
         ensures { GetsEntry self.entry result }
     {
         match self {
             GotOrInserted::Got(number, entry) => Ok((number, entry)),
-            GotOrInserted::Made(inserted) => inserted.entry(),
+            GotOrInserted::Made(inserted) => inserted.into_entry(),
         }
     }
 }

@@ -10,7 +10,7 @@ use std::alloc::Allocator;
 use std::cmp::{max, min};
 use std::sync::atomic::Ordering::SeqCst;
 use table_cell::Low;
-use table_numbered::{Placing, ProbeEnd, SameAs, SetLaw};
+use table_numbered::{Placing, Probed, SameAs, SetLaw};
 use table_slab::{Receipt, Right};
 
 /// How an insert ended.
@@ -25,9 +25,9 @@ pub enum Inserted<'a, V> {
 }
 
 impl<'a, V: Drop> Inserted<'a, V> {
-    /// Returns the entry with its number, whether it is new or was found. `Err` returns the value that was refused. A value that was not
-    /// placed for an entry that was found is dropped.
-    pub fn entry(self) -> Result<(u64, &'a V), V>
+    /// Returns the entry with its number, whether it is new or was found. `Err` returns the value that was refused. If an entry was found, the
+    /// value is dropped.
+    pub fn into_entry(self) -> Result<(u64, &'a V), V>
         ensures { HasEntry self.entry result }
     {
         match self {
@@ -119,11 +119,11 @@ impl<'a, V, L: SetLaw<V>, A: Low + Copy> Handle<'a, V, L, A> {
         let generation = self.stage.generation();
         let sought = SameAs { target: &value };
         match generation.probe(&set.slab, &mut self.cursor.entries, &sought) {
-            ProbeEnd::Found(number, entry) => {
+            Probed::Found(number, entry) => {
                 return Attempt::Done(Inserted::Found(number, entry, value));
             }
-            ProbeEnd::Full => return Attempt::Full(value),
-            ProbeEnd::Vacant => {}
+            Probed::Full => return Attempt::Full(value),
+            Probed::Vacant => {}
         }
         let most = max(1, min(LONGEST_RUN, generation.buckets() / 64)) as u64;
         match self.supply.fetch(&set.slab, most) {
@@ -132,18 +132,10 @@ impl<'a, V, L: SetLaw<V>, A: Low + Copy> Handle<'a, V, L, A> {
         }
     }
 
-    /// Makes sure that a stage is behind the one of this handle, which learns of it. Returns false if memory was refused, or no slot is left.
-    fn grow(&mut self) -> bool
-        ensures { self.new ≡ self.old }
-    {
+    /// Makes sure that a stage is behind the one of this handle. Returns false if memory was refused, or no slot is left.
+    fn grow(&self) -> bool {
         let set = self.set;
-        match set.grow(&self.cursor, self.stage) {
-            Some(seen) => {
-                self.cursor.stages.learn(&seen);
-                true
-            }
-            None => false,
-        }
+        set.grow(&self.cursor, self.stage).is_some()
     }
 
     /// Inserts the value in the newest generation.

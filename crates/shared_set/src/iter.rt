@@ -1,7 +1,7 @@
 //! A walk over the entries of a set while threads insert.
 ghost use Rattle.std.specs.Prelude.{◌≡◌, ◌<◌};
 ghost use Rattle.std.specs.Iterator.{at_most};
-ghost use Rattle.shared_set.specs.Known.{KnowsMore, known_view};
+ghost use Rattle.shared_set.specs.Known.{Keeps, KnowsMore, known_view};
 ghost use Rattle.shared_set.specs.Walks.{
   Begins,
   ComesNext,
@@ -132,6 +132,7 @@ impl<V, L: SetLaw<V>, A: Low + Copy> SharedSet<V, L, A> {
     /// `begin_with` was given, and none twice. It takes no lock and does not allocate, and threads can insert meanwhile.
     pub fn iter(&self) -> Iter<'_, V, L, A>
         ensures of { result.of ≡ self.now.of }
+        ensures keeps { Keeps self.now.known result.history }
         ensures apart { NeverTwice result }
         ensures entries { GivesEntries result }
         ensures all { GivesAllOf self.now.known result }

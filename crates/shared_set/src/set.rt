@@ -56,7 +56,7 @@ pub struct SharedSet<V, L: SetLaw<V>, A: Low + Copy = Global> {
     pub(crate) slab: Slab<V, A>,
     pub(crate) chain: Chain<Stage<V, L, A>, Grows<V, L, A>, A>,
     pub(crate) alloc: A,
-    /// What is known of the first generation from the first.
+    /// What is known of the first generation as it was made.
     pub(crate) start: Token<V, L>,
     /// What each new handle knows, if it knows anything.
     pub(crate) known: Option<Cursor<V, L, A>>,
@@ -88,10 +88,10 @@ impl<V, L: SetLaw<V>, A: Low + Copy> SharedSet<V, L, A> {
         SharedSet::with_buckets(alloc, LEAST_BUCKETS)
     }
 
-    /// Makes an empty set for this many entries: it has twice as many buckets, in a power of two, and 16 at least. One handle can place that
-    /// many before the set grows. Each further handle may use up to 64 numbers that it doesn't place, so that the set grows earlier.
+    /// Makes an empty set for this many entries: it has twice as many buckets, rounded up to a power of two, and 16 at least. One handle can
+    /// place that many before the set grows. Each further handle may use up to 64 numbers that it doesn't place, so that the set grows earlier.
     ///
-    /// `Err`: memory was refused, or there are more than 2^31 entries. It leaves nothing.
+    /// `Err`: memory was refused, or `entries` is above 2^31. It leaves nothing.
     pub fn with_capacity(alloc: A, entries: usize) -> Result<Self, AllocError>
         ensures empty { IfOk result (λ s. IsEmpty s.start) }
         ensures none { IfOk result (λ s. s.known ≡ []) }

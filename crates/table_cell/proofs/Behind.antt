@@ -1,4 +1,4 @@
--- A `&` to a struct of a pointer and a mark is made of a borrow of it. Assumes `Logic`.
+-- A `&` to a struct of a pointer and a marker is made of a borrow of it. Assumes `Logic`.
 --     opens, in_place      the struct is laid open, and closes at any address with what is to stand beside that
 --     in_two      a borrow of it, as two
 --     lends      the `&`, of a borrow

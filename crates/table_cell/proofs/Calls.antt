@@ -1,6 +1,6 @@
 -- The two calls by which words are made, and what each leaves. Assumes `Logic`.
 --     asks_low      who may free a block asks its allocator, and learns that it may be compared with null
---     makes_cell      a pointer cell is made at an address: with a mark, it is the fields of a word
+--     makes_cell      a pointer cell is made at an address: with a marker, it is the fields of a word
 use Rattle.std.proofs.Common.{◌≡◌, List, [], ◌∷◌, refl, ap}
 use seplogic.Ra.Ura.{Ura}
 use mir.Syntax.{Ty, Dict, Callee, Place, Opd as Operand, Body, seq, call}

@@ -1,4 +1,4 @@
--- Structs that have a mark and nothing else in memory, as a home, an ended home and a note: what they own there is the
+-- Structs that have a marker and nothing else in memory, as a home, an ended home and a note: what they own there is the
 -- same, it is made of nothing, and it tells their one machine value. Assumes `Logic`.
 use Rattle.std.proofs.Common.{◌≡◌, List, [], ◌∷◌, ◌++◌, refl, ap, ◌∙◌}
 use seplogic.Ra.Ura.{Ura}
@@ -20,11 +20,11 @@ token = alone void
 abbrev only_marker : Shape
 only_marker = record { name = []; args = []; types = []; fields = Mark RawPtr ∷ [] }
 
-abbrev MarkAlone : RattleType
-MarkAlone = Struct only_marker
+abbrev MarkerAlone : RattleType
+MarkerAlone = Struct only_marker
 
 abbrev pub InMemory : List Val → Fml
-InMemory = MarkAlone.own_val (record {}, tt)
+InMemory = MarkerAlone.own_val (record {}, tt)
 
 module _ {M : Type 1} {𝓤 : Ura M} (𝓛 : Logic 𝓤) where
   pub marker_of_nothing : ent 𝓤 (emp 𝓤) (sem 𝓛 (InMemory (token ∷ [])))
@@ -33,7 +33,7 @@ module _ {M : Type 1} {𝓤 : Ura M} (𝓛 : Logic 𝓤) where
 
 -- what is owned beside the mark is left
 module _ {M : Type 1} {𝓤 : Ura M} {𝓛 : Logic 𝓤} where
-  pub beside_mark : {K : Type 0} {Γ : List (Item 𝓤)} {G : Goal 𝓤 𝓛.H} {P : Fml} → K → (vs : List Val)
+  pub beside_marker : {K : Type 0} {Γ : List (Item 𝓤)} {G : Goal 𝓤 𝓛.H} {P : Fml} → K → (vs : List Val)
       → (vs ≡ token ∷ [] → Seq K 𝓛 (‵ P ∷ Γ) G) → Seq K 𝓛 (‵ (fsep (InMemory vs) P) ∷ Γ) G
-  beside_mark t vs next = fsplit t $ peeks t MarkAlone (Is MarkAlone) (shows 𝓛 MarkAlone) (record {}, tt) vs (λ is. drop t $
+  beside_marker t vs next = fsplit t $ peeks t MarkerAlone (Is MarkerAlone) (shows 𝓛 MarkerAlone) (record {}, tt) vs (λ is. drop t $
       next (is.1.0 ∙ ap (λ (fields : List Val). vstruct (of_list (fields ++ [])) ∷ []) is.1.1.0.1.0))

@@ -1,8 +1,8 @@
 -- The machine values of the structs here, and what they own, taken apart and put together. Assumes `Logic`.
---     marker_data      what a mark owns: nothing
+--     marker_data      what a marker owns: nothing
 --     name_out, name_in      a name is what its home lends at a block
 --     loose_in, loose_out, loose_at      a loose block is the block and the right to free it
---     word_out, word_in      the fields of a word are a pointer cell and a mark
+--     word_out, word_in      the fields of a word are a pointer cell and a marker
 --     word_made, latest_made      a word, or a latest one, is its fields, and what is kept beside its address
 use Rattle.std.proofs.Common.{◌≡◌, ℕ, List, [], ◌∷◌, ◌++◌, refl, ap, ◌∙◌, subst}
 use mathlib.Core.Bool.{true, ◌&&◌}
@@ -43,7 +43,7 @@ use Rattle.table_cell.specs.contracts.latest.Latest as latest
 use Rattle.table_cell.specs.contracts.latest.Latest.TheInside as inside_latest
 use base.Fml.{Fml, ftrue, fsep}
 
--- a mark, a struct of one field, and a struct of a field and a mark
+-- a marker, a struct of one field, and a struct of a field and a marker
 abbrev pub void : Val
 void = vstruct vnil
 

@@ -55,8 +55,8 @@ impl<T: Homed, A: Allocator> Latest<T, A> {
         }
     }
 
-    /// Publishes the block that `word` names, to which a thread set it through `&`. `_seen` is a note that knows what the word was
-    /// set to. The note returned knows that a block was published. Loads `word`, and then stores its address here.
+    /// Publishes the block that `word` names. A thread set the word through `&`, and `_seen` is a note that knows to what. The note
+    /// returned knows that a block was published. Loads the block's address from `word`, and stores it here.
     pub fn show(&self, word: &Word<T, A>, _seen: &Note<T>) -> Note<()>
         requires unset { word.now.value ≡ None }
         requires home { word.now.home ≡ self.now.home }

@@ -23,7 +23,7 @@ use Rattle.table_numbered.proofs.Apart.{first_or_other}
 use Rattle.table_numbered.proofs.Marks.{alike_lawful}
 use Rattle.table_numbered.proofs.Histories.{false_unless, has_on, stands_on, event_is, size_is, among_stands, stands_among, same_value, closed_free, has_inside, one_bucket}
 use Rattle.table_numbered.proofs.Permuted.{apart_first, same_members}
-use Rattle.table_numbered.proofs.Steps.{closed_says, entry_says}
+use Rattle.table_numbered.proofs.Steps.{entry_says}
 use Rattle.table_numbered.proofs.Carried.{is_closed}
 
 module _ {V : Type 0} where
@@ -102,12 +102,6 @@ module _ {V : Type 0} where
   ]
 
   module _ (same : V → V → Bool) (hash : V → ℕ) where
-    -- no entry stands in a bucket that has the word of none
-    pub low_free : (log later : History (Numbered V)) (p word : ℕ) → IsPrefix log later → IsReached (alike same) (marked hash) later → Says (alike same) (marked hash) p word later → word < 2 → IsFree log p
-    low_free log later p word on r says less e there = let stood = stands_on log later p e on there in dite (ℕ_discrete word 0)
-        (λ (is : word ≡ 0). says.0 is (Entry e) stood)
-        (λ (ne : word ≢ 0). closed_free (alike same) (marked hash) later p r (closed_says (alike same) (marked hash) p word later says (omega (arith, less, ne))) e stood)
-
     -- a bucket in which an entry stands has its value
     pub stands_value : (log : History (Numbered V)) (p : ℕ) (e : Numbered V) → IsReached (alike same) (marked hash) log → Stands log p e → value_at log p ≡ e.value ∷ []
     stands_value log p e r there = elim (value_cases log p) [

@@ -30,7 +30,7 @@ module _ {V : Type 0} where
     pub carried : Carries old born
     pub back : (q : ℕ) (e : Numbered V) → Stands born q e → IsEntry old e
 
-  -- the entry that is on its way
+  -- the entry that growth names
   abbrev pub entry_of : {A : Type 0} → OldEntry V A → Numbered V
   entry_of l = numbered l.number l.standing.written.value
 

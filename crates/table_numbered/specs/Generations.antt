@@ -14,8 +14,8 @@ use Rattle.table_numbered.specs.declared.event.Numbered.{Numbered}
 use Rattle.table_numbered.specs.declared.event.Stored.TheVariants.{Entry, Closed}
 use Rattle.table_numbered.specs.declared.probe.Meeting.{Meeting}
 use Rattle.table_numbered.specs.declared.probe.Meeting.TheVariants as meeting
-use Rattle.table_numbered.specs.declared.probe.ProbeEnd.{ProbeEnd}
-use Rattle.table_numbered.specs.declared.probe.ProbeEnd.TheVariants as probed
+use Rattle.table_numbered.specs.declared.probe.Probed.{Probed}
+use Rattle.table_numbered.specs.declared.probe.Probed.TheVariants as probed
 use Rattle.table_numbered.specs.declared.place.Coming.{Coming}
 use Rattle.table_numbered.specs.declared.place.Claim.{Claim}
 use Rattle.table_numbered.specs.declared.place.Claim.TheVariants as claim
@@ -86,10 +86,10 @@ module _ {V : Type 0} (test : V → Bool) where
   Finds IsKnown None = NonePasses (of_value test) IsKnown
 
   -- what a probe finds, by which entries its caller knows after
-  abbrev pub TellsEnd : (Numbered V → Type 0) → ProbeEnd V → Type 0
-  TellsEnd IsKnown (probed.Found k e) = Passes IsKnown k e.now
-  TellsEnd IsKnown probed.Vacant = NonePasses (of_value test) IsKnown
-  TellsEnd IsKnown probed.Full = NonePasses (of_value test) IsKnown
+  abbrev pub ProbeFinds : (Numbered V → Type 0) → Probed V → Type 0
+  ProbeFinds IsKnown (probed.Found k e) = Passes IsKnown k e.now
+  ProbeFinds IsKnown probed.Vacant = NonePasses (of_value test) IsKnown
+  ProbeFinds IsKnown probed.Full = NonePasses (of_value test) IsKnown
 
   module _ (n mark : ℕ) (log : History (Numbered V)) where
     -- the probe has passed others' entries and come to a bucket that has nothing
@@ -103,13 +103,13 @@ module _ {V : Type 0} (test : V → Bool) where
         × ((k ≡ n) ⊎ Has log (bucket_at n mark k) Closed)
 
     -- where a probe ends
-    abbrev pub Ends : ProbeEnd V → Type 0
+    abbrev pub Ends : Probed V → Type 0
     Ends (probed.Found k e) = Unit {0}
     Ends probed.Vacant = HasRoom
     Ends probed.Full = HasNoRoom
 
 module _ {V : Type 0} (same : V → V → Bool) (hash : V → ℕ) where
-  -- v is on its way, with the right to the empty slot k
+  -- v is to be placed, with the right to the empty slot k
   pub record IsComing {A : Type 0} (s : SlabView) (v : V) (k : ℕ) (c : Coming V A) : Type 0 where
     pub value : c.value ≡ v
     pub mark : c.mark ≡ mark_of (hash v)

@@ -54,7 +54,7 @@ impl<V, L: SetLaw<V>, A: Low + Copy> Row<V, L, A> {
     }
 
     /// Stores the entry in this bucket if it is empty. Returns whether the entry is there then. No entry is read.
-    fn claim(&self, seen: &mut Token<V, L>, index: usize, entry: &OldEntry<V, A>) -> bool
+    fn take_bucket(&self, seen: &mut Token<V, L>, index: usize, entry: &OldEntry<V, A>) -> bool
         requires known { IsKnown L.same L.hash_of self.now.of seen.old.book seen.old.names seen.old.log }
         requires inside { index < self.now.of.size }
         requires entry { IsOldEntry L.hash_of self.now.of.slab entry.now }
@@ -89,7 +89,7 @@ impl<V, L: SetLaw<V>, A: Low + Copy> Row<V, L, A> {
         let count = self.buckets();
         let mut index = first_bucket(mark_of_word(entry.word), count);
         for _tried in 0..count {
-            if self.claim(seen, index, entry) {
+            if self.take_bucket(seen, index, entry) {
                 return;
             }
             index = next_bucket(index, count);

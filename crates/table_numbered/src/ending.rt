@@ -5,7 +5,7 @@ ghost use mathlib.Core.List.{IsPrefix};
 ghost use Rattle.table_slab.specs.Endings.{IsLeft};
 ghost use Rattle.table_numbered.specs.History.{IsEntry, IsFull};
 ghost use Rattle.table_numbered.specs.Generations.{IsOf};
-ghost use Rattle.table_numbered.specs.Ending.{AreLeft, TakesAt, AreValues, IsSameEnd, values_from};
+ghost use Rattle.table_numbered.specs.Ending.{AreLeft, TakesAt, AreValues, IsSameEnd};
 
 use crate::generation::NumberedGeneration;
 use crate::rule::Token;
@@ -40,24 +40,6 @@ impl<V, L: SetLaw<V>, A: Low + Copy> Model for LeftValues<V, L, A> {
 }
 
 impl<V, L: SetLaw<V>, A: Low + Copy> NumberedGeneration<V, L, A> {
-    /// Closes each bucket that is empty. Returns how many buckets have an entry.
-    pub(crate) fn close_all(&self, seen: &mut Token<V, L>) -> usize
-        requires of { IsOf L.same L.hash_of self.now.of seen.old.book seen.old.names seen.old.log }
-        ensures of { IsOf L.same L.hash_of self.now.of seen.new.book seen.new.names seen.new.log }
-        ensures longer { IsPrefix seen.old.log seen.new.log }
-        ensures full { IsFull self.now.of.size seen.new.log }
-        ensures counted { result ≡ length (values_from seen.new.log 0 self.now.of.size) }
-    {
-        let mut count = 0;
-        for index in 0..self.buckets() {
-            let word = self.close_at(seen, index);
-            if word > 1 {
-                count += 1;
-            }
-        }
-        count
-    }
-
     /// Ends the generation: each bucket that is empty is closed, so that its history has no later entry. It asks for no memory.
     pub fn end(&self, slab: Ending<V, A>, seen: &mut Token<V, L>) -> LeftValues<V, L, A>
         requires slab { slab.slab ≡ self.now.of.slab }

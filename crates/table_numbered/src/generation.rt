@@ -1,10 +1,11 @@
 //! One generation of buckets that threads set, each once.
-ghost use Rattle.std.specs.Prelude.{◌≡◌, ◌≢◌, ◌≤◌, ◌<◌, ◌^◌, ℕ, [], ◌∷◌, None, IfOk};
+ghost use Rattle.std.specs.Prelude.{◌≡◌, ◌≢◌, ◌≤◌, ◌<◌, ◌^◌, ℕ, [], ◌∷◌, None, IfOk, length};
 ghost use Rattle.std.specs.Int.{IsPowerOfTwo};
 ghost use mathlib.Core.List.{IsPrefix};
 ghost use Rattle.table_numbered.specs.Words.{numbered, alike, marked};
-ghost use Rattle.table_numbered.specs.History.{event, Has, Stands, IsEntry, OneValue, Says};
+ghost use Rattle.table_numbered.specs.History.{event, Has, Stands, IsEntry, IsFull, OneValue, Says};
 ghost use Rattle.table_numbered.specs.Generations.{IsOf};
+ghost use Rattle.table_numbered.specs.Ending.{values_from};
 ghost use Rattle.table_numbered.specs.declared.event.Stored.TheVariants.{Closed};
 
 use crate::bucket::{close, look};
@@ -97,6 +98,24 @@ impl<V, L: SetLaw<V>, A: Low + Copy> NumberedGeneration<V, L, A> {
             → Says (alike L.same) (marked L.hash_of) index result seen.new.log }
     {
         close(self.row.word(index), seen, index as u64)
+    }
+
+    /// Closes each bucket that is empty. Returns how many buckets have an entry.
+    pub(crate) fn close_all(&self, seen: &mut Token<V, L>) -> usize
+        requires of { IsOf L.same L.hash_of self.now.of seen.old.book seen.old.names seen.old.log }
+        ensures of { IsOf L.same L.hash_of self.now.of seen.new.book seen.new.names seen.new.log }
+        ensures longer { IsPrefix seen.old.log seen.new.log }
+        ensures full { IsFull self.now.of.size seen.new.log }
+        ensures counted { result ≡ length (values_from seen.new.log 0 self.now.of.size) }
+    {
+        let mut count = 0;
+        for index in 0..self.buckets() {
+            let word = self.close_at(seen, index);
+            if word > 1 {
+                count += 1;
+            }
+        }
+        count
     }
 
     /// Returns the entry of the bucket, which has this number.

@@ -29,7 +29,8 @@ const TRIES: usize = 33;
 #[derive(Drop)]
 pub(crate) struct Hints<V, L: SetLaw<V>, A: Allocator> {
     words: Vec<Bucket<V, L>, A>,
-    /// True once a number was sought that no hint names: from then on threads add the numbers that they place.
+    /// True once a number was sought that no hint names, here or in the generation before: from then on threads add the numbers that they
+    /// place.
     wanted: AtomicBool,
     /// True once a thread has added the number of each entry that it found in the buckets.
     complete: AtomicBool,

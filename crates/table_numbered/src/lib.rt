@@ -22,7 +22,7 @@ pub use event::{Event, Listed, Numbered, Stored};
 pub use generation::NumberedGeneration;
 pub use growth::Refused;
 pub use place::Placing;
-pub use probe::ProbeEnd;
+pub use probe::Probed;
 pub use rule::{SetRule, Token};
 pub use sought::{MetBy, SameAs, Sought};
 pub use table_terms::law::{KeyLaw, SetLaw};

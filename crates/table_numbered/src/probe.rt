@@ -3,7 +3,7 @@ ghost use Rattle.std.specs.Prelude.{◌≡◌, ℕ, ◌<◌};
 ghost use mathlib.Core.List.{IsPrefix};
 ghost use Rattle.table_numbered.specs.Words.{mark_of};
 ghost use Rattle.table_numbered.specs.History.{IsEntry};
-ghost use Rattle.table_numbered.specs.Generations.{IsOf, Meets, Finds, TellsEnd, Ends};
+ghost use Rattle.table_numbered.specs.Generations.{IsOf, Meets, Finds, ProbeFinds, Ends};
 
 use crate::generation::NumberedGeneration;
 use crate::rule::Token;
@@ -29,7 +29,7 @@ pub(crate) enum Meeting<'a, V> {
 
 /// How a probe ended.
 #[derive(Debug, PartialEq, Eq, Drop)]
-pub enum ProbeEnd<'a, V> {
+pub enum Probed<'a, V> {
     /// What is sought is there, with its number.
     Found(u64, &'a V),
     /// No entry that is known then is it, and the probe came to an empty bucket.
@@ -81,12 +81,12 @@ impl<V, L: SetLaw<V>, A: Low + Copy> NumberedGeneration<V, L, A> {
         slab: &'a Slab<V, A>,
         seen: &mut Token<V, L>,
         sought: &S,
-    ) -> ProbeEnd<'a, V>
+    ) -> Probed<'a, V>
         requires slab { slab.now ≡ self.now.of.slab }
         requires of { IsOf L.same L.hash_of self.now.of seen.old.book seen.old.names seen.old.log }
         ensures of { IsOf L.same L.hash_of self.now.of seen.new.book seen.new.names seen.new.log }
         ensures longer { IsPrefix seen.old.log seen.new.log }
-        ensures tells { TellsEnd (S.accepts sought.now) (IsEntry seen.new.log) result }
+        ensures finds { ProbeFinds (S.accepts sought.now) (IsEntry seen.new.log) result }
         ensures ends { Ends (S.accepts sought.now) self.now.of.size
             (mark_of (S.sought_hash sought.now)) seen.new.log result }
     {
@@ -95,14 +95,14 @@ impl<V, L: SetLaw<V>, A: Low + Copy> NumberedGeneration<V, L, A> {
         let mut index = first_bucket(mark, count);
         for _tried in 0..count {
             match self.meet(slab, seen, index, mark, sought) {
-                Meeting::Found(number, entry) => return ProbeEnd::Found(number, entry),
+                Meeting::Found(number, entry) => return Probed::Found(number, entry),
                 Meeting::Differs => {}
-                Meeting::Vacant => return ProbeEnd::Vacant,
-                Meeting::Closed => return ProbeEnd::Full,
+                Meeting::Vacant => return Probed::Vacant,
+                Meeting::Closed => return Probed::Full,
             }
             index = next_bucket(index, count);
         }
-        ProbeEnd::Full
+        Probed::Full
     }
 
     /// Returns the entry that is sought, with its number. `None`: no entry that the caller knew matches. It requests no memory, and
@@ -120,9 +120,9 @@ impl<V, L: SetLaw<V>, A: Low + Copy> NumberedGeneration<V, L, A> {
         ensures finds { Finds (S.accepts sought.now) (IsEntry seen.new.log) result }
     {
         match self.probe(slab, seen, sought) {
-            ProbeEnd::Found(number, entry) => Some((number, entry)),
-            ProbeEnd::Vacant => None,
-            ProbeEnd::Full => None,
+            Probed::Found(number, entry) => Some((number, entry)),
+            Probed::Vacant => None,
+            Probed::Full => None,
         }
     }
 }

@@ -83,8 +83,8 @@ impl<V, L: SetLaw<V>, A: Low + Copy> NumberedGeneration<V, L, A> {
 
     /// Returns true if an entry has this number by now. `false` means that no entry known to the caller before has it. It reads no entry.
     ///
-    /// A number that a hint names costs the read of one word. The first call that finds no hint reads each bucket, and hints the number
-    /// of each entry. A call that still finds no hint reads buckets until it comes to the number.
+    /// A number that a hint names costs the read of one word. The first call in a generation that finds no hint reads each bucket,
+    /// and hints the number of each entry. A call that still finds no hint reads buckets until it comes to the number.
     pub fn has_number(&self, seen: &mut Token<V, L>, number: u64) -> bool
         requires of { IsOf L.same L.hash_of self.now.of seen.old.book seen.old.names seen.old.log }
         ensures of { IsOf L.same L.hash_of self.now.of seen.new.book seen.new.names seen.new.log }

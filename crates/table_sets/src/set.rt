@@ -42,8 +42,8 @@ impl<T: AtomicValue, L: SetLaw<T::Target>, A: Allocator + Copy> HeldSet<T, L, A>
         }
     }
 
-    /// Makes an empty set, whose first generation will have `first_capacity` buckets, for half as many entries before it grows. The
-    /// caller shows that `is_first_capacity` holds of it. Does not allocate.
+    /// Makes an empty set, whose first generation will have `first_capacity` buckets. It grows as half of them are set. The caller
+    /// shows that `is_first_capacity` holds of it. Does not allocate.
     pub fn with_first_capacity(alloc: A, first_capacity: usize) -> Self
         requires { IsFirstCapacity first_capacity }
         ensures { result ≡ [] }

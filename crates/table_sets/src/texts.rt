@@ -10,11 +10,11 @@ use table_terms::law::{KeyLaw, MIXING_FACTOR, SetLaw, hash_number};
 pub struct TextLaw;
 
 /// Returns the hash of a text, by its bytes. It depends on each byte and its position, and spreads texts over all 64 bits.
-pub fn hash_bytes(text: &[u8]) -> u64
-    ensures { result ≡ text_hash text.now }
+pub fn hash_bytes(bytes: &[u8]) -> u64
+    ensures { result ≡ text_hash bytes.now }
 {
     let mut number = 0u64;
-    for byte in text {
+    for byte in bytes {
         number = number
             .wrapping_add(u64::from(*byte) + 1)
             .wrapping_mul(MIXING_FACTOR);

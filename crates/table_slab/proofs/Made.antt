@@ -25,25 +25,25 @@ abbrev only_marker : RattleType → Shape
 only_marker R = record { name = []; args = []; types = []; fields = Mark R ∷ [] }
 
 -- what such a value owns in memory
-abbrev pub MarkOf : RattleType → List Val → Fml
-MarkOf R = (Struct (only_marker R)).own_val (record {}, tt)
+abbrev pub MarkerOf : RattleType → List Val → Fml
+MarkerOf R = (Struct (only_marker R)).own_val (record {}, tt)
 
 pub token_told : (R : RattleType) (vs : List Val) → Is (Struct (only_marker R)) (record {}, tt) vs → vs ≡ token_val ∷ []
 token_told R vs is = is.1.0 ∙ ap (λ (fields : List Val). vstruct (of_list (fields ++ [])) ∷ []) is.1.1.0.1.0
 
 module _ {M : Type 1} {𝓤 : Ura M} (𝓛 : Logic 𝓤) (R : RattleType) where
-  pub with_mark : (P : Fml) → ent 𝓤 (sem 𝓛 P) (sem 𝓛 (fsep (MarkOf R (token_val ∷ [])) P))
-  with_mark P = qed 𝓛 (‵ P ∷ []) ∵ nothing ! $ use0 𝓛 (‵ ((Mark R).own_val (record {}) (void ∷ []))) (marker_data 𝓛 R) $ fjoin ! $ feq_i ! _ (token_val ∷ []) _ refl $ fjoin ! $
+  pub with_marker : (P : Fml) → ent 𝓤 (sem 𝓛 P) (sem 𝓛 (fsep (MarkerOf R (token_val ∷ [])) P))
+  with_marker P = qed 𝓛 (‵ P ∷ []) ∵ nothing ! $ use0 𝓛 (‵ ((Mark R).own_val (record {}) (void ∷ []))) (marker_data 𝓛 R) $ fjoin ! $ feq_i ! _ (token_val ∷ []) _ refl $ fjoin ! $
       fpack ! (Valss (Mark R ∷ [])) (within (only_marker R) (record {}, tt) (token_val ∷ [])) (void ∷ [], tt) $ fjoin ! $ done !
 
   pub written_made : (γ : ℕ) (x : R.Denot) → ent 𝓤 (sem 𝓛 (written R γ x)) (sem 𝓛 ((Written.the_row R).own_val (record { marker = record {}; of = γ; value = x }) (token_val ∷ [])))
-  written_made γ x = with_mark (written R γ x)
+  written_made γ x = with_marker (written R γ x)
 
   pub room_made : (γ : ℕ) (v : Option R.Denot) → ent 𝓤 (sem 𝓛 (room R γ v)) (sem 𝓛 ((Room.the_row R).own_val (record { marker = record {}; of = γ; value = v }) (token_val ∷ [])))
-  room_made γ v = with_mark (room R γ v)
+  room_made γ v = with_marker (room R γ v)
 
   pub rooms_made : (γs : List ℕ) → ent 𝓤 (sem 𝓛 (rooms R γs)) (sem 𝓛 ((Rooms.the_row R).own_val (record { marker = record {}; names = γs }) (token_val ∷ [])))
-  rooms_made γs = with_mark (rooms R γs)
+  rooms_made γs = with_marker (rooms R γs)
 
 abbrev digit : Bool → ℕ
 digit true = 1

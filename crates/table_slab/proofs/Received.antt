@@ -37,7 +37,7 @@ use Rattle.table_slab.specs.Slabs.{SlabView}
 use Rattle.table_slab.specs.Spent.{spent, spents}
 use Rattle.table_slab.specs.contracts.rights.Receipt as Receipt
 use Rattle.table_slab.specs.contracts.rights.Receipts as Receipts
-use Rattle.table_slab.proofs.Made.{token_val, with_mark}
+use Rattle.table_slab.proofs.Made.{token_val, with_marker}
 use Rattle.table_slab.proofs.Spent.{spents_differ, spents_join}
 
 -- a receipt behind a `&mut`
@@ -47,7 +47,7 @@ the_receipt R = record { row = Receipt.the_row R; mark = (Struct (shape (Receipt
 module _ {M : Type 1} {𝓤 : Ura M} (𝓛 : Logic 𝓤) (R : RattleType) where
   pub receipt_made : (s : SlabView) (number : ℕ) (x : R.Denot)
       → ent 𝓤 (sem 𝓛 (spent R s number x)) (sem 𝓛 ((Receipt.the_row R).own_val (record { marker = record {}; slab = s; number = number; value = x }) (token_val ∷ [])))
-  receipt_made s number x = with_mark 𝓛 R (spent R s number x)
+  receipt_made s number x = with_marker 𝓛 R (spent R s number x)
 
   pub receipt_shown : (κ : Lft) (b o : ℕ) (r : (Receipt.the_row R).Denot) → ent 𝓤 (sem 𝓛 (hidden_shr (Receipt.the_row R) κ r b o)) (sem 𝓛 (standing R r.slab r.number r.value))
   receipt_shown κ b o r = qed 𝓛 (‵ (hidden_shr (Receipt.the_row R) κ r b o) ∷ []) ∵ unhide ! $ fsplit ! $ drop ! $ done !
@@ -95,7 +95,7 @@ module _ {M : Type 1} {𝓤 : Ura M} (𝓛 : Logic 𝓤) (R : RattleType) (s : S
   Made es = sem 𝓛 ((Receipts.the_row R).own_val (record { marker = record {}; slab = s; entries = es }) (token_val ∷ []))
 
   pub receipts_made : (es : List (ℕ × R.Denot)) → ent 𝓤 (Has es) (Made es)
-  receipts_made es = with_mark 𝓛 R (spents R s es)
+  receipts_made es = with_marker 𝓛 R (spents R s es)
 
   pub receipts_joined : (es fs : List (ℕ × R.Denot)) → ent 𝓤 (sep 𝓤 (Has es) (Has fs)) (Made (es ++ fs))
   receipts_joined es fs = via 𝓤 (Has (es ++ fs)) (spents_join 𝓛 R s es fs) (receipts_made (es ++ fs))

@@ -16,14 +16,14 @@ use Rattle.std.specs.Coded.{coded_option}
 use Rattle.table_cell.specs.Notes.{learnt, code}
 use Rattle.table_slab.proofs.Tokens.{res_same}
 use Rattle.table_slab.specs.contracts.site.Site as Site
-use Rattle.table_slab.proofs.Made.{token_val, with_mark}
+use Rattle.table_slab.proofs.Made.{token_val, with_marker}
 
 module _ {M : Type 1} {𝓤 : Ura M} (𝓛 : Logic 𝓤) (R : RattleType) (γ : ℕ) (x : R.Denot) where
   pub learnt_twice : ent 𝓤 (sem 𝓛 (learnt R γ (Some x))) (sep 𝓤 (sem 𝓛 (learnt R γ (Some x))) (sem 𝓛 (learnt R γ (Some x))))
   learnt_twice = 𝓛.names.res_dup γ _
 
   pub site_made : ent 𝓤 (sem 𝓛 (learnt R γ (Some x))) (sem 𝓛 ((Site.the_row R).own_val (record { marker = record {}; cell = γ; value = x }) (token_val ∷ [])))
-  site_made = with_mark 𝓛 R (learnt R γ (Some x))
+  site_made = with_marker 𝓛 R (learnt R γ (Some x))
 
 module _ {M : Type 1} {𝓤 : Ura M} (𝓛 : Logic 𝓤) (R : RattleType) (γ δ : ℕ) (x y : R.Denot) where
   same_code : code R (Some x) ≡ code R (Some y) → x ≡ y

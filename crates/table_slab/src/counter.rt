@@ -71,8 +71,8 @@ impl<T> Counter<T> {
         }
     }
 
-    /// Hands out slots in a row, up to `most`, of those below the offset `end`: the returned ones, or else the next ones. `None` means
-    /// that no such slot is left.
+    /// Hands out slots in a row, up to `most`, of those below the offset `end`: the returned ones, or else the next ones. `None`:
+    /// `most` is 0, no such slot is left but those that other threads take or return, or more than `most` were returned.
     pub(crate) fn next(&self, most: u64, end: u64) -> Option<Handed<T>>
         ensures some { IfSome result (λ h. (0 < h.count) × (h.count ≤ most)) }
         ensures within { IfSome result (λ h. (h.offset + h.count ≤ end) × (h.offset + h.count ≤ length self.now.1)) }

@@ -47,7 +47,7 @@ impl<'a, A: Low + Copy> Solver<'a, A> {
 
     /// Stores a result, unless a thread has stored it. An `Err` means that memory was refused.
     fn keep(&mut self, kept: Answer) -> Result<(), AllocError> {
-        match self.answers.insert(kept).entry() {
+        match self.answers.insert(kept).into_entry() {
             Ok(_) => Ok(()),
             Err(_) => Err(AllocError),
         }

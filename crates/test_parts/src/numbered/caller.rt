@@ -8,7 +8,7 @@ use crate::same::assert_same;
 use std::alloc::AllocError;
 use std::process::Abort;
 use table_cell::Low;
-use table_numbered::{NumberedGeneration, Placing, ProbeEnd, SameAs};
+use table_numbered::{NumberedGeneration, Placing, Probed, SameAs};
 use table_slab::{Right, Run, Slab};
 
 /// The call that a row makes with its number.
@@ -121,9 +121,9 @@ impl<'a, A: Low + Copy> Numbers<'a, A> {
         let mut seen = self.set.start();
         let sought = SameAs { target: &number };
         match self.set.probe(self.slab, &mut seen, &sought) {
-            ProbeEnd::Found(slot, _entry) => CallEnd::Found(slot),
-            ProbeEnd::Vacant => CallEnd::Vacant,
-            ProbeEnd::Full => CallEnd::Full,
+            Probed::Found(slot, _entry) => CallEnd::Found(slot),
+            Probed::Vacant => CallEnd::Vacant,
+            Probed::Full => CallEnd::Full,
         }
     }
 

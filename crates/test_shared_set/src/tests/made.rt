@@ -73,13 +73,20 @@ pub(crate) fn try_to_insert(
     key: u32,
     value: Option<u64>,
 ) -> Result<(InsertEnd, Option<u64>), u32> {
-    let made = value.ok_or(key);
-    let answer = handle.get_or_try_insert_with(&Short { number: key }, || made)?;
-    Ok(match answer.entry() {
-        Ok((number, entry)) if *entry == u64::from(key) => (InsertEnd::Found, Some(number)),
-        Ok(_) => (InsertEnd::Wrong, None),
-        Err(_value) => (InsertEnd::Refused, None),
-    })
+    let given = value.ok_or(key);
+    let answer = handle.get_or_try_insert_with(&Short { number: key }, || given)?;
+    let got = match answer {
+        GotOrInserted::Got(_, _) => u64::from(key),
+        GotOrInserted::Made(_) => value.unwrap_or(0),
+    };
+    Ok(ended(answer, got))
+}
+
+/// Gets the entry that is the same as the value, or inserts the value. Returns the entry with its number, or the value if it was refused.
+fn into_entry(handle: &mut Numbering<'_, '_>, value: u64) -> Result<(u64, u64), u64> {
+    let answer = handle.seek_or_insert_with(&SameAs { target: &value }, || value);
+    let (number, entry) = answer.into_entry()?;
+    Ok((number, *entry))
 }
 
 /// How many keys are placed first.
@@ -142,14 +149,17 @@ fn a_target_may_be_the_key(rt: HostRuntime) {
     }
 }
 
-/// Keys, the values to insert if any is made, how many requests are refused, and how the call ends.
-const TRIES: [(u32, Option<u64>, u64, Result<(InsertEnd, Option<u64>), u32>); 6] = [
+/// Keys, the values to insert if any is made, how many requests are refused, and how the call ends. A value that doesn't meet its key is
+/// inserted too.
+const TRIES: [(u32, Option<u64>, u64, Result<(InsertEnd, Option<u64>), u32>); 8] = [
     (7, None, 0, Err(7)),
     (7, Some(7), 1, Ok((InsertEnd::Refused, None))),
     (7, None, 0, Err(7)),
-    (7, Some(7), 0, Ok((InsertEnd::Found, Some(0)))),
+    (7, Some(7), 0, Ok((InsertEnd::Placed, Some(0)))),
     (7, None, u64::MAX, Ok((InsertEnd::Found, Some(0)))),
     (8, None, u64::MAX, Err(8)),
+    (8, Some(7), u64::MAX, Ok((InsertEnd::Found, Some(0)))),
+    (8, Some(9), 0, Ok((InsertEnd::Placed, Some(1)))),
 ];
 
 /// Checks that nothing is inserted if no value is made, and that an entry that meets the key is found without memory and without a value.
@@ -162,8 +172,24 @@ fn a_value_may_fail_to_be_made(rt: HostRuntime) {
         heap.refuse(0, refused);
         assert_same(&rt, try_to_insert(&mut handle, key, value), expected);
     }
-    assert_same(&rt, set.get_by_key(&Short { number: 7 }), Some(&7));
+    assert_same(&rt, set.get_by_key(&Short { number: 9 }), Some(&9));
     assert_same(&rt, set.get_by_key(&Short { number: 8 }), None);
     drop(handle);
-    assert_same(&rt, set.len(), 1);
+    assert_same(&rt, set.len(), 2);
+}
+
+/// Checks the entry of an insert that is refused, one that places its value, and one that finds it.
+#[test]
+fn an_insert_turns_into_its_entry(rt: HostRuntime) {
+    let heap = counted(rt.alloc());
+    let set = set_with(&rt, &heap, 0);
+    let mut handle = set.handle();
+    for (refused, expected) in [(1, Err(7)), (0, Ok((0, 7))), (u64::MAX, Ok((0, 7)))] {
+        heap.refuse(0, refused);
+        assert_same(&rt, into_entry(&mut handle, 7), expected);
+    }
+    match handle.insert(7).into_entry() {
+        Ok((number, entry)) => assert_same(&rt, (number, *entry), (0, 7)),
+        Err(_value) => assert!(&rt; false, "a value that is there"),
+    }
 }

@@ -40,7 +40,7 @@ impl<A: Allocator + Copy> RoundWords<A> {
         self.breaks = 0;
     }
 
-    /// Returns the first fault of a part, if one has a fault, or else whether they have too many different words.
+    /// Checks the parts. `Err`: the first fault of one, or that together they have too many different words.
     fn check_parts(&self) -> Result<(), Fault> {
         let mut different = 0usize;
         for part in &self.parts {

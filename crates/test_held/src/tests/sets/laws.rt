@@ -5,7 +5,7 @@ use std::sync::Arc;
 use std::test::Fail;
 use table_sets::laws::inserted_is_found_again;
 use table_sets::pairs::mix_hashes;
-use table_sets::texts::hash_text;
+use table_sets::texts::{hash_bytes, hash_text};
 use table_sets::{
     HeldSet, InPlace, Inserted, KeyLaw, NumberLaw, OfTarget, PairsOf, SetLaw, TextLaw,
 };
@@ -24,6 +24,8 @@ fn hashes_of_texts(rt: HostRuntime) {
     assert_same(&rt, hash_text(""), 0x382C_6B14_BA5F_441A);
     assert_same(&rt, hash_text("a"), 0x3597_A02A_7BF9_A232);
     assert_same(&rt, hash_text("ab"), 0xB1A1_C301_919D_DD8F);
+    assert_same(&rt, hash_bytes(&[0xFF]), 0x3923_C4A6_5B84_DF97);
+    assert_same(&rt, hash_bytes(&[0x80, 0]), 0x5871_DD62_DCE1_B26D);
 }
 
 #[test]

@@ -53,7 +53,7 @@ pub returns-in-Found-clause-known : goal.returns-in-Found-clause-known
 returns-in-Found-clause-known g c = knows_longer c.self.inside.set.now.of c.args.self.now c.self.inside.cursor.entries.log c.probe.new.seen.log c.self.view_is c.probe.ensures.longer
 
 pub returns-in-Found-clause-told : goal.returns-in-Found-clause-told
-returns-in-Found-clause-told g c = (refl, c.in-Found.ensures.tells)
+returns-in-Found-clause-told g c = (refl, c.in-Found.ensures.finds)
 
 pub returns-in-Full-clause-known : goal.returns-in-Full-clause-known
 returns-in-Full-clause-known g c = knows_longer c.self.inside.set.now.of c.args.self.now c.self.inside.cursor.entries.log c.probe.new.seen.log c.self.view_is c.probe.ensures.longer
@@ -61,7 +61,7 @@ returns-in-Full-clause-known g c = knows_longer c.self.inside.set.now.of c.args.
 pub returns-in-Full-clause-told : goal.returns-in-Full-clause-told
 returns-in-Full-clause-told g c = (
   refl,
-  c.in-Full.ensures.tells,
+  c.in-Full.ensures.finds,
   no_bucket_in g.L.Law.same g.L.Law.hash_of c.generation-generation.result.now.of.size c.args.value c.probe.new.seen.log c.probe.ensures.of.2 c.in-Full.ensures.ends,
 )
 
@@ -71,7 +71,7 @@ returns-in-Err-clause-known g c = knows_longer c.self.inside.set.now.of c.args.s
 pub returns-in-Err-clause-told : goal.returns-in-Err-clause-told
 returns-in-Err-clause-told g c = (
   refl,
-  c.in-Vacant.ensures.tells,
+  c.in-Vacant.ensures.finds,
   bucket_in g.L.Law.same g.L.Law.hash_of c.generation-generation.result.now.of.size c.args.value c.probe.new.seen.log c.probe.ensures.of.2 c.in-Vacant.ensures.ends,
 )
 

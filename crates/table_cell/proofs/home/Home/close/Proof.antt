@@ -1,4 +1,4 @@
--- The home's lifetime ends, and its mark is the mark of what stands for its end.
+-- The home's lifetime ends, and its marker is the marker of what stands for its end.
 use Rattle.std.proofs.Common.{◌≡◌, [], ◌∷◌, ◌++◌, refl}
 use base.Logic.{emp}
 use types.Tokens.{lft_end}
@@ -17,7 +17,7 @@ use denote.Triple.Walked.{Stays, stay_dropped, ends_at}
 use Rattle.core.proofs.alloc.Calls.{Goes-blank}
 use Rattle.std.proofs.raw_atomic.Walks.{proved_at}
 use Rattle.table_cell.proofs.Walks.{begins}
-use Rattle.table_cell.proofs.Tokens.{token, InMemory, marker_of_nothing, beside_mark}
+use Rattle.table_cell.proofs.Tokens.{token, InMemory, marker_of_nothing, beside_marker}
 use Rattle.table_cell.specs.contracts.home.Home as home
 use Rattle.table_cell.specs.contracts.home.Home.close as f
 use Rattle.table_cell.proofs.home.Home.close.Statement.{statement}
@@ -29,7 +29,7 @@ close_spec 𝓤 𝓛 𝓜 𝓡 wired = let c = f.clauses 𝓛 𝓜.mem 𝓡.retu
     proved_at 𝓛 f.ended ended c 𝓜 𝓡 (Goes-blank 𝓛 0 open_home yes (λ κs x w. tt), tt) f.Key.name code.function (code.unfolded 𝓤 𝓛.H 𝓜 𝓡 wired) (λ y are.
     let Same = y.0.3.0.id ≡ y.0.3.0.id in
     qed 𝓛 ((raw (alive 𝓛 f.signature y.0.0 y.0.1) ⊛ ‵ (owns (types_at f.signature.params y.0.0) y.0.3 y.0.4)) ∷ raw ((c y.0.0 y.0.3).requires y.1) ∷ []) ∵
-    split ! $ move ! (1 ∷ []) $ fsplit ! $ beside_mark ! y.0.4.0 (λ is.
+    split ! $ move ! (1 ∷ []) $ fsplit ! $ beside_marker ! y.0.4.0 (λ is.
     begins ! code.function (λ i. is i ++ []) $ alloc_all ! (λ l. pass_all ! refl ((tt, (tt, tt)), tt) $ lft_end ! tt $
     sets ! (of_opd ! (get_in ! (fld ! refl (stop !)) (sub ! 0 refl (whole !)))) refl (tt, tt) $
     sets ! (agg ! (and_then ! (get ! refl) (no_more !))) refl (tt, (tt, tt)) $ returns ! (look_at ! 0 refl) $ free_all ! refl $

@@ -1,4 +1,4 @@
--- A home is its lifetime, which begins here: in memory it is a mark.
+-- A home is its lifetime, which begins here: in memory it is a marker.
 use Rattle.std.proofs.Common.{[], ◌∷◌, refl}
 use types.Tokens.{lft_new}
 use types.Kit.{‵, raw, ◌⊛◌, ◌$◌, ◌∵◌, !, qed, move, split, join, fjoin, suffices, use0, done}

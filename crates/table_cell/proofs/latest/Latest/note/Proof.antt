@@ -1,4 +1,4 @@
--- A new note is a mark: it knows nothing, so that it owns nothing either.
+-- A new note is a marker: it knows nothing, so that it owns nothing either.
 use Rattle.std.proofs.Common.{◌≡◌, None, [], ◌∷◌, ◌++◌, refl}
 use mir.Syntax.{a_type, dcons, dnil}
 use mir.MapTy.{inst_fn}

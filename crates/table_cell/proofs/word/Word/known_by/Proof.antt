@@ -33,7 +33,7 @@ use Rattle.table_cell.specs.contracts.word.Word as word
 use Rattle.table_cell.specs.contracts.word.Word.TheInside as inside
 use Rattle.table_cell.proofs.Moves as moves
 use Rattle.table_cell.proofs.Notes.{Note}
-use Rattle.table_cell.proofs.Tokens.{token, beside_mark}
+use Rattle.table_cell.proofs.Tokens.{token, beside_marker}
 use Rattle.table_cell.proofs.Values.{marked, word_in, word_out}
 use Rattle.table_cell.specs.contracts.word.Word.known_by.{ended, clauses}
 use Rattle.table_cell.specs.contracts.word.Word.known_by.Key.{name as #self}
@@ -58,7 +58,7 @@ known_by_spec 𝓤 𝓛 𝓜 𝓡 wired T A L LA f fd g d dd homed alloc glued =
     let known = the_known n.known asked.2 in let x : R.Denot = known.0 in let v : Option R.Denot = Some x in let r : W.Denot = record { from = wd.from; home = h; id = wd.id; owning = wd.owning; value = v } in
     let Same : Type 0 = (wd.from ≡ wd.from) × (h ≡ h) × (wd.owning ≡ wd.owning) in let Value : Type 0 = (v ≡ n.known) × IfSome n.known (λ u. f.fits u h) in
     -- [the word; the note; nothing; the tokens]
-    move ! (1 ∷ []) $ beside_mark ! z.0.4.1.0 (λ es. rewrite ! 0 (λ (i : ℕ). ‵ (learnt R i n.known)) asked.0 refl $ rewrite ! 0 (λ (u : Option R.Denot). ‵ (learnt R wd.id u)) known.1 refl $
+    move ! (1 ∷ []) $ beside_marker ! z.0.4.1.0 (λ es. rewrite ! 0 (λ (i : ℕ). ‵ (learnt R i n.known)) asked.0 refl $ rewrite ! 0 (λ (u : Option R.Denot). ‵ (learnt R wd.id u)) known.1 refl $
     move ! (1 ∷ []) $ fsplit ! $ fpick ! (λ laid. drop ! $ fpick ! (λ p. fsplit ! $ word_out P Y (atomic_ptr_holding p) ! refl (LP.lawful 𝓛) z.0.4.0 (λ u gu ws.
     let w : Val = marked u in let typed : Typed W.mir (w ∷ []) = subst (Typed W.mir) ws laid in let args : List Val = w ∷ token ∷ [] in
     -- [the pointer; beside it; what the note knows; nothing; the tokens]

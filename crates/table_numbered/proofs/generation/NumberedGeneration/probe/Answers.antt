@@ -15,15 +15,15 @@ loop-tried-init g c = record {
 pub meet-requires-clause-inside : goal.meet-requires-clause-inside
 meet-requires-clause-inside g c = c.loop-tried.invariant.goes.inside
 
-pub returns-in-Vacant-clause-tells : goal.returns-in-Vacant-clause-tells
-returns-in-Vacant-clause-tells g c = let of = c.meet.ensures.of in let new = c.meet.new.seen.log in
+pub returns-in-Vacant-clause-finds : goal.returns-in-Vacant-clause-finds
+returns-in-Vacant-clause-finds g c = let of = c.meet.ensures.of in let new = c.meet.new.seen.log in
     goes_none g.L.Law.same g.L.Law.hash_of (λ v is. ap mark_of (g.met.S.Sought.agrees c.args.sought.now v is)) new c.loop-tried.invariant.goes c.meet.ensures.longer of.2 of.3 (untouched_free new c.loop-tried.index c.in-Vacant.ensures.meets)
 
 pub returns-in-Vacant-clause-ends : goal.returns-in-Vacant-clause-ends
 returns-in-Vacant-clause-ends g c = goes_vacant c.loop-tried.invariant.goes c.meet.new.seen.log c.meet.ensures.longer (subst (λ (m : ℕ). c.loop-tried._tried < m) c.buckets-count.ensures.size c.loop-tried-test.true) c.in-Vacant.ensures.meets
 
-pub returns-in-Closed-clause-tells : goal.returns-in-Closed-clause-tells
-returns-in-Closed-clause-tells g c = let of = c.meet.ensures.of in let new = c.meet.new.seen.log in
+pub returns-in-Closed-clause-finds : goal.returns-in-Closed-clause-finds
+returns-in-Closed-clause-finds g c = let of = c.meet.ensures.of in let new = c.meet.new.seen.log in
     goes_none g.L.Law.same g.L.Law.hash_of (λ v is. ap mark_of (g.met.S.Sought.agrees c.args.sought.now v is)) new c.loop-tried.invariant.goes c.meet.ensures.longer of.2 of.3
     (closed_free (alike g.L.Law.same) (marked g.L.Law.hash_of) new c.loop-tried.index of.3 c.in-Closed.ensures.meets)
 
@@ -40,8 +40,8 @@ loop-tried-preserved g c = let met = c.in-Differs.ensures.meets in record {
   goes = goes_on c.meet.new.seen.log met.0 c.loop-tried.invariant.goes c.meet.ensures.longer met.1 met.2 c.buckets-count.ensures.size c.next_bucket-index.ensures.within c.next_bucket-index.ensures.next;
 }
 
-pub returns-clause-tells : goal.returns-clause-tells
-returns-clause-tells g c = let of = c.loop-tried.invariant.of in
+pub returns-clause-finds : goal.returns-clause-finds
+returns-clause-finds g c = let of = c.loop-tried.invariant.of in
     goes_round g.L.Law.same g.L.Law.hash_of (λ v is. ap mark_of (g.met.S.Sought.agrees c.args.sought.now v is)) c.loop-tried.invariant.goes
     (omega (arith, c.loop-tried-test.false, c.loop-tried.auto._tried-end, c.buckets-count.ensures.size)) of.2 of.3
 

@@ -21,21 +21,21 @@ loop-tried-init g c = let l = c.args.entry.now in record {
   goes = goes_first c.buckets-count.ensures.size (c.mark_of_word.ensures ∙ (word_parts (marked g.L.Law.hash_of (entry_of l)) l.number l.word c.requires.entry.number c.requires.entry.word).2) c.first_bucket-index.ensures.within c.first_bucket-index.ensures.first;
 }
 
-pub claim-requires-clause-inside : goal.claim-requires-clause-inside
-claim-requires-clause-inside g c = c.loop-tried.invariant.goes.inside
+pub take_bucket-requires-clause-inside : goal.take_bucket-requires-clause-inside
+take_bucket-requires-clause-inside g c = c.loop-tried.invariant.goes.inside
 
-pub claim-requires-clause-reached : goal.claim-requires-clause-reached
-claim-requires-clause-reached g c = let l = c.args.entry.now in
+pub take_bucket-requires-clause-reached : goal.take_bucket-requires-clause-reached
+take_bucket-requires-clause-reached g c = let l = c.args.entry.now in
     goes_reaches g.L.Law.same g.L.Law.hash_of l.number l.standing.written.value c.loop-tried.invariant.goes (subst (λ (m : ℕ). c.loop-tried._tried < m) c.buckets-count.ensures.size c.loop-tried-test.true)
 
-pub returns-then-claim-clause-carried : goal.returns-then-claim-clause-carried
-returns-then-claim-clause-carried g c = (c.loop-tried.index, rw c.if-claim.true at c.claim.ensures.takes)
+pub returns-then-take_bucket-clause-carried : goal.returns-then-take_bucket-clause-carried
+returns-then-take_bucket-clause-carried g c = (c.loop-tried.index, rw c.if-take_bucket.true at c.take_bucket.ensures.takes)
 
 pub next_bucket-index-requires-clause-within : goal.next_bucket-index-requires-clause-within
 next_bucket-index-requires-clause-within g c = subst (λ (m : ℕ). c.loop-tried.index < m) (sym c.buckets-count.ensures.size) c.loop-tried.invariant.goes.inside
 
 pub loop-tried-preserved : goal.loop-tried-preserved
-loop-tried-preserved g c = let inv = c.loop-tried.invariant in let e = c.claim.ensures in let n = c.args.self.now.of.size in let new = c.claim.new.seen.log in let met = rw c.if-claim.false at e.takes in record {
+loop-tried-preserved g c = let inv = c.loop-tried.invariant in let e = c.take_bucket.ensures in let n = c.args.self.now.of.size in let new = c.take_bucket.new.seen.log in let met = rw c.if-take_bucket.false at e.takes in record {
   known = e.known;
   longer = prefix_trans c.args.seen.now.log c.loop-tried.seen.log new inv.longer e.longer;
   owed = subst (λ due. IsOwed g.L.Law.same n due (entry_of c.args.entry.now)) (sym (due_on n c.loop-tried.seen.log new inv.known.2 e.longer)) inv.owed;

@@ -8,7 +8,7 @@ use Rattle.table_numbered.proofs.Histories.{due_on, reaches_on}
 use Rattle.table_numbered.proofs.Marks.{word_parts}
 use Rattle.table_numbered.proofs.Meetings.{named}
 use Rattle.table_numbered.proofs.Owed.{another}
-use Rattle.table_numbered.proofs.row.Row.claim.Goals as goal
+use Rattle.table_numbered.proofs.row.Row.take_bucket.Goals as goal
 
 pub returns-then-found-entry-clause-takes : goal.returns-then-found-entry-clause-takes
 returns-then-found-entry-clause-takes g c = let n = c.args.self.now.of.size in let old = c.args.seen.now.log in let new = c.store-found.new.seen.log in let e = c.store-found.ensures in let l = c.args.entry.now in
