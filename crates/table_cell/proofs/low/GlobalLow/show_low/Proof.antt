@@ -8,7 +8,6 @@ use types.Kit.{‵, raw, given, ◌$◌, ◌∵◌, !, qed, drop, use1, join, fj
 use types.Run.{enter, of_opd, unit_lit, returns}
 use types.ByLocal.{alloc_all, pass_all, free_all, look_at, get, sets}
 use contract.Monad.{fact_use}
-use contract.Running.{tables}
 use denote.Exit.{yes}
 use denote.RawPtr.{RawPtr, Testable, rawptr_vals, rawptr_Tells}
 use denote.Signature.{plain}
@@ -28,7 +27,7 @@ stayed = (stay_dropped _ yes, tt)
 
 pub show_low_spec : {M : Type 1} → statement M
 show_low_spec 𝓤 𝓛 𝓜 𝓡 wired =
-    let c = f.clauses 𝓛 𝓜.mem 𝓡.returns in let W = walk_of 𝓛 f.ended stayed c in let 𝓣 = tables 𝓤 𝓛.H 𝓜 𝓡 𝓡.env in
+    let c = f.clauses 𝓛 𝓜.mem 𝓡.returns in let W = walk_of 𝓛 f.ended stayed c in
     proved 𝓛 f.ended stayed c 𝓜 𝓡 (Goes-dropped 𝓛 0 (plain (λ _. RawPtr)) yes (λ κs x w. refl), tt)
     f.Key.name code.function (code.unfolded 𝓤 𝓛.H 𝓜 𝓡 wired)
     (λ κs. (rawptr_vals, tt)) (λ κs. (rawptr_Tells, tt)) (λ κs qs bounds a g are.
